@@ -1,0 +1,26 @@
+-- Addresses and prefixes as numbers, and which addresses a packet may be routed to.
+use Rattle.std.specs.Prelude.{ℕ, ◌+◌, ◌*◌, ◌/◌, ◌^◌, List, Bool, not, ◌&&◌, ◌==◌}
+use Rattle.mip_words.specs.Numbers.{number_at, number_bytes}
+use Rattle.mip_words.specs.declared.address.Address.{Address}
+
+-- the address in the 16 bytes from a place
+abbrev pub address_at : ℕ → List ℕ → Address
+address_at place bytes = record { 0 = number_at 16 place bytes }
+
+-- the 16 bytes of an address
+abbrev pub address_bytes : Address → List ℕ
+address_bytes address = number_bytes 16 address.0
+
+-- the address with this prefix and these last 64 bits
+abbrev pub joined_address : ℕ → ℕ → ℕ
+joined_address prefix interface = prefix * 2 ^ 64 + interface
+
+-- the first 64 bits
+abbrev pub prefix_of : ℕ → ℕ
+prefix_of address = address / 2 ^ 64
+
+-- none of: unspecified, loopback, multicast (first byte ff), link-local (first ten bits 1111111010).
+-- RFC 4291 section 2.4
+abbrev pub is_routable : ℕ → Bool
+is_routable address =
+    not (address == 0) && not (address == 1) && not (address / 2 ^ 120 == 255) && not (address / 2 ^ 118 == 1018)
