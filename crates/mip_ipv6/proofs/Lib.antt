@@ -1,1 +1,5 @@
+pub mod Headers
+pub mod OptionLaws
+pub mod Packets
 pub mod Sums
+pub mod Walking
