@@ -39,28 +39,29 @@ routing_takes n bytes w =
     cond_both ((not (slice_index bytes 1 == 2) || not (slice_index bytes 2 == 2)) || not (slice_index bytes 3 == 1)) _ _ P (λ wrong e. absurd cc) (λ right.
     cond_both (nat_lt (length bytes) 24) _ _ P (λ short e. absurd cc) (λ long24.
     cond_both (not (is_routable (address_at 8 bytes).0)) _ _ P (λ wrong e. absurd cc) (λ host e.
-      let outer = or_parts (not (slice_index bytes 1 == 2) || not (slice_index bytes 2 == 2)) (not (slice_index bytes 3 == 1)) right in
-      let inner = or_parts (not (slice_index bytes 1 == 2)) (not (slice_index bytes 2 == 2)) outer.0 in
-      let long : 24 ≤ length bytes = ltb-false (length bytes) 24 long24 in
-      subst Q (ok_is _ w e) (record {
-        part = take 24 bytes;
-        is = (
-          eqb-true n 43 (not-false _ routing),
-          length-take-le 24 bytes long,
-          get_or-take 24 bytes 0 0 (omega arith),
-          get_or-take 24 bytes 1 0 (omega arith) ∙ eqb-true _ 2 (not-false _ inner.0),
-          get_or-take 24 bytes 2 0 (omega arith) ∙ eqb-true _ 2 (not-false _ inner.1),
-          get_or-take 24 bytes 3 0 (omega arith) ∙ eqb-true _ 1 (not-false _ outer.1),
-          address_at-take 8 24 bytes (omega arith) long,
-          not-false _ host);
-        whole = sym (take-append-drop 24 bytes)
-      }))))))
+    let outer = or_parts (not (slice_index bytes 1 == 2) || not (slice_index bytes 2 == 2)) (not (slice_index bytes 3 == 1)) right in
+    let inner = or_parts (not (slice_index bytes 1 == 2)) (not (slice_index bytes 2 == 2)) outer.0 in
+    let long : 24 ≤ length bytes = ltb-false (length bytes) 24 long24 in
+    subst Q (ok_is _ w e) (record {
+      part = take 24 bytes;
+      is = (
+        eqb-true n 43 (not-false _ routing),
+        length-take-le 24 bytes long,
+        get_or-take 24 bytes 0 0 (omega arith),
+        get_or-take 24 bytes 1 0 (omega arith) ∙ eqb-true _ 2 (not-false _ inner.0),
+        get_or-take 24 bytes 2 0 (omega arith) ∙ eqb-true _ 2 (not-false _ inner.1),
+        get_or-take 24 bytes 3 0 (omega arith) ∙ eqb-true _ 1 (not-false _ outer.1),
+        address_at-take 8 24 bytes (omega arith) long,
+        not-false _ host,
+      );
+      whole = sym (take-append-drop 24 bytes);
+    }))))))
 
 pub routing_again : (found : Option Address) (n m : ℕ) (part rest : List ℕ) → IsRouting found n m part → (m ≡ 43 → ⊥) → routing_header n (part ++ rest) ≡ Ok (record { found = found; next = m; rest = rest })
 unfolding routing_header
 routing_again None n m part rest is other =
     rw is.1 (cond-true _ _ _ (not_from_false _ (ne_eqb n 43 (λ e. other (sym is.0 ∙ e))))
-      ∙ ap (λ (k : ℕ). done (let w : Walk = record { found = None; next = k; rest = rest } in w)) is.0)
+    ∙ ap (λ (k : ℕ). done (let w : Walk = record { found = None; next = k; rest = rest } in w)) is.0)
 routing_again (Some home) n m part rest is other =
     let long : 24 ≤ length (part ++ rest) = omega (arith, length-append part rest, is.1) in
     let at : (i : ℕ) → i < 24 → slice_index (part ++ rest) i ≡ slice_index part i = λ i inside. get_or_append_left part rest 0 i (omega (arith, is.1)) in
@@ -97,25 +98,25 @@ options_takes n bytes w =
     cond_both (not (n == 60)) _ _ P (λ other e. subst Q (ok_is _ w e) (record { part = []; is = (refl, refl); whole = refl })) (λ options.
     cond_both (nat_lt (length bytes) 2) _ _ P (λ short e. absurd cc) (λ long2.
     cond_both (nat_lt (length bytes) (8 * slice_index bytes 1 + 8)) _ _ P (λ short e. absurd cc) (λ long e.
-      inside_takes n bytes w (eqb-true n 60 (not-false _ options)) (ltb-false (length bytes) 2 long2) (ltb-false (length bytes) (8 * slice_index bytes 1 + 8) long) e)))
+    inside_takes n bytes w (eqb-true n 60 (not-false _ options)) (ltb-false (length bytes) 2 long2) (ltb-false (length bytes) (8 * slice_index bytes 1 + 8) long) e)))
   where
     inside_takes : (n : ℕ) (bytes : List ℕ) (w : Walk) → n ≡ 60 → 2 ≤ length bytes → 8 * slice_index bytes 1 + 8 ≤ length bytes
-      → (options_after 0 None (drop 2 (take (8 * slice_index bytes 1 + 8) bytes)) >>= (λ home. done {E = NotPacket} (let x : Walk = record { found = home; next = slice_index bytes 0; rest = drop (8 * slice_index bytes 1 + 8) bytes } in x))) ≡ Ok w
-      → Walked (IsOptions w.found n w.next) bytes w.rest
+        → (options_after 0 None (drop 2 (take (8 * slice_index bytes 1 + 8) bytes)) >>= (λ home. done {E = NotPacket} (let x : Walk = record { found = home; next = slice_index bytes 0; rest = drop (8 * slice_index bytes 1 + 8) bytes } in x))) ≡ Ok w
+        → Walked (IsOptions w.found n w.next) bytes w.rest
     inside_takes n [] w is long2 long e = absurd (omega (arith, long2))
     inside_takes n (m ∷ []) w is long2 long e = absurd (omega (arith, long2))
     inside_takes n (m ∷ size ∷ more) w is long2 long e =
-      let b = bind_ok (options_after 0 None (drop 2 (take (8 * size + 8) (m ∷ size ∷ more)))) (λ home. done {E = NotPacket} (let x : Walk = record { found = home; next = m; rest = drop (8 * size + 8) (m ∷ size ∷ more) } in x)) w e in
-      let area : List ℕ = take (8 * size + 6) more in
-      let cut : drop 2 (take (8 * size + 8) (m ∷ size ∷ more)) ≡ area = ap (λ (k : ℕ). drop 2 (take k (m ∷ size ∷ more))) (whole_size size) ∙ ap (drop 2) (take_two (8 * size + 6) m size more) in
-      let behind : drop (8 * size + 8) (m ∷ size ∷ more) ≡ drop (8 * size + 6) more = ap (λ (k : ℕ). drop k (m ∷ size ∷ more)) (whole_size size) ∙ drop_two (8 * size + 6) m size more in
-      let found : IsArea b.0 area = area_takes b.0 area (ap (λ (l : List ℕ). options_after 0 None l) (sym cut) ∙ b.1) in
-      let Q : Walk → Type 0 = λ x. Walked (IsOptions x.found n x.next) (m ∷ size ∷ more) x.rest in
-      subst Q (ok_is _ w b.2) (record {
-        part = m ∷ size ∷ area;
-        is = (is, refl, length-take-le (8 * size + 6) more (omega (arith, long)), found);
-        whole = ap (λ (l : List ℕ). m ∷ size ∷ l) (sym (take-append-drop (8 * size + 6) more) ∙ ap (λ (l : List ℕ). area ++ l) (sym behind))
-      })
+        let b = bind_ok (options_after 0 None (drop 2 (take (8 * size + 8) (m ∷ size ∷ more)))) (λ home. done {E = NotPacket} (let x : Walk = record { found = home; next = m; rest = drop (8 * size + 8) (m ∷ size ∷ more) } in x)) w e in
+        let area : List ℕ = take (8 * size + 6) more in
+        let cut : drop 2 (take (8 * size + 8) (m ∷ size ∷ more)) ≡ area = ap (λ (k : ℕ). drop 2 (take k (m ∷ size ∷ more))) (whole_size size) ∙ ap (drop 2) (take_two (8 * size + 6) m size more) in
+        let behind : drop (8 * size + 8) (m ∷ size ∷ more) ≡ drop (8 * size + 6) more = ap (λ (k : ℕ). drop k (m ∷ size ∷ more)) (whole_size size) ∙ drop_two (8 * size + 6) m size more in
+        let found : IsArea b.0 area = area_takes b.0 area (ap (λ (l : List ℕ). options_after 0 None l) (sym cut) ∙ b.1) in
+        let Q : Walk → Type 0 = λ x. Walked (IsOptions x.found n x.next) (m ∷ size ∷ more) x.rest in
+        subst Q (ok_is _ w b.2) (record {
+          part = m ∷ size ∷ area;
+          is = (is, refl, length-take-le (8 * size + 6) more (omega (arith, long)), found);
+          whole = ap (λ (l : List ℕ). m ∷ size ∷ l) (sym (take-append-drop (8 * size + 6) more) ∙ ap (λ (l : List ℕ). area ++ l) (sym behind));
+        })
 
 pub options_again : (found : Option Address) (n m : ℕ) (part rest : List ℕ) → IsOptions found n m part → (m ≡ 60 → ⊥) → options_header n (part ++ rest) ≡ Ok (record { found = found; next = m; rest = rest })
 unfolding options_header
@@ -130,9 +131,9 @@ options_again found n m (next ∷ size ∷ area) rest is other =
     let bytes : List ℕ = next ∷ size ∷ (area ++ rest) in
     let long : 8 * size + 8 ≤ length bytes = omega (arith, length-append area rest, is.2) in
     let cut : drop 2 (take (8 * size + 8) bytes) ≡ area =
-      ap (λ (k : ℕ). drop 2 (take k bytes)) (whole_size size) ∙ ap (drop 2) (take_two (8 * size + 6) next size (area ++ rest)) ∙ take_at area rest (8 * size + 6) is.2 in
+    ap (λ (k : ℕ). drop 2 (take k bytes)) (whole_size size) ∙ ap (drop 2) (take_two (8 * size + 6) next size (area ++ rest)) ∙ take_at area rest (8 * size + 6) is.2 in
     let behind : drop (8 * size + 8) bytes ≡ rest =
-      ap (λ (k : ℕ). drop k bytes) (whole_size size) ∙ drop_two (8 * size + 6) next size (area ++ rest) ∙ drop_at area rest (8 * size + 6) is.2 in
+    ap (λ (k : ℕ). drop k bytes) (whole_size size) ∙ drop_two (8 * size + 6) next size (area ++ rest) ∙ drop_at area rest (8 * size + 6) is.2 in
     let walked : options_after 0 None (drop 2 (take (8 * size + 8) bytes)) ≡ Ok found = ap (λ (l : List ℕ). options_after 0 None l) cut ∙ area_again found area is.3 in
     cond-false _ _ _ (not_from_true _ (eq-eqb n 60 is.0))
     ∙ cond-false _ _ _ (le-ltb (length bytes) 2 (omega (arith, long)))

@@ -1,3 +1,4 @@
+pub mod Canonical
 pub mod Headers
 pub mod OptionLaws
 pub mod Packets

@@ -41,7 +41,7 @@ skipped_takes type home (size ∷ more) positive low filled inside = record {
   is = (positive, low);
   inside = inside;
   bytes = ap (λ (l : List ℕ). type ∷ l) (contents_of size more inside);
-  address = append-nil (option_to_list home)
+  address = append-nil (option_to_list home);
 }
 
 first_home : (home : Option Address) (a : Address) → is_some home ≡ false → option_to_list home ++ a ∷ [] ≡ a ∷ []
@@ -61,38 +61,42 @@ home_takes home (size ∷ more) x filled inside =
     let P : Result (Option Address × ℕ) NotPacket → Type 0 = λ r. r ≡ Ok x → Taken 201 home (size ∷ more) x in
     cond_both (not (size == 16) || is_some home) _ _ P (λ wrong e. absurd cc) (λ right.
     cond_both (not (is_routable (address_at 1 (size ∷ more)).0)) _ _ P (λ wrong e. absurd cc) (λ host e.
-      let tests = or_parts (not (size == 16)) (is_some home) right in
-      let sized : size ≡ 16 = eqb-true size 16 (not-false _ tests.0) in
-      let long : 16 ≤ length more = omega (arith, inside, sized) in
-      subst (λ (y : Option Address × ℕ). Taken 201 home (size ∷ more) y) (ok_is (Some (address_at 1 (size ∷ more)), 17) x e) (record {
-        piece = Home (address_at 1 (size ∷ more)) (take 16 more);
-        is = (length-take-le 16 more long, home_address size more long, not-false _ host);
-        inside = omega (arith, long);
-        bytes = ap (λ (n : ℕ). 201 ∷ n ∷ take 16 more) sized;
-        address = first_home home (address_at 1 (size ∷ more)) tests.1
-      })))
+    let tests = or_parts (not (size == 16)) (is_some home) right in
+    let sized : size ≡ 16 = eqb-true size 16 (not-false _ tests.0) in
+    let long : 16 ≤ length more = omega (arith, inside, sized) in
+    subst (λ (y : Option Address × ℕ). Taken 201 home (size ∷ more) y) (ok_is (Some (address_at 1 (size ∷ more)), 17) x e) (record {
+      piece = Home (address_at 1 (size ∷ more)) (take 16 more);
+      is = (length-take-le 16 more long, home_address size more long, not-false _ host);
+      inside = omega (arith, long);
+      bytes = ap (λ (n : ℕ). 201 ∷ n ∷ take 16 more) sized;
+      address = first_home home (address_at 1 (size ∷ more)) tests.1;
+    })))
 
 pub option_takes : (type : ℕ) (home : Option Address) (rest : List ℕ) (x : Option Address × ℕ) → option_at type home rest ≡ Ok x → Taken type home rest x
 unfolding option_at
 option_takes type home rest x =
     let P : Result (Option Address × ℕ) NotPacket → Type 0 = λ r. r ≡ Ok x → Taken type home rest x in
     cond_both (type == 0) _ _ P
-      (λ pad e. subst (λ (y : Option Address × ℕ). Taken type home rest y) (ok_is (home, 0) x e) (record {
-        piece = Pad; is = tt; inside = omega arith; bytes = ap (λ (n : ℕ). n ∷ []) (eqb-true type 0 pad); address = append-nil (option_to_list home)
-      })) (λ other.
+    (λ pad e. subst (λ (y : Option Address × ℕ). Taken type home rest y) (ok_is (home, 0) x e) (record {
+      piece = Pad;
+      is = tt;
+      inside = omega arith;
+      bytes = ap (λ (n : ℕ). n ∷ []) (eqb-true type 0 pad);
+      address = append-nil (option_to_list home);
+    })) (λ other.
     cond_both ((length rest == 0) || nat_lt (length rest) (slice_index rest 0 + 1)) _ _ P (λ past e. absurd cc) (λ inside.
-      let tests = or_parts (length rest == 0) (nat_lt (length rest) (slice_index rest 0 + 1)) inside in
-      let empty : length rest ≡ 0 → _ = eqb-false (length rest) 0 tests.0 in
-      let filled : 0 < length rest = omega arith in
-      let whole : slice_index rest 0 + 1 ≤ length rest = ltb-false (length rest) (slice_index rest 0 + 1) tests.1 in
-      let nonzero : type ≡ 0 → _ = eqb-false type 0 other in
-      let positive : 0 < type = omega arith in
+    let tests = or_parts (length rest == 0) (nat_lt (length rest) (slice_index rest 0 + 1)) inside in
+    let empty : length rest ≡ 0 → _ = eqb-false (length rest) 0 tests.0 in
+    let filled : 0 < length rest = omega arith in
+    let whole : slice_index rest 0 + 1 ≤ length rest = ltb-false (length rest) (slice_index rest 0 + 1) tests.1 in
+    let nonzero : type ≡ 0 → _ = eqb-false type 0 other in
+    let positive : 0 < type = omega arith in
     cond_both (type == 201) _ _ P
-      (λ is_home e. subst (λ (t : ℕ). Taken t home rest x) (sym (eqb-true type 201 is_home)) (home_takes home rest x filled whole e)) (λ not_home.
+    (λ is_home e. subst (λ (t : ℕ). Taken t home rest x) (sym (eqb-true type 201 is_home)) (home_takes home rest x filled whole e)) (λ not_home.
     cond_both (nat_lt type 64) _ _ P
-      (λ low e. subst (λ (y : Option Address × ℕ). Taken type home rest y) (ok_is (home, slice_index rest 0 + 1) x e)
-        (skipped_takes type home rest positive (ltb-true type 64 low) filled whole))
-      (λ high e. absurd cc))))
+    (λ low e. subst (λ (y : Option Address × ℕ). Taken type home rest y) (ok_is (home, slice_index rest 0 + 1) x e)
+    (skipped_takes type home rest positive (ltb-true type 64 low) filled whole))
+    (λ high e. absurd cc))))
 
 -- pieces that lead from one home address seen to another
 abbrev pub IsAreaFrom : Option Address → Option Address → List ℕ → Type 0
@@ -110,9 +114,9 @@ options_take zero home out (type ∷ rest) inside e =
     let t : Taken type home rest b.0 = option_takes type home rest b.0 b.1 in
     let r : IsAreaFrom (b.0).0 out (drop size rest) = options_take size (b.0).0 out rest t.inside b.2 in
     let homes : option_to_list home ++ flat_map home_in (t.piece ∷ r.0) ≡ option_to_list out =
-      sym (append_assoc (option_to_list home) (home_in t.piece) (flat_map home_in r.0)) ∙ ap (λ (l : List Address). l ++ flat_map home_in r.0) t.address ∙ r.2 in
+    sym (append_assoc (option_to_list home) (home_in t.piece) (flat_map home_in r.0)) ∙ ap (λ (l : List Address). l ++ flat_map home_in r.0) t.address ∙ r.2 in
     let bytes : type ∷ rest ≡ flat_map piece_bytes (t.piece ∷ r.0) =
-      ap (λ (l : List ℕ). type ∷ l) (sym (take-append-drop size rest)) ∙ ap (λ (l : List ℕ). l ++ drop size rest) t.bytes ∙ ap (λ (l : List ℕ). piece_bytes t.piece ++ l) r.3 in
+    ap (λ (l : List ℕ). type ∷ l) (sym (take-append-drop size rest)) ∙ ap (λ (l : List ℕ). l ++ drop size rest) t.bytes ∙ ap (λ (l : List ℕ). piece_bytes t.piece ++ l) r.3 in
     (t.piece ∷ r.0, (t.is, r.1), homes, bytes)
 
 -- the options of a whole area
@@ -133,7 +137,7 @@ skipped_again : (type : ℕ) (contents : List ℕ) (home : Option Address) (rest
 unfolding option_at
 skipped_again type contents home rest positive low =
     let whole : nat_lt (length (length contents ∷ (contents ++ rest))) (length contents + 1) ≡ false =
-      le-ltb (length (length contents ∷ (contents ++ rest))) (length contents + 1) (omega (arith, length-append contents rest)) in
+    le-ltb (length (length contents ∷ (contents ++ rest))) (length contents + 1) (omega (arith, length-append contents rest)) in
     cond-false _ _ _ (ne_eqb type 0 (λ e. omega (arith, e)))
     ∙ cond-false _ _ _ (or_from _ _ (ne_eqb (length (length contents ∷ (contents ++ rest))) 0 (λ e. omega (arith, e))) whole)
     ∙ cond-false _ _ _ (ne_eqb type 201 (λ e. omega (arith, e)))
@@ -147,7 +151,7 @@ home_again address contents rest is =
     let found : address_at 1 (16 ∷ (contents ++ rest)) ≡ address = ap (λ (n : ℕ). let a : Address = record { 0 = n } in a) (there ∙ here) ∙ is.1 in
     let host : is_routable (address_at 1 (16 ∷ (contents ++ rest))).0 ≡ true = ap (λ (a : Address). is_routable a.0) found ∙ is.2 in
     let whole : nat_lt (length (16 ∷ (contents ++ rest))) (16 + 1) ≡ false =
-      le-ltb (length (16 ∷ (contents ++ rest))) 17 (omega (arith, length-append contents rest, is.0)) in
+    le-ltb (length (16 ∷ (contents ++ rest))) 17 (omega (arith, length-append contents rest, is.0)) in
     cond-false _ _ _ (or_from _ _ (ne_eqb (length (16 ∷ (contents ++ rest))) 0 (λ e. omega (arith, e))) whole)
     ∙ cond-false _ _ _ (not_from_true _ host)
     ∙ ap (λ (a : Address). done (Some a, 17)) found
@@ -161,14 +165,14 @@ options_again (Skipped type contents ∷ pieces) home out are e =
     let rest : List ℕ = flat_map piece_bytes pieces in
     let all : List ℕ = type ∷ length contents ∷ (contents ++ rest) in
     let step : options_after 0 home all ≡ options_after 0 home (drop (length contents + 1) (drop 1 all)) =
-      goes_on home home (length contents + 1) all (omega arith) (omega (arith, length-append contents rest)) (skipped_again type contents home rest (are.0).0 (are.0).1) in
+    goes_on home home (length contents + 1) all (omega arith) (omega (arith, length-append contents rest)) (skipped_again type contents home rest (are.0).0 (are.0).1) in
     let behind : drop (length contents + 1) (length contents ∷ (contents ++ rest)) ≡ rest = rw add-one (drop_at contents rest (length contents) refl) in
     step ∙ ap (λ (l : List ℕ). options_after 0 home l) behind ∙ options_again pieces home out are.1 e
 options_again (Home address contents ∷ pieces) None out are e =
     let rest : List ℕ = flat_map piece_bytes pieces in
     let all : List ℕ = 201 ∷ 16 ∷ (contents ++ rest) in
     let step : options_after 0 None all ≡ options_after 0 (Some address) (drop 17 (drop 1 all)) =
-      goes_on None (Some address) 17 all (omega arith) (omega (arith, length-append contents rest, (are.0).0)) (home_again address contents rest are.0) in
+    goes_on None (Some address) 17 all (omega arith) (omega (arith, length-append contents rest, (are.0).0)) (home_again address contents rest are.0) in
     let behind : drop 16 (contents ++ rest) ≡ rest = drop_at contents rest 16 (are.0).0 in
     step ∙ ap (λ (l : List ℕ). options_after 0 (Some address) l) behind ∙ options_again pieces (Some address) out are.1 e
 options_again (Home address contents ∷ pieces) (Some a) out are e =

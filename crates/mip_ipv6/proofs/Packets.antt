@@ -33,7 +33,7 @@ fixed_takes bytes next =
       long = ltb-false (length bytes) 40 long;
       version = eqb-true _ 6 (not-false _ version);
       size = eqb-true _ (length bytes - 40) (not-false _ size);
-      first = ok_is (slice_index bytes 6) next e
+      first = ok_is (slice_index bytes 6) next e;
     })))
 
 fixed_again : (bytes : List ℕ) → 40 ≤ length bytes → number_at 4 0 bytes / 2 ^ 28 ≡ 6 → number_at 2 4 bytes ≡ length bytes - 40 → fixed_header bytes ≡ Ok (slice_index bytes 6)
@@ -67,30 +67,30 @@ packet_takes bytes p e =
     let r : Walked (IsRouting (b.0).found a.0 (b.0).next) (drop 40 bytes) (b.0).rest = routing_takes a.0 (drop 40 bytes) b.0 b.1 in
     let o : Walked (IsOptions (c.0).found (b.0).next (c.0).next) (b.0).rest (c.0).rest = options_takes (b.0).next (b.0).rest c.0 c.1 in
     cond_both (names_no_body (c.0).next) _ _ P (λ wrong e. absurd cc) (λ body e.
-      subst (λ (q : Packet). IsPacket q bytes) (ok_is (tree bytes b.0 c.0) p e) (record {
-        long = f.long;
-        version = f.version;
-        class = refl;
-        flow = refl;
-        size = f.size;
-        hop = refl;
-        source = refl;
-        destination = refl;
-        second = (b.0).next;
-        routing = r.part;
-        options = o.part;
-        is_routing = subst (λ (n : ℕ). IsRouting (b.0).found n (b.0).next r.part) (sym f.first) r.is;
-        is_options = o.is;
-        is_body = body;
-        whole = r.whole ∙ ap (λ (l : List ℕ). r.part ++ l) o.whole
-      })) c.2
+    subst (λ (q : Packet). IsPacket q bytes) (ok_is (tree bytes b.0 c.0) p e) (record {
+      long = f.long;
+      version = f.version;
+      class = refl;
+      flow = refl;
+      size = f.size;
+      hop = refl;
+      source = refl;
+      destination = refl;
+      second = (b.0).next;
+      routing = r.part;
+      options = o.part;
+      is_routing = subst (λ (n : ℕ). IsRouting (b.0).found n (b.0).next r.part) (sym f.first) r.is;
+      is_options = o.is;
+      is_body = body;
+      whole = r.whole ∙ ap (λ (l : List ℕ). r.part ++ l) o.whole;
+    })) c.2
 
 -- a head from its fields
 same_head : (h : Head) {source destination : Address} {hop class flow : ℕ} → source ≡ h.source → destination ≡ h.destination → hop ≡ h.hop → class ≡ h.class → flow ≡ h.flow
-  → (let k : Head = record { source = source; destination = destination; hop = hop; class = class; flow = flow; route = h.route; home = h.home; proto = h.proto } in k) ≡ h
+    → (let k : Head = record { source = source; destination = destination; hop = hop; class = class; flow = flow; route = h.route; home = h.home; proto = h.proto } in k) ≡ h
 same_head h {source} {destination} {hop} {class} {flow} s d o c f =
     let e : (let k : Head = record { source = source; destination = destination; hop = hop; class = class; flow = flow; route = h.route; home = h.home; proto = h.proto } in k)
-          ≡ (let k : Head = record { source = h.source; destination = h.destination; hop = h.hop; class = h.class; flow = h.flow; route = h.route; home = h.home; proto = h.proto } in k) = cc in
+    ≡ (let k : Head = record { source = h.source; destination = h.destination; hop = h.hop; class = h.class; flow = h.flow; route = h.route; home = h.home; proto = h.proto } in k) = cc in
     e
 
 -- a number that names a body is neither that of a routing header nor that of an options header
@@ -117,12 +117,12 @@ packet_again p bytes is =
     let routing : Walk = record { found = p.head.route; next = is.second; rest = behind } in
     let options : Walk = record { found = p.head.home; next = p.head.proto; rest = p.body } in
     let first : routing_header (slice_index bytes 6) (drop 40 bytes) ≡ Ok routing =
-      ap (routing_header (slice_index bytes 6)) is.whole
-      ∙ routing_again p.head.route (slice_index bytes 6) is.second is.routing behind is.is_routing (no_routing p.head.home is.second p.head.proto is.options is.is_options none.0) in
+    ap (routing_header (slice_index bytes 6)) is.whole
+    ∙ routing_again p.head.route (slice_index bytes 6) is.second is.routing behind is.is_routing (no_routing p.head.home is.second p.head.proto is.options is.is_options none.0) in
     let second : options_header is.second behind ≡ Ok options =
-      options_again p.head.home is.second p.head.proto is.options p.body is.is_options none.1 in
+    options_again p.head.home is.second p.head.proto is.options p.body is.is_options none.1 in
     let head : head_of bytes p.head.route p.head.home p.head.proto ≡ p.head =
-      same_head p.head is.source is.destination is.hop is.class is.flow in
+    same_head p.head is.source is.destination is.hop is.class is.flow in
     ap (λ (r : Result ℕ NotPacket). r >>= after_fixed bytes) (fixed_again bytes is.long is.version is.size)
     ∙ ap (λ (r : Result Walk NotPacket). r >>= after_routing bytes) first
     ∙ ap (λ (r : Result Walk NotPacket). r >>= last bytes routing) second
@@ -142,7 +142,7 @@ body_stands p bytes is =
     let at : 40 + length front ≡ length bytes - length p.body = omega (arith, sizes, is.long) in
     record {
       long = omega (arith, sizes, is.long);
-      there = sym (drop_at front p.body (length front) refl) ∙ ap (drop (length front)) (sym whole) ∙ drop-drop (length front) 40 bytes ∙ ap (λ (n : ℕ). drop n bytes) at
+      there = sym (drop_at front p.body (length front) refl) ∙ ap (drop (length front)) (sym whole) ∙ drop-drop (length front) 40 bytes ∙ ap (λ (n : ℕ). drop n bytes) at;
     }
 
 pub read_stands : (p : Packet) (bytes : List ℕ) → packet_of bytes ≡ Ok p → Stands p.body bytes

@@ -82,7 +82,7 @@ head_of bytes route home proto = record {
   flow = number_at 4 0 bytes % 2 ^ 20;
   route = route;
   home = home;
-  proto = proto
+  proto = proto;
 }
 
 -- the headers from the front, each at most once; what stands in the body's place must be a body

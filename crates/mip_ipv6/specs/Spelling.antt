@@ -91,13 +91,13 @@ unfoldable pub behind_bytes : Packet → List ℕ
 behind_bytes p =
     routing_bytes p.head.route (second_number p.head.home p.head.proto) ++ (options_bytes p.head.home p.head.proto ++ p.body)
 
--- the first 40 bytes, in front of the rest
-unfoldable pub fixed_bytes : Head → ℕ → List ℕ → List ℕ
-fixed_bytes head next rest =
+-- the first 40 bytes, with the next-header number and the number of bytes behind them
+unfoldable pub fixed_bytes : Head → ℕ → ℕ → List ℕ
+fixed_bytes head next size =
     number_bytes 4 (6 * 2 ^ 28 + head.class * 2 ^ 20 + head.flow)
-    ++ (number_bytes 2 (length rest) ++ (next ∷ head.hop ∷ (address_bytes head.source ++ (address_bytes head.destination ++ rest))))
+    ++ (number_bytes 2 size ++ (next ∷ head.hop ∷ (address_bytes head.source ++ address_bytes head.destination)))
 
 -- the canonical spelling
 unfoldable pub packet_bytes : Packet → List ℕ
 packet_bytes p =
-    fixed_bytes p.head (first_number p.head.route (second_number p.head.home p.head.proto)) (behind_bytes p)
+    fixed_bytes p.head (first_number p.head.route (second_number p.head.home p.head.proto)) (length (behind_bytes p)) ++ behind_bytes p

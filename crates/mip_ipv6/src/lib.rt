@@ -9,9 +9,13 @@ mod packet_ref;
 mod reading;
 mod sum;
 mod walked;
+mod write_fault;
+mod writing;
 
 pub use head::Head;
 pub use not_packet::NotPacket;
 pub use packet_ref::PacketRef;
 pub use reading::read_packet;
 pub use sum::{checksum, checksum_holds};
+pub use write_fault::WriteFault;
+pub use writing::write_packet;

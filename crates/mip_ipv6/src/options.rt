@@ -9,7 +9,9 @@ use crate::walked::Walked;
 use mip_words::Address;
 
 const DESTINATION_OPTIONS: u8 = 60;
+
 const PAD1: u8 = 0;
+
 const HOME_ADDRESS: u8 = 201;
 
 /// The Home Address option, its length byte first.
@@ -32,7 +34,11 @@ fn home_of(home: Option<Address>, rest: &[u8]) -> Result<(Option<Address>, usize
 
 /// One option, from the byte behind its type: the home address so far, and the number of bytes that it takes.
 #[tactic(auto, unfolding(crate::specs::Reading::option_at))]
-fn option_of(kind: u8, home: Option<Address>, rest: &[u8]) -> Result<(Option<Address>, usize), NotPacket>
+fn option_of(
+    kind: u8,
+    home: Option<Address>,
+    rest: &[u8],
+) -> Result<(Option<Address>, usize), NotPacket>
     ensures exact { Gives (λ x. x) result (option_at kind home rest.now) }
     ensures inside { IfOk result (λ x. x.1 ≤ length rest.now) }
 {
@@ -74,7 +80,11 @@ pub(crate) fn walk_options(next: u8, bytes: &[u8]) -> Result<Walked<'_>, NotPack
     ensures exact { Gives walk result (options_header next bytes.now) }
 {
     if next != DESTINATION_OPTIONS {
-        return Ok(Walked { found: None, next, rest: bytes });
+        return Ok(Walked {
+            found: None,
+            next,
+            rest: bytes,
+        });
     }
     if bytes.len() < 2 {
         return Err(NotPacket::Short);
@@ -86,5 +96,9 @@ pub(crate) fn walk_options(next: u8, bytes: &[u8]) -> Result<Walked<'_>, NotPack
     let (header, rest) = bytes.split_at(size);
     let (_, area) = header.split_at(2);
     let found = home_in(area)?;
-    Ok(Walked { found, next: bytes[0], rest })
+    Ok(Walked {
+        found,
+        next: bytes[0],
+        rest,
+    })
 }

@@ -6,12 +6,12 @@ ghost use Rattle.mip_ipv6.specs.Packet.{Packet, packet, IsAt};
 ghost use Rattle.mip_ipv6.specs.Spelling.{IsPacket};
 ghost use Rattle.mip_ipv6.specs.Reading.{walk, fixed_header, routing_header, head_of, packet_of};
 
-use crate::head::{no_body, Head};
+use crate::head::{Head, no_body};
 use crate::not_packet::NotPacket;
 use crate::options::walk_options;
 use crate::packet_ref::PacketRef;
 use crate::walked::Walked;
-use mip_words::{u16_at, u32_at, Address};
+use mip_words::{Address, u16_at, u32_at};
 
 const ROUTING: u8 = 43;
 
@@ -39,7 +39,11 @@ fn walk_routing(next: u8, bytes: &[u8]) -> Result<Walked<'_>, NotPacket>
     ensures exact { Gives walk result (routing_header next bytes.now) }
 {
     if next != ROUTING {
-        return Ok(Walked { found: None, next, rest: bytes });
+        return Ok(Walked {
+            found: None,
+            next,
+            rest: bytes,
+        });
     }
     if bytes.len() < 8 {
         return Err(NotPacket::Short);
@@ -55,7 +59,11 @@ fn walk_routing(next: u8, bytes: &[u8]) -> Result<Walked<'_>, NotPacket>
         return Err(NotPacket::Route);
     }
     let (_, rest) = bytes.split_at(24);
-    Ok(Walked { found: Some(home), next: bytes[0], rest })
+    Ok(Walked {
+        found: Some(home),
+        next: bytes[0],
+        rest,
+    })
 }
 
 fn head_at(bytes: &[u8], route: Option<Address>, home: Option<Address>, proto: u8) -> Head
@@ -97,7 +105,11 @@ fn located(bytes: &[u8]) -> Result<PacketRef<'_>, NotPacket>
     ensures place { IfOk result (λ p. IsAt p bytes.now) }
 {
     let (head, body) = head_and_body(bytes)?;
-    Ok(PacketRef { head, body, place: bytes.len() - body.len() })
+    Ok(PacketRef {
+        head,
+        body,
+        place: bytes.len() - body.len(),
+    })
 }
 
 /// Reads a packet: the fixed header, then at most one routing header of type 2 and one Destination Options header
