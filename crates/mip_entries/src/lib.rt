@@ -1,13 +1,16 @@
-// A library with one function.
+//! What a history holds, and what a node answers: the entries of a trace, and the packets that a role
+//! sends. Roles stand on this crate alone, and know neither their own number nor links nor the numbers
+//! of the packets that they send: their caller completes the entries.
 #![tactic(auto)]
 
-ghost use Rattle.std.specs.Prelude.{◌≡◌};
-ghost use Rattle.mip_entries.specs.Echo.{echo_of};
+mod answer;
+mod answers;
+mod entry;
+mod history;
+mod update_seen;
 
-// The `ensures` clause is the contract: what `echo` returns is `echo_of` of its argument, a definition
-// in `specs/Echo.antt`, which a caller's clause can cite too.
-pub fn echo(x: usize) -> usize
-    ensures { result ≡ echo_of x }
-{
-    x
-}
+pub use answer::Answer;
+pub use answers::Answers;
+pub use entry::Entry;
+pub use history::History;
+pub use update_seen::UpdateSeen;
