@@ -11,6 +11,8 @@ mod put_fault;
 mod real;
 mod sink;
 mod source;
+#[cfg(test)]
+mod tests;
 
 pub use clock::Clock;
 pub use failed::Failed;
