@@ -1,5 +1,5 @@
 -- What an ICMPv6 message says.
-use Rattle.std.specs.Prelude.{ℕ, List, Bool}
+use Rattle.std.specs.Prelude.{◌≡◌, ℕ, List, drop, Bool, ⊤}
 use Rattle.mip_icmp.specs.Options.{set_of}
 use Rattle.mip_icmp.specs.declared.options.IcmpSet.{IcmpSet}
 use Rattle.mip_icmp.specs.declared.message.Icmp.{Icmp}
@@ -32,3 +32,9 @@ said_plain (plain.DiscoverAsk identifier) = DiscoverAsk identifier
 said_plain (plain.DiscoverReply identifier agents) = DiscoverReply identifier agents
 said_plain (plain.PrefixAsk identifier) = PrefixAsk identifier
 said_plain (plain.PrefixReply identifier options) = PrefixReply identifier options
+
+-- the bytes of the options are those behind the fixed part
+abbrev pub HasSpan : List ℕ → Icmp → Type 0
+HasSpan body (read.Advertisement hop agent life options) = options.span.now ≡ drop 16 body
+HasSpan body (read.PrefixReply identifier options) = options.span.now ≡ drop 8 body
+HasSpan body _ = ⊤

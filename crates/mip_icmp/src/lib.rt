@@ -1,13 +1,18 @@
 //! The ICMPv6 messages of Mobile IPv6: their types, their reader and their writer.
 #![tactic(auto)]
 
+mod advertisement;
 mod agent_info;
 mod area;
+mod discovery;
 mod fault;
 mod message;
 mod options;
+mod parameter;
 mod plain;
 mod prefix_info;
+mod prefixes;
+mod reading;
 
 pub use agent_info::AgentInfo;
 pub use fault::IcmpFault;
