@@ -34,11 +34,8 @@ first_one (Some x) = refl
 preferred_two : (x y : PrefixInfo) (ys : List PrefixInfo) → preferred_among (x ∷ y ∷ ys) ≡ preferred_among (preferred_of (Some x) y ∷ ys)
 preferred_two x y ys =
     elim (cases_Bool (eqb x.length 64)) [
-        inl e ↦ rw e refl
-      | inr e ↦ elim (cases_Bool (eqb y.length 64)) [
-            inl d ↦ rw (e, d) refl
-          | inr d ↦ rw (e, d) (rw e refl)
-        ]
+        inl e ↦ simp e
+      | inr e ↦ elim (cases_Bool (eqb y.length 64)) [ inl d ↦ simp (e, d) | inr d ↦ simp (e, d) ]
     ]
 
 preferred_more : (seen : Option PrefixInfo) (y : PrefixInfo) (ys : List PrefixInfo) → preferred_among (option_to_list seen ++ (y ∷ ys)) ≡ preferred_among (preferred_of seen y ∷ ys)
@@ -48,12 +45,6 @@ preferred_more (Some x) y ys = preferred_two x y ys
 first_more : {A : Type 0} (seen : Option A) (y : A) (ys : List A) → first_of (option_to_list seen ++ (y ∷ ys)) ≡ first_of (option_to_list (option_or seen (Some y)) ++ ys)
 first_more None y ys = refl
 first_more (Some x) y ys = refl
-
--- the types that count, as tests
-record Tests (type : ℕ) (three seven eight : Bool) : Type 0 where
-  three : eqb type 3 ≡ three
-  seven : eqb type 7 ≡ seven
-  eight : eqb type 8 ≡ eight
 
 one_more : (seen : IcmpSet) (o : List ℕ) (options : List (List ℕ)) → said_with seen (o ∷ options) ≡ said_with (noted seen o) options
 one_more seen o options =

@@ -1,3 +1,4 @@
 pub mod Walking
 pub mod Choices
 pub mod Areas
+pub mod Messages

@@ -20,3 +20,4 @@ pub use message::Icmp;
 pub use options::{IcmpOptions, IcmpSet};
 pub use plain::PlainIcmp;
 pub use prefix_info::PrefixInfo;
+pub use reading::read_icmp;

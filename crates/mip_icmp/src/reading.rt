@@ -3,6 +3,7 @@ ghost use Rattle.mip_words.specs.Steps.{Gives};
 ghost use Rattle.mip_icmp.specs.Said.{Said, said, HasSpan};
 ghost use Rattle.mip_icmp.specs.Fields.{least_size, is_known};
 ghost use Rattle.mip_icmp.specs.Reading.{kind_of, fields_in, icmp_of};
+ghost use Rattle.mip_icmp.specs.Spelling.{IsIcmp};
 
 use crate::advertisement::advertisement_of;
 use crate::discovery::agents_of;
@@ -70,4 +71,19 @@ fn message_of(source: Address, destination: Address, body: &[u8]) -> Result<Icmp
 {
     let kind = checked(source, destination, body)?;
     fields_of(kind, body)
+}
+
+/// What an ICMPv6 message between these addresses says. The source is that of the Home Address option and
+/// the destination that of the routing header, where the packet has them (RFC 8200 section 8.1).
+pub fn read_icmp(source: Address, destination: Address, body: &[u8]) -> Result<Icmp<'_>, IcmpFault>
+    requires { length body.now ≤ 65535 }
+    // What is read is spelled so.
+    ensures found { IfOk result (λ m. IsIcmp source destination (said m) body.now) }
+    // What is spelled so is read.
+    ensures only { (m : Said) → IsIcmp source destination m body.now → Gives said result (Ok m) }
+    // Which fault it is.
+    ensures exact { Gives said result (icmp_of source destination body.now) }
+    ensures span { IfOk result (HasSpan body.now) }
+{
+    message_of(source, destination, body)
 }
