@@ -21,7 +21,7 @@ said_with seen options = record {
   agent = first_of (option_to_list seen.agent ++ map agent_at (of_type 8 options));
 }
 
-preferred_one : (seen : Option PrefixInfo) → preferred_among (option_to_list seen ++ []) ≡ seen
+pub preferred_one : (seen : Option PrefixInfo) → preferred_among (option_to_list seen ++ []) ≡ seen
 preferred_one None = refl
 preferred_one (Some x) =
     elim (eqb x.length 64) as (λ b. option_or (cond b (Some x) None) (Some x) ≡ Some x) [ true ↦ refl | false ↦ refl ]

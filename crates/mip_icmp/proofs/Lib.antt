@@ -2,3 +2,4 @@ pub mod Walking
 pub mod Choices
 pub mod Areas
 pub mod Messages
+pub mod Canonical

@@ -1,15 +1,18 @@
 //! Router Advertisement, type 134 (RFC 4861 section 4.2, RFC 6275 section 7.1).
 
-ghost use Rattle.std.specs.Prelude.{◌≡◌, ◌≤◌, length, IfOk};
+ghost use Rattle.std.specs.Prelude.{◌≡◌, ◌≤◌, ◌<◌, ◌^◌, ◌++◌, length, IfOk, OnOk};
 ghost use Rattle.mip_words.specs.Steps.{Gives};
-ghost use Rattle.mip_icmp.specs.Said.{said, HasSpan};
+ghost use Rattle.mip_icmp.specs.Said.{Advertisement, said, HasSpan};
 ghost use Rattle.mip_icmp.specs.Fields.{is_agent_flag};
 ghost use Rattle.mip_icmp.specs.Reading.{advertisement_in};
+ghost use Rattle.mip_icmp.specs.Spelling.{agent_flag, unsummed, FitsSet};
 
 use crate::area::read_area;
 use crate::fault::IcmpFault;
 use crate::message::Icmp;
-use mip_words::u16_at;
+use crate::option_writing::put_options;
+use crate::options::IcmpSet;
+use mip_words::{Bytes, Memory, u16_at, u16_bytes};
 
 /// Flag H, the router is a home agent, in the byte of flags.
 const AGENT: u8 = 0x20;
@@ -33,4 +36,23 @@ pub(crate) fn advertisement_of(body: &[u8]) -> Result<Icmp<'_>, IcmpFault>
         life: u16_at(body, 6),
         options,
     })
+}
+
+/// The byte of flags.
+fn flags(agent: bool) -> u8
+    ensures { result ≡ agent_flag agent }
+{
+    if agent { AGENT } else { 0 }
+}
+
+/// Appends the message with a checksum of zero.
+#[tactic(auto, unfolding(crate::specs::Spelling::unsummed))]
+pub(crate) fn put_advertisement(out: &mut Bytes, hop: u8, agent: bool, life: u16, options: IcmpSet) -> Result<(), Memory>
+    ensures bytes { OnOk result (out.new ≡ out.old ++ unsummed (Advertisement hop agent life options)) }
+    ensures fits { OnOk result ((life < 2 ^ 16) × FitsSet options) }
+{
+    out.extend(&[134, 0, 0, 0, hop, flags(agent)])?;
+    out.extend(&u16_bytes(life))?;
+    out.extend(&[0; 8])?;
+    put_options(out, options)
 }
