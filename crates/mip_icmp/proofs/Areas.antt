@@ -109,6 +109,13 @@ record IsCut (seen set : IcmpSet) (area : List ℕ) : Type 0 where
   whole : area ≡ flat_map (λ option. option) options
   set_now : seen_after seen options ≡ set
 
+-- an option cut off, and what was read behind it
+cut_whole : (n : ℕ) (area rest : List ℕ) → drop n area ≡ rest → area ≡ take n area ++ rest
+cut_whole n area rest e = sym (take-append-drop n area) ∙ ap (λ (more : List ℕ). take n area ++ more) e
+
+seen_next : (seen set : IcmpSet) (option : List ℕ) (next : IcmpSet) (options : List (List ℕ)) → next ≡ noted seen option → seen_after next options ≡ set → seen_after seen (option ∷ options) ≡ set
+seen_next seen set option next options e more = ap (λ (s : IcmpSet). seen_after s options) (sym e) ∙ more
+
 area_cut : (fuel : ℕ) (seen : IcmpSet) (place : ℕ) (area : List ℕ) (set : IcmpSet) → length area ≤ fuel → options_after 0 seen place area ≡ Ok set → IsCut seen set area
 unfolding options_after
 area_cut fuel seen place [] set enough e = record { options = []; are = tt; whole = refl; set_now = ok_is seen set e }
@@ -123,8 +130,8 @@ area_cut (suc fuel) seen place (t ∷ bytes) set enough e =
     record {
       options = take x.1 area ∷ rest.options;
       are = (taken.is, rest.are);
-      whole = sym (take-append-drop x.1 area) ∙ ap (λ (more : List ℕ). take x.1 area ++ more) rest.whole;
-      set_now = ap (λ (s : IcmpSet). seen_after s rest.options) (sym taken.seen_now) ∙ rest.set_now;
+      whole = cut_whole x.1 area (flat_map (λ option. option) rest.options) rest.whole;
+      set_now = seen_next seen set (take x.1 area) x.0 rest.options taken.seen_now rest.set_now;
     }
 
 -- what is read is spelled so
