@@ -1,16 +1,15 @@
 -- The two laws of an area of options: what is read is spelled so, and what is spelled so is read.
-use Rattle.std.proofs.Common.{◌≡◌, ℕ, zero, suc, ◌+◌, ◌-◌, ◌*◌, ◌<◌, ◌≤◌, Bool, true, false, cond, eqb, ltb, not, ◌||◌, List, [], ◌∷◌, ◌++◌, length, take, drop, get_or, Some, Result, Ok, Err, inl, inr, refl, sym, ap, subst, ◌∙◌, arith, length-append, length-drop, length-take, take-append-drop}
+use Rattle.std.proofs.Common.{◌≡◌, ℕ, zero, suc, ◌+◌, ◌-◌, ◌*◌, ◌<◌, ◌≤◌, Bool, true, false, eqb, ltb, not, ◌||◌, List, [], ◌∷◌, ◌++◌, length, take, drop, Some, Result, Ok, inl, inr, refl, sym, ap, subst, ◌∙◌, arith, length-append, length-drop, take-append-drop}
 use Rattle.std.specs.Prelude.{slice_index}
 use Rattle.std.specs.List.{flat_map, AllByRecursion}
-use Rattle.std.proofs.lemmas.Bool.{cond_both, cond-false, cases_Bool, eqb-true, eqb-false, ltb-false, le-ltb, not-false, not-true, not_from_true, or_parts, or_from, or_parts, eq-eqb, ne_eqb}
+use Rattle.std.proofs.lemmas.Bool.{cond_both, cond-false, cases_Bool, eqb-true, eqb-false, ltb-false, le-ltb, not-false, not-true, not_from_true, or_parts, or_from, or_parts}
 use Rattle.std.proofs.lemmas.List.{get_or_append_left, get_or-take, length-take-le, drop_at}
 use Rattle.mip_words.proofs.Fields.{number_at-append}
-use Rattle.mip_words.specs.Steps.{◌>>=◌}
 use Rattle.mip_words.proofs.StepLaws.{bind_ok, done, ok_is}
 use Rattle.mip_icmp.specs.declared.prefix_info.PrefixInfo.{PrefixInfo}
 use Rattle.mip_icmp.specs.declared.options.IcmpSet.{IcmpSet}
 use Rattle.mip_icmp.specs.declared.fault.IcmpFault.{IcmpFault}
-use Rattle.mip_icmp.specs.Options.{prefix_at, interval_at, agent_at, has_units, IsOption, IsArea, set_from}
+use Rattle.mip_icmp.specs.Options.{prefix_at, interval_at, agent_at, has_units, IsOption, IsArea}
 use Rattle.mip_icmp.specs.Reading.{preferred_of, noted, option_at, options_after, nothing}
 use Rattle.mip_icmp.proofs.Walking.{goes_on}
 use Rattle.mip_icmp.proofs.Choices.{seen_after, set_from_seen}
@@ -52,12 +51,12 @@ noted-append seen option rest is =
     let t = slice_index option 0 in
     let long = option_long option is in
     rw (at-append option rest 0 (omega arith))
-      (elim (cases_Bool (eqb t 3)) [
-          inl three ↦
-            let whole : 32 ≤ length option = omega (arith, is.whole, units_four t (slice_index option 1) (eqb-true t 3 three) is.units) in
-            rw three (ap (λ (p : PrefixInfo). record seen { prefix = Some (preferred_of seen.prefix p) }) (prefix_at-append option rest whole))
-        | inr three ↦ rw (three, interval_at-append option rest long, agent_at-append option rest long) refl
-      ])
+    (elim (cases_Bool (eqb t 3)) [
+      | inl three ↦
+          let whole : 32 ≤ length option = omega (arith, is.whole, units_four t (slice_index option 1) (eqb-true t 3 three) is.units) in
+          rw three (ap (λ (p : PrefixInfo). record seen { prefix = Some (preferred_of seen.prefix p) }) (prefix_at-append option rest whole))
+      | inr three ↦ rw (three, interval_at-append option rest long, agent_at-append option rest long) refl
+    ])
 
 -- the option that begins these bytes, cut off
 record Takes (seen : IcmpSet) (bytes : List ℕ) (x : IcmpSet × ℕ) : Type 0 where

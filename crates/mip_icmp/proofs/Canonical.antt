@@ -1,6 +1,6 @@
 -- The canonical spelling is one that is read, to the message that was written.
-use Rattle.std.proofs.Common.{◌≡◌, ℕ, ◌+◌, ◌%◌, ◌^◌, ◌<◌, ◌≤◌, Bool, true, false, List, [], ◌∷◌, ◌++◌, length, take, drop, Option, Some, None, Result, Ok, Err, IsTrue, refl, sym, ap, subst, ◌∙◌, arith, length-append, lit≤}
-use Rattle.std.specs.Prelude.{slice_index, IfOk, OnOk, IfSome}
+use Rattle.std.proofs.Common.{◌≡◌, ℕ, ◌^◌, ◌<◌, ◌≤◌, Bool, true, false, List, [], ◌∷◌, ◌++◌, length, Option, Some, None, Result, Ok, Err, IsTrue, refl, sym, ap, subst, ◌∙◌, arith, length-append, lit≤}
+use Rattle.std.specs.Prelude.{slice_index, IfOk, OnOk}
 use Rattle.std.proofs.lemmas.Bool.{eqb-true}
 use Rattle.std.proofs.lemmas.List.{append-nil}
 use Rattle.mip_words.specs.Numbers.{number_at, number_bytes}
@@ -8,7 +8,7 @@ use Rattle.mip_words.specs.Addresses.{address_bytes}
 use Rattle.mip_words.specs.declared.address.Address.{Address}
 use Rattle.mip_words.specs.declared.memory.Memory.{Memory}
 use Rattle.mip_words.proofs.Fields.{number_at-number_bytes}
-use Rattle.mip_ipv6.specs.Sum.{message_sum, is_right_sum, checksum_of, with_number_at}
+use Rattle.mip_ipv6.specs.Sum.{is_right_sum, checksum_of, with_number_at}
 use Rattle.mip_icmp.specs.declared.prefix_info.PrefixInfo.{PrefixInfo}
 use Rattle.mip_icmp.specs.declared.agent_info.AgentInfo.{AgentInfo}
 use Rattle.mip_icmp.specs.declared.options.IcmpSet.{IcmpSet}

@@ -1,6 +1,6 @@
 -- Which options count: going through them one by one finds what the whole list says.
-use Rattle.std.proofs.Common.{◌≡◌, ℕ, Bool, true, false, cond, eqb, not, ◌||◌, List, [], ◌∷◌, ◌++◌, Option, Some, None, inl, inr, refl, sym, ap, ◌∙◌, arith}
-use Rattle.std.specs.Prelude.{map, filter, find, slice_index}
+use Rattle.std.proofs.Common.{◌≡◌, ℕ, true, false, cond, eqb, List, [], ◌∷◌, ◌++◌, Option, Some, None, inl, inr, refl, sym, ◌∙◌, arith}
+use Rattle.std.specs.Prelude.{map, slice_index}
 use Rattle.std.specs.Option.{option_or, option_to_list}
 use Rattle.std.proofs.lemmas.Bool.{cases_Bool, cases_eq, eq-eqb, ne_eqb}
 use Rattle.mip_icmp.specs.declared.prefix_info.PrefixInfo.{PrefixInfo}
@@ -34,7 +34,7 @@ first_one (Some x) = refl
 preferred_two : (x y : PrefixInfo) (ys : List PrefixInfo) → preferred_among (x ∷ y ∷ ys) ≡ preferred_among (preferred_of (Some x) y ∷ ys)
 preferred_two x y ys =
     elim (cases_Bool (eqb x.length 64)) [
-        inl e ↦ simp e
+      | inl e ↦ simp e
       | inr e ↦ elim (cases_Bool (eqb y.length 64)) [ inl d ↦ simp (e, d) | inr d ↦ simp (e, d) ]
     ]
 
@@ -50,7 +50,7 @@ one_more : (seen : IcmpSet) (o : List ℕ) (options : List (List ℕ)) → said_
 one_more seen o options =
     let t = slice_index o 0 in
     elim (cases_eq t 3) [
-        inl e ↦
+      | inl e ↦
           let a : eqb t 3 ≡ true = eq-eqb t 3 e in
           let b : eqb t 7 ≡ false = ne_eqb t 7 (λ f. omega arith) in
           let c : eqb t 8 ≡ false = ne_eqb t 8 (λ f. omega arith) in
@@ -58,14 +58,14 @@ one_more seen o options =
       | inr e ↦
           let a : eqb t 3 ≡ false = ne_eqb t 3 e in
           elim (cases_eq t 7) [
-              inl f ↦
+            | inl f ↦
                 let b : eqb t 7 ≡ true = eq-eqb t 7 f in
                 let c : eqb t 8 ≡ false = ne_eqb t 8 (λ g. omega arith) in
                 rw (a, b, c) (rw (first_more seen.interval (interval_at o) (map interval_at (of_type 7 options))) refl)
             | inr f ↦
                 let b : eqb t 7 ≡ false = ne_eqb t 7 f in
                 elim (cases_eq t 8) [
-                    inl g ↦
+                  | inl g ↦
                       let c : eqb t 8 ≡ true = eq-eqb t 8 g in
                       rw (a, b, c) (rw (first_more seen.agent (agent_at o) (map agent_at (of_type 8 options))) refl)
                   | inr g ↦

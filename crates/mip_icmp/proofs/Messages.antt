@@ -1,9 +1,9 @@
 -- The two laws of a message: what is read is spelled so, and what is spelled so is read.
-use Rattle.std.proofs.Common.{◌≡◌, ℕ, ◌+◌, ◌/◌, ◌%◌, ◌<◌, ◌≤◌, Bool, true, false, cond, eqb, ltb, not, ◌||◌, List, [], ◌∷◌, length, drop, get_or, Result, Ok, Err, refl, sym, ap, subst, ◌∙◌, arith}
+use Rattle.std.proofs.Common.{◌≡◌, ℕ, ◌%◌, ◌≤◌, true, eqb, ltb, not, ◌||◌, List, length, drop, Result, Ok, Err, refl, sym, ap, subst, ◌∙◌}
 use Rattle.std.specs.Prelude.{slice_index, IfOk}
-use Rattle.std.proofs.lemmas.Bool.{cond_both, cond-false, cond-true, eqb-true, ltb-false, le-ltb, not-false, not_from_true, or_parts, or_from, eq-eqb}
+use Rattle.std.proofs.lemmas.Bool.{cond_both, cond-false, eqb-true, ltb-false, le-ltb, not-false, not_from_true, or_parts, or_from, eq-eqb}
 use Rattle.mip_words.specs.Numbers.{number_at}
-use Rattle.mip_words.specs.Steps.{◌>>=◌, Gives}
+use Rattle.mip_words.specs.Steps.{Gives}
 use Rattle.mip_words.specs.declared.address.Address.{Address}
 use Rattle.mip_words.proofs.StepLaws.{bind_ok, done, ok_is}
 use Rattle.mip_ipv6.specs.Sum.{message_sum, is_right_sum}
@@ -12,7 +12,7 @@ use Rattle.mip_icmp.specs.declared.message.Icmp.{Icmp}
 use Rattle.mip_icmp.specs.declared.fault.IcmpFault.{IcmpFault}
 use Rattle.mip_icmp.specs.Fields.{least_size, is_known, identifier_at, is_agent_flag}
 use Rattle.mip_icmp.specs.Said.{Said, Parameter, Advertisement, DiscoverAsk, DiscoverReply, PrefixAsk, PrefixReply, said}
-use Rattle.mip_icmp.specs.Reading.{nothing, options_after, area_of, kind_of, parameter_in, advertisement_in, agents_in, prefixes_in, fields_in, icmp_of}
+use Rattle.mip_icmp.specs.Reading.{area_of, kind_of, parameter_in, advertisement_in, agents_in, prefixes_in, fields_in, icmp_of}
 use Rattle.mip_icmp.specs.Spelling.{type_of, IsFields, IsIcmp}
 use Rattle.mip_icmp.proofs.Areas.{area_takes, area_again}
 

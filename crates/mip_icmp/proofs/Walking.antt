@@ -1,6 +1,5 @@
 -- Walking over options, as a loop does.
-use Rattle.std.proofs.Common.{◌≡◌, ℕ, zero, suc, ◌+◌, ◌-◌, ◌<◌, ◌≤◌, List, [], ◌∷◌, length, drop, Result, Ok, Err, refl, sym, ap, ◌∙◌, arith, add-zero}
-use Rattle.mip_words.specs.Steps.{◌>>=◌, Gives}
+use Rattle.std.proofs.Common.{◌≡◌, ℕ, zero, suc, ◌+◌, ◌-◌, ◌<◌, ◌≤◌, List, [], ◌∷◌, length, drop, Ok, Err, refl, sym, ap, ◌∙◌, arith, add-zero}
 use Rattle.mip_icmp.specs.declared.options.IcmpSet.{IcmpSet}
 use Rattle.mip_icmp.specs.declared.fault.IcmpFault.{IcmpFault}
 use Rattle.mip_icmp.specs.Reading.{option_at, options_after}

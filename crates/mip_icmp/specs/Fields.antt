@@ -5,7 +5,7 @@
 --   |     Type      |     Code      |          Checksum             |
 --
 -- RFC 4443 section 2.1
-use Rattle.std.specs.Prelude.{ℕ, ◌/◌, ◌%◌, List, Bool, ◌||◌, ◌==◌, slice_index, if◌then◌else◌}
+use Rattle.std.specs.Prelude.{ℕ, ◌/◌, ◌%◌, List, Bool, ◌||◌, ◌==◌, if◌then◌else◌}
 use Rattle.mip_words.specs.Numbers.{number_at}
 
 -- the fewest bytes of a type

@@ -5,7 +5,7 @@
 --   |     Type      |    Length     |              ...              |
 --
 -- Length counts units of 8 bytes, the first two bytes among them. RFC 4861 section 4.6
-use Rattle.std.specs.Prelude.{◌≡◌, ℕ, ◌*◌, ◌<◌, List, [], ◌∷◌, length, filter, map, find, Option, Some, None, Bool, true, not, ◌&&◌, ◌||◌, ◌==◌, slice_index, if◌then◌else◌}
+use Rattle.std.specs.Prelude.{◌≡◌, ℕ, ◌*◌, List, [], ◌∷◌, length, filter, map, find, Option, Some, None, Bool, true, not, ◌||◌, ◌==◌, slice_index, if◌then◌else◌}
 use Rattle.std.specs.List.{flat_map, AllByRecursion}
 use Rattle.std.specs.Option.{option_or}
 use Rattle.mip_words.specs.Numbers.{number_at}

@@ -1,5 +1,5 @@
 -- Reading an ICMPv6 message: the first fault that applies, or what the message says.
-use Rattle.std.specs.Prelude.{ℕ, zero, suc, ◌+◌, ◌-◌, ◌*◌, ◌%◌, List, [], ◌∷◌, length, drop, Option, Some, None, Result, Ok, Err, Bool, not, ◌&&◌, ◌||◌, ◌==◌, nat_lt, slice_index, if◌then◌else◌}
+use Rattle.std.specs.Prelude.{ℕ, zero, suc, ◌+◌, ◌-◌, ◌*◌, ◌%◌, List, [], ◌∷◌, length, drop, Option, Some, None, Result, Ok, Err, not, ◌||◌, ◌==◌, nat_lt, slice_index, if◌then◌else◌}
 use Rattle.std.specs.Option.{option_or}
 use Rattle.mip_words.specs.Numbers.{number_at}
 use Rattle.mip_words.specs.Steps.{◌>>=◌}

@@ -47,7 +47,13 @@ fn flags(agent: bool) -> u8
 
 /// Appends the message with a checksum of zero.
 #[tactic(auto, unfolding(crate::specs::Spelling::unsummed))]
-pub(crate) fn put_advertisement(out: &mut Bytes, hop: u8, agent: bool, life: u16, options: IcmpSet) -> Result<(), Memory>
+pub(crate) fn put_advertisement(
+    out: &mut Bytes,
+    hop: u8,
+    agent: bool,
+    life: u16,
+    options: IcmpSet,
+) -> Result<(), Memory>
     ensures bytes { OnOk result (out.new ≡ out.old ++ unsummed (Advertisement hop agent life options)) }
     ensures fits { OnOk result ((life < 2 ^ 16) × FitsSet options) }
 {

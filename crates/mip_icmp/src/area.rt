@@ -82,6 +82,15 @@ pub(crate) fn read_area(message: &[u8], start: usize) -> Result<IcmpOptions<'_>,
         seen = with_this;
         rest = behind;
     }
-    let IcmpSet { prefix, interval, agent } = seen;
-    Ok(IcmpOptions { prefix, interval, agent, span })
+    let IcmpSet {
+        prefix,
+        interval,
+        agent,
+    } = seen;
+    Ok(IcmpOptions {
+        prefix,
+        interval,
+        agent,
+        span,
+    })
 }

@@ -39,7 +39,11 @@ pub(crate) fn put_discover_ask(out: &mut Bytes, identifier: u16) -> Result<(), M
 
 /// Appends the reply with a checksum of zero.
 #[tactic(auto, unfolding(crate::specs::Spelling::unsummed))]
-pub(crate) fn put_discover_reply(out: &mut Bytes, identifier: u16, agents: &[u8]) -> Result<(), Memory>
+pub(crate) fn put_discover_reply(
+    out: &mut Bytes,
+    identifier: u16,
+    agents: &[u8],
+) -> Result<(), Memory>
     ensures bytes { OnOk result (out.new ≡ out.old ++ unsummed (DiscoverReply identifier agents.now)) }
     ensures fits { identifier < 2 ^ 16 }
 {

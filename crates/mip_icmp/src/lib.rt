@@ -24,3 +24,6 @@ pub use plain::PlainIcmp;
 pub use prefix_info::PrefixInfo;
 pub use reading::read_icmp;
 pub use writing::write_icmp;
+
+#[cfg(test)]
+mod tests;

@@ -20,7 +20,9 @@ pub enum Icmp<'a> {
         options: IcmpOptions<'a>,
     },
     /// Type 144, Home Agent Address Discovery Request (RFC 6275 section 6.5).
-    DiscoverAsk { identifier: u16 },
+    DiscoverAsk {
+        identifier: u16,
+    },
     /// Type 145, Home Agent Address Discovery Reply (RFC 6275 section 6.6).
     DiscoverReply {
         identifier: u16,
@@ -28,7 +30,9 @@ pub enum Icmp<'a> {
         agents: &'a [u8],
     },
     /// Type 146, Mobile Prefix Solicitation (RFC 6275 section 6.7).
-    PrefixAsk { identifier: u16 },
+    PrefixAsk {
+        identifier: u16,
+    },
     /// Type 147, Mobile Prefix Advertisement (RFC 6275 section 6.8).
     PrefixReply {
         identifier: u16,

@@ -39,7 +39,11 @@ pub(crate) fn put_prefix_ask(out: &mut Bytes, identifier: u16) -> Result<(), Mem
 
 /// Appends the advertisement with a checksum of zero; the flags M and O are zero too.
 #[tactic(auto, unfolding(crate::specs::Spelling::unsummed))]
-pub(crate) fn put_prefix_reply(out: &mut Bytes, identifier: u16, options: IcmpSet) -> Result<(), Memory>
+pub(crate) fn put_prefix_reply(
+    out: &mut Bytes,
+    identifier: u16,
+    options: IcmpSet,
+) -> Result<(), Memory>
     ensures bytes { OnOk result (out.new ≡ out.old ++ unsummed (PrefixReply identifier options)) }
     ensures fits { OnOk result ((identifier < 2 ^ 16) × FitsSet options) }
 {

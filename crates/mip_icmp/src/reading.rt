@@ -55,9 +55,13 @@ fn fields_of(kind: u8, body: &[u8]) -> Result<Icmp<'_>, IcmpFault>
     match kind {
         4 => Ok(parameter_of(body)),
         134 => advertisement_of(body),
-        144 => Ok(Icmp::DiscoverAsk { identifier: u16_at(body, 4) }),
+        144 => Ok(Icmp::DiscoverAsk {
+            identifier: u16_at(body, 4),
+        }),
         145 => agents_of(body),
-        146 => Ok(Icmp::PrefixAsk { identifier: u16_at(body, 4) }),
+        146 => Ok(Icmp::PrefixAsk {
+            identifier: u16_at(body, 4),
+        }),
         _ => prefixes_of(body),
     }
 }

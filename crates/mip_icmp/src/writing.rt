@@ -21,15 +21,21 @@ fn put_unsummed(out: &mut Bytes, message: &PlainIcmp) -> Result<(), Memory>
 {
     match message {
         PlainIcmp::Parameter { pointer, quoted } => put_parameter(out, *pointer, quoted.as_slice()),
-        PlainIcmp::Advertisement { hop, agent, life, options } => {
-            put_advertisement(out, *hop, *agent, *life, *options)
-        }
+        PlainIcmp::Advertisement {
+            hop,
+            agent,
+            life,
+            options,
+        } => { put_advertisement(out, *hop, *agent, *life, *options) }
         PlainIcmp::DiscoverAsk { identifier } => put_discover_ask(out, *identifier),
         PlainIcmp::DiscoverReply { identifier, agents } => {
             put_discover_reply(out, *identifier, agents.as_slice())
         }
         PlainIcmp::PrefixAsk { identifier } => put_prefix_ask(out, *identifier),
-        PlainIcmp::PrefixReply { identifier, options } => put_prefix_reply(out, *identifier, *options),
+        PlainIcmp::PrefixReply {
+            identifier,
+            options,
+        } => put_prefix_reply(out, *identifier, *options),
     }
 }
 
@@ -62,7 +68,12 @@ fn unsummed_of(alloc: Global, message: &PlainIcmp) -> Result<Bytes, Memory>
 
 /// The message with the checksum that holds.
 #[tactic(auto, unfolding(crate::specs::Spelling::icmp_bytes))]
-fn summed(alloc: Global, source: Address, destination: Address, message: &PlainIcmp) -> Result<Bytes, Memory>
+fn summed(
+    alloc: Global,
+    source: Address,
+    destination: Address,
+    message: &PlainIcmp,
+) -> Result<Bytes, Memory>
     requires { IsWritable (said_plain message.now) }
     ensures canonical { IfOk result (λ b. b ≡ icmp_bytes source destination (said_plain message.now)) }
     ensures sum { IfOk result (λ b. IsTrue (is_right_sum source destination 58 b)) }
@@ -74,7 +85,12 @@ fn summed(alloc: Global, source: Address, destination: Address, message: &PlainI
 }
 
 /// The canonical spelling of a message between these addresses, as `read_icmp` has them.
-pub fn write_icmp(alloc: Global, source: Address, destination: Address, message: &PlainIcmp) -> Result<Bytes, Memory>
+pub fn write_icmp(
+    alloc: Global,
+    source: Address,
+    destination: Address,
+    message: &PlainIcmp,
+) -> Result<Bytes, Memory>
     requires { IsWritable (said_plain message.now) }
     ensures canonical { IfOk result (λ b. b ≡ icmp_bytes source destination (said_plain message.now)) }
     // What is written is spelled so, and is read back.

@@ -1,7 +1,6 @@
-use Rattle.std.proofs.Common.{◌≡◌, ◌+◌, ◌-◌, ◌<◌, ◌≤◌, ℕ, length, drop, sym, ap, ◌∙◌, rules, arith, length-drop}
+use Rattle.std.proofs.Common.{◌≡◌, ◌+◌, ◌-◌, ◌<◌, ℕ, length, drop, sym, ap, ◌∙◌, rules, arith, length-drop}
 use Rattle.std.proofs.lemmas.Result.{err_from_is_err_and}
-use Rattle.mip_icmp.specs.Options.{set_of}
-use Rattle.mip_icmp.specs.Reading.{options_after, area_of}
+use Rattle.mip_icmp.specs.Reading.{options_after}
 use Rattle.mip_icmp.proofs.Walking.{goes_on, stops, is_done}
 use Rattle.mip_icmp.proofs.area.read_area.Goals as goal
 

@@ -1,5 +1,4 @@
 use Rattle.std.proofs.Common.{subst}
-use Rattle.std.specs.Prelude.{Ok}
 use Rattle.mip_words.specs.Steps.{Gives}
 use Rattle.mip_icmp.specs.Said.{said}
 use Rattle.mip_icmp.proofs.Messages.{is_found, icmp_again}
