@@ -51,3 +51,73 @@ row5 e r1 r2 r3 r4 r5 to (f1 ∷ f2 ∷ f3 ∷ f4 ∷ f5 ∷ []) = do
   a5 ← r5 f5
   Ok (to a1 a2 a3 a4 a5)
 row5 e r1 r2 r3 r4 r5 to _ = Err e
+
+-- 6 fields; e where there are more or fewer
+abbrev pub row6 : {A1 A2 A3 A4 A5 A6 X E : Type 0} → E → (List ℕ → Result A1 E) → (List ℕ → Result A2 E) → (List ℕ → Result A3 E) → (List ℕ → Result A4 E) → (List ℕ → Result A5 E) → (List ℕ → Result A6 E) → (A1 → A2 → A3 → A4 → A5 → A6 → X) → List (List ℕ) → Result X E
+row6 e r1 r2 r3 r4 r5 r6 to (f1 ∷ f2 ∷ f3 ∷ f4 ∷ f5 ∷ f6 ∷ []) = do
+  a1 ← r1 f1
+  a2 ← r2 f2
+  a3 ← r3 f3
+  a4 ← r4 f4
+  a5 ← r5 f5
+  a6 ← r6 f6
+  Ok (to a1 a2 a3 a4 a5 a6)
+row6 e r1 r2 r3 r4 r5 r6 to _ = Err e
+
+-- 7 fields; e where there are more or fewer
+abbrev pub row7 : {A1 A2 A3 A4 A5 A6 A7 X E : Type 0} → E → (List ℕ → Result A1 E) → (List ℕ → Result A2 E) → (List ℕ → Result A3 E) → (List ℕ → Result A4 E) → (List ℕ → Result A5 E) → (List ℕ → Result A6 E) → (List ℕ → Result A7 E) → (A1 → A2 → A3 → A4 → A5 → A6 → A7 → X) → List (List ℕ) → Result X E
+row7 e r1 r2 r3 r4 r5 r6 r7 to (f1 ∷ f2 ∷ f3 ∷ f4 ∷ f5 ∷ f6 ∷ f7 ∷ []) = do
+  a1 ← r1 f1
+  a2 ← r2 f2
+  a3 ← r3 f3
+  a4 ← r4 f4
+  a5 ← r5 f5
+  a6 ← r6 f6
+  a7 ← r7 f7
+  Ok (to a1 a2 a3 a4 a5 a6 a7)
+row7 e r1 r2 r3 r4 r5 r6 r7 to _ = Err e
+
+-- 8 fields; e where there are more or fewer
+abbrev pub row8 : {A1 A2 A3 A4 A5 A6 A7 A8 X E : Type 0} → E → (List ℕ → Result A1 E) → (List ℕ → Result A2 E) → (List ℕ → Result A3 E) → (List ℕ → Result A4 E) → (List ℕ → Result A5 E) → (List ℕ → Result A6 E) → (List ℕ → Result A7 E) → (List ℕ → Result A8 E) → (A1 → A2 → A3 → A4 → A5 → A6 → A7 → A8 → X) → List (List ℕ) → Result X E
+row8 e r1 r2 r3 r4 r5 r6 r7 r8 to (f1 ∷ f2 ∷ f3 ∷ f4 ∷ f5 ∷ f6 ∷ f7 ∷ f8 ∷ []) = do
+  a1 ← r1 f1
+  a2 ← r2 f2
+  a3 ← r3 f3
+  a4 ← r4 f4
+  a5 ← r5 f5
+  a6 ← r6 f6
+  a7 ← r7 f7
+  a8 ← r8 f8
+  Ok (to a1 a2 a3 a4 a5 a6 a7 a8)
+row8 e r1 r2 r3 r4 r5 r6 r7 r8 to _ = Err e
+
+-- 9 fields; e where there are more or fewer
+abbrev pub row9 : {A1 A2 A3 A4 A5 A6 A7 A8 A9 X E : Type 0} → E → (List ℕ → Result A1 E) → (List ℕ → Result A2 E) → (List ℕ → Result A3 E) → (List ℕ → Result A4 E) → (List ℕ → Result A5 E) → (List ℕ → Result A6 E) → (List ℕ → Result A7 E) → (List ℕ → Result A8 E) → (List ℕ → Result A9 E) → (A1 → A2 → A3 → A4 → A5 → A6 → A7 → A8 → A9 → X) → List (List ℕ) → Result X E
+row9 e r1 r2 r3 r4 r5 r6 r7 r8 r9 to (f1 ∷ f2 ∷ f3 ∷ f4 ∷ f5 ∷ f6 ∷ f7 ∷ f8 ∷ f9 ∷ []) = do
+  a1 ← r1 f1
+  a2 ← r2 f2
+  a3 ← r3 f3
+  a4 ← r4 f4
+  a5 ← r5 f5
+  a6 ← r6 f6
+  a7 ← r7 f7
+  a8 ← r8 f8
+  a9 ← r9 f9
+  Ok (to a1 a2 a3 a4 a5 a6 a7 a8 a9)
+row9 e r1 r2 r3 r4 r5 r6 r7 r8 r9 to _ = Err e
+
+-- 10 fields; e where there are more or fewer
+abbrev pub row10 : {A1 A2 A3 A4 A5 A6 A7 A8 A9 A10 X E : Type 0} → E → (List ℕ → Result A1 E) → (List ℕ → Result A2 E) → (List ℕ → Result A3 E) → (List ℕ → Result A4 E) → (List ℕ → Result A5 E) → (List ℕ → Result A6 E) → (List ℕ → Result A7 E) → (List ℕ → Result A8 E) → (List ℕ → Result A9 E) → (List ℕ → Result A10 E) → (A1 → A2 → A3 → A4 → A5 → A6 → A7 → A8 → A9 → A10 → X) → List (List ℕ) → Result X E
+row10 e r1 r2 r3 r4 r5 r6 r7 r8 r9 r10 to (f1 ∷ f2 ∷ f3 ∷ f4 ∷ f5 ∷ f6 ∷ f7 ∷ f8 ∷ f9 ∷ f10 ∷ []) = do
+  a1 ← r1 f1
+  a2 ← r2 f2
+  a3 ← r3 f3
+  a4 ← r4 f4
+  a5 ← r5 f5
+  a6 ← r6 f6
+  a7 ← r7 f7
+  a8 ← r8 f8
+  a9 ← r9 f9
+  a10 ← r10 f10
+  Ok (to a1 a2 a3 a4 a5 a6 a7 a8 a9 a10)
+row10 e r1 r2 r3 r4 r5 r6 r7 r8 r9 r10 to _ = Err e
