@@ -1,6 +1,6 @@
 -- What is known of decimal numbers: a field that is read is spelled so, and a field that is spelled so is read.
-use Rattle.std.proofs.Common.{◌≡◌, ◌≢◌, ℕ, ◌+◌, ◌^◌, ◌<◌, ◌≤◌, List, Bool, true, false, cond, refl, sym, ap, ◌∙◌, subst, arith, nat_le, nat_lt}
-use Rattle.std.specs.Prelude.{Option, Some, None, Result, Ok, Err, decimal, ◌&&◌, MatchOption}
+use Rattle.std.proofs.Common.{◌≡◌, ◌≢◌, ℕ, ◌^◌, ◌<◌, ◌≤◌, List, true, refl, sym, ap, ◌∙◌, subst, arith, nat_le}
+use Rattle.std.specs.Prelude.{Option, Some, None, Ok, Err, decimal, ◌&&◌}
 use Rattle.std.specs.Str.{bytes_eq, IsUtf8}
 use Rattle.std.specs.Str.Parse.{digits_value, ParsesUnsigned}
 use Rattle.std.proofs.lemmas.Bool.{cond_both, cond-true, cond-false, and_parts, and_from, and_left, and_right, le-leb, lt-leb, leb-true}
@@ -55,12 +55,12 @@ unfolding number_in
 number_none low high field small none =
     let n : ℕ = digits_value 10 field in
     cond_both (bytes_eq (decimal n) field && (nat_le low n && nat_le n high)) _ _ (λ (o : Option ℕ). o ≡ None)
-      (λ test.
-        let p = and_parts (bytes_eq (decimal n) field) (nat_le low n && nat_le n high) test in
-        let q = and_parts (nat_le low n) (nat_le n high) p.1 in
-        let most : n ≤ high = leb-true n high q.1 in
-        absurd (none n (omega arith) ((bytes_eq-Decides (decimal n) field).0 p.0)))
-      (λ _. refl)
+    (λ test.
+    let p = and_parts (bytes_eq (decimal n) field) (nat_le low n && nat_le n high) test in
+    let q = and_parts (nat_le low n) (nat_le n high) p.1 in
+    let most : n ≤ high = leb-true n high q.1 in
+    absurd (none n (omega arith) ((bytes_eq-Decides (decimal n) field).0 p.0)))
+    (λ _. refl)
 
 -- a field that is read is the number's digits, and the number is within its range
 pub number-spelled : (low high : ℕ) (field : List ℕ) (x : ℕ) → number_in low high field ≡ Some x → (field ≡ decimal x) × (low ≤ x) × (x ≤ high)
@@ -68,13 +68,13 @@ unfolding number_in
 number-spelled low high field x =
     let n : ℕ = digits_value 10 field in
     cond_both (bytes_eq (decimal n) field && (nat_le low n && nat_le n high)) _ _ (λ (o : Option ℕ). o ≡ Some x → (field ≡ decimal x) × (low ≤ x) × (x ≤ high))
-      (λ test e.
-        let same : n ≡ x = cc in
-        let p = and_parts (bytes_eq (decimal n) field) (nat_le low n && nat_le n high) test in
-        let q = and_parts (nat_le low n) (nat_le n high) p.1 in
-        subst (λ (y : ℕ). (field ≡ decimal y) × (low ≤ y) × (y ≤ high)) same
-          (sym ((bytes_eq-Decides (decimal n) field).0 p.0), leb-true low n q.0, leb-true n high q.1))
-      (λ _ e. absurd cc)
+    (λ test e.
+    let same : n ≡ x = cc in
+    let p = and_parts (bytes_eq (decimal n) field) (nat_le low n && nat_le n high) test in
+    let q = and_parts (nat_le low n) (nat_le n high) p.1 in
+    subst (λ (y : ℕ). (field ≡ decimal y) × (low ≤ y) × (y ≤ high)) same
+    (sym ((bytes_eq-Decides (decimal n) field).0 p.0), leb-true low n q.0, leb-true n high q.1))
+    (λ _ e. absurd cc)
 
 -- the digits of a number within the range are read
 pub number-again : (low high x : ℕ) → low ≤ x → x ≤ high → high < 2 ^ 64 → number_in low high (decimal x) ≡ Some x

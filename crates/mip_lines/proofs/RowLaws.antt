@@ -1,8 +1,8 @@
 -- What is known of rows of fields: a row that is read is spelled so, and a row that is spelled so is read.
 use Rattle.std.proofs.Common.{◌≡◌, ℕ, List, [], ◌∷◌, refl, sym, ap, ◌∙◌, subst}
-use Rattle.std.specs.Prelude.{Result, Ok, Err}
+use Rattle.std.specs.Prelude.{Result, Ok}
 use Rattle.mip_words.specs.Steps.{◌>>=◌}
-use Rattle.mip_words.proofs.StepLaws.{bind_ok, ok_is, done}
+use Rattle.mip_words.proofs.StepLaws.{bind_ok, ok_is}
 use Rattle.mip_lines.specs.Rows.{Spells, row1, row2, row3, row4, row5, row6, row7, row8, row9, row10}
 
 -- a first step that was read, seen as its spelling

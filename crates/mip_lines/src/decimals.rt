@@ -18,7 +18,11 @@ fn number_of(field: &[u8]) -> Option<u64>
         return None;
     };
     let mut digits = Buffer::new();
-    if digits.format(number).as_bytes() == field { Some(number) } else { None }
+    if digits.format(number).as_bytes() == field {
+        Some(number)
+    } else {
+        None
+    }
 }
 
 /// The number from `low` to `high` whose digits the field is: it has no sign and no leading zero.

@@ -1,4 +1,4 @@
-use Rattle.std.proofs.Common.{◌≡◌, ◌++◌, List, length}
+use Rattle.std.proofs.Common.{◌≡◌, ◌++◌, length}
 use Rattle.mip_lines.specs.Cutting.{parts, texts}
 use Rattle.mip_lines.proofs.cutting.fields.Given as goal
 

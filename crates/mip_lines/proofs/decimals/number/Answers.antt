@@ -1,4 +1,4 @@
-use Rattle.std.proofs.Common.{rules, ◌≡◌, ℕ, sym, arith}
+use Rattle.std.proofs.Common.{sym, arith}
 use Rattle.mip_lines.proofs.Numbers.{number_none, number_low, number_high, number_is}
 use Rattle.mip_lines.proofs.decimals.number.Goals as goal
 

@@ -1,4 +1,4 @@
-use Rattle.std.proofs.Common.{rules, ◌≡◌, ℕ, arith}
+use Rattle.std.proofs.Common.{rules}
 use Rattle.mip_lines.proofs.Numbers.{number_not_text, number_not_parsed, number_other}
 use Rattle.mip_lines.proofs.decimals.number_of.Goals as goal
 
