@@ -2,3 +2,4 @@ pub mod Parts
 pub mod Numbers
 pub mod RowLaws
 pub mod LineLaws
+pub mod HexFieldLaws

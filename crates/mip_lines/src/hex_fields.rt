@@ -21,7 +21,11 @@ pub fn hex_u64(field: &[u8]) -> Option<u64>
     ensures { result ≡ hex_number 8 field.now }
 {
     let mut bytes = [0; 8];
-    if hex_exact(field, &mut bytes) { Some(u64_at(&bytes, 0)) } else { None }
+    if hex_exact(field, &mut bytes) {
+        Some(u64_at(&bytes, 0))
+    } else {
+        None
+    }
 }
 
 /// The bytes whose digits the field is, `most` of them at most, and none at `-`.

@@ -33,7 +33,12 @@ pub fn put_line(out: &mut Bytes, fields: &[&[u8]]) -> Result<(), Memory>
 
 #[tactic(auto, using(crate::proofs::LineLaws::appended_line))]
 /// Appends a line whose last field is a list of bytes in hexadecimal digits, or `-` for none.
-pub fn put_line_hex(out: &mut Bytes, word: &[u8], fields: &[&[u8]], bytes: &[u8]) -> Result<(), Memory>
+pub fn put_line_hex(
+    out: &mut Bytes,
+    word: &[u8],
+    fields: &[&[u8]],
+    bytes: &[u8],
+) -> Result<(), Memory>
     ensures { OnOk result (out.new ≡ out.old ++ line_text (word.now ∷ (texts fields.now ++ hex_text bytes.now ∷ []))) }
 {
     out.extend(word)?;

@@ -1,4 +1,4 @@
-use Rattle.std.proofs.Common.{◌≡◌, ◌++◌, List, take}
+use Rattle.std.proofs.Common.{◌≡◌, ◌++◌, take}
 use Rattle.mip_lines.specs.Cutting.{texts}
 use Rattle.mip_lines.specs.Lines.{spaced}
 use Rattle.mip_lines.proofs.writing.put_spaced.Given as goal
