@@ -6,8 +6,9 @@ use std::alloc::Global;
 
 /// The trace of the schedule that the bytes spell, if they spell one.
 #[tactic(auto, unfolding(crate::specs::Replayed::trace_of))]
-pub fn replayed(_alloc: Global, _bytes: &[u8]) -> Result<Option<Bytes>, Memory>
-    ensures { IfOk result (λ trace. trace ≡ trace_of _bytes.now) }
+pub fn replayed(alloc: Global, bytes: &[u8]) -> Result<Option<Bytes>, Memory>
+    ensures { IfOk result (λ trace. trace ≡ trace_of bytes.now) }
 {
+    let _ = (alloc, bytes);
     Ok(None)
 }
