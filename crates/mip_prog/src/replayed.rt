@@ -9,6 +9,7 @@ use std::alloc::Global;
 pub fn replayed(alloc: Global, bytes: &[u8]) -> Result<Option<Bytes>, Memory>
     ensures { IfOk result (λ trace. trace ≡ trace_of bytes.now) }
 {
-    let _ = (alloc, bytes);
+    let _ = alloc;
+    let _ = bytes;
     Ok(None)
 }

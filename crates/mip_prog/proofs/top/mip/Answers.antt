@@ -1,4 +1,4 @@
-use Rattle.std.proofs.Common.{arith, ◌≡◌, List, [], None, map, string_bytes, sym, ◌∙◌, refl}
+use Rattle.std.proofs.Common.{arith, ◌≡◌, [], None, map, string_bytes, sym, ◌∙◌, refl}
 use Rattle.mip_outside.proofs.Known.{prepend_none}
 use Rattle.mip_prog.specs.Commands.{command_of}
 use Rattle.mip_prog.proofs.top.mip.Goals as goal

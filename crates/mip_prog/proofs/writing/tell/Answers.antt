@@ -1,6 +1,5 @@
-use Rattle.std.proofs.Common.{◌≡◌, ℕ, List, length, refl, arith}
+use Rattle.std.proofs.Common.{length, refl, arith}
 use Rattle.std.proofs.lemmas.List.{take_all}
-use Rattle.std.specs.Io.KnownBytes.{append_known}
 use Rattle.mip_prog.proofs.writing.tell.Goals as goal
 
 pub returns-in-Ok-clause-told : goal.returns-in-Ok-clause-told

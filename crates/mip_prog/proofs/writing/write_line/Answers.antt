@@ -1,4 +1,4 @@
-use Rattle.std.proofs.Common.{arith, length, ◌-◌, ◌≤◌, length-drop, length-take}
+use Rattle.std.proofs.Common.{arith, length, ◌-◌, length-drop, length-take}
 use Rattle.mip_outside.proofs.Known.{append_front}
 use Rattle.mip_prog.proofs.writing.write_line.Goals as goal
 

@@ -1,4 +1,4 @@
-use Rattle.std.proofs.Common.{arith, length, ◌+◌, ◌-◌, ◌≤◌, length-drop, length-take}
+use Rattle.std.proofs.Common.{arith, ◌+◌, ◌-◌, length-drop, length-take}
 use Rattle.std.proofs.lemmas.Result.{err_from_is_err_and}
 use Rattle.mip_outside.proofs.Known.{append_front, append_piece}
 use Rattle.mip_prog.proofs.writing.write_text.Goals as goal
