@@ -1,11 +1,11 @@
 -- What is spelled so is read: the walk takes the items of a run one after another.
-use Rattle.std.proofs.Common.{◌≡◌, ℕ, ◌+◌, ◌^◌, ◌<◌, ◌≤◌, List, [], ◌∷◌, ◌++◌, length, take, drop, get_or, refl, sym, ap, subst, ◌∙◌, true, false, ◌&&◌, eqb, ltb, arith, length-append}
-use Rattle.std.proofs.lemmas.Bool.{cond-true, cond-false, ne_eqb, le-ltb, not_from_true, or_from, and_left}
-use Rattle.std.proofs.lemmas.List.{append_assoc, append-nil, take_at, drop_at}
-use Rattle.std.specs.Prelude.{Result, Ok, Err, Option, Some, None, is_some, slice_index}
+use Rattle.std.proofs.Common.{◌≡◌, ℕ, ◌+◌, ◌^◌, ◌<◌, ◌≤◌, List, [], ◌∷◌, ◌++◌, length, drop, get_or, refl, sym, ap, subst, ◌∙◌, true, false, ◌&&◌, eqb, ltb, arith, length-append}
+use Rattle.std.proofs.lemmas.Bool.{cond-false, ne_eqb, le-ltb, not_from_true, or_from, and_left}
+use Rattle.std.proofs.lemmas.List.{append_assoc, take_at, drop_at}
+use Rattle.std.specs.Prelude.{Ok, Option, Some, None, is_some}
 use Rattle.std.specs.List.{flat_map}
 use Rattle.mip_words.specs.Numbers.{number_at, number_bytes}
-use Rattle.mip_words.specs.Addresses.{address_at, address_bytes}
+use Rattle.mip_words.specs.Addresses.{address_bytes}
 use Rattle.mip_words.specs.declared.address.Address.{Address}
 use Rattle.mip_words.proofs.Fields.{length-number_bytes, number_at-number_bytes, number_at-behind}
 use Rattle.mip_options.specs.declared.indices.Indices.{Indices}
@@ -29,14 +29,14 @@ unfolding option_at
 sized place type k v w contents rest nonzero long right first last value = record {
   size = 1 + k;
   is = cond-false _ _ _ (ne_eqb type 0 nonzero)
-    ∙ cond-false _ _ _ (or_from _ _ (le-ltb (length (k ∷ (contents ++ rest))) 1 (omega arith)) (le-ltb (length (k ∷ (contents ++ rest))) (1 + k) (omega (arith, long, length-append contents rest))))
-    ∙ cond-false _ _ _ (not_from_true _ right)
-    ∙ cond-false _ _ _ first
-    ∙ cond-false _ _ _ last
-    ∙ ap (λ (x : Values). Ok (x, 1 + k)) value;
+      ∙ cond-false _ _ _ (or_from _ _ (le-ltb (length (k ∷ (contents ++ rest))) 1 (omega arith)) (le-ltb (length (k ∷ (contents ++ rest))) (1 + k) (omega (arith, long, length-append contents rest))))
+      ∙ cond-false _ _ _ (not_from_true _ right)
+      ∙ cond-false _ _ _ first
+      ∙ cond-false _ _ _ last
+      ∙ ap (λ (x : Values). Ok (x, 1 + k)) value;
   some = omega arith;
   inside = omega (arith, long, length-append contents rest);
-  left = drop_at (k ∷ contents) rest (1 + k) (omega (arith, long))
+  left = drop_at (k ∷ contents) rest (1 + k) (omega (arith, long));
 }
 
 pad_read : (place : ℕ) (v : Values) (rest : List ℕ) → Read place v (0 ∷ []) rest v

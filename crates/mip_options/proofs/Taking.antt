@@ -1,9 +1,9 @@
 -- What is read is spelled so: each option that the walk took is an item of the run.
-use Rattle.std.proofs.Common.{◌≡◌, ℕ, zero, suc, ◌+◌, ◌<◌, ◌≤◌, List, [], ◌∷◌, ◌++◌, length, take, drop, refl, sym, ap, subst, ◌∙◌, Bool, true, false, not, ◌&&◌, ◌||◌, eqb, ltb, arith, inl, inr, length-drop, length-take, take-append-drop}
+use Rattle.std.proofs.Common.{◌≡◌, ℕ, zero, suc, ◌+◌, ◌<◌, ◌≤◌, List, [], ◌∷◌, ◌++◌, length, take, drop, refl, sym, ap, subst, ◌∙◌, true, false, not, ◌&&◌, ◌||◌, eqb, ltb, arith, inl, inr, length-drop, length-take, take-append-drop}
 use Rattle.std.proofs.lemmas.Bool.{cond_both, cond-false, eqb-true, eqb-false, ne_eqb, ltb-false, not-false, or_parts, cases_eq}
 use Rattle.std.proofs.lemmas.List.{drop_all, drop-drop}
 use Rattle.std.proofs.Math.Seq.{take-add}
-use Rattle.std.specs.Prelude.{Result, Ok, Err, Option, Some, None, is_some, slice_index}
+use Rattle.std.specs.Prelude.{Result, Ok, Option, Some, None, is_some, slice_index}
 use Rattle.std.specs.List.{flat_map}
 use Rattle.mip_words.specs.Numbers.{IsBytes, number_at, number_bytes}
 use Rattle.mip_words.specs.Addresses.{address_at}
@@ -81,12 +81,12 @@ skipped_taken type v rest p n2 n3 n4 n5 =
       not_advice = n2;
       not_alternate = n3;
       not_nonces = n4;
-      not_authorization = n5
+      not_authorization = n5;
     } in
     record {
       item = Skipped type contents;
       bytes = ap (λ (l : List ℕ). type ∷ l) cut;
-      next = λ more e. (is, sym (unchanged type v rest n2 n3 n4 n5))
+      next = λ more e. (is, sym (unchanged type v rest n2 n3 n4 n5));
     }
 
 advice_taken : (v : Values) (rest : List ℕ) → Passed 2 v rest → Taken 2 v rest
@@ -98,7 +98,7 @@ advice_taken v rest p =
     record {
       item = Advice units;
       bytes = ap (λ (l : List ℕ). 2 ∷ l) cut;
-      next = λ more e. (number_at-lt 2 1 rest p.fits, none_there v.advice p.first, refl)
+      next = λ more e. (number_at-lt 2 1 rest p.fits, none_there v.advice p.first, refl);
     }
 
 alternate_taken : (v : Values) (rest : List ℕ) → Passed 3 v rest → Taken 3 v rest
@@ -110,7 +110,7 @@ alternate_taken v rest p =
     record {
       item = Alternate address;
       bytes = ap (λ (l : List ℕ). 3 ∷ l) cut;
-      next = λ more e. (number_at-lt 16 1 rest p.fits, none_there v.alternate p.first, refl)
+      next = λ more e. (number_at-lt 16 1 rest p.fits, none_there v.alternate p.first, refl);
     }
 
 nonces_taken : (v : Values) (rest : List ℕ) → Passed 4 v rest → Taken 4 v rest
@@ -125,7 +125,7 @@ nonces_taken v rest p =
     record {
       item = Nonces (record { home = home; careof = careof });
       bytes = ap (λ (l : List ℕ). 4 ∷ l) cut;
-      next = λ more e. (number_at-lt 2 1 rest p.fits, number_at-lt 2 3 rest p.fits, none_there v.nonces p.first, refl)
+      next = λ more e. (number_at-lt 2 1 rest p.fits, number_at-lt 2 3 rest p.fits, none_there v.nonces p.first, refl);
     }
 
 authorization_taken : (v : Values) (rest : List ℕ) → Passed 5 v rest → Taken 5 v rest
@@ -139,7 +139,7 @@ authorization_taken v rest p =
     record {
       item = Authorization bytes;
       bytes = ap (λ (l : List ℕ). 5 ∷ l) cut;
-      next = λ more e. (long, no_items more (sym end ∙ e), none_there v.authorization p.first, refl)
+      next = λ more e. (long, no_items more (sym end ∙ e), none_there v.authorization p.first, refl);
     }
 
 known_taken : (type : ℕ) (v : Values) (rest : List ℕ) → Passed type v rest → Taken type v rest
@@ -148,22 +148,22 @@ known_taken type v rest p =
     elim (cases_eq type 2) as (λ _. Taken type v rest) [
       | inl e ↦ subst P (sym e) (advice_taken v rest) p
       | inr n2 ↦ elim (cases_eq type 3) as (λ _. Taken type v rest) [
-          | inl e ↦ subst P (sym e) (alternate_taken v rest) p
-          | inr n3 ↦ elim (cases_eq type 4) as (λ _. Taken type v rest) [
-              | inl e ↦ subst P (sym e) (nonces_taken v rest) p
-              | inr n4 ↦ elim (cases_eq type 5) as (λ _. Taken type v rest) [
-                  | inl e ↦ subst P (sym e) (authorization_taken v rest) p
-                  | inr n5 ↦ skipped_taken type v rest p n2 n3 n4 n5
-                ]
-            ]
+        | inl e ↦ subst P (sym e) (alternate_taken v rest) p
+        | inr n3 ↦ elim (cases_eq type 4) as (λ _. Taken type v rest) [
+          | inl e ↦ subst P (sym e) (nonces_taken v rest) p
+          | inr n4 ↦ elim (cases_eq type 5) as (λ _. Taken type v rest) [
+            | inl e ↦ subst P (sym e) (authorization_taken v rest) p
+            | inr n5 ↦ skipped_taken type v rest p n2 n3 n4 n5
+          ]
         ]
+      ]
     ]
 
 pad_taken : (type : ℕ) (v : Values) (rest : List ℕ) → type ≡ 0 → Step type v rest (v, 0)
 pad_taken type v rest e = record {
   item = Pad;
   bytes = ap (λ (t : ℕ). t ∷ rest) e;
-  next = λ more _. refl
+  next = λ more _. refl;
 }
 
 step : (place type : ℕ) (v : Values) (rest : List ℕ) (x : Values × ℕ) → IsBytes rest → type < 256 → option_at place type v rest ≡ Ok x → Step type v rest x
@@ -183,7 +183,7 @@ step place type v rest x fits small =
       whole = ltb-false (length rest) (1 + size) (or_parts _ _ whole).1;
       right = not-false _ right;
       first = first;
-      last = last
+      last = last;
     } in
     subst (λ (y : Values × ℕ). Step type v rest y) (ok_is _ x e) (known_taken type v rest passed))))))
 
@@ -206,7 +206,7 @@ after_takes zero place v (type ∷ rest) w are e =
     record {
       items = one.item ∷ more.items;
       run = (b.0.0, one.next more.items more.whole, more.run);
-      whole = one.bytes ∙ ap (λ (l : List ℕ). item_bytes one.item ++ l) more.whole
+      whole = one.bytes ∙ ap (λ (l : List ℕ). item_bytes one.item ++ l) more.whole;
     }
 
 -- what is read is spelled so

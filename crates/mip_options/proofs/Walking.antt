@@ -1,6 +1,6 @@
 -- The walk over options, one step at a time.
 use Rattle.std.proofs.Common.{◌≡◌, ℕ, zero, suc, ◌+◌, ◌<◌, ◌≤◌, List, [], ◌∷◌, length, drop, get_or, refl, ap, ◌∙◌, arith}
-use Rattle.std.specs.Prelude.{Result, Ok, Err}
+use Rattle.std.specs.Prelude.{Ok, Err}
 use Rattle.mip_options.specs.Values.{Values}
 use Rattle.mip_options.specs.Reading.{option_at, options_after}
 

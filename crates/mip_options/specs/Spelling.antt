@@ -1,5 +1,5 @@
 -- How options are spelled: every spelling that a receiver accepts.
-use Rattle.std.specs.Prelude.{◌≡◌, ◌≢◌, ℕ, ◌<◌, ◌^◌, List, [], ◌∷◌, ◌++◌, length, Option, Some, None}
+use Rattle.std.specs.Prelude.{◌≡◌, ◌≢◌, ℕ, ◌<◌, ◌^◌, List, [], ◌∷◌, ◌++◌, length, Some, None}
 use Rattle.std.specs.List.{flat_map}
 use Rattle.mip_words.specs.Numbers.{number_bytes}
 use Rattle.mip_words.specs.Addresses.{address_bytes}

@@ -1,9 +1,9 @@
 -- The canonical spelling: advice, nonces, alternate address, authorization, each at the alignment of
 -- RFC 6275 sections 6.2.4 to 6.2.7, and the end at a multiple of 8. Gaps are padded with zeros.
-use Rattle.std.specs.Prelude.{◌≡◌, ℕ, zero, suc, ◌+◌, ◌-◌, ◌%◌, ◌^◌, ◌<◌, List, [], ◌∷◌, ◌++◌, length, replicate, Option, Some, None}
+use Rattle.std.specs.Prelude.{◌≡◌, ℕ, zero, suc, ◌+◌, ◌-◌, ◌%◌, List, [], ◌∷◌, ◌++◌, length, replicate, Option, Some, None}
 use Rattle.mip_words.specs.declared.address.Address.{Address}
 use Rattle.mip_options.specs.declared.indices.Indices.{Indices}
-use Rattle.mip_options.specs.Values.{Values, nothing}
+use Rattle.mip_options.specs.Values.{Values}
 use Rattle.mip_options.specs.Spelling.{Item, item_bytes, IsSpelled}
 use Rattle.mip_options.specs.Spelling.Item.{Advice, Alternate, Nonces, Authorization}
 
@@ -43,7 +43,7 @@ closed start area = area ++ padding (gap 8 0 (start + length area))
 unfoldable pub canonical : ℕ → Values → List ℕ
 canonical start v =
     closed start (with_authorization start v.authorization (with_alternate start v.alternate
-      (with_nonces start v.nonces (with_advice start v.advice []))))
+    (with_nonces start v.nonces (with_advice start v.advice []))))
 
 -- the new bytes are the old ones and, behind them, these options spelled
 abbrev pub AppendsOptions : Values → List ℕ → List ℕ → Type 0

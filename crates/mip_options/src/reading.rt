@@ -61,7 +61,12 @@ fn options_from(message: &[u8], start: usize) -> Result<OptionSet, BadOption>
 }
 
 #[tactic(auto, unfolding(crate::specs::Reading::option_at))]
-fn option_of(place: usize, kind: u8, seen: OptionSet, more: &[u8]) -> Result<(OptionSet, usize), BadOption>
+fn option_of(
+    place: usize,
+    kind: u8,
+    seen: OptionSet,
+    more: &[u8],
+) -> Result<(OptionSet, usize), BadOption>
     ensures exact { GivesAt (λ x. (set_values x.0, x.1)) result (option_at place kind (set_values seen) more.now) }
     ensures inside { IfOk result (λ x. x.1 ≤ length more.now) }
 {

@@ -1,4 +1,4 @@
-use Rattle.std.proofs.Common.{rules, arith, ap, sym, ◌∙◌, ◌≡◌, ◌+◌, ◌<◌, ◌≤◌, length, length-drop, drop, ℕ, ◌-◌}
+use Rattle.std.proofs.Common.{rules, arith, ap, sym, ◌∙◌, ◌≡◌, ◌+◌, ◌<◌, length, length-drop, drop, ℕ, ◌-◌}
 use Rattle.std.proofs.lemmas.Result.{err_from_is_err_and}
 use Rattle.mip_options.specs.Values.{set_values, nothing}
 use Rattle.mip_options.specs.Reading.{options_after, options_of}
@@ -13,7 +13,7 @@ loop-rest-init c =
     let place : length message - length (drop start message) ≡ start = omega (arith, c.requires, length-drop start message) in
     rw c.split_at.ensures.back (record {
       inside = omega (arith, length-drop start message);
-      so_far = ap (λ (k : ℕ). options_after 0 k nothing (drop start message)) place
+      so_far = ap (λ (k : ℕ). options_after 0 k nothing (drop start message)) place;
     })
 
 pub returns-in_err-found : goal.returns-in_err-found
@@ -37,8 +37,8 @@ loop-rest-preserved c =
     rw (c.split_at-in-loop-rest-2.ensures.back, c.split_at-in-loop-rest.ensures.back) (record {
       inside = omega (arith, c.loop-rest.invariant.inside, lengths);
       so_far = ap (λ (k : ℕ). options_after 0 k (set_values c.in_ok-found.found) (drop size more)) place
-        ∙ sym (goes_on _ _ _ _ size some found inside)
-        ∙ c.loop-rest.invariant.so_far
+          ∙ sym (goes_on _ _ _ _ size some found inside)
+          ∙ c.loop-rest.invariant.so_far;
     })
 
 pub returns : goal.returns

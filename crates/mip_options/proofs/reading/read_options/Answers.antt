@@ -1,8 +1,8 @@
-use Rattle.std.proofs.Common.{◌≡◌, subst, sym, Result, Ok, Err, IfOk, drop, ℕ, List, arith}
+use Rattle.std.proofs.Common.{subst, Result, Ok, Err, IfOk, drop, ℕ, List, arith}
 use Rattle.mip_words.specs.Numbers.{IsBytes}
 use Rattle.mip_options.specs.declared.fault.BadOption.{BadOption}
 use Rattle.mip_options.specs.declared.options.Options.{Options}
-use Rattle.mip_options.specs.Values.{Values, values}
+use Rattle.mip_options.specs.Values.{values}
 use Rattle.mip_options.specs.Reading.{options_of, GivesAt}
 use Rattle.mip_options.specs.Spelling.{IsSpelled}
 use Rattle.mip_options.proofs.Taking.{options_spelled}
