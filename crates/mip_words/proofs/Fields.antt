@@ -1,12 +1,12 @@
 -- What is known of numbers in bytes, and of cutting a list of bytes into pieces.
-use Rattle.std.proofs.Common.{◌≡◌, inl, inr, ℕ, zero, suc, ◌+◌, ◌-◌, ◌*◌, ◌^◌, ◌<◌, ◌≤◌, List, [], ◌∷◌, ◌++◌, length, take, drop, get_or, refl, sym, ap, ◌∙◌, subst, arith, length-append, length-drop, length-take, take-append-drop}
-use Rattle.std.proofs.lemmas.List.{append_assoc, drop-drop, drop_at, drop-append-le, get_or-drop, get_or-take, get_or_past, get_or-append_right, get_or_append_left, drop_more, take_at, take-append-le, ext_get_or}
-use Rattle.std.proofs.lemmas.Bool.{cases_lt}
-use Rattle.std.proofs.Math.Seq.{take-add}
-use Rattle.std.specs.Prelude.{slice_index, ◌⊎◌}
-use Rattle.std.specs.Int.{bytes_high_first}
-use Rattle.byteorder.specs.Endian.{big_from, big_number, big_bytes}
-use Rattle.byteorder.specs.Numbers.{big_number-reads_back, big_from-append, big_from-take, big_from-lt, length-bytes_high_first}
+use Rattle.std.proofs.Common.{◌≡◌, inl, inr, ℕ, zero, suc, ◌+◌, ◌*◌, ◌/◌, ◌^◌, ◌<◌, ◌≤◌, List, [], ◌∷◌, ◌++◌, length, take, drop, refl, sym, ap, ◌∙◌, subst, arith, length-drop, length-take}
+use Rattle.std.proofs.lemmas.List.{append-nil, drop-drop, drop_at, drop-append-le, get_or-drop, get_or-take, get_or_past}
+use Rattle.std.proofs.lemmas.Bool.{cases_lt, cases_order}
+use Rattle.std.proofs.Math.Nat.{mod-lt, mul-le-mul_right, add-mul}
+use Rattle.std.specs.Prelude.{slice_index}
+use Rattle.std.specs.Int.{byte_at, bytes_high_first}
+use Rattle.byteorder.specs.Endian.{big_from, big_number}
+use Rattle.byteorder.specs.Numbers.{big_number-reads_back, big_from-append, big_from-take, big_from-lt, big_from-cons, length-bytes_high_first}
 use Rattle.mip_words.specs.Numbers.{IsBytes, number_at, number_bytes}
 
 -- bytes behind a place are bytes
@@ -16,7 +16,7 @@ IsBytes-drop n bytes are = λ i. subst (λ (x : ℕ). x < 256) (sym (get_or-drop
 pub IsBytes-take : (n : ℕ) (bytes : List ℕ) → IsBytes bytes → IsBytes (take n bytes)
 IsBytes-take n bytes are = λ i.
     elim (cases_lt i n) as (λ _. slice_index (take n bytes) i < 256) [
-        inl below ↦ subst (λ (x : ℕ). x < 256) (sym (get_or-take n bytes i 0 below)) (are i)
+      | inl below ↦ subst (λ (x : ℕ). x < 256) (sym (get_or-take n bytes i 0 below)) (are i)
       | inr past ↦ subst (λ (x : ℕ). x < 256) (sym (get_or_past (take n bytes) i 0 (omega (arith, length-take n bytes)))) (omega arith)
     ]
 
@@ -35,6 +35,23 @@ IsBytes-append [] ys front back = back
 IsBytes-append (x ∷ xs) ys front back =
     let rest : IsBytes (xs ++ ys) = IsBytes-append xs ys (λ i. front (suc i)) back in
     IsBytes-more x (xs ++ ys) (front 0) rest
+
+byte_small : (k x : ℕ) → byte_at k x < 256
+byte_small zero x = mod-lt x (omega arith)
+byte_small (suc k) x = mod-lt (x / 256 ^ suc k) (omega arith)
+
+high_bytes : (n x : ℕ) → IsBytes (bytes_high_first n x)
+high_bytes zero x = λ i. omega arith
+high_bytes (suc n) x = IsBytes-more (byte_at n x) (bytes_high_first n x) (byte_small n x) (high_bytes n x)
+
+-- a number has one quotient and one rest
+one_way : (p x y r s : ℕ) → r < p → s < p → x * p + r ≡ y * p + s → (x ≡ y) × (r ≡ s)
+one_way p x y r s low low' e =
+    elim (cases_order x y) as (λ _. (x ≡ y) × (r ≡ s)) [
+      | inl same ↦ (same, let q : x * p ≡ y * p = ap (λ (z : ℕ). z * p) same in omega arith)
+      | inr (inl below) ↦ absurd (let q : (x + 1) * p ≤ y * p = mul-le-mul_right p (omega arith) in let q' : (x + 1) * p ≡ x * p + 1 * p = add-mul x 1 p in omega arith)
+      | inr (inr above) ↦ absurd (let q : (y + 1) * p ≤ x * p = mul-le-mul_right p (omega arith) in let q' : (y + 1) * p ≡ y * p + 1 * p = add-mul y 1 p in omega arith)
+    ]
 
 -- a number of n bytes is written in n bytes
 pub length-number_bytes : (n x : ℕ) → length (number_bytes n x) ≡ n
@@ -69,3 +86,33 @@ unfolding number_at
 number_at-append n place bytes rest inside =
     ap (λ (xs : List ℕ). big_number n xs) (drop-append-le place bytes rest (omega arith))
     ∙ big_from-append n (drop place bytes) rest (omega (arith, length-drop place bytes))
+
+-- the bytes of a number are bytes
+pub IsBytes-number_bytes : (n x : ℕ) → IsBytes (number_bytes n x)
+unfolding number_bytes
+IsBytes-number_bytes n x = high_bytes n x
+
+-- a number is spelled by one list of bytes alone
+same_bytes : (n : ℕ) (xs ys : List ℕ) → length xs ≡ n → length ys ≡ n → IsBytes xs → IsBytes ys → big_from 0 n xs ≡ big_from 0 n ys → xs ≡ ys
+same_bytes zero [] [] a b are are' e = refl
+same_bytes zero [] (y ∷ ys) a b are are' e = absurd (omega arith)
+same_bytes zero (x ∷ xs) ys a b are are' e = absurd (omega arith)
+same_bytes (suc n) [] ys a b are are' e = absurd (omega arith)
+same_bytes (suc n) (x ∷ xs) [] a b are are' e = absurd (omega arith)
+same_bytes (suc n) (x ∷ xs) (y ∷ ys) a b are are' e =
+    let left : x * 256 ^ n + big_from 0 n xs ≡ y * 256 ^ n + big_from 0 n ys =
+    ap (λ (r : ℕ). x * 256 ^ n + r) (sym (big_from-cons 0 n x xs)) ∙ e ∙ ap (λ (r : ℕ). y * 256 ^ n + r) (big_from-cons 0 n y ys) in
+    let digits = one_way (256 ^ n) x y (big_from 0 n xs) (big_from 0 n ys) (big_from-lt 0 n xs (IsBytes-rest x xs are)) (big_from-lt 0 n ys (IsBytes-rest y ys are')) left in
+    let rest = same_bytes n xs ys (omega arith) (omega arith) (IsBytes-rest x xs are) (IsBytes-rest y ys are') digits.1 in
+    cc (digits.0, rest)
+
+-- the bytes of the number read are the bytes that it was read from
+pub number_bytes-number_at : (n place : ℕ) (bytes : List ℕ) → IsBytes bytes → place + n ≤ length bytes → number_bytes n (number_at n place bytes) ≡ take n (drop place bytes)
+unfolding number_at number_bytes
+number_bytes-number_at n place bytes are inside =
+    let xs = drop place bytes in
+    let y = big_from 0 n xs in
+    let small : y < 256 ^ n = big_from-lt 0 n xs (IsBytes-drop place bytes are) in
+    let read : big_from 0 n (bytes_high_first n y) ≡ y = ap (big_from 0 n) (sym (append-nil (bytes_high_first n y))) ∙ big_number-reads_back n y [] small in
+    let front : big_from 0 n (take n xs) ≡ y = big_from-take 0 n n xs (omega arith) in
+    same_bytes n (bytes_high_first n y) (take n xs) (length-bytes_high_first n y) (omega (arith, length-take n xs, length-drop place bytes)) (high_bytes n y) (IsBytes-take n xs (IsBytes-drop place bytes are)) (read ∙ sym front)

@@ -1,2 +1,4 @@
 pub mod Fields
+pub mod HexLaws
 pub mod StepLaws
+pub mod AddressLaws

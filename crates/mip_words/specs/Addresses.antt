@@ -1,7 +1,9 @@
 -- Addresses and prefixes as numbers, and which addresses a packet may be routed to.
-use Rattle.std.specs.Prelude.{ℕ, ◌+◌, ◌*◌, ◌/◌, ◌^◌, List, Bool, not, ◌&&◌, ◌==◌}
+use Rattle.std.specs.Prelude.{ℕ, ◌+◌, ◌*◌, ◌/◌, ◌^◌, List, Bool, not, ◌&&◌, ◌==◌, Option, Some, None, Result, Ok, Err}
 use Rattle.mip_words.specs.Numbers.{number_at, number_bytes}
+use Rattle.mip_words.specs.Hex.{unhex_exact}
 use Rattle.mip_words.specs.declared.address.Address.{Address}
+use Rattle.mip_words.specs.declared.address.NotAddress.{NotAddress}
 
 -- the address in the 16 bytes from a place
 abbrev pub address_at : ℕ → List ℕ → Address
@@ -24,3 +26,12 @@ prefix_of address = address / 2 ^ 64
 abbrev pub is_routable : ℕ → Bool
 is_routable address =
     not (address == 0) && not (address == 1) && not (address / 2 ^ 120 == 255) && not (address / 2 ^ 118 == 1018)
+
+-- the address of 16 bytes, where there are such bytes
+abbrev pub address_if : Option (List ℕ) → Result Address NotAddress
+address_if (Some bytes) = Ok (address_at 0 bytes)
+address_if None = Err (record {})
+
+-- the address whose 32 digits a text is
+unfoldable pub address_read : List ℕ → Result Address NotAddress
+address_read text = address_if (unhex_exact 16 text)

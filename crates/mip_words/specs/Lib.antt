@@ -1,4 +1,5 @@
 pub mod Numbers
 pub mod Addresses
+pub mod Hex
 pub mod Sequence
 pub mod Steps

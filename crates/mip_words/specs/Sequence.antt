@@ -1,5 +1,5 @@
 -- The order of 16-bit sequence numbers, which wraps.
-use Rattle.std.specs.Prelude.{ℕ, ◌+◌, ◌-◌, ◌%◌, ◌^◌, Bool, ◌&&◌, nat_lt}
+use Rattle.std.specs.Prelude.{ℕ, ◌+◌, ◌-◌, ◌%◌, Bool, ◌&&◌, nat_lt}
 
 -- how far the new number is ahead of the last one, counting round
 abbrev pub step_from : ℕ → ℕ → ℕ

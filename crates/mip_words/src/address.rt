@@ -1,7 +1,9 @@
-ghost use Rattle.std.specs.Prelude.{◌≡◌, ◌+◌, ◌≤◌, length};
+ghost use Rattle.std.specs.Prelude.{◌≡◌, ℕ, ◌+◌, ◌<◌, ◌≤◌, ◌^◌, length, Ok, IfOk};
 ghost use Rattle.mip_words.specs.Numbers.{number_at, number_bytes};
-ghost use Rattle.mip_words.specs.Addresses.{address_at, address_bytes, prefix_of, is_routable};
+ghost use Rattle.mip_words.specs.Hex.{hex_of};
+ghost use Rattle.mip_words.specs.Addresses.{address_at, address_bytes, prefix_of, is_routable, address_read};
 
+use crate::hex::{hex_exact, hex_into};
 use crate::prefix::Prefix;
 use byteorder::{BigEndian, ByteOrder};
 
@@ -9,7 +11,29 @@ use byteorder::{BigEndian, ByteOrder};
 #[derive(Clone, Copy, Debug, PartialEq, Eq, PartialOrd, Ord)]
 pub struct Address(pub u128);
 
+/// The text is not 32 lower-case hexadecimal digits.
+#[derive(Clone, Copy, Debug, PartialEq, Eq)]
+pub struct NotAddress;
+
 impl Address {
+    /// The address that a text of 32 lower-case hexadecimal digits names.
+    pub fn read(text: &[u8]) -> Result<Address, NotAddress>
+        ensures exact { result ≡ address_read text.now }
+        ensures found { IfOk result (λ a. text.now ≡ hex_of (address_bytes a)) }
+        ensures only { (a : Address) → a.0 < 2 ^ 128 → text.now ≡ hex_of (address_bytes a) → result ≡ Ok a }
+    {
+        read_digits(text)
+    }
+
+    /// The 32 lower-case hexadecimal digits of the address.
+    pub fn digits(self) -> [u8; 32]
+        ensures { result ≡ hex_of (address_bytes self) }
+    {
+        let mut digits = [0; 32];
+        hex_into(&self.bytes(), &mut digits);
+        digits
+    }
+
     /// The address in the 16 bytes from a place.
     #[tactic(auto, unfolding(crate::specs::Numbers::number_at))]
     pub fn at(bytes: &[u8], place: usize) -> Address
@@ -45,4 +69,15 @@ impl Address {
         let first_ten_bits = self.0 / 0x40_0000_0000_0000_0000_0000_0000_0000;
         self.0 != 0 && self.0 != 1 && first_byte != 0xff && first_ten_bits != 0x3fa
     }
+}
+
+#[tactic(auto, unfolding(crate::specs::Addresses::address_read))]
+fn read_digits(text: &[u8]) -> Result<Address, NotAddress>
+    ensures { result ≡ address_read text.now }
+{
+    let mut bytes = [0; 16];
+    if !hex_exact(text, &mut bytes) {
+        return Err(NotAddress);
+    }
+    Ok(Address::at(&bytes, 0))
 }

@@ -4,6 +4,7 @@
 
 mod address;
 mod bytes;
+mod hex;
 mod ids;
 mod memory;
 mod moment;
@@ -14,8 +15,9 @@ mod shield;
 mod token;
 mod why;
 
-pub use address::Address;
+pub use address::{Address, NotAddress};
 pub use bytes::Bytes;
+pub use hex::{hex_exact, hex_into, put_hex};
 pub use ids::{LinkId, NodeId};
 pub use memory::Memory;
 pub use moment::Moment;
@@ -25,3 +27,6 @@ pub use sequence::after;
 pub use shield::Shield;
 pub use token::{Cookie, Token};
 pub use why::Why;
+
+#[cfg(test)]
+mod tests;

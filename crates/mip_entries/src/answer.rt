@@ -1,0 +1,15 @@
+use crate::entry::Entry;
+use mip_words::{Bytes, Shield};
+
+/// One thing that a node does. In an entry it writes 0 for its own number, for a link, and for the
+/// number of a packet that it sends next.
+#[derive(Drop)]
+pub enum Answer {
+    /// It sends a packet, under a shield or none.
+    Send {
+        shield: Option<Shield>,
+        packet: Bytes,
+    },
+    /// It leaves an entry.
+    Note(Entry),
+}

@@ -1,0 +1,54 @@
+ghost use Rattle.std.specs.Prelude.{◌≡◌, ◌∷◌, ◌++◌, [], List, length, slice_get, IfOk, OnOk, OnErr};
+ghost use Rattle.std.specs.Option.{option_copied};
+
+use crate::entry::Entry;
+use mip_words::Memory;
+use std::alloc::Global;
+use std::marker::Model;
+
+/// What happened, oldest first.
+#[derive(Drop)]
+pub struct History {
+    list: Vec<Entry>,
+}
+
+impl Model for History {
+    ghost use Rattle.std.specs.Prelude.{List};
+    ghost use Rattle.mip_entries.specs.declared.entry.Entry.{Entry};
+
+    ghost Value = { List Entry };
+
+    ghost view = { λ a. a.list.items };
+}
+
+impl History {
+    pub fn new(alloc: Global) -> Result<History, Memory>
+        ensures { IfOk result (λ a. a ≡ []) }
+    {
+        Ok(History {
+            list: Vec::new(alloc),
+        })
+    }
+
+    /// Appends an entry.
+    pub fn push(&mut self, entry: Entry) -> Result<(), Memory>
+        ensures ok { OnOk result (self.new ≡ self.old ++ entry ∷ []) }
+        ensures err { OnErr result (self.new ≡ self.old) }
+    {
+        self.list.push(entry)?;
+        Ok(())
+    }
+
+    pub fn len(&self) -> usize
+        ensures { result ≡ length self.now }
+    {
+        self.list.len()
+    }
+
+    /// The entry at a place from 0; none past the end.
+    pub fn at(&self, place: usize) -> Option<&Entry>
+        ensures { option_copied result ≡ slice_get self.now place }
+    {
+        self.list.get(place)
+    }
+}

@@ -1,0 +1,16 @@
+//! What a history holds, and what a node answers: the entries of a trace, and the packets that a role
+//! sends. Roles stand on this crate alone, and know neither their own number nor links nor the numbers
+//! of the packets that they send: their caller completes the entries.
+#![tactic(auto)]
+
+mod answer;
+mod answers;
+mod entry;
+mod history;
+mod update_seen;
+
+pub use answer::Answer;
+pub use answers::Answers;
+pub use entry::Entry;
+pub use history::History;
+pub use update_seen::UpdateSeen;

@@ -1,0 +1,34 @@
+-- The secrets of one life of a node, drawn from ChaCha20 (RFC 8439 section 2.3; the nonce is the
+-- number of a stream) under the seed as key. RFC 6275 sections 5.2.1 and 5.2.2
+use Rattle.std.specs.Prelude.{ℕ, ◌+◌, ◌*◌, ◌^◌, List, ◌++◌}
+use Rattle.std.specs.Int.{w32, to_be_bytes}
+use Rattle.rand_chacha.specs.ChaCha.{word_at, key_of}
+
+-- one life of a node: the node by its place among the declared nodes, the life by the restarts before it
+pub record Life : Type 0 where
+  pub seed : List ℕ
+  pub node : ℕ
+  pub life : ℕ
+
+-- each life of a node has a stream for each kind of secret
+abbrev pub stream_of : Life → ℕ → ℕ
+stream_of life kind = life.node * 2 ^ 32 + 4 * life.life + kind
+
+-- the word at a place of a stream
+abbrev pub word_of : Life → ℕ → ℕ → ℕ
+word_of life kind place = word_at 10 (key_of life.seed) (stream_of life kind) place
+
+-- Kcn, the node key: the first five words of kind 0, each spelt in four bytes
+unfoldable pub kcn_of : Life → List ℕ
+kcn_of life =
+    to_be_bytes w32 (word_of life 0 0) ++ to_be_bytes w32 (word_of life 0 1) ++ to_be_bytes w32 (word_of life 0 2)
+    ++ to_be_bytes w32 (word_of life 0 3) ++ to_be_bytes w32 (word_of life 0 4)
+
+-- nonce number n: the n-th pair of words of kind 1. A stream has 2 ^ 68 words, so that no number
+-- below 2 ^ 64 comes round
+unfoldable pub nonce_of : Life → ℕ → List ℕ
+nonce_of life n = to_be_bytes w32 (word_of life 1 (2 * n)) ++ to_be_bytes w32 (word_of life 1 (2 * n + 1))
+
+-- cookie number n: the n-th pair of words of kind 2, as one number, the first word its high half
+unfoldable pub cookie_of : Life → ℕ → ℕ
+cookie_of life n = word_of life 2 (2 * n) * 2 ^ 32 + word_of life 2 (2 * n + 1)

@@ -1,0 +1,11 @@
+//! The secrets of a node: its key Kcn, its nonces and its cookies, and which nonces are valid when
+//! (RFC 6275 sections 5.2.1, 5.2.2 and 5.2.5).
+#![tactic(auto)]
+
+mod secrets;
+#[cfg(test)]
+mod tests;
+mod window;
+
+pub use secrets::Secrets;
+pub use window::{by_index, current};

@@ -1,0 +1,40 @@
+ghost use Rattle.std.specs.Prelude.{◌≡◌, ◌≤◌, length, IsTrue, ◌↔◌};
+ghost use Rattle.mip_tokens.specs.Token.{authenticator_of, IsAuthentic};
+
+use crate::kbm::Kbm;
+use mip_hmac::hmac_of_parts;
+use mip_words::Address;
+
+/// The bytes of an authenticator.
+const AUTHENTICATOR: usize = 12;
+
+/// The authenticator of a message whose last 12 bytes are its place (RFC 6275 section 6.2.7). The
+/// care-of address is the one that the update binds; where it deletes, the home address stands for it.
+#[tactic(auto, unfolding(crate::specs::Token::authenticator_of, crate::specs::Token::authenticated))]
+pub fn authenticator(kbm: &Kbm, careof: Address, peer: Address, message: &[u8]) -> [u8; 12]
+    requires { 18 ≤ length message.now }
+    ensures { result ≡ authenticator_of kbm.now.0 careof peer message.now }
+{
+    let end = message.len() - AUTHENTICATOR;
+    let hash = hmac_of_parts(
+        &kbm.0,
+        &[
+            &careof.bytes(),
+            &peer.bytes(),
+            &message[..4],
+            &[0, 0],
+            &message[6..end],
+        ],
+    );
+    let mut authenticator = [0; AUTHENTICATOR];
+    authenticator.copy_from_slice(&hash[..AUTHENTICATOR]);
+    authenticator
+}
+
+/// Whether a message ends with its authenticator.
+pub fn authentic(kbm: &Kbm, careof: Address, peer: Address, message: &[u8]) -> bool
+    requires { 18 ≤ length message.now }
+    ensures { IsTrue result ↔ IsAuthentic kbm.now.0 careof peer message.now }
+{
+    message[message.len() - AUTHENTICATOR..] == authenticator(kbm, careof, peer, message)[..]
+}

@@ -1,0 +1,42 @@
+-- An address and its digits, both ways.
+use Rattle.std.proofs.Common.{◌≡◌, ℕ, ◌<◌, ◌^◌, List, [], length, refl, sym, ap, ◌∙◌, arith, Bool, true, false}
+use Rattle.std.specs.Prelude.{Option, Some, None, Result, Ok, Err, ◌==◌, if◌then◌else◌, IfOk}
+use Rattle.std.proofs.lemmas.Bool.{cond-true, eqb-true, eq-eqb}
+use Rattle.std.proofs.lemmas.List.{take_all, append-nil}
+use Rattle.mip_words.specs.Numbers.{number_at, number_bytes}
+use Rattle.mip_words.specs.Hex.{hex_of, unhex}
+use Rattle.mip_words.specs.Addresses.{address_at, address_bytes, address_if, address_read}
+use Rattle.mip_words.specs.declared.address.Address.{Address}
+use Rattle.mip_words.specs.declared.address.NotAddress.{NotAddress}
+use Rattle.mip_words.proofs.Fields.{number_bytes-number_at, number_at-number_bytes, length-number_bytes, IsBytes-number_bytes}
+use Rattle.mip_words.proofs.HexLaws.{unhex-spelled, unhex-again, length-hex_of}
+
+-- what is read has these digits
+pub read_is_spelled : (text : List ℕ) (a : Address) → address_read text ≡ Ok a → text ≡ hex_of (address_bytes a)
+unfolding address_read
+read_is_spelled text a e = by (length text == 32) refl (unhex text) refl e
+  where
+    by : (b : Bool) → (length text == 32) ≡ b → (o : Option (List ℕ)) → unhex text ≡ o → address_if (if b then o else None) ≡ Ok a → text ≡ hex_of (address_bytes a)
+    by false test o is e = absurd cc
+    by true test None is e = absurd cc
+    by true test (Some bytes) is e =
+        let spelled = unhex-spelled text bytes is in
+        let size : length bytes ≡ 16 = omega (arith, length-hex_of bytes, ap length spelled.digits, eqb-true (length text) 32 test) in
+        let whole : number_bytes 16 (number_at 16 0 bytes) ≡ bytes = number_bytes-number_at 16 0 bytes spelled.are_bytes (omega arith) ∙ take_all 16 bytes (omega arith) in
+        let value : address_at 0 bytes ≡ a = cc in
+        spelled.digits ∙ ap hex_of (sym whole) ∙ ap (λ (x : Address). hex_of (address_bytes x)) value
+
+-- what has these digits is read
+pub spelled_is_read : (a : Address) → a.0 < 2 ^ 128 → address_read (hex_of (address_bytes a)) ≡ Ok a
+unfolding address_read
+spelled_is_read a small =
+    let bytes = address_bytes a in
+    let size : length (hex_of bytes) ≡ 32 = omega (arith, length-hex_of bytes, length-number_bytes 16 a.0) in
+    let test : (length (hex_of bytes) == 32) ≡ true = eq-eqb (length (hex_of bytes)) 32 size in
+    let value : number_at 16 0 bytes ≡ a.0 = ap (number_at 16 0) (sym (append-nil bytes)) ∙ number_at-number_bytes 16 a.0 [] small in
+    ap address_if (cond-true (length (hex_of bytes) == 32) (unhex (hex_of bytes)) None test ∙ unhex-again bytes (IsBytes-number_bytes 16 a.0))
+    ∙ ap (λ (n : ℕ). Ok (record { 0 = n })) value
+
+pub found_if : (text : List ℕ) (r : Result Address NotAddress) → r ≡ address_read text → IfOk r (λ a. text ≡ hex_of (address_bytes a))
+found_if text (Ok a) e = read_is_spelled text a (sym e)
+found_if text (Err w) e = tt
