@@ -12,6 +12,7 @@ mod reading;
 mod refresh;
 mod test_init;
 mod update;
+mod writing;
 
 pub use fault::Fault;
 pub use message::Message;
