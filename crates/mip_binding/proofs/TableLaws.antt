@@ -3,10 +3,12 @@ use Rattle.std.proofs.Common.{◌≡◌, ℕ, ◌<◌, ◌≤◌, List, [], ◌�
 use Rattle.std.specs.Prelude.{Option, Some, None, option_map, fold, ◌==◌, if◌then◌else◌, nat_lt}
 use Rattle.std.proofs.lemmas.List.Sums.{fold-append}
 use Rattle.std.proofs.lemmas.Bool.Decides.{nat_tests}
+use Rattle.std.specs.List.{AllByRecursion}
+use Rattle.mip_lists.specs.Last.{or_else, last_where}
 use Rattle.mip_binding.specs.Acceptance.{Acceptance}
 use Rattle.mip_binding.specs.Rows.{BindingRow, RisesBy, find_by, put_by, kept_by, kept_rows, row_of, table}
 use Rattle.mip_binding.specs.Held.{HomeKept, after_row, home_step, home_after, careof_in, sequence_in, is_standing, held, floor}
-use Rattle.mip_binding.proofs.RowLaws.{find-put, rises-put, find-kept, if_kept}
+use Rattle.mip_binding.proofs.RowLaws.{find-put, rises-put, all-put}
 
 abbrev put_acceptance : List BindingRow → Acceptance → List BindingRow
 put_acceptance rows a = put_by (λ r. r.home) (row_of a) rows
@@ -45,7 +47,29 @@ pub home_after-table : (xs : List Acceptance) (home : ℕ) → home_after home x
 unfolding table
 home_after-table xs home = found_on home None [] xs refl
 
--- the care-of address that a row holds
-abbrev pub careof_of_row : ℕ → ℕ → Option BindingRow → Option ℕ
-careof_of_row home now None = None
-careof_of_row home now (Some r) = if is_standing home now r then Some r.careof else None
+-- what is remembered of a home is its last acceptance
+last_on : (home : ℕ) (kept : Option HomeKept) (xs : List Acceptance) → fold (home_step home) kept xs ≡ or_else (option_map (λ a. after_row (row_of a)) (last_where (λ a. a.home == home) xs)) kept
+last_on home kept [] = refl
+last_on home kept (x ∷ xs) = last_on home (home_step home kept x) xs ∙ by (last_where (λ (a : Acceptance). a.home == home) xs) (x.home == home)
+  where
+    by : (o : Option Acceptance) (same : Bool) → or_else (option_map (λ (a : Acceptance). after_row (row_of a)) o) (if same then Some (after_row (row_of x)) else kept)
+        ≡ or_else (option_map (λ (a : Acceptance). after_row (row_of a)) (or_else o (if same then Some x else None))) kept
+    by (Some a) same = refl
+    by None true = refl
+    by None false = refl
+
+pub home_after-last : (xs : List Acceptance) (home : ℕ) → home_after home xs ≡ option_map (λ a. after_row (row_of a)) (last_where (λ a. a.home == home) xs)
+home_after-last xs home = last_on home None xs ∙ by (last_where (λ (a : Acceptance). a.home == home) xs)
+  where
+    by : (o : Option Acceptance) → or_else (option_map (λ (a : Acceptance). after_row (row_of a)) o) None ≡ option_map (λ (a : Acceptance). after_row (row_of a)) o
+    by (Some a) = refl
+    by None = refl
+
+-- no row's binding outlasts its sequence
+ends_on : (rows : List BindingRow) (xs : List Acceptance) → AllByRecursion (λ r. r.end ≤ r.kept_until) rows → AllByRecursion (λ r. r.end ≤ r.kept_until) (fold put_acceptance rows xs)
+ends_on rows [] all = all
+ends_on rows (x ∷ xs) all = ends_on (put_acceptance rows x) xs (all-put (λ (r : BindingRow). r.end ≤ r.kept_until) (λ (r : BindingRow). r.home) (row_of x) rows (omega arith) all)
+
+pub ends-table : (xs : List Acceptance) → AllByRecursion (λ r. r.end ≤ r.kept_until) (table xs)
+unfolding table
+ends-table xs = ends_on [] xs tt

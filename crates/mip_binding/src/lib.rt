@@ -3,4 +3,4 @@
 
 mod laws;
 
-pub use laws::floor_stands;
+pub use laws::{acceptance_stands, homes_counted, kept_was_accepted, others_unchanged};

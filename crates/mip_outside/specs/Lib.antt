@@ -1,0 +1,4 @@
+pub mod Cause
+pub mod Moments
+pub mod Datagrams
+pub mod Failing

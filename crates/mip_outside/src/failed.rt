@@ -1,0 +1,3 @@
+/// A call failed outside this program.
+#[derive(Clone, Copy, Debug, PartialEq, Eq)]
+pub struct Failed;

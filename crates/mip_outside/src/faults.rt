@@ -1,0 +1,15 @@
+ghost use Rattle.std.specs.Prelude.{◌≤◌};
+ghost use Rattle.mip_outside.specs.Cause.{Rose};
+
+/// How many calls failed. The last value of 64 bits stays.
+#[derive(Clone, Copy)]
+pub struct Faults(pub u64);
+
+impl Faults {
+    pub fn raise(&mut self)
+        ensures no_fewer { self.old.0 ≤ self.new.0 }
+        ensures rose { Rose self.old.0 self.new.0 }
+    {
+        self.0 = self.0.saturating_add(1);
+    }
+}

@@ -1,0 +1,17 @@
+//! Forms that live in memory and tell what they hold.
+
+mod calls;
+mod copying;
+mod set_clock;
+mod sure_link;
+mod sure_sink;
+mod sure_source;
+mod text_sink;
+mod text_source;
+
+pub use set_clock::SetClock;
+pub use sure_link::SureLink;
+pub use sure_sink::SureSink;
+pub use sure_source::SureSource;
+pub use text_sink::TextSink;
+pub use text_source::TextSource;

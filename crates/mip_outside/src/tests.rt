@@ -1,0 +1,38 @@
+use super::*;
+use std::test::Fail;
+
+#[test]
+fn calls_fail_where_they_are_to(rt: HostRuntime) -> Result<(), Fail> {
+    let mut source = TextSource::new(rt.alloc(), b"abc", &[2])?;
+    let mut into = [0; 2];
+    assert_eq!(rt; source.take(&mut into), Ok(2));
+    assert_eq!(rt; source.take(&mut into), Err(Failed));
+    assert_eq!(rt; source.take(&mut into), Ok(1));
+    assert_eq!(rt; into, *b"cb");
+    assert_eq!(rt; source.take(&mut into), Ok(0));
+
+    let mut sink = TextSink::new(rt.alloc(), &[1])?;
+    assert_eq!(rt; sink.give(b"ab"), Err(PutFault::Failed));
+    assert_eq!(rt; sink.give(b"ab"), Ok(2));
+    assert_eq!(rt; sink.bytes(), b"ab".as_slice());
+    Ok(())
+}
+
+#[test]
+fn moments_and_datagrams_come_in_order(rt: HostRuntime) -> Result<(), Fail> {
+    let mut clock = SetClock::new(rt.alloc(), &[3, 5])?;
+    assert_eq!(rt; (clock.now(), clock.now(), clock.now()), (3, 5, 5));
+    let mut real = MonotoneClock::new(rt.clone()?);
+    assert!(rt; real.now() < 60_000);
+
+    let mut link = SureLink::new(rt.alloc())?;
+    link.add(None)?;
+    link.add(Some(b"abc"))?;
+    let mut into = [0; 2];
+    assert_eq!(rt; link.receive(&mut into, 0), Ok(None));
+    assert_eq!(rt; link.receive(&mut into, 0), Ok(Some(2)));
+    assert_eq!(rt; into, *b"ab");
+    assert_eq!(rt; link.send(7, b"de"), Ok(()));
+    assert_eq!(rt; link.sent_at(0), Some((7, b"de".as_slice())));
+    Ok(())
+}

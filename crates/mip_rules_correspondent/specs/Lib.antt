@@ -1,0 +1,4 @@
+pub mod Steps
+pub mod Questions
+pub mod Turns
+pub mod Stands
