@@ -1,13 +1,14 @@
-// A library with one function.
+//! The binding cache of a correspondent (RFC 6275 section 9.1): what the updates that were accepted
+//! leave, in rows in order of home address.
 #![tactic(auto)]
 
-ghost use Rattle.std.specs.Prelude.{◌≡◌};
-ghost use Rattle.mip_bcache.specs.Echo.{echo_of};
+mod accepted;
+mod cache;
+mod fault;
+mod row;
+mod rows;
 
-// The `ensures` clause is the contract: what `echo` returns is `echo_of` of its argument, a definition
-// in `specs/Echo.antt`, which a caller's clause can cite too.
-pub fn echo(x: usize) -> usize
-    ensures { result ≡ echo_of x }
-{
-    x
-}
+pub use accepted::Accepted;
+pub use cache::Cache;
+pub use fault::AcceptFault;
+pub use row::Row;

@@ -1,14 +1,14 @@
 -- What is known of the care-of address that is held for a home, and of its sequence.
-use Rattle.std.proofs.Common.{◌≡◌, ◌≢◌, ℕ, ◌+◌, ◌<◌, ◌≤◌, List, [], ◌∷◌, ◌++◌, Bool, true, false, refl, sym, ap, ◌∙◌, subst, arith}
-use Rattle.std.specs.Prelude.{Option, Some, None, option_map, is_some, map, fold, not, ◌&&◌, ◌||◌, ◌==◌, nat_lt, max, if◌then◌else◌}
-use Rattle.std.specs.List.{list_any, AllByRecursion}
+use Rattle.std.proofs.Common.{◌≡◌, ◌≢◌, ℕ, ◌<◌, ◌≤◌, List, [], ◌∷◌, ◌++◌, Bool, true, false, refl, sym, ap, ◌∙◌, arith}
+use Rattle.std.specs.Prelude.{Option, Some, None, option_map, is_some, ◌&&◌, ◌||◌, ◌==◌, if◌then◌else◌}
+use Rattle.std.specs.List.{list_any}
 use Rattle.std.proofs.lemmas.List.Sums.{fold-append}
 use Rattle.std.proofs.lemmas.Bool.Decides.{nat_tests}
 use Rattle.mip_lists.specs.Last.{or_else, last_where, StandsLast}
 use Rattle.mip_lists.proofs.LastLaws.{last_where-found}
 use Rattle.mip_binding.specs.Acceptance.{Acceptance, kept_until_of}
-use Rattle.mip_binding.specs.Rows.{BindingRow, RisesBy, find_by, put_by, kept_by, kept_rows, row_of, table}
-use Rattle.mip_binding.specs.Held.{HomeKept, after_row, home_step, home_after, careof_in, sequence_in, is_standing, held, floor, homes_with_floor, is_of, HeldFrom, FloorFrom}
+use Rattle.mip_binding.specs.Rows.{BindingRow, RisesBy, find_by, kept_rows, row_of, table}
+use Rattle.mip_binding.specs.Held.{after_row, home_step, home_after, careof_in, sequence_in, is_standing, held, floor, homes_with_floor, is_of, HeldFrom, FloorFrom}
 use Rattle.mip_binding.proofs.RowLaws.{find-kept, if_kept, all-find, find-keys, rises-kept, rises-map}
 use Rattle.mip_binding.proofs.TableLaws.{home_after-table, home_after-last, rises-table, ends-table}
 
@@ -88,7 +88,7 @@ pub held_was_accepted : (xs : List Acceptance) (home now careof : ℕ) → held 
 unfolding held
 held_was_accepted xs home now careof e =
     by (last_where (λ (a : Acceptance). a.home == home) xs) (λ x. last_where-found (λ (a : Acceptance). a.home == home) xs x)
-        (sym (ap (careof_in home now) (home_after-last xs home)) ∙ e)
+    (sym (ap (careof_in home now) (home_after-last xs home)) ∙ e)
   where
     by : (o : Option Acceptance) → ((x : Acceptance) → o ≡ Some x → StandsLast (λ a. a.home == home) xs x) → careof_in home now (option_map (λ a. after_row (row_of a)) o) ≡ Some careof → HeldFrom xs home now careof
     by None found h = absurd cc
@@ -112,7 +112,7 @@ pub floor_was_accepted : (xs : List Acceptance) (home now sequence : ℕ) → fl
 unfolding floor
 floor_was_accepted xs home now sequence e =
     by (last_where (λ (a : Acceptance). a.home == home) xs) (λ x. last_where-found (λ (a : Acceptance). a.home == home) xs x)
-        (sym (ap (sequence_in now) (home_after-last xs home)) ∙ e)
+    (sym (ap (sequence_in now) (home_after-last xs home)) ∙ e)
   where
     by : (o : Option Acceptance) → ((x : Acceptance) → o ≡ Some x → StandsLast (λ a. a.home == home) xs x) → sequence_in now (option_map (λ a. after_row (row_of a)) o) ≡ Some sequence → FloorFrom xs home sequence
     by None found h = absurd cc

@@ -1,13 +1,12 @@
 -- What is known of the table that acceptances leave.
-use Rattle.std.proofs.Common.{◌≡◌, ℕ, ◌<◌, ◌≤◌, List, [], ◌∷◌, ◌++◌, Bool, true, false, refl, sym, ap, ◌∙◌, arith}
-use Rattle.std.specs.Prelude.{Option, Some, None, option_map, fold, ◌==◌, if◌then◌else◌, nat_lt}
+use Rattle.std.proofs.Common.{◌≡◌, ℕ, ◌≤◌, List, [], ◌∷◌, ◌++◌, Bool, true, false, refl, sym, ap, ◌∙◌, arith}
+use Rattle.std.specs.Prelude.{Option, Some, None, option_map, fold, ◌==◌, if◌then◌else◌}
 use Rattle.std.proofs.lemmas.List.Sums.{fold-append}
-use Rattle.std.proofs.lemmas.Bool.Decides.{nat_tests}
 use Rattle.std.specs.List.{AllByRecursion}
 use Rattle.mip_lists.specs.Last.{or_else, last_where}
 use Rattle.mip_binding.specs.Acceptance.{Acceptance}
-use Rattle.mip_binding.specs.Rows.{BindingRow, RisesBy, find_by, put_by, kept_by, kept_rows, row_of, table}
-use Rattle.mip_binding.specs.Held.{HomeKept, after_row, home_step, home_after, careof_in, sequence_in, is_standing, held, floor}
+use Rattle.mip_binding.specs.Rows.{BindingRow, RisesBy, find_by, put_by, row_of, table}
+use Rattle.mip_binding.specs.Held.{HomeKept, after_row, home_step, home_after}
 use Rattle.mip_binding.proofs.RowLaws.{find-put, rises-put, all-put}
 
 abbrev put_acceptance : List BindingRow → Acceptance → List BindingRow
@@ -35,7 +34,7 @@ found_on : (home : ℕ) (kept : Option HomeKept) (rows : List BindingRow) (xs : 
 found_on home kept rows [] e = e
 found_on home kept rows (x ∷ xs) e =
     let step : home_step home kept x ≡ option_map after_row (find_by (λ r. r.home) home (put_acceptance rows x)) =
-        by (x.home == home) (find-put (λ (r : BindingRow). r.home) home (row_of x) rows) in
+    by (x.home == home) (find-put (λ (r : BindingRow). r.home) home (row_of x) rows) in
     found_on home (home_step home kept x) (put_acceptance rows x) xs step
   where
     by : (same : Bool) → find_by (λ r. r.home) home (put_acceptance rows x) ≡ (if same then Some (row_of x) else find_by (λ r. r.home) home rows)
