@@ -1,6 +1,7 @@
 //! The packets that a node makes.
 
 ghost use Rattle.std.specs.Prelude.{◌≡◌, ℕ, ◌<◌, ◌≤◌, IfOk, length, slice_index};
+ghost use Rattle.mip_words.specs.Numbers.{number_at};
 ghost use Rattle.mip_mobhdr.specs.Said.{said_plain};
 ghost use Rattle.mip_mobhdr.specs.Spelling.{message_bytes};
 ghost use Rattle.mip_ipv6.specs.Spelling.{packet_bytes};
@@ -64,7 +65,8 @@ fn units(body: &[u8]) -> u8
 /// label 0.
 #[tactic(auto, unfolding(mip_rules_correspondent::specs::Packets::signal))]
 pub fn write_signal(alloc: Global, source: Address, destination: Address, plain: &Plain) -> Result<Bytes, Memory>
-    ensures { IfOk result (λ b. b ≡ signal source destination (said_plain plain.now)) }
+    ensures bytes { IfOk result (λ b. b ≡ signal source destination (said_plain plain.now)) }
+    ensures destination { IfOk result (λ b. number_at 16 24 b ≡ destination.0) }
 {
     let body = message(alloc, source, destination, plain)?;
     let head = node_head(source, destination, 135);
