@@ -1,0 +1,5 @@
+pub mod Walking
+pub mod Choices
+pub mod Areas
+pub mod Messages
+pub mod Canonical

@@ -1,0 +1,101 @@
+ghost use Rattle.std.specs.Prelude.{◌≡◌, ◌≤◌, ◌++◌, length, Ok, IfOk, OnOk, IsTrue};
+ghost use Rattle.mip_ipv6.specs.Sum.{is_right_sum, with_number_at};
+ghost use Rattle.mip_icmp.specs.Said.{said_plain};
+ghost use Rattle.mip_icmp.specs.Reading.{icmp_of};
+ghost use Rattle.mip_icmp.specs.Spelling.{unsummed, icmp_bytes, IsWritable, Fits, IsIcmp};
+
+use crate::advertisement::put_advertisement;
+use crate::discovery::{put_discover_ask, put_discover_reply};
+use crate::parameter::put_parameter;
+use crate::plain::PlainIcmp;
+use crate::prefixes::{put_prefix_ask, put_prefix_reply};
+use crate::reading::PROTO;
+use mip_ipv6::checksum;
+use mip_words::{Address, Bytes, Memory, u16_bytes};
+use std::alloc::Global;
+
+/// Appends the message with a checksum of zero.
+fn put_unsummed(out: &mut Bytes, message: &PlainIcmp) -> Result<(), Memory>
+    ensures bytes { OnOk result (out.new ≡ out.old ++ unsummed (said_plain message.now)) }
+    ensures fits { OnOk result (Fits (said_plain message.now)) }
+{
+    match message {
+        PlainIcmp::Parameter { pointer, quoted } => put_parameter(out, *pointer, quoted.as_slice()),
+        PlainIcmp::Advertisement {
+            hop,
+            agent,
+            life,
+            options,
+        } => { put_advertisement(out, *hop, *agent, *life, *options) }
+        PlainIcmp::DiscoverAsk { identifier } => put_discover_ask(out, *identifier),
+        PlainIcmp::DiscoverReply { identifier, agents } => {
+            put_discover_reply(out, *identifier, agents.as_slice())
+        }
+        PlainIcmp::PrefixAsk { identifier } => put_prefix_ask(out, *identifier),
+        PlainIcmp::PrefixReply {
+            identifier,
+            options,
+        } => put_prefix_reply(out, *identifier, *options),
+    }
+}
+
+/// A message with this checksum in place of the one that it has.
+fn with_sum(alloc: Global, message: &[u8], sum: u16) -> Result<Bytes, Memory>
+    requires { 4 ≤ length message.now }
+    ensures { IfOk result (λ b. b ≡ with_number_at 2 sum message.now) }
+{
+    let (front, rest) = message.split_at(2);
+    let (_, back) = rest.split_at(2);
+    let mut out = Bytes::copy(alloc, front)?;
+    out.extend(&u16_bytes(sum))?;
+    out.extend(back)?;
+    Ok(out)
+}
+
+/// The message with a checksum of zero.
+#[tactic(auto, using(crate::proofs::Canonical::unsummed_long, crate::proofs::Canonical::unsummed_size))]
+fn unsummed_of(alloc: Global, message: &PlainIcmp) -> Result<Bytes, Memory>
+    requires { IsWritable (said_plain message.now) }
+    ensures bytes { IfOk result (λ b. b ≡ unsummed (said_plain message.now)) }
+    ensures long { IfOk result (λ b. 8 ≤ length b) }
+    ensures size { IfOk result (λ b. length b ≤ 65535) }
+    ensures fits { OnOk result (Fits (said_plain message.now)) }
+{
+    let mut out = Bytes::new(alloc);
+    put_unsummed(&mut out, message)?;
+    Ok(out)
+}
+
+/// The message with the checksum that holds.
+#[tactic(auto, unfolding(crate::specs::Spelling::icmp_bytes))]
+fn summed(
+    alloc: Global,
+    source: Address,
+    destination: Address,
+    message: &PlainIcmp,
+) -> Result<Bytes, Memory>
+    requires { IsWritable (said_plain message.now) }
+    ensures canonical { IfOk result (λ b. b ≡ icmp_bytes source destination (said_plain message.now)) }
+    ensures sum { IfOk result (λ b. IsTrue (is_right_sum source destination 58 b)) }
+    ensures fits { OnOk result (Fits (said_plain message.now)) }
+{
+    let blank = unsummed_of(alloc, message)?;
+    let sum = checksum(source, destination, PROTO, blank.as_slice(), 2);
+    with_sum(alloc, blank.as_slice(), sum)
+}
+
+/// The canonical spelling of a message between these addresses, as `read_icmp` has them.
+pub fn write_icmp(
+    alloc: Global,
+    source: Address,
+    destination: Address,
+    message: &PlainIcmp,
+) -> Result<Bytes, Memory>
+    requires { IsWritable (said_plain message.now) }
+    ensures canonical { IfOk result (λ b. b ≡ icmp_bytes source destination (said_plain message.now)) }
+    // What is written is spelled so, and is read back.
+    ensures spelled { IfOk result (IsIcmp source destination (said_plain message.now)) }
+    ensures back { IfOk result (λ b. icmp_of source destination b ≡ Ok (said_plain message.now)) }
+{
+    summed(alloc, source, destination, message)
+}

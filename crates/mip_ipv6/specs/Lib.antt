@@ -1,0 +1,4 @@
+pub mod Packet
+pub mod Reading
+pub mod Spelling
+pub mod Sum

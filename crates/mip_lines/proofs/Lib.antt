@@ -1,0 +1,5 @@
+pub mod Parts
+pub mod Numbers
+pub mod RowLaws
+pub mod LineLaws
+pub mod HexFieldLaws

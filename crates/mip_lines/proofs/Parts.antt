@@ -1,0 +1,40 @@
+-- What is known of the parts of a text.
+use Rattle.std.proofs.Common.{◌≡◌, ℕ, ◌+◌, ◌<◌, ◌≤◌, List, [], ◌∷◌, length, take, drop, Bool, not, refl, ap, ◌∙◌, subst, inl, inr, arith, nat_lt}
+use Rattle.std.specs.Prelude.{Option, Some, None, ◌==◌}
+use Rattle.std.specs.List.{slice_split, onto_first, position, position_or_len}
+use Rattle.std.proofs.lemmas.Bool.{cond_both, cond-true, cond-false, cases_Bool, ltb-true, ltb-false, not_from_true, not_from_false}
+use Rattle.std.proofs.lemmas.List.Splits.{slice_split-cons_no, slice_split_first}
+use Rattle.mip_lines.specs.Cutting.{parts}
+
+-- where no byte passes, the list is the one part
+whole : (p : ℕ → Bool) (xs : List ℕ) → length xs ≤ position_or_len p xs → slice_split p xs ≡ xs ∷ []
+whole p [] far = refl
+whole p (x ∷ xs) far =
+    elim (cases_Bool (p x)) as (λ _. slice_split p (x ∷ xs) ≡ (x ∷ xs) ∷ []) [
+      | inl passes ↦
+          let e : position_or_len p (x ∷ xs) ≡ 0 = cond-false (not (p x)) _ _ (not_from_true (p x) passes) in
+          absurd (omega arith)
+      | inr other ↦
+          let e : position_or_len p (x ∷ xs) ≡ 1 + position_or_len p xs = cond-true (not (p x)) _ _ (not_from_false (p x) other) in
+          slice_split-cons_no p x xs other ∙ ap (onto_first x) (whole p xs (omega arith))
+    ]
+
+-- a byte that stands nowhere cuts nothing
+pub parts_none : (c : ℕ) (bytes : List ℕ) → position (λ b. b == c) bytes ≡ None → parts c bytes ≡ bytes ∷ []
+unfolding parts
+parts_none c bytes =
+    cond_both (nat_lt (position_or_len (λ b. b == c) bytes) (length bytes)) _ _ (λ (o : Option ℕ). o ≡ None → slice_split (λ b. b == c) bytes ≡ bytes ∷ [])
+    (λ _ e. absurd cc)
+    (λ far _. whole (λ b. b == c) bytes (ltb-false (position_or_len (λ b. b == c) bytes) (length bytes) far))
+
+-- the first such byte ends the first part
+pub parts_some : (c : ℕ) (bytes : List ℕ) (i : ℕ) → position (λ b. b == c) bytes ≡ Some i → (i < length bytes) × (parts c bytes ≡ take i bytes ∷ parts c (drop (i + 1) bytes))
+unfolding parts
+parts_some c bytes i =
+    let p : ℕ → Bool = λ b. b == c in
+    let at : ℕ = position_or_len p bytes in
+    cond_both (nat_lt at (length bytes)) _ _ (λ (o : Option ℕ). o ≡ Some i → (i < length bytes) × (slice_split p bytes ≡ take i bytes ∷ slice_split p (drop (i + 1) bytes)))
+    (λ near e. let same : at ≡ i = cc in
+    subst (λ (k : ℕ). (k < length bytes) × (slice_split p bytes ≡ take k bytes ∷ slice_split p (drop (k + 1) bytes))) same
+    (ltb-true at (length bytes) near, slice_split_first p bytes 0 (ltb-true at (length bytes) near)))
+    (λ _ e. absurd cc)

@@ -1,0 +1,41 @@
+//! Texts cut at a byte.
+
+ghost use Rattle.std.specs.Prelude.{◌≡◌, ◌==◌, ◌+◌, List, [], ◌∷◌, length, MatchOption, IfSome, IfOk};
+ghost use Rattle.std.specs.List.{position};
+ghost use Rattle.mip_lines.specs.Cutting.{parts, fields_of, texts};
+
+use mip_words::Memory;
+use std::alloc::Global;
+
+fn place_of(byte: u8, bytes: &[u8]) -> Option<usize>
+    ensures { result ≡ position (λ b. b == byte) bytes.now }
+{
+    bytes.iter().position(|b| *b == byte)
+}
+
+/// What stands before the first such byte, and what stands behind it.
+pub fn cut_at(byte: u8, bytes: &[u8]) -> Option<(&[u8], &[u8])>
+    ensures parts { MatchOption result (parts byte bytes.now ≡ bytes.now ∷ []) (λ p. parts byte bytes.now ≡ p.0.now ∷ parts byte p.1.now) }
+    ensures shorter { IfSome result (λ p. length p.0.now + length p.1.now + 1 ≡ length bytes.now) }
+{
+    let Some(place) = place_of(byte, bytes) else {
+        return None;
+    };
+    let (front, behind) = bytes.split_at(place);
+    let (_, rest) = behind.split_at(1);
+    Some((front, rest))
+}
+
+/// The fields of a line, which lie between single spaces.
+pub fn fields(alloc: Global, line: &[u8]) -> Result<Vec<&[u8]>, Memory>
+    ensures { IfOk result (λ v. texts v.items ≡ fields_of line.now) }
+{
+    let mut fields = Vec::new(alloc);
+    let mut rest = line;
+    while let Some((field, more)) = cut_at(b' ', rest) {
+        fields.push(field)?;
+        rest = more;
+    }
+    fields.push(rest)?;
+    Ok(fields)
+}

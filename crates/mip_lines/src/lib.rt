@@ -1,0 +1,13 @@
+//! Lines of text: fields between single spaces, decimal numbers, bytes in hexadecimal digits, and rows
+//! of fields.
+#![tactic(auto)]
+
+mod cutting;
+mod decimals;
+mod hex_fields;
+mod writing;
+
+pub use cutting::{cut_at, fields};
+pub use decimals::{number, put_number};
+pub use hex_fields::{hex_address, hex_bytes, hex_u64, put_address, put_hex_text, put_hex_u64};
+pub use writing::{put_line, put_line_hex};

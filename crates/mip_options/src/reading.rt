@@ -1,0 +1,146 @@
+//! Reading the options of a message.
+
+ghost use Rattle.std.specs.Prelude.{◌≡◌, ◌+◌, ◌≤◌, length, drop, take, slice_index, Ok, IfOk, IsTrue};
+ghost use Rattle.mip_options.specs.Values.{Values, values, set_values};
+ghost use Rattle.mip_options.specs.Reading.{is_length_of, is_seen, with_value, option_at, options_of, GivesAt};
+ghost use Rattle.mip_options.specs.Spelling.{IsSpelled};
+
+use crate::fault::BadOption;
+use crate::indices::Indices;
+use crate::option_set::OptionSet;
+use crate::options::Options;
+use mip_words::{Address, u16_at};
+
+/// The options of a message, from a place to its end.
+pub fn read_options(message: &[u8], start: usize) -> Result<Options<'_>, BadOption>
+    requires { start ≤ length message.now }
+    ensures found { IfOk result (λ o. IsSpelled (values o) (drop start message.now)) }
+    ensures only { (v : Values) → IsSpelled v (drop start message.now) → GivesAt values result (Ok v) }
+    ensures exact { GivesAt values result (options_of start message.now) }
+    ensures span { IfOk result (λ o. o.span.now ≡ drop start message.now) }
+{
+    spanned(message, start)
+}
+
+fn spanned(message: &[u8], start: usize) -> Result<Options<'_>, BadOption>
+    requires { start ≤ length message.now }
+    ensures exact { GivesAt values result (options_of start message.now) }
+    ensures span { IfOk result (λ o. o.span.now ≡ drop start message.now) }
+{
+    let seen = options_from(message, start)?;
+    let (_, span) = message.split_at(start);
+    Ok(Options {
+        advice: seen.advice,
+        alternate: seen.alternate,
+        nonces: seen.nonces,
+        authorization: seen.authorization,
+        span,
+    })
+}
+
+fn options_from(message: &[u8], start: usize) -> Result<OptionSet, BadOption>
+    requires { start ≤ length message.now }
+    ensures { GivesAt set_values result (options_of start message.now) }
+{
+    let mut seen = OptionSet {
+        advice: None,
+        alternate: None,
+        nonces: None,
+        authorization: None,
+    };
+    let (_, mut rest) = message.split_at(start);
+    while !rest.is_empty() {
+        let place = message.len() - rest.len();
+        let (_, more) = rest.split_at(1);
+        let (found, size) = option_of(place, rest[0], seen, more)?;
+        seen = found;
+        let (_, behind) = more.split_at(size);
+        rest = behind;
+    }
+    Ok(seen)
+}
+
+#[tactic(auto, unfolding(crate::specs::Reading::option_at))]
+fn option_of(
+    place: usize,
+    kind: u8,
+    seen: OptionSet,
+    more: &[u8],
+) -> Result<(OptionSet, usize), BadOption>
+    ensures exact { GivesAt (λ x. (set_values x.0, x.1)) result (option_at place kind (set_values seen) more.now) }
+    ensures inside { IfOk result (λ x. x.1 ≤ length more.now) }
+{
+    if kind == 0 {
+        return Ok((seen, 0));
+    }
+    if more.is_empty() || more.len() < 1 + more[0] as usize {
+        return Err(BadOption { place });
+    }
+    if !is_length_of(kind, more[0]) || is_seen(kind, seen) || (kind == 5 && more.len() > 13) {
+        return Err(BadOption { place });
+    }
+    Ok((with_value(kind, seen, more), 1 + more[0] as usize))
+}
+
+fn is_length_of(kind: u8, size: u8) -> bool
+    ensures { result ≡ is_length_of kind size }
+{
+    match kind {
+        2 => size == 2,
+        3 => size == 16,
+        4 => size == 4,
+        5 => size == 12,
+        _ => true,
+    }
+}
+
+fn is_seen(kind: u8, seen: OptionSet) -> bool
+    ensures { result ≡ is_seen kind (set_values seen) }
+{
+    match kind {
+        2 => seen.advice.is_some(),
+        3 => seen.alternate.is_some(),
+        4 => seen.nonces.is_some(),
+        5 => seen.authorization.is_some(),
+        _ => false,
+    }
+}
+
+#[tactic(auto, unfolding(crate::specs::Reading::with_value))]
+fn with_value(kind: u8, seen: OptionSet, more: &[u8]) -> OptionSet
+    requires length { IsTrue (is_length_of kind (slice_index more.now 0)) }
+    requires inside { 1 + slice_index more.now 0 ≤ length more.now }
+    ensures { set_values result ≡ with_value kind (set_values seen) more.now }
+{
+    match kind {
+        2 => OptionSet {
+            advice: Some(u16_at(more, 1)),
+            ..seen
+        },
+        3 => OptionSet {
+            alternate: Some(Address::at(more, 1)),
+            ..seen
+        },
+        4 => OptionSet {
+            nonces: Some(Indices {
+                home: u16_at(more, 1),
+                careof: u16_at(more, 3),
+            }),
+            ..seen
+        },
+        5 => OptionSet {
+            authorization: Some(authorization_at(more)),
+            ..seen
+        },
+        _ => seen,
+    }
+}
+
+fn authorization_at(more: &[u8]) -> [u8; 12]
+    requires { 13 ≤ length more.now }
+    ensures { result ≡ take 12 (drop 1 more.now) }
+{
+    let mut bytes = [0; 12];
+    bytes.copy_from_slice(&more[1..13]);
+    bytes
+}
