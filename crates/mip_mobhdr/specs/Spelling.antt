@@ -4,7 +4,7 @@
 --   0              1              2              3              4              5
 --   Payload Proto  Header Len     MH Type        Reserved       Checksum
 --   6 on: the fields of the type, then mobility options
-use Rattle.std.specs.Prelude.{◌≡◌, ℕ, ◌+◌, ◌-◌, ◌*◌, ◌/◌, ◌%◌, ◌^◌, ◌<◌, ◌≤◌, List, [], ◌∷◌, ◌++◌, length, take, drop, slice_index, Bool, IsTrue, if◌then◌else◌}
+use Rattle.std.specs.Prelude.{◌≡◌, ℕ, ◌+◌, ◌-◌, ◌*◌, ◌/◌, ◌^◌, ◌<◌, ◌≤◌, List, [], ◌∷◌, ◌++◌, length, take, drop, slice_index, Bool, IsTrue, if◌then◌else◌}
 use Rattle.mip_words.specs.Numbers.{number_at, number_bytes}
 use Rattle.mip_words.specs.Addresses.{address_at, address_bytes}
 use Rattle.mip_words.specs.declared.address.Address.{Address}
@@ -82,6 +82,10 @@ field_bytes (Update s a h l k t o) =
 field_bytes (Acknowledgement s k q t o) = s ∷ flag 128 k ∷ (number_bytes 2 q ++ number_bytes 2 t)
 field_bytes (Error s h o) = s ∷ 0 ∷ address_bytes h
 
+-- what stands before the options, with zero for Header Len and checksum
+abbrev pub front_bytes : Said → List ℕ
+front_bytes m = 59 ∷ 0 ∷ type_of m ∷ 0 ∷ 0 ∷ 0 ∷ field_bytes m
+
 -- fields and options
 unfoldable pub rest_bytes : Said → List ℕ
 rest_bytes m = field_bytes m ++ canonical (6 + length (field_bytes m)) (options_said m)
@@ -104,3 +108,7 @@ HasWidths (CareofTest i c t o) = (i < 2 ^ 16) × (c < 2 ^ 64) × (length t ≡ 8
 HasWidths (Update s a h l k t o) = (s < 2 ^ 16) × (t < 2 ^ 16)
 HasWidths (Acknowledgement s k q t o) = (q < 2 ^ 16) × (t < 2 ^ 16)
 HasWidths (Error s h o) = h.0 < 2 ^ 128
+
+-- the options are spelled where the writer puts them
+abbrev pub WritesOptions : Said → Type 0
+WritesOptions m = IsSpelled (options_said m) (canonical (6 + length (field_bytes m)) (options_said m))

@@ -27,7 +27,13 @@ pub fn acknowledgement(body: &[u8]) -> Result<Message<'_>, Fault>
 }
 
 /// Appends the fields of a Binding Acknowledgement, from byte 6 on.
-pub fn put_acknowledgement(out: &mut Bytes, status: u8, key: bool, sequence: u16, lifetime: u16) -> Result<(), Memory>
+pub fn put_acknowledgement(
+    out: &mut Bytes,
+    status: u8,
+    key: bool,
+    sequence: u16,
+    lifetime: u16,
+) -> Result<(), Memory>
     ensures ok { OnOk result (out.new ≡ out.old ++ (status ∷ flag 128 key ∷ (number_bytes 2 sequence ++ number_bytes 2 lifetime))) }
     ensures fits { (sequence < 2 ^ 16) × (lifetime < 2 ^ 16) }
 {

@@ -18,3 +18,4 @@ pub use fault::Fault;
 pub use message::Message;
 pub use plain::Plain;
 pub use reading::read_message;
+pub use writing::write_message;

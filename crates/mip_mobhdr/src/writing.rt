@@ -5,7 +5,7 @@ ghost use Rattle.mip_ipv6.specs.Sum.{with_number_at, checksum_of};
 ghost use Rattle.mip_options.specs.Values.{set_values};
 ghost use Rattle.mip_mobhdr.specs.Said.{said_plain};
 ghost use Rattle.mip_mobhdr.specs.Reading.{message_of};
-ghost use Rattle.mip_mobhdr.specs.Spelling.{IsMessage, type_of, options_said, field_bytes, unsummed, message_bytes, HasWidths};
+ghost use Rattle.mip_mobhdr.specs.Spelling.{IsMessage, type_of, options_said, field_bytes, front_bytes, unsummed, message_bytes, HasWidths, WritesOptions};
 
 use crate::acknowledgement::put_acknowledgement;
 use crate::address_test::put_test;
@@ -18,6 +18,47 @@ use mip_ipv6::checksum;
 use mip_options::{OptionSet, write_options};
 use mip_words::{Address, Bytes, Memory, u16_bytes};
 use std::alloc::Global;
+
+/// The canonical spelling of a message from `source` to `destination`, with its checksum.
+pub fn write_message(
+    alloc: Global,
+    source: Address,
+    destination: Address,
+    message: &Plain,
+) -> Result<Bytes, Memory>
+    ensures ok { IfOk result (λ b. b ≡ message_bytes source destination (said_plain message.now)) }
+    ensures spelled { IfOk result (IsMessage source destination (said_plain message.now)) }
+    ensures read_back { IfOk result (λ b. message_of source destination b ≡ Ok (said_plain message.now)) }
+{
+    let draft = draft_of(alloc, message)?;
+    summed(alloc, source, destination, draft.as_slice())
+}
+
+/// The message with zero for its checksum.
+fn draft_of(alloc: Global, message: &Plain) -> Result<Bytes, Memory>
+    ensures draft { IfOk result (λ b. b ≡ unsummed (said_plain message.now)) }
+    ensures long { IfOk result (λ b. 8 ≤ length b) }
+    ensures short { IfOk result (λ b. length b ≤ 96) }
+    ensures fits { OnOk result (HasWidths (said_plain message.now)) }
+    ensures options { OnOk result (WritesOptions (said_plain message.now)) }
+{
+    let mut out = front_of(alloc, message)?;
+    write_options(&mut out, options_of(message))?;
+    sized(alloc, out.as_slice())
+}
+
+/// What stands before the options, with zero for Header Len and checksum.
+#[tactic(auto, using(crate::proofs::Canonical::field_short))]
+fn front_of(alloc: Global, message: &Plain) -> Result<Bytes, Memory>
+    ensures front { IfOk result (λ b. b ≡ front_bytes (said_plain message.now)) }
+    ensures short { IfOk result (λ b. length b ≤ 24) }
+    ensures fits { OnOk result (HasWidths (said_plain message.now)) }
+{
+    let mut out = Bytes::new(alloc);
+    out.extend(&[59, 0, kind_of(message), 0, 0, 0])?;
+    put_fields(&mut out, message)?;
+    Ok(out)
+}
 
 /// Appends the fields of the message, from byte 6 on.
 fn put_fields(out: &mut Bytes, message: &Plain) -> Result<(), Memory>
@@ -47,7 +88,12 @@ fn put_fields(out: &mut Bytes, message: &Plain) -> Result<(), Memory>
             key,
             lifetime,
             ..
-        } => put_update(out, *sequence, update_flags(*ack, *home, *local, *key), *lifetime),
+        } => put_update(
+            out,
+            *sequence,
+            update_flags(*ack, *home, *local, *key),
+            *lifetime,
+        ),
         Plain::Acknowledgement {
             status,
             key,
@@ -104,7 +150,12 @@ fn sized(alloc: Global, message: &[u8]) -> Result<Bytes, Memory>
 }
 
 /// The message with its checksum in place.
-fn summed(alloc: Global, source: Address, destination: Address, message: &[u8]) -> Result<Bytes, Memory>
+fn summed(
+    alloc: Global,
+    source: Address,
+    destination: Address,
+    message: &[u8],
+) -> Result<Bytes, Memory>
     requires long { 8 ≤ length message.now }
     requires short { length message.now ≤ 96 }
     ensures { IfOk result (λ b. b ≡ with_number_at 4 (checksum_of source destination 135 message.now 4) message.now) }
