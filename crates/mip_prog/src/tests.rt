@@ -1,3 +1,4 @@
+use crate::in_memory::mip_in_memory;
 use crate::status::Status;
 use crate::top::mip;
 use crate::writing::tell;
@@ -8,19 +9,23 @@ use std::test::Fail;
 
 const USAGE: &str = "usage: mip COMMAND\n";
 
-fn run<S: Source, K: Sink>(
-    alloc: Global,
-    words: &[&str],
-    source: &mut S,
-    sink: &mut K,
-) -> Result<Status, Memory> {
+fn owned(alloc: Global, words: &[&str]) -> Result<Vec<String>, Memory> {
     let mut owned = Vec::new(alloc);
     for word in words {
         owned.push(String::from_str(alloc, word)?)?;
     }
+    Ok(owned)
+}
+
+fn replay<S: Source, K: Sink>(
+    alloc: Global,
+    source: &mut S,
+    sink: &mut K,
+) -> Result<Status, Memory> {
+    let words = owned(alloc, &["replay"])?;
     let mut clock = SetClock::new(alloc, &[0])?;
     let mut link = SureLink::new(alloc)?;
-    Ok(mip(alloc, &owned, source, sink, &mut clock, &mut link))
+    Ok(mip(alloc, &words, source, sink, &mut clock, &mut link))
 }
 
 #[test]
@@ -34,13 +39,10 @@ fn words_and_input_have_their_answer(rt: HostRuntime) -> Result<(), Fail> {
         (&["replay", "replay"], b"", 1, USAGE),
     ];
     for (words, input, status, text) in cases {
-        let mut source = SureSource::new(rt.alloc(), input)?;
-        let mut sink = TextSink::new(rt.alloc(), &[])?;
-        assert_eq!(rt;
-            run(rt.alloc(), words, &mut source, &mut sink)?,
-            Status(status)
-        );
-        assert_eq!(rt; sink.bytes(), text.as_bytes());
+        let words = owned(rt.alloc(), words)?;
+        let reply = mip_in_memory(rt.alloc(), &words, input)?;
+        assert_eq!(rt; reply.status, Status(status));
+        assert_eq!(rt; reply.text.as_slice(), text.as_bytes());
     }
     Ok(())
 }
@@ -51,7 +53,7 @@ fn a_failed_call_has_its_status(rt: HostRuntime) -> Result<(), Fail> {
         let mut source = TextSource::new(rt.alloc(), b"mip 1\n", &[call])?;
         let mut sink = TextSink::new(rt.alloc(), &[])?;
         assert_eq!(rt;
-            run(rt.alloc(), &["replay"], &mut source, &mut sink)?,
+            replay(rt.alloc(), &mut source, &mut sink)?,
             Status::READ_FAULT
         );
         assert_eq!(rt; sink.bytes().len(), 0);
@@ -59,7 +61,7 @@ fn a_failed_call_has_its_status(rt: HostRuntime) -> Result<(), Fail> {
     let mut source = SureSource::new(rt.alloc(), b"")?;
     let mut sink = TextSink::new(rt.alloc(), &[1])?;
     assert_eq!(rt;
-        run(rt.alloc(), &["replay"], &mut source, &mut sink)?,
+        replay(rt.alloc(), &mut source, &mut sink)?,
         Status::WRITE_FAULT
     );
     assert_eq!(rt; sink.bytes().len(), 0);
@@ -75,20 +77,11 @@ fn a_failed_call_has_its_status(rt: HostRuntime) -> Result<(), Fail> {
 }
 
 #[test]
-fn more_than_16777216_bytes_are_too_many(rt: HostRuntime) -> Result<(), Fail> {
-    for (length, status, text) in [
-        (16_777_216, Status::BAD, "bad 1 form\n"),
-        (16_777_217, Status::TOO_LONG, "long\n"),
-        (16_777_300, Status::TOO_LONG, "long\n"),
-    ] {
-        let bytes = vec![in rt.alloc(); b'a'; length]?;
-        let mut source = SureSource::new(rt.alloc(), &bytes)?;
-        let mut sink = TextSink::new(rt.alloc(), &[])?;
-        assert_eq!(rt;
-            run(rt.alloc(), &["replay"], &mut source, &mut sink)?,
-            status
-        );
-        assert_eq!(rt; sink.bytes(), text.as_bytes());
-    }
+fn one_byte_more_than_16777216_is_too_many(rt: HostRuntime) -> Result<(), Fail> {
+    let words = owned(rt.alloc(), &["replay"])?;
+    let bytes = vec![in rt.alloc(); b'a'; 16_777_217]?;
+    let reply = mip_in_memory(rt.alloc(), &words, &bytes)?;
+    assert_eq!(rt; reply.status, Status::TOO_LONG);
+    assert_eq!(rt; reply.text.as_slice(), b"long\n".as_slice());
     Ok(())
 }
