@@ -1,6 +1,6 @@
 //! The packets that a node makes.
 
-ghost use Rattle.std.specs.Prelude.{◌≡◌, ℕ, ◌≤◌, IfOk, length};
+ghost use Rattle.std.specs.Prelude.{◌≡◌, ℕ, ◌<◌, ◌≤◌, IfOk, length, slice_index};
 ghost use Rattle.mip_mobhdr.specs.Said.{said_plain};
 ghost use Rattle.mip_mobhdr.specs.Spelling.{message_bytes};
 ghost use Rattle.mip_ipv6.specs.Spelling.{packet_bytes};
@@ -48,8 +48,16 @@ fn message(alloc: Global, source: Address, destination: Address, plain: &Plain) 
     ensures few { IfOk result (λ b. length b ≤ 2048) }
 {
     let bytes = write_message(alloc, source, destination, plain)?;
-    let _size = bytes.as_slice();
+    let _units = units(bytes.as_slice());
     Ok(bytes)
+}
+
+/// Header Len, in units of 8 bytes behind the first 8.
+fn units(body: &[u8]) -> u8
+    requires { 1 < length body.now }
+    ensures { result ≡ slice_index body.now 1 }
+{
+    body[1]
 }
 
 /// A packet with a mobility message, from and to these addresses: hop limit 64, traffic class 0, flow
