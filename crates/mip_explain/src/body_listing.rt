@@ -25,7 +25,12 @@ fn sum_destination(head: &Head) -> Address
     head.route.unwrap_or(head.destination)
 }
 
-fn put_mobility(out: &mut Bytes, source: Address, destination: Address, body: &[u8]) -> Result<(), Memory>
+fn put_mobility(
+    out: &mut Bytes,
+    source: Address,
+    destination: Address,
+    body: &[u8],
+) -> Result<(), Memory>
     ensures { OnOk result (out.new ≡ out.old ++ mobility_lines (message_of source destination body.now)) }
 {
     match read_message(source, destination, body) {
@@ -34,7 +39,12 @@ fn put_mobility(out: &mut Bytes, source: Address, destination: Address, body: &[
     }
 }
 
-fn put_icmp(out: &mut Bytes, source: Address, destination: Address, body: &[u8]) -> Result<(), Memory>
+fn put_icmp(
+    out: &mut Bytes,
+    source: Address,
+    destination: Address,
+    body: &[u8],
+) -> Result<(), Memory>
     requires { length body.now ≤ 65535 }
     ensures { OnOk result (out.new ≡ out.old ++ icmp_lines (icmp_of source destination body.now)) }
 {

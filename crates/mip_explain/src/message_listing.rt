@@ -5,7 +5,9 @@ ghost use Rattle.mip_explain.specs.Lines.{message_line, index_line, cookie_line,
 ghost use Rattle.mip_explain.specs.Listing.{option_lines, message_lines};
 
 use crate::option_listing::put_options;
-use crate::rows::{put_address_line, put_digits_line, put_flags_line, put_number_line, put_word_line};
+use crate::rows::{
+    put_address_line, put_digits_line, put_flags_line, put_number_line, put_word_line,
+};
 use mip_mobhdr::Message;
 use mip_options::Options;
 use mip_words::{Address, Bytes, Cookie, Memory, Token, u64_bytes};
@@ -84,22 +86,44 @@ pub(crate) fn put_message(out: &mut Bytes, message: &Message) -> Result<(), Memo
         }
         Message::HomeInit { cookie, options } => put_init(out, b"hoti", *cookie, options),
         Message::CareofInit { cookie, options } => put_init(out, b"coti", *cookie, options),
-        Message::HomeTest { index, cookie, token, options } => {
-            put_test(out, b"hot", *index, *cookie, *token, options)
-        }
-        Message::CareofTest { index, cookie, token, options } => {
-            put_test(out, b"cot", *index, *cookie, *token, options)
-        }
-        Message::Update { sequence, ack, home, local, key, lifetime, options } => {
+        Message::HomeTest {
+            index,
+            cookie,
+            token,
+            options,
+        } => { put_test(out, b"hot", *index, *cookie, *token, options) }
+        Message::CareofTest {
+            index,
+            cookie,
+            token,
+            options,
+        } => { put_test(out, b"cot", *index, *cookie, *token, options) }
+        Message::Update {
+            sequence,
+            ack,
+            home,
+            local,
+            key,
+            lifetime,
+            options,
+        } => {
             put_word_line(out, b"message", b"bu")?;
             put_number_line(out, b"sequence", u64::from(*sequence))?;
             put_flags_line(out, *ack, *home, *local, *key)?;
             put_number_line(out, b"lifetime", u64::from(*lifetime))?;
             put_options(out, options)
         }
-        Message::Acknowledgement { status, key, sequence, lifetime, options } => {
-            put_acknowledgement(out, *status, *key, *sequence, *lifetime, options)
-        }
-        Message::Error { status, home, options } => put_error(out, *status, *home, options),
+        Message::Acknowledgement {
+            status,
+            key,
+            sequence,
+            lifetime,
+            options,
+        } => { put_acknowledgement(out, *status, *key, *sequence, *lifetime, options) }
+        Message::Error {
+            status,
+            home,
+            options,
+        } => put_error(out, *status, *home, options),
     }
 }

@@ -39,7 +39,11 @@ pub(crate) fn put_address_line(out: &mut Bytes, word: &[u8], address: Address) -
 }
 
 /// An address, or `-` for none.
-pub(crate) fn put_optional_line(out: &mut Bytes, word: &[u8], address: Option<Address>) -> Result<(), Memory>
+pub(crate) fn put_optional_line(
+    out: &mut Bytes,
+    word: &[u8],
+    address: Option<Address>,
+) -> Result<(), Memory>
     ensures { OnOk result (out.new ≡ out.old ++ pair_line word.now (address_field address)) }
 {
     match address {
@@ -87,7 +91,13 @@ fn put_flags(out: &mut Bytes, ack: bool, home: bool, local: bool, key: bool) -> 
 
 /// The letters of the flags that are set, or `-` where none is.
 #[tactic(auto, using(crate::proofs::LineLaws::pair_is))]
-pub(crate) fn put_flags_line(out: &mut Bytes, ack: bool, home: bool, local: bool, key: bool) -> Result<(), Memory>
+pub(crate) fn put_flags_line(
+    out: &mut Bytes,
+    ack: bool,
+    home: bool,
+    local: bool,
+    key: bool,
+) -> Result<(), Memory>
     ensures { OnOk result (out.new ≡ out.old ++ flags_line ack home local key) }
 {
     out.extend(b"flags")?;
