@@ -1,16 +1,16 @@
 -- What is written is spelled so, and is read back.
-use Rattle.std.proofs.Common.{◌≡◌, ℕ, ◌+◌, ◌-◌, ◌*◌, ◌/◌, ◌%◌, ◌^◌, ◌<◌, ◌≤◌, List, [], ◌∷◌, ◌++◌, length, take, drop, refl, sym, ap, ◌∙◌, subst, arith, length-append}
-use Rattle.std.specs.Prelude.{Bool, true, false, not, ◌&&◌, nat_lt, slice_index, Option, Some, None, Result, Ok, Err}
+use Rattle.std.proofs.Common.{◌≡◌, ℕ, ◌+◌, ◌*◌, ◌/◌, ◌%◌, ◌^◌, ◌<◌, List, [], ◌∷◌, ◌++◌, length, refl, sym, ap, ◌∙◌, subst, arith, length-append}
+use Rattle.std.specs.Prelude.{true, false, not, nat_lt, slice_index, Option, Some, None, Ok}
 use Rattle.std.proofs.lemmas.Bool.{and_parts, ltb-true, not-true}
 use Rattle.std.proofs.lemmas.List.{append_assoc, append-nil, drop_at}
 use Rattle.mip_words.specs.Numbers.{number_at, number_bytes}
-use Rattle.mip_words.specs.Addresses.{address_at, address_bytes, is_routable}
+use Rattle.mip_words.specs.Addresses.{address_at, address_bytes}
 use Rattle.mip_words.specs.declared.address.Address.{Address}
 use Rattle.mip_words.proofs.Fields.{length-number_bytes, number_at-number_bytes, number_at-behind}
 use Rattle.mip_ipv6.specs.declared.head.Head.{Head}
 use Rattle.mip_ipv6.specs.Packet.{Packet, names_no_body, is_plain, is_routable_if_any, IsAddressIfAny, IsInRange}
 use Rattle.mip_ipv6.specs.Reading.{packet_of}
-use Rattle.mip_ipv6.specs.Spelling.{Piece, Skipped, Home, IsRouting, IsOptions, IsPacket, routing_bytes, options_bytes, first_number, second_number, behind_bytes, fixed_bytes, packet_bytes}
+use Rattle.mip_ipv6.specs.Spelling.{Skipped, Home, IsRouting, IsOptions, IsPacket, routing_bytes, options_bytes, first_number, second_number, behind_bytes, fixed_bytes, packet_bytes}
 use Rattle.mip_ipv6.proofs.Packets.{packet_again}
 
 abbrev size_if_any : Option Address → ℕ

@@ -1,9 +1,8 @@
 -- Extension headers that are read are spelled so, and what is spelled so is read.
-use Rattle.std.proofs.Common.{◌≡◌, ℕ, zero, suc, ◌+◌, ◌-◌, ◌*◌, ◌<◌, ◌≤◌, List, [], ◌∷◌, ◌++◌, length, take, drop, get_or, cond, refl, sym, ap, ◌∙◌, subst, arith, add-one, length-append, length-drop, length-take, take-append-drop}
-use Rattle.std.specs.Prelude.{Bool, true, false, not, ◌||◌, ◌==◌, nat_lt, slice_index, Option, Some, None, Result, Ok, Err}
-use Rattle.std.proofs.lemmas.Bool.{cond_both, cond-true, cond-false, eqb-true, eqb-false, ltb-true, ltb-false, not-true, not-false, or_parts, or_from, eq-eqb, ne_eqb, lt-ltb, le-ltb, not_from_true, not_from_false}
-use Rattle.std.proofs.lemmas.List.{append_assoc, drop_at, take_at, length-take-le, get_or-take, get_or_append_left}
-use Rattle.mip_words.specs.Numbers.{number_at}
+use Rattle.std.proofs.Common.{◌≡◌, ℕ, suc, ◌+◌, ◌*◌, ◌<◌, ◌≤◌, List, [], ◌∷◌, ◌++◌, length, take, drop, refl, sym, ap, ◌∙◌, subst, arith, length-append, take-append-drop}
+use Rattle.std.specs.Prelude.{not, ◌||◌, ◌==◌, nat_lt, slice_index, Option, Some, None, Result, Ok}
+use Rattle.std.proofs.lemmas.Bool.{cond_both, cond-true, cond-false, eqb-true, ltb-false, not-false, or_parts, or_from, eq-eqb, ne_eqb, le-ltb, not_from_true, not_from_false}
+use Rattle.std.proofs.lemmas.List.{drop_at, take_at, length-take-le, get_or-take, get_or_append_left}
 use Rattle.mip_words.specs.Addresses.{address_at, is_routable}
 use Rattle.mip_words.specs.Steps.{◌>>=◌}
 use Rattle.mip_words.specs.declared.address.Address.{Address}

@@ -1,12 +1,11 @@
 -- Options that are read are spelled so, and what is spelled so is read.
-use Rattle.std.proofs.Common.{◌≡◌, ℕ, zero, suc, ◌+◌, ◌-◌, ◌<◌, ◌≤◌, List, [], ◌∷◌, ◌++◌, length, take, drop, get_or, cond, refl, sym, ap, ◌∙◌, subst, inl, inr, arith, add-one, length-append, length-drop, length-take, take-append-drop}
-use Rattle.std.specs.Prelude.{Bool, true, false, not, ◌||◌, ◌==◌, nat_lt, slice_index, Option, Some, None, is_some, option_to_list, Result, Ok, Err}
+use Rattle.std.proofs.Common.{◌≡◌, ℕ, zero, suc, ◌+◌, ◌<◌, ◌≤◌, List, [], ◌∷◌, ◌++◌, length, take, drop, refl, sym, ap, ◌∙◌, subst, arith, add-one, length-append, length-take, take-append-drop}
+use Rattle.std.specs.Prelude.{true, false, not, ◌||◌, ◌==◌, nat_lt, slice_index, Option, Some, None, is_some, option_to_list, Result, Ok}
 use Rattle.std.specs.List.{AllByRecursion, flat_map}
-use Rattle.std.proofs.lemmas.Bool.{cond_both, cond-true, cond-false, eqb-true, eqb-false, ltb-true, ltb-false, not-true, not-false, or_parts, or_from, eq-eqb, ne_eqb, lt-ltb, le-ltb, not_from_true, not_from_false}
+use Rattle.std.proofs.lemmas.Bool.{cond_both, cond-true, cond-false, eqb-true, eqb-false, ltb-true, ltb-false, not-false, or_parts, or_from, ne_eqb, lt-ltb, le-ltb, not_from_true}
 use Rattle.std.proofs.lemmas.List.{append_assoc, append-nil, drop_at, length-take-le}
 use Rattle.mip_words.specs.Numbers.{number_at}
 use Rattle.mip_words.specs.Addresses.{address_at, is_routable}
-use Rattle.mip_words.specs.Steps.{◌>>=◌}
 use Rattle.mip_words.specs.declared.address.Address.{Address}
 use Rattle.mip_words.proofs.Fields.{number_at-behind, number_at-append}
 use Rattle.mip_words.proofs.StepLaws.{bind_ok, ok_is, done}

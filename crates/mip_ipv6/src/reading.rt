@@ -1,6 +1,6 @@
 //! Reading a packet.
 
-ghost use Rattle.std.specs.Prelude.{◌≡◌, ◌≤◌, ◌<◌, ◌+◌, length, drop, IfOk};
+ghost use Rattle.std.specs.Prelude.{◌≡◌, ◌≤◌, length, IfOk};
 ghost use Rattle.mip_words.specs.Steps.{Gives};
 ghost use Rattle.mip_ipv6.specs.Packet.{Packet, packet, IsAt};
 ghost use Rattle.mip_ipv6.specs.Spelling.{IsPacket};

@@ -1,6 +1,5 @@
-ghost use Rattle.std.specs.Prelude.{◌≡◌, ◌==◌, ◌+◌, ◌*◌, ◌%◌, ◌≤◌, ◌<◌, ◌++◌, drop, take, length, IsTrue, ⊤};
-ghost use Rattle.mip_words.specs.Numbers.{number_bytes};
-ghost use Rattle.mip_ipv6.specs.Sum.{word_sum, pseudo_header, message_sum, is_right_sum, with_number_at, folded, checksum_of};
+ghost use Rattle.std.specs.Prelude.{◌≡◌, ◌+◌, ◌*◌, ◌%◌, ◌≤◌, length, IsTrue};
+ghost use Rattle.mip_ipv6.specs.Sum.{word_sum, pseudo_header, is_right_sum, with_number_at, folded, checksum_of};
 
 use mip_words::{Address, u32_bytes};
 

@@ -1,3 +1,4 @@
 pub mod Said
 pub mod Pointer
 pub mod Reading
+pub mod Spelling

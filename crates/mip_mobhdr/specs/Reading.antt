@@ -71,7 +71,7 @@ unfoldable pub update_of : List ℕ → Result Said Fault
 update_of body = do
   o ← options_in 12 body
   let flag : ℕ → Bool = λ worth. has_bit worth (slice_index body 8) in
-    Ok (Update (number_at 2 6 body) (flag 128) (flag 64) (flag 32) (flag 16) (number_at 2 10 body) o)
+      Ok (Update (number_at 2 6 body) (flag 128) (flag 64) (flag 32) (flag 16) (number_at 2 10 body) o)
 
 -- K is the highest bit of byte 7
 unfoldable pub acknowledgement_of : List ℕ → Result Said Fault

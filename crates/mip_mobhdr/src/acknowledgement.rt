@@ -1,12 +1,14 @@
-ghost use Rattle.std.specs.Prelude.{◌≤◌, length};
+ghost use Rattle.std.specs.Prelude.{◌≡◌, ◌^◌, ◌<◌, ◌≤◌, ◌∷◌, ◌++◌, length, OnOk};
+ghost use Rattle.mip_words.specs.Numbers.{number_bytes};
 ghost use Rattle.mip_words.specs.Steps.{Gives};
 ghost use Rattle.mip_mobhdr.specs.Said.{said};
 ghost use Rattle.mip_mobhdr.specs.Reading.{acknowledgement_of};
+ghost use Rattle.mip_mobhdr.specs.Spelling.{flag};
 
 use crate::fault::Fault;
 use crate::message::Message;
 use mip_options::read_options;
-use mip_words::u16_at;
+use mip_words::{Bytes, Memory, u16_at, u16_bytes};
 
 /// The fields of a Binding Acknowledgement.
 #[tactic(auto, unfolding(crate::specs::Reading::acknowledgement_of))]
@@ -22,4 +24,21 @@ pub fn acknowledgement(body: &[u8]) -> Result<Message<'_>, Fault>
         lifetime: u16_at(body, 10),
         options,
     })
+}
+
+/// Appends the fields of a Binding Acknowledgement, from byte 6 on.
+pub fn put_acknowledgement(
+    out: &mut Bytes,
+    status: u8,
+    key: bool,
+    sequence: u16,
+    lifetime: u16,
+) -> Result<(), Memory>
+    ensures ok { OnOk result (out.new ≡ out.old ++ (status ∷ flag 128 key ∷ (number_bytes 2 sequence ++ number_bytes 2 lifetime))) }
+    ensures fits { (sequence < 2 ^ 16) × (lifetime < 2 ^ 16) }
+{
+    let flags = if key { 0x80 } else { 0 };
+    out.extend(&[status, flags])?;
+    out.extend(&u16_bytes(sequence))?;
+    out.extend(&u16_bytes(lifetime))
 }

@@ -1,4 +1,5 @@
-ghost use Rattle.std.specs.Prelude.{◌≤◌, length};
+ghost use Rattle.std.specs.Prelude.{◌≡◌, ◌^◌, ◌<◌, ◌≤◌, ◌∷◌, ◌++◌, length, OnOk};
+ghost use Rattle.mip_words.specs.Addresses.{address_bytes};
 ghost use Rattle.mip_words.specs.Steps.{Gives};
 ghost use Rattle.mip_mobhdr.specs.Said.{said};
 ghost use Rattle.mip_mobhdr.specs.Reading.{error_of};
@@ -6,7 +7,7 @@ ghost use Rattle.mip_mobhdr.specs.Reading.{error_of};
 use crate::fault::Fault;
 use crate::message::Message;
 use mip_options::read_options;
-use mip_words::Address;
+use mip_words::{Address, Bytes, Memory};
 
 /// The fields of a Binding Error.
 #[tactic(auto, unfolding(crate::specs::Reading::error_of))]
@@ -20,4 +21,13 @@ pub fn binding_error(body: &[u8]) -> Result<Message<'_>, Fault>
         home: Address::at(body, 8),
         options,
     })
+}
+
+/// Appends the fields of a Binding Error, from byte 6 on.
+pub fn put_error(out: &mut Bytes, status: u8, home: Address) -> Result<(), Memory>
+    ensures ok { OnOk result (out.new ≡ out.old ++ (status ∷ 0 ∷ address_bytes home)) }
+    ensures fits { home.0 < 2 ^ 128 }
+{
+    out.extend(&[status, 0])?;
+    out.extend(&home.bytes())
 }

@@ -12,8 +12,10 @@ mod reading;
 mod refresh;
 mod test_init;
 mod update;
+mod writing;
 
 pub use fault::Fault;
 pub use message::Message;
 pub use plain::Plain;
 pub use reading::read_message;
+pub use writing::write_message;

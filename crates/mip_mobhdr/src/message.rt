@@ -5,11 +5,19 @@ use mip_words::{Address, Cookie, Token};
 #[derive(Clone, Copy, Debug, PartialEq, Eq)]
 pub enum Message<'a> {
     /// Binding Refresh Request (RFC 6275 section 6.1.2).
-    Refresh { options: Options<'a> },
+    Refresh {
+        options: Options<'a>,
+    },
     /// Home Test Init (section 6.1.3).
-    HomeInit { cookie: Cookie, options: Options<'a> },
+    HomeInit {
+        cookie: Cookie,
+        options: Options<'a>,
+    },
     /// Care-of Test Init (section 6.1.4).
-    CareofInit { cookie: Cookie, options: Options<'a> },
+    CareofInit {
+        cookie: Cookie,
+        options: Options<'a>,
+    },
     /// Home Test (section 6.1.5).
     HomeTest {
         index: u16,

@@ -4,6 +4,7 @@ ghost use Rattle.std.specs.Prelude.{◌≡◌, ◌+◌, ◌*◌, ◌≤◌, ◌<
 ghost use Rattle.mip_words.specs.Steps.{Gives};
 ghost use Rattle.mip_mobhdr.specs.Said.{Said, said};
 ghost use Rattle.mip_mobhdr.specs.Reading.{least_of, type_in, fields_of, message_of};
+ghost use Rattle.mip_mobhdr.specs.Spelling.{IsMessage};
 
 use crate::acknowledgement::acknowledgement;
 use crate::address_test::{careof_test, home_test};
@@ -19,9 +20,21 @@ use mip_words::Address;
 
 /// The message in the body of a packet from `source` to `destination`: the home addresses where a Home
 /// Address option or a routing header stands for them.
-#[tactic(auto, unfolding(crate::specs::Reading::message_of))]
-pub fn read_message(source: Address, destination: Address, body: &[u8]) -> Result<Message<'_>, Fault>
+pub fn read_message(
+    source: Address,
+    destination: Address,
+    body: &[u8],
+) -> Result<Message<'_>, Fault>
+    ensures found { IfOk result (λ m. IsMessage source destination (said m) body.now) }
+    ensures only { (m : Said) → IsMessage source destination m body.now → Gives said result (Ok m) }
     ensures exact { Gives said result (message_of source destination body.now) }
+{
+    message_in(source, destination, body)
+}
+
+#[tactic(auto, unfolding(crate::specs::Reading::message_of))]
+fn message_in(source: Address, destination: Address, body: &[u8]) -> Result<Message<'_>, Fault>
+    ensures { Gives said result (message_of source destination body.now) }
 {
     let kind = kind_of(source, destination, body)?;
     fields(kind, body)

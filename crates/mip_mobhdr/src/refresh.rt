@@ -1,4 +1,4 @@
-ghost use Rattle.std.specs.Prelude.{◌≤◌, length};
+ghost use Rattle.std.specs.Prelude.{◌≡◌, ◌≤◌, [], ◌∷◌, ◌++◌, length, OnOk};
 ghost use Rattle.mip_words.specs.Steps.{Gives};
 ghost use Rattle.mip_mobhdr.specs.Said.{said};
 ghost use Rattle.mip_mobhdr.specs.Reading.{refresh_of};
@@ -6,6 +6,7 @@ ghost use Rattle.mip_mobhdr.specs.Reading.{refresh_of};
 use crate::fault::Fault;
 use crate::message::Message;
 use mip_options::read_options;
+use mip_words::{Bytes, Memory};
 
 /// The fields of a Binding Refresh Request.
 #[tactic(auto, unfolding(crate::specs::Reading::refresh_of))]
@@ -15,4 +16,11 @@ pub fn refresh(body: &[u8]) -> Result<Message<'_>, Fault>
 {
     let options = read_options(body, 8)?;
     Ok(Message::Refresh { options })
+}
+
+/// Appends the fields of a Binding Refresh Request, from byte 6 on.
+pub fn put_refresh(out: &mut Bytes) -> Result<(), Memory>
+    ensures { OnOk result (out.new ≡ out.old ++ (0 ∷ 0 ∷ [])) }
+{
+    out.extend(&[0, 0])
 }

@@ -1,12 +1,14 @@
-ghost use Rattle.std.specs.Prelude.{◌≤◌, length};
+ghost use Rattle.std.specs.Prelude.{◌≡◌, ◌+◌, ◌^◌, ◌<◌, ◌≤◌, ◌∷◌, ◌++◌, length, OnOk};
+ghost use Rattle.mip_words.specs.Numbers.{number_bytes};
 ghost use Rattle.mip_words.specs.Steps.{Gives};
 ghost use Rattle.mip_mobhdr.specs.Said.{said};
 ghost use Rattle.mip_mobhdr.specs.Reading.{update_of};
+ghost use Rattle.mip_mobhdr.specs.Spelling.{flag};
 
 use crate::fault::Fault;
 use crate::message::Message;
 use mip_options::read_options;
-use mip_words::u16_at;
+use mip_words::{Bytes, Memory, u16_at, u16_bytes};
 
 /// The fields of a Binding Update.
 #[tactic(auto, unfolding(crate::specs::Reading::update_of))]
@@ -25,4 +27,27 @@ pub fn update(body: &[u8]) -> Result<Message<'_>, Fault>
         lifetime: u16_at(body, 10),
         options,
     })
+}
+
+/// Appends the fields of a Binding Update, from byte 6 on.
+pub fn put_update(out: &mut Bytes, sequence: u16, flags: u8, lifetime: u16) -> Result<(), Memory>
+    ensures ok { OnOk result (out.new ≡ out.old ++ (number_bytes 2 sequence ++ (flags ∷ 0 ∷ number_bytes 2 lifetime))) }
+    ensures fits { (sequence < 2 ^ 16) × (lifetime < 2 ^ 16) }
+{
+    out.extend(&u16_bytes(sequence))?;
+    out.extend(&[flags, 0])?;
+    out.extend(&u16_bytes(lifetime))
+}
+
+/// The flags of a Binding Update in their byte.
+pub fn update_flags(ack: bool, home: bool, local: bool, key: bool) -> u8
+    ensures { result ≡ flag 128 ack + flag 64 home + flag 32 local + flag 16 key }
+{
+    flag(0x80, ack) + flag(0x40, home) + flag(0x20, local) + flag(0x10, key)
+}
+
+fn flag(worth: u8, set: bool) -> u8
+    ensures { result ≡ flag worth set }
+{
+    if set { worth } else { 0 }
 }

@@ -5,7 +5,9 @@
 mod identity;
 mod known;
 mod laws;
+mod seen;
 
 pub use identity::Identity;
 pub use known::Known;
+pub use seen::Seen;
 pub use laws::{last_is_of_the_last_given, stands_for_nothing, stands_for_one_step_more};

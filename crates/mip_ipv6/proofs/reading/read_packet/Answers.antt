@@ -1,4 +1,4 @@
-use Rattle.std.proofs.Common.{◌≡◌, sym, subst}
+use Rattle.std.proofs.Common.{subst}
 use Rattle.std.specs.Prelude.{List, ℕ, Result, Ok, Err, IfOk}
 use Rattle.mip_words.specs.Steps.{Gives}
 use Rattle.mip_ipv6.specs.declared.not_packet.NotPacket.{NotPacket}

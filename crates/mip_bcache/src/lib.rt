@@ -1,0 +1,14 @@
+//! The binding cache of a correspondent (RFC 6275 section 9.1): what the updates that were accepted
+//! leave, in rows in order of home address.
+#![tactic(auto)]
+
+mod accepted;
+mod cache;
+mod fault;
+mod row;
+mod rows;
+
+pub use accepted::Accepted;
+pub use cache::Cache;
+pub use fault::AcceptFault;
+pub use row::Row;

@@ -1,0 +1,6 @@
+//! What a list of accepted updates leaves: definitions, and the laws by which other crates cite them.
+#![tactic(auto)]
+
+mod laws;
+
+pub use laws::{acceptance_stands, homes_counted, kept_was_accepted, others_unchanged};

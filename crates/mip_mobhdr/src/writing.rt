@@ -1,0 +1,171 @@
+//! Writing a message.
+
+ghost use Rattle.std.specs.Prelude.{◌≡◌, ℕ, ◌+◌, ◌-◌, ◌/◌, ◌≤◌, ◌∷◌, ◌++◌, length, drop, Ok, IfOk, OnOk};
+ghost use Rattle.mip_ipv6.specs.Sum.{with_number_at, checksum_of};
+ghost use Rattle.mip_options.specs.Values.{set_values};
+ghost use Rattle.mip_mobhdr.specs.Said.{said_plain};
+ghost use Rattle.mip_mobhdr.specs.Reading.{message_of};
+ghost use Rattle.mip_mobhdr.specs.Spelling.{IsMessage, type_of, options_said, field_bytes, front_bytes, unsummed, message_bytes, HasWidths, WritesOptions};
+
+use crate::acknowledgement::put_acknowledgement;
+use crate::address_test::put_test;
+use crate::binding_error::put_error;
+use crate::plain::Plain;
+use crate::refresh::put_refresh;
+use crate::test_init::put_init;
+use crate::update::{put_update, update_flags};
+use mip_ipv6::checksum;
+use mip_options::{OptionSet, write_options};
+use mip_words::{Address, Bytes, Memory, u16_bytes};
+use std::alloc::Global;
+
+/// The canonical spelling of a message from `source` to `destination`, with its checksum.
+pub fn write_message(
+    alloc: Global,
+    source: Address,
+    destination: Address,
+    message: &Plain,
+) -> Result<Bytes, Memory>
+    ensures ok { IfOk result (λ b. b ≡ message_bytes source destination (said_plain message.now)) }
+    ensures spelled { IfOk result (IsMessage source destination (said_plain message.now)) }
+    ensures read_back { IfOk result (λ b. message_of source destination b ≡ Ok (said_plain message.now)) }
+{
+    let draft = draft_of(alloc, message)?;
+    summed(alloc, source, destination, draft.as_slice())
+}
+
+/// The message with zero for its checksum.
+fn draft_of(alloc: Global, message: &Plain) -> Result<Bytes, Memory>
+    ensures draft { IfOk result (λ b. b ≡ unsummed (said_plain message.now)) }
+    ensures long { IfOk result (λ b. 8 ≤ length b) }
+    ensures short { IfOk result (λ b. length b ≤ 96) }
+    ensures fits { OnOk result (HasWidths (said_plain message.now)) }
+    ensures options { OnOk result (WritesOptions (said_plain message.now)) }
+{
+    let mut out = front_of(alloc, message)?;
+    write_options(&mut out, options_of(message))?;
+    sized(alloc, out.as_slice())
+}
+
+/// What stands before the options, with zero for Header Len and checksum.
+#[tactic(auto, using(crate::proofs::Canonical::field_short))]
+fn front_of(alloc: Global, message: &Plain) -> Result<Bytes, Memory>
+    ensures front { IfOk result (λ b. b ≡ front_bytes (said_plain message.now)) }
+    ensures short { IfOk result (λ b. length b ≤ 24) }
+    ensures fits { OnOk result (HasWidths (said_plain message.now)) }
+{
+    let mut out = Bytes::new(alloc);
+    out.extend(&[59, 0, kind_of(message), 0, 0, 0])?;
+    put_fields(&mut out, message)?;
+    Ok(out)
+}
+
+/// Appends the fields of the message, from byte 6 on.
+fn put_fields(out: &mut Bytes, message: &Plain) -> Result<(), Memory>
+    ensures ok { OnOk result (out.new ≡ out.old ++ field_bytes (said_plain message.now)) }
+    ensures fits { HasWidths (said_plain message.now) }
+{
+    match message {
+        Plain::Refresh { .. } => put_refresh(out),
+        Plain::HomeInit { cookie, .. } | Plain::CareofInit { cookie, .. } => put_init(out, *cookie),
+        Plain::HomeTest {
+            index,
+            cookie,
+            token,
+            ..
+        }
+        | Plain::CareofTest {
+            index,
+            cookie,
+            token,
+            ..
+        } => put_test(out, *index, *cookie, *token),
+        Plain::Update {
+            sequence,
+            ack,
+            home,
+            local,
+            key,
+            lifetime,
+            ..
+        } => put_update(
+            out,
+            *sequence,
+            update_flags(*ack, *home, *local, *key),
+            *lifetime,
+        ),
+        Plain::Acknowledgement {
+            status,
+            key,
+            sequence,
+            lifetime,
+            ..
+        } => put_acknowledgement(out, *status, *key, *sequence, *lifetime),
+        Plain::Error { status, home, .. } => put_error(out, *status, *home),
+    }
+}
+
+/// The MH Type.
+fn kind_of(message: &Plain) -> u8
+    ensures { result ≡ type_of (said_plain message.now) }
+{
+    match message {
+        Plain::Refresh { .. } => 0,
+        Plain::HomeInit { .. } => 1,
+        Plain::CareofInit { .. } => 2,
+        Plain::HomeTest { .. } => 3,
+        Plain::CareofTest { .. } => 4,
+        Plain::Update { .. } => 5,
+        Plain::Acknowledgement { .. } => 6,
+        Plain::Error { .. } => 7,
+    }
+}
+
+fn options_of(message: &Plain) -> &OptionSet
+    ensures { set_values result.now ≡ options_said (said_plain message.now) }
+{
+    match message {
+        Plain::Refresh { options } => options,
+        Plain::HomeInit { options, .. } => options,
+        Plain::CareofInit { options, .. } => options,
+        Plain::HomeTest { options, .. } => options,
+        Plain::CareofTest { options, .. } => options,
+        Plain::Update { options, .. } => options,
+        Plain::Acknowledgement { options, .. } => options,
+        Plain::Error { options, .. } => options,
+    }
+}
+
+/// The message with its Header Len in place.
+fn sized(alloc: Global, message: &[u8]) -> Result<Bytes, Memory>
+    requires long { 8 ≤ length message.now }
+    requires short { length message.now ≤ 96 }
+    ensures { IfOk result (λ b. b ≡ 59 ∷ (length message.now / 8 - 1) ∷ drop 2 message.now) }
+{
+    let (_, behind) = message.split_at(2);
+    let mut out = Bytes::new(alloc);
+    out.extend(&[59, (message.len() / 8 - 1) as u8])?;
+    out.extend(behind)?;
+    Ok(out)
+}
+
+/// The message with its checksum in place.
+fn summed(
+    alloc: Global,
+    source: Address,
+    destination: Address,
+    message: &[u8],
+) -> Result<Bytes, Memory>
+    requires long { 8 ≤ length message.now }
+    requires short { length message.now ≤ 96 }
+    ensures { IfOk result (λ b. b ≡ with_number_at 4 (checksum_of source destination 135 message.now 4) message.now) }
+{
+    let sum = checksum(source, destination, 135, message, 4);
+    let (front, field) = message.split_at(4);
+    let (_, behind) = field.split_at(2);
+    let mut out = Bytes::new(alloc);
+    out.extend(front)?;
+    out.extend(&u16_bytes(sum))?;
+    out.extend(behind)?;
+    Ok(out)
+}

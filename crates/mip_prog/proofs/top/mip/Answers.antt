@@ -1,0 +1,9 @@
+use Rattle.std.proofs.Common.{arith, ◌≡◌, [], None, map, string_bytes, sym, ◌∙◌, refl}
+use Rattle.mip_outside.proofs.Known.{prepend_none}
+use Rattle.mip_prog.specs.Commands.{command_of}
+use Rattle.mip_prog.proofs.top.mip.Goals as goal
+
+pub returns-in-None-clause-told_of_some : goal.returns-in-None-clause-told_of_some
+returns-in-None-clause-told_of_some g c =
+    let none : command_of (map string_bytes c.args.words.now) ≡ None = sym c.parse.ensures ∙ c.in-None.is in
+    ([], omega arith, prepend_none _ _ refl, rw none c.tell.ensures.told)

@@ -1,0 +1,10 @@
+-- The forms of words that the program knows.
+use Rattle.std.specs.Prelude.{List, [], ◌∷◌, ℕ, None, Some, codes, if◌then◌else◌}
+use Rattle.std.specs.Str.{bytes_eq}
+use Rattle.std.specs.declared.option.Option.{Option}
+use Rattle.mip_prog.specs.declared.command.Command.{Command}
+use Rattle.mip_prog.specs.declared.command.Command.TheVariants.{Replay}
+
+abbrev pub command_of : List (List ℕ) → Option Command
+command_of (word ∷ []) = if bytes_eq word (codes "replay") then Some Replay else None
+command_of words = None

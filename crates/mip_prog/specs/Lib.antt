@@ -1,0 +1,4 @@
+pub mod Commands
+pub mod Replayed
+pub mod Answers
+pub mod Told

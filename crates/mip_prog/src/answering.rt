@@ -1,0 +1,40 @@
+//! What a command answers to its input.
+
+ghost use Rattle.std.specs.Prelude.{◌≡◌, IfOk};
+ghost use Rattle.mip_prog.specs.Answers.{command_answer, trace_answer};
+ghost use Rattle.mip_prog.specs.Replayed.{trace_of};
+ghost use Rattle.mip_prog.specs.Told.{IsSettled};
+
+use crate::command::Command;
+use crate::reading::LIMIT;
+use crate::replayed::replayed;
+use crate::reply::Reply;
+use crate::status::Status;
+use mip_words::Memory;
+use std::alloc::Global;
+
+/// The answer of a command to its input.
+pub fn answer(alloc: Global, command: Command, input: &[u8]) -> Result<Reply, Memory>
+    ensures answers { IfOk result (λ reply. reply ≡ command_answer command input.now) }
+    ensures settled { IfOk result (λ reply. IsSettled reply.status) }
+{
+    if input.len() > LIMIT {
+        return Reply::copy(alloc, Status::TOO_LONG, b"long\n");
+    }
+    match command {
+        Command::Replay => replay(alloc, input),
+    }
+}
+
+fn replay(alloc: Global, input: &[u8]) -> Result<Reply, Memory>
+    ensures answers { IfOk result (λ reply. reply ≡ trace_answer (trace_of input.now)) }
+    ensures settled { IfOk result (λ reply. IsSettled reply.status) }
+{
+    match replayed(alloc, input)? {
+        Some(text) => Ok(Reply {
+            status: Status::OK,
+            text,
+        }),
+        None => Reply::copy(alloc, Status::BAD, b"bad 1 form\n"),
+    }
+}

@@ -1,0 +1,82 @@
+//! The program, over any source, sink, clock and link.
+
+ghost use Rattle.std.specs.Prelude.{◌≡◌, ◌≢◌, ℕ, ◌≤◌, ◌⊎◌, List, length, map, string_bytes, None, Some, IfSome};
+ghost use Rattle.std.specs.Io.KnownBytes.{prepend_known, IsAtEnd};
+ghost use Rattle.mip_outside.specs.Cause.{Rose};
+ghost use Rattle.mip_prog.specs.Commands.{command_of};
+ghost use Rattle.mip_prog.specs.Answers.{answer_of, command_answer};
+ghost use Rattle.mip_prog.specs.Told.{IsAnswered, Told};
+
+use crate::answering::answer;
+use crate::command::{Command, parse};
+use crate::reading::{ReadFault, read_input};
+use crate::status::Status;
+use crate::writing::tell;
+use mip_outside::{Clock, Link, Sink, Source};
+use mip_words::Memory;
+use std::alloc::Global;
+
+/// Does what the words ask for, and says how it ended.
+pub fn mip<S: Source, K: Sink, C: Clock, L: Link>(
+    alloc: Global,
+    words: &[String],
+    source: &mut S,
+    sink: &mut K,
+    clock: &mut C,
+    link: &mut L,
+) -> Status
+    ensures told { IfSome (S.left source.old) (λ bytes.
+        Told (answer_of (map string_bytes words.now) bytes) result.0 (K.held sink.old) (K.held sink.new)) }
+    // A source that does not tell its bytes gave some, and they were answered.
+    ensures told_of_some { (bytes : List ℕ) × (length bytes ≤ 16_777_217)
+        × (S.left source.old ≡ prepend_known bytes (S.left source.new))
+        × Told (answer_of (map string_bytes words.now) bytes) result.0 (K.held sink.old) (K.held sink.new) }
+
+    ensures statuses { result.0 ≤ 6 }
+    ensures usage { result.0 ≡ 1 → command_of (map string_bytes words.now) ≡ None }
+    ensures no_command { command_of (map string_bytes words.now) ≡ None → (result.0 ≡ 1) ⊎ ((result.0 ≡ 4) ⊎ (result.0 ≡ 5)) }
+    ensures untouched { command_of (map string_bytes words.now) ≡ None → source.new ≡ source.old }
+    ensures at_end { result.0 ≡ 0 → IsAtEnd (S.left source.new) }
+
+    ensures read_fault { result.0 ≡ 3 → Rose (S.faults source.old) (S.faults source.new) }
+    ensures read_fault_text { result.0 ≡ 3 → K.held sink.new ≡ K.held sink.old }
+    ensures write_fault { result.0 ≡ 4 → Rose (K.faults sink.old) (K.faults sink.new) }
+    ensures source_faults { S.faults source.old ≤ S.faults source.new }
+    ensures sink_faults { K.faults sink.old ≤ K.faults sink.new }
+    ensures clock { clock.new ≡ clock.old }
+    ensures link { link.new ≡ link.old }
+{
+    let _ = clock;
+    let _ = link;
+    match parse(words) {
+        None => tell(sink, b"usage: mip COMMAND\n", Status::USAGE),
+        Some(command) => answer_input(alloc, command, source, sink),
+    }
+}
+
+/// Reads the input and writes a command's answer to it.
+fn answer_input<S: Source, K: Sink>(
+    alloc: Global,
+    command: Command,
+    source: &mut S,
+    sink: &mut K,
+) -> Status
+    ensures answered { (bytes : List ℕ) × IsAnswered (command_answer command) bytes result.0
+        (S.left source.old) (S.left source.new) (K.held sink.old) (K.held sink.new) }
+    ensures statuses { (result.0 ≤ 6) × (result.0 ≢ 1) }
+    ensures read_fault { result.0 ≡ 3 → Rose (S.faults source.old) (S.faults source.new) }
+    ensures read_fault_text { result.0 ≡ 3 → K.held sink.new ≡ K.held sink.old }
+    ensures write_fault { result.0 ≡ 4 → Rose (K.faults sink.old) (K.faults sink.new) }
+    ensures source_faults { S.faults source.old ≤ S.faults source.new }
+    ensures sink_faults { K.faults sink.old ≤ K.faults sink.new }
+{
+    let bytes = match read_input(alloc, source) {
+        Ok(bytes) => bytes,
+        Err(ReadFault::Failed) => return Status::READ_FAULT,
+        Err(ReadFault::Memory) => return Status::MEMORY,
+    };
+    match answer(alloc, command, bytes.as_slice()) {
+        Ok(reply) => tell(sink, reply.text.as_slice(), reply.status),
+        Err(Memory) => Status::MEMORY,
+    }
+}

@@ -1,0 +1,13 @@
+use mip_ipv6::NotPacket;
+use mip_words::Address;
+
+/// Why a packet did not leave a tunnel.
+#[derive(Clone, Copy, Debug, PartialEq, Eq)]
+pub enum ExitFault {
+    /// It holds no packet.
+    NotTunnel,
+    /// It comes from somebody else than the tunnel's entry.
+    WrongEntry { seen: Address },
+    /// What it holds is no packet.
+    Inner(NotPacket),
+}
