@@ -11,6 +11,8 @@ mod plain;
 mod reading;
 mod refresh;
 mod test_init;
+#[cfg(test)]
+mod tests;
 mod update;
 mod writing;
 
