@@ -13,3 +13,6 @@ mod words;
 pub use fault::ExplainFault;
 pub use listing::explain;
 pub use words::{fault_word, refusal_word};
+
+#[cfg(test)]
+mod tests;
