@@ -1,7 +1,7 @@
 -- What is known of a packet that was read, and of one that was refused.
-use Rattle.std.proofs.Common.{◌≡◌, ℕ, ◌+◌, ◌-◌, ◌<◌, ◌≤◌, ◌^◌, List, ◌++◌, length, drop, Result, Ok, Err, ap, arith, length-append, length-drop}
+use Rattle.std.proofs.Common.{◌≡◌, ℕ, ◌≤◌, List, ◌++◌, length, Result, Ok, Err, ap, arith, length-append, length-drop}
 use Rattle.std.specs.Prelude.{IfOk, ◌↔◌}
-use Rattle.mip_words.specs.Numbers.{IsBytes, number_at}
+use Rattle.mip_words.specs.Numbers.{IsBytes}
 use Rattle.mip_words.specs.Steps.{◌>>=◌}
 use Rattle.mip_words.proofs.Fields.{number_at-lt}
 use Rattle.mip_ipv6.specs.declared.not_packet.NotPacket.{NotPacket}

@@ -1,5 +1,5 @@
 -- The listing of a packet: its headers line by line, then what its body says.
-use Rattle.std.specs.Prelude.{◌≡◌, ℕ, List, ◌++◌, ◌==◌, true, false, if◌then◌else◌, codes, unwrap_or, Result, Ok, Err, IsOk}
+use Rattle.std.specs.Prelude.{◌≡◌, ℕ, List, ◌++◌, ◌==◌, false, if◌then◌else◌, codes, unwrap_or, Result, Ok, Err, IsOk}
 use Rattle.mip_words.specs.Steps.{◌>>=◌}
 use Rattle.mip_words.specs.declared.address.Address.{Address}
 use Rattle.mip_ipv6.specs.declared.head.Head.{Head}
