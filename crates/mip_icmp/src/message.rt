@@ -1,3 +1,7 @@
+ghost use Rattle.std.specs.Prelude.{◌≡◌};
+ghost use Rattle.mip_icmp.specs.Said.{said};
+ghost use Rattle.mip_icmp.specs.Spelling.{type_of};
+
 use crate::options::IcmpOptions;
 
 /// A message of ICMPv6 as it is read.
@@ -38,4 +42,20 @@ pub enum Icmp<'a> {
         identifier: u16,
         options: IcmpOptions<'a>,
     },
+}
+
+impl Icmp<'_> {
+    /// The type of the message.
+    pub fn kind(&self) -> u8
+        ensures { result ≡ type_of (said self.now) }
+    {
+        match self {
+            Icmp::Parameter { .. } => 4,
+            Icmp::Advertisement { .. } => 134,
+            Icmp::DiscoverAsk { .. } => 144,
+            Icmp::DiscoverReply { .. } => 145,
+            Icmp::PrefixAsk { .. } => 146,
+            Icmp::PrefixReply { .. } => 147,
+        }
+    }
 }
