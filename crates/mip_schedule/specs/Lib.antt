@@ -1,4 +1,0 @@
-pub mod Names
-pub mod Places
-pub mod Kinds
-pub mod Faults
