@@ -4,7 +4,6 @@ use Rattle.std.specs.List.{AllByRecursion, insert}
 use Rattle.mip_binding.specs.Acceptance.{Acceptance}
 use Rattle.mip_binding.specs.Rows.{BindingRow, RisesBy, find_by, put_by, kept_by, kept_rows, table}
 use Rattle.mip_words.specs.declared.address.Address.{Address}
-use Rattle.mip_words.specs.declared.moment.Moment.{Moment}
 use Rattle.mip_bcache.specs.declared.row.Row.{Row}
 use Rattle.mip_bcache.specs.declared.accepted.Accepted.{Accepted}
 
@@ -23,13 +22,13 @@ until_of r = r.kept_until.0
 -- a row as the definitions have it: its nonces are no part of them
 abbrev pub seen_row : Row → BindingRow
 seen_row r = record {
-    home = r.home.0;
-    number = r.number;
-    careof = r.careof.0;
-    sequence = r.sequence;
-    end = r.end.0;
-    kept_until = r.kept_until.0;
-  }
+  home = r.home.0;
+  number = r.number;
+  careof = r.careof.0;
+  sequence = r.sequence;
+  end = r.end.0;
+  kept_until = r.kept_until.0;
+}
 
 -- rows in order of home, no more than there is room for, no binding longer than its sequence is kept
 pub record IsSound (limit : ℕ) (rows : List Row) : Type 0 where
@@ -54,32 +53,35 @@ abbrev pub if_standing : ℕ → ℕ → Option Row → Option Row
 if_standing home now None = None
 if_standing home now (Some r) = if not (r.careof.0 == home) && nat_lt now r.end.0 then Some r else None
 
--- as many rows are kept as there is room for, and none of this home
+-- there are as many rows as there is room for, and none of this home
+abbrev pub no_room : ℕ → ℕ → List Row → Bool
+no_room limit home rows = not (is_some (find_by home_of home rows)) && (length rows == limit)
+
 abbrev pub has_no_room : CacheSeen → ℕ → ℕ → Bool
-has_no_room cache home now = not (is_some (row_at cache home now)) && (length (kept_at cache now) == cache.limit)
+has_no_room cache home now = no_room cache.limit home (kept_at cache now)
 
 -- an accepted update as the definitions have it, and its row
 abbrev pub acceptance : ℕ → Address → ℕ → Accepted → Acceptance
 acceptance now home number a = record {
-    at = now;
-    home = home.0;
-    number = number;
-    careof = a.careof.0;
-    sequence = a.sequence;
-    end = a.end.0;
-  }
+  at = now;
+  home = home.0;
+  number = number;
+  careof = a.careof.0;
+  sequence = a.sequence;
+  end = a.end.0;
+}
 
 abbrev pub row_for : ℕ → Address → ℕ → Accepted → Row
 row_for now home number a = record {
-    home = home;
-    number = number;
-    careof = a.careof;
-    sequence = a.sequence;
-    end = a.end;
-    kept_until = record { 0 = max a.end.0 (now + 240000) };
-    home_nonce = a.home_nonce;
-    careof_nonce = a.careof_nonce;
-  }
+  home = home;
+  number = number;
+  careof = a.careof;
+  sequence = a.sequence;
+  end = a.end;
+  kept_until = record { 0 = max a.end.0 (now + 240000) };
+  home_nonce = a.home_nonce;
+  careof_nonce = a.careof_nonce;
+}
 
 -- rows past their time are given up
 abbrev pub expired : ℕ → CacheSeen → CacheSeen

@@ -53,8 +53,7 @@ impl Cache {
         ensures found { option_copied result ≡ if_standing home.0 now.0 (row_at self.now home.0 now.0) }
         ensures answers { (past : List Acceptance) → StandsFor self.now past → option_map (λ r. r.careof.0) (option_copied result) ≡ held past home.0 now.0 }
     {
-        let row = rows::kept_row(&self.rows, now, home)?;
-        if row.careof.0 != home.0 && now.0 < row.end.0 { Some(row) } else { None }
+        rows::standing_row(&self.rows, now, home)
     }
 
     /// The sequence that an update for a home must come after, if one is kept.
@@ -63,8 +62,7 @@ impl Cache {
         ensures found { result ≡ option_map (λ r. r.sequence) (row_at self.now home.0 now.0) }
         ensures answers { (past : List Acceptance) → StandsFor self.now past → result ≡ floor past home.0 now.0 }
     {
-        let row = rows::kept_row(&self.rows, now, home)?;
-        Some(row.sequence)
+        rows::kept_sequence(&self.rows, now, home)
     }
 
     /// Whether `accept` takes an acceptance for this home.
@@ -73,12 +71,18 @@ impl Cache {
         ensures found { result ≡ not (has_no_room self.now home.0 now.0) }
         ensures answers { (past : List Acceptance) → StandsFor self.now past → result ≡ not (is_full self.now.limit past home.0 now.0) }
     {
-        rows::kept_row(&self.rows, now, home).is_some() || rows::kept_count(&self.rows, now) != self.limit as usize
+        !rows::are_full(&self.rows, self.limit, now, home)
     }
 
     /// Takes an acceptance: its row takes the place of the one of its home. The binding stands to its end,
     /// and its sequence is kept to that end and for 240 s at least.
-    pub fn accept(&mut self, now: Moment, home: Address, number: u8, accepted: Accepted) -> Result<(), AcceptFault>
+    pub fn accept(
+        &mut self,
+        now: Moment,
+        home: Address,
+        number: u8,
+        accepted: Accepted,
+    ) -> Result<(), AcceptFault>
         requires later { self.old.last ≤ now.0 }
         requires early { now.0 < 2 ^ 62 }
         ensures ok { OnOk result (self.new ≡ with_row now.0 (row_for now.0 home number accepted) self.old) }
@@ -91,9 +95,7 @@ impl Cache {
             return Err(AcceptFault::Full);
         }
         let row = row_of(now, home, number, accepted);
-        if rows::put(&mut self.rows, row).is_err() {
-            return Err(AcceptFault::Memory);
-        }
+        rows::put(&mut self.rows, row)?;
         rows::keep(&mut self.rows, now);
         self.last = now;
         Ok(())
@@ -106,10 +108,9 @@ impl Cache {
         ensures count { result + length self.new.rows ≡ length self.old.rows }
         ensures stands { (past : List Acceptance) → StandsFor self.old past → StandsFor self.new past }
     {
-        let before = self.rows.len();
-        rows::keep(&mut self.rows, now);
+        let given_up = rows::keep(&mut self.rows, now);
         self.last = now;
-        (before - self.rows.len()) as u32
+        given_up as u32
     }
 
     /// The row at a place among those that are kept, in order of home address.

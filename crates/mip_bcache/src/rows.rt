@@ -1,23 +1,57 @@
 //! Rows in order of home.
 
-ghost use Rattle.std.specs.Prelude.{◌≡◌, ◌≤◌, ◌++◌, length, option_copied, IfOk, IfErr, IfSome, OnOk, OnErr, slice_get};
+ghost use Rattle.std.specs.Prelude.{◌≡◌, ◌+◌, ◌≤◌, ◌++◌, length, option_copied, option_map, IfOk, IfErr, IfSome, OnOk, OnErr, slice_get};
 ghost use Rattle.mip_binding.specs.Rows.{RisesBy, find_by, put_by, kept_by};
-ghost use Rattle.mip_bcache.specs.Seen.{home_of, until_of, IsPlace, IsGap};
+ghost use Rattle.mip_bcache.specs.Seen.{home_of, until_of, if_standing, no_room, IsPlace, IsGap};
 
 use crate::row::Row;
 use mip_words::{Address, Memory, Moment};
 
 /// The row of a home, where its sequence is still kept.
-pub fn kept_row(rows: &[Row], now: Moment, home: Address) -> Option<&Row>
+fn kept_row(rows: &[Row], now: Moment, home: Address) -> Option<&Row>
     requires { RisesBy home_of rows.now }
     ensures { option_copied result ≡ find_by home_of home.0 (kept_by until_of now.0 rows.now) }
 {
     let row = find(rows, home)?;
-    if now.0 < row.kept_until.0 { Some(row) } else { None }
+    if now.0 < row.kept_until.0 {
+        Some(row)
+    } else {
+        None
+    }
+}
+
+/// The sequence of a home, where it is still kept.
+pub fn kept_sequence(rows: &[Row], now: Moment, home: Address) -> Option<u16>
+    requires { RisesBy home_of rows.now }
+    ensures { result ≡ option_map (λ r. r.sequence) (find_by home_of home.0 (kept_by until_of now.0 rows.now)) }
+{
+    let row = kept_row(rows, now, home)?;
+    Some(row.sequence)
+}
+
+/// The row of a home whose binding stands.
+pub fn standing_row(rows: &[Row], now: Moment, home: Address) -> Option<&Row>
+    requires { RisesBy home_of rows.now }
+    ensures { option_copied result ≡ if_standing home.0 now.0 (find_by home_of home.0 (kept_by until_of now.0 rows.now)) }
+{
+    let row = kept_row(rows, now, home)?;
+    if row.careof.0 != home.0 && now.0 < row.end.0 {
+        Some(row)
+    } else {
+        None
+    }
+}
+
+/// Whether so many homes have a kept row, and this one has none.
+pub fn are_full(rows: &[Row], limit: u32, now: Moment, home: Address) -> bool
+    requires { RisesBy home_of rows.now }
+    ensures { result ≡ no_room limit home.0 (kept_by until_of now.0 rows.now) }
+{
+    kept_row(rows, now, home).is_none() && kept_count(rows, now) == limit as usize
 }
 
 /// How many rows are kept.
-pub fn kept_count(rows: &[Row], now: Moment) -> usize
+fn kept_count(rows: &[Row], now: Moment) -> usize
     ensures { result ≡ length (kept_by until_of now.0 rows.now) }
 {
     rows.iter().filter(|row| now.0 < row.kept_until.0).count()
@@ -39,18 +73,21 @@ pub fn kept_at(rows: &[Row], now: Moment, place: u32) -> Option<&Row>
     None
 }
 
-/// Gives up the rows that are not kept.
-pub fn keep(rows: &mut Vec<Row>, now: Moment)
-    ensures { rows.new.items ≡ kept_by until_of now.0 rows.old.items }
+/// Gives up the rows that are not kept, and says how many they were.
+pub fn keep(rows: &mut Vec<Row>, now: Moment) -> usize
+    ensures rows { rows.new.items ≡ kept_by until_of now.0 rows.old.items }
+    ensures count { result + length rows.new.items ≡ length rows.old.items }
 {
+    let before = rows.len();
     rows.retain(|row| now.0 < row.kept_until.0);
+    before - rows.len()
 }
 
 /// Puts a row in the place of the one of its home, if there is one.
 pub fn put(rows: &mut Vec<Row>, row: Row) -> Result<(), Memory>
     requires { RisesBy home_of rows.old.items }
     ensures ok { OnOk result (rows.new.items ≡ put_by home_of row rows.old.items) }
-    ensures err { OnErr result (rows.new ≡ rows.old) }
+    ensures err { OnErr result (rows.new.items ≡ rows.old.items) }
 {
     match place(rows, row.home) {
         Ok(at) => rows[at] = row,

@@ -32,7 +32,12 @@ impl Model for Correspondent {
 
 impl Correspondent {
     /// A correspondent with this address, the secrets of its present life, and room for so many homes.
-    pub fn new(alloc: Global, own: Address, secrets: Secrets, room: u32) -> Result<Correspondent, Memory>
+    pub fn new(
+        alloc: Global,
+        own: Address,
+        secrets: Secrets,
+        room: u32,
+    ) -> Result<Correspondent, Memory>
         ensures { IfOk result (λ c. c ≡ record { identity = record { own = own; secrets = secrets; room = room }; known = fresh }) }
     {
         let _ = alloc;
@@ -43,7 +48,14 @@ impl Correspondent {
 
     /// Takes a packet that was handed to the node, by its number and shield, and gives what the node
     /// does about it, in order. After want of memory the node is as it was.
-    pub fn take(&mut self, alloc: Global, now: Moment, number: u64, shield: Option<Shield>, packet: &[u8]) -> Result<Answers, Memory>
+    pub fn take(
+        &mut self,
+        alloc: Global,
+        now: Moment,
+        number: u64,
+        shield: Option<Shield>,
+        packet: &[u8],
+    ) -> Result<Answers, Memory>
         requires later { self.old.known.last.0 ≤ now.0 }
         requires early { now.0 < 2 ^ 62 }
         ensures answers { IfOk result (λ a. a ≡ answers_of (taken self.old.identity self.old.known now.0 number shield packet.now).steps) }
@@ -66,7 +78,10 @@ fn reply(alloc: Global, me: &Identity, now: Moment, packet: &[u8]) -> Result<Ans
     match seen(me.own, packet) {
         Seen::HomeInitSeen { source, cookie } => {
             let packet = home_test(alloc, me, now, source, cookie)?;
-            answers.push(Answer::Send { shield: None, packet })?;
+            answers.push(Answer::Send {
+                shield: None,
+                packet,
+            })?;
             Ok(answers)
         }
         Seen::Unbuilt => Ok(answers),

@@ -1,6 +1,7 @@
 //! The packets that a node makes.
 
 ghost use Rattle.std.specs.Prelude.{◌≡◌, ℕ, ◌<◌, ◌≤◌, IfOk, length, slice_index};
+ghost use Rattle.mip_words.specs.Numbers.{number_at};
 ghost use Rattle.mip_mobhdr.specs.Said.{said_plain};
 ghost use Rattle.mip_mobhdr.specs.Spelling.{message_bytes};
 ghost use Rattle.mip_ipv6.specs.Spelling.{packet_bytes};
@@ -43,7 +44,12 @@ fn node_head(source: Address, destination: Address, proto: u8) -> Head
 }
 
 /// The bytes of a mobility message, which are few.
-fn message(alloc: Global, source: Address, destination: Address, plain: &Plain) -> Result<Bytes, Memory>
+fn message(
+    alloc: Global,
+    source: Address,
+    destination: Address,
+    plain: &Plain,
+) -> Result<Bytes, Memory>
     ensures bytes { IfOk result (λ b. b ≡ message_bytes source destination (said_plain plain.now)) }
     ensures few { IfOk result (λ b. length b ≤ 2048) }
 {
@@ -63,8 +69,14 @@ fn units(body: &[u8]) -> u8
 /// A packet with a mobility message, from and to these addresses: hop limit 64, traffic class 0, flow
 /// label 0.
 #[tactic(auto, unfolding(mip_rules_correspondent::specs::Packets::signal))]
-pub fn write_signal(alloc: Global, source: Address, destination: Address, plain: &Plain) -> Result<Bytes, Memory>
-    ensures { IfOk result (λ b. b ≡ signal source destination (said_plain plain.now)) }
+pub fn write_signal(
+    alloc: Global,
+    source: Address,
+    destination: Address,
+    plain: &Plain,
+) -> Result<Bytes, Memory>
+    ensures bytes { IfOk result (λ b. b ≡ signal source destination (said_plain plain.now)) }
+    ensures destination { IfOk result (λ b. number_at 16 24 b ≡ destination.0) }
 {
     let body = message(alloc, source, destination, plain)?;
     let head = node_head(source, destination, 135);
@@ -76,7 +88,13 @@ pub fn write_signal(alloc: Global, source: Address, destination: Address, plain:
 }
 
 /// The Home Test that answers a Home Test Init (RFC 6275 sections 5.2.5 and 6.1.5).
-pub fn home_test(alloc: Global, me: &Identity, now: Moment, source: Address, cookie: Cookie) -> Result<Bytes, Memory>
+pub fn home_test(
+    alloc: Global,
+    me: &Identity,
+    now: Moment,
+    source: Address,
+    cookie: Cookie,
+) -> Result<Bytes, Memory>
     ensures { IfOk result (λ b. b ≡ signal me.now.own source (home_test me.now now.0 source cookie.0)) }
 {
     let number = current(now);

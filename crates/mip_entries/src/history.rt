@@ -39,6 +39,13 @@ impl History {
         Ok(())
     }
 
+    /// The entries, oldest first.
+    pub fn as_slice(&self) -> &[Entry]
+        ensures { result.now ≡ self.now }
+    {
+        self.list.as_slice()
+    }
+
     pub fn len(&self) -> usize
         ensures { result ≡ length self.now }
     {

@@ -2,3 +2,9 @@ pub mod Commands
 pub mod Replayed
 pub mod Answers
 pub mod Told
+pub mod Form
+pub mod FormReading
+pub mod FormParts
+pub mod Schedule
+pub mod TraceText
+pub mod Opening

@@ -1,6 +1,9 @@
 ghost use Rattle.std.specs.Prelude.{◌≡◌, IfOk};
 ghost use Rattle.mip_prog.specs.Replayed.{trace_of};
 
+use crate::engine::replay;
+use crate::form_reading::read_form;
+use crate::trace_text::write_trace;
 use mip_words::{Bytes, Memory};
 use std::alloc::Global;
 
@@ -9,7 +12,12 @@ use std::alloc::Global;
 pub fn replayed(alloc: Global, bytes: &[u8]) -> Result<Option<Bytes>, Memory>
     ensures { IfOk result (λ trace. trace ≡ trace_of bytes.now) }
 {
-    let _ = alloc;
-    let _ = bytes;
-    Ok(None)
+    match read_form(bytes) {
+        Ok(form) => {
+            let history = replay(alloc, &form)?;
+            let text = write_trace(alloc, &form, &history)?;
+            Ok(Some(text))
+        }
+        Err(_) => Ok(None),
+    }
 }

@@ -9,5 +9,5 @@ mod seen;
 
 pub use identity::Identity;
 pub use known::Known;
-pub use seen::Seen;
 pub use laws::{last_is_of_the_last_given, stands_for_nothing, stands_for_one_step_more};
+pub use seen::Seen;

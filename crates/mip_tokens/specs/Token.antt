@@ -1,6 +1,7 @@
 -- Keygen tokens, the binding management key and the authenticator of an update.
 -- RFC 6275 sections 5.2.5, 5.2.6 and 6.2.7
-use Rattle.std.specs.Prelude.{◌≡◌, ℕ, ◌-◌, List, [], ◌∷◌, ◌++◌, length, take, drop, slice_range}
+use Rattle.std.specs.Prelude.{◌≡◌, ℕ, ◌-◌, Bool, List, [], ◌∷◌, ◌++◌, length, take, drop, slice_range}
+use Rattle.std.specs.Str.{bytes_eq}
 use Rattle.mip_words.specs.Addresses.{address_bytes}
 use Rattle.mip_words.specs.declared.address.Address.{Address}
 use Rattle.mip_hmac.specs.Hmac.{hmac_sha1}
@@ -34,6 +35,10 @@ unfoldable pub authenticator_of : List ℕ → Address → Address → List ℕ 
 authenticator_of kbm careof peer message =
     take 12 (hmac_sha1 kbm (address_bytes careof ++ (address_bytes peer ++ authenticated message)))
 
--- the message ends with its authenticator
+-- the message ends with its authenticator: as a test, and as a fact
+abbrev pub is_authentic : List ℕ → Address → Address → List ℕ → Bool
+is_authentic kbm careof peer message =
+    bytes_eq (drop (length message - 12) message) (authenticator_of kbm careof peer message)
+
 abbrev pub IsAuthentic : List ℕ → Address → Address → List ℕ → Type 0
 IsAuthentic kbm careof peer message = drop (length message - 12) message ≡ authenticator_of kbm careof peer message

@@ -1,5 +1,5 @@
 ghost use Rattle.std.specs.Prelude.{◌≡◌, ◌≤◌, length, IsTrue, ◌↔◌};
-ghost use Rattle.mip_tokens.specs.Token.{authenticator_of, IsAuthentic};
+ghost use Rattle.mip_tokens.specs.Token.{authenticator_of, is_authentic, IsAuthentic};
 
 use crate::kbm::Kbm;
 use mip_hmac::hmac_of_parts;
@@ -34,7 +34,8 @@ pub fn authenticator(kbm: &Kbm, careof: Address, peer: Address, message: &[u8]) 
 /// Whether a message ends with its authenticator.
 pub fn authentic(kbm: &Kbm, careof: Address, peer: Address, message: &[u8]) -> bool
     requires { 18 ≤ length message.now }
-    ensures { IsTrue result ↔ IsAuthentic kbm.now.0 careof peer message.now }
+    ensures answers { result ≡ is_authentic kbm.now.0 careof peer message.now }
+    ensures exact { IsTrue result ↔ IsAuthentic kbm.now.0 careof peer message.now }
 {
     message[message.len() - AUTHENTICATOR..] == authenticator(kbm, careof, peer, message)[..]
 }

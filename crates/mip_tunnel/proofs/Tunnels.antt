@@ -1,22 +1,22 @@
 -- What is known of lowering a hop limit, and of tunnel packets.
-use Rattle.std.proofs.Common.{◌≡◌, ℕ, zero, suc, ◌+◌, ◌-◌, ◌*◌, ◌/◌, ◌%◌, ◌^◌, ◌<◌, ◌≤◌, List, [], ◌∷◌, ◌++◌, length, take, drop, set, get_or, refl, sym, ap, ◌∙◌, subst, inl, inr, arith, length-append, length-drop, length-set}
-use Rattle.std.specs.Prelude.{Bool, true, false, not, ◌==◌, nat_lt, slice_index, slice_set, Option, Some, None, Result, Ok, Err, cond, IsOk}
+use Rattle.std.proofs.Common.{◌≡◌, ℕ, ◌+◌, ◌-◌, ◌/◌, ◌%◌, ◌^◌, ◌<◌, ◌≤◌, List, [], ◌∷◌, ◌++◌, length, take, drop, set, get_or, refl, sym, ap, ◌∙◌, subst, inl, inr, arith, length-set}
+use Rattle.std.specs.Prelude.{Bool, true, false, slice_index, Option, None, Result, Ok, Err, cond, IsOk}
 use Rattle.std.proofs.lemmas.List.{append_assoc, drop-drop, drop-set-lt, take-set-le, set_split, get_or-take, get_or-drop, get_or-set_same, get_or-set_other}
 use Rattle.std.proofs.lemmas.Bool.{cases_lt, cond-true, cond-false, lt-ltb, eq-eqb, not_from_true}
-use Rattle.mip_words.specs.Numbers.{number_at, number_bytes}
+use Rattle.mip_words.specs.Numbers.{number_at}
 use Rattle.mip_words.specs.Addresses.{address_at}
 use Rattle.mip_words.specs.Steps.{◌>>=◌}
 use Rattle.mip_words.specs.declared.address.Address.{Address}
 use Rattle.mip_words.proofs.Fields.{number_at-drop}
-use Rattle.mip_words.proofs.StepLaws.{bind_ok, ok_is, done}
+use Rattle.mip_words.proofs.StepLaws.{ok_is, done}
 use Rattle.mip_ipv6.specs.declared.head.Head.{Head}
 use Rattle.mip_ipv6.specs.declared.not_packet.NotPacket.{NotPacket}
 use Rattle.mip_ipv6.specs.declared.not_packet.NotPacket.TheVariants.{Short, Header}
 use Rattle.mip_ipv6.specs.Packet.{Packet, IsInRange, names_no_body}
 use Rattle.mip_ipv6.specs.Reading.{Walk, packet_of, fixed_header, routing_header, options_header, head_of}
-use Rattle.mip_ipv6.specs.Spelling.{IsPacket, behind_bytes, packet_bytes}
+use Rattle.mip_ipv6.specs.Spelling.{IsPacket, behind_bytes}
 use Rattle.mip_ipv6.proofs.OptionLaws.{number_at-take}
-use Rattle.mip_ipv6.proofs.Packets.{packet_takes, packet_again}
+use Rattle.mip_ipv6.proofs.Packets.{packet_takes}
 use Rattle.mip_ipv6.proofs.Canonical.{packet_back, length_behind, length_routing, length_options}
 use Rattle.mip_tunnel.specs.Tunnel.{hop_of, lowered, lowered_packet, lowered_if_read, outer_head, tunnel_packet, encapsulated, inner, opened}
 

@@ -1,5 +1,5 @@
 -- Tunnels: a packet as the body of another. RFC 2473
-use Rattle.std.specs.Prelude.{◌≡◌, ℕ, ◌-◌, List, slice_index, slice_set, not, ◌==◌, if◌then◌else◌, None, Result, Ok, Err}
+use Rattle.std.specs.Prelude.{ℕ, ◌-◌, List, slice_index, slice_set, not, ◌==◌, if◌then◌else◌, None, Result, Ok, Err}
 use Rattle.mip_words.specs.declared.address.Address.{Address}
 use Rattle.mip_ipv6.specs.declared.head.Head.{Head}
 use Rattle.mip_ipv6.specs.declared.not_packet.NotPacket.{NotPacket}

@@ -1,0 +1,3 @@
+/// The text is not of the form.
+#[derive(Clone, Copy, Debug, PartialEq, Eq)]
+pub struct NoForm;

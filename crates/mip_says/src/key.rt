@@ -1,0 +1,12 @@
+use mip_words::Address;
+
+/// What two updates have in common where one repeats the other.
+#[derive(Clone, Copy, Debug, PartialEq, Eq)]
+pub struct Key<'a> {
+    pub home: Address,
+    /// The Alternate Care-of Address, or the packet's source.
+    pub careof: Address,
+    /// The whole message.
+    pub body: &'a [u8],
+    pub authenticator: [u8; 12],
+}
