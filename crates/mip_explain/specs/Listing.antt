@@ -1,5 +1,5 @@
 -- The listing of a packet: its headers line by line, then what its body says.
-use Rattle.std.specs.Prelude.{◌≡◌, ℕ, List, ◌++◌, ◌==◌, false, if◌then◌else◌, codes, unwrap_or, Result, Ok, Err, IsOk}
+use Rattle.std.specs.Prelude.{◌≡◌, ℕ, List, [], ◌++◌, ◌==◌, false, if◌then◌else◌, codes, unwrap_or, Result, Ok, Err, IsOk}
 use Rattle.mip_words.specs.Steps.{◌>>=◌}
 use Rattle.mip_words.specs.declared.address.Address.{Address}
 use Rattle.mip_ipv6.specs.declared.head.Head.{Head}
@@ -16,7 +16,7 @@ use Rattle.mip_icmp.specs.Said as icmp
 use Rattle.mip_icmp.specs.Spelling.{type_of}
 use Rattle.mip_explain.specs.declared.fault.ExplainFault.{ExplainFault}
 use Rattle.mip_explain.specs.declared.fault.ExplainFault.TheVariants as faults
-use Rattle.mip_explain.specs.Words.{fault_word}
+use Rattle.mip_explain.specs.Words.{fault_word, message_word}
 use Rattle.mip_explain.specs.Lines.{source_line, destination_line, hop_line, class_line, flow_line, route_line, home_option_line, proto_line, message_line, fault_line, icmp_line, body_line, index_line, cookie_line, token_line, sequence_line, flags_line, lifetime_line, status_line, home_line, advice_line, nonces_line, alternate_line, authorization_line}
 
 -- the header of every packet. RFC 8200 section 3
@@ -31,17 +31,29 @@ extension_lines head = route_line head.route ++ (home_option_line head.home ++ p
 unfoldable pub option_lines : Values → List ℕ
 option_lines o = advice_line o.advice ++ (nonces_line o.nonces ++ (alternate_line o.alternate ++ authorization_line o.authorization))
 
--- a mobility message, its fields in the order of their bytes. RFC 6275 section 6.1
+-- the fields of a mobility message, in the order of their bytes. RFC 6275 section 6.1
+unfoldable pub field_lines : mobility.Said → List ℕ
+field_lines (mobility.Refresh o) = []
+field_lines (mobility.HomeInit c o) = cookie_line c
+field_lines (mobility.CareofInit c o) = cookie_line c
+field_lines (mobility.HomeTest i c t o) = index_line i ++ (cookie_line c ++ token_line t)
+field_lines (mobility.CareofTest i c t o) = index_line i ++ (cookie_line c ++ token_line t)
+field_lines (mobility.Update q a h l k t o) = sequence_line q ++ (flags_line a h l k ++ lifetime_line t)
+field_lines (mobility.Acknowledgement s k q t o) = status_line s ++ (flags_line false false false k ++ (sequence_line q ++ lifetime_line t))
+field_lines (mobility.Error s h o) = status_line s ++ home_line h
+
+abbrev pub options_in : mobility.Said → Values
+options_in (mobility.Refresh o) = o
+options_in (mobility.HomeInit c o) = o
+options_in (mobility.CareofInit c o) = o
+options_in (mobility.HomeTest i c t o) = o
+options_in (mobility.CareofTest i c t o) = o
+options_in (mobility.Update q a h l k t o) = o
+options_in (mobility.Acknowledgement s k q t o) = o
+options_in (mobility.Error s h o) = o
+
 unfoldable pub message_lines : mobility.Said → List ℕ
-message_lines (mobility.Refresh o) = message_line (codes "brr") ++ option_lines o
-message_lines (mobility.HomeInit c o) = message_line (codes "hoti") ++ (cookie_line c ++ option_lines o)
-message_lines (mobility.CareofInit c o) = message_line (codes "coti") ++ (cookie_line c ++ option_lines o)
-message_lines (mobility.HomeTest i c t o) = message_line (codes "hot") ++ (index_line i ++ (cookie_line c ++ (token_line t ++ option_lines o)))
-message_lines (mobility.CareofTest i c t o) = message_line (codes "cot") ++ (index_line i ++ (cookie_line c ++ (token_line t ++ option_lines o)))
-message_lines (mobility.Update q a h l k t o) = message_line (codes "bu") ++ (sequence_line q ++ (flags_line a h l k ++ (lifetime_line t ++ option_lines o)))
-message_lines (mobility.Acknowledgement s k q t o) =
-    message_line (codes "ba") ++ (status_line s ++ (flags_line false false false k ++ (sequence_line q ++ (lifetime_line t ++ option_lines o))))
-message_lines (mobility.Error s h o) = message_line (codes "be") ++ (status_line s ++ (home_line h ++ option_lines o))
+message_lines m = message_line (message_word m) ++ (field_lines m ++ option_lines (options_in m))
 
 abbrev pub mobility_lines : Result mobility.Said Fault → List ℕ
 mobility_lines (Ok m) = message_lines m

@@ -4,6 +4,7 @@ use Rattle.mip_ipv6.specs.declared.not_packet.NotPacket.{NotPacket}
 use Rattle.mip_ipv6.specs.declared.not_packet.NotPacket.TheVariants as refusals
 use Rattle.mip_mobhdr.specs.declared.fault.Fault.{Fault}
 use Rattle.mip_mobhdr.specs.declared.fault.Fault.TheVariants as faults
+use Rattle.mip_mobhdr.specs.Said as said
 
 -- why bytes are no packet
 abbrev pub refusal_word : NotPacket → List ℕ
@@ -22,3 +23,14 @@ fault_word (faults.Unknown type) = codes "type"
 fault_word faults.Proto = codes "proto"
 fault_word faults.HeaderLen = codes "headerlen"
 fault_word (faults.Option place) = codes "moption"
+
+-- the kind of a mobility message
+abbrev pub message_word : said.Said → List ℕ
+message_word (said.Refresh o) = codes "brr"
+message_word (said.HomeInit c o) = codes "hoti"
+message_word (said.CareofInit c o) = codes "coti"
+message_word (said.HomeTest i c t o) = codes "hot"
+message_word (said.CareofTest i c t o) = codes "cot"
+message_word (said.Update q a h l k t o) = codes "bu"
+message_word (said.Acknowledgement s k q t o) = codes "ba"
+message_word (said.Error s h o) = codes "be"

@@ -12,7 +12,7 @@ mod words;
 
 pub use fault::ExplainFault;
 pub use listing::explain;
-pub use words::{fault_word, refusal_word};
+pub use words::{fault_word, message_word, refusal_word};
 
 #[cfg(test)]
 mod tests;
