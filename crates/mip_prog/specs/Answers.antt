@@ -1,8 +1,11 @@
 -- What the program is to write, and the status that it ends with, for its words and its input.
-use Rattle.std.specs.Prelude.{ℕ, List, [], ◌∷◌, ◌++◌, length, None, Some, nat_lt, codes, if◌then◌else◌}
+use Rattle.std.specs.Prelude.{ℕ, List, [], ◌∷◌, ◌++◌, length, None, Some, Result, Ok, Err, nat_lt, codes, if◌then◌else◌}
 use Rattle.std.specs.declared.option.Option.{Option}
 use Rattle.mip_prog.specs.declared.command.Command.{Command}
-use Rattle.mip_prog.specs.declared.command.Command.TheVariants.{Replay}
+use Rattle.mip_prog.specs.declared.command.Command.TheVariants.{Replay, Decode}
+use Rattle.mip_ipv6.specs.declared.not_packet.NotPacket.{NotPacket}
+use Rattle.mip_explain.specs.Words.{refusal_word}
+use Rattle.mip_explain.specs.Listing.{listing_of}
 use Rattle.mip_prog.specs.Commands.{command_of}
 use Rattle.mip_prog.specs.Replayed.{trace_of}
 
@@ -25,9 +28,18 @@ trace_answer None = record { status = 2; text = codes "bad 1 form" ++ 10 ∷ [] 
 abbrev pub replay_answer : List ℕ → Answer
 replay_answer bytes = if nat_lt 16777216 (length bytes) then long_answer else trace_answer (trace_of bytes)
 
+-- the listing of the packet, or why the bytes are none
+abbrev pub listing_answer : Result (List ℕ) NotPacket → Answer
+listing_answer (Ok text) = record { status = 0; text = text }
+listing_answer (Err refusal) = record { status = 8; text = codes "drop " ++ (refusal_word refusal ++ 10 ∷ []) }
+
+abbrev pub decode_answer : List ℕ → Answer
+decode_answer bytes = if nat_lt 16777216 (length bytes) then long_answer else listing_answer (listing_of bytes)
+
 -- for a command and the bytes of the input
 abbrev pub command_answer : Command → List ℕ → Answer
 command_answer Replay bytes = replay_answer bytes
+command_answer Decode bytes = decode_answer bytes
 
 abbrev pub words_answer : Option Command → List ℕ → Answer
 words_answer None bytes = usage_answer

@@ -10,6 +10,10 @@ pub record IsSettled (status : ℕ) : Type 0 where
   pub no_write_fault : status ≢ 4
   pub no_want_of_memory : status ≢ 5
 
+-- the statuses that there are
+abbrev pub IsStatus : ℕ → Type 0
+IsStatus status = (status ≤ 6) ⊎ (status ≡ 8)
+
 -- the whole answer was given
 abbrev pub Says : Answer → ℕ → Option (List ℕ) → Option (List ℕ) → Type 0
 Says answer given old new = (given ≡ answer.status) × (new ≡ append_known old answer.text)

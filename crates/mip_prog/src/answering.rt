@@ -1,7 +1,8 @@
 //! What a command answers to its input.
 
-ghost use Rattle.std.specs.Prelude.{◌≡◌, IfOk};
-ghost use Rattle.mip_prog.specs.Answers.{command_answer, trace_answer};
+ghost use Rattle.std.specs.Prelude.{◌≡◌, IfOk, Err};
+ghost use Rattle.mip_prog.specs.Answers.{command_answer, trace_answer, listing_answer};
+ghost use Rattle.mip_explain.specs.Listing.{listing_of};
 ghost use Rattle.mip_prog.specs.Replayed.{trace_of};
 ghost use Rattle.mip_prog.specs.Told.{IsSettled};
 
@@ -10,7 +11,9 @@ use crate::reading::LIMIT;
 use crate::replayed::replayed;
 use crate::reply::Reply;
 use crate::status::Status;
-use mip_words::Memory;
+use mip_explain::{ExplainFault, explain, refusal_word};
+use mip_ipv6::NotPacket;
+use mip_words::{Bytes, Memory};
 use std::alloc::Global;
 
 /// The answer of a command to its input.
@@ -23,6 +26,7 @@ pub fn answer(alloc: Global, command: Command, input: &[u8]) -> Result<Reply, Me
     }
     match command {
         Command::Replay => replay(alloc, input),
+        Command::Decode => decode(alloc, input),
     }
 }
 
@@ -37,4 +41,32 @@ fn replay(alloc: Global, input: &[u8]) -> Result<Reply, Memory>
         }),
         None => Reply::copy(alloc, Status::BAD, b"bad 1 form\n"),
     }
+}
+
+fn decode(alloc: Global, input: &[u8]) -> Result<Reply, Memory>
+    ensures answers { IfOk result (λ reply. reply ≡ listing_answer (listing_of input.now)) }
+    ensures settled { IfOk result (λ reply. IsSettled reply.status) }
+{
+    match explain(alloc, input) {
+        Ok(text) => Ok(Reply {
+            status: Status::OK,
+            text,
+        }),
+        Err(ExplainFault::NotPacket(refusal)) => dropped(alloc, refusal),
+        Err(ExplainFault::Memory) => Err(Memory),
+    }
+}
+
+/// The line of a packet that is refused.
+fn dropped(alloc: Global, refusal: NotPacket) -> Result<Reply, Memory>
+    ensures answers { IfOk result (λ reply. reply ≡ listing_answer (Err refusal)) }
+    ensures settled { IfOk result (λ reply. IsSettled reply.status) }
+{
+    let mut text = Bytes::copy(alloc, b"drop ")?;
+    text.extend(refusal_word(refusal))?;
+    text.extend(b"\n")?;
+    Ok(Reply {
+        status: Status::NOT_A_PACKET,
+        text,
+    })
 }

@@ -17,4 +17,6 @@ impl Status {
     pub const MEMORY: Status = Status(5);
     /// The input is longer than the program takes.
     pub const TOO_LONG: Status = Status(6);
+    /// The input is no packet.
+    pub const NOT_A_PACKET: Status = Status(8);
 }

@@ -9,6 +9,17 @@ use std::test::Fail;
 
 const USAGE: &str = "usage: mip COMMAND\n";
 
+/// A packet without a next header, hop limit 64, with four bytes of body.
+const NO_NEXT_HEADER: [u8; 44] = [
+    0x60, 0, 0, 0, 0, 4, 59, 64, // version, payload length, next header, hop limit
+    0x20, 1, 0x0d, 0xb8, 0, 2, 0, 0, 0, 0, 0, 0, 0, 0, 0, 2, // source
+    0x20, 1, 0x0d, 0xb8, 0, 1, 0, 0, 0, 0, 0, 0, 0, 0, 0, 0x77, // destination
+    1, 2, 3, 4, // body
+];
+
+const NO_NEXT_HEADER_LISTING: &str =
+    "source 20010db8000200000000000000000002\ndestination 20010db8000100000000000000000077\nhop 64\nclass 0\nflow 0\nroute -\nhome -\nproto 59\nbody 01020304\n";
+
 fn owned(alloc: Global, words: &[&str]) -> Result<Vec<String>, Memory> {
     let mut owned = Vec::new(alloc);
     for word in words {
@@ -30,13 +41,15 @@ fn replay<S: Source, K: Sink>(
 
 #[test]
 fn words_and_input_have_their_answer(rt: HostRuntime) -> Result<(), Fail> {
-    let cases: [(&[&str], &[u8], u8, &str); 6] = [
+    let cases: [(&[&str], &[u8], u8, &str); 8] = [
         (&["replay"], b"", 2, "bad 1 form\n"),
         (&["replay"], b"mip 1\nseed", 2, "bad 1 form\n"),
         (&[], b"", 1, USAGE),
         (&["help"], b"", 1, USAGE),
         (&["-replay"], b"", 1, USAGE),
         (&["replay", "replay"], b"", 1, USAGE),
+        (&["decode"], &[0x60; 39], 8, "drop short\n"),
+        (&["decode"], &NO_NEXT_HEADER, 0, NO_NEXT_HEADER_LISTING),
     ];
     for (words, input, status, text) in cases {
         let words = owned(rt.alloc(), words)?;

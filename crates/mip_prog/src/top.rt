@@ -5,7 +5,7 @@ ghost use Rattle.std.specs.Io.KnownBytes.{prepend_known, IsAtEnd};
 ghost use Rattle.mip_outside.specs.Cause.{Rose};
 ghost use Rattle.mip_prog.specs.Commands.{command_of};
 ghost use Rattle.mip_prog.specs.Answers.{answer_of, command_answer};
-ghost use Rattle.mip_prog.specs.Told.{IsAnswered, Told};
+ghost use Rattle.mip_prog.specs.Told.{IsAnswered, IsStatus, Told};
 
 use crate::answering::answer;
 use crate::command::{Command, parse};
@@ -32,7 +32,7 @@ pub fn mip<S: Source, K: Sink, C: Clock, L: Link>(
         × (S.left source.old ≡ prepend_known bytes (S.left source.new))
         × Told (answer_of (map string_bytes words.now) bytes) result.0 (K.held sink.old) (K.held sink.new) }
 
-    ensures statuses { result.0 ≤ 6 }
+    ensures statuses { IsStatus result.0 }
     ensures usage { result.0 ≡ 1 → command_of (map string_bytes words.now) ≡ None }
     ensures no_command { command_of (map string_bytes words.now) ≡ None → (result.0 ≡ 1) ⊎ ((result.0 ≡ 4) ⊎ (result.0 ≡ 5)) }
     ensures untouched { command_of (map string_bytes words.now) ≡ None → source.new ≡ source.old }
@@ -63,7 +63,7 @@ fn answer_input<S: Source, K: Sink>(
 ) -> Status
     ensures answered { (bytes : List ℕ) × IsAnswered (command_answer command) bytes result.0
         (S.left source.old) (S.left source.new) (K.held sink.old) (K.held sink.new) }
-    ensures statuses { (result.0 ≤ 6) × (result.0 ≢ 1) }
+    ensures statuses { IsStatus result.0 × (result.0 ≢ 1) }
     ensures read_fault { result.0 ≡ 3 → Rose (S.faults source.old) (S.faults source.new) }
     ensures read_fault_text { result.0 ≡ 3 → K.held sink.new ≡ K.held sink.old }
     ensures write_fault { result.0 ≡ 4 → Rose (K.faults sink.old) (K.faults sink.new) }
