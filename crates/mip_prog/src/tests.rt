@@ -60,6 +60,38 @@ fn words_and_input_have_their_answer(rt: HostRuntime) -> Result<(), Fail> {
     Ok(())
 }
 
+/// The packet of the stored run's probe.
+const HOME_TEST_INIT: [u8; 56] = [
+    0x60, 0, 0, 0, 0, 0x10, 0x87, 0x40, // version, payload length, next header, hop limit
+    0x20, 1, 0x0d, 0xb8, 0, 1, 0, 0, 0, 0, 0, 0, 0, 0, 0, 0x77, // source
+    0x20, 1, 0x0d, 0xb8, 0, 2, 0, 0, 0, 0, 0, 0, 0, 0, 0, 2, // destination
+    0x3b, 1, 1, 0, 0x57, 0x65, 0, 0, 1, 2, 3, 4, 5, 6, 7, 8, // Home Test Init
+];
+
+#[test]
+fn a_packet_cut_anywhere_is_dropped(rt: HostRuntime) -> Result<(), Fail> {
+    let words = owned(rt.alloc(), &["decode"])?;
+    for size in 0..HOME_TEST_INIT.len() {
+        let reply = mip_in_memory(rt.alloc(), &words, &HOME_TEST_INIT[..size])?;
+        let text = if size < 40 {
+            "drop short\n"
+        } else {
+            "drop length\n"
+        };
+        assert_eq!(rt; reply.status, Status::NOT_A_PACKET);
+        assert_eq!(rt; reply.text.as_slice(), text.as_bytes(), "cut to {size}");
+    }
+    let reply = mip_in_memory(rt.alloc(), &words, &HOME_TEST_INIT)?;
+    assert_eq!(rt; reply.status, Status::OK);
+    assert!(rt;
+        reply
+            .text
+            .as_slice()
+            .ends_with(b"proto 135\nmessage hoti\ncookie 0102030405060708\n")
+    );
+    Ok(())
+}
+
 #[test]
 fn a_failed_call_has_its_status(rt: HostRuntime) -> Result<(), Fail> {
     for call in [1, 2] {
