@@ -1,5 +1,5 @@
 -- The trace: one line an entry, for the entries that the built events leave.
-use Rattle.std.specs.Prelude.{ℕ, List, [], ◌∷◌, ◌++◌, Bool, ◌==◌, nat_lt, if◌then◌else◌, unwrap_or, codes, decimal, Result, Ok, Err}
+use Rattle.std.specs.Prelude.{ℕ, List, [], ◌∷◌, ◌++◌, Bool, ◌==◌, nat_lt, if◌then◌else◌, Option, Some, None, codes, decimal, Result, Ok, Err}
 use Rattle.std.specs.Borrow.{Bor}
 use Rattle.std.specs.List.{flat_map}
 use Rattle.mip_words.specs.Hex.{hex_of}
@@ -8,34 +8,29 @@ use Rattle.mip_words.specs.declared.address.Address.{Address}
 use Rattle.mip_ipv6.specs.declared.not_packet.NotPacket.{NotPacket}
 use Rattle.mip_ipv6.specs.Packet.{Packet}
 use Rattle.mip_ipv6.specs.Reading.{packet_of}
-use Rattle.mip_mobhdr.specs.declared.fault.Fault.{Fault}
-use Rattle.mip_mobhdr.specs.Said.{Said, Refresh, HomeInit, CareofInit, HomeTest, CareofTest, Update, Acknowledgement, Error}
-use Rattle.mip_mobhdr.specs.Reading.{message_of}
+use Rattle.mip_mobhdr.specs.Said.{Said}
+use Rattle.mip_says.specs.Says.{message_in}
+use Rattle.mip_explain.specs.Words.{message_word}
 use Rattle.mip_entries.specs.declared.entry.Entry.{Entry}
 use Rattle.mip_entries.specs.declared.entry.Entry.TheVariants.{Claimed, Injected, Handed, Sent}
 use Rattle.mip_prog.specs.Form.{Form}
 
--- the word of a message
-abbrev pub message_word : Result Said Fault → List ℕ
-message_word (Err fault) = codes "bad"
-message_word (Ok (Refresh o)) = codes "brr"
-message_word (Ok (HomeInit c o)) = codes "hoti"
-message_word (Ok (CareofInit c o)) = codes "coti"
-message_word (Ok (HomeTest i c t o)) = codes "hot"
-message_word (Ok (CareofTest i c t o)) = codes "cot"
-message_word (Ok (Update s a h l k t o)) = codes "bu"
-message_word (Ok (Acknowledgement s k q t o)) = codes "ba"
-message_word (Ok (Error s h o)) = codes "be"
+-- the kind of a packet that carries a mobility message: the message's word, or `bad` where it is refused
+abbrev pub signal_kind : Option Said → List ℕ
+signal_kind (Some message) = message_word message
+signal_kind None = codes "bad"
 
--- the kind of a packet: that of its message, with the home addresses in the pseudo-header where they stand
-abbrev pub packet_word : Result Packet NotPacket → List ℕ
-packet_word (Err fault) = codes "bad"
-packet_word (Ok p) =
-    if p.head.proto == 135 then message_word (message_of (unwrap_or p.head.home p.head.source) (unwrap_or p.head.route p.head.destination) p.body)
+abbrev pub packet_kind : Result Packet NotPacket → List ℕ
+packet_kind (Err refusal) = codes "bad"
+packet_kind (Ok p) =
+    if p.head.proto == 135 then signal_kind (message_in p)
+    else if p.head.proto == 41 then codes "tunnel"
+    else if p.head.proto == 59 then codes "none"
     else codes "data"
 
+-- the kind of a packet's bytes. No built event posts an ICMPv6 packet
 unfoldable pub kind_of : List ℕ → List ℕ
-kind_of packet = packet_word (packet_of packet)
+kind_of packet = packet_kind (packet_of packet)
 
 abbrev pub address_text : Address → List ℕ
 address_text address = hex_of (address_bytes address)

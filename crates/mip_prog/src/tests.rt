@@ -3,7 +3,7 @@ use crate::status::Status;
 use crate::top::mip;
 use crate::writing::tell;
 use mip_outside::{SetClock, Sink, Source, SureLink, SureSource, TextSink, TextSource};
-use mip_words::Memory;
+use mip_words::{Memory, hex_exact};
 use std::alloc::Global;
 use std::test::Fail;
 
@@ -89,6 +89,35 @@ fn a_packet_cut_anywhere_is_dropped(rt: HostRuntime) -> Result<(), Fail> {
             .as_slice()
             .ends_with(b"proto 135\nmessage hoti\ncookie 0102030405060708\n")
     );
+    Ok(())
+}
+
+/// A home registration of 96 bytes, its update of 32, from a care-of address for a home address.
+const REGISTRATION: &[u8; 192] =
+    b"6000000000383c4020010db800030000000000000000007720010db8000100000000000000000001870201020000c91020010db80001000000000000000000773b0305006da00001c00003840100031020010db8000300000000000000000077";
+
+const REGISTRATION_LISTING: &str =
+    "source 20010db8000300000000000000000077\ndestination 20010db8000100000000000000000001\nhop 64\nclass 0\nflow 0\nroute -\nhome 20010db8000100000000000000000077\nproto 135\nmessage bu\nsequence 1\nflags AH\nlifetime 900\nalternate 20010db8000300000000000000000077\n";
+/// The same with the flags L and K, and its own checksum.
+const ALL_FLAGS: &[u8; 192] =
+    b"6000000000383c4020010db800030000000000000000007720010db8000100000000000000000001870201020000c91020010db80001000000000000000000773b0305003da00001f00003840100031020010db8000300000000000000000077";
+
+const ALL_FLAGS_LISTING: &str =
+    "source 20010db8000300000000000000000077\ndestination 20010db8000100000000000000000001\nhop 64\nclass 0\nflow 0\nroute -\nhome 20010db8000100000000000000000077\nproto 135\nmessage bu\nsequence 1\nflags AHLK\nlifetime 900\nalternate 20010db8000300000000000000000077\n";
+
+#[test]
+fn worked_updates_are_listed(rt: HostRuntime) -> Result<(), Fail> {
+    let words = owned(rt.alloc(), &["decode"])?;
+    for (digits, listing) in [
+        (REGISTRATION, REGISTRATION_LISTING),
+        (ALL_FLAGS, ALL_FLAGS_LISTING),
+    ] {
+        let mut packet = [0; 96];
+        assert!(rt; hex_exact(digits, &mut packet));
+        let reply = mip_in_memory(rt.alloc(), &words, &packet)?;
+        assert_eq!(rt; reply.status, Status::OK);
+        assert_eq!(rt; reply.text.as_slice(), listing.as_bytes());
+    }
     Ok(())
 }
 

@@ -2,51 +2,43 @@
 
 ghost use Rattle.std.specs.Prelude.{◌≡◌, ◌++◌, IfOk, OnOk};
 ghost use Rattle.mip_prog.specs.Form.{form};
-ghost use Rattle.mip_prog.specs.TraceText.{message_word, kind_of, name_of, shield_word, joined, claimed_line, packet_end, injected_line, handed_line, sent_line, line_of, trace_text};
+ghost use Rattle.mip_prog.specs.TraceText.{signal_kind, kind_of, name_of, shield_word, joined, claimed_line, packet_end, injected_line, handed_line, sent_line, line_of, trace_text};
 ghost use Rattle.mip_words.specs.Hex.{hex_of};
-ghost use Rattle.mip_mobhdr.specs.Reading.{message_of};
+ghost use Rattle.mip_ipv6.specs.Packet.{packet as tree};
+ghost use Rattle.mip_says.specs.Says as spec;
 
 use crate::form::Form;
 use itoa::Buffer;
 use mip_entries::{Entry, History};
-use mip_ipv6::read_packet;
-use mip_mobhdr::{Message, read_message};
+use mip_explain::message_word;
+use mip_ipv6::{PacketRef, read_packet};
+use mip_says::message_in;
 use mip_words::{Address, Bytes, Memory, put_hex};
 use std::alloc::Global;
 
-/// The word of a message.
-fn message_word(source: Address, destination: Address, body: &[u8]) -> &'static [u8]
-    ensures { result.now ≡ message_word (message_of source destination body.now) }
+/// The kind of a packet that carries a mobility message.
+fn signal_kind(read: &PacketRef) -> &'static [u8]
+    ensures { result.now ≡ signal_kind (spec.message_in (tree read.now)) }
 {
-    match read_message(source, destination, body) {
-        Err(_) => b"bad",
-        Ok(Message::Refresh { .. }) => b"brr",
-        Ok(Message::HomeInit { .. }) => b"hoti",
-        Ok(Message::CareofInit { .. }) => b"coti",
-        Ok(Message::HomeTest { .. }) => b"hot",
-        Ok(Message::CareofTest { .. }) => b"cot",
-        Ok(Message::Update { .. }) => b"bu",
-        Ok(Message::Acknowledgement { .. }) => b"ba",
-        Ok(Message::Error { .. }) => b"be",
+    match message_in(read) {
+        Some(message) => message_word(&message),
+        None => b"bad",
     }
 }
 
 /// The kind of a packet.
 #[tactic(auto, unfolding(crate::specs::TraceText::kind_of))]
-fn kind(packet: &[u8]) -> &'static [u8]
-    ensures { result.now ≡ kind_of packet.now }
+fn kind(bytes: &[u8]) -> &'static [u8]
+    ensures { result.now ≡ kind_of bytes.now }
 {
-    match read_packet(packet) {
+    match read_packet(bytes) {
         Err(_) => b"bad",
-        Ok(read) => {
-            if read.head.proto == 135 {
-                let source = read.head.home.unwrap_or(read.head.source);
-                let destination = read.head.route.unwrap_or(read.head.destination);
-                message_word(source, destination, read.body)
-            } else {
-                b"data"
-            }
-        }
+        Ok(read) => match read.head.proto {
+            135 => signal_kind(&read),
+            41 => b"tunnel",
+            59 => b"none",
+            _ => b"data",
+        },
     }
 }
 
