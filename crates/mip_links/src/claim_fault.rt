@@ -1,0 +1,23 @@
+ghost use Rattle.std.specs.Prelude.{◌≡◌};
+
+use mip_words::Memory;
+
+/// Why an address was not claimed.
+#[derive(Clone, Copy, Debug, PartialEq, Eq)]
+pub enum ClaimFault {
+    /// Somebody else holds it.
+    Taken { by: u8 },
+    /// No link has its prefix.
+    NoLink,
+    Memory,
+}
+
+impl From<Memory> for ClaimFault {
+    ghost use Rattle.mip_links.specs.declared.claim_fault.ClaimFault.TheVariants as faults;
+
+    ghost from_gives = { λ _ fault. fault ≡ faults.Memory };
+
+    fn from(_memory: Memory) -> ClaimFault {
+        ClaimFault::Memory
+    }
+}

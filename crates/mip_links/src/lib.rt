@@ -1,0 +1,16 @@
+//! A network of links: who holds which address, the packets under way and what becomes of them, and
+//! who listens.
+#![tactic(auto)]
+
+mod claim_fault;
+mod delivery;
+mod flight;
+mod net;
+mod places;
+mod post;
+mod rows;
+
+pub use claim_fault::ClaimFault;
+pub use delivery::Delivery;
+pub use flight::Flight;
+pub use net::Net;

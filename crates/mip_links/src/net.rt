@@ -1,0 +1,341 @@
+ghost use Rattle.std.specs.Prelude.{◌≡◌, ◌≢◌, ℕ, ◌<◌, ◌≤◌, length, map, replicate, false, true, not, if◌then◌else◌, None, Some, Ok, Err, is_some, IfOk, IfSome, OnOk, OnErr, option_copied, option_map, slice_get, slice_index_or};
+ghost use Rattle.mip_links.specs.Table.{delivery, held_by, in_pool, is_address, link_of};
+ghost use Rattle.mip_links.specs.Nets.{new_net, holder_of, has_room, put, declared_of, asked_of, hears_of, lowest_of, spot, with_rows, with_hearing, posted, left, claimed, refusal, is_held_by};
+
+use crate::claim_fault::ClaimFault;
+use crate::delivery::Delivery;
+use crate::flight::Flight;
+use crate::places::{first_after, link_place, stands};
+use crate::post::Post;
+use crate::rows;
+use indexmap::IndexMap;
+use mip_words::{Address, Bytes, LinkId, Memory, Prefix, Shield, Why};
+use std::alloc::Global;
+use std::marker::Model;
+
+/// How many holders there may be: 32 nodes, then 8 outsiders.
+const HOLDERS: usize = 40;
+
+const NODES: u8 = 32;
+
+const LINKS: usize = 32;
+
+const EARS: usize = 256;
+
+/// A network. A holder is a node by its number, or an outsider by 32 and its number.
+#[derive(Drop)]
+pub struct Net {
+    links: Vec<Prefix>,
+    claims: IndexMap<u128, Option<u8>>,
+    firsts: Vec<Option<Address>>,
+    posts: Vec<Post>,
+    flying: Vec<bool>,
+    low: usize,
+    hearing: Vec<bool>,
+}
+
+impl Model for Net {
+    ghost use Rattle.std.specs.Prelude.{map};
+    ghost use Rattle.mip_links.specs.Nets.{NetSeen, IsNet};
+
+    ghost Value = { NetSeen };
+
+    ghost view = { λ n. record {
+      links = map (λ p. p.0) n.links.items;
+      rows = n.claims.entries;
+      firsts = n.firsts.items;
+      posts = n.posts.items;
+      flying = n.flying.items;
+      hearing = n.hearing.items;
+    } };
+
+    ghost invariant = { λ n. IsNet (record {
+      links = map (λ p. p.0) n.links.items;
+      rows = n.claims.entries;
+      firsts = n.firsts.items;
+      posts = n.posts.items;
+      flying = n.flying.items;
+      hearing = n.hearing.items;
+    }) n.low };
+}
+
+impl Net {
+    /// A network of these links.
+    pub fn new(alloc: Global, links: &[Prefix]) -> Result<Net, Memory>
+        requires { length links.now ≤ 32 }
+        ensures { IfOk result (λ n. n ≡ new_net (map (λ p. p.0) links.now)) }
+    {
+        Ok(Net {
+            links: Vec::from_slice(alloc, links)?,
+            claims: IndexMap::new(alloc),
+            firsts: no_firsts(alloc)?,
+            posts: Vec::new(alloc),
+            flying: Vec::new(alloc),
+            low: 0,
+            hearing: no_ears(alloc)?,
+        })
+    }
+
+    /// The link of an address: the first that has its prefix.
+    pub fn link_of(&self, address: Address) -> Option<LinkId>
+        ensures found { option_map (λ link. link.0) result ≡ link_of self.now.links address.0 }
+        ensures within { IfSome result (λ link. link.0 < 32) }
+    {
+        let place = link_place(&self.links, address)?;
+        Some(LinkId(place))
+    }
+
+    /// The address that a holder claimed first.
+    pub fn declared(&self, by: u8) -> Option<Address>
+        ensures { result ≡ declared_of self.now.firsts by }
+    {
+        match self.firsts.get(usize::from(by)) {
+            Some(first) => *first,
+            None => None,
+        }
+    }
+
+    /// Puts a packet into the pool, and gives its number: packets are counted from 0.
+    pub fn post(
+        &mut self,
+        from: LinkId,
+        shield: Option<Shield>,
+        packet: Bytes,
+    ) -> Result<u64, Memory>
+        requires { 40 ≤ length packet }
+        ensures number { IfOk result (λ number. number ≡ length self.old.posts) }
+        ensures ok { OnOk result (self.new ≡ posted self.old (record { from = from.0; shield = shield; packet = packet })) }
+        ensures err { OnErr result (self.new ≡ self.old) }
+    {
+        let number = self.posts.len();
+        self.flying.reserve(1)?;
+        self.posts.push(Post::new(from, shield, packet))?;
+        self.flying.push_reserved(true);
+        Ok(number as u64)
+    }
+
+    /// What becomes of a packet of the pool, which leaves the pool unless it is kept. Its hop limit is one less
+    /// where it comes to another link: whoever hands it over lowers it.
+    pub fn deliver(&mut self, number: u64, keep: bool) -> Delivery
+        ensures answers { result ≡ delivery (asked_of self.old) (in_pool self.old.flying self.old.posts number) }
+        ensures after { self.new ≡ (if keep then self.old else left self.old number) }
+    {
+        let delivery = self.arrival(number);
+        if !keep {
+            self.lose(number);
+        }
+        delivery
+    }
+
+    fn arrival(&self, number: u64) -> Delivery
+        ensures { result ≡ delivery (asked_of self.now) (in_pool self.now.flying self.now.posts number) }
+    {
+        if !stands(&self.flying, number as usize) {
+            return Delivery::Idle;
+        }
+        match self.posts.get(number as usize) {
+            Some(post) => self.arrival_of(post),
+            None => Delivery::Idle,
+        }
+    }
+
+    fn arrival_of(&self, post: &Post) -> Delivery
+        ensures { result ≡ delivery (asked_of self.now) (Some post.now) }
+    {
+        let to = post.destination();
+        let flight = post.flight();
+        let Some(link) = self.link_of(to) else {
+            return Delivery::Gone(Why::NoLink);
+        };
+        if link.0 != flight.from.0 && post.hop() < 2 {
+            return Delivery::Gone(Why::Hop);
+        }
+        match self.holder(to) {
+            Some(by) => held(flight.shield, by, self.declared(by)),
+            None => Delivery::Gone(Why::NoHolder),
+        }
+    }
+
+    /// Takes a packet out of the pool, and says whether it was there.
+    pub fn lose(&mut self, number: u64) -> bool
+        ensures was { result ≡ slice_index_or self.old.flying number false }
+        ensures after { self.new ≡ left self.old number }
+    {
+        let place = number as usize;
+        let was = stands(&self.flying, place);
+        if place < self.flying.len() {
+            self.flying[place] = false;
+            self.low = first_after(&self.flying, self.low);
+        }
+        was
+    }
+
+    /// The lowest number in the pool.
+    pub fn lowest(&self) -> Option<u64>
+        ensures { result ≡ lowest_of self.now.flying }
+    {
+        if self.low < self.flying.len() {
+            Some(self.low as u64)
+        } else {
+            None
+        }
+    }
+
+    /// The bytes of a packet as it was posted, in the pool or not.
+    pub fn packet(&self, number: u64) -> Option<&Bytes>
+        ensures { option_copied result ≡ option_map (λ p. p.packet) (slice_get self.now.posts number) }
+    {
+        let post = self.posts.get(number as usize)?;
+        Some(post.packet())
+    }
+
+    /// The link that a packet was sent from, and its shield, in the pool or not.
+    pub fn flight(&self, number: u64) -> Option<Flight>
+        ensures from { option_map (λ f. f.from.0) result ≡ option_map (λ p. p.from) (slice_get self.now.posts number) }
+        ensures shield { option_map (λ f. f.shield) result ≡ option_map (λ p. p.shield) (slice_get self.now.posts number) }
+    {
+        let post = self.posts.get(number as usize)?;
+        Some(post.flight())
+    }
+
+    /// Whether an outsider, by its number among outsiders, listens on a link.
+    pub fn hears(&self, outsider: u8, link: LinkId) -> bool
+        ensures { result ≡ hears_of self.now.hearing outsider link.0 }
+    {
+        outsider < 8 && link.0 < 32 && stands(&self.hearing, spot(outsider, link))
+    }
+
+    /// An outsider listens on a link from now on. Says whether it did not before.
+    pub fn listen(&mut self, outsider: u8, link: LinkId) -> Result<bool, Memory>
+        requires outsider { outsider < 8 }
+        requires link { link.0 < length self.old.links }
+        ensures was { result ≡ Ok (not (hears_of self.old.hearing outsider link.0)) }
+        ensures after { self.new ≡ with_hearing self.old outsider link.0 true }
+    {
+        let heard = self.hears(outsider, link);
+        self.hearing[spot(outsider, link)] = true;
+        Ok(!heard)
+    }
+
+    /// An outsider listens on a link no more. Says whether it did before.
+    pub fn deaf(&mut self, outsider: u8, link: LinkId) -> bool
+        requires outsider { outsider < 8 }
+        requires link { link.0 < length self.old.links }
+        ensures was { result ≡ hears_of self.old.hearing outsider link.0 }
+        ensures after { self.new ≡ with_hearing self.old outsider link.0 false }
+    {
+        let heard = self.hears(outsider, link);
+        self.hearing[spot(outsider, link)] = false;
+        heard
+    }
+
+    /// Who holds an address.
+    pub fn holder(&self, address: Address) -> Option<u8>
+        ensures { result ≡ holder_of self.now.rows address.0 }
+    {
+        rows::holder(&self.claims, address)
+    }
+
+    /// Makes room for an address, so that memory is not wanting for a claim of it.
+    pub fn reserve(&mut self, address: Address) -> Result<(), Memory>
+        ensures ok { OnOk result (self.new ≡ with_rows self.old (put self.old.rows address.0 (holder_of self.old.rows address.0))) }
+        ensures err { OnErr result (self.new ≡ self.old) }
+    {
+        let holder = self.holder(address);
+        rows::put_holder(&mut self.claims, address, holder)
+    }
+
+    /// Gives an address to a holder.
+    pub fn claim(&mut self, by: u8, address: Address) -> Result<(), ClaimFault>
+        requires { by < 40 }
+        ensures ok { OnOk result (refusal self.old by address.0 ≡ None) }
+        ensures after { OnOk result (self.new ≡ claimed self.old by address) }
+        ensures err { OnErr result (self.new ≡ self.old) }
+        ensures refused { (fault : ClaimFault) → refusal self.old by address.0 ≡ Some fault → result ≡ Err fault }
+        ensures only { (fault : ClaimFault) → result ≡ Err fault → fault ≢ ClaimFault.Memory → refusal self.old by address.0 ≡ Some fault }
+        ensures room { has_room self.old address.0 ≡ true → result ≢ Err ClaimFault.Memory }
+    {
+        if self.link_of(address).is_none() {
+            return Err(ClaimFault::NoLink);
+        }
+        if let Some(other) = self.holder(address) {
+            if other != by {
+                return Err(ClaimFault::Taken { by: other });
+            }
+        }
+        rows::put_holder(&mut self.claims, address, Some(by))?;
+        if self.firsts[usize::from(by)].is_none() {
+            self.firsts[usize::from(by)] = Some(address);
+        }
+        Ok(())
+    }
+
+    /// Takes an address from its holder, and says whether this was it.
+    pub fn release(&mut self, by: u8, address: Address) -> bool
+        ensures was { result ≡ is_held_by (holder_of self.old.rows address.0) by }
+        ensures after { self.new ≡ (if result then with_rows self.old (put self.old.rows address.0 None) else self.old) }
+    {
+        let Some(other) = self.holder(address) else {
+            return false;
+        };
+        if other != by {
+            return false;
+        }
+        match rows::put_holder(&mut self.claims, address, None) {
+            Ok(()) => true,
+            Err(Memory) => unreachable!(),
+        }
+    }
+}
+
+fn no_firsts(alloc: Global) -> Result<Vec<Option<Address>>, Memory>
+    ensures { IfOk result (λ firsts. firsts.items ≡ replicate 40 None) }
+{
+    let firsts = vec![in alloc; None; HOLDERS]?;
+    Ok(firsts)
+}
+
+fn no_ears(alloc: Global) -> Result<Vec<bool>, Memory>
+    ensures { IfOk result (λ ears. ears.items ≡ replicate 256 false) }
+{
+    let ears = vec![in alloc; false; EARS]?;
+    Ok(ears)
+}
+
+/// Whether the holder of a packet's destination is handed it.
+fn held(shield: Option<Shield>, by: u8, first: Option<Address>) -> Delivery
+    ensures { result ≡ held_by shield by first }
+{
+    match shield {
+        Some(shield) => {
+            if by < NODES && is_address(first, shield.to) {
+                Delivery::Node { by }
+            } else {
+                Delivery::Gone(Why::Shield)
+            }
+        }
+        None => {
+            if by < NODES {
+                Delivery::Node { by }
+            } else {
+                Delivery::Outsider { by }
+            }
+        }
+    }
+}
+
+fn is_address(first: Option<Address>, address: Address) -> bool
+    ensures { result ≡ is_address first address }
+{
+    match first {
+        Some(first) => first.0 == address.0,
+        None => false,
+    }
+}
+
+/// The place of the flag of an outsider and a link.
+fn spot(outsider: u8, link: LinkId) -> usize
+    ensures { result ≡ spot outsider link.0 }
+{
+    usize::from(outsider) * LINKS + usize::from(link.0)
+}
