@@ -1,7 +1,6 @@
 use crate::in_memory::mip_in_memory;
 use crate::status::Status;
 use crate::top::mip;
-use crate::writing::tell;
 use mip_outside::{SetClock, Sink, Source, SureLink, SureSource, TextSink, TextSource};
 use mip_words::{Memory, hex_exact};
 use std::alloc::Global;
@@ -19,6 +18,12 @@ const NO_NEXT_HEADER: [u8; 44] = [
 
 const NO_NEXT_HEADER_LISTING: &str =
     "source 20010db8000200000000000000000002\ndestination 20010db8000100000000000000000077\nhop 64\nclass 0\nflow 0\nroute -\nhome -\nproto 59\nbody 01020304\n";
+
+/// The stored run's schedule, and the first line of its trace.
+const HOME_TEST: &[u8] =
+    b"mip 1\nseed 000102030405060708090a0b0c0d0e0f101112131415161718191a1b1c1d1e1f\nstart 0\nlink n2 20010db800020000\ncorrespondent c n2 20010db8000200000000000000000002 2\noutsider o\nrun\nprobe o n2 home 20010db8000100000000000000000077 20010db8000200000000000000000002 0102030405060708\ndeliver 0\n";
+
+const HOME_TEST_CLAIM: &[u8] = b"claimed c n2 20010db8000200000000000000000002\n";
 
 fn owned(alloc: Global, words: &[&str]) -> Result<Vec<String>, Memory> {
     let mut owned = Vec::new(alloc);
@@ -140,13 +145,14 @@ fn a_failed_call_has_its_status(rt: HostRuntime) -> Result<(), Fail> {
     );
     assert_eq!(rt; sink.bytes().len(), 0);
 
-    // A line a call: the second call fails, and the first line stands.
+    // A line a call: the second call fails, and exactly the first line stands.
+    let mut source = SureSource::new(rt.alloc(), HOME_TEST)?;
     let mut sink = TextSink::new(rt.alloc(), &[2])?;
     assert_eq!(rt;
-        tell(&mut sink, b"at 0\nat 1\n", Status::OK),
+        replay(rt.alloc(), &mut source, &mut sink)?,
         Status::WRITE_FAULT
     );
-    assert_eq!(rt; sink.bytes(), b"at 0\n".as_slice());
+    assert_eq!(rt; sink.bytes(), HOME_TEST_CLAIM);
     Ok(())
 }
 
