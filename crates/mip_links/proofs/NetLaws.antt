@@ -16,6 +16,22 @@ lookup-put (r ∷ rows) a v b = grind (arith, nat_tests, lookup-put rows a v b)
 pub holder-put : (rows : List (ℕ × Option ℕ)) (a : ℕ) (v : Option ℕ) (b : ℕ) → holder_of (put rows a v) b ≡ (if b == a then v else holder_of rows b)
 holder-put rows a v b = grind (arith, nat_tests, lookup-put rows a v b)
 
+-- the same under a name that an attribute can cite
+pub holder_after : (rows : List (ℕ × Option ℕ)) (a : ℕ) (v : Option ℕ) (b : ℕ) → holder_of (put rows a v) b ≡ (if b == a then v else holder_of rows b)
+holder_after rows a v b = holder-put rows a v b
+
+-- an address that was put has room
+pub has_room_after : (rows : List (ℕ × Option ℕ)) (a : ℕ) (v : Option ℕ) → is_some (lookup (nat_eq a) (put rows a v)) ≡ true
+has_room_after rows a v = let e = lookup-put rows a v a in grind (arith, nat_tests, e)
+
+-- an address that is put with the holder that it has
+pub holder_same : (rows : List (ℕ × Option ℕ)) (a b : ℕ) → holder_of (put rows a (holder_of rows a)) b ≡ holder_of rows b
+holder_same rows a b =
+    elim (cases_eq b a) as (λ _. holder_of (put rows a (holder_of rows a)) b ≡ holder_of rows b) [
+      | inl same ↦ rw (same) (let e = holder-put rows a (holder_of rows a) a in grind (arith, nat_tests, e))
+      | inr other ↦ let e = holder-put rows a (holder_of rows a) b in grind (arith, nat_tests, other, e)
+    ]
+
 -- the lowest flag that stands, where the first one is known
 pub first_from-clear : (flags : List Bool) (n first : ℕ) → IsLow flags first → first_from n flags ≡ (if nat_lt first (length flags) then Some (n + first) else None)
 first_from-clear [] n first low = grind (arith, nat_tests, low.within)

@@ -1,4 +1,4 @@
-ghost use Rattle.std.specs.Prelude.{◌≡◌, ◌≢◌, ℕ, ◌<◌, ◌≤◌, length, map, replicate, false, true, not, if◌then◌else◌, None, Some, Ok, Err, is_some, IfOk, IfSome, OnOk, OnErr, option_copied, option_map, slice_get, slice_index_or};
+ghost use Rattle.std.specs.Prelude.{◌≡◌, ◌≢◌, ◌==◌, ◌&&◌, ℕ, ◌<◌, ◌≤◌, length, map, replicate, false, true, not, if◌then◌else◌, None, Some, Ok, Err, is_some, IfOk, IfSome, OnOk, OnErr, option_copied, option_map, slice_get, slice_index_or};
 ghost use Rattle.mip_links.specs.Table.{delivery, held_by, in_pool, is_address, link_of};
 ghost use Rattle.mip_links.specs.Nets.{new_net, holder_of, has_room, put, declared_of, asked_of, hears_of, lowest_of, spot, with_rows, with_hearing, posted, left, claimed, refusal, is_held_by};
 
@@ -237,9 +237,12 @@ impl Net {
     }
 
     /// Makes room for an address, so that memory is not wanting for a claim of it.
+    #[tactic(auto, using(crate::proofs::NetLaws::has_room_after, crate::proofs::NetLaws::holder_same))]
     pub fn reserve(&mut self, address: Address) -> Result<(), Memory>
         ensures ok { OnOk result (self.new ≡ with_rows self.old (put self.old.rows address.0 (holder_of self.old.rows address.0))) }
         ensures err { OnErr result (self.new ≡ self.old) }
+        ensures holders { (a : ℕ) → holder_of self.new.rows a ≡ holder_of self.old.rows a }
+        ensures room { OnOk result (has_room self.new address.0 ≡ true) }
     {
         let holder = self.holder(address);
         rows::put_holder(&mut self.claims, address, holder)
@@ -254,6 +257,7 @@ impl Net {
         ensures refused { (fault : ClaimFault) → refusal self.old by address.0 ≡ Some fault → result ≡ Err fault }
         ensures only { (fault : ClaimFault) → result ≡ Err fault → fault ≢ ClaimFault.Memory → refusal self.old by address.0 ≡ Some fault }
         ensures room { has_room self.old address.0 ≡ true → result ≢ Err ClaimFault.Memory }
+        ensures holders { OnOk result ((a : ℕ) → holder_of self.new.rows a ≡ (if a == address.0 then Some by else holder_of self.old.rows a)) }
     {
         if self.link_of(address).is_none() {
             return Err(ClaimFault::NoLink);
@@ -274,11 +278,12 @@ impl Net {
     pub fn release(&mut self, by: u8, address: Address) -> bool
         ensures was { result ≡ is_held_by (holder_of self.old.rows address.0) by }
         ensures after { self.new ≡ (if result then with_rows self.old (put self.old.rows address.0 None) else self.old) }
+        ensures holders { (a : ℕ) → holder_of self.new.rows a ≡ (if result && a == address.0 then None else holder_of self.old.rows a) }
     {
-        let Some(other) = self.holder(address) else {
+        let Some(holder) = self.holder(address) else {
             return false;
         };
-        if other != by {
+        if holder != by {
             return false;
         }
         match rows::put_holder(&mut self.claims, address, None) {
