@@ -1,12 +1,12 @@
 -- What a claim, a flag and a posted packet change, and what they leave.
-use Rattle.std.proofs.Common.{◌≡◌, ℕ, zero, suc, ◌+◌, ◌*◌, ◌<◌, ◌≤◌, List, [], ◌∷◌, Bool, true, false, length, inl, inr, refl, arith}
+use Rattle.std.proofs.Common.{◌≡◌, ℕ, zero, suc, ◌+◌, ◌<◌, List, [], ◌∷◌, Bool, true, false, length, inl, inr, arith}
 use Rattle.std.proofs.lemmas.Bool.{cases_eq}
 use Rattle.std.proofs.lemmas.List.{get_or-set_same, get_or-set_other}
 use Rattle.std.specs.Prelude.{Option, Some, None, is_some, unwrap_or, nat_eq, nat_lt, ◌==◌, ◌&&◌, if◌then◌else◌, slice_index_or, slice_set}
 use Rattle.std.specs.Map.{lookup}
 use Rattle.std.proofs.lemmas.Bool.Decides.{nat_tests}
 use Rattle.mip_words.specs.declared.address.Address.{Address}
-use Rattle.mip_links.specs.Nets.{IsLow, holder_of, put, declared_of, with_first, hears_of, spot, first_from, lowest_of}
+use Rattle.mip_links.specs.Nets.{IsLow, holder_of, put, declared_of, with_first, hears_of, spot, first_from}
 
 -- the holder of an address after one was put
 pub lookup-put : (rows : List (ℕ × Option ℕ)) (a : ℕ) (v : Option ℕ) (b : ℕ) → lookup (nat_eq b) (put rows a v) ≡ (if b == a then Some v else lookup (nat_eq b) rows)

@@ -1,5 +1,5 @@
 -- What becomes of a packet that is delivered, as one function of the answers to what a delivery asks.
-use Rattle.std.specs.Prelude.{ℕ, zero, suc, List, [], ◌∷◌, Bool, false, not, ◌&&◌, ◌==◌, nat_lt, if◌then◌else◌, Option, Some, None, slice_get, slice_index_or}
+use Rattle.std.specs.Prelude.{ℕ, suc, List, [], ◌∷◌, Bool, false, not, ◌&&◌, ◌==◌, nat_lt, if◌then◌else◌, Option, Some, None, slice_get, slice_index_or}
 use Rattle.mip_words.specs.Addresses.{prefix_of}
 use Rattle.mip_words.specs.Numbers.{number_at}
 use Rattle.mip_words.specs.declared.address.Address.{Address}
