@@ -14,3 +14,6 @@ pub use claim_fault::ClaimFault;
 pub use delivery::Delivery;
 pub use flight::Flight;
 pub use net::Net;
+
+#[cfg(test)]
+mod tests;
