@@ -1,0 +1,64 @@
+-- The line of an update is its two parts.
+use Rattle.std.proofs.Common.{◌≡◌, ℕ, ◌<◌, ◌≤◌, List, [], ◌∷◌, length, get_or, refl, ap, ◌∙◌, arith}
+use Rattle.std.specs.Prelude.{Result, Ok, Err}
+use Rattle.std.specs.Borrow.{Bor}
+use Rattle.mip_words.specs.Steps.{◌>>=◌}
+use Rattle.mip_words.specs.declared.address.Address.{Address}
+use Rattle.mip_words.specs.declared.ids.LinkId.{LinkId}
+use Rattle.mip_lines.specs.Cutting.{texts}
+use Rattle.mip_schedule.specs.BindParts.{bind_ends, bind_numbers}
+use Rattle.mip_schedule.specs.DeclarationRows.{u16}
+use Rattle.mip_schedule.specs.EventRows.{u32, bind_row}
+use Rattle.mip_schedule.specs.Kinds as kinds
+use Rattle.mip_schedule.specs.declared.declaration.Declaration.{Declaration}
+use Rattle.mip_schedule.specs.declared.event.Event.TheVariants as events
+use Rattle.mip_schedule.specs.declared.ends.Ends.{Ends}
+use Rattle.mip_schedule.specs.declared.reason.Reason.{Reason}
+
+abbrev ends : ℕ → LinkId → Address → Address → Address → Address → Ends
+ends a b x y z w = record { outsider = a; link = b; source = x; peer = y; home = z; careof = w }
+
+bind_split : (ds : List Declaration) (f1 f2 f3 f4 f5 f6 f7 f8 f9 f10 : List ℕ)
+    → bind_row ds (f1 ∷ f2 ∷ f3 ∷ f4 ∷ f5 ∷ f6 ∷ f7 ∷ f8 ∷ f9 ∷ f10 ∷ []) ≡ (bind_ends ds f1 f2 f3 f4 f5 f6 >>= (λ e. bind_numbers e f7 f8 f9 f10))
+unfolding bind_row bind_ends bind_numbers
+bind_split ds f1 f2 f3 f4 f5 f6 f7 f8 f9 f10 = by (kinds.outsider ds f1) (kinds.link ds f2) (kinds.address f3) (kinds.address f4) (kinds.address f5) (kinds.address f6)
+  where
+    by : (o : Result ℕ Reason) (l : Result LinkId Reason) (s p h c : Result Address Reason)
+        → (o >>= (λ a. l >>= (λ b. s >>= (λ x. p >>= (λ y. h >>= (λ z. c >>= (λ w. u16 f7 >>= (λ q. u16 f8 >>= (λ t. u32 f9 >>= (λ k. kinds.some_packet f10 >>= (λ j. Ok (events.Bind a b x y z w q t k j))))))))))))
+        ≡ ((o >>= (λ a. l >>= (λ b. s >>= (λ x. p >>= (λ y. h >>= (λ z. c >>= (λ w. Ok (ends a b x y z w))))))))
+        >>= (λ e. u16 f7 >>= (λ q. u16 f8 >>= (λ t. u32 f9 >>= (λ k. kinds.some_packet f10 >>= (λ j. Ok (events.Bind e.outsider e.link e.source e.peer e.home e.careof q t k j)))))))
+    by (Err r) l s p h c = refl
+    by (Ok a) (Err r) s p h c = refl
+    by (Ok a) (Ok b) (Err r) p h c = refl
+    by (Ok a) (Ok b) (Ok x) (Err r) h c = refl
+    by (Ok a) (Ok b) (Ok x) (Ok y) (Err r) c = refl
+    by (Ok a) (Ok b) (Ok x) (Ok y) (Ok z) (Err r) = refl
+    by (Ok a) (Ok b) (Ok x) (Ok y) (Ok z) (Ok w) = refl
+
+abbrev pub nowhere : Bor (List ℕ)
+nowhere = record { ref_ptr = (0, 0); now = [] }
+
+-- the text of the field at a place
+abbrev pub field : List (Bor (List ℕ)) → ℕ → List ℕ
+field fields i = (get_or fields i nowhere).now
+
+-- ten fields, one by one
+ten : (fs : List (Bor (List ℕ))) → 10 ≤ length fs → length fs < 11
+    → texts fs ≡ field fs 0 ∷ field fs 1 ∷ field fs 2 ∷ field fs 3 ∷ field fs 4 ∷ field fs 5 ∷ field fs 6 ∷ field fs 7 ∷ field fs 8 ∷ field fs 9 ∷ []
+ten [] long short = absurd (omega arith)
+ten (a ∷ []) long short = absurd (omega arith)
+ten (a ∷ b ∷ []) long short = absurd (omega arith)
+ten (a ∷ b ∷ c ∷ []) long short = absurd (omega arith)
+ten (a ∷ b ∷ c ∷ d ∷ []) long short = absurd (omega arith)
+ten (a ∷ b ∷ c ∷ d ∷ e ∷ []) long short = absurd (omega arith)
+ten (a ∷ b ∷ c ∷ d ∷ e ∷ f ∷ []) long short = absurd (omega arith)
+ten (a ∷ b ∷ c ∷ d ∷ e ∷ f ∷ g ∷ []) long short = absurd (omega arith)
+ten (a ∷ b ∷ c ∷ d ∷ e ∷ f ∷ g ∷ h ∷ []) long short = absurd (omega arith)
+ten (a ∷ b ∷ c ∷ d ∷ e ∷ f ∷ g ∷ h ∷ i ∷ []) long short = absurd (omega arith)
+ten (a ∷ b ∷ c ∷ d ∷ e ∷ f ∷ g ∷ h ∷ i ∷ j ∷ []) long short = refl
+ten (a ∷ b ∷ c ∷ d ∷ e ∷ f ∷ g ∷ h ∷ i ∷ j ∷ k ∷ more) long short = absurd (omega arith)
+
+pub bind_parts : (ds : List Declaration) (fs : List (Bor (List ℕ))) → 10 ≤ length fs → length fs < 11
+    → bind_row ds (texts fs) ≡ (bind_ends ds (field fs 0) (field fs 1) (field fs 2) (field fs 3) (field fs 4) (field fs 5) >>= (λ e. bind_numbers e (field fs 6) (field fs 7) (field fs 8) (field fs 9)))
+bind_parts ds fs long short =
+    ap (bind_row ds) (ten fs long short) ∙ bind_split ds (field fs 0) (field fs 1) (field fs 2) (field fs 3) (field fs 4) (field fs 5) (field fs 6) (field fs 7) (field fs 8) (field fs 9)

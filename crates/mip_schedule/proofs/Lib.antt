@@ -1,0 +1,9 @@
+pub mod Few
+pub mod Members
+pub mod FewLaws
+pub mod Walking
+pub mod KindLaws
+pub mod DeclarationLaws
+pub mod EventLaws
+pub mod TextLaws
+pub mod BindLaws

@@ -1,0 +1,11 @@
+-- What a schedule holds.
+use Rattle.std.specs.Prelude.{ℕ, List}
+use Rattle.mip_words.specs.declared.moment.Moment.{Moment}
+use Rattle.mip_schedule.specs.declared.declaration.Declaration.{Declaration}
+use Rattle.mip_schedule.specs.declared.event.Event.{Event}
+
+pub record Content : Type 0 where
+  pub seed : List ℕ
+  pub start : Moment
+  pub declarations : List Declaration
+  pub events : List Event

@@ -1,0 +1,15 @@
+pub mod Names
+pub mod Places
+pub mod Kinds
+pub mod Faults
+pub mod DeclarationRows
+pub mod DeclarationTimes
+pub mod EventRows
+pub mod EventTimes
+pub mod BindParts
+pub mod Contents
+pub mod Reading
+pub mod Declarings
+pub mod Heads
+pub mod Schedules
+pub mod Spelling

@@ -1,0 +1,103 @@
+-- How a schedule is spelled.
+use Rattle.std.specs.Prelude.{ℕ, List, [], ◌∷◌, ◌++◌, Bool, true, false, Option, Some, None, codes, decimal, map, slice_get}
+use Rattle.mip_words.specs.Hex.{hex_of}
+use Rattle.mip_words.specs.declared.ids.LinkId.{LinkId}
+use Rattle.mip_words.specs.declared.ids.NodeId.{NodeId}
+use Rattle.mip_words.specs.declared.moment.Moment.{Moment}
+use Rattle.mip_lines.specs.HexFields.{address_hex, number_hex, hex_text}
+use Rattle.mip_lines.specs.Lines.{lines_text}
+use Rattle.mip_schedule.specs.Contents.{Content}
+use Rattle.mip_schedule.specs.Names.{name_bytes}
+use Rattle.mip_schedule.specs.Places.{members}
+use Rattle.mip_schedule.specs.declared.declaration.Declaration.{Declaration}
+use Rattle.mip_schedule.specs.declared.declaration.Declaration.TheVariants as declare
+use Rattle.mip_schedule.specs.declared.event.Event.{Event}
+use Rattle.mip_schedule.specs.declared.event.Event.TheVariants as events
+use Rattle.mip_schedule.specs.declared.places.Sort.{Sort}
+use Rattle.mip_schedule.specs.declared.places.Sort.TheVariants as sorts
+
+abbrev pub declared_name : Declaration → List ℕ
+declared_name (declare.Link name prefix) = name_bytes name
+declared_name (declare.Agent name link address preference life room) = name_bytes name
+declared_name (declare.Correspondent name link address room) = name_bytes name
+declared_name (declare.Mobile name link address agent) = name_bytes name
+declared_name (declare.Outsider name) = name_bytes name
+declared_name (declare.Serve agent mobile) = []
+
+abbrev pub name_text : Option Declaration → List ℕ
+name_text (Some d) = declared_name d
+name_text None = []
+
+-- the name of what has this place
+unfoldable pub name_at : Sort → ℕ → List Declaration → List ℕ
+name_at sort place ds = name_text (slice_get (members sort ds) place)
+
+abbrev pub link_text : List Declaration → LinkId → List ℕ
+link_text ds l = name_at sorts.Link l.0 ds
+
+abbrev pub node_text : List Declaration → NodeId → List ℕ
+node_text ds n = name_at sorts.Node n.0 ds
+
+abbrev pub outsider_text : List Declaration → ℕ → List ℕ
+outsider_text ds o = name_at sorts.Outsider o ds
+
+-- a word for none
+abbrev pub or_word : {A : Type 0} → List ℕ → (A → List ℕ) → Option A → List ℕ
+or_word word text None = word
+or_word word text (Some x) = text x
+
+abbrev pub careof_text : Bool → List ℕ
+careof_text true = codes "careof"
+careof_text false = codes "home"
+
+-- the line of a declaration after these
+abbrev pub declaration_text : List Declaration → Declaration → List (List ℕ)
+declaration_text ds (declare.Link n p) = codes "link" ∷ name_bytes n ∷ number_hex 8 p.0 ∷ []
+declaration_text ds (declare.Agent n l a p t r) = codes "agent" ∷ name_bytes n ∷ link_text ds l ∷ address_hex a ∷ decimal p ∷ decimal t ∷ decimal r ∷ []
+declaration_text ds (declare.Correspondent n l a r) = codes "correspondent" ∷ name_bytes n ∷ link_text ds l ∷ address_hex a ∷ decimal r ∷ []
+declaration_text ds (declare.Mobile n l a g) = codes "mobile" ∷ name_bytes n ∷ link_text ds l ∷ address_hex a ∷ or_word (codes "find") (node_text ds) g ∷ []
+declaration_text ds (declare.Serve g m) = codes "serve" ∷ node_text ds g ∷ node_text ds m ∷ []
+declaration_text ds (declare.Outsider n) = codes "outsider" ∷ name_bytes n ∷ []
+
+-- the lines of declarations that stand after these
+abbrev pub declaration_rows : List Declaration → List Declaration → List (List (List ℕ))
+declaration_rows before [] = []
+declaration_rows before (d ∷ ds) = declaration_text before d ∷ declaration_rows (before ++ d ∷ []) ds
+
+-- the line of an event
+abbrev pub event_text : List Declaration → Event → List (List ℕ)
+event_text ds (events.Wait a) = codes "wait" ∷ decimal a ∷ []
+event_text ds (events.Move a b) = codes "move" ∷ node_text ds a ∷ or_word (codes "-") (link_text ds) b ∷ []
+event_text ds (events.Advertise a) = codes "advertise" ∷ link_text ds a ∷ []
+event_text ds (events.Payload a b c d) = codes "data" ∷ node_text ds a ∷ address_hex b ∷ decimal c ∷ hex_text d ∷ []
+event_text ds (events.Inject a b c) = codes "inject" ∷ outsider_text ds a ∷ link_text ds b ∷ hex_text c ∷ []
+event_text ds (events.Probe a b c d e f) = codes "probe" ∷ outsider_text ds a ∷ link_text ds b ∷ careof_text c ∷ address_hex d ∷ address_hex e ∷ number_hex 8 f.0 ∷ []
+event_text ds (events.Bind a b c d e f g h i j) = codes "bind" ∷ outsider_text ds a ∷ link_text ds b ∷ address_hex c ∷ address_hex d ∷ address_hex e ∷ address_hex f ∷ decimal g ∷ decimal h ∷ decimal i ∷ or_word (codes "-") decimal j ∷ []
+event_text ds (events.Tell a b c d) = codes "tell" ∷ outsider_text ds a ∷ link_text ds b ∷ decimal c ∷ decimal d ∷ []
+event_text ds (events.Listen a b) = codes "listen" ∷ outsider_text ds a ∷ link_text ds b ∷ []
+event_text ds (events.Deaf a b) = codes "deaf" ∷ outsider_text ds a ∷ link_text ds b ∷ []
+event_text ds (events.Squat a b) = codes "squat" ∷ outsider_text ds a ∷ address_hex b ∷ []
+event_text ds (events.Yield a b) = codes "yield" ∷ outsider_text ds a ∷ address_hex b ∷ []
+event_text ds (events.Deliver a) = codes "deliver" ∷ decimal a ∷ []
+event_text ds (events.Repeat a) = codes "repeat" ∷ decimal a ∷ []
+event_text ds (events.Lose a) = codes "lose" ∷ decimal a ∷ []
+event_text ds (events.Carry a) = codes "carry" ∷ decimal a ∷ []
+event_text ds (events.Restart a) = codes "restart" ∷ node_text ds a ∷ []
+event_text ds (events.Refresh a b) = codes "refresh" ∷ node_text ds a ∷ address_hex b ∷ []
+event_text ds (events.Plan a b c) = codes "plan" ∷ node_text ds a ∷ decimal b ∷ decimal c ∷ []
+event_text ds (events.Ask a) = codes "ask" ∷ node_text ds a ∷ []
+event_text ds (events.Show a) = codes "show" ∷ node_text ds a ∷ []
+event_text ds (events.Settle a b) = codes "settle" ∷ node_text ds a ∷ node_text ds b ∷ []
+
+abbrev pub head_rows : List ℕ → Moment → List (List (List ℕ))
+head_rows seed start = (codes "mip" ∷ codes "1" ∷ []) ∷ (codes "seed" ∷ hex_of seed ∷ []) ∷ (codes "start" ∷ decimal start.0 ∷ []) ∷ []
+
+abbrev pub run_row : List (List ℕ)
+run_row = codes "run" ∷ []
+
+abbrev pub schedule_rows : Content → List (List (List ℕ))
+schedule_rows s = head_rows s.seed s.start ++ (declaration_rows [] s.declarations ++ (run_row ∷ map (event_text s.declarations) s.events))
+
+-- the text of a schedule
+unfoldable pub spelling : Content → List ℕ
+spelling s = lines_text (schedule_rows s)

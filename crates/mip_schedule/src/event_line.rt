@@ -1,0 +1,176 @@
+//! What an event owes to the declarations and to the events before it.
+
+ghost use Rattle.std.specs.Prelude.{◌≡◌, ◌+◌, ◌≤◌, length, IfNone, IfOk};
+ghost use Rattle.mip_lines.specs.Cutting.{texts};
+ghost use Rattle.mip_schedule.specs.EventTimes as rows;
+ghost use Rattle.mip_schedule.specs.Faults.{GivesLine};
+ghost use Rattle.mip_schedule.specs.Places.{AreFew};
+
+use crate::declaration::Declaration;
+use crate::declaration_line::is_prefix_taken;
+use crate::event::Event;
+use crate::event_rows::event_fields;
+use crate::fault::LineFault;
+use crate::reason::Reason;
+use mip_words::Address;
+use std::alloc::Global;
+
+/// How long an event waits, in milliseconds.
+pub fn wait_of(e: &Event) -> u32
+    ensures { result ≡ rows.wait_of e.now }
+{
+    match e {
+        Event::Wait { ms } => *ms,
+        _ => 0,
+    }
+}
+
+/// How many packets an event carries.
+pub fn carry_of(e: &Event) -> u32
+    ensures { result ≡ rows.carry_of e.now }
+{
+    match e {
+        Event::Carry { count } => *count,
+        _ => 0,
+    }
+}
+
+#[tactic(auto, unfolding(crate::specs::EventTimes::is_reserved))]
+fn is_reserved(proto: u8) -> bool
+    ensures { result ≡ rows.is_reserved proto }
+{
+    matches!(proto, 0 | 41 | 43 | 44 | 50 | 51 | 58 | 59 | 60 | 135)
+}
+
+#[tactic(auto, unfolding(crate::specs::EventTimes::is_packet))]
+fn is_packet(bytes: &[u8]) -> bool
+    ensures { result ≡ rows.is_packet bytes.now }
+{
+    if bytes.len() < 40 {
+        return false;
+    }
+    bytes[0] / 16 == 6
+}
+
+#[tactic(auto, unfolding(crate::specs::EventTimes::is_wrong_test))]
+fn is_wrong_test(lifetime: u16, home: Address, careof: Address, test: Option<u32>) -> bool
+    ensures { result ≡ rows.is_wrong_test lifetime home careof test }
+{
+    match test {
+        None => !(lifetime == 0 || careof.0 == home.0),
+        Some(_) => lifetime == 0 || careof.0 == home.0,
+    }
+}
+
+/// What keeps an event from standing after these declarations, and after events with these sums.
+#[tactic(auto, unfolding(crate::specs::EventTimes::misfit))]
+fn misfit(ds: &[Declaration], waits: u32, carries: u32, e: &Event) -> Option<Reason>
+    requires waits { waits ≤ 36000000 }
+    requires carries { carries ≤ 200000 }
+    ensures value { result ≡ rows.misfit ds.now waits carries e.now }
+    ensures waits { IfNone result (waits + rows.wait_of e.now ≤ 36000000) }
+    ensures carries { IfNone result (carries + rows.carry_of e.now ≤ 200000) }
+{
+    match e {
+        Event::Wait { ms } => {
+            if 36_000_000 < waits as u64 + *ms as u64 {
+                Some(Reason::Time)
+            } else {
+                None
+            }
+        }
+        Event::Payload { proto, .. } => {
+            if is_reserved(*proto) {
+                Some(Reason::Number)
+            } else {
+                None
+            }
+        }
+        Event::Inject { packet, .. } => {
+            if is_packet(packet.as_slice()) {
+                None
+            } else {
+                Some(Reason::Packet)
+            }
+        }
+        Event::Bind {
+            lifetime,
+            home,
+            careof,
+            careof_test,
+            ..
+        } => {
+            if is_wrong_test(*lifetime, *home, *careof, *careof_test) {
+                Some(Reason::Clash)
+            } else {
+                None
+            }
+        }
+        Event::Squat { address, .. } => {
+            if is_prefix_taken(ds, address.prefix()) {
+                None
+            } else {
+                Some(Reason::Address)
+            }
+        }
+        Event::Yield { address, .. } => {
+            if is_prefix_taken(ds, address.prefix()) {
+                None
+            } else {
+                Some(Reason::Address)
+            }
+        }
+        Event::Carry { count } => {
+            if 200_000 < carries as u64 + *count as u64 {
+                Some(Reason::Carry)
+            } else {
+                None
+            }
+        }
+        _ => None,
+    }
+}
+
+/// What the events so far come to.
+#[derive(Clone, Copy)]
+pub struct Sums {
+    pub count: usize,
+    pub waits: u32,
+    pub carries: u32,
+}
+
+#[tactic(auto, unfolding(crate::specs::EventTimes::untimely))]
+fn untimely(ds: &[Declaration], sums: Sums, e: &Event) -> Option<Reason>
+    requires waits { sums.waits ≤ 36000000 }
+    requires carries { sums.carries ≤ 200000 }
+    ensures value { result ≡ rows.untimely ds.now sums.count sums.waits sums.carries e.now }
+    ensures waits { IfNone result (sums.waits + rows.wait_of e.now ≤ 36000000) }
+    ensures carries { IfNone result (sums.carries + rows.carry_of e.now ≤ 200000) }
+{
+    if 20_000 <= sums.count {
+        return Some(Reason::Limit);
+    }
+    misfit(ds, sums.waits, sums.carries, e)
+}
+
+/// An event after these declarations, and after events with these sums.
+#[tactic(auto, unfolding(crate::specs::EventTimes::timed_line))]
+pub fn event_line(
+    alloc: Global,
+    ds: &[Declaration],
+    sums: Sums,
+    row: &[&[u8]],
+) -> Result<Event, LineFault>
+    requires few { AreFew ds.now }
+    requires waits { sums.waits ≤ 36000000 }
+    requires carries { sums.carries ≤ 200000 }
+    ensures value { GivesLine (λ e. e) result (rows.timed_line ds.now sums.count sums.waits sums.carries (texts row.now)) }
+    ensures waits { IfOk result (λ e. sums.waits + rows.wait_of e ≤ 36000000) }
+    ensures carries { IfOk result (λ e. sums.carries + rows.carry_of e ≤ 200000) }
+{
+    let e = event_fields(alloc, ds, row)?;
+    match untimely(ds, sums, &e) {
+        None => Ok(e),
+        Some(why) => Err(LineFault::Bad(why)),
+    }
+}

@@ -1,0 +1,85 @@
+//! The lines of events, read to the end of the text.
+
+ghost use Rattle.std.specs.Prelude.{◌≡◌, ◌+◌, ◌<◌, ◌≤◌, ◌^◌, [], length, IfOk};
+ghost use Rattle.mip_lines.specs.Cutting.{fields_of, rows_of};
+ghost use Rattle.mip_schedule.specs.EventTimes as rows;
+ghost use Rattle.mip_schedule.specs.Faults.{GivesText};
+ghost use Rattle.mip_schedule.specs.Places.{AreFew};
+ghost use Rattle.mip_schedule.specs.Reading as reading;
+
+use crate::declaration::Declaration;
+use crate::event::Event;
+use crate::event_line::{Sums, carry_of, event_line, wait_of};
+use crate::events::Events;
+use crate::fault::{LineFault, ScheduleFault};
+use crate::reason::Reason;
+use mip_lines::{cut_at, fields};
+use std::alloc::Global;
+
+/// The event of one line.
+fn next_event(
+    alloc: Global,
+    ds: &[Declaration],
+    sums: Sums,
+    line: u32,
+    row: &[u8],
+) -> Result<Event, ScheduleFault>
+    requires few { AreFew ds.now }
+    requires waits { sums.waits ≤ 36000000 }
+    requires carries { sums.carries ≤ 200000 }
+    ensures value { GivesText (λ e. e) result (reading.at_line line (rows.timed_line ds.now sums.count sums.waits sums.carries (fields_of row.now))) }
+    ensures waits { IfOk result (λ e. sums.waits + rows.wait_of e ≤ 36000000) }
+    ensures carries { IfOk result (λ e. sums.carries + rows.carry_of e ≤ 200000) }
+{
+    let row = fields(alloc, row)?;
+    match event_line(alloc, ds, sums, row.as_slice()) {
+        Ok(e) => Ok(e),
+        Err(LineFault::Bad(why)) => Err(ScheduleFault::Bad { line, why }),
+        Err(LineFault::Memory) => Err(ScheduleFault::Memory),
+    }
+}
+
+/// The events of a text whose first line has this number.
+pub fn events_from(
+    alloc: Global,
+    ds: &[Declaration],
+    first: u32,
+    text: &[u8],
+) -> Result<Events, ScheduleFault>
+    requires few { AreFew ds.now }
+    requires short { first + length text.now < 2 ^ 32 }
+    ensures { GivesText (λ e. e) result (reading.events_of ds.now [] first (rows_of text.now)) }
+{
+    let mut events = Events::new(alloc);
+    let mut waits = 0;
+    let mut carries = 0;
+    let mut line = first;
+    let mut rest = text;
+    while let Some((row, more)) = cut_at(b'\n', rest) {
+        let sums = Sums {
+            count: events.len(),
+            waits,
+            carries,
+        };
+        let event = match next_event(alloc, ds, sums, line, row) {
+            Ok(event) => event,
+            Err(fault) => return Err(fault),
+        };
+        waits += wait_of(&event);
+        carries += carry_of(&event);
+        match events.push(event) {
+            Ok(()) => {}
+            Err(_) => return Err(ScheduleFault::Memory),
+        }
+        line += 1;
+        rest = more;
+    }
+    if rest.is_empty() {
+        Ok(events)
+    } else {
+        Err(ScheduleFault::Bad {
+            line,
+            why: Reason::Form,
+        })
+    }
+}

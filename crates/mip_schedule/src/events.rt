@@ -1,0 +1,60 @@
+ghost use Rattle.std.specs.Prelude.{◌≡◌, ◌∷◌, ◌++◌, [], List, length, slice_get, OnOk, OnErr};
+ghost use Rattle.std.specs.Option.{option_copied};
+
+use crate::event::Event;
+use mip_words::Memory;
+use std::alloc::Global;
+use std::marker::Model;
+
+/// Events, in order.
+#[derive(Drop)]
+pub struct Events {
+    list: Vec<Event>,
+}
+
+impl Model for Events {
+    ghost use Rattle.std.specs.Prelude.{List};
+    ghost use Rattle.mip_schedule.specs.declared.event.Event.{Event};
+
+    ghost Value = { List Event };
+
+    ghost view = { λ a. a.list.items };
+}
+
+impl Events {
+    pub fn new(alloc: Global) -> Events
+        ensures { result ≡ [] }
+    {
+        Events {
+            list: Vec::new(alloc),
+        }
+    }
+
+    /// Appends a event.
+    pub fn push(&mut self, event: Event) -> Result<(), Memory>
+        ensures ok { OnOk result (self.new ≡ self.old ++ event ∷ []) }
+        ensures err { OnErr result (self.new ≡ self.old) }
+    {
+        self.list.push(event)?;
+        Ok(())
+    }
+
+    pub fn len(&self) -> usize
+        ensures { result ≡ length self.now }
+    {
+        self.list.len()
+    }
+
+    /// The event at a place from 0; none past the end.
+    pub fn at(&self, place: usize) -> Option<&Event>
+        ensures { option_copied result ≡ slice_get self.now place }
+    {
+        self.list.get(place)
+    }
+
+    pub fn as_slice(&self) -> &[Event]
+        ensures { result.now ≡ self.now }
+    {
+        self.list.as_slice()
+    }
+}

@@ -1,0 +1,194 @@
+//! The lines of what outsiders do.
+
+ghost use Rattle.std.specs.Prelude.{◌≡◌};
+ghost use Rattle.mip_lines.specs.Cutting.{texts};
+ghost use Rattle.mip_schedule.specs.BindParts.{bind_ends, bind_numbers};
+ghost use Rattle.mip_schedule.specs.EventRows as rows;
+ghost use Rattle.mip_schedule.specs.Faults.{GivesLine};
+ghost use Rattle.mip_schedule.specs.Places.{AreFew};
+
+use crate::declaration::Declaration;
+use crate::ends::Ends;
+use crate::event::Event;
+use crate::fault::LineFault;
+use crate::kinds::{address, bytes, careof, cookie, link, outsider, some_packet, u16_in, u32_in};
+use crate::reason::Reason;
+use std::alloc::Global;
+
+#[tactic(auto, unfolding(crate::specs::EventRows::inject_row))]
+pub fn inject_row(alloc: Global, ds: &[Declaration], fields: &[&[u8]]) -> Result<Event, LineFault>
+    requires { AreFew ds.now }
+    ensures { GivesLine (λ e. e) result (rows.inject_row ds.now (texts fields.now)) }
+{
+    let [by, on, packet] = fields else {
+        return Err(LineFault::Bad(Reason::Form));
+    };
+    Ok(Event::Inject {
+        outsider: outsider(ds, by)?,
+        link: link(ds, on)?,
+        packet: bytes(alloc, 2048, packet)?,
+    })
+}
+
+#[tactic(auto, unfolding(crate::specs::EventRows::probe_row))]
+pub fn probe_row(ds: &[Declaration], fields: &[&[u8]]) -> Result<Event, Reason>
+    requires { AreFew ds.now }
+    ensures { result ≡ rows.probe_row ds.now (texts fields.now) }
+{
+    let [by, on, which, source, peer, cookie_field] = fields else {
+        return Err(Reason::Form);
+    };
+    Ok(Event::Probe {
+        outsider: outsider(ds, by)?,
+        link: link(ds, on)?,
+        careof: careof(which)?,
+        source: address(source)?,
+        peer: address(peer)?,
+        cookie: cookie(cookie_field)?,
+    })
+}
+
+#[tactic(auto, unfolding(crate::specs::BindParts::bind_ends))]
+fn bind_ends(
+    ds: &[Declaration],
+    by: &[u8],
+    on: &[u8],
+    source: &[u8],
+    peer: &[u8],
+    home: &[u8],
+    away: &[u8],
+) -> Result<Ends, Reason>
+    requires { AreFew ds.now }
+    ensures { result ≡ bind_ends ds.now by.now on.now source.now peer.now home.now away.now }
+{
+    Ok(Ends {
+        outsider: outsider(ds, by)?,
+        link: link(ds, on)?,
+        source: address(source)?,
+        peer: address(peer)?,
+        home: address(home)?,
+        careof: address(away)?,
+    })
+}
+
+#[tactic(auto, unfolding(crate::specs::BindParts::bind_numbers))]
+fn bind_numbers(
+    ends: Ends,
+    sequence: &[u8],
+    lifetime: &[u8],
+    home_test: &[u8],
+    careof_test: &[u8],
+) -> Result<Event, Reason>
+    ensures { result ≡ bind_numbers ends sequence.now lifetime.now home_test.now careof_test.now }
+{
+    Ok(Event::Bind {
+        outsider: ends.outsider,
+        link: ends.link,
+        source: ends.source,
+        peer: ends.peer,
+        home: ends.home,
+        careof: ends.careof,
+        sequence: u16_in(0, u16::MAX, sequence)?,
+        lifetime: u16_in(0, u16::MAX, lifetime)?,
+        home_test: u32_in(0, u32::MAX, home_test)?,
+        careof_test: some_packet(careof_test)?,
+    })
+}
+
+#[tactic(auto, unfolding(crate::specs::EventRows::bind_row))]
+pub fn bind_row(ds: &[Declaration], fields: &[&[u8]]) -> Result<Event, Reason>
+    requires { AreFew ds.now }
+    ensures { result ≡ rows.bind_row ds.now (texts fields.now) }
+{
+    let [
+        by,
+        on,
+        source,
+        peer,
+        home,
+        away,
+        sequence,
+        lifetime,
+        home_test,
+        careof_test,
+    ] = fields
+    else {
+        return Err(Reason::Form);
+    };
+    match bind_ends(ds, by, on, source, peer, home, away) {
+        Ok(ends) => bind_numbers(ends, sequence, lifetime, home_test, careof_test),
+        Err(why) => Err(why),
+    }
+}
+
+#[tactic(auto, unfolding(crate::specs::EventRows::tell_row))]
+pub fn tell_row(ds: &[Declaration], fields: &[&[u8]]) -> Result<Event, Reason>
+    requires { AreFew ds.now }
+    ensures { result ≡ rows.tell_row ds.now (texts fields.now) }
+{
+    let [by, on, test, probe] = fields else {
+        return Err(Reason::Form);
+    };
+    Ok(Event::Tell {
+        outsider: outsider(ds, by)?,
+        link: link(ds, on)?,
+        test: u32_in(0, u32::MAX, test)?,
+        probe: u32_in(0, u32::MAX, probe)?,
+    })
+}
+
+#[tactic(auto, unfolding(crate::specs::EventRows::listen_row))]
+pub fn listen_row(ds: &[Declaration], fields: &[&[u8]]) -> Result<Event, Reason>
+    requires { AreFew ds.now }
+    ensures { result ≡ rows.listen_row ds.now (texts fields.now) }
+{
+    let [by, on] = fields else {
+        return Err(Reason::Form);
+    };
+    Ok(Event::Listen {
+        outsider: outsider(ds, by)?,
+        link: link(ds, on)?,
+    })
+}
+
+#[tactic(auto, unfolding(crate::specs::EventRows::deaf_row))]
+pub fn deaf_row(ds: &[Declaration], fields: &[&[u8]]) -> Result<Event, Reason>
+    requires { AreFew ds.now }
+    ensures { result ≡ rows.deaf_row ds.now (texts fields.now) }
+{
+    let [by, on] = fields else {
+        return Err(Reason::Form);
+    };
+    Ok(Event::Deaf {
+        outsider: outsider(ds, by)?,
+        link: link(ds, on)?,
+    })
+}
+
+#[tactic(auto, unfolding(crate::specs::EventRows::squat_row))]
+pub fn squat_row(ds: &[Declaration], fields: &[&[u8]]) -> Result<Event, Reason>
+    requires { AreFew ds.now }
+    ensures { result ≡ rows.squat_row ds.now (texts fields.now) }
+{
+    let [by, claimed] = fields else {
+        return Err(Reason::Form);
+    };
+    Ok(Event::Squat {
+        outsider: outsider(ds, by)?,
+        address: address(claimed)?,
+    })
+}
+
+#[tactic(auto, unfolding(crate::specs::EventRows::yield_row))]
+pub fn yield_row(ds: &[Declaration], fields: &[&[u8]]) -> Result<Event, Reason>
+    requires { AreFew ds.now }
+    ensures { result ≡ rows.yield_row ds.now (texts fields.now) }
+{
+    let [by, claimed] = fields else {
+        return Err(Reason::Form);
+    };
+    Ok(Event::Yield {
+        outsider: outsider(ds, by)?,
+        address: address(claimed)?,
+    })
+}
