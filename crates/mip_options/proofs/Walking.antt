@@ -19,6 +19,12 @@ unfolding options_after
 goes_on place v [] w size some e inside = absurd (omega arith)
 goes_on place v (type ∷ rest) w size some e inside = rw e (options_after_skip size (place + 1) w rest inside)
 
+-- Pad1 is walked over
+pub passes_pad : (place : ℕ) (v : Values) (bytes : List ℕ) → 0 < length bytes → get_or bytes 0 0 ≡ 0 → options_after 0 place v bytes ≡ options_after 0 (place + 1) v (drop 1 bytes)
+unfolding options_after option_at
+passes_pad place v [] some pad = absurd (omega arith)
+passes_pad place v (type ∷ rest) some pad = rw pad refl
+
 -- one that may not ends the walk
 pub stops : (place : ℕ) (v : Values) (bytes : List ℕ) (bad : ℕ) → 0 < length bytes → option_at place (get_or bytes 0 0) v (drop 1 bytes) ≡ Err bad → options_after 0 place v bytes ≡ Err bad
 unfolding options_after

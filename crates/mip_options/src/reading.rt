@@ -1,6 +1,6 @@
 //! Reading the options of a message.
 
-ghost use Rattle.std.specs.Prelude.{◌≡◌, ◌+◌, ◌≤◌, length, drop, take, slice_index, Ok, IfOk, IsTrue};
+ghost use Rattle.std.specs.Prelude.{◌≡◌, ◌+◌, ◌<◌, ◌≤◌, length, drop, take, slice_index, Ok, IfOk, IsTrue};
 ghost use Rattle.mip_options.specs.Values.{Values, values, set_values};
 ghost use Rattle.mip_options.specs.Reading.{is_length_of, is_seen, with_value, option_at, options_of, GivesAt};
 ghost use Rattle.mip_options.specs.Spelling.{IsSpelled};
@@ -50,36 +50,40 @@ fn options_from(message: &[u8], start: usize) -> Result<OptionSet, BadOption>
     };
     let (_, mut rest) = message.split_at(start);
     while !rest.is_empty() {
-        let place = message.len() - rest.len();
         let (_, more) = rest.split_at(1);
-        let (found, size) = option_of(place, rest[0], seen, more)?;
-        seen = found;
+        // Pad1 has no length byte and leaves the values as they are.
+        if rest[0] == 0 {
+            rest = more;
+            continue;
+        }
+        let place = message.len() - rest.len();
+        let size = take_option(place, rest[0], more, &mut seen)?;
         let (_, behind) = more.split_at(size);
         rest = behind;
     }
     Ok(seen)
 }
 
+/// Puts the value of an option into those seen, and gives how many of the bytes behind its type it takes.
 #[tactic(auto, unfolding(crate::specs::Reading::option_at))]
-fn option_of(
+fn take_option(
     place: usize,
     kind: u8,
-    seen: OptionSet,
     more: &[u8],
-) -> Result<(OptionSet, usize), BadOption>
-    ensures exact { GivesAt (λ x. (set_values x.0, x.1)) result (option_at place kind (set_values seen) more.now) }
-    ensures inside { IfOk result (λ x. x.1 ≤ length more.now) }
+    seen: &mut OptionSet,
+) -> Result<usize, BadOption>
+    requires { 0 < kind }
+    ensures exact { GivesAt (λ size. (set_values seen.new, size)) result (option_at place kind (set_values seen.old) more.now) }
+    ensures inside { IfOk result (λ size. size ≤ length more.now) }
 {
-    if kind == 0 {
-        return Ok((seen, 0));
-    }
     if more.is_empty() || more.len() < 1 + more[0] as usize {
         return Err(BadOption { place });
     }
     if !is_length_of(kind, more[0]) || is_seen(kind, seen) || (kind == 5 && more.len() > 13) {
         return Err(BadOption { place });
     }
-    Ok((with_value(kind, seen, more), 1 + more[0] as usize))
+    take_value(kind, more, seen);
+    Ok(1 + more[0] as usize)
 }
 
 fn is_length_of(kind: u8, size: u8) -> bool
@@ -94,8 +98,8 @@ fn is_length_of(kind: u8, size: u8) -> bool
     }
 }
 
-fn is_seen(kind: u8, seen: OptionSet) -> bool
-    ensures { result ≡ is_seen kind (set_values seen) }
+fn is_seen(kind: u8, seen: &OptionSet) -> bool
+    ensures { result ≡ is_seen kind (set_values seen.now) }
 {
     match kind {
         2 => seen.advice.is_some(),
@@ -107,32 +111,22 @@ fn is_seen(kind: u8, seen: OptionSet) -> bool
 }
 
 #[tactic(auto, unfolding(crate::specs::Reading::with_value))]
-fn with_value(kind: u8, seen: OptionSet, more: &[u8]) -> OptionSet
+fn take_value(kind: u8, more: &[u8], seen: &mut OptionSet)
     requires length { IsTrue (is_length_of kind (slice_index more.now 0)) }
     requires inside { 1 + slice_index more.now 0 ≤ length more.now }
-    ensures { set_values result ≡ with_value kind (set_values seen) more.now }
+    ensures { set_values seen.new ≡ with_value kind (set_values seen.old) more.now }
 {
     match kind {
-        2 => OptionSet {
-            advice: Some(u16_at(more, 1)),
-            ..seen
-        },
-        3 => OptionSet {
-            alternate: Some(Address::at(more, 1)),
-            ..seen
-        },
-        4 => OptionSet {
-            nonces: Some(Indices {
+        2 => seen.advice = Some(u16_at(more, 1)),
+        3 => seen.alternate = Some(Address::at(more, 1)),
+        4 => {
+            seen.nonces = Some(Indices {
                 home: u16_at(more, 1),
                 careof: u16_at(more, 3),
-            }),
-            ..seen
-        },
-        5 => OptionSet {
-            authorization: Some(authorization_at(more)),
-            ..seen
-        },
-        _ => seen,
+            })
+        }
+        5 => seen.authorization = Some(authorization_at(more)),
+        _ => (),
     }
 }
 

@@ -1,8 +1,8 @@
-use Rattle.std.proofs.Common.{rules, arith, ap, sym, ◌∙◌, ◌≡◌, ◌+◌, ◌<◌, length, length-drop, drop, ℕ, ◌-◌}
+use Rattle.std.proofs.Common.{rules, arith, ap, sym, ◌∙◌, ◌≡◌, ◌+◌, ◌<◌, length, length-drop, drop, get_or, ℕ, ◌-◌}
 use Rattle.std.proofs.lemmas.Result.{err_from_is_err_and}
 use Rattle.mip_options.specs.Values.{set_values, nothing}
 use Rattle.mip_options.specs.Reading.{options_after, options_of}
-use Rattle.mip_options.proofs.Walking.{goes_on, stops, is_done}
+use Rattle.mip_options.proofs.Walking.{goes_on, passes_pad, stops, is_done}
 use Rattle.mip_options.proofs.reading.options_from.Goals as goal
 
 pub loop-rest-init : goal.loop-rest-init
@@ -16,10 +16,25 @@ loop-rest-init c =
       so_far = ap (λ (k : ℕ). options_after 0 k nothing (drop start message)) place;
     })
 
-pub returns-in_err-found : goal.returns-in_err-found
-returns-in_err-found c =
+pub loop-rest-preserved-then-rest-eq0 : goal.loop-rest-preserved-then-rest-eq0
+loop-rest-preserved-then-rest-eq0 c =
+    let rest = c.loop-rest.rest.now in
+    let message = c.args.message.now in
+    let some : 0 < length rest = search rules in
+    let pad : get_or rest 0 0 ≡ 0 = search rules in
+    let shorter : length (drop 1 rest) + 1 ≡ length rest = omega (arith, length-drop 1 rest, some) in
+    let place : length message - length (drop 1 rest) ≡ length message - length rest + 1 = omega (arith, c.loop-rest.invariant.inside, shorter) in
+    rw c.split_at-in-loop-rest.ensures.back (record {
+      inside = omega (arith, c.loop-rest.invariant.inside, shorter);
+      so_far = ap (λ (k : ℕ). options_after 0 k (set_values c.loop-rest.seen) (drop 1 rest)) place
+          ∙ sym (passes_pad _ _ _ some pad)
+          ∙ c.loop-rest.invariant.so_far;
+    })
+
+pub returns-in_err-size : goal.returns-in_err-size
+returns-in_err-size c =
     let some : 0 < length c.loop-rest.rest.now = search rules in
-    let bad = rw c.split_at-in-loop-rest.ensures.back at c.in_err-found.ensures.exact in
+    let bad = rw c.split_at-in-loop-rest.ensures.back at c.in_err-size.ensures.exact in
     let p = err_from_is_err_and c.from_residual.result c.from_residual.ensures.1 in
     rw (p.1, p.2) (sym c.loop-rest.invariant.so_far ∙ stops _ _ _ _ some bad)
 
@@ -27,16 +42,16 @@ pub loop-rest-preserved : goal.loop-rest-preserved
 loop-rest-preserved c =
     let rest = c.loop-rest.rest.now in
     let more = drop 1 rest in
-    let size = c.in_ok-found.size in
+    let size = c.in_ok-size.size in
     let message = c.args.message.now in
     let some : 0 < length rest = search rules in
-    let found = rw c.split_at-in-loop-rest.ensures.back at c.in_ok-found.ensures.exact in
-    let inside = rw c.split_at-in-loop-rest.ensures.back at c.in_ok-found.ensures.inside in
+    let found = rw c.split_at-in-loop-rest.ensures.back at c.in_ok-size.ensures.exact in
+    let inside = rw c.split_at-in-loop-rest.ensures.back at c.in_ok-size.ensures.inside in
     let lengths : length (drop size more) + size + 1 ≡ length rest = omega (arith, length-drop size more, length-drop 1 rest, some, inside) in
     let place : length message - length (drop size more) ≡ length message - length rest + 1 + size = omega (arith, c.loop-rest.invariant.inside, lengths) in
     rw (c.split_at-in-loop-rest-2.ensures.back, c.split_at-in-loop-rest.ensures.back) (record {
       inside = omega (arith, c.loop-rest.invariant.inside, lengths);
-      so_far = ap (λ (k : ℕ). options_after 0 k (set_values c.in_ok-found.found) (drop size more)) place
+      so_far = ap (λ (k : ℕ). options_after 0 k (set_values c.take_option.new.seen) (drop size more)) place
           ∙ sym (goes_on _ _ _ _ size some found inside)
           ∙ c.loop-rest.invariant.so_far;
     })
