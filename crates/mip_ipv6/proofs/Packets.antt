@@ -3,9 +3,10 @@ use Rattle.std.proofs.Common.{◌≡◌, ℕ, ◌+◌, ◌-◌, ◌/◌, ◌^◌
 use Rattle.std.specs.Prelude.{false, not, ◌==◌, nat_lt, slice_index, Option, Result, Ok, Err}
 use Rattle.std.proofs.lemmas.Bool.{cond_both, cond-false, eqb-true, eqb-false, ltb-false, not-false, or_parts, eq-eqb, le-ltb, not_from_true}
 use Rattle.std.proofs.lemmas.List.{append_assoc, drop_at, drop-drop}
-use Rattle.mip_words.specs.Numbers.{number_at}
+use Rattle.mip_words.specs.Numbers.{IsBytes, number_at}
 use Rattle.mip_words.specs.Steps.{◌>>=◌}
 use Rattle.mip_words.specs.declared.address.Address.{Address}
+use Rattle.mip_words.proofs.Fields.{number_at-lt}
 use Rattle.mip_words.proofs.StepLaws.{bind_ok, ok_is, done}
 use Rattle.mip_ipv6.specs.declared.head.Head.{Head}
 use Rattle.mip_ipv6.specs.declared.not_packet.NotPacket.{NotPacket}
@@ -146,3 +147,7 @@ body_stands p bytes is =
 
 pub read_stands : (p : Packet) (bytes : List ℕ) → packet_of bytes ≡ Ok p → Stands p.body bytes
 read_stands p bytes e = body_stands p bytes (packet_takes bytes p e)
+
+-- the bytes behind the fixed header are counted in 16 bits
+pub body_small : (p : Packet) (bytes : List ℕ) → IsBytes bytes → IsPacket p bytes → length p.body ≤ 65535
+body_small p bytes are is = omega (arith, number_at-lt 2 4 bytes are, is.size, (body_stands p bytes is).long)

@@ -119,6 +119,7 @@ pub fn read_packet(bytes: &[u8]) -> Result<PacketRef<'_>, NotPacket>
     ensures only { (p : Packet) → IsPacket p bytes.now → Gives packet result (Ok p) }
     ensures exact { Gives packet result (packet_of bytes.now) }
     ensures place { IfOk result (λ p. IsAt p bytes.now) }
+    ensures small { IfOk result (λ p. length p.body.now ≤ 65535) }
 {
     located(bytes)
 }
