@@ -1,5 +1,4 @@
 ghost use Rattle.std.specs.Prelude.{◌≡◌, ◌≤◌, ◌↔◌, length, Err, IfOk};
-ghost use Rattle.mip_words.specs.Steps.{Gives};
 ghost use Rattle.mip_ipv6.specs.Packet.{packet};
 ghost use Rattle.mip_ipv6.specs.Reading.{packet_of};
 ghost use Rattle.mip_ipv6.specs.declared.not_packet.NotPacket.{NotPacket};
@@ -8,17 +7,9 @@ ghost use Rattle.mip_explain.specs.Listing.{packet_lines, listing_of, Explains};
 use crate::body_listing::put_body;
 use crate::fault::ExplainFault;
 use crate::head_listing::{put_extensions, put_fixed};
-use mip_ipv6::{NotPacket, PacketRef, read_packet};
+use mip_ipv6::{PacketRef, read_packet};
 use mip_words::{Bytes, Memory};
 use std::alloc::Global;
-
-/// The packet, whose body is as long as its 16-bit length allows.
-fn read(bytes: &[u8]) -> Result<PacketRef<'_>, NotPacket>
-    ensures exact { Gives packet result (packet_of bytes.now) }
-    ensures small { IfOk result (λ p. length p.body.now ≤ 65535) }
-{
-    read_packet(bytes)
-}
 
 #[tactic(auto, unfolding(crate::specs::Listing::packet_lines))]
 fn written(alloc: Global, read: &PacketRef) -> Result<Bytes, Memory>
@@ -36,7 +27,7 @@ fn written(alloc: Global, read: &PacketRef) -> Result<Bytes, Memory>
 fn listed(alloc: Global, packet: &[u8]) -> Result<Bytes, ExplainFault>
     ensures { Explains result (listing_of packet.now) }
 {
-    let packet = read(packet)?;
+    let packet = read_packet(packet)?;
     Ok(written(alloc, &packet)?)
 }
 
