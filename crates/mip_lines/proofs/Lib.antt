@@ -3,3 +3,4 @@ pub mod Numbers
 pub mod RowLaws
 pub mod LineLaws
 pub mod HexFieldLaws
+pub mod LongRows

@@ -1,10 +1,10 @@
 -- What is known of the parts of a text.
 use Rattle.std.proofs.Common.{◌≡◌, ℕ, ◌+◌, ◌<◌, ◌≤◌, List, [], ◌∷◌, length, take, drop, Bool, not, refl, ap, ◌∙◌, subst, inl, inr, arith, nat_lt}
 use Rattle.std.specs.Prelude.{Option, Some, None, ◌==◌}
-use Rattle.std.specs.List.{slice_split, onto_first, position, position_or_len}
+use Rattle.std.specs.List.{count_by, slice_split, onto_first, position, position_or_len}
 use Rattle.std.proofs.lemmas.Bool.{cond_both, cond-true, cond-false, cases_Bool, ltb-true, ltb-false, not_from_true, not_from_false}
-use Rattle.std.proofs.lemmas.List.Splits.{slice_split-cons_no, slice_split_first}
-use Rattle.mip_lines.specs.Cutting.{parts}
+use Rattle.std.proofs.lemmas.List.Splits.{length-slice_split, slice_split-cons_no, slice_split_first}
+use Rattle.mip_lines.specs.Cutting.{parts, fields_of}
 
 -- where no byte passes, the list is the one part
 whole : (p : ℕ → Bool) (xs : List ℕ) → length xs ≤ position_or_len p xs → slice_split p xs ≡ xs ∷ []
@@ -38,3 +38,8 @@ parts_some c bytes i =
     subst (λ (k : ℕ). (k < length bytes) × (slice_split p bytes ≡ take k bytes ∷ slice_split p (drop (k + 1) bytes))) same
     (ltb-true at (length bytes) near, slice_split_first p bytes 0 (ltb-true at (length bytes) near)))
     (λ _ e. absurd cc)
+
+-- a line has one field more than spaces
+pub fields_counted : (line : List ℕ) → length (fields_of line) ≡ count_by (λ b. b == 32) line + 1
+unfolding parts
+fields_counted line = length-slice_split (λ b. b == 32) line

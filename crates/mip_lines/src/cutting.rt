@@ -1,7 +1,7 @@
 //! Texts cut at a byte.
 
-ghost use Rattle.std.specs.Prelude.{◌≡◌, ◌==◌, ◌+◌, List, [], ◌∷◌, length, MatchOption, IfSome, IfOk};
-ghost use Rattle.std.specs.List.{position};
+ghost use Rattle.std.specs.Prelude.{◌≡◌, ◌==◌, ◌+◌, ◌<◌, ◌≤◌, List, [], ◌∷◌, length, MatchOption, IfSome, IfOk};
+ghost use Rattle.std.specs.List.{count_by, position};
 ghost use Rattle.mip_lines.specs.Cutting.{parts, fields_of, texts};
 
 use mip_words::Memory;
@@ -26,6 +26,21 @@ pub fn cut_at(byte: u8, bytes: &[u8]) -> Option<(&[u8], &[u8])>
     Some((front, rest))
 }
 
+fn count_spaces(line: &[u8]) -> usize
+    ensures value { result ≡ count_by (λ b. b == 32) line.now }
+    ensures within { result ≤ length line.now }
+{
+    line.iter().filter(|b| **b == b' ').count()
+}
+
+/// How many fields a line has.
+#[tactic(auto, using(crate::proofs::Parts::fields_counted))]
+fn count_fields(line: &[u8]) -> usize
+    ensures { result ≡ length (fields_of line.now) }
+{
+    count_spaces(line) + 1
+}
+
 /// The fields of a line, which lie between single spaces.
 pub fn fields(alloc: Global, line: &[u8]) -> Result<Vec<&[u8]>, Memory>
     ensures { IfOk result (λ v. texts v.items ≡ fields_of line.now) }
@@ -38,4 +53,14 @@ pub fn fields(alloc: Global, line: &[u8]) -> Result<Vec<&[u8]>, Memory>
     }
     fields.push(rest)?;
     Ok(fields)
+}
+
+/// The fields of a line that has so many at most; none, and no memory taken, where it has more.
+pub fn fields_up_to(alloc: Global, most: usize, line: &[u8]) -> Result<Option<Vec<&[u8]>>, Memory>
+    ensures { IfOk result (λ o. MatchOption o (most < length (fields_of line.now)) (λ v. texts v.items ≡ fields_of line.now)) }
+{
+    if most < count_fields(line) {
+        return Ok(None);
+    }
+    Ok(Some(fields(alloc, line)?))
 }

@@ -21,8 +21,8 @@ use Rattle.mip_lines.proofs.Numbers.{number-spelled}
 use Rattle.mip_schedule.specs.Kinds as kinds
 use Rattle.mip_schedule.specs.Kinds.{or_reason, to_host, or_none, number, address, prefix, cookie, seed, bytes, new_name, place, link, node, outsider, some_link, some_agent, some_packet, careof}
 use Rattle.mip_schedule.specs.Names.{is_name, name_bytes, name_of}
-use Rattle.mip_schedule.specs.Places.{members, fits, is_named, is_taken, place_of}
-use Rattle.mip_schedule.specs.Spelling.{declared_name, name_text, name_at, link_text, node_text, outsider_text, or_word, careof_text}
+use Rattle.mip_schedule.specs.Places.{members, fits, is_named, is_taken, place_of, declared_name, name_text, name_at}
+use Rattle.mip_schedule.specs.Spelling.{link_text, node_text, outsider_text, or_word, careof_text}
 use Rattle.mip_schedule.specs.declared.declaration.Declaration.{Declaration}
 use Rattle.mip_schedule.specs.declared.declaration.Declaration.TheVariants as declare
 use Rattle.mip_schedule.specs.declared.name.Name.{Name}

@@ -1,4 +1,4 @@
-pub mod Few
+pub mod PlaceLaws
 pub mod Members
 pub mod FewLaws
 pub mod Walking
@@ -7,3 +7,8 @@ pub mod DeclarationLaws
 pub mod EventLaws
 pub mod TextLaws
 pub mod BindLaws
+pub mod AcceptedLaws
+pub mod NameLaws
+pub mod StandingLaws
+pub mod WritingLaws
+pub mod LongLaws

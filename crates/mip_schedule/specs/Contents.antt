@@ -9,3 +9,6 @@ pub record Content : Type 0 where
   pub start : Moment
   pub declarations : List Declaration
   pub events : List Event
+
+abbrev pub holding : List ℕ → Moment → List Declaration → List Event → Content
+holding seed start declarations events = record { seed = seed; start = start; declarations = declarations; events = events }

@@ -11,5 +11,7 @@ pub mod Contents
 pub mod Reading
 pub mod Declarings
 pub mod Heads
-pub mod Schedules
 pub mod Spelling
+pub mod Groups
+pub mod Accepted
+pub mod Schedules

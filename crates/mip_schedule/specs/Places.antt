@@ -1,8 +1,8 @@
 -- Places: the numbers of links, nodes and outsiders, each counted from 0 in the order of declaration.
-use Rattle.std.specs.Prelude.{ℕ, ◌≤◌, List, length, Bool, true, false, ◌&&◌, Option}
+use Rattle.std.specs.Prelude.{ℕ, ◌≡◌, ◌<◌, ◌≤◌, List, [], length, Bool, true, false, ◌&&◌, Option, Some, None, slice_get}
 use Rattle.std.specs.List.{filter, position, list_any}
 use Rattle.std.specs.Str.{bytes_eq}
-use Rattle.mip_schedule.specs.Names.{name_bytes}
+use Rattle.mip_schedule.specs.Names.{is_name, name_bytes}
 use Rattle.mip_schedule.specs.declared.declaration.Declaration.{Declaration}
 use Rattle.mip_schedule.specs.declared.declaration.Declaration.TheVariants as declare
 use Rattle.mip_schedule.specs.declared.places.Sort.{Sort}
@@ -74,8 +74,33 @@ members sort ds = filter (counts sort) ds
 unfoldable pub place_of : Sort → List ℕ → List Declaration → Option ℕ
 place_of sort field ds = position (λ d. fits sort d && is_named field d) (members sort ds)
 
+-- the name that a declaration gives
+abbrev pub declared_name : Declaration → List ℕ
+declared_name (declare.Link name prefix) = name_bytes name
+declared_name (declare.Agent name link address preference life room) = name_bytes name
+declared_name (declare.Correspondent name link address room) = name_bytes name
+declared_name (declare.Mobile name link address agent) = name_bytes name
+declared_name (declare.Outsider name) = name_bytes name
+declared_name (declare.Serve agent mobile) = []
+
+abbrev pub name_text : Option Declaration → List ℕ
+name_text (Some d) = declared_name d
+name_text None = []
+
+-- the name of what has this place
+unfoldable pub name_at : Sort → ℕ → List Declaration → List ℕ
+name_at sort place ds = name_text (slice_get (members sort ds) place)
+
 -- no more links, nodes and outsiders than there may be
 pub record AreFew (ds : List Declaration) : Type 0 where
   pub links : length (members Link ds) ≤ 32
   pub nodes : length (members Node ds) ≤ 32
   pub outsiders : length (members Outsider ds) ≤ 8
+
+-- the name of a link, a node or an outsider is found at its number, each name is one, and no outsider has a node's name
+pub record NamesFound (ds : List Declaration) : Type 0 where
+  pub links : (n : ℕ) → n < length (members Link ds) → place_of Link (name_at Link n ds) ds ≡ Some n
+  pub nodes : (n : ℕ) → n < length (members Node ds) → place_of Node (name_at Node n ds) ds ≡ Some n
+  pub outsiders : (n : ℕ) → n < length (members Outsider ds) → place_of Outsider (name_at Outsider n ds) ds ≡ Some n
+  pub apart : (n : ℕ) → n < length (members Outsider ds) → place_of Node (name_at Outsider n ds) ds ≡ None
+  pub names : (sort : Sort) (n : ℕ) → n < length (members sort ds) → is_name (name_at sort n ds) ≡ true

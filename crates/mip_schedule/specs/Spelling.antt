@@ -1,36 +1,21 @@
 -- How a schedule is spelled.
-use Rattle.std.specs.Prelude.{ℕ, List, [], ◌∷◌, ◌++◌, Bool, true, false, Option, Some, None, codes, decimal, map, slice_get}
+use Rattle.std.specs.Prelude.{ℕ, List, [], ◌∷◌, ◌++◌, Bool, true, false, Option, Some, None, codes, decimal, map}
 use Rattle.mip_words.specs.Hex.{hex_of}
+use Rattle.mip_words.specs.declared.address.Address.{Address}
 use Rattle.mip_words.specs.declared.ids.LinkId.{LinkId}
 use Rattle.mip_words.specs.declared.ids.NodeId.{NodeId}
 use Rattle.mip_words.specs.declared.moment.Moment.{Moment}
+use Rattle.mip_words.specs.declared.token.Cookie.{Cookie}
 use Rattle.mip_lines.specs.HexFields.{address_hex, number_hex, hex_text}
 use Rattle.mip_lines.specs.Lines.{lines_text}
 use Rattle.mip_schedule.specs.Contents.{Content}
 use Rattle.mip_schedule.specs.Names.{name_bytes}
-use Rattle.mip_schedule.specs.Places.{members}
+use Rattle.mip_schedule.specs.Places.{name_at}
 use Rattle.mip_schedule.specs.declared.declaration.Declaration.{Declaration}
 use Rattle.mip_schedule.specs.declared.declaration.Declaration.TheVariants as declare
 use Rattle.mip_schedule.specs.declared.event.Event.{Event}
 use Rattle.mip_schedule.specs.declared.event.Event.TheVariants as events
-use Rattle.mip_schedule.specs.declared.places.Sort.{Sort}
 use Rattle.mip_schedule.specs.declared.places.Sort.TheVariants as sorts
-
-abbrev pub declared_name : Declaration → List ℕ
-declared_name (declare.Link name prefix) = name_bytes name
-declared_name (declare.Agent name link address preference life room) = name_bytes name
-declared_name (declare.Correspondent name link address room) = name_bytes name
-declared_name (declare.Mobile name link address agent) = name_bytes name
-declared_name (declare.Outsider name) = name_bytes name
-declared_name (declare.Serve agent mobile) = []
-
-abbrev pub name_text : Option Declaration → List ℕ
-name_text (Some d) = declared_name d
-name_text None = []
-
--- the name of what has this place
-unfoldable pub name_at : Sort → ℕ → List Declaration → List ℕ
-name_at sort place ds = name_text (slice_get (members sort ds) place)
 
 abbrev pub link_text : List Declaration → LinkId → List ℕ
 link_text ds l = name_at sorts.Link l.0 ds
@@ -64,6 +49,10 @@ abbrev pub declaration_rows : List Declaration → List Declaration → List (Li
 declaration_rows before [] = []
 declaration_rows before (d ∷ ds) = declaration_text before d ∷ declaration_rows (before ++ d ∷ []) ds
 
+-- the line of a home or care-of test init, by the word for which it is
+abbrev pub probe_text : List Declaration → ℕ → LinkId → List ℕ → Address → Address → Cookie → List (List ℕ)
+probe_text ds o l which source peer cookie = codes "probe" ∷ outsider_text ds o ∷ link_text ds l ∷ which ∷ address_hex source ∷ address_hex peer ∷ number_hex 8 cookie.0 ∷ []
+
 -- the line of an event
 abbrev pub event_text : List Declaration → Event → List (List ℕ)
 event_text ds (events.Wait a) = codes "wait" ∷ decimal a ∷ []
@@ -71,7 +60,7 @@ event_text ds (events.Move a b) = codes "move" ∷ node_text ds a ∷ or_word (c
 event_text ds (events.Advertise a) = codes "advertise" ∷ link_text ds a ∷ []
 event_text ds (events.Payload a b c d) = codes "data" ∷ node_text ds a ∷ address_hex b ∷ decimal c ∷ hex_text d ∷ []
 event_text ds (events.Inject a b c) = codes "inject" ∷ outsider_text ds a ∷ link_text ds b ∷ hex_text c ∷ []
-event_text ds (events.Probe a b c d e f) = codes "probe" ∷ outsider_text ds a ∷ link_text ds b ∷ careof_text c ∷ address_hex d ∷ address_hex e ∷ number_hex 8 f.0 ∷ []
+event_text ds (events.Probe a b c d e f) = probe_text ds a b (careof_text c) d e f
 event_text ds (events.Bind a b c d e f g h i j) = codes "bind" ∷ outsider_text ds a ∷ link_text ds b ∷ address_hex c ∷ address_hex d ∷ address_hex e ∷ address_hex f ∷ decimal g ∷ decimal h ∷ decimal i ∷ or_word (codes "-") decimal j ∷ []
 event_text ds (events.Tell a b c d) = codes "tell" ∷ outsider_text ds a ∷ link_text ds b ∷ decimal c ∷ decimal d ∷ []
 event_text ds (events.Listen a b) = codes "listen" ∷ outsider_text ds a ∷ link_text ds b ∷ []

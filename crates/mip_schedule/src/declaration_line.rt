@@ -9,7 +9,7 @@ ghost use Rattle.mip_schedule.specs.Places.{AreFew, is_mobile, members};
 use crate::declaration::Declaration;
 use crate::declaration_rows::declaration_fields;
 use crate::places::{Sort, count, is_mobile, member};
-use crate::reason::Reason;
+use crate::reason::{Reason, refused};
 use mip_words::{Address, LinkId, NodeId, Prefix};
 
 /// The last 64 bits of the home-agents anycast addresses (RFC 2526 section 3).
@@ -131,20 +131,12 @@ fn undeclared(ds: &[Declaration], d: Declaration) -> Option<Reason>
         Declaration::Link { prefix, .. } => {
             if is_full(32, ds, Sort::Link) {
                 Some(Reason::Limit)
-            } else if is_prefix_taken(ds, prefix) {
-                Some(Reason::Clash)
             } else {
-                None
+                refused(is_prefix_taken(ds, prefix), Reason::Clash)
             }
         }
-        Declaration::Agent { link, address, .. } => {
-            if is_full(32, ds, Sort::Node) {
-                Some(Reason::Limit)
-            } else {
-                misplaced(ds, link, address)
-            }
-        }
-        Declaration::Correspondent { link, address, .. } => {
+        Declaration::Agent { link, address, .. }
+        | Declaration::Correspondent { link, address, .. } => {
             if is_full(32, ds, Sort::Node) {
                 Some(Reason::Limit)
             } else {
@@ -159,19 +151,9 @@ fn undeclared(ds: &[Declaration], d: Declaration) -> Option<Reason>
             }
         }
         Declaration::Serve { agent, mobile } => {
-            if is_served(ds, agent, mobile) {
-                Some(Reason::Clash)
-            } else {
-                None
-            }
+            refused(is_served(ds, agent, mobile), Reason::Clash)
         }
-        Declaration::Outsider { .. } => {
-            if is_full(8, ds, Sort::Outsider) {
-                Some(Reason::Limit)
-            } else {
-                None
-            }
-        }
+        Declaration::Outsider { .. } => refused(is_full(8, ds, Sort::Outsider), Reason::Limit),
     }
 }
 

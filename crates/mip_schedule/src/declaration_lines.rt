@@ -11,9 +11,9 @@ ghost use Rattle.mip_schedule.specs.Reading as reading;
 use crate::declaration::Declaration;
 use crate::declaration_line::declaration_line;
 use crate::declarations::Declarations;
-use crate::fault::ScheduleFault;
+use crate::fault::{MOST_FIELDS, ScheduleFault};
 use crate::reason::Reason;
-use mip_lines::{cut_at, fields};
+use mip_lines::{cut_at, fields_up_to};
 use std::alloc::Global;
 
 /// Declarations, the number of the line behind `run`, and the text from there on.
@@ -34,7 +34,7 @@ fn is_run(row: &[&[u8]]) -> bool
 }
 
 /// The declaration of one line, or none at `run`.
-#[tactic(auto, unfolding(crate::specs::Declarings::next_of))]
+#[tactic(auto, unfolding(crate::specs::Declarings::next_of), using(crate::proofs::LongLaws::long_next))]
 fn next_declaration(
     alloc: Global,
     ds: &[Declaration],
@@ -44,7 +44,12 @@ fn next_declaration(
     requires { AreFew ds.now }
     ensures { GivesText (λ d. d) result (next_of ds.now line (fields_of row.now)) }
 {
-    let row = fields(alloc, row)?;
+    let Some(row) = fields_up_to(alloc, MOST_FIELDS, row)? else {
+        return Err(ScheduleFault::Bad {
+            line,
+            why: Reason::Form,
+        });
+    };
     if is_run(row.as_slice()) {
         return Ok(None);
     }

@@ -11,7 +11,7 @@ use crate::declaration_line::is_prefix_taken;
 use crate::event::Event;
 use crate::event_rows::event_fields;
 use crate::fault::LineFault;
-use crate::reason::Reason;
+use crate::reason::{Reason, refused, too_many};
 use mip_words::Address;
 use std::alloc::Global;
 
@@ -72,61 +72,23 @@ fn misfit(ds: &[Declaration], waits: u32, carries: u32, e: &Event) -> Option<Rea
     ensures carries { IfNone result (carries + rows.carry_of e.now ≤ 200000) }
 {
     match e {
-        Event::Wait { ms } => {
-            if 36_000_000 < waits as u64 + *ms as u64 {
-                Some(Reason::Time)
-            } else {
-                None
-            }
-        }
-        Event::Payload { proto, .. } => {
-            if is_reserved(*proto) {
-                Some(Reason::Number)
-            } else {
-                None
-            }
-        }
-        Event::Inject { packet, .. } => {
-            if is_packet(packet.as_slice()) {
-                None
-            } else {
-                Some(Reason::Packet)
-            }
-        }
+        Event::Wait { ms } => too_many(36_000_000, waits, *ms, Reason::Time),
+        Event::Payload { proto, .. } => refused(is_reserved(*proto), Reason::Number),
+        Event::Inject { packet, .. } => refused(!is_packet(packet.as_slice()), Reason::Packet),
         Event::Bind {
             lifetime,
             home,
             careof,
             careof_test,
             ..
-        } => {
-            if is_wrong_test(*lifetime, *home, *careof, *careof_test) {
-                Some(Reason::Clash)
-            } else {
-                None
-            }
+        } => refused(
+            is_wrong_test(*lifetime, *home, *careof, *careof_test),
+            Reason::Clash,
+        ),
+        Event::Squat { address, .. } | Event::Yield { address, .. } => {
+            refused(!is_prefix_taken(ds, address.prefix()), Reason::Address)
         }
-        Event::Squat { address, .. } => {
-            if is_prefix_taken(ds, address.prefix()) {
-                None
-            } else {
-                Some(Reason::Address)
-            }
-        }
-        Event::Yield { address, .. } => {
-            if is_prefix_taken(ds, address.prefix()) {
-                None
-            } else {
-                Some(Reason::Address)
-            }
-        }
-        Event::Carry { count } => {
-            if 200_000 < carries as u64 + *count as u64 {
-                Some(Reason::Carry)
-            } else {
-                None
-            }
-        }
+        Event::Carry { count } => too_many(200_000, carries, *count, Reason::Carry),
         _ => None,
     }
 }

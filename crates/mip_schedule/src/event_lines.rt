@@ -11,12 +11,13 @@ use crate::declaration::Declaration;
 use crate::event::Event;
 use crate::event_line::{Sums, carry_of, event_line, wait_of};
 use crate::events::Events;
-use crate::fault::{LineFault, ScheduleFault};
+use crate::fault::{LineFault, MOST_FIELDS, ScheduleFault};
 use crate::reason::Reason;
-use mip_lines::{cut_at, fields};
+use mip_lines::{cut_at, fields_up_to};
 use std::alloc::Global;
 
 /// The event of one line.
+#[tactic(auto, using(crate::proofs::LongLaws::long_timed))]
 fn next_event(
     alloc: Global,
     ds: &[Declaration],
@@ -31,7 +32,12 @@ fn next_event(
     ensures waits { IfOk result (λ e. sums.waits + rows.wait_of e ≤ 36000000) }
     ensures carries { IfOk result (λ e. sums.carries + rows.carry_of e ≤ 200000) }
 {
-    let row = fields(alloc, row)?;
+    let Some(row) = fields_up_to(alloc, MOST_FIELDS, row)? else {
+        return Err(ScheduleFault::Bad {
+            line,
+            why: Reason::Form,
+        });
+    };
     match event_line(alloc, ds, sums, row.as_slice()) {
         Ok(e) => Ok(e),
         Err(LineFault::Bad(why)) => Err(ScheduleFault::Bad { line, why }),

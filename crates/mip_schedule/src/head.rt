@@ -7,10 +7,10 @@ ghost use Rattle.mip_schedule.specs.Faults.{GivesText};
 ghost use Rattle.mip_schedule.specs.Heads.{head_seen};
 ghost use Rattle.mip_schedule.specs.Reading as reading;
 
-use crate::fault::ScheduleFault;
+use crate::fault::{MOST_FIELDS, ScheduleFault};
 use crate::kinds::{seed, u8_in, u64_in};
 use crate::reason::Reason;
-use mip_lines::{cut_at, fields};
+use mip_lines::{cut_at, fields_up_to};
 use mip_words::Moment;
 use std::alloc::Global;
 
@@ -52,7 +52,12 @@ fn head_field<'a>(
             why: Reason::Form,
         });
     };
-    let row = fields(alloc, row)?;
+    let Some(row) = fields_up_to(alloc, MOST_FIELDS, row)? else {
+        return Err(ScheduleFault::Bad {
+            line,
+            why: Reason::Form,
+        });
+    };
     match headed(word, row.as_slice()) {
         Ok(field) => Ok((field, rest)),
         Err(why) => Err(ScheduleFault::Bad { line, why }),

@@ -126,7 +126,7 @@ pub fn new_name(ds: &[Declaration], field: &[u8]) -> Result<Name, Reason>
 }
 
 /// The place of what is of this sort and has this name.
-#[tactic(auto, unfolding(crate::specs::Kinds::place), using(crate::proofs::Few::place_small))]
+#[tactic(auto, unfolding(crate::specs::Kinds::place), using(crate::proofs::PlaceLaws::place_small))]
 fn place(sort: Sort, ds: &[Declaration], field: &[u8]) -> Result<u8, Reason>
     requires { AreFew ds.now }
     ensures { result ≡ kinds.place sort ds.now field.now }

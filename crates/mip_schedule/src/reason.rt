@@ -1,3 +1,5 @@
+ghost use Rattle.std.specs.Prelude.{◌≡◌, ◌+◌, ◌≤◌, nat_lt, if◌then◌else◌, Some, None, IfNone};
+
 /// Why a line is not in the grammar.
 #[derive(Clone, Copy, Debug, PartialEq, Eq)]
 pub enum Reason {
@@ -21,4 +23,23 @@ pub enum Reason {
     Time,
     /// Too many packets are carried together.
     Carry,
+}
+
+/// This reason where there is cause.
+pub fn refused(cause: bool, why: Reason) -> Option<Reason>
+    ensures { result ≡ (if cause then Some why else None) }
+{
+    if cause { Some(why) } else { None }
+}
+
+/// This reason where so many and some more pass the most that there may be.
+pub fn too_many(most: u32, sum: u32, more: u32, why: Reason) -> Option<Reason>
+    ensures value { result ≡ (if nat_lt most (sum + more) then Some why else None) }
+    ensures within { IfNone result (sum + more ≤ most) }
+{
+    if (most as u64) < sum as u64 + more as u64 {
+        Some(why)
+    } else {
+        None
+    }
 }

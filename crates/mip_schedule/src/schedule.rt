@@ -1,45 +1,23 @@
-ghost use Rattle.std.specs.Prelude.{◌≡◌, ◌+◌, ◌<◌, ◌^◌, length};
-ghost use Rattle.mip_schedule.specs.Faults.{GivesText};
-ghost use Rattle.mip_schedule.specs.Reading.{reading};
-ghost use Rattle.mip_schedule.specs.Schedules.{content};
+ghost use Rattle.std.specs.Prelude.{◌≡◌, true};
+ghost use Rattle.std.specs.Coded.{Coded-set};
+ghost use Rattle.mip_schedule.specs.Accepted.{again, is_accepted};
+ghost use Rattle.mip_schedule.specs.Contents.{holding};
 
-use crate::declaration_lines::declarations_from;
 use crate::declarations::Declarations;
-use crate::event_lines::events_from;
 use crate::events::Events;
-use crate::fault::ScheduleFault;
-use crate::head::read_head;
 use mip_words::Moment;
-use std::alloc::Global;
 
-/// A schedule: the seed of all secrets, the moment of the start, who there is, and what happens.
+/// A schedule: the seed of all secrets, the moment of the start, who there is, and what happens. What it
+/// holds can be written, and is read again from what is written.
 #[derive(Drop)]
 pub struct Schedule {
     pub seed: [u8; 32],
     pub start: Moment,
     pub declarations: Declarations,
     pub events: Events,
-}
-
-/// Reads a schedule. A text that is none is answered with its first bad line, counted from 1, and the
-/// first reason that applies to it.
-#[tactic(auto, unfolding(crate::specs::Reading::reading))]
-pub fn read_schedule(alloc: Global, text: &[u8]) -> Result<Schedule, ScheduleFault>
-    requires { length text.now + 1 < 2 ^ 32 }
-    ensures exact { GivesText content result (reading text.now) }
-{
-    let head = read_head(alloc, text)?;
-    let declared = declarations_from(alloc, 4, head.rest)?;
-    let events = events_from(
-        alloc,
-        declared.declarations.as_slice(),
-        declared.line,
-        declared.rest,
-    )?;
-    Ok(Schedule {
-        seed: head.seed,
-        start: head.start,
-        declarations: declared.declarations,
-        events,
-    })
+    pub ghost accepted: { is_accepted (holding seed start declarations events) ≡ true },
+    pub ghost same_seed: { (again (holding seed start declarations events)).seed ≡ seed },
+    pub ghost same_start: { (again (holding seed start declarations events)).start ≡ start } by { Coded-set start-code _ _ },
+    pub ghost same_declarations: { (again (holding seed start declarations events)).declarations ≡ declarations } by { Coded-set declarations-code _ _ },
+    pub ghost same_events: { (again (holding seed start declarations events)).events ≡ events } by { Coded-set events-code _ _ },
 }

@@ -1,0 +1,211 @@
+//! The lines of what outsiders do, as they are written.
+
+ghost use Rattle.std.specs.Prelude.{◌≡◌, ◌++◌, true, OnOk};
+ghost use Rattle.mip_lines.specs.Lines.{line_text};
+ghost use Rattle.mip_schedule.specs.Groups.{is_bind, is_outside, is_posted};
+ghost use Rattle.mip_schedule.specs.Spelling.{event_text, probe_text};
+ghost use Rattle.mip_schedule.specs.declared.event.Event.TheVariants as events;
+
+use crate::declaration::Declaration;
+use crate::ends::Ends;
+use crate::event::Event;
+use crate::field_writing::{careof_word, digits_16, some_digits};
+use crate::numbered::{link_name, outsider_name};
+use itoa::Buffer;
+use mip_lines::{put_line, put_line_hex};
+use mip_words::{Address, Bytes, Cookie, LinkId, Memory};
+
+fn put_probe(
+    out: &mut Bytes,
+    ds: &[Declaration],
+    outsider: u8,
+    link: LinkId,
+    which: &[u8],
+    source: Address,
+    peer: Address,
+    cookie: Cookie,
+) -> Result<(), Memory>
+    ensures { OnOk result (out.new ≡ out.old ++ line_text (probe_text ds.now outsider link which.now source peer cookie)) }
+{
+    put_line(
+        out,
+        &[
+            b"probe",
+            outsider_name(ds, outsider),
+            link_name(ds, link),
+            which,
+            &source.digits(),
+            &peer.digits(),
+            &digits_16(cookie.0),
+        ],
+    )
+}
+
+fn put_bind(
+    out: &mut Bytes,
+    ds: &[Declaration],
+    ends: Ends,
+    sequence: u16,
+    lifetime: u16,
+    home_test: u32,
+    careof_test: Option<u32>,
+) -> Result<(), Memory>
+    ensures { OnOk result (out.new ≡ out.old ++ line_text (event_text ds.now (events.Bind ends.outsider ends.link ends.source ends.peer ends.home ends.careof sequence lifetime home_test careof_test))) }
+{
+    let mut first = Buffer::new();
+    let mut second = Buffer::new();
+    let mut third = Buffer::new();
+    let mut last = Buffer::new();
+    put_line(
+        out,
+        &[
+            b"bind",
+            outsider_name(ds, ends.outsider),
+            link_name(ds, ends.link),
+            &ends.source.digits(),
+            &ends.peer.digits(),
+            &ends.home.digits(),
+            &ends.careof.digits(),
+            first.format(sequence).as_bytes(),
+            second.format(lifetime).as_bytes(),
+            third.format(home_test).as_bytes(),
+            some_digits(&mut last, careof_test),
+        ],
+    )
+}
+
+fn put_tell(
+    out: &mut Bytes,
+    ds: &[Declaration],
+    outsider: u8,
+    link: LinkId,
+    test: u32,
+    probe: u32,
+) -> Result<(), Memory>
+    ensures { OnOk result (out.new ≡ out.old ++ line_text (event_text ds.now (events.Tell outsider link test probe))) }
+{
+    let mut first = Buffer::new();
+    let mut second = Buffer::new();
+    put_line(
+        out,
+        &[
+            b"tell",
+            outsider_name(ds, outsider),
+            link_name(ds, link),
+            first.format(test).as_bytes(),
+            second.format(probe).as_bytes(),
+        ],
+    )
+}
+
+fn put_ends(out: &mut Bytes, ds: &[Declaration], e: &Event) -> Result<(), Memory>
+    requires { is_bind e.now ≡ true }
+    ensures { OnOk result (out.new ≡ out.old ++ line_text (event_text ds.now e.now)) }
+{
+    let Event::Bind {
+        outsider,
+        link,
+        source,
+        peer,
+        home,
+        careof,
+        sequence,
+        lifetime,
+        home_test,
+        careof_test,
+    } = e
+    else {
+        return Ok(());
+    };
+    let ends = Ends {
+        outsider: *outsider,
+        link: *link,
+        source: *source,
+        peer: *peer,
+        home: *home,
+        careof: *careof,
+    };
+    put_bind(
+        out,
+        ds,
+        ends,
+        *sequence,
+        *lifetime,
+        *home_test,
+        *careof_test,
+    )
+}
+
+/// Appends the line of what an outsider posts.
+pub fn put_posted(out: &mut Bytes, ds: &[Declaration], e: &Event) -> Result<(), Memory>
+    requires { is_posted e.now ≡ true }
+    ensures { OnOk result (out.new ≡ out.old ++ line_text (event_text ds.now e.now)) }
+{
+    match e {
+        Event::Inject {
+            outsider,
+            link,
+            packet,
+        } => put_line_hex(
+            out,
+            b"inject",
+            &[outsider_name(ds, *outsider), link_name(ds, *link)],
+            packet.as_slice(),
+        ),
+        Event::Probe {
+            outsider,
+            link,
+            careof,
+            source,
+            peer,
+            cookie,
+        } => put_probe(
+            out,
+            ds,
+            *outsider,
+            *link,
+            careof_word(*careof),
+            *source,
+            *peer,
+            *cookie,
+        ),
+        Event::Bind { .. } => put_ends(out, ds, e),
+        Event::Tell {
+            outsider,
+            link,
+            test,
+            probe,
+        } => put_tell(out, ds, *outsider, *link, *test, *probe),
+        _ => Ok(()),
+    }
+}
+
+/// Appends the line of what else an outsider does.
+pub fn put_outside(out: &mut Bytes, ds: &[Declaration], e: &Event) -> Result<(), Memory>
+    requires { is_outside e.now ≡ true }
+    ensures { OnOk result (out.new ≡ out.old ++ line_text (event_text ds.now e.now)) }
+{
+    match e {
+        Event::Listen { outsider, link } => put_line(
+            out,
+            &[
+                b"listen",
+                outsider_name(ds, *outsider),
+                link_name(ds, *link),
+            ],
+        ),
+        Event::Deaf { outsider, link } => put_line(
+            out,
+            &[b"deaf", outsider_name(ds, *outsider), link_name(ds, *link)],
+        ),
+        Event::Squat { outsider, address } => put_line(
+            out,
+            &[b"squat", outsider_name(ds, *outsider), &address.digits()],
+        ),
+        Event::Yield { outsider, address } => put_line(
+            out,
+            &[b"yield", outsider_name(ds, *outsider), &address.digits()],
+        ),
+        _ => Ok(()),
+    }
+}

@@ -1,0 +1,12 @@
+use crate::declarations::Declarations;
+use crate::events::Events;
+use mip_words::Moment;
+
+/// What a text says, part by part.
+#[derive(Drop)]
+pub struct Parts {
+    pub seed: [u8; 32],
+    pub start: Moment,
+    pub declarations: Declarations,
+    pub events: Events,
+}

@@ -1,0 +1,51 @@
+//! A schedule as it is written.
+
+ghost use Rattle.std.specs.Prelude.{◌≡◌, ◌++◌, map, Ok, IfOk, OnOk};
+ghost use Rattle.mip_lines.specs.Lines.{lines_text};
+ghost use Rattle.mip_schedule.specs.Reading.{reading};
+ghost use Rattle.mip_schedule.specs.Schedules.{content};
+ghost use Rattle.mip_schedule.specs.Spelling.{event_text, head_rows, spelling};
+
+use crate::declaration::Declaration;
+use crate::declaration_writing::put_declarations;
+use crate::event::Event;
+use crate::event_writing::put_event;
+use crate::schedule::Schedule;
+use itoa::Buffer;
+use mip_lines::put_line;
+use mip_words::{Bytes, Memory, Moment, hex_into};
+use std::alloc::Global;
+
+fn put_head(out: &mut Bytes, seed: &[u8; 32], start: Moment) -> Result<(), Memory>
+    ensures { OnOk result (out.new ≡ out.old ++ lines_text (head_rows seed.now start)) }
+{
+    let mut digits = [0; 64];
+    hex_into(seed, &mut digits);
+    let mut moment = Buffer::new();
+    put_line(out, &[b"mip", b"1"])?;
+    put_line(out, &[b"seed", &digits])?;
+    put_line(out, &[b"start", moment.format(start.0).as_bytes()])
+}
+
+fn put_events(out: &mut Bytes, ds: &[Declaration], events: &[Event]) -> Result<(), Memory>
+    ensures { OnOk result (out.new ≡ out.old ++ lines_text (map (event_text ds.now) events.now)) }
+{
+    for event in events {
+        put_event(out, ds, event)?;
+    }
+    Ok(())
+}
+
+/// The text of a schedule, from which the schedule is read again.
+pub fn write_schedule(alloc: Global, schedule: &Schedule) -> Result<Bytes, Memory>
+    ensures text { IfOk result (λ b. b ≡ spelling (content schedule.now)) }
+    ensures back { IfOk result (λ b. reading b ≡ Ok (content schedule.now)) }
+{
+    let mut out = Bytes::new(alloc);
+    let declarations = schedule.declarations.as_slice();
+    put_head(&mut out, &schedule.seed, schedule.start)?;
+    put_declarations(&mut out, declarations)?;
+    put_line(&mut out, &[b"run"])?;
+    put_events(&mut out, declarations, schedule.events.as_slice())?;
+    Ok(out)
+}
