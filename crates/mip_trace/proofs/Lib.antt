@@ -1,0 +1,13 @@
+pub mod RowReads
+pub mod PlaceReads
+pub mod FieldReads
+pub mod FieldAgain
+pub mod EntryReads
+pub mod EntryAgain
+pub mod EntryPlain
+pub mod Walking
+pub mod TraceLaws
+pub mod WhyLaws
+pub mod AcceptedParts
+pub mod WrittenLaws
+pub mod ManyFields

@@ -1,0 +1,9 @@
+pub mod Whys
+pub mod PacketKinds
+pub mod Names
+pub mod Lines
+pub mod Faults
+pub mod Fields
+pub mod EntryRows
+pub mod Reading
+pub mod Ranges

@@ -1,0 +1,34 @@
+-- What gives names to nodes, links and outsiders: the declarations of a schedule. Where there are none, as in a trace
+-- that a single node writes, each node is `self` and each link `-`.
+use Rattle.std.specs.Prelude.{ℕ, ◌-◌, List, [], nat_lt, if◌then◌else◌, Option, Some, None, codes}
+use Rattle.std.specs.Borrow.{Bor}
+use Rattle.mip_words.specs.declared.ids.LinkId.{LinkId}
+use Rattle.mip_words.specs.declared.ids.NodeId.{NodeId}
+use Rattle.mip_schedule.specs.Spelling.{link_text, node_text, outsider_text}
+use Rattle.mip_schedule.specs.declared.declaration.Declaration.{Declaration}
+use Rattle.mip_schedule.specs.declared.schedule.Schedule.{Schedule}
+
+abbrev pub Names : Type 0
+Names = Option (List Declaration)
+
+-- those of a schedule, where there is one
+abbrev pub names_of : Option (Bor Schedule) → Names
+names_of (Some schedule) = Some schedule.now.declarations
+names_of None = None
+
+unfoldable pub node_name : Names → NodeId → List ℕ
+node_name (Some ds) node = node_text ds node
+node_name None node = codes "self"
+
+unfoldable pub link_name : Names → LinkId → List ℕ
+link_name (Some ds) link = link_text ds link
+link_name None link = codes "-"
+
+-- without declarations there are no outsiders
+unfoldable pub outsider_name : Names → ℕ → List ℕ
+outsider_name (Some ds) outsider = outsider_text ds outsider
+outsider_name None outsider = []
+
+-- somebody: a node by its number, or an outsider by 32 more than its number
+unfoldable pub who_name : Names → ℕ → List ℕ
+who_name names who = if nat_lt who 32 then node_name names (record { 0 = who }) else outsider_name names (who - 32)

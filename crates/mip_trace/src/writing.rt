@@ -1,0 +1,42 @@
+//! Traces written.
+
+ghost use Rattle.std.specs.Prelude.{◌≡◌, ◌++◌, Some, option_map, IfOk, OnOk, OnErr};
+ghost use Rattle.std.specs.Borrow.{Bor};
+ghost use Rattle.mip_lines.specs.Lines.{line_text};
+ghost use Rattle.mip_trace.specs.Lines.{entry_row, trace_text};
+ghost use Rattle.mip_trace.specs.Names.{names_of};
+
+use crate::place_lines::put_entry;
+use mip_entries::{Entry, History};
+use mip_schedule::Schedule;
+use mip_words::{Bytes, Memory};
+use std::alloc::Global;
+
+/// Appends the line of an entry. Without a schedule each node is `self` and each link `-`.
+///
+/// With a schedule the entry's nodes, links and outsiders are declared ones, and without one the entry names no
+/// outsider: a name that nothing has is written as no letters.
+pub fn write_entry(
+    alloc: Global,
+    out: &mut Bytes,
+    names: Option<&Schedule>,
+    entry: &Entry,
+) -> Result<(), Memory>
+    ensures ok { OnOk result (out.new ≡ out.old ++ line_text (entry_row (names_of names.entry) entry.now)) }
+    ensures err { OnErr result (out.new ≡ out.old) }
+{
+    let mut line = Bytes::new(alloc);
+    put_entry(&mut line, names, entry)?;
+    out.extend(line.as_slice())
+}
+
+/// The trace of a history: a line for each entry, in order.
+pub fn write_trace(alloc: Global, schedule: &Schedule, history: &History) -> Result<Bytes, Memory>
+    ensures { IfOk result (λ text. text ≡ trace_text (Some schedule.now.declarations) history.now) }
+{
+    let mut out = Bytes::new(alloc);
+    for entry in history.as_slice() {
+        put_entry(&mut out, Some(schedule), entry)?;
+    }
+    Ok(out)
+}
