@@ -20,4 +20,5 @@ pub use fault::Fault;
 pub use message::Message;
 pub use plain::Plain;
 pub use reading::read_message;
+pub use update::read_update;
 pub use writing::write_message;

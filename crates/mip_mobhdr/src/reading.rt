@@ -14,7 +14,7 @@ use crate::least::least_len;
 use crate::message::Message;
 use crate::refresh::refresh;
 use crate::test_init::{careof_init, home_init};
-use crate::update::update;
+use crate::update::read_update;
 use mip_ipv6::checksum_holds;
 use mip_words::Address;
 
@@ -77,7 +77,7 @@ fn fields(kind: u8, body: &[u8]) -> Result<Message<'_>, Fault>
         2 => careof_init(body),
         3 => home_test(body),
         4 => careof_test(body),
-        5 => update(body),
+        5 => read_update(body),
         6 => acknowledgement(body),
         _ => binding_error(body),
     }

@@ -10,9 +10,9 @@ use crate::message::Message;
 use mip_options::read_options;
 use mip_words::{Bytes, Memory, u16_at, u16_bytes};
 
-/// The fields of a Binding Update.
+/// The fields of a Binding Update, whatever stands before them.
 #[tactic(auto, unfolding(crate::specs::Reading::update_of))]
-pub fn update(body: &[u8]) -> Result<Message<'_>, Fault>
+pub fn read_update(body: &[u8]) -> Result<Message<'_>, Fault>
     requires { 16 ≤ length body.now }
     ensures { Gives said result (update_of body.now) }
 {
