@@ -1,2 +1,6 @@
-pub mod Taking
-pub mod Sizes
+pub mod ShowingLaws
+pub mod Benches
+pub mod Parts
+pub mod Receivings
+pub mod Rows
+pub mod Turning

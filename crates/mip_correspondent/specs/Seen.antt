@@ -1,7 +1,22 @@
 -- A correspondent as contracts see it: what it was made with, and what it knows.
+use Rattle.std.specs.Prelude.{◌≡◌, ◌≤◌, true}
+use Rattle.std.specs.List.{AllByRecursion}
+use Rattle.mip_words.specs.Addresses.{is_routable}
+use Rattle.mip_bcache.specs.declared.row.Row.{Row}
 use Rattle.mip_rules_correspondent.specs.declared.identity.Identity.{Identity}
 use Rattle.mip_rules_correspondent.specs.declared.known.Known.{Known}
 
 pub record CorrespondentSeen : Type 0 where
   pub identity : Identity
   pub known : Known
+
+-- a home address that may stand in a routing header
+abbrev pub HasRoutableHome : Row → Type 0
+HasRoutableHome r = is_routable r.home.0 ≡ true
+
+-- no change of its cache is later than its last call, its cache has the room that it was made with, and its
+-- rows are of routable homes
+pub record IsSound (c : CorrespondentSeen) : Type 0 where
+  pub early : c.known.cache.last ≤ c.known.last.0
+  pub room : c.known.cache.limit ≡ c.identity.room
+  pub homes : AllByRecursion HasRoutableHome c.known.cache.rows

@@ -1,16 +1,30 @@
-ghost use Rattle.std.specs.Prelude.{◌≡◌, ℕ, ◌<◌, ◌≤◌, ◌^◌, List, IfOk, OnOk, OnErr};
+ghost use Rattle.std.specs.Prelude.{◌≡◌, ◌==◌, ◌↔◌, ℕ, ◌<◌, ◌≤◌, ◌^◌, List, false, Some, IfOk, OnOk, OnErr, IfSome, IsTrue, IsFalse, length, option_copied, option_map, slice_get};
+ghost use Rattle.std.specs.Option.{option_map_or};
+ghost use Rattle.mip_words.specs.Addresses.{is_routable};
+ghost use Rattle.mip_ipv6.specs.Packet.{packet as tree, is_routable_if_any, names_no_body};
+ghost use Rattle.mip_says.specs.Says.{message_in};
+ghost use Rattle.mip_binding.specs.Acceptance.{Acceptance};
+ghost use Rattle.mip_binding.specs.Rows.{kept_rows, table};
+ghost use Rattle.mip_binding.specs.Held.{held};
+ghost use Rattle.mip_bcache.specs.Seen.{StandsFor, kept_at, seen_row};
 ghost use Rattle.mip_entries.specs.Stamped.{Stamped};
 ghost use Rattle.mip_rules_correspondent.specs.Steps.{Step, answers_of};
-ghost use Rattle.mip_rules_correspondent.specs.Questions.{fresh};
+ghost use Rattle.mip_rules_correspondent.specs.Questions.{fresh, held_of};
 ghost use Rattle.mip_rules_correspondent.specs.Stands.{Stands, with_turn};
-ghost use Rattle.mip_rules_correspondent.specs.Rules.{taken, seen_of};
-ghost use Rattle.mip_correspondent.specs.Replies.{replies};
+ghost use Rattle.mip_rules_correspondent.specs.Rules.{is_data, is_for_part};
+ghost use Rattle.mip_rules_correspondent.specs.Calls.{taken, parted, ticked, refreshed, transmitted};
+ghost use Rattle.mip_correspondent.specs.Showing.{left, with_kept, Fits};
 
-use crate::receiving::seen;
-use crate::signals::home_test;
-use mip_entries::{Answer, Answers};
+use crate::kept::Kept;
+use crate::part::{answer_message, message_in};
+use crate::receipt::Receipt;
+use crate::receiving::receive;
+use crate::sending::{ask_refresh, send_data};
+use mip_bcache::{AcceptFault, Cache, Row};
+use mip_entries::Answers;
+use mip_ipv6::PacketRef;
 use mip_nonce::Secrets;
-use mip_rules_correspondent::{Identity, Known, Seen};
+use mip_rules_correspondent::{Identity, Known};
 use mip_words::{Address, Memory, Moment, Shield};
 use std::alloc::Global;
 use std::marker::Model;
@@ -23,11 +37,13 @@ pub struct Correspondent {
 }
 
 impl Model for Correspondent {
-    ghost use Rattle.mip_correspondent.specs.Seen.{CorrespondentSeen};
+    ghost use Rattle.mip_correspondent.specs.Seen.{CorrespondentSeen, IsSound};
 
     ghost Value = { CorrespondentSeen };
 
     ghost view = { λ c. record { identity = c.identity; known = c.known } };
+
+    ghost invariant = { λ c. IsSound (record { identity = c.identity; known = c.known }) };
 }
 
 impl Correspondent {
@@ -38,12 +54,64 @@ impl Correspondent {
         secrets: Secrets,
         room: u32,
     ) -> Result<Correspondent, Memory>
-        ensures { IfOk result (λ c. c ≡ record { identity = record { own = own; secrets = secrets; room = room }; known = fresh }) }
+        ensures { IfOk result (λ c. c ≡ record { identity = record { own = own; secrets = secrets; room = room }; known = fresh room }) }
     {
-        let _ = alloc;
+        let cache = Cache::with_limit(alloc, room)?;
         let identity = Identity { own, secrets, room };
-        let known = Known { last: Moment(0) };
+        let known = Known {
+            last: Moment(0),
+            cache,
+        };
         Ok(Correspondent { identity, known })
+    }
+
+    /// The care-of address that is held for a home.
+    #[tactic(auto, using(crate::proofs::Rows::held_routable))]
+    pub fn route(&self, now: Moment, peer: Address) -> Option<Address>
+        requires { self.now.known.last.0 ≤ now.0 }
+        ensures found { result ≡ held_of self.now.known now.0 peer }
+        ensures answers { (past : List Acceptance) → StandsFor self.now.known.cache past → option_map (λ a. a.0) result ≡ held past peer.0 now.0 }
+        ensures routable { IfSome result (λ _. IsTrue (is_routable peer.0)) }
+    {
+        match self.known.cache.look(now, peer) {
+            Some(row) => Some(row.careof),
+            None => None,
+        }
+    }
+
+    /// Whether this care-of address is held for a home.
+    pub fn holds(&self, now: Moment, home: Address, careof: Address) -> bool
+        requires { self.now.known.last.0 ≤ now.0 }
+        ensures found { result ≡ option_map_or (λ a. a.0 == careof.0) (held_of self.now.known now.0 home) false }
+        ensures answers { (past : List Acceptance) → StandsFor self.now.known.cache past → (IsTrue result ↔ held past home.0 now.0 ≡ Some careof.0) }
+    {
+        match self.route(now, home) {
+            Some(held) => held.0 == careof.0,
+            None => false,
+        }
+    }
+
+    /// The row at a place among those that are kept, in order of home address.
+    pub fn row(&self, now: Moment, place: u32) -> Option<&Row>
+        requires { self.now.known.last.0 ≤ now.0 }
+        ensures found { option_copied result ≡ slice_get (kept_at self.now.known.cache now.0) place }
+        ensures answers { (past : List Acceptance) → StandsFor self.now.known.cache past → option_map seen_row (option_copied result) ≡ slice_get (kept_rows now.0 (table past)) place }
+    {
+        self.known.cache.row(now, place)
+    }
+
+    /// A call at this moment ends, and an update that was accepted has its row.
+    #[tactic(auto, using(crate::proofs::Rows::settled_sound))]
+    fn settle(&mut self, now: Moment, kept: Option<Kept>) -> Result<(), Memory>
+        requires later { self.old.known.last.0 ≤ now.0 }
+        requires early { now.0 < 2 ^ 62 }
+        requires fits { Fits now.0 self.old.known.cache kept }
+        ensures ok { OnOk result (self.new ≡ record { identity = self.old.identity; known = left now.0 (with_kept now.0 kept self.old.known.cache) }) }
+        ensures err { OnErr result (self.new ≡ self.old) }
+    {
+        keep(&mut self.known.cache, now, kept)?;
+        self.known.last = now;
+        Ok(())
     }
 
     /// Takes a packet that was handed to the node, by its number and shield, and gives what the node
@@ -60,30 +128,139 @@ impl Correspondent {
         requires early { now.0 < 2 ^ 62 }
         ensures answers { IfOk result (λ a. a ≡ answers_of (taken self.old.identity self.old.known now.0 number shield packet.now).steps) }
         ensures after { OnOk result (self.new ≡ record { identity = self.old.identity; known = (taken self.old.identity self.old.known now.0 number shield packet.now).known }) }
-        ensures stands { (past : List (Stamped Step)) → Stands past self.old.known →
-            OnOk result (Stands (with_turn past (taken self.old.identity self.old.known now.0 number shield packet.now)) self.new.known) }
+        ensures stands { (room : ℕ) (past : List (Stamped Step)) → Stands room past self.old.known →
+            OnOk result (Stands room (with_turn past (taken self.old.identity self.old.known now.0 number shield packet.now)) self.new.known) }
+        ensures last { OnOk result (self.new.known.last ≡ now) }
         ensures err { OnErr result (self.new ≡ self.old) }
     {
-        let answers = reply(alloc, &self.identity, now, packet)?;
+        let mut answers = Answers::new(alloc)?;
+        let receipt = Receipt {
+            identity: &self.identity,
+            cache: &self.known.cache,
+            moment: now,
+            number,
+        };
+        let kept = receive(alloc, &mut answers, &receipt, packet)?;
+        self.settle(now, kept)?;
+        Ok(answers)
+    }
+
+    /// Does the correspondent part of a node about a packet that has passed the node's checks: a test init, a
+    /// Binding Update, or data. After want of memory it is as it was.
+    pub fn part(
+        &mut self,
+        alloc: Global,
+        now: Moment,
+        number: u64,
+        packet: &PacketRef<'_>,
+    ) -> Result<Answers, Memory>
+        requires later { self.old.known.last.0 ≤ now.0 }
+        requires early { now.0 < 2 ^ 62 }
+        requires kind { IsTrue (is_for_part packet.now.head.proto (message_in (tree packet.now))) }
+        requires plain { IsTrue (is_routable_if_any packet.now.head.home) }
+        ensures answers { IfOk result (λ a. a ≡ answers_of (parted self.old.identity self.old.known now.0 number (tree packet.now)).steps) }
+        ensures after { OnOk result (self.new ≡ record { identity = self.old.identity; known = (parted self.old.identity self.old.known now.0 number (tree packet.now)).known }) }
+        ensures stands { (room : ℕ) (past : List (Stamped Step)) → Stands room past self.old.known →
+            OnOk result (Stands room (with_turn past (parted self.old.identity self.old.known now.0 number (tree packet.now))) self.new.known) }
+        ensures last { OnOk result (self.new.known.last ≡ now) }
+        ensures err { OnErr result (self.new ≡ self.old) }
+    {
+        let mut answers = Answers::new(alloc)?;
+        let receipt = Receipt {
+            identity: &self.identity,
+            cache: &self.known.cache,
+            moment: now,
+            number,
+        };
+        let message = message_in(packet);
+        let kept = answer_message(alloc, &mut answers, &receipt, packet, &message)?;
+        self.settle(now, kept)?;
+        Ok(answers)
+    }
+
+    /// Time goes on, and rows past their time are given up.
+    #[tactic(auto, unfolding(mip_rules_correspondent::specs::Turns::noted, mip_rules_correspondent::specs::Questions::after))]
+    pub fn tick(&mut self, now: Moment)
+        requires { self.old.known.last.0 ≤ now.0 }
+        ensures after { self.new ≡ record { identity = self.old.identity; known = (ticked self.old.known now.0).known } }
+        ensures stands { (room : ℕ) (past : List (Stamped Step)) → Stands room past self.old.known → Stands room (with_turn past (ticked self.old.known now.0)) self.new.known }
+        ensures last { self.new.known.last ≡ now }
+    {
+        let _given_up = self.known.cache.expire(now);
         self.known.last = now;
+    }
+
+    /// Asks the care-of address that is held for a home for a Binding Update; `idle` where none is held. After
+    /// want of memory the node is as it was.
+    pub fn refresh(&mut self, alloc: Global, now: Moment, home: Address) -> Result<Answers, Memory>
+        requires later { self.old.known.last.0 ≤ now.0 }
+        requires early { now.0 < 2 ^ 62 }
+        ensures answers { IfOk result (λ a. a ≡ answers_of (refreshed self.old.identity self.old.known now.0 home).steps) }
+        ensures after { OnOk result (self.new ≡ record { identity = self.old.identity; known = (refreshed self.old.identity self.old.known now.0 home).known }) }
+        ensures stands { (room : ℕ) (past : List (Stamped Step)) → Stands room past self.old.known →
+            OnOk result (Stands room (with_turn past (refreshed self.old.identity self.old.known now.0 home)) self.new.known) }
+        ensures last { OnOk result (self.new.known.last ≡ now) }
+        ensures err { OnErr result (self.new ≡ self.old) }
+    {
+        let mut answers = Answers::new(alloc)?;
+        let held = self.route(now, home);
+        ask_refresh(alloc, &mut answers, &self.identity, home, held)?;
+        self.settle(now, None)?;
+        Ok(answers)
+    }
+
+    /// Sends data of a protocol that is neither a tunnel, nor ICMPv6, nor nothing, nor a mobility message, nor a
+    /// header of its own; 512 bytes at most. After want of memory the node is as it was.
+    pub fn send(
+        &mut self,
+        alloc: Global,
+        now: Moment,
+        to: Address,
+        proto: u8,
+        payload: &[u8],
+    ) -> Result<Answers, Memory>
+        requires later { self.old.known.last.0 ≤ now.0 }
+        requires early { now.0 < 2 ^ 62 }
+        requires data { IsTrue (is_data proto) }
+        requires proto { IsFalse (names_no_body proto) }
+        requires short { length payload.now ≤ 512 }
+        ensures answers { IfOk result (λ a. a ≡ answers_of (transmitted self.old.identity self.old.known now.0 to proto payload.now).steps) }
+        ensures after { OnOk result (self.new ≡ record { identity = self.old.identity; known = (transmitted self.old.identity self.old.known now.0 to proto payload.now).known }) }
+        ensures stands { (room : ℕ) (past : List (Stamped Step)) → Stands room past self.old.known →
+            OnOk result (Stands room (with_turn past (transmitted self.old.identity self.old.known now.0 to proto payload.now)) self.new.known) }
+        ensures last { OnOk result (self.new.known.last ≡ now) }
+        ensures err { OnErr result (self.new ≡ self.old) }
+    {
+        let mut answers = Answers::new(alloc)?;
+        let held = self.route(now, to);
+        send_data(
+            alloc,
+            &mut answers,
+            &self.identity,
+            to,
+            proto,
+            payload,
+            held,
+        )?;
+        self.settle(now, None)?;
         Ok(answers)
     }
 }
 
-/// What the node does about the packet.
-fn reply(alloc: Global, me: &Identity, now: Moment, packet: &[u8]) -> Result<Answers, Memory>
-    ensures { IfOk result (λ a. a ≡ replies me.now now.0 (seen_of me.now.own packet.now)) }
+/// An update that was accepted has its row.
+fn keep(cache: &mut Cache, now: Moment, kept: Option<Kept>) -> Result<(), Memory>
+    requires later { cache.old.last ≤ now.0 }
+    requires early { now.0 < 2 ^ 62 }
+    requires fits { Fits now.0 cache.old kept }
+    ensures ok { OnOk result (cache.new ≡ with_kept now.0 kept cache.old) }
+    ensures err { OnErr result (cache.new ≡ cache.old) }
 {
-    let mut answers = Answers::new(alloc)?;
-    match seen(me.own, packet) {
-        Seen::HomeInitSeen { source, cookie } => {
-            let packet = home_test(alloc, me, now, source, cookie)?;
-            answers.push(Answer::Send {
-                shield: None,
-                packet,
-            })?;
-            Ok(answers)
-        }
-        Seen::Unbuilt => Ok(answers),
+    let Some(kept) = kept else {
+        return Ok(());
+    };
+    match cache.accept(now, kept.home, 0, kept.accepted) {
+        Ok(()) => Ok(()),
+        Err(AcceptFault::Memory) => Err(Memory),
+        Err(AcceptFault::Full) => unreachable!(),
     }
 }

@@ -1,9 +1,19 @@
-//! A correspondent node (RFC 6275 section 9), as far as it is built: it answers a Home Test Init.
+//! A correspondent node (RFC 6275 section 9): it answers return routability tests, keeps the bindings of mobile
+//! nodes, hands data up, and sends data on the direct way.
 #![tactic(auto)]
 
+mod answering;
 mod correspondent;
+mod kept;
+mod part;
+mod receipt;
 mod receiving;
-mod signals;
+mod sending;
+mod test_init;
+#[cfg(test)]
+mod tests;
+mod update;
 
 pub use correspondent::Correspondent;
-pub use signals::write_signal;
+pub use mip_rules_correspondent::Verdict;
+pub use mip_verdict::judge;

@@ -1,43 +1,161 @@
-//! What a packet is to a correspondent.
+//! What a correspondent does about a packet (RFC 6275 sections 9.2 to 9.5).
 
-ghost use Rattle.std.specs.Prelude.{◌≡◌};
-ghost use Rattle.mip_rules_correspondent.specs.Rules.{seen_of, is_straight_signal, message_seen};
-ghost use Rattle.mip_mobhdr.specs.Reading.{message_of};
+ghost use Rattle.std.specs.Prelude.{◌≡◌, ◌≤◌, ◌<◌, ◌^◌, ◌-◌, IfOk, OnOk, IsTrue, option_map, Ok, length};
+ghost use Rattle.mip_words.specs.Numbers.{number_at};
+ghost use Rattle.mip_ipv6.specs.Packet.{packet as tree, is_routable_if_any};
+ghost use Rattle.mip_ipv6.specs.Reading.{packet_of};
+ghost use Rattle.mip_mobhdr.specs.Said.{said};
+ghost use Rattle.mip_bcache.specs.Seen.{CacheSeen};
+ghost use Rattle.mip_reception.specs.Passing.{IsReadUpdate};
+ghost use Rattle.mip_rules_correspondent.specs.Turns.{Turn};
+ghost use Rattle.mip_rules_correspondent.specs.Rules.{holds_option, standing_of, refuses, other_why, by_role, place_in, receives};
+ghost use Rattle.mip_correspondent.specs.Showing.{left, Shows, with_kept, Fits};
 
-use mip_ipv6::{Head, read_packet};
-use mip_mobhdr::{Message, read_message};
-use mip_rules_correspondent::Seen;
-use mip_words::Address;
+use crate::answering::{drop_packet, send};
+use crate::kept::Kept;
+use crate::part::{answer_message, is_for_part};
+use crate::receipt::Receipt;
+use mip_entries::Answers;
+use mip_ipv6::{Head, PacketRef, read_packet};
+use mip_mobhdr::Message;
+use mip_reception::{Refusal, Standing, check, packet_why, write_reply};
+use mip_words::{Address, Memory, Why, u16_at};
+use std::alloc::Global;
 
-fn is_straight_signal(own: Address, head: &Head) -> bool
-    ensures { result ≡ is_straight_signal own head.now }
+/// Whether a binding from the home address of a Home Address option to the source stands.
+fn holds_option(receipt: &Receipt<'_>, source: Address, home: Option<Address>) -> bool
+    requires { receipt.now.cache.now.last ≤ receipt.now.moment.0 }
+    ensures { result ≡ holds_option (left receipt.now.moment.0 receipt.now.cache.now) receipt.now.moment.0 source home }
 {
-    head.destination == own && head.route.is_none() && head.home.is_none() && head.proto == 135
-}
-
-fn message_seen(source: Address, destination: Address, body: &[u8]) -> Seen
-    ensures { result ≡ message_seen source (message_of source destination body.now) }
-{
-    match read_message(source, destination, body) {
-        Ok(Message::HomeInit { cookie, options: _ }) => Seen::HomeInitSeen { source, cookie },
-        _ => Seen::Unbuilt,
+    let Some(home) = home else {
+        return false;
+    };
+    match receipt.cache.look(receipt.moment, home) {
+        Some(row) => row.careof.0 == source.0,
+        None => false,
     }
 }
 
-/// What a packet is to a correspondent with this address.
-#[tactic(auto, unfolding(mip_rules_correspondent::specs::Rules::seen_of))]
-pub fn seen(own: Address, packet: &[u8]) -> Seen
-    ensures { result ≡ seen_of own packet.now }
+/// What a packet's addresses are to the node.
+fn standing(receipt: &Receipt<'_>, head: &Head) -> Standing
+    requires { receipt.now.cache.now.last ≤ receipt.now.moment.0 }
+    ensures { result ≡ standing_of receipt.now.identity.now (left receipt.now.moment.0 receipt.now.cache.now) receipt.now.moment.0 head.now }
 {
-    match read_packet(packet) {
-        Ok(read) => {
-            let head = read.head;
-            if is_straight_signal(own, &head) {
-                message_seen(head.source, head.destination, read.body)
-            } else {
-                Seen::Unbuilt
-            }
+    Standing {
+        is_mine: head.destination.0 == receipt.identity.own.0,
+        takes_route: false,
+        holds: holds_option(receipt, head.source, head.home),
+    }
+}
+
+/// A packet is refused, and something may go back to its source.
+#[tactic(auto, unfolding(mip_rules_correspondent::specs::Rules::refuses))]
+fn refuse(
+    alloc: Global,
+    answers: &mut Answers,
+    receipt: &Receipt<'_>,
+    bytes: &[u8],
+    source: Address,
+    refusal: Refusal,
+) -> Result<(), Memory>
+    ensures { (cache : CacheSeen) (t : Turn) → Shows receipt.now.moment.0 cache answers.old t → OnOk result (Shows receipt.now.moment.0 cache answers.new (refuses receipt.now.identity.now receipt.now.number bytes.now source refusal t)) }
+{
+    drop_packet(answers, receipt.number, refusal.why)?;
+    match write_reply(alloc, receipt.identity.own, source, bytes, refusal.reply)? {
+        Some(reply) => send(answers, reply),
+        None => Ok(()),
+    }
+}
+
+/// Why a packet is dropped that is not for the correspondent part.
+fn other_why(proto: u8) -> Why
+    ensures { result ≡ other_why proto }
+{
+    match proto {
+        58 => Why::Icmp,
+        59 => Why::NoNext,
+        _ => Why::Role,
+    }
+}
+
+/// A packet that passed the checks: test inits, updates and data are answered, all else is dropped.
+#[tactic(auto, unfolding(mip_rules_correspondent::specs::Rules::by_role))]
+fn answer_role(
+    alloc: Global,
+    answers: &mut Answers,
+    receipt: &Receipt<'_>,
+    packet: &PacketRef<'_>,
+    message: &Option<Message<'_>>,
+) -> Result<Option<Kept>, Memory>
+    requires early { receipt.now.moment.0 < 2 ^ 62 }
+    requires later { receipt.now.cache.now.last ≤ receipt.now.moment.0 }
+    requires plain { IsTrue (is_routable_if_any packet.now.head.home) }
+    requires read { IsReadUpdate (option_map said message.now) packet.now.body.now }
+    ensures fits { IfOk result (Fits receipt.now.moment.0 receipt.now.cache.now) }
+    ensures shows { (t : Turn) → Shows receipt.now.moment.0 receipt.now.cache.now answers.old t → IfOk result (λ kept. Shows receipt.now.moment.0 (with_kept receipt.now.moment.0 kept receipt.now.cache.now) answers.new (by_role receipt.now.identity.now receipt.now.number (tree packet.now) (option_map said message.now) t)) }
+{
+    if is_for_part(packet.head.proto, message) {
+        return answer_message(alloc, answers, receipt, packet, message);
+    }
+    drop_packet(answers, receipt.number, other_why(packet.head.proto))?;
+    Ok(None)
+}
+
+/// A packet that was read is checked, and answered.
+fn take_packet(
+    alloc: Global,
+    answers: &mut Answers,
+    receipt: &Receipt<'_>,
+    bytes: &[u8],
+    packet: &PacketRef<'_>,
+) -> Result<Option<Kept>, Memory>
+    requires early { receipt.now.moment.0 < 2 ^ 62 }
+    requires later { receipt.now.cache.now.last ≤ receipt.now.moment.0 }
+    requires plain { IsTrue (is_routable_if_any packet.now.head.home) }
+    requires placed { packet.now.place ≡ place_in bytes.now (tree packet.now) }
+    requires near { packet.now.place < 2 ^ 32 - 1 }
+    requires read { packet_of bytes.now ≡ Ok (tree packet.now) }
+    ensures fits { IfOk result (Fits receipt.now.moment.0 receipt.now.cache.now) }
+    ensures shows { (t : Turn) → Shows receipt.now.moment.0 receipt.now.cache.now answers.old t → IfOk result (λ kept. Shows receipt.now.moment.0 (with_kept receipt.now.moment.0 kept receipt.now.cache.now) answers.new (receives receipt.now.identity.now receipt.now.number bytes.now (packet_of bytes.now) t)) }
+{
+    match check(packet, standing(receipt, &packet.head)) {
+        Err(refusal) => {
+            refuse(alloc, answers, receipt, bytes, packet.head.source, refusal)?;
+            Ok(None)
         }
-        Err(_) => Seen::Unbuilt,
+        Ok(message) => answer_role(alloc, answers, receipt, packet, &message),
+    }
+}
+
+/// Payload Length.
+fn payload_length(bytes: &[u8]) -> u16
+    requires { 40 ≤ length bytes.now }
+    ensures { result ≡ number_at 2 4 bytes.now }
+{
+    u16_at(bytes, 4)
+}
+
+/// A packet is read, and answered. What it accepts, if it does, fits into the cache.
+#[tactic(auto, using(crate::proofs::Receivings::home_routable, crate::proofs::Receivings::place_is))]
+pub fn receive(
+    alloc: Global,
+    answers: &mut Answers,
+    receipt: &Receipt<'_>,
+    bytes: &[u8],
+) -> Result<Option<Kept>, Memory>
+    requires early { receipt.now.moment.0 < 2 ^ 62 }
+    requires later { receipt.now.cache.now.last ≤ receipt.now.moment.0 }
+    ensures fits { IfOk result (Fits receipt.now.moment.0 receipt.now.cache.now) }
+    ensures shows { (t : Turn) → Shows receipt.now.moment.0 receipt.now.cache.now answers.old t → IfOk result (λ kept. Shows receipt.now.moment.0 (with_kept receipt.now.moment.0 kept receipt.now.cache.now) answers.new (receives receipt.now.identity.now receipt.now.number bytes.now (packet_of bytes.now) t)) }
+{
+    match read_packet(bytes) {
+        Err(fault) => {
+            drop_packet(answers, receipt.number, packet_why(fault))?;
+            Ok(None)
+        }
+        Ok(packet) => {
+            let _length = payload_length(bytes);
+            take_packet(alloc, answers, receipt, bytes, &packet)
+        }
     }
 }

@@ -2,5 +2,9 @@ pub mod Steps
 pub mod Questions
 pub mod Turns
 pub mod Stands
-pub mod Packets
+pub mod Requests
+pub mod Verdicts
+pub mod Acks
 pub mod Rules
+pub mod Calls
+pub mod Pasts

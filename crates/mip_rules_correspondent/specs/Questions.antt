@@ -1,27 +1,42 @@
 -- What a correspondent knows of its past: one question a field, and what each step makes of the answer.
-use Rattle.std.specs.Prelude.{ℕ, List, fold, Bool, true, false}
-use Rattle.mip_entries.specs.Stamped.{Stamped}
+use Rattle.std.specs.Prelude.{ℕ, List, [], fold, Bool, if◌then◌else◌, Option, option_map}
+use Rattle.mip_words.specs.declared.address.Address.{Address}
 use Rattle.mip_words.specs.declared.moment.Moment.{Moment}
+use Rattle.mip_bcache.specs.Seen.{CacheSeen, expired, with_row, row_for, row_at, if_standing, has_no_room}
+use Rattle.mip_entries.specs.Stamped.{Stamped}
 use Rattle.mip_rules_correspondent.specs.declared.known.Known.{Known}
-use Rattle.mip_rules_correspondent.specs.Steps.{Step, Given, Sends}
+use Rattle.mip_rules_correspondent.specs.Steps.{Step, Ticked, Accepts, is_call}
 
--- the moment of the last packet that it was given, 0 before the first
+-- the moment of the last call that it was given, 0 before the first
 abbrev pub last_after : Known → ℕ → Step → Moment
-last_after k at (Given number shield packet) = record { 0 = at }
-last_after k at (Sends packet) = k.last
+last_after k at step = if is_call step then record { 0 = at } else k.last
+
+-- the binding cache: an acceptance puts its row in the place of the one of its home (RFC 6275 section 9.5.1)
+abbrev pub cache_after : CacheSeen → ℕ → Step → CacheSeen
+cache_after cache at (Accepts number home accepted) = with_row at (row_for at home 0 accepted) cache
+cache_after cache at Ticked = expired at cache
+cache_after cache at _ = cache
 
 -- one step more
 unfoldable pub after : Known → Stamped Step → Known
-after k s = record { last = last_after k s.at s.step }
+after k s = record { last = last_after k s.at s.step; cache = cache_after k.cache s.at s.step }
 
--- a new correspondent
-abbrev pub fresh : Known
-fresh = record { last = record { 0 = 0 } }
+-- a new correspondent with room for so many homes
+abbrev pub fresh : ℕ → Known
+fresh room = record { last = record { 0 = 0 }; cache = record { limit = room; last = 0; rows = [] } }
 
 -- what a past leaves known
-unfoldable pub known : List (Stamped Step) → Known
-known past = fold after fresh past
+unfoldable pub known : ℕ → List (Stamped Step) → Known
+known room past = fold after (fresh room) past
 
-abbrev pub is_given : Step → Bool
-is_given (Given number shield packet) = true
-is_given (Sends packet) = false
+-- the care-of address that is held for a home
+abbrev pub held_of : Known → ℕ → Address → Option Address
+held_of k now home = option_map (λ r. r.careof) (if_standing home.0 now (row_at k.cache home.0 now))
+
+-- the sequence that the next update for a home must come after
+abbrev pub floor_of : Known → ℕ → Address → Option ℕ
+floor_of k now home = option_map (λ r. r.sequence) (row_at k.cache home.0 now)
+
+-- there is no room for this home
+abbrev pub is_full_for : Known → ℕ → Address → Bool
+is_full_for k now home = has_no_room k.cache home.0 now

@@ -1,45 +1,40 @@
--- What a correspondent does about a packet that it is given: one rule a paragraph. Built today: a Home
--- Test Init. Everything else is left for later and answered by nothing.
-use Rattle.std.specs.Prelude.{ℕ, List, Bool, not, ◌&&◌, ◌==◌, if◌then◌else◌, Option, is_some, Result, Ok, Err}
+-- What a correspondent does about a packet: one rule a paragraph. RFC 6275 section 9
+use Rattle.std.specs.Prelude.{ℕ, ◌-◌, List, length, Bool, true, false, not, ◌&&◌, ◌==◌, if◌then◌else◌, Option, Some, None, Result, Ok, Err}
+use Rattle.std.specs.Option.{option_map_or}
 use Rattle.mip_words.specs.declared.address.Address.{Address}
 use Rattle.mip_words.specs.declared.shield.Shield.{Shield}
+use Rattle.mip_words.specs.declared.why.Why.{Why}
+use Rattle.mip_words.specs.declared.why.Why.TheVariants as whys
 use Rattle.mip_ipv6.specs.declared.head.Head.{Head}
 use Rattle.mip_ipv6.specs.declared.not_packet.NotPacket.{NotPacket}
 use Rattle.mip_ipv6.specs.Packet.{Packet}
 use Rattle.mip_ipv6.specs.Reading.{packet_of}
 use Rattle.mip_options.specs.Values.{nothing}
-use Rattle.mip_mobhdr.specs.declared.fault.Fault.{Fault}
 use Rattle.mip_mobhdr.specs.Said.{Said}
-use Rattle.mip_mobhdr.specs.Said.Said.{HomeInit, HomeTest}
-use Rattle.mip_mobhdr.specs.Reading.{message_of}
+use Rattle.mip_mobhdr.specs.Said.Said.{HomeInit, CareofInit, HomeTest, CareofTest, Update}
 use Rattle.mip_nonce.specs.Secrets.{kcn_of, nonce_of}
 use Rattle.mip_nonce.specs.Window.{current_of, index_of}
-use Rattle.mip_tokens.specs.Token.{home_token_of}
+use Rattle.mip_tokens.specs.Token.{home_token_of, careof_token_of}
+use Rattle.mip_tokens.specs.declared.kbm.Kbm.{Kbm}
+use Rattle.mip_bcache.specs.declared.accepted.Accepted.{Accepted}
+use Rattle.mip_says.specs.Says.{source_of, destination_of}
+use Rattle.mip_signals.specs.Packets.{straight, signal}
+use Rattle.mip_reception.specs.declared.refusal.Refusal.{Refusal}
+use Rattle.mip_reception.specs.declared.standing.Standing.{Standing}
+use Rattle.mip_reception.specs.Words.{packet_why}
+use Rattle.mip_reception.specs.Checks.{checked}
+use Rattle.mip_reception.specs.Replies.{reply_packet}
 use Rattle.mip_rules_correspondent.specs.declared.identity.Identity.{Identity}
 use Rattle.mip_rules_correspondent.specs.declared.known.Known.{Known}
-use Rattle.mip_rules_correspondent.specs.declared.seen.Seen.{Seen}
-use Rattle.mip_rules_correspondent.specs.declared.seen.Seen.TheVariants.{HomeInitSeen, Unbuilt}
-use Rattle.mip_rules_correspondent.specs.Packets.{signal}
-use Rattle.mip_rules_correspondent.specs.Steps.{Step, Given, Sends}
-use Rattle.mip_rules_correspondent.specs.Turns.{Turn, begun, noted}
-
--- a mobility message for this address, straight and from no home address
-abbrev pub is_straight_signal : Address → Head → Bool
-is_straight_signal own head =
-    (head.destination.0 == own.0) && not (is_some head.route) && not (is_some head.home) && (head.proto == 135)
-
-abbrev pub message_seen : Address → Result Said Fault → Seen
-message_seen source (Ok (HomeInit cookie options)) = HomeInitSeen source (record { 0 = cookie })
-message_seen source _ = Unbuilt
-
-abbrev pub packet_seen : Address → Result Packet NotPacket → Seen
-packet_seen own (Err fault) = Unbuilt
-packet_seen own (Ok p) =
-    if is_straight_signal own p.head then message_seen p.head.source (message_of p.head.source p.head.destination p.body) else Unbuilt
-
--- what a packet is to a correspondent with this address
-unfoldable pub seen_of : Address → List ℕ → Seen
-seen_of own packet = packet_seen own (packet_of packet)
+use Rattle.mip_rules_correspondent.specs.declared.request.Request.{Request}
+use Rattle.mip_rules_correspondent.specs.declared.verdict.Verdict.{Verdict}
+use Rattle.mip_rules_correspondent.specs.declared.verdict.Verdict.TheVariants.{Refuse, Deny, Accept}
+use Rattle.mip_rules_correspondent.specs.Steps.{Given, Sends, Accepts, Denies, Drops, HandsUp}
+use Rattle.mip_rules_correspondent.specs.Questions.{held_of, floor_of, is_full_for}
+use Rattle.mip_rules_correspondent.specs.Turns.{Turn, noted}
+use Rattle.mip_rules_correspondent.specs.Requests.{request, home_of}
+use Rattle.mip_rules_correspondent.specs.Verdicts.{Bench, verdict}
+use Rattle.mip_rules_correspondent.specs.Acks.{ack_packet}
 
 -- the Home Test: the cookie comes back, with the index of the newest nonce and the home keygen token
 -- of the source under it. RFC 6275 sections 5.2.5, 6.1.5 and 9.4.3
@@ -49,17 +44,110 @@ home_test me now source cookie =
 
 -- a Home Test Init is answered by a Home Test, from the correspondent's address to the source.
 -- RFC 6275 section 9.4.1
-unfoldable pub answers_home_init : Identity → ℕ → Address → ℕ → Turn → Turn
-answers_home_init me now source cookie t = noted (Sends (signal me.own source (home_test me now source cookie))) t
+unfoldable pub answers_home_init : Identity → Address → ℕ → Turn → Turn
+answers_home_init me source cookie t = noted (Sends (signal (straight me.own source 135) (home_test me t.now source cookie))) t
 
-abbrev pub receives : Identity → ℕ → Seen → Turn → Turn
-receives me now (HomeInitSeen source cookie) t = answers_home_init me now source cookie.0 t
-receives me now Unbuilt t = t
+-- the Care-of Test, with the care-of keygen token. RFC 6275 sections 5.2.5, 6.1.6 and 9.4.4
+abbrev pub careof_test : Identity → ℕ → Address → ℕ → Said
+careof_test me now source cookie =
+    CareofTest (index_of (current_of now)) cookie (careof_token_of (kcn_of me.secrets) source (nonce_of me.secrets (current_of now))) nothing
+
+-- a Care-of Test Init is answered by a Care-of Test. RFC 6275 section 9.4.2
+unfoldable pub answers_careof_init : Identity → Address → ℕ → Turn → Turn
+answers_careof_init me source cookie t = noted (Sends (signal (straight me.own source 135) (careof_test me t.now source cookie))) t
+
+-- an update is judged by what is kept of its home
+abbrev pub bench : Identity → Known → ℕ → Request → Bench
+bench me k now r = record { own = me.own; secrets = me.secrets; now = now; floor = floor_of k now (home_of r); full = is_full_for k now (home_of r) }
+
+-- an update that was denied is always answered
+unfoldable pub denies : Identity → ℕ → Request → (status last : ℕ) → Option Kbm → Turn → Turn
+denies me number r status last kbm t = noted (Sends (ack_packet me.own r status last 0 kbm)) (noted (Denies number status) t)
+
+-- one that was accepted is answered where flag A asks for it. RFC 6275 section 9.5.4
+abbrev pub acknowledges : Identity → Request → ℕ → Kbm → Turn → Turn
+acknowledges me r granted kbm t =
+    if r.ack then noted (Sends (ack_packet me.own r 0 r.sequence granted (Some kbm))) t else t
+
+unfoldable pub accepts : Identity → ℕ → Request → Address → Accepted → ℕ → Kbm → Turn → Turn
+accepts me number r home accepted granted kbm t = acknowledges me r granted kbm (noted (Accepts number home accepted) t)
+
+abbrev pub judged : Identity → ℕ → Request → Verdict → Turn → Turn
+judged me number r (Refuse why) t = noted (Drops number why) t
+judged me number r (Deny status last kbm) t = denies me number r status last kbm t
+judged me number r (Accept home accepted granted kbm) t = accepts me number r home accepted granted kbm t
+
+-- a Binding Update. RFC 6275 section 9.5.1
+unfoldable pub takes_update : Identity → ℕ → Request → List ℕ → Turn → Turn
+takes_update me number r message t = judged me number r (verdict (bench me t.known t.now r) r message) t
+
+-- data is handed up from and to home addresses. RFC 6275 sections 9.3.1 and 6.4
+unfoldable pub hands_up : ℕ → Packet → Turn → Turn
+hands_up number p t = noted (HandsUp number (source_of p.head) (destination_of p.head) p.head.proto p.body) t
+
+-- data is what is neither a tunnel, nor ICMPv6, nor nothing, nor a mobility message
+abbrev pub is_data : ℕ → Bool
+is_data proto = not (proto == 41) && not (proto == 58) && not (proto == 59) && not (proto == 135)
+
+-- the correspondent part: test inits, updates and data
+abbrev pub by_message : Identity → ℕ → Packet → Option Said → Turn → Turn
+by_message me number p None t = hands_up number p t
+by_message me number p (Some (HomeInit cookie options)) t = answers_home_init me p.head.source cookie t
+by_message me number p (Some (CareofInit cookie options)) t = answers_careof_init me p.head.source cookie t
+by_message me number p (Some (Update s a h l k t' o)) t = takes_update me number (request p.head.source p.head.home s a h t' o) p.body t
+by_message me number p (Some other) t = t
+
+-- what is for the correspondent part
+abbrev pub is_for_part : ℕ → Option Said → Bool
+is_for_part proto None = is_data proto
+is_for_part proto (Some (HomeInit cookie options)) = true
+is_for_part proto (Some (CareofInit cookie options)) = true
+is_for_part proto (Some (Update s a h l k t o)) = true
+is_for_part proto (Some other) = false
+
+-- what is not: a tunnel packet, other messages, ICMPv6, nothing
+abbrev pub other_why : ℕ → Why
+other_why proto = if proto == 58 then whys.Icmp else if proto == 59 then whys.NoNext else whys.Role
+
+unfoldable pub by_role : Identity → ℕ → Packet → Option Said → Turn → Turn
+by_role me number p message t =
+    if is_for_part p.head.proto message then by_message me number p message t
+    else noted (Drops number (other_why p.head.proto)) t
+
+-- a packet is refused, and something may go back to its source. RFC 6275 sections 9.2 and 9.3.3
+abbrev pub replies : Option (List ℕ) → Turn → Turn
+replies None t = t
+replies (Some packet) t = noted (Sends packet) t
+
+unfoldable pub refuses : Identity → ℕ → List ℕ → Address → Refusal → Turn → Turn
+refuses me number bytes source refusal t =
+    replies (reply_packet me.own source bytes refusal.reply) (noted (Drops number refusal.why) t)
+
+-- a binding from this home address to the source stands
+abbrev pub holds_option : Known → ℕ → Address → Option Address → Bool
+holds_option k now source None = false
+holds_option k now source (Some home) = option_map_or (λ careof. careof.0 == source.0) (held_of k now home) false
+
+abbrev pub standing_of : Identity → Known → ℕ → Head → Standing
+standing_of me k now head = record {
+  is_mine = head.destination.0 == me.own.0;
+  takes_route = false;
+  holds = holds_option k now head.source head.home;
+}
+
+abbrev pub after_checks : Identity → ℕ → List ℕ → Packet → Result (Option Said) Refusal → Turn → Turn
+after_checks me number bytes p (Err refusal) t = refuses me number bytes p.head.source refusal t
+after_checks me number bytes p (Ok message) t = by_role me number p message t
+
+-- the place of a packet's body in its bytes
+abbrev pub place_in : List ℕ → Packet → ℕ
+place_in bytes p = length bytes - length p.body
+
+abbrev pub receives : Identity → ℕ → List ℕ → Result Packet NotPacket → Turn → Turn
+receives me number bytes (Err fault) t = noted (Drops number (packet_why fault)) t
+receives me number bytes (Ok p) t =
+    after_checks me number bytes p (checked (standing_of me t.known t.now p.head) (place_in bytes p) p) t
 
 -- a packet is handed to it
 unfoldable pub takes : Identity → ℕ → Option Shield → List ℕ → Turn → Turn
-takes me number shield packet t = receives me t.now (seen_of me.own packet) (noted (Given number shield packet) t)
-
--- the turn in which it takes a packet, from what it knew before
-abbrev pub taken : Identity → Known → ℕ → ℕ → Option Shield → List ℕ → Turn
-taken me known now number shield packet = takes me number shield packet (begun now known)
+takes me number shield packet t = receives me number packet (packet_of packet) (noted (Given number shield packet) t)

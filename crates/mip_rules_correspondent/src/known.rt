@@ -1,8 +1,11 @@
+use mip_bcache::Cache;
 use mip_words::Moment;
 
 /// What a correspondent keeps of its past.
-#[derive(Clone, Copy, Debug, PartialEq, Eq)]
+#[derive(Drop)]
 pub struct Known {
-    /// The moment of the last packet that it was given, 0 before the first.
+    /// The moment of the last call that it was given, 0 before the first.
     pub last: Moment,
+    /// Its binding cache.
+    pub cache: Cache,
 }

@@ -5,9 +5,14 @@
 mod identity;
 mod known;
 mod laws;
-mod seen;
+mod request;
+mod verdict;
 
 pub use identity::Identity;
 pub use known::Known;
-pub use laws::{last_is_of_the_last_given, stands_for_nothing, stands_for_one_step_more};
-pub use seen::Seen;
+pub use laws::{
+    bindings_are_of_the_acceptances, last_is_of_the_last_call, refused_changes_no_row,
+    stands_after_each_call, stands_for_nothing, stands_for_one_step_more,
+};
+pub use request::Request;
+pub use verdict::Verdict;

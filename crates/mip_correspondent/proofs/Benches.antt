@@ -1,0 +1,34 @@
+-- An update is judged by what the turn leaves of its home, and what is accepted fits into the cache.
+use Rattle.std.proofs.Common.{◌≡◌, ℕ, List, true, false, sym, ap, ◌∙◌, subst}
+use Rattle.std.specs.Prelude.{Option}
+use Rattle.mip_words.specs.Addresses.{is_routable}
+use Rattle.mip_words.specs.declared.address.Address.{Address}
+use Rattle.mip_nonce.specs.Secrets.{Life}
+use Rattle.mip_entries.specs.declared.answer.Answer.{Answer}
+use Rattle.mip_bcache.specs.Seen.{CacheSeen, has_no_room}
+use Rattle.mip_rules_correspondent.specs.declared.identity.Identity.{Identity}
+use Rattle.mip_rules_correspondent.specs.declared.known.Known.{Known}
+use Rattle.mip_rules_correspondent.specs.declared.request.Request.{Request}
+use Rattle.mip_rules_correspondent.specs.declared.verdict.Verdict.{Verdict}
+use Rattle.mip_rules_correspondent.specs.declared.verdict.Verdict.TheVariants.{Refuse, Deny, Accept}
+use Rattle.mip_rules_correspondent.specs.Rules.{bench}
+use Rattle.mip_rules_correspondent.specs.Turns.{Turn}
+use Rattle.mip_rules_correspondent.specs.Verdicts.{verdict}
+use Rattle.mip_verdict.specs.Benches.{bench_at}
+use Rattle.mip_verdict.proofs.VerdictLaws.{sound}
+use Rattle.mip_correspondent.specs.declared.kept.Kept.{Kept}
+use Rattle.mip_correspondent.specs.Showing.{left, Shows, kept_of, Fits}
+use Rattle.mip_correspondent.proofs.ShowingLaws.{shows-now, shows-known}
+
+pub bench-shown : (me : Identity) (r : Request) (now : ℕ) (cache : CacheSeen) (answers : List Answer) (t : Turn) → Shows now cache answers t → bench me t.known t.now r ≡ bench_at me.own me.secrets now cache r
+bench-shown me r now cache answers t s =
+    ap (λ (k : Known). bench me k t.now r) (shows-known now cache answers t s)
+    ∙ ap (λ (n : ℕ). bench me (left now cache) n r) (shows-now now cache answers t s)
+
+pub kept-fits : (own : Address) (secrets : Life) (now : ℕ) (cache : CacheSeen) (r : Request) (message : List ℕ) (v : Verdict) (kept : Option Kept) → v ≡ verdict (bench_at own secrets now cache r) r message → kept ≡ kept_of v → Fits now cache kept
+kept-fits own secrets now cache r message (Refuse why) kept is e = subst (Fits now cache) (sym e) tt
+kept-fits own secrets now cache r message (Deny status last kbm) kept is e = subst (Fits now cache) (sym e) tt
+kept-fits own secrets now cache r message (Accept home accepted granted kbm) kept is e =
+    let s = sound (bench_at own secrets now cache r) r message home accepted granted kbm (sym is) in
+    subst (Fits now cache) (sym e)
+    (subst (λ (h : Address). has_no_room cache h.0 now ≡ false) (sym s.of_home) s.room, subst (λ (h : Address). is_routable h.0 ≡ true) (sym s.of_home) s.genuine.home_routable)

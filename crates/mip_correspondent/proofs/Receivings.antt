@@ -1,0 +1,62 @@
+-- A packet that was read is checked by what the turn leaves, and its head may be written again.
+use Rattle.std.proofs.Common.{◌≡◌, ℕ, ◌-◌, ◌≤◌, List, [], ◌∷◌, length, drop, refl, sym, ap, ◌∙◌, subst, true, arith}
+use Rattle.std.specs.Prelude.{Option, Some, None, Result, Ok, option_to_list}
+use Rattle.std.specs.List.{AllByRecursion, flat_map}
+use Rattle.std.proofs.lemmas.List.{length-drop}
+use Rattle.mip_words.specs.Addresses.{is_routable}
+use Rattle.mip_words.specs.declared.address.Address.{Address}
+use Rattle.mip_ipv6.specs.declared.head.Head.{Head}
+use Rattle.mip_ipv6.specs.declared.not_packet.NotPacket.{NotPacket}
+use Rattle.mip_ipv6.specs.Packet.{Packet, is_routable_if_any}
+use Rattle.mip_ipv6.specs.Reading.{packet_of}
+use Rattle.mip_ipv6.specs.Spelling.{Piece, Pad, Skipped, Home, IsPiece, home_in, IsOptions, IsPacket}
+use Rattle.mip_mobhdr.specs.Said.{Said}
+use Rattle.mip_entries.specs.declared.answer.Answer.{Answer}
+use Rattle.mip_bcache.specs.Seen.{CacheSeen}
+use Rattle.mip_reception.specs.declared.refusal.Refusal.{Refusal}
+use Rattle.mip_reception.specs.declared.standing.Standing.{Standing}
+use Rattle.mip_reception.specs.Checks.{checked}
+use Rattle.mip_rules_correspondent.specs.declared.identity.Identity.{Identity}
+use Rattle.mip_rules_correspondent.specs.declared.known.Known.{Known}
+use Rattle.mip_rules_correspondent.specs.Rules.{standing_of, after_checks, place_in, receives}
+use Rattle.mip_rules_correspondent.specs.Turns.{Turn}
+use Rattle.mip_correspondent.specs.Showing.{left, Shows}
+use Rattle.mip_correspondent.proofs.ShowingLaws.{shows-now, shows-known}
+
+standing-shown : (me : Identity) (head : Head) (now : ℕ) (cache : CacheSeen) (answers : List Answer) (t : Turn) → Shows now cache answers t → standing_of me t.known t.now head ≡ standing_of me (left now cache) now head
+standing-shown me head now cache answers t s =
+    ap (λ (k : Known). standing_of me k t.now head) (shows-known now cache answers t s)
+    ∙ ap (λ (n : ℕ). standing_of me (left now cache) n head) (shows-now now cache answers t s)
+
+pub receives-checked : (me : Identity) (number : ℕ) (bytes : List ℕ) (p : Packet) (now : ℕ) (cache : CacheSeen) (answers : List Answer) (t : Turn) (place : ℕ) (standing : Standing) (r : Result (Option Said) Refusal)
+    → Shows now cache answers t → packet_of bytes ≡ Ok p → place ≡ place_in bytes p → standing ≡ standing_of me (left now cache) now p.head → checked standing place p ≡ r
+    → receives me number bytes (packet_of bytes) t ≡ after_checks me number bytes p r t
+receives-checked me number bytes p now cache answers t place standing r shows read placed standing_is check =
+    ap (λ (o : Result Packet NotPacket). receives me number bytes o t) read
+    ∙ ap (λ (o : Result (Option Said) Refusal). after_checks me number bytes p o t)
+    (ap (λ (s : Standing). checked s (place_in bytes p) p) (standing-shown me p.head now cache answers t shows ∙ sym standing_is)
+    ∙ ap (λ (n : ℕ). checked standing n p) (sym placed) ∙ check)
+
+-- each home address among destination options is routable
+routable_homes : (pieces : List Piece) → AllByRecursion IsPiece pieces → AllByRecursion (λ a. is_routable a.0 ≡ true) (flat_map home_in pieces)
+routable_homes [] all = tt
+routable_homes (Pad ∷ pieces) all = routable_homes pieces all.1
+routable_homes (Skipped type contents ∷ pieces) all = routable_homes pieces all.1
+routable_homes (Home address contents ∷ pieces) all = (all.0.2, routable_homes pieces all.1)
+
+listed_home : (home : Option Address) → AllByRecursion (λ a. is_routable a.0 ≡ true) (option_to_list home) → is_routable_if_any home ≡ true
+listed_home None all = refl
+listed_home (Some a) all = all.0
+
+options_home : (home : Option Address) (n m : ℕ) (bytes : List ℕ) → IsOptions home n m bytes → is_routable_if_any home ≡ true
+options_home home n m [] is = subst (λ (o : Option Address). is_routable_if_any o ≡ true) (sym is.0) refl
+options_home home n m (next ∷ []) is = absurd is
+options_home home n m (next ∷ size ∷ area) is =
+    listed_home home (subst (λ (homes : List Address). AllByRecursion (λ a. is_routable a.0 ≡ true) homes) is.3.2 (routable_homes is.3.0 is.3.1))
+
+pub home_routable : (p : Packet) (bytes : List ℕ) → IsPacket p bytes → is_routable_if_any p.head.home ≡ true
+home_routable p bytes is = options_home p.head.home is.second p.head.proto is.options is.is_options
+
+-- where a body stands
+pub place_is : (place : ℕ) (bytes body : List ℕ) → place ≤ length bytes → body ≡ drop place bytes → place ≡ length bytes - length body
+place_is place bytes body inside is = let size = ap (λ (l : List ℕ). length l) is in let rest = length-drop place bytes in omega arith

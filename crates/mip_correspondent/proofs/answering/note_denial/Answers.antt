@@ -1,0 +1,7 @@
+use Rattle.std.proofs.Common.{refl}
+use Rattle.mip_rules_correspondent.specs.Steps.{Denies}
+use Rattle.mip_correspondent.proofs.ShowingLaws.{shown}
+use Rattle.mip_correspondent.proofs.answering.note_denial.Goals as goal
+
+pub returns : goal.returns
+returns c = λ now cache t shows. shown (Denies c.args.number c.args.status) now cache c.args.answers.now c.push.new.self t refl c.in_ok-push.ensures.ok shows

@@ -1,0 +1,27 @@
+use Rattle.std.proofs.Common.{ap, sym, subst, ◌∙◌}
+use Rattle.std.specs.Prelude.{IfOk}
+use Rattle.std.proofs.lemmas.Result.{IfOk-weaker}
+use Rattle.mip_rules_correspondent.specs.declared.verdict.Verdict.{Verdict}
+use Rattle.mip_rules_correspondent.specs.Verdicts.{Bench, verdict}
+use Rattle.mip_rules_correspondent.specs.Rules.{judged, takes_update}
+use Rattle.mip_correspondent.specs.Showing.{Shows, with_kept}
+use Rattle.mip_correspondent.proofs.Benches.{bench-shown, kept-fits}
+use Rattle.mip_correspondent.proofs.update.take_update.Goals as goal
+
+pub returns-clause-fits : goal.returns-clause-fits
+returns-clause-fits c =
+    let me = c.args.receipt.now.identity.now in
+    IfOk-weaker c.carry_out.result _ _ (λ kept is.
+    kept-fits me.own me.secrets c.args.receipt.now.moment.0 c.args.receipt.now.cache.now c.args.request.now c.args.message.now c.verdict-verdict.result kept c.verdict-verdict.ensures.found is) c.carry_out.ensures.kept
+
+pub returns-clause-shows : goal.returns-clause-shows
+unfolding takes_update
+returns-clause-shows c = λ t shows.
+    let me = c.args.receipt.now.identity.now in
+    let now = c.args.receipt.now.moment.0 in
+    let cache = c.args.receipt.now.cache.now in
+    let r = c.args.request.now in
+    let message = c.args.message.now in
+    subst (λ (v : Verdict). IfOk c.carry_out.result (λ kept. Shows now (with_kept now kept cache) c.carry_out.new.answers (judged me c.args.receipt.now.number r v t)))
+    (c.verdict-verdict.ensures.found ∙ ap (λ (b : Bench). verdict b r message) (sym (bench-shown me r now cache c.args.answers.now t shows)))
+    (c.carry_out.ensures.shows cache t shows)

@@ -1,0 +1,35 @@
+-- What a turn shows, and what it leaves in the binding cache.
+use Rattle.std.specs.Prelude.{◌≡◌, ℕ, List, true, false, Option, Some, None, IfSome}
+use Rattle.mip_words.specs.Addresses.{is_routable}
+use Rattle.mip_entries.specs.declared.answer.Answer.{Answer}
+use Rattle.mip_bcache.specs.Seen.{CacheSeen, with_row, row_for, has_no_room}
+use Rattle.mip_rules_correspondent.specs.declared.known.Known.{Known}
+use Rattle.mip_rules_correspondent.specs.declared.verdict.Verdict.{Verdict}
+use Rattle.mip_rules_correspondent.specs.declared.verdict.Verdict.TheVariants.{Refuse, Deny, Accept}
+use Rattle.mip_rules_correspondent.specs.Steps.{answers_of}
+use Rattle.mip_rules_correspondent.specs.Turns.{Turn}
+use Rattle.mip_correspondent.specs.declared.kept.Kept.{Kept}
+
+-- what is known after a call at a moment, which left this cache
+abbrev pub left : ℕ → CacheSeen → Known
+left now cache = record { last = record { 0 = now }; cache = cache }
+
+-- a turn at a moment: the last call is of then, this cache is left, and these are the answers
+unfoldable pub Shows : (now : ℕ) (cache : CacheSeen) (answers : List Answer) → Turn → Type 0
+Shows now cache answers t =
+    (t.now ≡ now) × (t.known ≡ left now cache) × (answers_of t.steps ≡ answers)
+
+-- a cache with the row of an accepted update, if there is one
+abbrev pub with_kept : ℕ → Option Kept → CacheSeen → CacheSeen
+with_kept now None cache = cache
+with_kept now (Some k) cache = with_row now (row_for now k.home 0 k.accepted) cache
+
+-- what a verdict accepts
+abbrev pub kept_of : Verdict → Option Kept
+kept_of (Refuse why) = None
+kept_of (Deny status last kbm) = None
+kept_of (Accept home accepted granted kbm) = Some (record { home = home; accepted = accepted })
+
+-- there is room for the row of an accepted update, and its home may stand in a routing header
+abbrev pub Fits : ℕ → CacheSeen → Option Kept → Type 0
+Fits now cache kept = IfSome kept (λ k. (has_no_room cache k.home.0 now ≡ false) × (is_routable k.home.0 ≡ true))

@@ -1,0 +1,125 @@
+//! The steps that show: each leaves one answer.
+
+ghost use Rattle.std.specs.Prelude.{◌≡◌, ℕ, ◌∷◌, [], OnOk, option_map};
+ghost use Rattle.mip_nonce.specs.Window.{index_of};
+ghost use Rattle.mip_bcache.specs.Seen.{CacheSeen, row_for, with_row};
+ghost use Rattle.mip_rules_correspondent.specs.Steps.{answer_of, Sends, Accepts, Denies, Drops, HandsUp, Idles};
+ghost use Rattle.mip_rules_correspondent.specs.Turns.{Turn, noted};
+ghost use Rattle.mip_correspondent.specs.Showing.{Shows};
+
+use crate::kept::Kept;
+use mip_entries::{Answer, Answers, Entry};
+use mip_words::{Address, Bytes, Memory, NodeId, Why};
+use std::alloc::Global;
+
+/// A role writes 0 for its own number.
+const MYSELF: NodeId = NodeId(0);
+
+/// The index by which a nonce is named.
+pub fn index_of(number: u64) -> u16
+    ensures { result ≡ index_of number }
+{
+    (number % 65536) as u16
+}
+
+fn careof_index(number: Option<u64>) -> Option<u16>
+    ensures { result ≡ option_map index_of number }
+{
+    match number {
+        Some(number) => Some(index_of(number)),
+        None => None,
+    }
+}
+
+/// It sends a packet, unshielded.
+pub fn send(answers: &mut Answers, packet: Bytes) -> Result<(), Memory>
+    ensures { (now : ℕ) (cache : CacheSeen) (t : Turn) → Shows now cache answers.old t → OnOk result (Shows now cache answers.new (noted (Sends packet) t)) }
+{
+    answers.push(Answer::Send {
+        shield: None,
+        packet,
+    })?;
+    Ok(())
+}
+
+/// It drops a packet.
+pub fn drop_packet(answers: &mut Answers, number: u64, why: Why) -> Result<(), Memory>
+    ensures { (now : ℕ) (cache : CacheSeen) (t : Turn) → Shows now cache answers.old t → OnOk result (Shows now cache answers.new (noted (Drops number why) t)) }
+{
+    answers.push(Answer::Note(Entry::Dropped {
+        node: MYSELF,
+        number,
+        why,
+    }))?;
+    Ok(())
+}
+
+/// It denies the update in a packet.
+pub fn note_denial(answers: &mut Answers, number: u64, status: u8) -> Result<(), Memory>
+    ensures { (now : ℕ) (cache : CacheSeen) (t : Turn) → Shows now cache answers.old t → OnOk result (Shows now cache answers.new (noted (Denies number status) t)) }
+{
+    answers.push(Answer::Note(Entry::Denied {
+        node: MYSELF,
+        number,
+        status,
+    }))?;
+    Ok(())
+}
+
+/// The entry of an acceptance.
+fn accepted_entry(number: u64, kept: &Kept) -> Entry
+    ensures { Answer.Note result ∷ [] ≡ answer_of (Accepts number kept.now.home kept.now.accepted) }
+{
+    let accepted = kept.accepted;
+    Entry::Accepted {
+        node: MYSELF,
+        number,
+        home: kept.home,
+        binding: 0,
+        careof: accepted.careof,
+        sequence: accepted.sequence,
+        end: accepted.end,
+        home_index: index_of(accepted.home_nonce),
+        careof_index: careof_index(accepted.careof_nonce),
+    }
+}
+
+/// It accepts the update in a packet: its row will stand in the cache.
+pub fn note_acceptance(answers: &mut Answers, number: u64, kept: &Kept) -> Result<(), Memory>
+    ensures { (now : ℕ) (cache : CacheSeen) (t : Turn) → Shows now cache answers.old t → OnOk result (Shows now (with_row now (row_for now kept.now.home 0 kept.now.accepted) cache) answers.new (noted (Accepts number kept.now.home kept.now.accepted) t)) }
+{
+    answers.push(Answer::Note(accepted_entry(number, kept)))?;
+    Ok(())
+}
+
+/// It hands up data.
+pub fn hand_up(
+    alloc: Global,
+    answers: &mut Answers,
+    number: u64,
+    source: Address,
+    destination: Address,
+    proto: u8,
+    payload: &[u8],
+) -> Result<(), Memory>
+    ensures { (now : ℕ) (cache : CacheSeen) (t : Turn) → Shows now cache answers.old t → OnOk result (Shows now cache answers.new (noted (HandsUp number source destination proto payload.now) t)) }
+{
+    let payload = Bytes::copy(alloc, payload)?;
+    answers.push(Answer::Note(Entry::Up {
+        node: MYSELF,
+        number,
+        source,
+        destination,
+        proto,
+        payload,
+    }))?;
+    Ok(())
+}
+
+/// It was asked for something that can't be.
+pub fn idle(answers: &mut Answers) -> Result<(), Memory>
+    ensures { (now : ℕ) (cache : CacheSeen) (t : Turn) → Shows now cache answers.old t → OnOk result (Shows now cache answers.new (noted Idles t)) }
+{
+    answers.push(Answer::Note(Entry::Idle))?;
+    Ok(())
+}

@@ -1,0 +1,136 @@
+//! The correspondent part of a node: test inits, updates and data (RFC 6275 sections 9.3.1, 9.4 and 9.5).
+
+ghost use Rattle.std.specs.Prelude.{◌≡◌, ◌≤◌, ◌<◌, ◌^◌, IfOk, OnOk, IsTrue, IsFalse, Some, option_map};
+ghost use Rattle.mip_ipv6.specs.Packet.{packet as tree, is_routable_if_any};
+ghost use Rattle.mip_mobhdr.specs.Said.{said};
+ghost use Rattle.mip_says.specs.Says.{message_in};
+ghost use Rattle.mip_bcache.specs.Seen.{CacheSeen};
+ghost use Rattle.mip_reception.specs.Checks.{is_probe};
+ghost use Rattle.mip_reception.specs.Passing.{IsReadUpdate};
+ghost use Rattle.mip_rules_correspondent.specs.Turns.{Turn};
+ghost use Rattle.mip_rules_correspondent.specs.Rules.{hands_up, is_data, is_for_part, by_message};
+ghost use Rattle.mip_correspondent.specs.Showing.{Shows, with_kept, Fits};
+
+use crate::answering::hand_up;
+use crate::kept::Kept;
+use crate::receipt::Receipt;
+use crate::test_init::{answer_careof_init, answer_home_init};
+use crate::update::take_update;
+use mip_entries::Answers;
+use mip_ipv6::PacketRef;
+use mip_mobhdr::{Message, read_message};
+use mip_signals::{destination, source};
+use mip_verdict::request_of;
+use mip_words::Memory;
+use std::alloc::Global;
+
+const MOBILITY: u8 = 135;
+
+/// Data is what is neither a tunnel, nor ICMPv6, nor nothing, nor a mobility message.
+fn is_data(proto: u8) -> bool
+    ensures { result ≡ is_data proto }
+{
+    proto != 41 && proto != 58 && proto != 59 && proto != 135
+}
+
+/// What is for the correspondent part.
+pub fn is_for_part(proto: u8, message: &Option<Message<'_>>) -> bool
+    ensures { result ≡ is_for_part proto (option_map said message.now) }
+{
+    match message {
+        None => is_data(proto),
+        Some(Message::HomeInit { .. } | Message::CareofInit { .. } | Message::Update { .. }) =>
+            true,
+        Some(_) => false,
+    }
+}
+
+/// Data is handed up from and to home addresses.
+#[tactic(auto, unfolding(mip_rules_correspondent::specs::Rules::hands_up))]
+fn hand_up_data(
+    alloc: Global,
+    answers: &mut Answers,
+    receipt: &Receipt<'_>,
+    packet: &PacketRef<'_>,
+) -> Result<(), Memory>
+    ensures { (cache : CacheSeen) (t : Turn) → Shows receipt.now.moment.0 cache answers.old t → OnOk result (Shows receipt.now.moment.0 cache answers.new (hands_up receipt.now.number (tree packet.now) t)) }
+{
+    let head = packet.head;
+    hand_up(
+        alloc,
+        answers,
+        receipt.number,
+        source(&head),
+        destination(&head),
+        head.proto,
+        packet.body,
+    )
+}
+
+/// An update is taken; no other message is, but for test inits.
+#[tactic(auto, using(crate::proofs::Parts::request_read, crate::proofs::Parts::taken_request))]
+fn answer_update(
+    alloc: Global,
+    answers: &mut Answers,
+    receipt: &Receipt<'_>,
+    packet: &PacketRef<'_>,
+    message: &Message<'_>,
+) -> Result<Option<Kept>, Memory>
+    requires early { receipt.now.moment.0 < 2 ^ 62 }
+    requires later { receipt.now.cache.now.last ≤ receipt.now.moment.0 }
+    requires plain { IsTrue (is_routable_if_any packet.now.head.home) }
+    requires read { IsReadUpdate (Some (said message.now)) packet.now.body.now }
+    requires other { IsFalse (is_probe (Some (said message.now))) }
+    ensures fits { IfOk result (Fits receipt.now.moment.0 receipt.now.cache.now) }
+    ensures shows { (t : Turn) → Shows receipt.now.moment.0 receipt.now.cache.now answers.old t → IfOk result (λ kept. Shows receipt.now.moment.0 (with_kept receipt.now.moment.0 kept receipt.now.cache.now) answers.new (by_message receipt.now.identity.now receipt.now.number (tree packet.now) (Some (said message.now)) t)) }
+{
+    match request_of(packet.head.source, packet.head.home, message) {
+        Some(request) => take_update(alloc, answers, receipt, &request, packet.body),
+        None => Ok(None),
+    }
+}
+
+/// The mobility message of a packet, where it has a readable one.
+#[tactic(auto, using(mip_reception::proofs::Updates::read_update))]
+pub fn message_in<'a>(packet: &PacketRef<'a>) -> Option<Message<'a>>
+    ensures value { option_map said result ≡ message_in (tree packet.now) }
+    ensures update { IsReadUpdate (option_map said result) packet.now.body.now }
+{
+    if packet.head.proto != MOBILITY {
+        return None;
+    }
+    let head = packet.head;
+    match read_message(source(&head), destination(&head), packet.body) {
+        Ok(message) => Some(message),
+        Err(_) => None,
+    }
+}
+
+/// What the correspondent part does about a packet and its message, if it has one.
+pub fn answer_message(
+    alloc: Global,
+    answers: &mut Answers,
+    receipt: &Receipt<'_>,
+    packet: &PacketRef<'_>,
+    message: &Option<Message<'_>>,
+) -> Result<Option<Kept>, Memory>
+    requires early { receipt.now.moment.0 < 2 ^ 62 }
+    requires later { receipt.now.cache.now.last ≤ receipt.now.moment.0 }
+    requires plain { IsTrue (is_routable_if_any packet.now.head.home) }
+    requires read { IsReadUpdate (option_map said message.now) packet.now.body.now }
+    ensures fits { IfOk result (Fits receipt.now.moment.0 receipt.now.cache.now) }
+    ensures shows { (t : Turn) → Shows receipt.now.moment.0 receipt.now.cache.now answers.old t → IfOk result (λ kept. Shows receipt.now.moment.0 (with_kept receipt.now.moment.0 kept receipt.now.cache.now) answers.new (by_message receipt.now.identity.now receipt.now.number (tree packet.now) (option_map said message.now) t)) }
+{
+    let source = packet.head.source;
+    match message {
+        None => hand_up_data(alloc, answers, receipt, packet)?,
+        Some(Message::HomeInit { cookie, .. }) => {
+            answer_home_init(alloc, answers, receipt, source, *cookie)?
+        }
+        Some(Message::CareofInit { cookie, .. }) => {
+            answer_careof_init(alloc, answers, receipt, source, *cookie)?
+        }
+        Some(other) => return answer_update(alloc, answers, receipt, packet, other),
+    }
+    Ok(None)
+}

@@ -1,0 +1,101 @@
+//! Binding Refresh Requests, and data on the direct way (RFC 6275 sections 9.3.2 and 9.5.5).
+
+ghost use Rattle.std.specs.Prelude.{◌≡◌, ◌≤◌, ℕ, Some, None, IfOk, OnOk, IfSome, IsTrue, IsFalse, length};
+ghost use Rattle.mip_ipv6.specs.Packet.{is_plain, names_no_body};
+ghost use Rattle.mip_words.specs.Addresses.{is_routable};
+ghost use Rattle.mip_bcache.specs.Seen.{CacheSeen};
+ghost use Rattle.mip_options.specs.Values.{nothing};
+ghost use Rattle.mip_mobhdr.specs.Said.Said.{Refresh};
+ghost use Rattle.mip_signals.specs.Packets.{node_head, signal};
+ghost use Rattle.mip_rules_correspondent.specs.Steps.{Sends};
+ghost use Rattle.mip_rules_correspondent.specs.Turns.{Turn, noted};
+ghost use Rattle.mip_rules_correspondent.specs.Calls.{request_refresh, data_packet, data_head};
+ghost use Rattle.mip_correspondent.specs.Showing.{Shows};
+
+use crate::answering::{idle, send};
+use mip_entries::Answers;
+use mip_ipv6::Head;
+use mip_mobhdr::Plain;
+use mip_options::OptionSet;
+use mip_rules_correspondent::Identity;
+use mip_signals::{node_head, straight, write_parcel, write_signal};
+use mip_words::{Address, Bytes, Memory};
+use std::alloc::Global;
+
+const MOBILITY: u8 = 135;
+
+/// A Binding Refresh Request to a care-of address, through the home address.
+fn write_refresh(
+    alloc: Global,
+    own: Address,
+    careof: Address,
+    home: Address,
+) -> Result<Bytes, Memory>
+    requires { IsTrue (is_routable home.0) }
+    ensures { IfOk result (λ b. b ≡ signal (node_head own careof (Some home) None 135) (Refresh nothing)) }
+{
+    let request = Plain::Refresh {
+        options: OptionSet {
+            advice: None,
+            alternate: None,
+            nonces: None,
+            authorization: None,
+        },
+    };
+    let head = node_head(own, careof, Some(home), None, MOBILITY);
+    write_signal(alloc, &head, &request)
+}
+
+/// The request goes to the care-of address that is held for a home; nothing where none is held.
+pub fn ask_refresh(
+    alloc: Global,
+    answers: &mut Answers,
+    identity: &Identity,
+    home: Address,
+    held: Option<Address>,
+) -> Result<(), Memory>
+    requires { IfSome held (λ _. IsTrue (is_routable home.0)) }
+    ensures { (now : ℕ) (cache : CacheSeen) (t : Turn) → Shows now cache answers.old t → OnOk result (Shows now cache answers.new (request_refresh identity.now home held t)) }
+{
+    match held {
+        None => idle(answers),
+        Some(careof) => {
+            let request = write_refresh(alloc, identity.own, careof, home)?;
+            send(answers, request)
+        }
+    }
+}
+
+/// The head of data to the care-of address that is held for its destination, through the destination; straight
+/// where none is held.
+fn data_head(own: Address, to: Address, proto: u8, held: Option<Address>) -> Head
+    requires routable { IfSome held (λ _. IsTrue (is_routable to.0)) }
+    requires proto { IsFalse (names_no_body proto) }
+    ensures head { result ≡ data_head own to proto held }
+    ensures plain { IsTrue (is_plain result) }
+{
+    match held {
+        None => straight(own, to, proto),
+        Some(careof) => node_head(own, careof, Some(to), None, proto),
+    }
+}
+
+/// Data is sent there.
+pub fn send_data(
+    alloc: Global,
+    answers: &mut Answers,
+    identity: &Identity,
+    to: Address,
+    proto: u8,
+    payload: &[u8],
+    held: Option<Address>,
+) -> Result<(), Memory>
+    requires routable { IfSome held (λ _. IsTrue (is_routable to.0)) }
+    requires proto { IsFalse (names_no_body proto) }
+    requires short { length payload.now ≤ 512 }
+    ensures { (now : ℕ) (cache : CacheSeen) (t : Turn) → Shows now cache answers.old t → OnOk result (Shows now cache answers.new (noted (Sends (data_packet identity.now to proto payload.now held)) t)) }
+{
+    let head = data_head(identity.own, to, proto, held);
+    let packet = write_parcel(alloc, &head, payload)?;
+    send(answers, packet)
+}

@@ -1,0 +1,93 @@
+-- The binding cache that a past leaves stands for the updates that were accepted in it.
+use Rattle.std.proofs.Common.{◌≡◌, ℕ, ◌≤◌, List, [], ◌∷◌, ◌++◌, refl, sym, ap, ◌∙◌, subst, arith}
+use Rattle.std.specs.Prelude.{Option, Some, None, option_map, fold}
+use Rattle.std.specs.List.{AllByRecursion}
+use Rattle.std.proofs.lemmas.List.{append_assoc, append-nil}
+use Rattle.mip_words.specs.declared.address.Address.{Address}
+use Rattle.mip_binding.specs.Acceptance.{Acceptance}
+use Rattle.mip_binding.specs.Held.{held, floor, is_full}
+use Rattle.mip_bcache.specs.declared.row.Row.{Row}
+use Rattle.mip_bcache.specs.Seen.{CacheSeen, StandsFor, row_at, if_standing, expired}
+use Rattle.mip_bcache.proofs.Pasts.{empty_stands, look_answers, floor_answers, room_answers, expire_stands, accept_stands}
+use Rattle.mip_entries.specs.Stamped.{Stamped}
+use Rattle.mip_rules_correspondent.specs.declared.known.Known.{Known}
+use Rattle.mip_rules_correspondent.specs.Steps.{Step, Given, Passed, Ticked, Wanted, Asked, Sends, Accepts, Denies, Drops, HandsUp, Idles}
+use Rattle.mip_rules_correspondent.specs.Questions.{cache_after, after, fresh, known, held_of, floor_of, is_full_for}
+use Rattle.mip_rules_correspondent.specs.Pasts.{acceptance_in, accepted_in, RisesFrom}
+
+-- what one step makes of a cache that stands for the acceptances so far
+pub record Follows (cache : CacheSeen) (xs : List Acceptance) (limit at : ℕ) : Type 0 where
+  pub stands : StandsFor cache xs
+  pub limit_is : cache.limit ≡ limit
+  pub early : cache.last ≤ at
+
+quiet : (cache : CacheSeen) (xs : List Acceptance) (limit from at : ℕ) → from ≤ at → Follows cache xs limit from → Follows cache (xs ++ []) limit at
+quiet cache xs limit from at later f = record {
+  stands = subst (λ (l : List Acceptance). StandsFor cache l) (sym (append-nil xs)) f.stands;
+  limit_is = f.limit_is;
+  early = let e = f.early in omega arith;
+}
+
+stepped : (cache : CacheSeen) (xs : List Acceptance) (limit from at : ℕ) (step : Step) → from ≤ at → Follows cache xs limit from → Follows (cache_after cache at step) (xs ++ acceptance_in at step) limit at
+stepped cache xs limit from at (Accepts number home accepted) later f = record {
+  stands = accept_stands cache xs f.stands at (let e = f.early in omega arith) home 0 accepted;
+  limit_is = f.limit_is;
+  early = omega arith;
+}
+stepped cache xs limit from at Ticked later f = record {
+  stands = subst (λ (l : List Acceptance). StandsFor (expired at cache) l) (sym (append-nil xs)) (expire_stands cache xs f.stands at (let e = f.early in omega arith));
+  limit_is = f.limit_is;
+  early = omega arith;
+}
+stepped cache xs limit from at (Given number shield packet) later f = quiet cache xs limit from at later f
+stepped cache xs limit from at (Passed number packet) later f = quiet cache xs limit from at later f
+stepped cache xs limit from at (Wanted home) later f = quiet cache xs limit from at later f
+stepped cache xs limit from at (Asked to proto payload) later f = quiet cache xs limit from at later f
+stepped cache xs limit from at (Sends packet) later f = quiet cache xs limit from at later f
+stepped cache xs limit from at (Denies number status) later f = quiet cache xs limit from at later f
+stepped cache xs limit from at (Drops number why) later f = quiet cache xs limit from at later f
+stepped cache xs limit from at (HandsUp number source destination proto payload) later f = quiet cache xs limit from at later f
+stepped cache xs limit from at Idles later f = quiet cache xs limit from at later f
+
+-- the moment of the last step
+abbrev last_at : ℕ → List (Stamped Step) → ℕ
+last_at from [] = from
+last_at from (s ∷ past) = last_at s.at past
+
+last_early : (now from : ℕ) (past : List (Stamped Step)) → from ≤ now → AllByRecursion (λ s. s.at ≤ now) past → last_at from past ≤ now
+last_early now from [] early all = early
+last_early now from (s ∷ past) early all = last_early now s.at past all.0 all.1
+
+followed : (k : Known) (xs : List Acceptance) (limit from : ℕ) (past : List (Stamped Step)) → RisesFrom from past → Follows k.cache xs limit from
+    → Follows (fold after k past).cache (xs ++ accepted_in past) limit (last_at from past)
+unfolding accepted_in after
+followed k xs limit from [] rises f = quiet k.cache xs limit from from (omega arith) f
+followed k xs limit from (s ∷ past) rises f =
+    subst (λ (l : List Acceptance). Follows (fold after (after k s) past).cache l limit (last_at s.at past))
+    (append_assoc xs (acceptance_in s.at s.step) (accepted_in past))
+    (followed (after k s) (xs ++ acceptance_in s.at s.step) limit s.at past rises.1 (stepped k.cache xs limit from s.at s.step rises.0 f))
+
+module _ (room : ℕ) (past : List (Stamped Step)) (rises : RisesFrom 0 past) where
+  follows : Follows (known room past).cache (accepted_in past) room (last_at 0 past)
+  unfolding known
+  follows = followed (fresh room) [] room 0 past rises (record { stands = empty_stands room; limit_is = refl; early = omega arith })
+
+  pub cache-stands : StandsFor (known room past).cache (accepted_in past)
+  cache-stands = follows.stands
+
+  module _ (now : ℕ) (home : Address) (all : AllByRecursion (λ s. s.at ≤ now) past) where
+    early : (known room past).cache.last ≤ now
+    early = let e = follows.early in let l = last_early now 0 past (omega arith) all in omega arith
+
+    pub held-answers : option_map (λ a. a.0) (held_of (known room past) now home) ≡ held (accepted_in past) home.0 now
+    held-answers = by (if_standing home.0 now (row_at (known room past).cache home.0 now)) ∙ look_answers (known room past).cache (accepted_in past) cache-stands now early home.0
+      where
+        by : (o : Option Row) → option_map (λ (a : Address). a.0) (option_map (λ (r : Row). r.careof) o) ≡ option_map (λ (r : Row). r.careof.0) o
+        by None = refl
+        by (Some r) = refl
+
+    pub floor-answers : floor_of (known room past) now home ≡ floor (accepted_in past) home.0 now
+    floor-answers = floor_answers (known room past).cache (accepted_in past) cache-stands now early home.0
+
+    pub full-answers : is_full_for (known room past) now home ≡ is_full room (accepted_in past) home.0 now
+    full-answers = room_answers (known room past).cache (accepted_in past) cache-stands now early home.0 ∙ ap (λ (n : ℕ). is_full n (accepted_in past) home.0 now) follows.limit_is

@@ -1,5 +1,0 @@
-use Rattle.mip_rules_correspondent.proofs.Pasts.{known-last}
-use Rattle.mip_rules_correspondent.proofs.laws.last_is_of_the_last_given.Goals as goal
-
-pub returns : goal.returns
-returns c = λ past. known-last past

@@ -1,0 +1,20 @@
+-- The updates that were accepted in a past: what the binding cache stands for.
+use Rattle.std.specs.Prelude.{ℕ, ◌≤◌, List, [], ◌∷◌}
+use Rattle.std.specs.List.{flat_map}
+use Rattle.mip_binding.specs.Acceptance.{Acceptance}
+use Rattle.mip_bcache.specs.Seen.{acceptance}
+use Rattle.mip_entries.specs.Stamped.{Stamped}
+use Rattle.mip_rules_correspondent.specs.Steps.{Step, Accepts}
+
+abbrev pub acceptance_in : ℕ → Step → List Acceptance
+acceptance_in at (Accepts number home accepted) = acceptance at home 0 accepted ∷ []
+acceptance_in at _ = []
+
+-- the acceptances of a past, oldest first
+unfoldable pub accepted_in : List (Stamped Step) → List Acceptance
+accepted_in past = flat_map (λ s. acceptance_in s.at s.step) past
+
+-- moments do not fall, from this one on
+abbrev pub RisesFrom : ℕ → List (Stamped Step) → Type 0
+RisesFrom at [] = Unit {0}
+RisesFrom at (s ∷ past) = (at ≤ s.at) × RisesFrom s.at past

@@ -1,0 +1,192 @@
+//! The rows of a verdict from the nonces on, last row first.
+
+ghost use Rattle.std.specs.Prelude.{◌≡◌, ◌≤◌, ◌<◌, ◌^◌, length};
+ghost use Rattle.mip_rules_correspondent.specs.Verdicts.{granted_of, accepted_of, by_room, by_sequence, by_key, kbm_of, by_numbers, careof_number, by_indices};
+ghost use Rattle.mip_verdict.specs.Benches.{bench_of};
+
+use crate::request::{careof_of, deletes, home_of, registered_of};
+use crate::status;
+use mip_bcache::{Accepted, Cache};
+use mip_nonce::{Secrets, by_index};
+use mip_options::Indices;
+use mip_rules_correspondent::{Request, Verdict};
+use mip_tokens::{Kbm, authentic, careof_token, home_token};
+use mip_words::{Address, Moment, Why, after};
+
+/// The longest lifetime granted, in units of 4 s (420 s, MAX_RR_BINDING_LIFETIME).
+const LONGEST: u16 = 105;
+
+/// A unit of a lifetime, in milliseconds.
+const UNIT: u64 = 4_000;
+
+/// Who judges an update, when, and over which binding cache.
+#[derive(Clone, Copy)]
+pub struct Judge<'a> {
+    pub own: Address,
+    pub secrets: &'a Secrets,
+    pub moment: Moment,
+    pub cache: &'a Cache,
+}
+
+/// The lifetime granted, in units of 4 s.
+fn granted_of(request: &Request) -> u16
+    ensures value { result ≡ granted_of request.now }
+    ensures short { result ≤ 105 }
+{
+    if deletes(request) {
+        0
+    } else {
+        request.lifetime.min(LONGEST)
+    }
+}
+
+/// The binding, under the nonces with these numbers.
+fn accepted_of(now: Moment, request: &Request, home: u64, careof: Option<u64>) -> Accepted
+    requires { now.0 < 2 ^ 62 }
+    ensures { result ≡ accepted_of now.0 request.now home careof }
+{
+    Accepted {
+        careof: registered_of(request),
+        sequence: request.sequence,
+        end: Moment(now.0 + UNIT * granted_of(request) as u64),
+        home_nonce: home,
+        careof_nonce: careof,
+    }
+}
+
+/// 130 where there is no room for the home.
+fn by_room(
+    judge: &Judge<'_>,
+    request: &Request,
+    home: u64,
+    careof: Option<u64>,
+    kbm: Kbm,
+) -> Verdict
+    requires early { judge.now.moment.0 < 2 ^ 62 }
+    requires later { judge.now.cache.now.last ≤ judge.now.moment.0 }
+    ensures { result ≡ by_room (bench_of judge.now request.now) request.now home careof kbm }
+{
+    if !judge.cache.has_room(judge.moment, home_of(request)) {
+        return deny(status::NO_ROOM, request.sequence, Some(kbm));
+    }
+    Verdict::Accept {
+        home: home_of(request),
+        accepted: accepted_of(judge.moment, request, home, careof),
+        granted: granted_of(request),
+        kbm,
+    }
+}
+
+/// 135 where the update does not come after the sequence that is kept.
+fn by_sequence(
+    judge: &Judge<'_>,
+    request: &Request,
+    home: u64,
+    careof: Option<u64>,
+    kbm: Kbm,
+) -> Verdict
+    requires early { judge.now.moment.0 < 2 ^ 62 }
+    requires later { judge.now.cache.now.last ≤ judge.now.moment.0 }
+    ensures { let b = bench_of judge.now request.now in result ≡ by_sequence b request.now home careof kbm b.floor }
+{
+    match judge.cache.floor(judge.moment, home_of(request)) {
+        Some(last) if !after(request.sequence, last) => {
+            deny(status::OUT_OF_WINDOW, last, Some(kbm))
+        }
+        _ => by_room(judge, request, home, careof, kbm),
+    }
+}
+
+/// Silence where the authenticator is not that of the key.
+fn by_key(
+    judge: &Judge<'_>,
+    request: &Request,
+    message: &[u8],
+    home: u64,
+    careof: Option<u64>,
+    kbm: Kbm,
+) -> Verdict
+    requires early { judge.now.moment.0 < 2 ^ 62 }
+    requires later { judge.now.cache.now.last ≤ judge.now.moment.0 }
+    requires long { 18 ≤ length message.now }
+    ensures { result ≡ by_key (bench_of judge.now request.now) request.now message.now home careof kbm }
+{
+    if !authentic(&kbm, registered_of(request), judge.own, message) {
+        return Verdict::Refuse(Why::Authenticator);
+    }
+    by_sequence(judge, request, home, careof, kbm)
+}
+
+/// The key: of the home token alone where the binding ends, else of both tokens.
+fn kbm_of(judge: &Judge<'_>, request: &Request, home: u64, careof: Option<u64>) -> Kbm
+    ensures { result ≡ kbm_of (bench_of judge.now request.now) request.now home careof }
+{
+    let kcn = judge.secrets.kcn();
+    let home_token = home_token(&kcn, home_of(request), &judge.secrets.nonce(home));
+    match careof {
+        None => Kbm::home(home_token),
+        Some(careof) => {
+            let nonce = judge.secrets.nonce(careof);
+            Kbm::both(home_token, careof_token(&kcn, careof_of(request), &nonce))
+        }
+    }
+}
+
+/// 136, 137 or 138 where an index names no valid nonce.
+fn by_numbers(
+    judge: &Judge<'_>,
+    request: &Request,
+    message: &[u8],
+    home: Option<u64>,
+    careof: Option<Option<u64>>,
+) -> Verdict
+    requires early { judge.now.moment.0 < 2 ^ 62 }
+    requires later { judge.now.cache.now.last ≤ judge.now.moment.0 }
+    requires long { 18 ≤ length message.now }
+    ensures { result ≡ by_numbers (bench_of judge.now request.now) request.now message.now home careof }
+{
+    match (home, careof) {
+        (None, None) => deny(status::NONCES_EXPIRED, request.sequence, None),
+        (None, Some(_)) => deny(status::HOME_NONCE_EXPIRED, request.sequence, None),
+        (Some(_), None) => deny(status::CAREOF_NONCE_EXPIRED, request.sequence, None),
+        (Some(home), Some(careof)) => {
+            let kbm = kbm_of(judge, request, home, careof);
+            by_key(judge, request, message, home, careof, kbm)
+        }
+    }
+}
+
+/// The number of the care-of nonce; where the binding ends its index is ignored.
+fn careof_number(judge: &Judge<'_>, request: &Request, indices: Indices) -> Option<Option<u64>>
+    ensures { result ≡ careof_number (bench_of judge.now request.now) request.now indices }
+{
+    if deletes(request) {
+        return Some(None);
+    }
+    let number = by_index(judge.moment, indices.careof)?;
+    Some(Some(number))
+}
+
+/// Silence where the Nonce Indices are missing.
+pub fn by_indices(judge: &Judge<'_>, request: &Request, message: &[u8]) -> Verdict
+    requires early { judge.now.moment.0 < 2 ^ 62 }
+    requires later { judge.now.cache.now.last ≤ judge.now.moment.0 }
+    requires long { 18 ≤ length message.now }
+    ensures { result ≡ by_indices (bench_of judge.now request.now) request.now message.now request.now.nonces }
+{
+    match request.nonces {
+        None => Verdict::Refuse(Why::Options),
+        Some(indices) => {
+            let home = by_index(judge.moment, indices.home);
+            let careof = careof_number(judge, request, indices);
+            by_numbers(judge, request, message, home, careof)
+        }
+    }
+}
+
+/// A denial with this status and this sequence.
+pub fn deny(status: u8, last: u16, kbm: Option<Kbm>) -> Verdict
+    ensures { result ≡ Verdict.Deny status last kbm }
+{
+    Verdict::Deny { status, last, kbm }
+}
