@@ -1,0 +1,13 @@
+mod Quiet
+mod Runs
+mod Posts
+mod Turns
+mod Taken
+mod Numbered
+mod Handing
+mod Deliveries
+mod Events
+mod Places
+mod LastOnes
+mod Bindings
+mod Histories

@@ -1,5 +1,11 @@
 pub mod Setup
 pub mod Runs
 pub mod Questions
+pub mod Posting
+pub mod Nodes
 pub mod Delivery
+pub mod Outsiders
 pub mod Permitted
+pub mod Passing
+pub mod Claims
+pub mod Bound

@@ -1,32 +1,46 @@
--- What a schedule declares, and its events. Built today: links, correspondents, outsiders who post test
--- inits, and deliveries.
-use Rattle.std.specs.Prelude.{ℕ, zero, suc, List, [], ◌∷◌, Bool, ◌==◌, if◌then◌else◌, Option, Some, None, unwrap_or}
-use Rattle.mip_words.specs.Addresses.{prefix_of}
+-- What a schedule declares, as its run needs it. Built today: links, correspondents and outsiders.
+use Rattle.std.specs.Prelude.{ℕ, suc, List, [], ◌∷◌}
 use Rattle.mip_words.specs.declared.address.Address.{Address}
-use Rattle.mip_rules_correspondent.specs.declared.identity.Identity.{Identity}
+use Rattle.mip_schedule.specs.Contents.{Content}
+use Rattle.mip_schedule.specs.declared.declaration.Declaration.{Declaration}
+use Rattle.mip_schedule.specs.declared.declaration.Declaration.TheVariants as declare
+
+-- a correspondent: its address, and how many homes its binding cache keeps
+pub record Host : Type 0 where
+  pub address : Address
+  pub room : ℕ
 
 pub record Setup : Type 0 where
+  pub seed : List ℕ
   -- the moment before the first event
   pub start : ℕ
   -- the prefix of each link
   pub links : List ℕ
-  -- the correspondents, in order of declaration
-  pub nodes : List Identity
+  -- the nodes, in order of declaration
+  pub hosts : List Host
+  -- how many outsiders there are
+  pub outsiders : ℕ
 
-pub data Event : Type 0 where
-  -- an outsider posts a test init, for home or care-of
-  Probe : (outsider link : ℕ) (careof : Bool) (source peer : Address) (cookie : ℕ) → Event
-  -- a packet is taken out of the pool and delivered
-  Deliver : (number : ℕ) → Event
+abbrev pub links_in : List Declaration → List ℕ
+links_in [] = []
+links_in (declare.Link name prefix ∷ ds) = prefix.0 ∷ links_in ds
+links_in (_ ∷ ds) = links_in ds
 
--- the first link with this prefix, the first of the list counted as number n
-abbrev pub link_from : ℕ → List ℕ → ℕ → Option ℕ
-link_from n [] prefix = None
-link_from n (p ∷ ps) prefix = if p == prefix then Some n else link_from (suc n) ps prefix
+abbrev pub hosts_in : List Declaration → List Host
+hosts_in [] = []
+hosts_in (declare.Correspondent name link address room ∷ ds) = record { address = address; room = room } ∷ hosts_in ds
+hosts_in (_ ∷ ds) = hosts_in ds
 
--- the link of an address: the declared one whose prefix is the first 64 bits
-abbrev pub link_of : List ℕ → ℕ → Option ℕ
-link_of links address = link_from 0 links (prefix_of address)
+abbrev pub outsiders_in : List Declaration → ℕ
+outsiders_in [] = 0
+outsiders_in (declare.Outsider name ∷ ds) = suc (outsiders_in ds)
+outsiders_in (_ ∷ ds) = outsiders_in ds
 
-abbrev pub link_or_first : List ℕ → ℕ → ℕ
-link_or_first links address = unwrap_or (link_of links address) 0
+abbrev pub setup_of : Content → Setup
+setup_of s = record {
+  seed = s.seed;
+  start = s.start.0;
+  links = links_in s.declarations;
+  hosts = hosts_in s.declarations;
+  outsiders = outsiders_in s.declarations;
+}

@@ -1,10 +1,98 @@
 //! Laws of the permitted history.
 
-ghost use Rattle.std.specs.Prelude.{◌≡◌, List, [], ◌∷◌, ◌++◌};
-ghost use Rattle.mip_history.specs.Setup.{Setup, Event};
-ghost use Rattle.mip_history.specs.Permitted.{run_of, happens};
+ghost use Rattle.std.specs.Prelude.{◌≡◌, ◌≢◌, ℕ, ◌+◌, ◌<◌, ◌≤◌, max, List, [], ◌∷◌, ◌++◌, length, Bool, true, false, Some, None, option_map, slice_get};
+ghost use Rattle.std.specs.List.{list_any, sum_by};
+ghost use Rattle.mip_words.specs.declared.address.Address.{Address};
+ghost use Rattle.mip_words.specs.declared.moment.Moment.{Moment};
+ghost use Rattle.mip_words.specs.declared.ids.NodeId.{NodeId};
+ghost use Rattle.mip_words.specs.declared.ids.LinkId.{LinkId};
+ghost use Rattle.mip_entries.specs.declared.entry.Entry.{Entry};
+ghost use Rattle.mip_entries.specs.declared.entry.Entry.TheVariants.{At, Sent, Injected, Heard, Handed, Claimed, Released, Taken};
+ghost use Rattle.mip_schedule.specs.Contents.{Content};
+ghost use Rattle.mip_schedule.specs.declared.event.Event.{Event};
+ghost use Rattle.mip_bcache.specs.declared.accepted.Accepted.{Accepted};
+ghost use Rattle.mip_binding.specs.Held.{floor, is_full};
+ghost use Rattle.mip_rules_correspondent.specs.Questions.{held_of, floor_of, is_full_for};
+ghost use Rattle.mip_history.specs.Setup.{Setup, Host, setup_of};
+ghost use Rattle.mip_history.specs.Questions.{moment_in, life_in, holder_in};
+ghost use Rattle.mip_history.specs.Nodes.{known_in, now_in};
+ghost use Rattle.mip_history.specs.Permitted.{run_of, happens, permitted};
+ghost use Rattle.mip_history.specs.Claims.{is_free_for};
+ghost use Rattle.mip_history.specs.Passing.{waited_by, restarted_by};
+ghost use Rattle.mip_history.specs.Bound.{accepted_by, held_in, packet_in, packets_of, accepted_entry, is_accepted, is_restart_of, is_accepted_for, HasAccepted, IsBound};
 
 /// A schedule with one event more is run by letting that event happen last.
 pub fn event_after_event()
     ensures { (s : Setup) (events : List Event) (event : Event) → run_of s (events ++ event ∷ []) ≡ happens s (run_of s events) event }
+{}
+
+/// In the permitted history of every schedule, a care-of address is held by an update that was accepted: the
+/// last one of its home in the present life of the node, whose packet had just been handed to the node, with
+/// the verdict Accept on its bytes by the secrets of that life, at that moment, with what was kept of the home
+/// just before. RFC 6275 section 9.5.1.
+pub fn held_was_accepted()
+    ensures { (c : Content) (n home careof : ℕ) → held_in (setup_of c) (permitted c) n home ≡ Some careof → IsBound (setup_of c) (permitted c) n home careof }
+{}
+
+/// Every update that was ever accepted had just been handed over, with that verdict.
+pub fn accepted_was_handed()
+    ensures { (c : Content) (before : List Entry) (e : Entry) (after : List Entry) → permitted c ≡ before ++ e ∷ after → is_accepted e ≡ true → HasAccepted (setup_of c) before e }
+{}
+
+/// In any history, the last update of a home that a node accepted in its present life is the one that counts: to its end
+/// its care-of address is held, unless it is the home address, and to the moment at which it is given up its sequence
+/// is kept.
+pub fn last_acceptance_counts()
+    ensures binds { (s : Setup) (before : List Entry) (n k : ℕ) (home : Address) (a : Accepted) (after : List Entry)
+        → list_any (is_restart_of n) after ≡ false → list_any (is_accepted_for n home.0) after ≡ false → a.careof.0 ≢ home.0
+        → moment_in s.start (before ++ accepted_entry n k home a ∷ after) < a.end.0 → held_in s (before ++ accepted_entry n k home a ∷ after) n home.0 ≡ Some a.careof.0 }
+    ensures deletes { (s : Setup) (before : List Entry) (n k : ℕ) (home : Address) (a : Accepted) (after : List Entry)
+        → list_any (is_restart_of n) after ≡ false → list_any (is_accepted_for n home.0) after ≡ false → a.careof.0 ≡ home.0
+        → held_in s (before ++ accepted_entry n k home a ∷ after) n home.0 ≡ None }
+    ensures floor { (s : Setup) (before : List Entry) (n k : ℕ) (home : Address) (a : Accepted) (after : List Entry) (now : ℕ)
+        → list_any (is_restart_of n) after ≡ false → list_any (is_accepted_for n home.0) after ≡ false → now < max a.end.0 (moment_in s.start before + 240000)
+        → floor (accepted_by s.start (before ++ accepted_entry n k home a ∷ after) n) home.0 now ≡ Some a.sequence }
+{}
+
+/// What a node keeps of a home is what the history says of it.
+pub fn nodes_keep_what_was_accepted()
+    ensures held { (s : Setup) (events : List Event) (n : ℕ) (host : Host) (home : Address) → slice_get s.hosts n ≡ Some host
+        → option_map (λ a. a.0) (held_of (known_in (run_of s events) n host) (now_in s (run_of s events)) home) ≡ held_in s (run_of s events).past n home.0 }
+    ensures floor { (s : Setup) (events : List Event) (n : ℕ) (host : Host) (home : Address) → slice_get s.hosts n ≡ Some host
+        → floor_of (known_in (run_of s events) n host) (now_in s (run_of s events)) home ≡ floor (accepted_by s.start (run_of s events).past n) home.0 (now_in s (run_of s events)) }
+    ensures full { (s : Setup) (events : List Event) (n : ℕ) (host : Host) (home : Address) → slice_get s.hosts n ≡ Some host
+        → is_full_for (known_in (run_of s events) n host) (now_in s (run_of s events)) home ≡ is_full host.room (accepted_by s.start (run_of s events).past n) home.0 (now_in s (run_of s events)) }
+{}
+
+/// Moments do not fall, and time goes on by what the schedule waits.
+pub fn moments_rise()
+    ensures at { (c : Content) (before : List Entry) (moment : Moment) (after : List Entry) → permitted c ≡ before ++ At moment ∷ after → moment_in (setup_of c).start before ≤ moment.0 }
+    ensures waited { (c : Content) → moment_in (setup_of c).start (permitted c) ≡ c.start.0 + sum_by waited_by c.events }
+{}
+
+/// Packets are numbered from 0 in the order in which they are posted, and are heard and handed over only then.
+pub fn packets_are_numbered()
+    ensures sent { (c : Content) (before : List Entry) (number : ℕ) (node : NodeId) (shielded : Bool) (packet : List ℕ) (after : List Entry)
+        → permitted c ≡ before ++ Sent number node shielded packet ∷ after → number ≡ length (packets_of before) }
+    ensures injected { (c : Content) (before : List Entry) (number outsider : ℕ) (link : LinkId) (packet : List ℕ) (after : List Entry)
+        → permitted c ≡ before ++ Injected number outsider link packet ∷ after → number ≡ length (packets_of before) }
+    ensures heard { (c : Content) (before : List Entry) (number outsider : ℕ) (after : List Entry) → permitted c ≡ before ++ Heard number outsider ∷ after → number < length (packets_of before) }
+    ensures handed { (c : Content) (before : List Entry) (number : ℕ) (node : NodeId) (after : List Entry) → permitted c ≡ before ++ Handed number node ∷ after → number < length (packets_of before) }
+    ensures found { (c : Content) (k : ℕ) → packet_in (permitted c) k ≡ slice_get (packets_of (permitted c)) k }
+{}
+
+/// A node begins a new life as often as the schedule restarts it, and never otherwise.
+pub fn lives_are_restarts()
+    ensures { (c : Content) (n : ℕ) → life_in (permitted c) n ≡ sum_by (restarted_by n) c.events }
+{}
+
+/// Each address has one holder: behind the opening claims nobody claims what somebody else holds, a claim in vain
+/// names the holder, and only the holder gives an address up.
+pub fn addresses_have_one_holder()
+    ensures claimed { (c : Content) (before : List Entry) (who : ℕ) (link : LinkId) (address : Address) (after : List Entry) → permitted c ≡ before ++ Claimed who link address ∷ after
+        → length (setup_of c).hosts ≤ length before → is_free_for (holder_in before address.0) who ≡ true }
+    ensures released { (c : Content) (before : List Entry) (who : ℕ) (link : LinkId) (address : Address) (after : List Entry) → permitted c ≡ before ++ Released who link address ∷ after
+        → holder_in before address.0 ≡ Some who }
+    ensures taken { (c : Content) (before : List Entry) (who : ℕ) (link : LinkId) (address : Address) (holder : ℕ) (after : List Entry) → permitted c ≡ before ++ Taken who link address holder ∷ after
+        → holder_in before address.0 ≡ Some holder }
 {}

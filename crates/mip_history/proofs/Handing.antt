@@ -1,0 +1,139 @@
+-- Deliveries: a packet that is handed to a node is the one that was posted, but for its hop limit.
+use Rattle.std.proofs.Common.{◌≡◌, ℕ, ◌<◌, List, Bool, false, length, ◌⊎◌, inl, inr, refl, sym, ap, ◌∙◌, subst}
+use Rattle.std.specs.Prelude.{Option, Some, None, option_map, Result, Ok, Err, slice_get}
+use Rattle.std.specs.List.{list_any}
+use Rattle.std.proofs.lemmas.Option.{slice_get-map, slice_get_within}
+use Rattle.mip_words.specs.declared.address.Address.{Address}
+use Rattle.mip_ipv6.specs.declared.not_packet.NotPacket.{NotPacket}
+use Rattle.mip_ipv6.specs.Packet.{Packet}
+use Rattle.mip_ipv6.specs.Reading.{packet_of}
+use Rattle.mip_tunnel.specs.Tunnel.{lowered_packet, lowered_if_read}
+use Rattle.mip_tunnel.proofs.Tunnels.{packet_of_lowered}
+use Rattle.mip_binding.specs.Acceptance.{Acceptance}
+use Rattle.mip_binding.specs.Held.{floor, is_full}
+use Rattle.mip_entries.specs.declared.entry.Entry.TheVariants as entries
+use Rattle.mip_entries.specs.Completed.{node_id}
+use Rattle.mip_nonce.specs.Secrets.{Life}
+use Rattle.mip_rules_correspondent.specs.declared.identity.Identity.{Identity}
+use Rattle.mip_rules_correspondent.specs.declared.request.Request.{Request}
+use Rattle.mip_rules_correspondent.specs.Steps.{Step, is_acceptance}
+use Rattle.mip_rules_correspondent.specs.Turns.{Turn}
+use Rattle.mip_rules_correspondent.specs.Requests.{request_in, home_of}
+use Rattle.mip_rules_correspondent.specs.Verdicts.{Bench, verdict}
+use Rattle.mip_rules_correspondent.specs.Rules.{bench}
+use Rattle.mip_rules_correspondent.specs.Calls.{taken}
+use Rattle.mip_rules_correspondent.proofs.Acceptances.{floor-answers, full-answers}
+use Rattle.mip_links.specs.Table.{Post}
+use Rattle.mip_history.specs.Setup.{Setup, Host}
+use Rattle.mip_history.specs.Runs.{Run, note}
+use Rattle.mip_history.specs.Nodes.{link_or_first, identity_in, known_in, now_in, past_at, turned}
+use Rattle.mip_history.specs.Delivery.{handed_over}
+use Rattle.mip_history.specs.Bound.{accepted_by, packet_in, judge_in, IsAccepted}
+use Rattle.mip_history.proofs.Numbered.{packet_numbered}
+use Rattle.mip_history.proofs.Runs.{IsRun, Goes, quiet_handed, quiet_run, goes_quietly, goes_then}
+use Rattle.mip_history.proofs.Turns.{done, quiet_turn, accepting_turn}
+use Rattle.mip_history.proofs.Taken.{accepted_home, IsUpdateTaken, taken_is}
+
+-- a node's turn in which nothing is accepted
+pub turned_quietly : (s : Setup) (n : ℕ) (host : Host) (run : Run) (t : Turn) → IsRun s run → slice_get s.hosts n ≡ Some host
+    → t.now ≡ now_in s run → list_any is_acceptance t.steps ≡ false → Goes s run (turned s n host t run)
+turned_quietly s n host run t is host_is now none =
+    subst (λ (at : ℕ). Goes s run (done s n (link_or_first s host.address.0) at t.steps run)) (sym now)
+    (quiet_turn s n (link_or_first s host.address.0) run is (slice_get_within s.hosts n host host_is) t.steps none)
+
+-- what is handed over reads as what was posted
+record ReadsAs (bytes : List ℕ) (q : Packet) : Type 0 where
+  packet : Packet
+  read : packet_of bytes ≡ Ok packet
+  source : q.head.source ≡ packet.head.source
+  home : q.head.home ≡ packet.head.home
+  body : q.body ≡ packet.body
+
+reads_as : (bytes : List ℕ) (link : Option ℕ) (q : Packet) → packet_of (handed_over bytes link) ≡ Ok q → ReadsAs bytes q
+reads_as bytes None q read = record { packet = q; read = read; source = refl; home = refl; body = refl }
+reads_as bytes (Some link) q read = by (packet_of bytes) refl (sym (packet_of_lowered bytes) ∙ read)
+  where
+    by : (r : Result Packet NotPacket) → packet_of bytes ≡ r → lowered_if_read r ≡ Ok q → ReadsAs bytes q
+    by (Ok p) is e =
+        let same : q ≡ lowered_packet p = cc in
+        record { packet = p; read = is; source = ap (λ (x : Packet). x.head.source) same; home = ap (λ (x : Packet). x.head.home) same; body = ap (λ (x : Packet). x.body) same }
+    by (Err fault) is e = absurd cc
+
+bench_same : (own : Address) (secrets : Life) (now : ℕ) {a b : Option ℕ} {x y : Bool} → a ≡ b → x ≡ y
+    → (let k : Bench = record { own = own; secrets = secrets; now = now; floor = a; full = x } in k) ≡ record { own = own; secrets = secrets; now = now; floor = b; full = y }
+bench_same own secrets now p q = cc
+
+module _ (s : Setup) (k n : ℕ) (post : Post) (link : Option ℕ) (before : Run) (is : IsRun s before) (posted : slice_get before.posts k ≡ Some post) (host : Host) (host_is : slice_get s.hosts n ≡ Some host) where
+  abbrev pub run : Run
+  run = note (entries.Handed k (node_id n)) before
+
+  run_is : IsRun s run
+  run_is = quiet_run s before run (quiet_handed s k (node_id n) before (slice_get_within before.posts k post posted)) is
+
+  inside : n < length s.hosts
+  inside = slice_get_within s.hosts n host host_is
+
+  told : packet_in run.past k ≡ Some post.packet
+  told =
+      packet_numbered s run.past k run_is.kept.each
+      ∙ ap (λ (l : List (List ℕ)). slice_get l k) run_is.kept.packets
+      ∙ slice_get-map (λ (p : Post). p.packet) before.posts k
+      ∙ ap (λ (o : Option Post). option_map (λ p. p.packet) o) posted
+
+  abbrev pub me : Identity
+  me = identity_in s run n host
+
+  -- the judge of the turn is the one of the history
+  same_judge : (r : Request) (home : Address) → home ≡ home_of r → bench me (known_in run n host) (now_in s run) r ≡ judge_in s run.past n host home.0
+  same_judge r home same = let p = run_is.pasts n inside in
+      bench_same host.address me.secrets (now_in s run)
+      (floor-answers host.room (past_at run n) p.rises (now_in s run) (home_of r) p.early
+      ∙ ap (λ (xs : List Acceptance). floor xs (home_of r).0 (now_in s run)) p.accepted
+      ∙ ap (λ (h : Address). floor (accepted_by s.start run.past n) h.0 (now_in s run)) (sym same))
+      (full-answers host.room (past_at run n) p.rises (now_in s run) (home_of r) p.early
+      ∙ ap (λ (xs : List Acceptance). is_full host.room xs (home_of r).0 (now_in s run)) p.accepted
+      ∙ ap (λ (h : Address). is_full host.room (accepted_by s.start run.past n) h.0 (now_in s run)) (sym same))
+
+  abbrev steps : List Step
+  steps = (taken me (known_in run n host) (now_in s run) k post.shield (handed_over post.packet link)).steps
+
+  -- an update that is accepted stands behind its packet
+  stands : (u : IsUpdateTaken me (known_in run n host) (now_in s run) k post.shield (handed_over post.packet link) steps) → IsAccepted s run.past n k u.home u.accepted
+  stands u = let as_posted = reads_as post.packet link u.packet u.read in
+      record {
+        host = host;
+        is_host = host_is;
+        earlier = before.past;
+        handed = refl;
+        bytes = post.packet;
+        posted = told;
+        packet = as_posted.packet;
+        read = as_posted.read;
+        request = u.request;
+        asks = same as_posted.source as_posted.home as_posted.body ∙ u.asks;
+        granted = u.granted;
+        kbm = u.kbm;
+        verdict_is =
+            ap (λ (b : Bench). verdict b u.request as_posted.packet.body) (sym (same_judge u.request u.home (accepted_home _ u.request u.packet.body u.home u.accepted u.granted u.kbm u.verdict_is)))
+            ∙ ap (λ (l : List ℕ). verdict (bench me (known_in run n host) (now_in s run) u.request) u.request l) (sym as_posted.body)
+            ∙ u.verdict_is;
+      }
+    where
+      same : {a b : Address} {x y : Option Address} {l m : List ℕ} → b ≡ a → y ≡ x → m ≡ l → request_in a x l ≡ request_in b y m
+      same p q r = cc
+
+  pub handed_to : Goes s before (turned s n host (taken me (known_in run n host) (now_in s run) k post.shield (handed_over post.packet link)) run)
+  handed_to = goes_then s before run _ (goes_quietly s before run is (quiet_handed s k (node_id n) before (slice_get_within before.posts k post posted))) (by found.1)
+    where
+      t : Turn
+      t = taken me (known_in run n host) (now_in s run) k post.shield (handed_over post.packet link)
+
+      found : (t.now ≡ now_in s run) × ((list_any is_acceptance t.steps ≡ false) ⊎ IsUpdateTaken me (known_in run n host) (now_in s run) k post.shield (handed_over post.packet link) t.steps)
+      found = taken_is me (known_in run n host) (now_in s run) k post.shield (handed_over post.packet link)
+
+      by : ((list_any is_acceptance t.steps ≡ false) ⊎ IsUpdateTaken me (known_in run n host) (now_in s run) k post.shield (handed_over post.packet link) t.steps) → Goes s run (turned s n host t run)
+      by (inl none) = turned_quietly s n host run t run_is host_is found.0 none
+      by (inr u) =
+          subst (λ (at : ℕ). Goes s run (done s n (link_or_first s host.address.0) at t.steps run)) (sym found.0)
+          (subst (λ (l : List Step). Goes s run (done s n (link_or_first s host.address.0) (now_in s run) l run)) (sym u.steps_are)
+          (accepting_turn s n (link_or_first s host.address.0) run run_is inside k post.shield (handed_over post.packet link) u.home u.accepted u.rest u.none (stands u)))

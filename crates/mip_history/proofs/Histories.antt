@@ -1,0 +1,114 @@
+-- What is known of every permitted history.
+use Rattle.std.proofs.Common.{◌≡◌, ℕ, ◌+◌, ◌<◌, ◌≤◌, List, [], ◌∷◌, ◌++◌, length, Bool, true, ap, ◌∙◌, subst, arith}
+use Rattle.std.specs.Prelude.{Some, option_map, slice_get}
+use Rattle.std.specs.List.{sum_by}
+use Rattle.std.proofs.lemmas.Option.{slice_get_within}
+use Rattle.mip_words.specs.declared.address.Address.{Address}
+use Rattle.mip_words.specs.declared.moment.Moment.{Moment}
+use Rattle.mip_words.specs.declared.ids.NodeId.{NodeId}
+use Rattle.mip_words.specs.declared.ids.LinkId.{LinkId}
+use Rattle.mip_lists.specs.EachAfter.{EachAfter}
+use Rattle.mip_lists.proofs.EachLaws.{each_at}
+use Rattle.mip_binding.specs.Acceptance.{Acceptance}
+use Rattle.mip_binding.specs.Held.{held, floor, is_full}
+use Rattle.mip_entries.specs.declared.entry.Entry.{Entry}
+use Rattle.mip_entries.specs.declared.entry.Entry.TheVariants as entries
+use Rattle.mip_schedule.specs.Contents.{Content}
+use Rattle.mip_schedule.specs.declared.event.Event.{Event}
+use Rattle.mip_rules_correspondent.specs.Questions.{held_of, floor_of, is_full_for}
+use Rattle.mip_rules_correspondent.proofs.Acceptances.{held-answers, floor-answers, full-answers}
+use Rattle.mip_history.specs.Setup.{Setup, Host, setup_of}
+use Rattle.mip_history.specs.Runs.{Run}
+use Rattle.mip_history.specs.Questions.{moment_in, life_in, holder_in}
+use Rattle.mip_history.specs.Claims.{is_free_for}
+use Rattle.mip_history.specs.Nodes.{past_at, known_in, now_in}
+use Rattle.mip_history.specs.Permitted.{run_of, permitted}
+use Rattle.mip_history.specs.Passing.{waited_by, restarted_by}
+use Rattle.mip_history.specs.Bound.{accepted_by, held_in, packet_in, packets_of, is_accepted, HasAccepted, IsBound}
+use Rattle.mip_history.proofs.Runs.{Meets, IsPast}
+use Rattle.mip_history.proofs.Numbered.{packet_numbered}
+use Rattle.mip_history.proofs.Events.{run_passes}
+use Rattle.mip_history.proofs.Bindings.{held_is_bound}
+
+permitted_each : (c : Content) → EachAfter (Meets (setup_of c)) [] (permitted c)
+unfolding permitted
+permitted_each c = (run_passes (setup_of c) c.events).run.kept.each
+
+meets_at : (c : Content) (before : List Entry) (e : Entry) (after : List Entry) → permitted c ≡ before ++ e ∷ after → Meets (setup_of c) before e
+meets_at c before e after whole =
+    each_at (Meets (setup_of c)) [] before e after (subst (λ (l : List Entry). EachAfter (Meets (setup_of c)) [] l) whole (permitted_each c))
+
+pub permitted_held : (c : Content) (n home careof : ℕ) → held_in (setup_of c) (permitted c) n home ≡ Some careof → IsBound (setup_of c) (permitted c) n home careof
+permitted_held c n home careof held = held_is_bound (setup_of c) (permitted c) (permitted_each c) n home careof held
+
+pub permitted_accepted : (c : Content) (before : List Entry) (e : Entry) (after : List Entry) → permitted c ≡ before ++ e ∷ after → is_accepted e ≡ true → HasAccepted (setup_of c) before e
+permitted_accepted c before e after whole accepted = by e accepted (meets_at c before e after whole)
+  where
+    by : (e : Entry) → is_accepted e ≡ true → Meets (setup_of c) before e → HasAccepted (setup_of c) before e
+    by (entries.Accepted node number home binding careof sequence end i j) accepted is = is
+    by _ accepted is = absurd cc
+
+pub permitted_at : (c : Content) (before : List Entry) (moment : Moment) (after : List Entry) → permitted c ≡ before ++ entries.At moment ∷ after → moment_in (setup_of c).start before ≤ moment.0
+permitted_at c before moment after whole = meets_at c before (entries.At moment) after whole
+
+pub permitted_sent : (c : Content) (before : List Entry) (number : ℕ) (node : NodeId) (shielded : Bool) (packet : List ℕ) (after : List Entry)
+    → permitted c ≡ before ++ entries.Sent number node shielded packet ∷ after → number ≡ length (packets_of before)
+permitted_sent c before number node shielded packet after whole = meets_at c before (entries.Sent number node shielded packet) after whole
+
+pub permitted_injected : (c : Content) (before : List Entry) (number outsider : ℕ) (link : LinkId) (packet : List ℕ) (after : List Entry)
+    → permitted c ≡ before ++ entries.Injected number outsider link packet ∷ after → number ≡ length (packets_of before)
+permitted_injected c before number outsider link packet after whole = meets_at c before (entries.Injected number outsider link packet) after whole
+
+pub permitted_found : (c : Content) (k : ℕ) → packet_in (permitted c) k ≡ slice_get (packets_of (permitted c)) k
+permitted_found c k = packet_numbered (setup_of c) (permitted c) k (permitted_each c)
+
+pub permitted_waited : (c : Content) → moment_in (setup_of c).start (permitted c) ≡ c.start.0 + sum_by waited_by c.events
+unfolding permitted
+permitted_waited c = (run_passes (setup_of c) c.events).moment
+
+pub permitted_lives : (c : Content) (n : ℕ) → life_in (permitted c) n ≡ sum_by (restarted_by n) c.events
+unfolding permitted
+permitted_lives c n = (run_passes (setup_of c) c.events).life n ∙ omega arith
+
+-- packets are heard and handed over when they have been posted
+pub permitted_heard : (c : Content) (before : List Entry) (number outsider : ℕ) (after : List Entry) → permitted c ≡ before ++ entries.Heard number outsider ∷ after → number < length (packets_of before)
+permitted_heard c before number outsider after whole = meets_at c before (entries.Heard number outsider) after whole
+
+pub permitted_handed : (c : Content) (before : List Entry) (number : ℕ) (node : NodeId) (after : List Entry) → permitted c ≡ before ++ entries.Handed number node ∷ after → number < length (packets_of before)
+permitted_handed c before number node after whole = meets_at c before (entries.Handed number node) after whole
+
+-- addresses are claimed when they are free
+pub permitted_claimed : (c : Content) (before : List Entry) (who : ℕ) (link : LinkId) (address : Address) (after : List Entry) → permitted c ≡ before ++ entries.Claimed who link address ∷ after
+    → length (setup_of c).hosts ≤ length before → is_free_for (holder_in before address.0) who ≡ true
+permitted_claimed c before who link address after whole behind = meets_at c before (entries.Claimed who link address) after whole behind
+
+pub permitted_released : (c : Content) (before : List Entry) (who : ℕ) (link : LinkId) (address : Address) (after : List Entry) → permitted c ≡ before ++ entries.Released who link address ∷ after
+    → holder_in before address.0 ≡ Some who
+permitted_released c before who link address after whole = meets_at c before (entries.Released who link address) after whole
+
+pub permitted_taken : (c : Content) (before : List Entry) (who : ℕ) (link : LinkId) (address : Address) (holder : ℕ) (after : List Entry) → permitted c ≡ before ++ entries.Taken who link address holder ∷ after
+    → holder_in before address.0 ≡ Some holder
+permitted_taken c before who link address holder after whole = meets_at c before (entries.Taken who link address holder) after whole
+
+-- what a node keeps
+module _ (s : Setup) (events : List Event) (n : ℕ) (host : Host) (home : Address) (is : slice_get s.hosts n ≡ Some host) where
+  abbrev run : Run
+  run = run_of s events
+
+  past_is : IsPast s (run_of s events).past (past_at (run_of s events) n) n
+  past_is = (run_passes s events).run.pasts n (slice_get_within s.hosts n host is)
+
+  pub run_held : option_map (λ a. a.0) (held_of (known_in (run_of s events) n host) (now_in s (run_of s events)) home) ≡ held_in s (run_of s events).past n home.0
+  run_held =
+      held-answers host.room (past_at run n) past_is.rises (now_in s run) home past_is.early
+      ∙ ap (λ (xs : List Acceptance). held xs home.0 (now_in s run)) past_is.accepted
+
+  pub run_floor : floor_of (known_in (run_of s events) n host) (now_in s (run_of s events)) home ≡ floor (accepted_by s.start (run_of s events).past n) home.0 (now_in s (run_of s events))
+  run_floor =
+      floor-answers host.room (past_at run n) past_is.rises (now_in s run) home past_is.early
+      ∙ ap (λ (xs : List Acceptance). floor xs home.0 (now_in s run)) past_is.accepted
+
+  pub run_full : is_full_for (known_in (run_of s events) n host) (now_in s (run_of s events)) home ≡ is_full host.room (accepted_by s.start (run_of s events).past n) home.0 (now_in s (run_of s events))
+  run_full =
+      full-answers host.room (past_at run n) past_is.rises (now_in s run) home past_is.early
+      ∙ ap (λ (xs : List Acceptance). is_full host.room xs home.0 (now_in s run)) past_is.accepted

@@ -1,0 +1,245 @@
+-- What a correspondent does about a packet that it is handed: it accepts nothing, or at once the update in the packet, with
+-- the verdict Accept.
+use Rattle.std.proofs.Common.{◌≡◌, ℕ, List, [], ◌∷◌, Bool, true, false, ◌⊎◌, inl, inr, refl, ap}
+use Rattle.std.specs.Prelude.{Option, Some, None, Result, Ok, Err, not, ◌==◌, ◌||◌, ◌&&◌, if◌then◌else◌, is_some}
+use Rattle.std.specs.List.{list_any}
+use Rattle.mip_words.specs.Steps.{◌>>=◌}
+use Rattle.mip_words.specs.Sequence.{is_after}
+use Rattle.mip_words.specs.Addresses.{is_routable}
+use Rattle.mip_words.specs.declared.address.Address.{Address}
+use Rattle.mip_words.specs.declared.shield.Shield.{Shield}
+use Rattle.mip_words.specs.declared.why.Why.{Why}
+use Rattle.mip_ipv6.specs.declared.not_packet.NotPacket.{NotPacket}
+use Rattle.mip_ipv6.specs.Packet.{Packet}
+use Rattle.mip_ipv6.specs.Reading.{packet_of}
+use Rattle.mip_options.specs.Values.{Values}
+use Rattle.mip_options.specs.declared.indices.Indices.{Indices}
+use Rattle.mip_mobhdr.specs.declared.fault.Fault.{Fault}
+use Rattle.mip_mobhdr.specs.Said.{Said}
+use Rattle.mip_mobhdr.specs.Said.Said.{Refresh, HomeInit, CareofInit, HomeTest, CareofTest, Update, Acknowledgement, Error}
+use Rattle.mip_mobhdr.specs.Reading.{type_in, options_in, refresh_of, home_init_of, careof_init_of, home_test_of, careof_test_of, update_of, acknowledgement_of, error_of, fields_of, message_of}
+use Rattle.mip_nonce.specs.Window.{number_named}
+use Rattle.mip_tokens.specs.Token.{is_authentic}
+use Rattle.mip_tokens.specs.declared.kbm.Kbm.{Kbm}
+use Rattle.mip_bcache.specs.declared.accepted.Accepted.{Accepted}
+use Rattle.mip_says.specs.Says.{source_of, destination_of}
+use Rattle.mip_reception.specs.declared.refusal.Refusal.{Refusal}
+use Rattle.mip_reception.specs.declared.standing.Standing.{Standing}
+use Rattle.mip_reception.specs.Checks.{message_or_refusal, message_at, then_home, is_probe, is_update, checked}
+use Rattle.mip_reception.specs.Replies.{reply_packet}
+use Rattle.mip_rules_correspondent.specs.declared.identity.Identity.{Identity}
+use Rattle.mip_rules_correspondent.specs.declared.known.Known.{Known}
+use Rattle.mip_rules_correspondent.specs.declared.request.Request.{Request}
+use Rattle.mip_rules_correspondent.specs.declared.verdict.Verdict.{Verdict}
+use Rattle.mip_rules_correspondent.specs.declared.verdict.Verdict.TheVariants.{Refuse, Deny, Accept}
+use Rattle.mip_rules_correspondent.specs.Steps.{Step, Given, Sends, Accepts, Drops, is_acceptance}
+use Rattle.mip_rules_correspondent.specs.Questions.{after}
+use Rattle.mip_rules_correspondent.specs.Turns.{Turn, begun, noted}
+use Rattle.mip_rules_correspondent.specs.Requests.{request, request_said, request_in, home_of, careof_of, registered_of}
+use Rattle.mip_rules_correspondent.specs.Verdicts.{Bench, by_room, by_sequence, by_key, kbm_of, by_numbers, careof_number, by_indices, verdict}
+use Rattle.mip_rules_correspondent.specs.Acks.{ack_packet}
+use Rattle.mip_rules_correspondent.specs.Rules.{answers_home_init, answers_careof_init, bench, denies, accepts, judged, takes_update, hands_up, by_message, is_for_part, other_why, by_role, replies, refuses, standing_of, after_checks, place_in, receives, takes}
+use Rattle.mip_rules_correspondent.specs.Calls.{taken}
+
+-- whichever way a choice goes
+either : {X Q : Type 0} (u : X) (b : Bool) (x y : X) → (x ≡ u → Q) → (y ≡ u → Q) → (if b then x else y) ≡ u → Q
+either u true x y first second e = first e
+either u false x y first second e = second e
+
+-- only an accepted update has the verdict Accept, and it is for the home of the update
+module _ (b : Bench) (r : Request) (message : List ℕ) (home : Address) (a : Accepted) (granted : ℕ) (kbm : Kbm) where
+  room_home : (i : ℕ) (j : Option ℕ) (key : Kbm) → by_room b r i j key ≡ Accept home a granted kbm → home ≡ home_of r
+  room_home i j key = either (Accept home a granted kbm) b.full _ _ (λ e. absurd cc) (λ e. cc)
+
+  sequence_home : (i : ℕ) (j : Option ℕ) (key : Kbm) (floor : Option ℕ) → by_sequence b r i j key floor ≡ Accept home a granted kbm → home ≡ home_of r
+  sequence_home i j key None e = room_home i j key e
+  sequence_home i j key (Some last) e = either (Accept home a granted kbm) (not (is_after r.sequence last)) _ _ (λ e. absurd cc) (room_home i j key) e
+
+  key_home : (i : ℕ) (j : Option ℕ) (key : Kbm) → by_key b r message i j key ≡ Accept home a granted kbm → home ≡ home_of r
+  key_home i j key = either (Accept home a granted kbm) (not (is_authentic key.0 (registered_of r) b.own message)) _ _ (λ e. absurd cc) (sequence_home i j key b.floor)
+
+  numbers_home : (i : Option ℕ) (j : Option (Option ℕ)) → by_numbers b r message i j ≡ Accept home a granted kbm → home ≡ home_of r
+  numbers_home None None e = absurd cc
+  numbers_home None (Some j) e = absurd cc
+  numbers_home (Some i) None e = absurd cc
+  numbers_home (Some i) (Some j) e = key_home i j (kbm_of b r i j) e
+
+  indices_home : (indices : Option Indices) → by_indices b r message indices ≡ Accept home a granted kbm → home ≡ home_of r
+  indices_home None e = absurd cc
+  indices_home (Some indices) e = numbers_home (number_named b.now indices.home) (careof_number b r indices) e
+
+  pub accepted_home : verdict b r message ≡ Accept home a granted kbm → home ≡ home_of r
+  unfolding verdict
+  accepted_home =
+      either (Accept home a granted kbm) r.for_agent _ _ (λ e. absurd cc)
+      (either (Accept home a granted kbm) (not (is_routable (home_of r).0 && is_routable (careof_of r).0)) _ _ (λ e. absurd cc)
+      (either (Accept home a granted kbm) (not r.authorized) _ _ (λ e. absurd cc)
+      (indices_home r.nonces)))
+
+-- a message that is an update was read as one
+module _ (body : List ℕ) (s : ℕ) (a h l k : Bool) (t : ℕ) (o : Values) where
+  another : (r : Result Values Fault) (f : Values → Said) → ((v : Values) → f v ≡ Update s a h l k t o → ⊥) → (r >>= (λ v. Ok (f v))) ≡ Ok (Update s a h l k t o) → ⊥
+  another (Ok v) f never e = never v cc
+  another (Err fault) f never e = absurd cc
+
+  update_fields : (type : ℕ) → fields_of type body ≡ Ok (Update s a h l k t o) → update_of body ≡ Ok (Update s a h l k t o)
+  unfolding fields_of refresh_of home_init_of careof_init_of home_test_of careof_test_of acknowledgement_of error_of
+  update_fields type =
+      either u (type == 0) _ _ (λ e. absurd (another (options_in 8 body) _ (λ v e. absurd cc) e))
+      (either u (type == 1) _ _ (λ e. absurd (another (options_in 16 body) _ (λ v e. absurd cc) e))
+      (either u (type == 2) _ _ (λ e. absurd (another (options_in 16 body) _ (λ v e. absurd cc) e))
+      (either u (type == 3) _ _ (λ e. absurd (another (options_in 24 body) _ (λ v e. absurd cc) e))
+      (either u (type == 4) _ _ (λ e. absurd (another (options_in 24 body) _ (λ v e. absurd cc) e))
+      (either u (type == 5) _ _ (λ e. e)
+      (either u (type == 6) _ _ (λ e. absurd (another (options_in 12 body) _ (λ v e. absurd cc) e))
+      (λ e. absurd (another (options_in 24 body) _ (λ v e. absurd cc) e))))))))
+    where
+      u : Result Said Fault
+      u = Ok (Update s a h l k t o)
+
+  pub update_read : (source destination : Address) → message_of source destination body ≡ Ok (Update s a h l k t o) → update_of body ≡ Ok (Update s a h l k t o)
+  unfolding message_of
+  update_read source destination e = by (type_in source destination body) e
+    where
+      by : (r : Result ℕ Fault) → (r >>= (λ type. fields_of type body)) ≡ Ok (Update s a h l k t o) → update_of body ≡ Ok (Update s a h l k t o)
+      by (Ok type) e = update_fields type e
+      by (Err fault) e = absurd cc
+
+-- what passes the checks is the message of the packet
+passes_home : (holds : Bool) (home : Option Address) (r : Result (Option Said) Refusal) (m : Option Said) → then_home holds home r ≡ Ok m → r ≡ Ok m
+passes_home holds home (Err refusal) m e = absurd cc
+passes_home holds None (Ok message) m e = e
+passes_home holds (Some home) (Ok message) m e =
+    either (Ok m) (is_probe message) _ _ (λ e. absurd cc) (either (Ok m) (is_update message || holds) _ _ (λ e. e) (λ e. absurd cc)) e
+
+checked_message : (standing : Standing) (place : ℕ) (p : Packet) (m : Option Said) → checked standing place p ≡ Ok m → message_at place p ≡ Ok m
+unfolding checked
+checked_message standing place p m =
+    either (Ok m) (not standing.is_mine) _ _ (λ e. absurd cc)
+    (either (Ok m) (is_some p.head.route && not standing.takes_route) _ _ (λ e. absurd cc)
+    (passes_home standing.holds p.head.home (message_at place p) m))
+
+message_read : (place : ℕ) (p : Packet) (m : Said) → message_at place p ≡ Ok (Some m) → message_of (source_of p.head) (destination_of p.head) p.body ≡ Ok m
+unfolding message_at
+message_read place p m = either (Ok (Some m)) (p.head.proto == 135) _ _ (by (message_of (source_of p.head) (destination_of p.head) p.body)) (λ e. absurd cc)
+  where
+    by : (r : Result Said Fault) → message_or_refusal place p.head.home r ≡ Ok (Some m) → r ≡ Ok m
+    by (Ok message) e = cc
+    by (Err fault) e = absurd cc
+
+-- the update in the packet is accepted at once, with this verdict
+pub record IsUpdateTaken (me : Identity) (k : Known) (now number : ℕ) (shield : Option Shield) (bytes : List ℕ) (steps : List Step) : Type 0 where
+  pub packet : Packet
+  pub read : packet_of bytes ≡ Ok packet
+  pub request : Request
+  pub asks : request_in packet.head.source packet.head.home packet.body ≡ Some request
+  pub home : Address
+  pub accepted : Accepted
+  pub granted : ℕ
+  pub kbm : Kbm
+  pub verdict_is : verdict (bench me k now request) request packet.body ≡ Accept home accepted granted kbm
+  pub rest : List Step
+  pub steps_are : steps ≡ Given number shield bytes ∷ Accepts number home accepted ∷ rest
+  pub none : list_any is_acceptance rest ≡ false
+
+module _ (me : Identity) (k : Known) (now number : ℕ) (shield : Option Shield) (bytes : List ℕ) where
+  abbrev Is : Turn → Type 0
+  Is t = (t.now ≡ now) × ((list_any is_acceptance t.steps ≡ false) ⊎ IsUpdateTaken me k now number shield bytes t.steps)
+
+  abbrev given : Turn
+  given = noted (Given number shield bytes) (begun now k)
+
+  of_verdict : (p : Packet) (r : Request) → packet_of bytes ≡ Ok p → request_in p.head.source p.head.home p.body ≡ Some r
+      → (v : Verdict) → verdict (bench me k now r) r p.body ≡ v → Is (judged me number r v given)
+  unfolding noted denies accepts
+  of_verdict p r read asks (Refuse why) is = (refl, inl refl)
+  of_verdict p r read asks (Deny status last kbm) is = (refl, inl refl)
+  of_verdict p r read asks (Accept home a granted kbm) is = by r.ack
+    where
+      first : Turn
+      first = noted (Accepts number home a) given
+
+      by : (ack : Bool) → Is (let t : Turn = (if ack then noted (Sends (ack_packet me.own r 0 r.sequence granted (Some kbm))) first else first) in t)
+      by true = (
+        refl,
+        inr (record {
+          packet = p;
+          read = read;
+          request = r;
+          asks = asks;
+          home = home;
+          accepted = a;
+          granted = granted;
+          kbm = kbm;
+          verdict_is = is;
+          rest = Sends (ack_packet me.own r 0 r.sequence granted (Some kbm)) ∷ [];
+          steps_are = refl;
+          none = refl;
+        }),
+      )
+      by false = (
+        refl,
+        inr (record {
+          packet = p;
+          read = read;
+          request = r;
+          asks = asks;
+          home = home;
+          accepted = a;
+          granted = granted;
+          kbm = kbm;
+          verdict_is = is;
+          rest = [];
+          steps_are = refl;
+          none = refl;
+        }),
+      )
+
+  of_update : (p : Packet) (r : Request) → packet_of bytes ≡ Ok p → request_in p.head.source p.head.home p.body ≡ Some r → Is (takes_update me number r p.body given)
+  unfolding takes_update noted after
+  of_update p r read asks = of_verdict p r read asks (verdict (bench me k now r) r p.body) refl
+
+  of_message : (p : Packet) (place : ℕ) (m : Option Said) → packet_of bytes ≡ Ok p → message_at place p ≡ Ok m → Is (by_message me number p m given)
+  unfolding noted hands_up answers_home_init answers_careof_init
+  of_message p place None read is = (refl, inl refl)
+  of_message p place (Some (HomeInit cookie options)) read is = (refl, inl refl)
+  of_message p place (Some (CareofInit cookie options)) read is = (refl, inl refl)
+  of_message p place (Some (Update s a h l key t o)) read is =
+      of_update p (request p.head.source p.head.home s a h t o) read
+      (ap (request_said p.head.source p.head.home)
+      (update_read p.body s a h l key t o (source_of p.head) (destination_of p.head) (message_read place p (Update s a h l key t o) is)))
+  of_message p place (Some (Refresh options)) read is = (refl, inl refl)
+  of_message p place (Some (HomeTest index cookie token options)) read is = (refl, inl refl)
+  of_message p place (Some (CareofTest index cookie token options)) read is = (refl, inl refl)
+  of_message p place (Some (Acknowledgement s key q t o)) read is = (refl, inl refl)
+  of_message p place (Some (Error s home options)) read is = (refl, inl refl)
+
+  of_role : (p : Packet) (place : ℕ) (m : Option Said) → packet_of bytes ≡ Ok p → message_at place p ≡ Ok m → Is (by_role me number p m given)
+  unfolding by_role noted
+  of_role p place m read is = by (is_for_part p.head.proto m)
+    where
+      by : (mine : Bool) → Is (let t : Turn = (if mine then by_message me number p m given else noted (Drops number (other_why p.head.proto)) given) in t)
+      by true = of_message p place m read is
+      by false = (refl, inl refl)
+
+  of_reply : (reply : Option (List ℕ)) (why : Why) → Is (replies reply (noted (Drops number why) given))
+  unfolding noted
+  of_reply None why = (refl, inl refl)
+  of_reply (Some packet) why = (refl, inl refl)
+
+  of_checks : (p : Packet) (place : ℕ) (r : Result (Option Said) Refusal) → packet_of bytes ≡ Ok p → ((m : Option Said) → r ≡ Ok m → message_at place p ≡ Ok m) → Is (after_checks me number bytes p r given)
+  unfolding refuses
+  of_checks p place (Err refusal) read is = of_reply (reply_packet me.own p.head.source bytes refusal.reply) refusal.why
+  of_checks p place (Ok m) read is = of_role p place m read (is m refl)
+
+  of_packet : (r : Result Packet NotPacket) → packet_of bytes ≡ r → Is (receives me number bytes r given)
+  unfolding noted
+  of_packet (Err fault) read = (refl, inl refl)
+  of_packet (Ok p) read =
+      let standing = standing_of me given.known given.now p.head in
+      let place = place_in bytes p in
+      of_checks p place (checked standing place p) read (checked_message standing place p)
+
+  pub taken_is : Is (taken me k now number shield bytes)
+  unfolding takes
+  taken_is = of_packet (packet_of bytes) refl

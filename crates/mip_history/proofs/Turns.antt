@@ -1,0 +1,205 @@
+-- A turn of a node keeps a run, whether an update is accepted in it or not.
+use Rattle.std.proofs.Common.{◌≡◌, ◌≢◌, ℕ, ◌<◌, ◌≤◌, List, [], ◌∷◌, ◌++◌, Bool, true, false, length, inl, inr, refl, sym, ap, ◌∙◌, subst, arith, length-set}
+use Rattle.std.specs.Prelude.{fold, Option, unwrap_or, ◌==◌, if◌then◌else◌}
+use Rattle.std.specs.List.{list_any, AllByRecursion}
+use Rattle.std.proofs.lemmas.List.{append-nil, get_or-set_same, get_or-set_other}
+use Rattle.std.proofs.lemmas.List.Concat.{flat_map-append}
+use Rattle.std.proofs.lemmas.List.Sums.{fold-append}
+use Rattle.std.proofs.lemmas.List.Elements.{filter_map-append}
+use Rattle.std.proofs.lemmas.Bool.{or_parts, cases_eq, eq-eqb, ne_eqb}
+use Rattle.mip_words.specs.declared.address.Address.{Address}
+use Rattle.mip_words.specs.declared.shield.Shield.{Shield}
+use Rattle.mip_lists.proofs.EachLaws.{each-append}
+use Rattle.mip_binding.specs.Acceptance.{Acceptance}
+use Rattle.mip_bcache.specs.declared.accepted.Accepted.{Accepted}
+use Rattle.mip_bcache.specs.Seen.{acceptance}
+use Rattle.mip_entries.specs.declared.entry.Entry.{Entry}
+use Rattle.mip_entries.specs.declared.entry.Entry.TheVariants as entries
+use Rattle.mip_entries.specs.Stamped.{Stamped, stamped}
+use Rattle.mip_rules_correspondent.specs.Steps.{Step, Given, Accepts, answers_of, is_acceptance}
+use Rattle.mip_rules_correspondent.specs.Pasts.{acceptance_in, accepted_in, RisesFrom}
+use Rattle.mip_history.specs.Setup.{Setup}
+use Rattle.mip_history.specs.Runs.{Run, with_past}
+use Rattle.mip_history.specs.Questions.{moment_says, moment_in, restarts, life_in}
+use Rattle.mip_history.specs.Nodes.{answered, past_at}
+use Rattle.mip_history.specs.Bound.{Lived, lived, accepted_by, packet_posted, packets_of, IsAccepted, accepted_entry}
+use Rattle.mip_history.proofs.Runs.{Meets, IsKept, IsPast, IsRun, IsQuiet, Goes, goes_quietly, goes_then}
+use Rattle.mip_history.proofs.Posts.{quiet_steps}
+
+-- the moment that goes along with the acceptances is the moment
+lived_at : (n : ℕ) (l : Lived) (past : List Entry) → (fold (lived n) l past).at ≡ moment_in l.at past
+lived_at n l [] = refl
+lived_at n l (e ∷ past) = lived_at n (lived n l e) past ∙ ap (λ (at : ℕ). moment_in at past) (by e)
+  where
+    if_at : (b : Bool) (xs ys : List Acceptance) → (let x : Lived = (if b then record { at = l.at; accepted = xs } else l) in x.at) ≡ l.at
+    if_at true xs ys = refl
+    if_at false xs ys = refl
+
+    by : (e : Entry) → (lived n l e).at ≡ unwrap_or (moment_says e) l.at
+    by (entries.Accepted node number home binding careof sequence end i j) =
+        if_at (n == node.0) (l.accepted ++ record { at = l.at; home = home.0; number = binding; careof = careof.0; sequence = sequence; end = end.0 } ∷ []) []
+    by _ = refl
+
+-- the acceptances of a turn stand behind those before it
+accepted_turn : (past turn : List (Stamped Step)) → accepted_in (past ++ turn) ≡ accepted_in past ++ accepted_in turn
+unfolding accepted_in
+accepted_turn past turn = flat_map-append (λ (t : Stamped Step). acceptance_in t.at t.step) past turn
+
+none_in : (at : ℕ) (step : Step) → is_acceptance step ≡ false → acceptance_in at step ≡ []
+none_in at (Accepts number home accepted) none = absurd cc
+none_in at _ none = refl
+
+none_accepted : (at : ℕ) (steps : List Step) → list_any is_acceptance steps ≡ false → accepted_in (stamped at steps) ≡ []
+unfolding accepted_in
+none_accepted at [] none = refl
+none_accepted at (step ∷ steps) none =
+    let parts = or_parts (is_acceptance step) (list_any is_acceptance steps) none in
+    ap (λ (l : List Acceptance). l ++ accepted_in (stamped at steps)) (none_in at step parts.0) ∙ none_accepted at steps parts.1
+
+-- moments rise through a turn
+rises_stamped : (from at : ℕ) (steps : List Step) → from ≤ at → RisesFrom from (stamped at steps)
+rises_stamped from at [] early = tt
+rises_stamped from at (step ∷ steps) early = (early, rises_stamped at at steps (omega arith))
+
+rises_turn : (from at : ℕ) (past : List (Stamped Step)) (steps : List Step) → from ≤ at → AllByRecursion (λ t. t.at ≤ at) past → RisesFrom from past → RisesFrom from (past ++ stamped at steps)
+rises_turn from at [] steps early all rises = rises_stamped from at steps early
+rises_turn from at (t ∷ past) steps early all rises = (rises.0, rises_turn t.at at past steps all.0 all.1 rises.1)
+
+early_stamped : (at : ℕ) (steps : List Step) → AllByRecursion (λ t. t.at ≤ at) (stamped at steps)
+early_stamped at [] = tt
+early_stamped at (step ∷ steps) = (omega arith, early_stamped at steps)
+
+early_turn : (at : ℕ) (past : List (Stamped Step)) (steps : List Step) → AllByRecursion (λ t. t.at ≤ at) past → AllByRecursion (λ t. t.at ≤ at) (past ++ stamped at steps)
+early_turn at [] steps all = early_stamped at steps
+early_turn at (t ∷ past) steps all = (all.0, early_turn at past steps all.1)
+
+-- the history with one acceptance more
+pub accepted_more : (start n k : ℕ) (past : List Entry) (home : Address) (a : Accepted)
+    → accepted_by start (past ++ accepted_entry n k home a ∷ []) n ≡ accepted_by start past n ++ acceptance (moment_in start past) home 0 a ∷ []
+unfolding accepted_by
+accepted_more start n k past home a =
+    ap (λ (l : Lived). l.accepted) (fold-append (lived n) (record { at = start; accepted = [] }) past (accepted_entry n k home a ∷ []))
+    ∙ by (fold (lived n) (record { at = start; accepted = [] }) past) (lived_at n (record { at = start; accepted = [] }) past) (n == n) (eq-eqb n n refl)
+  where
+    by : (l : Lived) → l.at ≡ moment_in start past → (b : Bool) → b ≡ true
+        → (let x : Lived = (if b then record { at = l.at; accepted = l.accepted ++ acceptance l.at home 0 a ∷ [] } else l) in x.accepted) ≡ l.accepted ++ acceptance (moment_in start past) home 0 a ∷ []
+    by l at true is = ap (λ (m : ℕ). l.accepted ++ acceptance m home 0 a ∷ []) at
+    by l at false is = absurd cc
+
+accepted_other : (start m n k : ℕ) (past : List Entry) (home : Address) (a : Accepted) → m ≢ n
+    → accepted_by start (past ++ accepted_entry n k home a ∷ []) m ≡ accepted_by start past m
+unfolding accepted_by
+accepted_other start m n k past home a other =
+    ap (λ (l : Lived). l.accepted) (fold-append (lived m) (record { at = start; accepted = [] }) past (accepted_entry n k home a ∷ []))
+    ∙ by (fold (lived m) (record { at = start; accepted = [] }) past) (m == n) (ne_eqb m n other)
+  where
+    by : (l : Lived) (b : Bool) → b ≡ false → (let x : Lived = (if b then record { at = l.at; accepted = l.accepted ++ acceptance l.at home 0 a ∷ [] } else l) in x.accepted) ≡ l.accepted
+    by l true is = absurd cc
+    by l false is = refl
+
+-- what a node does in a turn, from the history before it
+abbrev pub done : Setup → ℕ → ℕ → ℕ → List Step → Run → Run
+done s n from now steps run = answered s n from (with_past n (past_at run n ++ stamped now steps) run) (answers_of steps)
+
+-- the run with this history
+abbrev at_past : List Entry → Run → Run
+at_past past run = record { past = past; pasts = run.pasts; posts = run.posts; flying = run.flying }
+
+module _ (s : Setup) (n from : ℕ) (run : Run) (is : IsRun s run) (inside : n < length s.hosts) where
+  here : (past : List (Stamped Step)) → past_at (with_past n past run) n ≡ past
+  here past = get_or-set_same run.pasts n past [] (omega (arith, is.nodes))
+
+  there : (m : ℕ) (past : List (Stamped Step)) → m ≢ n → past_at (with_past n past run) m ≡ past_at run m
+  there m past other = get_or-set_other run.pasts n m past [] other
+
+  count : (past : List (Stamped Step)) → length (with_past n past run).pasts ≡ length s.hosts
+  count past = length-set run.pasts n past ∙ is.nodes
+
+  -- the past of the node goes on, the others' stand
+  goes_on : (steps : List Step) (past : List Entry)
+      → accepted_in (past_at run n ++ stamped (moment_in s.start run.past) steps) ≡ accepted_by s.start past n
+      → ((m : ℕ) → m ≢ n → accepted_by s.start past m ≡ accepted_by s.start run.past m)
+      → moment_in s.start past ≡ moment_in s.start run.past
+      → IsKept s past run.posts
+      → IsRun s (at_past past (with_past n (past_at run n ++ stamped (moment_in s.start run.past) steps) run))
+  goes_on steps past same others moment kept = record {
+    nodes = count next;
+    kept = kept;
+    pasts = λ m within. elim (cases_eq m n) as (λ _. IsPast s past (past_at (with_past n next run) m) m) [
+      | inl e ↦ subst (λ (m : ℕ). IsPast s past (past_at (with_past n next run) m) m) (sym e) (subst (λ (l : List (Stamped Step)). IsPast s past l n) (sym (here next)) mine)
+      | inr other ↦ subst (λ (l : List (Stamped Step)). IsPast s past l m) (sym (there m next other)) (yours m within other)
+    ];
+  }
+    where
+      next : List (Stamped Step)
+      next = past_at run n ++ stamped (moment_in s.start run.past) steps
+
+      mine : IsPast s past next n
+      mine = let old = is.pasts n inside in record {
+        accepted = same;
+        rises = rises_turn 0 (moment_in s.start run.past) (past_at run n) steps (omega arith) old.early old.rises;
+        early = subst (λ (at : ℕ). AllByRecursion (λ t. t.at ≤ at) next) (sym moment) (early_turn (moment_in s.start run.past) (past_at run n) steps old.early);
+      }
+
+      yours : (m : ℕ) → m < length s.hosts → m ≢ n → IsPast s past (past_at run m) m
+      yours m within other = let old = is.pasts m within in record {
+        accepted = old.accepted ∙ sym (others m other);
+        rises = old.rises;
+        early = subst (λ (at : ℕ). AllByRecursion (λ t. t.at ≤ at) (past_at run m)) (sym moment) old.early;
+      }
+
+  -- from a run of the same moment and lives on quietly
+  quietly : (middle end : Run) → IsRun s middle → moment_in s.start middle.past ≡ moment_in s.start run.past
+      → ((m : ℕ) → life_in middle.past m ≡ life_in run.past m) → IsQuiet s middle end → Goes s run end
+  quietly middle end run_is moment life quiet =
+      goes_then s run middle end (record { run = run_is; moment = moment; life = life }) (goes_quietly s middle end run_is quiet)
+
+  pub quiet_turn : (steps : List Step) → list_any is_acceptance steps ≡ false → Goes s run (done s n from (moment_in s.start run.past) steps run)
+  quiet_turn steps none =
+      let middle = with_past n (past_at run n ++ stamped (moment_in s.start run.past) steps) run in
+      quietly middle (answered s n from middle (answers_of steps))
+      (goes_on steps run.past
+      (accepted_turn (past_at run n) (stamped (moment_in s.start run.past) steps)
+      ∙ ap (λ (l : List Acceptance). accepted_in (past_at run n) ++ l) (none_accepted (moment_in s.start run.past) steps none)
+      ∙ append-nil (accepted_in (past_at run n))
+      ∙ (is.pasts n inside).accepted)
+      (λ m other. refl) refl is.kept)
+      refl (λ m. refl)
+      (quiet_steps s n from middle steps none)
+
+  pub accepting_turn : (number : ℕ) (shield : Option Shield) (packet : List ℕ) (home : Address) (a : Accepted) (rest : List Step) → list_any is_acceptance rest ≡ false
+      → IsAccepted s run.past n number home a
+      → Goes s run (done s n from (moment_in s.start run.past) (Given number shield packet ∷ Accepts number home a ∷ rest) run)
+  unfolding answered accepted_in
+  accepting_turn number shield packet home a rest none stands =
+      quietly middle (answered s n from middle (answers_of rest))
+      (goes_on steps past same (λ m other. accepted_other s.start m n number run.past home a other) moment kept)
+      moment
+      (λ m. fold-append (restarts m) 0 run.past (accepted_entry n number home a ∷ []))
+      (quiet_steps s n from middle rest none)
+    where
+      steps : List Step
+      steps = Given number shield packet ∷ Accepts number home a ∷ rest
+
+      past : List Entry
+      past = run.past ++ accepted_entry n number home a ∷ []
+
+      middle : Run
+      middle = at_past past (with_past n (past_at run n ++ stamped (moment_in s.start run.past) steps) run)
+
+      moment : moment_in s.start past ≡ moment_in s.start run.past
+      moment = fold-append (λ (at : ℕ) (x : Entry). unwrap_or (moment_says x) at) s.start run.past (accepted_entry n number home a ∷ [])
+
+      same : accepted_in (past_at run n ++ stamped (moment_in s.start run.past) steps) ≡ accepted_by s.start past n
+      same =
+          accepted_turn (past_at run n) (stamped (moment_in s.start run.past) steps)
+          ∙ ap (λ (l : List Acceptance). accepted_in (past_at run n) ++ acceptance (moment_in s.start run.past) home 0 a ∷ l) (none_accepted (moment_in s.start run.past) rest none)
+          ∙ ap (λ (l : List Acceptance). l ++ acceptance (moment_in s.start run.past) home 0 a ∷ []) (is.pasts n inside).accepted
+          ∙ sym (accepted_more s.start n number run.past home a)
+
+      kept : IsKept s past run.posts
+      kept = record {
+        packets = filter_map-append packet_posted run.past (accepted_entry n number home a ∷ []) ∙ append-nil (packets_of run.past) ∙ is.kept.packets;
+        each = each-append (Meets s) [] run.past (accepted_entry n number home a ∷ []) is.kept.each
+            (record { node = n; number = number; home = home; accepted = a; is = refl; stands = stands }, tt);
+      }

@@ -1,0 +1,129 @@
+-- What stands behind a binding: the update that made it, in the life of the node, with the verdict on its bytes.
+-- RFC 6275 sections 9.5.1 and 5.2
+use Rattle.std.specs.Prelude.{◌≡◌, ◌≢◌, ℕ, ◌<◌, List, [], ◌∷◌, ◌++◌, fold, Bool, false, true, ◌&&◌, ◌==◌, if◌then◌else◌, Option, Some, None, Ok, option_map, slice_get}
+use Rattle.std.specs.List.{list_any, filter_map}
+use Rattle.mip_lists.specs.Last.{or_else}
+use Rattle.mip_words.specs.declared.address.Address.{Address}
+use Rattle.mip_ipv6.specs.Packet.{Packet}
+use Rattle.mip_ipv6.specs.Reading.{packet_of}
+use Rattle.mip_nonce.specs.Window.{index_of}
+use Rattle.mip_binding.specs.Acceptance.{Acceptance}
+use Rattle.mip_binding.specs.Held.{held, floor, is_full}
+use Rattle.mip_bcache.specs.declared.accepted.Accepted.{Accepted}
+use Rattle.mip_tokens.specs.declared.kbm.Kbm.{Kbm}
+use Rattle.mip_entries.specs.declared.entry.Entry.{Entry}
+use Rattle.mip_entries.specs.declared.entry.Entry.TheVariants as entries
+use Rattle.mip_entries.specs.Completed.{node_id}
+use Rattle.mip_rules_correspondent.specs.declared.request.Request.{Request}
+use Rattle.mip_rules_correspondent.specs.declared.verdict.Verdict.TheVariants.{Accept}
+use Rattle.mip_rules_correspondent.specs.Requests.{request_in}
+use Rattle.mip_rules_correspondent.specs.Verdicts.{Bench, verdict}
+use Rattle.mip_history.specs.Setup.{Setup, Host}
+use Rattle.mip_history.specs.Questions.{moment_in, life_in}
+
+-- the moment, and what a node has accepted in its present life, oldest first
+pub record Lived : Type 0 where
+  pub at : ℕ
+  pub accepted : List Acceptance
+
+abbrev pub lived : ℕ → Lived → Entry → Lived
+lived n l (entries.At moment) = record { at = moment.0; accepted = l.accepted }
+lived n l (entries.Restarted node) = record { at = l.at; accepted = if n == node.0 then [] else l.accepted }
+lived n l (entries.Accepted node number home binding careof sequence end i j) =
+    if n == node.0
+    then record { at = l.at; accepted = l.accepted ++ record { at = l.at; home = home.0; number = binding; careof = careof.0; sequence = sequence; end = end.0 } ∷ [] }
+    else l
+lived n l _ = l
+
+unfoldable pub accepted_by : ℕ → List Entry → ℕ → List Acceptance
+accepted_by start past n = (fold (lived n) (record { at = start; accepted = [] }) past).accepted
+
+-- the care-of address that a node holds for a home, at the end of a history
+abbrev pub held_in : Setup → List Entry → ℕ → ℕ → Option ℕ
+held_in s past n home = held (accepted_by s.start past n) home (moment_in s.start past)
+
+abbrev pub packet_told : ℕ → Entry → Option (List ℕ)
+packet_told k (entries.Sent number node shielded packet) = if number == k then Some packet else None
+packet_told k (entries.Injected number outsider link packet) = if number == k then Some packet else None
+packet_told k _ = None
+
+-- the bytes of packet k, of its first `sent` or `injected`
+abbrev pub packet_in : List Entry → ℕ → Option (List ℕ)
+packet_in past k = fold (λ o e. or_else o (packet_told k e)) None past
+
+abbrev pub packet_posted : Entry → Option (List ℕ)
+packet_posted (entries.Sent number node shielded packet) = Some packet
+packet_posted (entries.Injected number outsider link packet) = Some packet
+packet_posted _ = None
+
+-- the packets that were posted, in order
+abbrev pub packets_of : List Entry → List (List ℕ)
+packets_of past = filter_map packet_posted past
+
+-- node n as a judge at the end of a history: its secrets of this life, the moment, and what it keeps of a home
+abbrev pub judge_in : Setup → List Entry → ℕ → Host → ℕ → Bench
+judge_in s past n host home = record {
+  own = host.address;
+  secrets = record { seed = s.seed; node = n; life = life_in past n };
+  now = moment_in s.start past;
+  floor = floor (accepted_by s.start past n) home (moment_in s.start past);
+  full = is_full host.room (accepted_by s.start past n) home (moment_in s.start past);
+}
+
+-- behind this history node n accepted packet k, which it had just been handed: the verdict on its bytes
+pub record IsAccepted (s : Setup) (past : List Entry) (n k : ℕ) (home : Address) (accepted : Accepted) : Type 0 where
+  pub host : Host
+  pub is_host : slice_get s.hosts n ≡ Some host
+  pub earlier : List Entry
+  pub handed : past ≡ earlier ++ entries.Handed k (node_id n) ∷ []
+  pub bytes : List ℕ
+  pub posted : packet_in past k ≡ Some bytes
+  pub packet : Packet
+  pub read : packet_of bytes ≡ Ok packet
+  pub request : Request
+  pub asks : request_in packet.head.source packet.head.home packet.body ≡ Some request
+  pub granted : ℕ
+  pub kbm : Kbm
+  pub verdict_is : verdict (judge_in s past n host home.0) request packet.body ≡ Accept home accepted granted kbm
+
+-- the entry of what was accepted
+abbrev pub accepted_entry : ℕ → ℕ → Address → Accepted → Entry
+accepted_entry n k home a =
+    entries.Accepted (node_id n) k home 0 a.careof a.sequence a.end (index_of a.home_nonce) (option_map index_of a.careof_nonce)
+
+abbrev pub is_accepted : Entry → Bool
+is_accepted (entries.Accepted node number home binding careof sequence end i j) = true
+is_accepted _ = false
+
+-- an entry behind this history is that of an update which was accepted there
+pub record HasAccepted (s : Setup) (past : List Entry) (e : Entry) : Type 0 where
+  pub node : ℕ
+  pub number : ℕ
+  pub home : Address
+  pub accepted : Accepted
+  pub is : e ≡ accepted_entry node number home accepted
+  pub stands : IsAccepted s past node number home accepted
+
+abbrev pub is_restart_of : ℕ → Entry → Bool
+is_restart_of n (entries.Restarted node) = n == node.0
+is_restart_of n _ = false
+
+abbrev pub is_accepted_for : ℕ → ℕ → Entry → Bool
+is_accepted_for n home (entries.Accepted node number h binding careof sequence end i j) = (n == node.0) && (h.0 == home)
+is_accepted_for n home _ = false
+
+-- a care-of address is held by an update of this life, the last one that was accepted for its home
+pub record IsBound (s : Setup) (past : List Entry) (n home careof : ℕ) : Type 0 where
+  pub before : List Entry
+  pub number : ℕ
+  pub of : Address
+  pub accepted : Accepted
+  pub after : List Entry
+  pub whole : past ≡ before ++ accepted_entry n number of accepted ∷ after
+  pub of_home : of.0 ≡ home
+  pub of_careof : accepted.careof.0 ≡ careof
+  pub away : careof ≢ home
+  pub in_time : moment_in s.start past < accepted.end.0
+  pub this_life : list_any (is_restart_of n) after ≡ false
+  pub last : list_any (is_accepted_for n home) after ≡ false
+  pub verdict_stands : IsAccepted s before n number of accepted

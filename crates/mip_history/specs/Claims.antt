@@ -1,0 +1,7 @@
+-- Whether an address is free for somebody to claim.
+use Rattle.std.specs.Prelude.{ℕ, Bool, true, ◌==◌, Option, Some, None}
+
+-- nobody else holds it
+abbrev pub is_free_for : Option ℕ → ℕ → Bool
+is_free_for None who = true
+is_free_for (Some other) who = other == who
