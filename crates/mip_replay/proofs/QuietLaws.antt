@@ -1,0 +1,99 @@
+-- Entries that say nothing to the questions of a run, and what they leave as it was.
+use Rattle.std.proofs.Common.{◌≡◌, ℕ, List, [], ◌∷◌, ◌++◌, Bool, false, refl, sym, ap, ◌∙◌, subst}
+use Rattle.std.proofs.Math.Path.{fun_ext}
+use Rattle.std.proofs.lemmas.List.{take_more}
+use Rattle.std.proofs.lemmas.Option.{slice_get_within, get_or_from_slice_get}
+use Rattle.std.proofs.lemmas.Result.{on_ok_weaker}
+use Rattle.std.proofs.lemmas.List.Sums.{fold-append}
+use Rattle.std.specs.Prelude.{Option, Some, None, unwrap_or, option_map, slice_get, take, Result, OnOk, ◌+◌}
+use Rattle.mip_words.specs.declared.address.Address.{Address}
+use Rattle.mip_lists.specs.Last.{or_else}
+use Rattle.mip_entries.specs.declared.entry.Entry.{Entry}
+use Rattle.mip_history.specs.Setup.{Setup}
+use Rattle.mip_history.specs.Runs.{Run, note}
+use Rattle.mip_history.specs.Questions.{moment_says, moment_in, holder_says, holder_in, claims, declared_in, listen_says, hears_in, restarts, life_in, asked_in}
+use Rattle.mip_history.specs.Nodes.{past_at}
+use Rattle.mip_replay.specs.Engines.{EngineSeen, with_entry}
+use Rattle.mip_replay.specs.Quiet.{IsNoClaim, IsTimeless, IsQuiet}
+use Rattle.mip_replay.specs.Standing.{IsAt, node_of}
+
+-- one entry more
+pub holder-push : (past : List Entry) (x : Entry) (a : ℕ) → holder_in (past ++ x ∷ []) a ≡ unwrap_or (holder_says a x) (holder_in past a)
+holder-push past x a = fold-append (λ (s : Option ℕ) (e : Entry). unwrap_or (holder_says a e) s) None past (x ∷ [])
+
+pub declared-push : (past : List Entry) (x : Entry) (by : ℕ) → declared_in (past ++ x ∷ []) by ≡ or_else (declared_in past by) (claims by x)
+declared-push past x by = fold-append (λ (o : Option Address) (e : Entry). or_else o (claims by e)) None past (x ∷ [])
+
+pub hears-push : (past : List Entry) (x : Entry) (o l : ℕ) → hears_in (past ++ x ∷ []) o l ≡ unwrap_or (listen_says o l x) (hears_in past o l)
+hears-push past x o l = fold-append (λ (s : Bool) (e : Entry). unwrap_or (listen_says o l e) s) false past (x ∷ [])
+
+pub life-push : (past : List Entry) (x : Entry) (n : ℕ) → life_in (past ++ x ∷ []) n ≡ restarts n (life_in past n) x
+life-push past x n = fold-append (restarts n) 0 past (x ∷ [])
+
+pub moment-push : (start : ℕ) (past : List Entry) (x : Entry) → moment_in start (past ++ x ∷ []) ≡ unwrap_or (moment_says x) (moment_in start past)
+moment-push start past x = fold-append (λ (s : ℕ) (e : Entry). unwrap_or (moment_says e) s) start past (x ∷ [])
+
+or_none : (o : Option Address) → or_else o None ≡ o
+or_none (Some a) = refl
+or_none None = refl
+
+pub asked-same : (s : Setup) (past : List Entry) (x : Entry) → IsNoClaim x → asked_in s (past ++ x ∷ []) ≡ asked_in s past
+asked-same s past x quiet =
+    let holders : holder_in (past ++ x ∷ []) ≡ holder_in past =
+    fun_ext (λ (a : ℕ). holder-push past x a ∙ ap (λ (o : Option (Option ℕ)). unwrap_or o (holder_in past a)) (quiet.holder a)) in
+    let firsts : declared_in (past ++ x ∷ []) ≡ declared_in past =
+    fun_ext (λ (by : ℕ). declared-push past x by ∙ ap (λ (o : Option Address). or_else (declared_in past by) o) (quiet.declared by) ∙ or_none (declared_in past by)) in
+    rw (holders, firsts) refl
+
+pub hears-same : (past : List Entry) (x : Entry) → ((o l : ℕ) → listen_says o l x ≡ None) → hears_in (past ++ x ∷ []) ≡ hears_in past
+hears-same past x quiet =
+    fun_ext (λ (o : ℕ). fun_ext (λ (l : ℕ). hears-push past x o l ∙ ap (λ (b : Option Bool). unwrap_or b (hears_in past o l)) (quiet o l)))
+
+pub nodes-same : (e : EngineSeen) (s : Setup) (run : Run) (x : Entry) → IsTimeless x → IsAt e s run
+    → (n : ℕ) → slice_get e.nodes n ≡ option_map (node_of s n (life_in (run.past ++ x ∷ []) n) (past_at run n)) (slice_get s.hosts n)
+nodes-same e s run x quiet at n =
+    at.nodes n ∙ ap (λ (life : ℕ). option_map (node_of s n life (past_at run n)) (slice_get s.hosts n)) (sym (life-push run.past x n ∙ quiet.life n (life_in run.past n)))
+
+pub now-same : (e : EngineSeen) (s : Setup) (run : Run) (x : Entry) → IsTimeless x → IsAt e s run → e.moment ≡ moment_in s.start (run.past ++ x ∷ [])
+now-same e s run x quiet at =
+    at.now ∙ sym (moment-push s.start run.past x ∙ ap (λ (o : Option ℕ). unwrap_or o (moment_in s.start run.past)) quiet.moment)
+
+pub history-same : (e : EngineSeen) (s : Setup) (run : Run) (x : Entry) → IsAt e s run → e.past ++ x ∷ [] ≡ run.past ++ x ∷ []
+history-same e s run x at = ap (λ (h : List Entry). h ++ x ∷ []) at.history
+
+-- an entry is left that says nothing
+pub at_note : (e : EngineSeen) (s : Setup) (run : Run) (x : Entry) → IsQuiet x → IsAt e s run → IsAt (with_entry x e) s (note x run)
+at_note e s run x quiet at = record {
+  seed = at.seed;
+  asked = at.asked ∙ sym (asked-same s run.past x quiet.claim);
+  hears = at.hears ∙ sym (hears-same run.past x quiet.listening);
+  posts = at.posts;
+  flying = at.flying;
+  spots = at.spots;
+  firsts = at.firsts;
+  nodes = nodes-same e s run x quiet.timeless at;
+  count = at.count;
+  pasts = at.pasts;
+  outsiders = at.outsiders;
+  now = now-same e s run x quiet.timeless at;
+  history = history-same e s run x at;
+}
+
+-- the same engine, and the same run, under another name
+pub at_is : {e f : EngineSeen} {s : Setup} {run : Run} → e ≡ f → IsAt f s run → IsAt e s run
+at_is {e = e} {f = f} {s = s} {run = run} same at = subst (λ (x : EngineSeen). IsAt x s run) (sym same) at
+
+pub at_run : {e : EngineSeen} {s : Setup} {run after : Run} → after ≡ run → IsAt e s run → IsAt e s after
+at_run {e = e} {s = s} {run = run} {after = after} same at = subst (λ (r : Run). IsAt e s r) (sym same) at
+
+-- where a call leaves this engine, and this engine stands for the run
+pub at_ok : {T E : Type 0} (r : Result T E) (after e : EngineSeen) (s : Setup) (run : Run) → OnOk r (after ≡ e) → IsAt e s run → OnOk r (IsAt after s run)
+at_ok r after e s run is at = on_ok_weaker r (λ (same : after ≡ e). at_is same at) is
+
+-- a call leaves the engine at a run, under another name of it
+pub at_ok_run : {T E : Type 0} (r : Result T E) (e : EngineSeen) (s : Setup) (run after : Run) → OnOk r (IsAt e s run) → run ≡ after → OnOk r (IsAt e s after)
+at_ok_run r e s run after at same = subst (λ (x : Run). OnOk r (IsAt e s x)) same at
+
+-- one item more of a list
+pub take_one : {X : Type 0} (xs : List X) (i : ℕ) (x : X) → slice_get xs i ≡ Some x → take (i + 1) xs ≡ take i xs ++ x ∷ []
+take_one {X = X} xs i x there = take_more xs i x (slice_get_within xs i x there) ∙ ap (λ (y : X). take i xs ++ y ∷ []) (get_or_from_slice_get xs i x x there)

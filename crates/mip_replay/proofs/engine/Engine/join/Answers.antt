@@ -1,0 +1,25 @@
+use Rattle.std.proofs.Common.{◌≡◌, ℕ, List, length, ◌++◌, [], ◌∷◌, sym, ap, ◌∙◌, subst, arith}
+use Rattle.mip_replay.specs.Engines.{NodeSeen, IsCalm}
+use Rattle.mip_replay.proofs.NodeLaws.{calm_push}
+use Rattle.mip_replay.proofs.engine.Engine.join.Goals as goal
+
+calm_new : (xs ys : List NodeSeen) (now : ℕ) (c : NodeSeen) → IsCalm xs now → c.role.known.last.0 ≡ 0 → ys ≡ xs ++ c ∷ [] → IsCalm ys now
+calm_new xs ys now c calm new is = subst (λ (l : List NodeSeen). IsCalm l now) (sym is) (calm_push xs now c calm (omega (arith, new)))
+
+pub invariant_of-self-in_err-push-2 : goal.invariant_of-self-in_err-push-2
+invariant_of-self-in_err-push-2 c =
+    let node = c.in_ok-node.node in
+    let new : node.role.known.last.0 ≡ 0 = ap (λ (x : NodeSeen). x.role.known.last.0) c.in_ok-node.ensures in
+    record {
+      calm = calm_new c.self.inside.nodes.items c.push.new.self.items c.self.inside.moment.0 node c.self.invariant.calm new c.in_ok-push.ensures.items;
+      links_are = c.self.invariant.links_are;
+    }
+
+pub invariant_of-self-2 : goal.invariant_of-self-2
+invariant_of-self-2 c =
+    let node = c.in_ok-node.node in
+    let new : node.role.known.last.0 ≡ 0 = ap (λ (x : NodeSeen). x.role.known.last.0) c.in_ok-node.ensures in
+    record {
+      calm = calm_new c.self.inside.nodes.items c.push.new.self.items c.self.inside.moment.0 node c.self.invariant.calm new c.in_ok-push.ensures.items;
+      links_are = c.self.invariant.links_are ∙ sym (ap length c.claim_own.ensures.links);
+    }

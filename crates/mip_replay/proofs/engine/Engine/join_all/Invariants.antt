@@ -1,0 +1,11 @@
+use Rattle.std.proofs.Common.{◌≡◌, take}
+use Rattle.mip_history.specs.Setup.{Setup}
+use Rattle.mip_history.specs.Permitted.{opened}
+use Rattle.mip_replay.specs.Engines.{new_engine}
+use Rattle.mip_replay.specs.Standing.{IsAt}
+use Rattle.mip_replay.proofs.OpenLaws.{with_hosts}
+use Rattle.mip_replay.proofs.engine.Engine.join_all.Given as goal
+
+abbrev pub invariant-loop-host : goal.invariant-loop-host
+invariant-loop-host l = (s : Setup) → l.fn.self ≡ new_engine s.seed s.start s.links s.outsiders
+    → IsAt l.self (with_hosts (take l.host-index l.hosts) s) (opened (with_hosts (take l.host-index l.hosts) s))

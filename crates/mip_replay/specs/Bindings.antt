@@ -1,0 +1,9 @@
+-- What stands behind the bindings of a history.
+use Rattle.std.specs.Prelude.{◌≡◌, ℕ, List, Some}
+use Rattle.mip_entries.specs.declared.entry.Entry.{Entry}
+use Rattle.mip_history.specs.Setup.{Setup}
+use Rattle.mip_history.specs.Bound.{held_in, IsBound}
+
+-- each care-of address that a node holds, other than home, has its accepted update. RFC 6275 section 9.5.1
+unfoldable pub EachIsBound : Setup → List Entry → Type 0
+EachIsBound s past = (n home careof : ℕ) → held_in s past n home ≡ Some careof → IsBound s past n home careof

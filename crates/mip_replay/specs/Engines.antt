@@ -1,0 +1,126 @@
+-- What a contract sees of the engine of a run, and what its parts make of it.
+use Rattle.std.specs.Prelude.{◌≡◌, ℕ, suc, ◌<◌, ◌≤◌, ◌^◌, List, [], ◌∷◌, ◌++◌, length, Bool, ◌&&◌, if◌then◌else◌, Option, Some, None, is_some, unwrap_or, slice_get, slice_set}
+use Rattle.mip_words.specs.declared.address.Address.{Address}
+use Rattle.mip_words.specs.declared.shield.Shield.{Shield}
+use Rattle.mip_entries.specs.declared.entry.Entry.{Entry}
+use Rattle.mip_entries.specs.declared.entry.Entry.TheVariants.{Claimed}
+use Rattle.mip_links.specs.Nets.{NetSeen, new_net, hears_of, claimed, refusal, holder_of, is_held_by, with_rows, put}
+use Rattle.mip_links.specs.Table.{link_of}
+use Rattle.mip_links.specs.declared.claim_fault.ClaimFault.{ClaimFault}
+use Rattle.mip_rules_correspondent.specs.declared.identity.Identity.{Identity}
+use Rattle.mip_rules_correspondent.specs.declared.known.Known.{Known}
+use Rattle.mip_rules_correspondent.specs.Questions.{fresh}
+use Rattle.mip_rules_correspondent.specs.Turns.{Turn}
+use Rattle.mip_correspondent.specs.Seen.{CorrespondentSeen}
+use Rattle.mip_history.specs.Setup.{Host}
+use Rattle.mip_history.specs.Posting.{heards, is_other}
+
+-- a node: what it was declared with, how often it was restarted, and its role
+pub record NodeSeen : Type 0 where
+  pub host : Host
+  pub life : ℕ
+  pub role : CorrespondentSeen
+
+pub record EngineSeen : Type 0 where
+  pub seed : List ℕ
+  pub net : NetSeen
+  pub nodes : List NodeSeen
+  pub outsiders : ℕ
+  pub moment : ℕ
+  pub past : List Entry
+
+-- no node was called at a later moment, and moments stay far from the last one
+pub record IsCalm (nodes : List NodeSeen) (now : ℕ) : Type 0 where
+  pub early : now < 2 ^ 62
+  pub later : (n : ℕ) (c : NodeSeen) → slice_get nodes n ≡ Some c → c.role.known.last.0 ≤ now
+
+abbrev pub with_entries : List Entry → EngineSeen → EngineSeen
+with_entries entries e =
+    record { seed = e.seed; net = e.net; nodes = e.nodes; outsiders = e.outsiders; moment = e.moment; past = e.past ++ entries }
+
+abbrev pub with_entry : Entry → EngineSeen → EngineSeen
+with_entry entry e = with_entries (entry ∷ []) e
+
+abbrev pub with_net : NetSeen → EngineSeen → EngineSeen
+with_net net e = record { seed = e.seed; net = net; nodes = e.nodes; outsiders = e.outsiders; moment = e.moment; past = e.past }
+
+abbrev pub with_node : ℕ → NodeSeen → EngineSeen → EngineSeen
+with_node n c e =
+    record { seed = e.seed; net = e.net; nodes = slice_set e.nodes n c; outsiders = e.outsiders; moment = e.moment; past = e.past }
+
+abbrev pub at_moment : ℕ → EngineSeen → EngineSeen
+at_moment now e = record { seed = e.seed; net = e.net; nodes = e.nodes; outsiders = e.outsiders; moment = now; past = e.past }
+
+-- a node with what it knows now
+abbrev pub with_known : Known → NodeSeen → NodeSeen
+with_known k c = record { host = c.host; life = c.life; role = record { identity = c.role.identity; known = k } }
+
+-- node n in this life, with nothing behind it
+abbrev pub new_node : List ℕ → ℕ → ℕ → Host → NodeSeen
+new_node seed n life host = record {
+  host = host;
+  life = life;
+  role = record {
+    identity = record { own = host.address; secrets = record { seed = seed; node = n; life = life }; room = host.room };
+    known = fresh host.room;
+  };
+}
+
+-- node n in its next life
+abbrev pub reborn : ℕ → NodeSeen → EngineSeen → EngineSeen
+reborn n c e = with_node n (new_node e.seed n (suc c.life) c.host) e
+
+-- a node more, which holds its address
+abbrev pub joined : Host → EngineSeen → EngineSeen
+joined host e = record {
+  seed = e.seed;
+  net = claimed e.net (length e.nodes) host.address;
+  nodes = e.nodes ++ new_node e.seed (length e.nodes) 0 host ∷ [];
+  outsiders = e.outsiders;
+  moment = e.moment;
+  past = e.past ++ Claimed (length e.nodes) (record { 0 = unwrap_or (link_of e.net.links host.address.0) 0 }) host.address ∷ [];
+}
+
+-- the turn that a call of a node is
+abbrev pub turn_by : (Identity → Known → ℕ → Turn) → NodeSeen → ℕ → Turn
+turn_by call c now = call c.role.identity c.role.known now
+
+-- node n has done it
+abbrev pub turned_by : (Identity → Known → ℕ → Turn) → ℕ → NodeSeen → EngineSeen → EngineSeen
+turned_by call n c e = with_node n (with_known (turn_by call c e.moment).known c) e
+
+-- the link that a node sends from
+abbrev pub station_of : List ℕ → NodeSeen → ℕ
+station_of links c = unwrap_or (link_of links c.host.address.0) 0
+
+-- an outsider hears a link, and is not the one that is left out
+abbrev pub ears_of : EngineSeen → Option ℕ → ℕ → ℕ → Bool
+ears_of e by link o = is_other by o && hears_of e.net.hearing o link
+
+-- outsiders have heard packet k on a link, unless it is shielded
+abbrev pub heard_by : Option Shield → Option ℕ → ℕ → ℕ → EngineSeen → EngineSeen
+heard_by shield by link k e =
+    if is_some shield then e else with_entries (heards (λ o. ears_of e by link o) k e.outsiders) e
+
+-- before the first node: nothing has happened
+abbrev pub new_engine : List ℕ → ℕ → List ℕ → ℕ → EngineSeen
+new_engine seed start links outsiders =
+    record { seed = seed; net = new_net links; nodes = []; outsiders = outsiders; moment = start; past = [] }
+
+-- a claim is tried
+abbrev pub tried : NetSeen → ℕ → Address → Option ClaimFault → NetSeen
+tried net who address None = claimed net who address
+tried net who address (Some fault) = net
+
+abbrev pub claim_tried : NetSeen → ℕ → Address → NetSeen
+claim_tried net who address = tried net who address (refusal net who address.0)
+
+-- an address is given up
+abbrev pub released : NetSeen → ℕ → Address → NetSeen
+released net who address =
+    if is_held_by (holder_of net.rows address.0) who then with_rows net (put net.rows address.0 None) else net
+
+-- the private facts of an engine
+pub record IsEngine (nodes : List NodeSeen) (now links count : ℕ) : Type 0 where
+  pub calm : IsCalm nodes now
+  pub links_are : count ≡ links

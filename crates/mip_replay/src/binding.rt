@@ -1,0 +1,112 @@
+ghost use Rattle.std.specs.Prelude.{◌≡◌, IfOk, option_map, Some};
+ghost use Rattle.mip_options.specs.declared.indices.Indices.{Indices as IndicesSeen};
+ghost use Rattle.mip_mobhdr.specs.Said.{said_plain};
+ghost use Rattle.mip_signals.specs.Sealed.{sealed};
+ghost use Rattle.mip_history.specs.Outsiders.{bind_head, bind_message, bind_packet, unless_same};
+ghost use Rattle.mip_replay.specs.Forged as seen;
+
+use crate::limits::MOBILITY;
+use crate::told::Told;
+use mip_ipv6::Head;
+use mip_mobhdr::Plain;
+use mip_options::{Indices, OptionSet};
+use mip_signals::{node_head, write_sealed};
+use mip_tokens::Kbm;
+use mip_words::{Address, Bytes, Memory};
+use std::alloc::Global;
+
+/// What the update of an outsider says: its addresses, its sequence, and its lifetime in units of 4 s.
+#[derive(Clone, Copy, Debug, PartialEq, Eq)]
+pub(crate) struct Binding {
+    pub source: Address,
+    pub peer: Address,
+    pub home: Address,
+    pub careof: Address,
+    pub sequence: u16,
+    pub lifetime: u16,
+}
+
+fn unless_same(address: Address, source: Address) -> Option<Address>
+    ensures { result ≡ unless_same address source }
+{
+    if address.0 == source.0 {
+        None
+    } else {
+        Some(address)
+    }
+}
+
+/// The head of the update, with a Home Address option where the home address is not the source.
+fn head(binding: Binding) -> Head
+    ensures { result ≡ bind_head (seen.binding binding) }
+{
+    let home = unless_same(binding.home, binding.source);
+    node_head(binding.source, binding.peer, None, home, MOBILITY)
+}
+
+/// The update (RFC 6275 section 6.1.7), with an Alternate Care-of Address where the care-of address is not the source.
+fn message(binding: Binding, indices: Indices) -> Plain
+    ensures { said_plain result ≡ bind_message (seen.binding binding) indices.home indices.careof }
+{
+    Plain::Update {
+        sequence: binding.sequence,
+        ack: true,
+        home: false,
+        local: false,
+        key: false,
+        lifetime: binding.lifetime,
+        options: OptionSet {
+            advice: None,
+            alternate: unless_same(binding.careof, binding.source),
+            nonces: Some(indices),
+            authorization: None,
+        },
+    }
+}
+
+/// The update under a key. A schedule has routable addresses alone.
+fn sealed(
+    alloc: Global,
+    binding: Binding,
+    indices: Indices,
+    kbm: Kbm,
+    careof: Address,
+) -> Result<Bytes, Memory>
+    ensures { IfOk result (λ b. b ≡ sealed (bind_head (seen.binding binding)) kbm.0 careof binding.peer (bind_message (seen.binding binding) indices.home indices.careof)) }
+{
+    let head = head(binding);
+    if !head.plain() {
+        return Err(Memory);
+    }
+    let message = message(binding, indices);
+    write_sealed(alloc, &head, &message, &kbm, careof, binding.peer)
+}
+
+/// The update with the tokens that were told: with a home token alone it ends a binding.
+pub(crate) fn bind_packet(
+    alloc: Global,
+    binding: Binding,
+    home: Told,
+    careof: Option<Told>,
+) -> Result<Bytes, Memory>
+    ensures { IfOk result (λ b. b ≡ bind_packet (seen.binding binding) (seen.told home) (option_map seen.told careof)) }
+{
+    match careof {
+        None => {
+            let indices = Indices {
+                home: home.index,
+                careof: 0,
+            };
+            let kbm = Kbm::home(home.token);
+            sealed(alloc, binding, indices, kbm, binding.home)
+        }
+        Some(careof) => {
+            let indices = Indices {
+                home: home.index,
+                careof: careof.index,
+            };
+            let kbm = Kbm::both(home.token, careof.token);
+            sealed(alloc, binding, indices, kbm, binding.careof)
+        }
+    }
+}

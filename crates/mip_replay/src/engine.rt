@@ -1,0 +1,364 @@
+ghost use Rattle.std.specs.Prelude.{◌≡◌, ◌+◌, ◌<◌, ◌≤◌, ◌^◌, ℕ, Bool, nat_lt, not, true, false, if◌then◌else◌, length, map, IfOk, IfSome, OnOk, Option, Some, option_copied, option_map, slice_get, slice_index_or};
+ghost use Rattle.mip_entries.specs.declared.entry.Entry.TheVariants.{At};
+ghost use Rattle.mip_bcache.specs.Seen.{kept_at};
+ghost use Rattle.mip_links.specs.Table.{Post, link_of, destination_in, in_pool};
+ghost use Rattle.mip_links.specs.Nets.{hears_of, holder_of, is_held_by, left, lowest_of, posted, with_hearing};
+ghost use Rattle.mip_rules_correspondent.specs.Steps.{answers_of};
+ghost use Rattle.mip_rules_correspondent.specs.Calls.{taken, refreshed, transmitted};
+ghost use Rattle.mip_history.specs.Delivery.{handed_over, other_link};
+ghost use Rattle.mip_history.specs.Outsiders.{claim_entry};
+ghost use Rattle.mip_replay.specs.Arrivals.{arrival_of, arrival_seen};
+ghost use Rattle.mip_replay.specs.Engines.{NodeSeen, new_engine, with_entry, with_net, at_moment, turn_by, turned_by, reborn, joined, station_of, claim_tried, released};
+
+use crate::arrival::{Arrival, arrival_of};
+use crate::claims::{claim_own, try_claim};
+use crate::host::Host;
+use crate::limits::{END, HEADER, LINKS, NODES};
+use crate::lowering::lowered;
+use crate::node::Node;
+use mip_bcache::Row;
+use mip_entries::{Answers, Entry, History};
+use mip_links::{Delivery, Net};
+use mip_words::{Address, Bytes, LinkId, Memory, Moment, NodeId, Prefix, Shield};
+use std::alloc::Global;
+use std::marker::Model;
+
+/// A run as it goes on.
+#[derive(Drop)]
+pub(crate) struct Engine {
+    seed: [u8; 32],
+    net: Net,
+    links: usize,
+    nodes: Vec<Node>,
+    outsiders: u8,
+    moment: Moment,
+    history: History,
+}
+
+impl Model for Engine {
+    ghost use Rattle.std.specs.Prelude.{length};
+    ghost use Rattle.mip_replay.specs.Engines.{EngineSeen, IsEngine};
+
+    ghost Value = { EngineSeen };
+
+    ghost view = { λ e. record {
+      seed = e.seed;
+      net = e.net;
+      nodes = e.nodes.items;
+      outsiders = e.outsiders;
+      moment = e.moment.0;
+      past = e.history;
+    } };
+
+    ghost invariant = { λ e. IsEngine e.nodes.items e.moment.0 (length e.net.links) e.links };
+}
+
+impl Engine {
+    /// A run in which nothing has happened. A schedule has at most 32 links and starts before the last moment.
+    pub(crate) fn new(
+        alloc: Global,
+        seed: &[u8; 32],
+        start: Moment,
+        links: &[Prefix],
+        outsiders: u8,
+    ) -> Result<Engine, Memory>
+        ensures { IfOk result (λ e. e ≡ new_engine seed.now start.0 (map (λ p. p.0) links.now) outsiders) }
+    {
+        if links.len() > usize::from(LINKS) || start.0 >= END {
+            return Err(Memory);
+        }
+        Ok(Engine {
+            seed: *seed,
+            net: Net::new(alloc, links)?,
+            links: links.len(),
+            nodes: Vec::new(alloc),
+            outsiders,
+            moment: start,
+            history: History::new(alloc)?,
+        })
+    }
+
+    pub(crate) fn into_history(self) -> History
+        ensures { result ≡ self.past }
+    {
+        self.history
+    }
+
+    /// An entry is left.
+    pub(crate) fn note(&mut self, entry: Entry) -> Result<(), Memory>
+        ensures { OnOk result (self.new ≡ with_entry entry self.old) }
+    {
+        self.history.push(entry)
+    }
+
+    pub(crate) fn outsiders(&self) -> u8
+        ensures { result ≡ self.now.outsiders }
+    {
+        self.outsiders
+    }
+
+    /// Whether a link has been declared.
+    pub(crate) fn has_link(&self, link: LinkId) -> bool
+        ensures { result ≡ nat_lt link.0 (length self.now.net.links) }
+    {
+        usize::from(link.0) < self.links
+    }
+
+    pub(crate) fn link_of(&self, address: Address) -> Option<LinkId>
+        ensures { option_map (λ l. l.0) result ≡ link_of self.now.net.links address.0 }
+    {
+        self.net.link_of(address)
+    }
+
+    /// The link that a node sends from, where there is such a node.
+    pub(crate) fn station(&self, node: NodeId) -> Option<LinkId>
+        ensures found { option_map (λ l. l.0) result ≡ option_map (λ c. station_of self.now.net.links c) (slice_get self.now.nodes node.0) }
+        ensures inside { IfSome result (λ _. node.0 < length self.now.nodes) }
+    {
+        let node = self.nodes.get(usize::from(node.0))?;
+        match self.net.link_of(node.address()) {
+            Some(link) => Some(link),
+            None => Some(LinkId(0)),
+        }
+    }
+
+    pub(crate) fn hears(&self, outsider: u8, link: LinkId) -> bool
+        ensures { result ≡ hears_of self.now.net.hearing outsider link.0 }
+    {
+        self.net.hears(outsider, link)
+    }
+
+    /// Time goes on. The waits of a schedule do not come near the last moment.
+    #[tactic(auto, using(crate::proofs::NodeLaws::calm_later))]
+    pub(crate) fn pass(&mut self, ms: u32) -> Result<(), Memory>
+        ensures { OnOk result (self.new ≡ with_entry (At (record { 0 = self.old.moment + ms })) (at_moment (self.old.moment + ms) self.old)) }
+    {
+        let now = self.moment.0 + u64::from(ms);
+        if now >= END {
+            return Err(Memory);
+        }
+        self.history.push(Entry::At {
+            moment: Moment(now),
+        })?;
+        self.moment = Moment(now);
+        Ok(())
+    }
+
+    /// A packet enters the pool, with the next number. Every packet has its fixed header.
+    pub(crate) fn post(
+        &mut self,
+        alloc: Global,
+        from: LinkId,
+        shield: Option<Shield>,
+        packet: &[u8],
+    ) -> Result<u64, Memory>
+        ensures number { IfOk result (λ k. k ≡ length self.old.net.posts) }
+        ensures after { OnOk result (self.new ≡ with_net (posted self.old.net (record { from = from.0; shield = shield; packet = packet.now })) self.old) }
+    {
+        if packet.len() < HEADER {
+            return Err(Memory);
+        }
+        let packet = Bytes::copy(alloc, packet)?;
+        self.net.post(from, shield, packet)
+    }
+
+    /// A packet leaves the pool, and says whether it was there.
+    pub(crate) fn lose(&mut self, number: u64) -> bool
+        ensures was { result ≡ slice_index_or self.old.net.flying number false }
+        ensures after { self.new ≡ with_net (left self.old.net number) self.old }
+    {
+        self.net.lose(number)
+    }
+
+    /// The lowest number in the pool.
+    pub(crate) fn lowest(&self) -> Option<u64>
+        ensures { result ≡ lowest_of self.now.net.flying }
+    {
+        self.net.lowest()
+    }
+
+    /// The bytes of a packet as it was posted.
+    pub(crate) fn packet(&self, number: u64) -> Option<&[u8]>
+        ensures { option_map (λ p. p.now) result ≡ option_map (λ p. p.packet) (slice_get self.now.net.posts number) }
+    {
+        match self.net.packet(number) {
+            Some(packet) => Some(packet.as_slice()),
+            None => None,
+        }
+    }
+
+    /// A packet of the pool, and what becomes of it; it leaves the pool unless it is kept.
+    #[tactic(auto, using(crate::proofs::DeliveryLaws::come_posted))]
+    pub(crate) fn lift(&mut self, number: u64, keep: bool) -> Result<Option<Arrival>, Memory>
+        ensures found { IfOk result (λ a. option_map arrival_seen a ≡ option_map (arrival_of self.old.net) (in_pool self.old.net.flying self.old.net.posts number)) }
+        ensures after { OnOk result (self.new ≡ with_net (if keep then self.old.net else left self.old.net number) self.old) }
+    {
+        let delivery = self.net.deliver(number, keep);
+        if delivery == Delivery::Idle {
+            return Ok(None);
+        }
+        let arrival = arrival_of(&self.net, number, delivery)?;
+        Ok(Some(arrival))
+    }
+
+    /// A packet as it is handed over: its hop limit is one less where it has come to another link.
+    pub(crate) fn handed_packet(
+        &self,
+        alloc: Global,
+        number: u64,
+        link: Option<LinkId>,
+    ) -> Result<Bytes, Memory>
+        ensures { IfOk result (λ b. (post : Post) → slice_get self.now.net.posts number ≡ Some post → b ≡ handed_over post.packet (option_map (λ l. l.0) link)) }
+    {
+        let Some(packet) = self.net.packet(number) else {
+            return Err(Memory);
+        };
+        match link {
+            Some(_) => lowered(alloc, packet.as_slice()),
+            None => Bytes::copy(alloc, packet.as_slice()),
+        }
+    }
+
+    /// Somebody takes an address on a link, unless somebody else has it. Says what is to be noted.
+    pub(crate) fn take_claim(
+        &mut self,
+        who: u8,
+        link: LinkId,
+        address: Address,
+    ) -> Result<Entry, Memory>
+        requires { who < 40 }
+        ensures entry { IfOk result (λ x. x ≡ claim_entry who address link.0 (holder_of self.old.net.rows address.0)) }
+        ensures after { OnOk result (self.new ≡ with_net (claim_tried self.old.net who address) self.old) }
+    {
+        try_claim(&mut self.net, who, link, address)
+    }
+
+    /// Somebody gives an address up, and says whether it had it.
+    pub(crate) fn give_up(&mut self, who: u8, address: Address) -> bool
+        ensures was { result ≡ is_held_by (holder_of self.old.net.rows address.0) who }
+        ensures after { self.new ≡ with_net (released self.old.net who address) self.old }
+    {
+        self.net.release(who, address)
+    }
+
+    /// An outsider listens on a link from now on. Says whether it did not before.
+    pub(crate) fn begin_listening(&mut self, outsider: u8, link: LinkId) -> Result<bool, Memory>
+        requires outsider { outsider < 8 }
+        requires link { link.0 < length self.old.net.links }
+        ensures was { IfOk result (λ new. new ≡ not (hears_of self.old.net.hearing outsider link.0)) }
+        ensures after { OnOk result (self.new ≡ with_net (with_hearing self.old.net outsider link.0 true) self.old) }
+    {
+        self.net.listen(outsider, link)
+    }
+
+    /// An outsider listens on a link no more. Says whether it did before.
+    pub(crate) fn end_listening(&mut self, outsider: u8, link: LinkId) -> bool
+        requires outsider { outsider < 8 }
+        requires link { link.0 < length self.old.net.links }
+        ensures was { result ≡ hears_of self.old.net.hearing outsider link.0 }
+        ensures after { self.new ≡ with_net (with_hearing self.old.net outsider link.0 false) self.old }
+    {
+        self.net.deaf(outsider, link)
+    }
+
+    /// A node is handed a packet.
+    #[tactic(auto, using(crate::proofs::NodeLaws::calm_set, std::proofs::lemmas::Option::get_or_from_slice_get))]
+    pub(crate) fn node_takes(
+        &mut self,
+        alloc: Global,
+        node: NodeId,
+        number: u64,
+        shield: Option<Shield>,
+        packet: &[u8],
+    ) -> Result<Answers, Memory>
+        requires { node.0 < length self.old.nodes }
+        ensures answers { (c : NodeSeen) → slice_get self.old.nodes node.0 ≡ Some c → IfOk result (λ a. a ≡ answers_of (turn_by (λ me k now. taken me k now number shield packet.now) c self.old.moment).steps) }
+        ensures after { (c : NodeSeen) → slice_get self.old.nodes node.0 ≡ Some c → OnOk result (self.new ≡ turned_by (λ me k now. taken me k now number shield packet.now) node.0 c self.old) }
+    {
+        let place = usize::from(node.0);
+        self.nodes[place].take(alloc, self.moment, number, shield, packet)
+    }
+
+    /// A node is asked to send data.
+    #[tactic(auto, using(crate::proofs::NodeLaws::calm_set, std::proofs::lemmas::Option::get_or_from_slice_get))]
+    pub(crate) fn node_sends(
+        &mut self,
+        alloc: Global,
+        node: NodeId,
+        to: Address,
+        proto: u8,
+        payload: &[u8],
+    ) -> Result<Answers, Memory>
+        requires { node.0 < length self.old.nodes }
+        ensures answers { (c : NodeSeen) → slice_get self.old.nodes node.0 ≡ Some c → IfOk result (λ a. a ≡ answers_of (turn_by (λ me k now. transmitted me k now to proto payload.now) c self.old.moment).steps) }
+        ensures after { (c : NodeSeen) → slice_get self.old.nodes node.0 ≡ Some c → OnOk result (self.new ≡ turned_by (λ me k now. transmitted me k now to proto payload.now) node.0 c self.old) }
+    {
+        let place = usize::from(node.0);
+        self.nodes[place].send(alloc, self.moment, to, proto, payload)
+    }
+
+    /// A node is asked for a Binding Refresh Request.
+    #[tactic(auto, using(crate::proofs::NodeLaws::calm_set, std::proofs::lemmas::Option::get_or_from_slice_get))]
+    pub(crate) fn node_refreshes(
+        &mut self,
+        alloc: Global,
+        node: NodeId,
+        home: Address,
+    ) -> Result<Answers, Memory>
+        requires { node.0 < length self.old.nodes }
+        ensures answers { (c : NodeSeen) → slice_get self.old.nodes node.0 ≡ Some c → IfOk result (λ a. a ≡ answers_of (turn_by (λ me k now. refreshed me k now home) c self.old.moment).steps) }
+        ensures after { (c : NodeSeen) → slice_get self.old.nodes node.0 ≡ Some c → OnOk result (self.new ≡ turned_by (λ me k now. refreshed me k now home) node.0 c self.old) }
+    {
+        let place = usize::from(node.0);
+        self.nodes[place].refresh(alloc, self.moment, home)
+    }
+
+    /// A node begins its next life.
+    #[tactic(auto, using(crate::proofs::NodeLaws::calm_set, std::proofs::lemmas::Option::get_or_from_slice_get))]
+    pub(crate) fn renew(&mut self, alloc: Global, node: NodeId) -> Result<(), Memory>
+        requires { node.0 < length self.old.nodes }
+        ensures { (c : NodeSeen) → slice_get self.old.nodes node.0 ≡ Some c → OnOk result (self.new ≡ reborn node.0 c self.old) }
+    {
+        let place = usize::from(node.0);
+        self.nodes[place] = self.nodes[place].reborn(alloc, &self.seed, node)?;
+        Ok(())
+    }
+
+    /// The row at a place among those that a node keeps, in order of home address.
+    #[tactic(auto, using(std::proofs::lemmas::Option::get_or_from_slice_get))]
+    pub(crate) fn row(&self, node: NodeId, place: u32) -> Option<Row>
+        ensures { (c : NodeSeen) → slice_get self.now.nodes node.0 ≡ Some c → result ≡ slice_get (kept_at c.role.known.cache self.now.moment) place }
+    {
+        let node = self.nodes.get(usize::from(node.0))?;
+        match node.row(self.moment, place) {
+            Some(row) => Some(*row),
+            None => None,
+        }
+    }
+
+    /// A node more, which holds its address. A schedule has at most 32 nodes, each on a link and each with an
+    /// address of its own.
+    #[tactic(auto, using(crate::proofs::NodeLaws::calm_push))]
+    pub(crate) fn join(&mut self, alloc: Global, host: &Host) -> Result<(), Memory>
+        ensures few { OnOk result (length self.old.nodes < 32) }
+        ensures after { OnOk result (self.new ≡ joined host.now self.old) }
+    {
+        let count = self.nodes.len();
+        if usize::from(NODES) <= count {
+            return Err(Memory);
+        }
+        let number = count as u8;
+        let address = host.address();
+        let Some(link) = self.net.link_of(address) else {
+            return Err(Memory);
+        };
+        let node = Node::new(alloc, &self.seed, NodeId(number), 0, host)?;
+        self.nodes.push(node)?;
+        self.history.push(Entry::Claimed {
+            who: number,
+            link,
+            address,
+        })?;
+        claim_own(&mut self.net, number, address)
+    }
+}

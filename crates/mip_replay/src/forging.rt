@@ -1,0 +1,212 @@
+//! The packets of outsiders: inits of tests, tests and updates.
+
+ghost use Rattle.std.specs.Prelude.{◌≡◌, IfOk, OnOk, option_map, Option, Some, ℕ};
+ghost use Rattle.mip_options.specs.Values.{nothing, set_values};
+ghost use Rattle.mip_mobhdr.specs.Said.{said_plain};
+ghost use Rattle.mip_says.specs.Says.{kind_of};
+ghost use Rattle.mip_signals.specs.Packets.{signal};
+ghost use Rattle.mip_history.specs.Setup.{Setup};
+ghost use Rattle.mip_history.specs.Runs.{Run};
+ghost use Rattle.mip_history.specs.Outsiders.{asking_in, injected, injected_if, probe_packet, tell_of, tell_with, test_in, test_init, test_packet, update_packet};
+ghost use Rattle.mip_replay.specs.Forged as seen;
+ghost use Rattle.mip_replay.specs.Standing.{IsAt};
+
+use crate::asking::{Asking, asking_in, test_message};
+use crate::binding::{Binding, bind_packet};
+use crate::engine::Engine;
+use crate::limits::{DESTINATION, HEADER, MOBILITY, SOURCE};
+use crate::told::{Told, told_in};
+use mip_entries::Entry;
+use mip_ipv6::Head;
+use mip_mobhdr::Plain;
+use mip_options::OptionSet;
+use mip_says::TestKind;
+use mip_signals::{straight, write_signal};
+use mip_words::{Address, Bytes, Cookie, LinkId, Memory};
+use std::alloc::Global;
+
+pub(crate) fn no_options() -> OptionSet
+    ensures { set_values result ≡ nothing }
+{
+    OptionSet {
+        advice: None,
+        alternate: None,
+        nonces: None,
+        authorization: None,
+    }
+}
+
+fn test_init(careof: bool, cookie: Cookie) -> Plain
+    ensures { said_plain result ≡ test_init careof cookie.0 }
+{
+    let options = no_options();
+    if careof {
+        Plain::CareofInit { cookie, options }
+    } else {
+        Plain::HomeInit { cookie, options }
+    }
+}
+
+/// A packet with a message. Every head of a packet without extension headers can be written.
+fn written(alloc: Global, head: &Head, message: &Plain) -> Result<Bytes, Memory>
+    ensures { IfOk result (λ b. b ≡ signal head.now (said_plain message.now)) }
+{
+    if !head.plain() {
+        return Err(Memory);
+    }
+    write_signal(alloc, head, message)
+}
+
+fn probe_packet(
+    alloc: Global,
+    careof: bool,
+    source: Address,
+    peer: Address,
+    cookie: Cookie,
+) -> Result<Bytes, Memory>
+    ensures { IfOk result (λ b. b ≡ probe_packet careof source peer cookie.0) }
+{
+    let head = straight(source, peer, MOBILITY);
+    let message = test_init(careof, cookie);
+    written(alloc, &head, &message)
+}
+
+/// The test that answers an init, from where that went to where it came from.
+fn tell_packet(alloc: Global, init: &[u8], asking: Asking, told: Told) -> Result<Bytes, Memory>
+    ensures { IfOk result (λ b. Some b ≡ tell_with init.now (seen.asking asking) (Some (seen.told told))) }
+{
+    if init.len() < HEADER {
+        return Err(Memory);
+    }
+    let source = Address::at(init, DESTINATION);
+    let peer = Address::at(init, SOURCE);
+    let head = straight(source, peer, MOBILITY);
+    let message = test_message(asking, told);
+    written(alloc, &head, &message)
+}
+
+impl Engine {
+    /// What the test in a posted packet says.
+    fn told_at(&self, kind: TestKind, number: u64) -> Option<Told>
+        ensures { option_map seen.told result ≡ test_in (kind_of kind) self.now.net.posts number }
+    {
+        match self.packet(number) {
+            Some(packet) => told_in(kind, packet),
+            None => None,
+        }
+    }
+
+    /// The update from the tests in two packets.
+    #[tactic(auto, unfolding(mip_history::specs::Outsiders::update_packet))]
+    fn update(
+        &self,
+        alloc: Global,
+        binding: Binding,
+        home: u64,
+        careof: Option<u64>,
+    ) -> Result<Option<Bytes>, Memory>
+        ensures { IfOk result (λ b. b ≡ update_packet (seen.binding binding) self.now.net.posts home careof) }
+    {
+        let Some(home) = self.told_at(TestKind::Home, home) else {
+            return Ok(None);
+        };
+        let Some(careof) = careof else {
+            let packet = bind_packet(alloc, binding, home, None)?;
+            return Ok(Some(packet));
+        };
+        match self.told_at(TestKind::Careof, careof) {
+            Some(careof) => {
+                let packet = bind_packet(alloc, binding, home, Some(careof))?;
+                Ok(Some(packet))
+            }
+            None => Ok(None),
+        }
+    }
+
+    /// The test with the token of one packet that answers the init in another.
+    #[tactic(auto, unfolding(mip_history::specs::Outsiders::test_packet))]
+    fn test(&self, alloc: Global, test: u64, init: u64) -> Result<Option<Bytes>, Memory>
+        ensures { IfOk result (λ b. b ≡ test_packet self.now.net.posts test init) }
+    {
+        match self.packet(init) {
+            Some(init) => self.test_for(alloc, test, init),
+            None => Ok(None),
+        }
+    }
+
+    fn test_for(&self, alloc: Global, test: u64, init: &[u8]) -> Result<Option<Bytes>, Memory>
+        ensures { IfOk result (λ b. b ≡ tell_of self.now.net.posts test init.now (asking_in init.now)) }
+    {
+        let Some(asking) = asking_in(init) else {
+            return Ok(None);
+        };
+        let Some(told) = self.told_at(asking.kind, test) else {
+            return Ok(None);
+        };
+        let packet = tell_packet(alloc, init, asking, told)?;
+        Ok(Some(packet))
+    }
+
+    fn inject_if(
+        &mut self,
+        alloc: Global,
+        outsider: u8,
+        link: LinkId,
+        packet: Option<Bytes>,
+    ) -> Result<(), Memory>
+        ensures { (s : Setup) (run : Run) → IsAt self.old s run → OnOk result (IsAt self.new s (injected_if s run outsider link.0 packet)) }
+    {
+        match packet {
+            Some(packet) => self.inject(alloc, outsider, link, packet.as_slice()),
+            None => self.note(Entry::Idle),
+        }
+    }
+
+    /// An outsider posts the init of a test.
+    pub(crate) fn probe(
+        &mut self,
+        alloc: Global,
+        outsider: u8,
+        link: LinkId,
+        careof: bool,
+        source: Address,
+        peer: Address,
+        cookie: Cookie,
+    ) -> Result<(), Memory>
+        ensures { (s : Setup) (run : Run) → IsAt self.old s run → OnOk result (IsAt self.new s (injected s run outsider link.0 (probe_packet careof source peer cookie.0))) }
+    {
+        let packet = probe_packet(alloc, careof, source, peer, cookie)?;
+        self.inject(alloc, outsider, link, packet.as_slice())
+    }
+
+    /// An outsider posts an update with the tokens of two packets, nothing where they have none.
+    pub(crate) fn bind(
+        &mut self,
+        alloc: Global,
+        outsider: u8,
+        link: LinkId,
+        binding: Binding,
+        home: u64,
+        careof: Option<u64>,
+    ) -> Result<(), Memory>
+        ensures { (s : Setup) (run : Run) → IsAt self.old s run → OnOk result (IsAt self.new s (injected_if s run outsider link.0 (update_packet (seen.binding binding) run.posts home careof))) }
+    {
+        let packet = self.update(alloc, binding, home, careof)?;
+        self.inject_if(alloc, outsider, link, packet)
+    }
+
+    /// An outsider posts a test with the token of one packet that answers the init in another.
+    pub(crate) fn tell(
+        &mut self,
+        alloc: Global,
+        outsider: u8,
+        link: LinkId,
+        test: u64,
+        init: u64,
+    ) -> Result<(), Memory>
+        ensures { (s : Setup) (run : Run) → IsAt self.old s run → OnOk result (IsAt self.new s (injected_if s run outsider link.0 (test_packet run.posts test init))) }
+    {
+        let packet = self.test(alloc, test, init)?;
+        self.inject_if(alloc, outsider, link, packet)
+    }
+}

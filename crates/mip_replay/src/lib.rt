@@ -1,0 +1,28 @@
+//! The run of a schedule: its permitted history.
+#![tactic(auto)]
+
+mod acting;
+mod answering;
+mod arrival;
+mod asking;
+mod binding;
+mod built;
+mod claims;
+mod delivering;
+mod engine;
+mod forging;
+mod happening;
+mod host;
+mod laws;
+mod limits;
+mod lowering;
+mod node;
+mod outsiders;
+mod posting;
+mod run;
+mod setup;
+mod told;
+
+pub use built::unbuilt;
+pub use laws::each_is_bound;
+pub use run::replay;
