@@ -1,13 +1,22 @@
 -- What the program is to write, and the status that it ends with, for its words and its input.
-use Rattle.std.specs.Prelude.{ℕ, List, [], ◌∷◌, ◌++◌, length, None, Some, Result, Ok, Err, nat_lt, codes, if◌then◌else◌}
+use Rattle.std.specs.Prelude.{ℕ, List, [], ◌∷◌, ◌++◌, length, None, Some, Result, Ok, Err, nat_lt, codes, decimal, if◌then◌else◌}
 use Rattle.std.specs.declared.option.Option.{Option}
 use Rattle.mip_prog.specs.declared.command.Command.{Command}
 use Rattle.mip_prog.specs.declared.command.Command.TheVariants.{Replay, Decode}
 use Rattle.mip_ipv6.specs.declared.not_packet.NotPacket.{NotPacket}
 use Rattle.mip_explain.specs.Words.{refusal_word}
 use Rattle.mip_explain.specs.Listing.{listing_of}
+use Rattle.mip_lines.specs.Lines.{line_text}
+use Rattle.mip_schedule.specs.Contents.{Content}
+use Rattle.mip_schedule.specs.Faults.{Wrong}
+use Rattle.mip_schedule.specs.Reading.{reading}
+use Rattle.mip_schedule.specs.declared.reason.Reason.{Reason}
+use Rattle.mip_schedule.specs.declared.reason.Reason.TheVariants as reasons
+use Rattle.mip_history.specs.Permitted.{permitted, unbuilt_line}
+use Rattle.mip_trace.specs.Lines.{trace_text}
 use Rattle.mip_prog.specs.Commands.{command_of}
-use Rattle.mip_prog.specs.Replayed.{trace_of}
+use Rattle.mip_prog.specs.Lengths.{event_lines}
+use Rattle.mip_prog.specs.Words.{reason_word}
 
 pub record Answer : Type 0 where
   pub status : ℕ
@@ -17,29 +26,41 @@ pub record Answer : Type 0 where
 abbrev pub usage_answer : Answer
 usage_answer = record { status = 1; text = codes "usage: mip COMMAND" ++ 10 ∷ [] }
 
--- the input has more than 16,777,216 bytes
+-- the input has more than 16,777,216 bytes, or a schedule more than 20,000 lines of events
 abbrev pub long_answer : Answer
 long_answer = record { status = 6; text = codes "long" ++ 10 ∷ [] }
 
-abbrev pub trace_answer : Option (List ℕ) → Answer
-trace_answer (Some text) = record { status = 0; text = text }
-trace_answer None = record { status = 2; text = codes "bad 1 form" ++ 10 ∷ [] }
+-- the first bad line, and why
+unfoldable pub bad_text : ℕ → Reason → List ℕ
+bad_text line why = line_text (codes "bad" ∷ decimal line ∷ reason_word why ∷ [])
+
+abbrev pub bad_answer : ℕ → Reason → Answer
+bad_answer line why = record { status = 2; text = bad_text line why }
+
+-- the text of the permitted history; a line that does not run yet is bad
+abbrev pub run_answer : Content → Option ℕ → Answer
+run_answer c (Some line) = bad_answer line reasons.Form
+run_answer c None = record { status = 0; text = trace_text (Some c.declarations) (permitted c) }
+
+abbrev pub schedule_answer : Result Content Wrong → Answer
+schedule_answer (Ok c) = run_answer c (unbuilt_line c)
+schedule_answer (Err wrong) = bad_answer wrong.line wrong.why
 
 abbrev pub replay_answer : List ℕ → Answer
-replay_answer bytes = if nat_lt 16777216 (length bytes) then long_answer else trace_answer (trace_of bytes)
+replay_answer bytes = if nat_lt 20000 (event_lines bytes) then long_answer else schedule_answer (reading bytes)
 
 -- the listing of the packet, or why the bytes are none
 abbrev pub listing_answer : Result (List ℕ) NotPacket → Answer
 listing_answer (Ok text) = record { status = 0; text = text }
 listing_answer (Err refusal) = record { status = 8; text = codes "drop " ++ (refusal_word refusal ++ 10 ∷ []) }
 
-abbrev pub decode_answer : List ℕ → Answer
-decode_answer bytes = if nat_lt 16777216 (length bytes) then long_answer else listing_answer (listing_of bytes)
-
 -- for a command and the bytes of the input
+unfoldable pub input_answer : Command → List ℕ → Answer
+input_answer Replay bytes = replay_answer bytes
+input_answer Decode bytes = listing_answer (listing_of bytes)
+
 abbrev pub command_answer : Command → List ℕ → Answer
-command_answer Replay bytes = replay_answer bytes
-command_answer Decode bytes = decode_answer bytes
+command_answer command bytes = if nat_lt 16777216 (length bytes) then long_answer else input_answer command bytes
 
 abbrev pub words_answer : Option Command → List ℕ → Answer
 words_answer None bytes = usage_answer

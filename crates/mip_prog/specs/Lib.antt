@@ -1,10 +1,5 @@
 pub mod Commands
-pub mod Replayed
+pub mod Lengths
+pub mod Words
 pub mod Answers
 pub mod Told
-pub mod Form
-pub mod FormReading
-pub mod FormParts
-pub mod Schedule
-pub mod TraceText
-pub mod Opening

@@ -1,14 +1,13 @@
 //! What a command answers to its input.
 
-ghost use Rattle.std.specs.Prelude.{◌≡◌, IfOk, Err};
-ghost use Rattle.mip_prog.specs.Answers.{command_answer, trace_answer, listing_answer};
+ghost use Rattle.std.specs.Prelude.{◌≡◌, ◌≢◌, IfOk, Err};
+ghost use Rattle.mip_prog.specs.Answers.{command_answer, listing_answer};
 ghost use Rattle.mip_explain.specs.Listing.{listing_of};
-ghost use Rattle.mip_prog.specs.Replayed.{trace_of};
-ghost use Rattle.mip_prog.specs.Told.{IsSettled};
+ghost use Rattle.mip_prog.specs.Told.{IsSettled, IsStatus};
 
 use crate::command::Command;
 use crate::reading::LIMIT;
-use crate::replayed::replayed;
+use crate::replaying::replay;
 use crate::reply::Reply;
 use crate::status::Status;
 use mip_explain::{ExplainFault, explain, refusal_word};
@@ -17,9 +16,11 @@ use mip_words::{Bytes, Memory};
 use std::alloc::Global;
 
 /// The answer of a command to its input.
+#[tactic(auto, unfolding(crate::specs::Answers::input_answer))]
 pub fn answer(alloc: Global, command: Command, input: &[u8]) -> Result<Reply, Memory>
     ensures answers { IfOk result (λ reply. reply ≡ command_answer command input.now) }
     ensures settled { IfOk result (λ reply. IsSettled reply.status) }
+    ensures statuses { IfOk result (λ reply. IsStatus reply.status × (reply.status ≢ 1)) }
 {
     if input.len() > LIMIT {
         return Reply::copy(alloc, Status::TOO_LONG, b"long\n");
@@ -27,19 +28,6 @@ pub fn answer(alloc: Global, command: Command, input: &[u8]) -> Result<Reply, Me
     match command {
         Command::Replay => replay(alloc, input),
         Command::Decode => decode(alloc, input),
-    }
-}
-
-fn replay(alloc: Global, input: &[u8]) -> Result<Reply, Memory>
-    ensures answers { IfOk result (λ reply. reply ≡ trace_answer (trace_of input.now)) }
-    ensures settled { IfOk result (λ reply. IsSettled reply.status) }
-{
-    match replayed(alloc, input)? {
-        Some(text) => Ok(Reply {
-            status: Status::OK,
-            text,
-        }),
-        None => Reply::copy(alloc, Status::BAD, b"bad 1 form\n"),
     }
 }
 

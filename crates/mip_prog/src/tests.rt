@@ -1,8 +1,13 @@
 use crate::in_memory::mip_in_memory;
+use crate::nonce_cases::NONCES;
+use crate::packet_cases::PACKETS;
+use crate::room_cases::ROOMS;
+use crate::sequence_cases::SEQUENCES;
 use crate::status::Status;
+use crate::token_cases::TOKENS;
 use crate::top::mip;
 use mip_outside::{SetClock, Sink, Source, SureLink, SureSource, TextSink, TextSource};
-use mip_words::{Memory, hex_exact};
+use mip_words::{Bytes, Memory, hex_exact};
 use std::alloc::Global;
 use std::test::Fail;
 
@@ -48,7 +53,7 @@ fn replay<S: Source, K: Sink>(
 fn words_and_input_have_their_answer(rt: HostRuntime) -> Result<(), Fail> {
     let cases: [(&[&str], &[u8], u8, &str); 8] = [
         (&["replay"], b"", 2, "bad 1 form\n"),
-        (&["replay"], b"mip 1\nseed", 2, "bad 1 form\n"),
+        (&["replay"], b"mip 1\nseed", 2, "bad 2 form\n"),
         (&[], b"", 1, USAGE),
         (&["help"], b"", 1, USAGE),
         (&["-replay"], b"", 1, USAGE),
@@ -62,6 +67,39 @@ fn words_and_input_have_their_answer(rt: HostRuntime) -> Result<(), Fail> {
         assert_eq!(rt; reply.status, Status(status));
         assert_eq!(rt; reply.text.as_slice(), text.as_bytes());
     }
+    Ok(())
+}
+
+/// The place of the first schedule that has another trace.
+fn first_other(alloc: Global, cases: &[(&str, &str)]) -> Result<Option<usize>, Memory> {
+    let words = owned(alloc, &["replay"])?;
+    for (place, (schedule, trace)) in cases.iter().enumerate() {
+        let reply = mip_in_memory(alloc, &words, schedule.as_bytes())?;
+        if reply.status != Status::OK || reply.text.as_slice() != trace.as_bytes() {
+            return Ok(Some(place));
+        }
+    }
+    Ok(None)
+}
+
+#[test]
+fn schedules_have_their_traces(rt: HostRuntime) -> Result<(), Fail> {
+    assert_eq!(rt; first_other(rt.alloc(), &NONCES)?, None);
+    assert_eq!(rt; first_other(rt.alloc(), &SEQUENCES)?, None);
+    assert_eq!(rt; first_other(rt.alloc(), &TOKENS)?, None);
+    assert_eq!(rt; first_other(rt.alloc(), &ROOMS)?, None);
+    assert_eq!(rt; first_other(rt.alloc(), &PACKETS)?, None);
+    Ok(())
+}
+
+#[test]
+fn what_does_not_run_yet_is_a_bad_line(rt: HostRuntime) -> Result<(), Fail> {
+    let words = owned(rt.alloc(), &["replay"])?;
+    let schedule =
+        b"mip 1\nseed 000102030405060708090a0b0c0d0e0f101112131415161718191a1b1c1d1e1f\nstart 0\nlink n2 20010db800020000\nrun\nwait 1\nadvertise n2\n";
+    let reply = mip_in_memory(rt.alloc(), &words, schedule)?;
+    assert_eq!(rt; reply.status, Status::BAD);
+    assert_eq!(rt; reply.text.as_slice(), b"bad 7 form\n".as_slice());
     Ok(())
 }
 
@@ -163,5 +201,45 @@ fn one_byte_more_than_16777216_is_too_many(rt: HostRuntime) -> Result<(), Fail> 
     let reply = mip_in_memory(rt.alloc(), &words, &bytes)?;
     assert_eq!(rt; reply.status, Status::TOO_LONG);
     assert_eq!(rt; reply.text.as_slice(), b"long\n".as_slice());
+    Ok(())
+}
+
+/// Links and a correspondent, up to the first event.
+const OPENING: &[u8] =
+    b"mip 1\nseed 000102030405060708090a0b0c0d0e0f101112131415161718191a1b1c1d1e1f\nstart 0\nlink n1 20010db800010000\nlink n2 20010db800020000\ncorrespondent c n2 20010db8000200000000000000000002 2\noutsider o\nrun\n";
+
+#[test]
+fn the_most_events_run(rt: HostRuntime) -> Result<(), Fail> {
+    let words = owned(rt.alloc(), &["replay"])?;
+    let mut schedule = Bytes::copy(rt.alloc(), OPENING)?;
+    let mut trace = Bytes::copy(rt.alloc(), HOME_TEST_CLAIM)?;
+    for _event in 0..20_000u32 {
+        schedule.extend(b"deliver 0\n")?;
+        trace.extend(b"idle\n")?;
+    }
+    let reply = mip_in_memory(rt.alloc(), &words, schedule.as_slice())?;
+    assert_eq!(rt; reply.status, Status::OK);
+    assert_eq!(rt; reply.text.as_slice(), trace.as_slice());
+    Ok(())
+}
+
+/// The line `run`, and so many lines behind it.
+fn lines_behind_run(alloc: Global, count: u32) -> Result<Bytes, Memory> {
+    let mut text = Bytes::copy(alloc, b"run\n")?;
+    for _line in 0..count {
+        text.extend(b"\n")?;
+    }
+    Ok(text)
+}
+
+#[test]
+fn one_event_more_than_20000_is_too_many(rt: HostRuntime) -> Result<(), Fail> {
+    let words = owned(rt.alloc(), &["replay"])?;
+    let text = lines_behind_run(rt.alloc(), 20_001)?;
+    let reply = mip_in_memory(rt.alloc(), &words, text.as_slice())?;
+    assert_eq!(rt; reply.status, Status::TOO_LONG);
+    let text = lines_behind_run(rt.alloc(), 20_000)?;
+    let reply = mip_in_memory(rt.alloc(), &words, text.as_slice())?;
+    assert_eq!(rt; reply.text.as_slice(), b"bad 1 form\n".as_slice());
     Ok(())
 }

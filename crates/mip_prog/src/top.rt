@@ -1,8 +1,12 @@
 //! The program, over any source, sink, clock and link.
 
-ghost use Rattle.std.specs.Prelude.{◌≡◌, ◌≢◌, ℕ, ◌≤◌, ◌⊎◌, List, length, map, string_bytes, None, Some, IfSome};
+ghost use Rattle.std.specs.Prelude.{◌≡◌, ◌≢◌, ℕ, ◌≤◌, ◌⊎◌, List, length, map, string_bytes, None, Some, IfSome, IfOk};
 ghost use Rattle.std.specs.Io.KnownBytes.{prepend_known, IsAtEnd};
 ghost use Rattle.mip_outside.specs.Cause.{Rose};
+ghost use Rattle.mip_schedule.specs.Reading.{reading};
+ghost use Rattle.mip_history.specs.Setup.{setup_of};
+ghost use Rattle.mip_history.specs.Permitted.{permitted};
+ghost use Rattle.mip_replay.specs.Bindings.{EachIsBound};
 ghost use Rattle.mip_prog.specs.Commands.{command_of};
 ghost use Rattle.mip_prog.specs.Answers.{answer_of, command_answer};
 ghost use Rattle.mip_prog.specs.Told.{IsAnswered, IsStatus, Told};
@@ -13,6 +17,7 @@ use crate::reading::{ReadFault, read_input};
 use crate::status::Status;
 use crate::writing::tell;
 use mip_outside::{Clock, Link, Sink, Source};
+use mip_replay::each_is_bound;
 use mip_words::Memory;
 use std::alloc::Global;
 
@@ -32,6 +37,9 @@ pub fn mip<S: Source, K: Sink, C: Clock, L: Link>(
         × (S.left source.old ≡ prepend_known bytes (S.left source.new))
         × Told (answer_of (map string_bytes words.now) bytes) result.0 (K.held sink.old) (K.held sink.new) }
 
+    // In the history of a schedule each care-of address that is held has its accepted update.
+    ensures bound { IfSome (S.left source.old) (λ bytes. IfOk (reading bytes) (λ c. EachIsBound (setup_of c) (permitted c))) }
+
     ensures statuses { IsStatus result.0 }
     ensures usage { result.0 ≡ 1 → command_of (map string_bytes words.now) ≡ None }
     ensures no_command { command_of (map string_bytes words.now) ≡ None → (result.0 ≡ 1) ⊎ ((result.0 ≡ 4) ⊎ (result.0 ≡ 5)) }
@@ -48,6 +56,7 @@ pub fn mip<S: Source, K: Sink, C: Clock, L: Link>(
 {
     let _ = clock;
     let _ = link;
+    each_is_bound();
     match parse(words) {
         None => tell(sink, b"usage: mip COMMAND\n", Status::USAGE),
         Some(command) => answer_input(alloc, command, source, sink),

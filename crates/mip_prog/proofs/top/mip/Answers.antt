@@ -1,9 +1,16 @@
 use Rattle.std.proofs.Common.{arith, ◌≡◌, [], None, map, string_bytes, sym, ◌∙◌, refl}
 use Rattle.mip_outside.proofs.Known.{prepend_none}
 use Rattle.mip_prog.specs.Commands.{command_of}
+use Rattle.mip_prog.proofs.Bound.{if_told}
 use Rattle.mip_prog.proofs.top.mip.Goals as goal
 
 pub returns-in-None-clause-told_of_some : goal.returns-in-None-clause-told_of_some
 returns-in-None-clause-told_of_some g c =
     let none : command_of (map string_bytes c.args.words.now) ≡ None = sym c.parse.ensures ∙ c.in-None.is in
     ([], omega arith, prepend_none _ _ refl, rw none c.tell.ensures.told)
+
+pub returns-in-None-clause-bound : goal.returns-in-None-clause-bound
+returns-in-None-clause-bound g c = if_told c.each_is_bound.ensures (g.S.Source.left c.args.source.now)
+
+pub returns-in-Some-clause-bound : goal.returns-in-Some-clause-bound
+returns-in-Some-clause-bound g c = if_told c.each_is_bound.ensures (g.S.Source.left c.args.source.now)

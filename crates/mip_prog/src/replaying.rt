@@ -1,0 +1,96 @@
+//! What `replay` answers to a schedule.
+
+ghost use Rattle.std.specs.Prelude.{◌≡◌, ◌≤◌, IfOk, None, length};
+ghost use Rattle.mip_schedule.specs.Schedules.{content};
+ghost use Rattle.mip_history.specs.Permitted.{unbuilt_line};
+ghost use Rattle.mip_prog.specs.Answers.{replay_answer, run_answer, bad_answer};
+ghost use Rattle.mip_prog.specs.Words.{reason_word};
+ghost use Rattle.mip_prog.specs.Told.{IsSettled};
+
+use crate::lengths::event_lines;
+use crate::reply::Reply;
+use crate::status::Status;
+use itoa::Buffer;
+use mip_replay::unbuilt;
+use mip_schedule::{Reason, Schedule, ScheduleFault, read_schedule};
+use mip_trace::write_trace;
+use mip_words::{Bytes, Memory};
+use std::alloc::Global;
+
+/// The greatest number of events.
+const EVENTS: usize = 20_000;
+
+/// The trace of a schedule, or its first bad line and why.
+pub fn replay(alloc: Global, input: &[u8]) -> Result<Reply, Memory>
+    requires { length input.now ≤ 16777216 }
+    ensures answers { IfOk result (λ reply. reply ≡ replay_answer input.now) }
+    ensures settled { IfOk result (λ reply. IsSettled reply.status) }
+{
+    if event_lines(input) > EVENTS {
+        return Reply::copy(alloc, Status::TOO_LONG, b"long\n");
+    }
+    match read_schedule(alloc, input) {
+        Ok(schedule) => run(alloc, &schedule),
+        Err(ScheduleFault::Bad { line, why }) => bad(alloc, u64::from(line), why),
+        Err(ScheduleFault::Memory) => Err(Memory),
+    }
+}
+
+/// The trace of a schedule that was read, unless a line of it does not run yet.
+fn run(alloc: Global, schedule: &Schedule) -> Result<Reply, Memory>
+    ensures answers { IfOk result (λ reply. reply ≡ run_answer (content schedule.now) (unbuilt_line (content schedule.now))) }
+    ensures settled { IfOk result (λ reply. IsSettled reply.status) }
+{
+    match unbuilt(schedule) {
+        Some(line) => bad(alloc, line, Reason::Form),
+        None => trace(alloc, schedule),
+    }
+}
+
+fn trace(alloc: Global, schedule: &Schedule) -> Result<Reply, Memory>
+    requires { unbuilt_line (content schedule.now) ≡ None }
+    ensures answers { IfOk result (λ reply. reply ≡ run_answer (content schedule.now) None) }
+    ensures settled { IfOk result (λ reply. IsSettled reply.status) }
+{
+    let history = mip_replay::replay(alloc, schedule)?;
+    let text = write_trace(alloc, schedule, &history)?;
+    Ok(Reply {
+        status: Status::OK,
+        text,
+    })
+}
+
+/// The line that tells a bad line.
+#[tactic(auto, unfolding(crate::specs::Answers::bad_text, mip_lines::specs::Lines::line_text))]
+fn bad(alloc: Global, line: u64, why: Reason) -> Result<Reply, Memory>
+    ensures answers { IfOk result (λ reply. reply ≡ bad_answer line why) }
+    ensures settled { IfOk result (λ reply. IsSettled reply.status) }
+{
+    let mut digits = Buffer::new();
+    let mut text = Bytes::copy(alloc, b"bad ")?;
+    text.extend(digits.format(line).as_bytes())?;
+    text.extend(b" ")?;
+    text.extend(reason_word(why))?;
+    text.extend(b"\n")?;
+    Ok(Reply {
+        status: Status::BAD,
+        text,
+    })
+}
+
+fn reason_word(why: Reason) -> &'static [u8]
+    ensures { result.now ≡ reason_word why }
+{
+    match why {
+        Reason::Form => b"form",
+        Reason::Name => b"name",
+        Reason::Number => b"number",
+        Reason::Address => b"address",
+        Reason::Hex => b"hex",
+        Reason::Limit => b"limit",
+        Reason::Clash => b"clash",
+        Reason::Packet => b"packet",
+        Reason::Time => b"time",
+        Reason::Carry => b"carry",
+    }
+}
