@@ -1,10 +1,10 @@
 -- The listing of a packet: its headers line by line, then what its body says.
-use Rattle.std.specs.Prelude.{◌≡◌, ℕ, List, [], ◌++◌, ◌==◌, false, if◌then◌else◌, codes, unwrap_or, Result, Ok, Err, IsOk}
+use Rattle.std.specs.Prelude.{◌≡◌, ℕ, List, [], ◌++◌, ◌==◌, false, if◌then◌else◌, codes, Result, Ok, Err, IsOk}
 use Rattle.mip_words.specs.Steps.{◌>>=◌}
 use Rattle.mip_words.specs.declared.address.Address.{Address}
 use Rattle.mip_ipv6.specs.declared.head.Head.{Head}
 use Rattle.mip_ipv6.specs.declared.not_packet.NotPacket.{NotPacket}
-use Rattle.mip_ipv6.specs.Packet.{Packet}
+use Rattle.mip_ipv6.specs.Packet.{Packet, source_of, destination_of}
 use Rattle.mip_ipv6.specs.Reading.{packet_of}
 use Rattle.mip_options.specs.Values.{Values}
 use Rattle.mip_mobhdr.specs.declared.fault.Fault.{Fault}
@@ -63,17 +63,11 @@ abbrev pub icmp_lines : Result icmp.Said IcmpFault → List ℕ
 icmp_lines (Ok m) = icmp_line (type_of m)
 icmp_lines (Err fault) = fault_line (codes "icmp")
 
--- the addresses of the pseudo-header: the Home Address option and the routing header stand for those of the packet
-abbrev pub sum_source : Head → Address
-sum_source head = unwrap_or head.home head.source
-
-abbrev pub sum_destination : Head → Address
-sum_destination head = unwrap_or head.route head.destination
-
+-- the pseudo-header of a body has the addresses of whom the packet is from and for
 unfoldable pub body_lines : Head → List ℕ → List ℕ
 body_lines head body =
-    if head.proto == 135 then mobility_lines (message_of (sum_source head) (sum_destination head) body)
-    else if head.proto == 58 then icmp_lines (icmp_of (sum_source head) (sum_destination head) body)
+    if head.proto == 135 then mobility_lines (message_of (source_of head) (destination_of head) body)
+    else if head.proto == 58 then icmp_lines (icmp_of (source_of head) (destination_of head) body)
     else body_line body
 
 unfoldable pub packet_lines : Packet → List ℕ

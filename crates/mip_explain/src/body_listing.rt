@@ -1,7 +1,7 @@
 ghost use Rattle.std.specs.Prelude.{◌≡◌, ◌≤◌, ◌++◌, length, OnOk};
 ghost use Rattle.mip_mobhdr.specs.Reading.{message_of};
 ghost use Rattle.mip_icmp.specs.Reading.{icmp_of};
-ghost use Rattle.mip_explain.specs.Listing.{mobility_lines, icmp_lines, sum_source, sum_destination, body_lines};
+ghost use Rattle.mip_explain.specs.Listing.{mobility_lines, icmp_lines, body_lines};
 
 use crate::message_listing::put_message;
 use crate::rows::{put_body_line, put_number_line, put_word_line};
@@ -10,20 +10,6 @@ use mip_icmp::read_icmp;
 use mip_ipv6::Head;
 use mip_mobhdr::read_message;
 use mip_words::{Address, Bytes, Memory};
-
-/// The source address of the pseudo-header.
-fn sum_source(head: &Head) -> Address
-    ensures { result ≡ sum_source head.now }
-{
-    head.home.unwrap_or(head.source)
-}
-
-/// The destination address of the pseudo-header.
-fn sum_destination(head: &Head) -> Address
-    ensures { result ≡ sum_destination head.now }
-{
-    head.route.unwrap_or(head.destination)
-}
 
 fn put_mobility(
     out: &mut Bytes,
@@ -61,8 +47,8 @@ pub(crate) fn put_body(out: &mut Bytes, head: &Head, body: &[u8]) -> Result<(), 
     ensures { OnOk result (out.new ≡ out.old ++ body_lines head.now body.now) }
 {
     match head.proto {
-        135 => put_mobility(out, sum_source(head), sum_destination(head), body),
-        58 => put_icmp(out, sum_source(head), sum_destination(head), body),
+        135 => put_mobility(out, head.sender(), head.receiver(), body),
+        58 => put_icmp(out, head.sender(), head.receiver(), body),
         _ => put_body_line(out, b"body", body),
     }
 }

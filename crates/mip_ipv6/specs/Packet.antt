@@ -1,5 +1,5 @@
 -- A packet as a tree: the fields of its headers, and its body. RFC 8200 section 3, RFC 6275 sections 6.3 and 6.4
-use Rattle.std.specs.Prelude.{◌≡◌, ℕ, ◌^◌, ◌<◌, ◌≤◌, List, length, drop, Bool, true, not, ◌&&◌, ◌||◌, ◌==◌, nat_lt, Option, Some, None, IfSome}
+use Rattle.std.specs.Prelude.{◌≡◌, ℕ, ◌^◌, ◌<◌, ◌≤◌, List, length, drop, Bool, true, not, ◌&&◌, ◌||◌, ◌==◌, nat_lt, Option, Some, None, IfSome, unwrap_or}
 use Rattle.mip_words.specs.Addresses.{is_routable}
 use Rattle.mip_words.specs.declared.address.Address.{Address}
 use Rattle.mip_ipv6.specs.declared.head.Head.{Head}
@@ -43,3 +43,11 @@ pub record IsInRange (head : Head) : Type 0 where
   pub class : head.class < 256
   pub route : IsAddressIfAny head.route
   pub home : IsAddressIfAny head.home
+
+-- whom a packet is from, and whom it is for: home addresses where a Home Address option or a routing header has them.
+-- RFC 6275 sections 6.3 and 6.4
+abbrev pub source_of : Head → Address
+source_of head = unwrap_or head.home head.source
+
+abbrev pub destination_of : Head → Address
+destination_of head = unwrap_or head.route head.destination

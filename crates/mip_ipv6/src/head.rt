@@ -1,5 +1,5 @@
 ghost use Rattle.std.specs.Prelude.{◌≡◌};
-ghost use Rattle.mip_ipv6.specs.Packet.{is_plain, is_routable_if_any, names_no_body};
+ghost use Rattle.mip_ipv6.specs.Packet.{destination_of, is_plain, is_routable_if_any, names_no_body, source_of};
 
 use mip_words::Address;
 
@@ -32,6 +32,20 @@ impl Head {
             && !no_body(self.proto)
             && routable_if_any(self.route)
             && routable_if_any(self.home)
+    }
+
+    /// Whom the packet is from: the Home Address option, or the source (RFC 6275 section 6.3).
+    pub fn sender(&self) -> Address
+        ensures { result ≡ source_of self.now }
+    {
+        self.home.unwrap_or(self.source)
+    }
+
+    /// Whom the packet is for: the routing header's address, or the destination (RFC 6275 section 6.4).
+    pub fn receiver(&self) -> Address
+        ensures { result ≡ destination_of self.now }
+    {
+        self.route.unwrap_or(self.destination)
     }
 }
 

@@ -1,20 +1,13 @@
 -- Which packets pass the checks, row by row. RFC 6275 sections 6.1.3, 6.1.4, 6.4, 9.2 and 9.3.1
-use Rattle.std.specs.Prelude.{◌≡◌, ℕ, ◌≤◌, List, length, Bool, IsTrue, IsFalse, not, ◌&&◌, ◌||◌, Option, Some, None, is_some, Ok, Err, ⊤}
+use Rattle.std.specs.Prelude.{◌≡◌, ℕ, Bool, IsTrue, IsFalse, not, ◌&&◌, ◌||◌, Option, Some, None, is_some, Ok, Err, ⊤}
 use Rattle.mip_words.specs.declared.address.Address.{Address}
 use Rattle.mip_words.specs.declared.why.Why.TheVariants as whys
 use Rattle.mip_ipv6.specs.Packet.{Packet}
 use Rattle.mip_mobhdr.specs.Said.{Said}
-use Rattle.mip_mobhdr.specs.Said.Said.{Update}
-use Rattle.mip_mobhdr.specs.Reading.{update_of}
 use Rattle.mip_reception.specs.declared.reply.Reply.TheVariants.{BindingError}
 use Rattle.mip_reception.specs.declared.refusal.Refusal.{Refusal}
 use Rattle.mip_reception.specs.declared.standing.Standing.{Standing}
 use Rattle.mip_reception.specs.Checks.{silent, message_at, is_probe, is_update, checked}
-
--- what was read, where it is an update, is what the fields of this body say
-abbrev pub IsReadUpdate : Option Said → List ℕ → Type 0
-IsReadUpdate (Some (Update s a h l k t o)) body = (16 ≤ length body) × (update_of body ≡ Ok (Update s a h l k t o))
-IsReadUpdate _ body = ⊤
 
 -- a Home Address option may stand with a message: never with a test init; else in an update, or where the binding stands
 abbrev pub IsAllowed : (holds : Bool) → Option Address → Option Said → Type 0

@@ -5,8 +5,8 @@ ghost use Rattle.std.specs.Prelude.{◌≡◌, ◌<◌, ◌-◌, ◌^◌, ◌==�
 ghost use Rattle.mip_words.specs.Steps.{Gives};
 ghost use Rattle.mip_ipv6.specs.Packet.{packet as tree};
 ghost use Rattle.mip_mobhdr.specs.Said.{said};
+ghost use Rattle.mip_says.specs.Updates.{IsReadUpdate};
 ghost use Rattle.mip_reception.specs.Checks.{silent, fault_reply, message_at, is_probe, is_update, with_home, checked};
-ghost use Rattle.mip_reception.specs.Passing.{IsReadUpdate};
 
 use crate::refusal::Refusal;
 use crate::reply::Reply;
@@ -14,7 +14,6 @@ use crate::standing::Standing;
 use crate::wording::message_why;
 use mip_ipv6::PacketRef;
 use mip_mobhdr::{Fault, Message, read_message};
-use mip_signals::{destination, source};
 use mip_words::{Address, Why};
 
 const MOBILITY: u8 = 135;
@@ -45,7 +44,7 @@ fn fault_reply(place: u32, home: Option<Address>, fault: Fault) -> Reply
 }
 
 /// The mobility message of a packet, none in a packet of another kind.
-#[tactic(auto, unfolding(crate::specs::Checks::message_at), using(crate::proofs::Updates::read_update))]
+#[tactic(auto, unfolding(crate::specs::Checks::message_at), using(mip_says::proofs::Updates::read_update))]
 fn message_at<'a>(packet: &PacketRef<'a>) -> Result<Option<Message<'a>>, Refusal>
     requires { packet.now.place < 2 ^ 32 - 1 }
     ensures exact { Gives (option_map said) result (message_at packet.now.place (tree packet.now)) }
@@ -55,7 +54,7 @@ fn message_at<'a>(packet: &PacketRef<'a>) -> Result<Option<Message<'a>>, Refusal
     if packet.head.proto != MOBILITY {
         return Ok(None);
     }
-    match read_message(source(&packet.head), destination(&packet.head), packet.body) {
+    match read_message(packet.head.sender(), packet.head.receiver(), packet.body) {
         Ok(message) => Ok(Some(message)),
         Err(fault) => Err(Refusal {
             why: message_why(fault),

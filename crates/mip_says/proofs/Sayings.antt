@@ -6,7 +6,7 @@ use Rattle.std.specs.Result.{result_ok}
 use Rattle.std.proofs.lemmas.Bool.{cond_both, cond-true, cond-false, eqb-true, eq-eqb, ne_eqb, not-false}
 use Rattle.mip_words.specs.declared.address.Address.{Address}
 use Rattle.mip_ipv6.specs.declared.not_packet.NotPacket.{NotPacket}
-use Rattle.mip_ipv6.specs.Packet.{Packet}
+use Rattle.mip_ipv6.specs.Packet.{Packet, source_of, destination_of}
 use Rattle.mip_ipv6.specs.Reading.{packet_of}
 use Rattle.mip_mobhdr.specs.declared.fault.Fault.{Fault}
 use Rattle.mip_mobhdr.specs.Said.{Said}
@@ -14,7 +14,7 @@ use Rattle.mip_mobhdr.specs.Reading.{message_of}
 use Rattle.mip_tunnel.specs.Tunnel.{lowered, lowered_packet, lowered_if_read, tunnel_packet, encapsulated, opened}
 use Rattle.mip_tunnel.specs.declared.exit_fault.ExitFault.{ExitFault}
 use Rattle.mip_tunnel.proofs.Tunnels.{packet_of_lowered, packet_of_encapsulated}
-use Rattle.mip_says.specs.Says.{innermost, source_of, destination_of, message_in, Carried, Other, said_by, says, carried}
+use Rattle.mip_says.specs.Says.{innermost, message_in, Carried, Other, said_by, says, carried}
 use Rattle.mip_says.proofs.Nesting.{within_if_read, innermost_is}
 
 -- what a packet that was read says

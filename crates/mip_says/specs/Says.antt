@@ -4,9 +4,8 @@ use Rattle.std.specs.Prelude.{ℕ, zero, suc, ◌-◌, List, [], ◌∷◌, leng
 use Rattle.std.specs.Option.{option_map_or}
 use Rattle.std.specs.Result.{result_ok}
 use Rattle.mip_words.specs.declared.address.Address.{Address}
-use Rattle.mip_ipv6.specs.declared.head.Head.{Head}
 use Rattle.mip_ipv6.specs.declared.not_packet.NotPacket.{NotPacket}
-use Rattle.mip_ipv6.specs.Packet.{Packet}
+use Rattle.mip_ipv6.specs.Packet.{Packet, source_of, destination_of}
 use Rattle.mip_ipv6.specs.Reading.{packet_of}
 use Rattle.mip_options.specs.Values.{Values}
 use Rattle.mip_mobhdr.specs.Said.{Said}
@@ -33,13 +32,6 @@ innermost_after zero (b ∷ rest) = follow (packet_of (b ∷ rest)) (length rest
 -- the packet in which no further packet stands
 unfoldable pub innermost : List ℕ → Option Packet
 innermost bytes = innermost_after 0 bytes
-
--- whom a packet is from, and whom it is for: home addresses where a Home Address option or a routing header has them
-abbrev pub source_of : Head → Address
-source_of head = unwrap_or head.home head.source
-
-abbrev pub destination_of : Head → Address
-destination_of head = unwrap_or head.route head.destination
 
 -- the mobility message of a packet, where it has a readable one
 abbrev pub message_in : Packet → Option Said

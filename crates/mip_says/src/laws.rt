@@ -2,12 +2,12 @@
 
 ghost use Rattle.std.specs.Prelude.{◌≡◌, ◌<◌, ◌^◌, ℕ, List, length, Ok};
 ghost use Rattle.mip_words.specs.declared.address.Address.{Address};
-ghost use Rattle.mip_ipv6.specs.Packet.{Packet};
+ghost use Rattle.mip_ipv6.specs.Packet.{Packet, source_of, destination_of};
 ghost use Rattle.mip_ipv6.specs.Reading.{packet_of};
 ghost use Rattle.mip_mobhdr.specs.Said.{Said};
 ghost use Rattle.mip_mobhdr.specs.Reading.{message_of};
 ghost use Rattle.mip_tunnel.specs.Tunnel.{lowered, encapsulated, opened};
-ghost use Rattle.mip_says.specs.Says.{carried, says, said_by, source_of, destination_of, Carried, Other};
+ghost use Rattle.mip_says.specs.Says.{carried, says, said_by, Carried, Other};
 
 /// A packet says the same wherever it has come to.
 pub fn lowering_keeps_what_is_said()

@@ -1,13 +1,13 @@
 //! What a packet says.
 
 ghost use Rattle.std.specs.Prelude.{◌≡◌};
-ghost use Rattle.mip_ipv6.specs.Packet.{packet as tree};
+ghost use Rattle.mip_ipv6.specs.Packet.{packet as tree, source_of};
 ghost use Rattle.mip_options.specs.Values.{values};
-ghost use Rattle.mip_says.specs.Says.{carried, carried_of, says, source_of, update_said};
+ghost use Rattle.mip_says.specs.Says.{carried, carried_of, says, update_said};
 
 use crate::carried::Carried;
 use crate::key::Key;
-use crate::packets::{innermost, message_in, source};
+use crate::packets::{innermost, message_in};
 use crate::test_kind::TestKind;
 use mip_ipv6::PacketRef;
 use mip_mobhdr::Message;
@@ -21,7 +21,7 @@ fn update<'a>(packet: &PacketRef<'a>, options: &Options<'a>) -> Carried<'a>
 {
     match options.authorization {
         Some(authenticator) => Carried::Update(Key {
-            home: source(&packet.head),
+            home: packet.head.sender(),
             careof: options.alternate.unwrap_or(packet.head.source),
             body: packet.body,
             authenticator,

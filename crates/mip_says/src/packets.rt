@@ -3,11 +3,11 @@
 ghost use Rattle.std.specs.Prelude.{◌≡◌, option_map};
 ghost use Rattle.mip_ipv6.specs.Packet.{packet as tree};
 ghost use Rattle.mip_mobhdr.specs.Said.{said};
-ghost use Rattle.mip_says.specs.Says.{innermost as innermost_of, message_in as message_of_packet, source_of, destination_of};
+ghost use Rattle.mip_says.specs.Says.{innermost as innermost_of, message_in as message_of_packet};
+ghost use Rattle.mip_says.specs.Updates.{IsReadUpdate};
 
-use mip_ipv6::{Head, PacketRef, read_packet};
+use mip_ipv6::{PacketRef, read_packet};
 use mip_mobhdr::{Message, read_message};
-use mip_words::Address;
 
 const TUNNEL: u8 = 41;
 
@@ -31,28 +31,16 @@ pub fn innermost(bytes: &[u8]) -> Option<PacketRef<'_>>
     Some(packet)
 }
 
-/// Whom a packet is from: the Home Address option, or the source.
-pub(crate) fn source(head: &Head) -> Address
-    ensures { result ≡ source_of head.now }
-{
-    head.home.unwrap_or(head.source)
-}
-
-/// Whom a packet is for: the routing header's address, or the destination.
-fn destination(head: &Head) -> Address
-    ensures { result ≡ destination_of head.now }
-{
-    head.route.unwrap_or(head.destination)
-}
-
-/// The mobility message of a packet, where it has a readable one.
+/// The mobility message of a packet, where it has a readable one. An update is what the fields of its body say.
+#[tactic(auto, using(crate::proofs::Updates::read_update))]
 pub fn message_in<'a>(packet: &PacketRef<'a>) -> Option<Message<'a>>
-    ensures { option_map said result ≡ message_of_packet (tree packet.now) }
+    ensures value { option_map said result ≡ message_of_packet (tree packet.now) }
+    ensures update { IsReadUpdate (option_map said result) packet.now.body.now }
 {
     if packet.head.proto != MOBILITY {
         return None;
     }
-    match read_message(source(&packet.head), destination(&packet.head), packet.body) {
+    match read_message(packet.head.sender(), packet.head.receiver(), packet.body) {
         Ok(message) => Some(message),
         Err(_) => None,
     }

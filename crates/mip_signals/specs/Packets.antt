@@ -3,11 +3,11 @@ use Rattle.std.specs.Prelude.{ℕ, List, take, Option, None}
 use Rattle.mip_words.specs.declared.address.Address.{Address}
 use Rattle.mip_ipv6.specs.declared.head.Head.{Head}
 use Rattle.mip_ipv6.specs.Spelling.{packet_bytes}
+use Rattle.mip_ipv6.specs.Packet.{source_of, destination_of}
 use Rattle.mip_mobhdr.specs.Said.{Said}
 use Rattle.mip_mobhdr.specs.Spelling.{message_bytes}
 use Rattle.mip_icmp.specs.Said as icmp
 use Rattle.mip_icmp.specs.Spelling.{icmp_bytes}
-use Rattle.mip_says.specs.Says.{source_of, destination_of}
 
 -- the head of a packet that a node makes: from and to these addresses, with a type 2 routing header and a
 -- Home Address option where there are any. RFC 6275 sections 6.3 and 6.4

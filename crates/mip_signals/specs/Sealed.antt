@@ -2,12 +2,12 @@
 use Rattle.std.specs.Prelude.{ℕ, List, Bool, true, false, Some, replicate}
 use Rattle.mip_words.specs.declared.address.Address.{Address}
 use Rattle.mip_ipv6.specs.declared.head.Head.{Head}
+use Rattle.mip_ipv6.specs.Packet.{source_of, destination_of}
 use Rattle.mip_options.specs.Values.{Values}
 use Rattle.mip_mobhdr.specs.Said.{Said}
 use Rattle.mip_mobhdr.specs.Said.Said.{Update, Acknowledgement}
 use Rattle.mip_mobhdr.specs.Spelling.{message_bytes}
 use Rattle.mip_tokens.specs.Token.{authenticator_of}
-use Rattle.mip_says.specs.Says.{source_of, destination_of}
 use Rattle.mip_signals.specs.Packets.{signal}
 
 -- the options with this authenticator

@@ -1,7 +1,6 @@
-//! Heads of packets, and whom they are from and for.
+//! Heads of packets.
 
 ghost use Rattle.std.specs.Prelude.{◌≡◌};
-ghost use Rattle.mip_says.specs.Says.{source_of, destination_of};
 ghost use Rattle.mip_signals.specs.Packets.{node_head, straight};
 
 use mip_ipv6::Head;
@@ -35,18 +34,4 @@ pub fn straight(source: Address, destination: Address, proto: u8) -> Head
     ensures { result ≡ straight source destination proto }
 {
     node_head(source, destination, None, None, proto)
-}
-
-/// Whom a packet is from: the Home Address option, or the source.
-pub fn source(head: &Head) -> Address
-    ensures { result ≡ source_of head.now }
-{
-    head.home.unwrap_or(head.source)
-}
-
-/// Whom a packet is for: the routing header's address, or the destination.
-pub fn destination(head: &Head) -> Address
-    ensures { result ≡ destination_of head.now }
-{
-    head.route.unwrap_or(head.destination)
 }

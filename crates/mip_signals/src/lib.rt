@@ -8,7 +8,7 @@ mod problem;
 mod sealed;
 mod signal;
 
-pub use heads::{destination, node_head, source, straight};
+pub use heads::{node_head, straight};
 pub use parcel::write_parcel;
 pub use problem::write_problem;
 pub use sealed::write_sealed;

@@ -1,14 +1,12 @@
 ghost use Rattle.std.specs.Prelude.{◌≡◌, ◌<◌, ◌≤◌, length, slice_index, IsTrue, IfOk, Ok, List, ℕ};
 ghost use Rattle.mip_words.specs.Numbers.{number_at};
-ghost use Rattle.mip_ipv6.specs.Packet.{is_plain};
+ghost use Rattle.mip_ipv6.specs.Packet.{is_plain, source_of, destination_of};
 ghost use Rattle.mip_ipv6.specs.Reading.{packet_of};
 ghost use Rattle.mip_mobhdr.specs.Said.{said_plain};
 ghost use Rattle.mip_mobhdr.specs.Reading.{message_of};
 ghost use Rattle.mip_mobhdr.specs.Spelling.{IsMessage, message_bytes};
-ghost use Rattle.mip_says.specs.Says.{source_of, destination_of};
 ghost use Rattle.mip_signals.specs.Packets.{signal};
 
-use crate::heads::{destination, source};
 use crate::parcel::write_parcel;
 use mip_ipv6::Head;
 use mip_mobhdr::{Plain, write_message};
@@ -31,7 +29,7 @@ pub(crate) fn message_for(alloc: Global, head: &Head, message: &Plain) -> Result
     ensures read { IfOk result (λ b. message_of (source_of head.now) (destination_of head.now) b ≡ Ok (said_plain message.now)) }
     ensures short { IfOk result (λ b. length b ≤ 2048) }
 {
-    let bytes = write_message(alloc, source(head), destination(head), message)?;
+    let bytes = write_message(alloc, head.sender(), head.receiver(), message)?;
     let _units = units(bytes.as_slice());
     Ok(bytes)
 }

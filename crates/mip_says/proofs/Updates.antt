@@ -7,7 +7,7 @@ use Rattle.mip_mobhdr.specs.Said.{Said}
 use Rattle.mip_mobhdr.specs.Said.Said.{Refresh, HomeInit, CareofInit, HomeTest, CareofTest, Update, Acknowledgement, Error}
 use Rattle.mip_mobhdr.specs.Reading.{update_of}
 use Rattle.mip_mobhdr.specs.Spelling.{IsMessage}
-use Rattle.mip_reception.specs.Passing.{IsReadUpdate}
+use Rattle.mip_says.specs.Updates.{IsReadUpdate}
 
 pub read_update : (source destination : Address) (m : Said) (body : List ℕ) → IsMessage source destination m body → IsReadUpdate (Some m) body
 unfolding update_of
