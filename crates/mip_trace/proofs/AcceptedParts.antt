@@ -31,11 +31,11 @@ nine (a ∷ b ∷ c ∷ d ∷ e ∷ f ∷ g ∷ h ∷ []) long short = absurd (o
 nine (a ∷ b ∷ c ∷ d ∷ e ∷ f ∷ g ∷ h ∷ i ∷ []) long short = refl
 nine (a ∷ b ∷ c ∷ d ∷ e ∷ f ∷ g ∷ h ∷ i ∷ j ∷ more) long short = absurd (omega arith)
 
-accepted_parts : (ds : List Declaration) (f1 f2 f3 f4 f5 f6 f7 f8 f9 : List ℕ) (a : NodeId) (b : ℕ) (c : Address) (d : ℕ)
-    → kinds.node ds f1 ≡ Ok a → kinds.u64 f2 ≡ Ok b → kinds.address f3 ≡ Ok c → kinds.u8 f4 ≡ Ok d
-    → accepted_row ds (f1 ∷ f2 ∷ f3 ∷ f4 ∷ f5 ∷ f6 ∷ f7 ∷ f8 ∷ f9 ∷ []) ≡ accepted_end a b c d f5 f6 f7 f8 f9
+accepted_parts : (ds : List Declaration) (c1 c2 c3 c4 c5 c6 c7 c8 c9 : List ℕ) (a : NodeId) (b : ℕ) (c : Address) (d : ℕ)
+    → kinds.node ds c1 ≡ Ok a → kinds.u64 c2 ≡ Ok b → kinds.address c3 ≡ Ok c → kinds.u8 c4 ≡ Ok d
+    → accepted_row ds (c1 ∷ c2 ∷ c3 ∷ c4 ∷ c5 ∷ c6 ∷ c7 ∷ c8 ∷ c9 ∷ []) ≡ accepted_end a b c d c5 c6 c7 c8 c9
 unfolding accepted_row
-accepted_parts ds f1 f2 f3 f4 f5 f6 f7 f8 f9 a b c d is1 is2 is3 is4 = rw (is1, is2, is3, is4) refl
+accepted_parts ds c1 c2 c3 c4 c5 c6 c7 c8 c9 a b c d is1 is2 is3 is4 = rw (is1, is2, is3, is4) refl
 
 pub accepted_known : (ds : List Declaration) (fs : List (Bor (List ℕ))) → 9 ≤ length fs → length fs < 10 → (a : NodeId) (b : ℕ) (c : Address) (d : ℕ)
     → kinds.node ds (field fs 0) ≡ Ok a → kinds.u64 (field fs 1) ≡ Ok b → kinds.address (field fs 2) ≡ Ok c → kinds.u8 (field fs 3) ≡ Ok d

@@ -10,14 +10,14 @@ use Rattle.mip_words.specs.declared.ids.NodeId.{NodeId}
 use Rattle.mip_words.specs.declared.token.Token.{Token}
 use Rattle.mip_words.specs.declared.why.Why.{Why}
 use Rattle.mip_words.specs.declared.why.Why.TheVariants as whys
-use Rattle.mip_ipv6.specs.Packet.{Packet}
+use Rattle.mip_ipv6.specs.Packet.{Packet, source_of, destination_of}
 use Rattle.mip_ipv6.specs.Reading.{packet_of}
 use Rattle.mip_ipv6.specs.declared.not_packet.NotPacket.{NotPacket}
 use Rattle.mip_mobhdr.specs.Said as mobility
 use Rattle.mip_icmp.specs.Reading.{icmp_of}
 use Rattle.mip_icmp.specs.Said as icmp
 use Rattle.mip_icmp.specs.declared.fault.IcmpFault.{IcmpFault}
-use Rattle.mip_says.specs.Says.{message_in, source_of, destination_of}
+use Rattle.mip_says.specs.Says.{message_in}
 use Rattle.mip_lines.specs.HexFields.{address_hex}
 use Rattle.mip_lines.specs.Lines.{is_plain, is_row}
 use Rattle.mip_lines.proofs.LineLaws.{decimal_plain, hex_plain, hex_text_plain}

@@ -114,12 +114,12 @@ home_row ds fields = row5 bad (kinds.node ds) kinds.address kinds.address kinds.
 
 -- an acceptance whose first four fields are read
 abbrev pub accepted_end : NodeId → ℕ → Address → ℕ → (careof sequence end home_index careof_index : List ℕ) → Result Entry NotEntry
-accepted_end a b c d f5 f6 f7 f8 f9 = do
-  e ← kinds.address f5
-  f ← kinds.u16 f6
-  g ← kinds.moment f7
-  h ← kinds.u16 f8
-  i ← kinds.some_u16 f9
+accepted_end a b c d c5 c6 c7 c8 c9 = do
+  e ← kinds.address c5
+  f ← kinds.u16 c6
+  g ← kinds.moment c7
+  h ← kinds.u16 c8
+  i ← kinds.some_u16 c9
   Ok (entries.Accepted a b c d e f g h i)
 
 unfoldable pub accepted_row : List Declaration → List (List ℕ) → Result Entry NotEntry
@@ -142,11 +142,11 @@ up_row ds fields = row6 bad (kinds.node ds) kinds.u64 kinds.address kinds.addres
 
 -- a row whose first three fields are read
 abbrev pub row_end : NodeId → Address → ℕ → (careof sequence end kept_until : List ℕ) → Result Entry NotEntry
-row_end a b c f4 f5 f6 f7 = do
-  d ← kinds.address f4
-  e ← kinds.u16 f5
-  f ← kinds.moment f6
-  g ← kinds.moment f7
+row_end a b c c4 c5 c6 c7 = do
+  d ← kinds.address c4
+  e ← kinds.u16 c5
+  f ← kinds.moment c6
+  g ← kinds.moment c7
   Ok (entries.Row a b c d e f g)
 
 unfoldable pub row_row : List Declaration → List (List ℕ) → Result Entry NotEntry

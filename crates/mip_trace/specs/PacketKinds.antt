@@ -1,13 +1,13 @@
 -- What kind of packet bytes are, in a word.
 use Rattle.std.specs.Prelude.{ℕ, List, ◌==◌, if◌then◌else◌, Option, Some, None, Result, Ok, Err, codes}
-use Rattle.mip_ipv6.specs.Packet.{Packet}
+use Rattle.mip_ipv6.specs.Packet.{Packet, source_of, destination_of}
 use Rattle.mip_ipv6.specs.Reading.{packet_of}
 use Rattle.mip_ipv6.specs.declared.not_packet.NotPacket.{NotPacket}
 use Rattle.mip_mobhdr.specs.Said as mobility
 use Rattle.mip_icmp.specs.Reading.{icmp_of}
 use Rattle.mip_icmp.specs.Said as icmp
 use Rattle.mip_icmp.specs.declared.fault.IcmpFault.{IcmpFault}
-use Rattle.mip_says.specs.Says.{message_in, source_of, destination_of}
+use Rattle.mip_says.specs.Says.{message_in}
 use Rattle.mip_explain.specs.Words.{message_word}
 
 -- of a mobility message: its word, or `bad` where it is refused. RFC 6275 section 6.1

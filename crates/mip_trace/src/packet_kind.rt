@@ -3,26 +3,14 @@
 ghost use Rattle.std.specs.Prelude.{◌≡◌, ◌≤◌, length};
 ghost use Rattle.mip_ipv6.specs.Packet.{packet as tree};
 ghost use Rattle.mip_icmp.specs.Reading.{icmp_of};
-ghost use Rattle.mip_says.specs.Says.{message_in as message_of, source_of, destination_of};
+ghost use Rattle.mip_says.specs.Says.{message_in as message_of};
 ghost use Rattle.mip_trace.specs.PacketKinds.{mobility_kind, icmp_kind, body_kind, kind_of};
 
 use mip_explain::message_word;
 use mip_icmp::read_icmp;
-use mip_ipv6::{Head, PacketRef, read_packet};
+use mip_ipv6::{PacketRef, read_packet};
 use mip_says::message_in;
 use mip_words::Address;
-
-fn source(head: &Head) -> Address
-    ensures { result ≡ source_of head.now }
-{
-    head.home.unwrap_or(head.source)
-}
-
-fn destination(head: &Head) -> Address
-    ensures { result ≡ destination_of head.now }
-{
-    head.route.unwrap_or(head.destination)
-}
 
 fn mobility_kind(packet: &PacketRef) -> &'static [u8]
     ensures { result.now ≡ mobility_kind (message_of (tree packet.now)) }
@@ -49,7 +37,7 @@ fn body_kind(packet: &PacketRef) -> &'static [u8]
 {
     match packet.head.proto {
         135 => mobility_kind(packet),
-        58 => icmp_kind(source(&packet.head), destination(&packet.head), packet.body),
+        58 => icmp_kind(packet.head.sender(), packet.head.receiver(), packet.body),
         41 => b"tunnel",
         59 => b"none",
         _ => b"data",
