@@ -118,7 +118,9 @@ impl Cache {
         requires { self.now.last ≤ now.0 }
         ensures found { option_copied result ≡ slice_get (kept_at self.now now.0) place }
         ensures answers { (past : List Acceptance) → StandsFor self.now past → option_map seen_row (option_copied result) ≡ slice_get (kept_rows now.0 (table past)) place }
+        ensures few { length (kept_at self.now now.0) < 2 ^ 32 }
     {
+        let _limit = self.limit;
         rows::kept_at(&self.rows, now, place)
     }
 }

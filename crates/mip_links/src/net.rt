@@ -181,9 +181,10 @@ impl Net {
         }
     }
 
-    /// The bytes of a packet as it was posted, in the pool or not.
+    /// The bytes of a packet as it was posted, in the pool or not: its fixed header at least.
     pub fn packet(&self, number: u64) -> Option<&Bytes>
-        ensures { option_copied result ≡ option_map (λ p. p.packet) (slice_get self.now.posts number) }
+        ensures found { option_copied result ≡ option_map (λ p. p.packet) (slice_get self.now.posts number) }
+        ensures whole { IfSome result (λ p. 40 ≤ length p.now) }
     {
         let post = self.posts.get(number as usize)?;
         Some(post.packet())

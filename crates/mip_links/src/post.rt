@@ -41,7 +41,8 @@ impl Post {
     }
 
     pub(crate) fn packet(&self) -> &Bytes
-        ensures { result.now ≡ self.now.packet }
+        ensures is { result.now ≡ self.now.packet }
+        ensures whole { 40 ≤ length result.now }
     {
         &self.packet
     }
