@@ -15,7 +15,7 @@ use Rattle.mip_rules_correspondent.specs.Rules.{bench}
 use Rattle.mip_rules_correspondent.specs.Turns.{Turn}
 use Rattle.mip_rules_correspondent.specs.Verdicts.{verdict}
 use Rattle.mip_verdict.specs.Benches.{bench_at}
-use Rattle.mip_verdict.proofs.VerdictLaws.{sound}
+use Rattle.mip_rules_correspondent.proofs.VerdictLaws.{sound}
 use Rattle.mip_correspondent.specs.declared.kept.Kept.{Kept}
 use Rattle.mip_correspondent.specs.Showing.{left, Shows, kept_of, Fits}
 use Rattle.mip_correspondent.proofs.ShowingLaws.{shows-now, shows-known}

@@ -16,7 +16,7 @@ ghost use Rattle.mip_rules_correspondent.specs.Calls.{taken, parted, ticked, ref
 ghost use Rattle.mip_correspondent.specs.Showing.{left, with_kept, Fits};
 
 use crate::kept::Kept;
-use crate::part::{answer_message, message_in};
+use crate::part::answer_message;
 use crate::receipt::Receipt;
 use crate::receiving::receive;
 use crate::sending::{ask_refresh, send_data};
@@ -25,6 +25,7 @@ use mip_entries::Answers;
 use mip_ipv6::PacketRef;
 use mip_nonce::Secrets;
 use mip_rules_correspondent::{Identity, Known};
+use mip_says::message_in;
 use mip_words::{Address, Memory, Moment, Shield};
 use std::alloc::Global;
 use std::marker::Model;
@@ -96,6 +97,7 @@ impl Correspondent {
         requires { self.now.known.last.0 ≤ now.0 }
         ensures found { option_copied result ≡ slice_get (kept_at self.now.known.cache now.0) place }
         ensures answers { (past : List Acceptance) → StandsFor self.now.known.cache past → option_map seen_row (option_copied result) ≡ slice_get (kept_rows now.0 (table past)) place }
+        ensures few { length (kept_at self.now.known.cache now.0) < 2 ^ 32 }
     {
         self.known.cache.row(now, place)
     }

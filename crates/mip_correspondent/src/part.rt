@@ -3,10 +3,9 @@
 ghost use Rattle.std.specs.Prelude.{◌≡◌, ◌≤◌, ◌<◌, ◌^◌, IfOk, OnOk, IsTrue, IsFalse, Some, option_map};
 ghost use Rattle.mip_ipv6.specs.Packet.{packet as tree, is_routable_if_any};
 ghost use Rattle.mip_mobhdr.specs.Said.{said};
-ghost use Rattle.mip_says.specs.Says.{message_in};
+ghost use Rattle.mip_says.specs.Updates.{IsReadUpdate};
 ghost use Rattle.mip_bcache.specs.Seen.{CacheSeen};
 ghost use Rattle.mip_reception.specs.Checks.{is_probe};
-ghost use Rattle.mip_reception.specs.Passing.{IsReadUpdate};
 ghost use Rattle.mip_rules_correspondent.specs.Turns.{Turn};
 ghost use Rattle.mip_rules_correspondent.specs.Rules.{hands_up, is_data, is_for_part, by_message};
 ghost use Rattle.mip_correspondent.specs.Showing.{Shows, with_kept, Fits};
@@ -18,13 +17,10 @@ use crate::test_init::{answer_careof_init, answer_home_init};
 use crate::update::take_update;
 use mip_entries::Answers;
 use mip_ipv6::PacketRef;
-use mip_mobhdr::{Message, read_message};
-use mip_signals::{destination, source};
+use mip_mobhdr::Message;
 use mip_verdict::request_of;
 use mip_words::Memory;
 use std::alloc::Global;
-
-const MOBILITY: u8 = 135;
 
 /// Data is what is neither a tunnel, nor ICMPv6, nor nothing, nor a mobility message.
 fn is_data(proto: u8) -> bool
@@ -60,8 +56,8 @@ fn hand_up_data(
         alloc,
         answers,
         receipt.number,
-        source(&head),
-        destination(&head),
+        head.sender(),
+        head.receiver(),
         head.proto,
         packet.body,
     )
@@ -87,22 +83,6 @@ fn answer_update(
     match request_of(packet.head.source, packet.head.home, message) {
         Some(request) => take_update(alloc, answers, receipt, &request, packet.body),
         None => Ok(None),
-    }
-}
-
-/// The mobility message of a packet, where it has a readable one.
-#[tactic(auto, using(mip_reception::proofs::Updates::read_update))]
-pub fn message_in<'a>(packet: &PacketRef<'a>) -> Option<Message<'a>>
-    ensures value { option_map said result ≡ message_in (tree packet.now) }
-    ensures update { IsReadUpdate (option_map said result) packet.now.body.now }
-{
-    if packet.head.proto != MOBILITY {
-        return None;
-    }
-    let head = packet.head;
-    match read_message(source(&head), destination(&head), packet.body) {
-        Ok(message) => Some(message),
-        Err(_) => None,
     }
 }
 

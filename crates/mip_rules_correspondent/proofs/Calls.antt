@@ -13,14 +13,15 @@ use Rattle.mip_rules_correspondent.specs.Turns.{Turn, begun, noted}
 use Rattle.mip_rules_correspondent.specs.Stands.{Stands, with_turn}
 use Rattle.mip_rules_correspondent.specs.Calls.{taken, parted, ticked, refreshed, transmitted}
 use Rattle.mip_rules_correspondent.proofs.Pasts.{noted-stands}
+use Rattle.mip_rules_correspondent.proofs.Wholes.{SendsLong}
 use Rattle.mip_rules_correspondent.proofs.Walks.{every-takes, every-parts, every-refreshes, every-transmits}
 
 module _ (room : ℕ) (past : List (Stamped Step)) (k : Known) (stands : Stands room past k) (now : ℕ) where
   abbrev StandsWith : Turn → Type 0
   StandsWith t = Stands room (with_turn past t) t.known
 
-  more : (step : Step) (t : Turn) → is_tick step ≡ false → StandsWith t → StandsWith (noted step t)
-  more step t tick s = noted-stands room past step t s
+  more : (step : Step) (t : Turn) → is_tick step ≡ false → SendsLong step → StandsWith t → StandsWith (noted step t)
+  more step t tick long s = noted-stands room past step t s
 
   begins : StandsWith (begun now k)
   begins = subst (λ (l : List (Stamped Step)). Stands room l k) (sym (append-nil past)) stands

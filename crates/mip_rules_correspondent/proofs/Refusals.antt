@@ -12,6 +12,7 @@ use Rattle.mip_rules_correspondent.specs.Questions.{cache_after, after}
 use Rattle.mip_rules_correspondent.specs.Turns.{Turn, noted}
 use Rattle.mip_rules_correspondent.specs.Rules.{takes}
 use Rattle.mip_rules_correspondent.specs.Calls.{parts}
+use Rattle.mip_rules_correspondent.proofs.Wholes.{SendsLong}
 use Rattle.mip_rules_correspondent.proofs.Walks.{every-takes, every-parts}
 
 -- unless an update is accepted on the way from one turn to another, the cache is the same
@@ -41,9 +42,9 @@ same-cache (Drops number why) cache at tick none = refl
 same-cache (HandsUp number source destination proto payload) cache at tick none = refl
 same-cache Idles cache at tick none = refl
 
-keeps-noted : (t : Turn) (step : Step) (u : Turn) → is_tick step ≡ false → Keeps t u → Keeps t (noted step u)
+keeps-noted : (t : Turn) (step : Step) (u : Turn) → is_tick step ≡ false → SendsLong step → Keeps t u → Keeps t (noted step u)
 unfolding noted after
-keeps-noted t step u tick keeps none =
+keeps-noted t step u tick long keeps none =
     let both = sym (list_any-append is_acceptance u.steps (step ∷ [])) ∙ none in
     same-cache step u.known.cache u.now tick (second_of (list_any is_acceptance u.steps) (is_acceptance step) both)
     ∙ keeps (first_of (list_any is_acceptance u.steps) (is_acceptance step) both)

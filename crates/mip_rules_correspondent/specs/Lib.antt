@@ -4,7 +4,9 @@ pub mod Turns
 pub mod Stands
 pub mod Requests
 pub mod Verdicts
+pub mod Soundness
 pub mod Acks
 pub mod Rules
 pub mod Calls
 pub mod Pasts
+pub mod Wholes

@@ -11,7 +11,8 @@ mod verdict;
 pub use identity::Identity;
 pub use known::Known;
 pub use laws::{
-    bindings_are_of_the_acceptances, last_is_of_the_last_call, refused_changes_no_row,
+    accepted_is_sound, answers_are_whole, bindings_are_of_the_acceptances, keyed_denial_is_genuine,
+    last_is_of_the_last_call, out_of_window_tells_the_floor, refused_changes_no_row,
     stands_after_each_call, stands_for_nothing, stands_for_one_step_more,
 };
 pub use request::Request;

@@ -3,7 +3,6 @@
 #![tactic(auto)]
 
 mod ack;
-mod laws;
 mod request;
 mod rows;
 mod status;
@@ -12,7 +11,6 @@ mod tests;
 mod verdicts;
 
 pub use ack::write_ack;
-pub use laws::{accepted_is_sound, keyed_denial_is_genuine, out_of_window_tells_the_floor};
 pub use mip_entries::UpdateSeen;
 pub use request::{careof_of, deletes, home_of, registered_of, request_of};
 pub use verdicts::{judge, verdict};

@@ -18,7 +18,7 @@ use Rattle.mip_rules_correspondent.specs.declared.verdict.Verdict.{Verdict}
 use Rattle.mip_rules_correspondent.specs.declared.verdict.Verdict.TheVariants.{Refuse, Deny, Accept}
 use Rattle.mip_rules_correspondent.specs.Requests.{home_of, careof_of, deletes, registered_of}
 use Rattle.mip_rules_correspondent.specs.Verdicts.{Bench, granted_of, accepted_of, by_room, by_sequence, kbm_of, by_numbers, careof_number, by_indices, verdict}
-use Rattle.mip_verdict.specs.Soundness.{IsNonce, IsCareofNonce, IsGenuine, IsSound, IsBehind}
+use Rattle.mip_rules_correspondent.specs.Soundness.{IsNonce, IsCareofNonce, IsGenuine, IsSound, IsBehind}
 
 number_is : (x y : ℕ) → Some x ≡ Some y → x ≡ y
 number_is x y e = cc
