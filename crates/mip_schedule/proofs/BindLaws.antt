@@ -18,15 +18,15 @@ use Rattle.mip_schedule.specs.declared.reason.Reason.{Reason}
 abbrev ends : ℕ → LinkId → Address → Address → Address → Address → Ends
 ends a b x y z w = record { outsider = a; link = b; source = x; peer = y; home = z; careof = w }
 
-bind_split : (ds : List Declaration) (f1 f2 f3 f4 f5 f6 f7 f8 f9 f10 : List ℕ)
-    → bind_row ds (f1 ∷ f2 ∷ f3 ∷ f4 ∷ f5 ∷ f6 ∷ f7 ∷ f8 ∷ f9 ∷ f10 ∷ []) ≡ (bind_ends ds f1 f2 f3 f4 f5 f6 >>= (λ e. bind_numbers e f7 f8 f9 f10))
+pub bind_split : (ds : List Declaration) (c1 c2 c3 c4 c5 c6 c7 c8 c9 c10 : List ℕ)
+    → bind_row ds (c1 ∷ c2 ∷ c3 ∷ c4 ∷ c5 ∷ c6 ∷ c7 ∷ c8 ∷ c9 ∷ c10 ∷ []) ≡ (bind_ends ds c1 c2 c3 c4 c5 c6 >>= (λ e. bind_numbers e c7 c8 c9 c10))
 unfolding bind_row bind_ends bind_numbers
-bind_split ds f1 f2 f3 f4 f5 f6 f7 f8 f9 f10 = by (kinds.outsider ds f1) (kinds.link ds f2) (kinds.address f3) (kinds.address f4) (kinds.address f5) (kinds.address f6)
+bind_split ds c1 c2 c3 c4 c5 c6 c7 c8 c9 c10 = by (kinds.outsider ds c1) (kinds.link ds c2) (kinds.address c3) (kinds.address c4) (kinds.address c5) (kinds.address c6)
   where
     by : (o : Result ℕ Reason) (l : Result LinkId Reason) (s p h c : Result Address Reason)
-        → (o >>= (λ a. l >>= (λ b. s >>= (λ x. p >>= (λ y. h >>= (λ z. c >>= (λ w. u16 f7 >>= (λ q. u16 f8 >>= (λ t. u32 f9 >>= (λ k. kinds.some_packet f10 >>= (λ j. Ok (events.Bind a b x y z w q t k j))))))))))))
+        → (o >>= (λ a. l >>= (λ b. s >>= (λ x. p >>= (λ y. h >>= (λ z. c >>= (λ w. u16 c7 >>= (λ q. u16 c8 >>= (λ t. u32 c9 >>= (λ k. kinds.some_packet c10 >>= (λ j. Ok (events.Bind a b x y z w q t k j))))))))))))
         ≡ ((o >>= (λ a. l >>= (λ b. s >>= (λ x. p >>= (λ y. h >>= (λ z. c >>= (λ w. Ok (ends a b x y z w))))))))
-        >>= (λ e. u16 f7 >>= (λ q. u16 f8 >>= (λ t. u32 f9 >>= (λ k. kinds.some_packet f10 >>= (λ j. Ok (events.Bind e.outsider e.link e.source e.peer e.home e.careof q t k j)))))))
+        >>= (λ e. u16 c7 >>= (λ q. u16 c8 >>= (λ t. u32 c9 >>= (λ k. kinds.some_packet c10 >>= (λ j. Ok (events.Bind e.outsider e.link e.source e.peer e.home e.careof q t k j)))))))
     by (Err r) l s p h c = refl
     by (Ok a) (Err r) s p h c = refl
     by (Ok a) (Ok b) (Err r) p h c = refl

@@ -38,7 +38,7 @@ same xs ys test = (bytes_eq-Decides xs ys).0 test
 pub worded : (w word : List ℕ) (fields row : List (List ℕ)) → bytes_eq w word ≡ true → word ∷ fields ≡ row → w ∷ fields ≡ row
 worded w word fields row test e = ap (λ (x : List ℕ). x ∷ fields) (same w word test) ∙ e
 
-option_is : {A : Type 0} (why : Reason) (o : Option A) (a : A) → or_reason why o ≡ Ok a → o ≡ Some a
+pub option_is : {A : Type 0} (why : Reason) (o : Option A) (a : A) → or_reason why o ≡ Ok a → o ≡ Some a
 option_is why (Some x) a e = cc
 option_is why None a e = absurd cc
 

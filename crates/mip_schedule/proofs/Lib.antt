@@ -12,3 +12,7 @@ pub mod NameLaws
 pub mod StandingLaws
 pub mod WritingLaws
 pub mod LongLaws
+pub mod SizeLaws
+pub mod WithinLaws
+pub mod LawfulLaws
+pub mod WaitLaws

@@ -47,8 +47,8 @@ long_declaration ds row long = ap (λ (r : Result Declaration Reason). r >>= (λ
 
 long_run : (row : List (List ℕ)) → 11 < length row → is_run row ≡ false
 long_run [] long = refl
-long_run (f1 ∷ []) long = absurd (omega arith)
-long_run (f1 ∷ f2 ∷ more) long = refl
+long_run (c1 ∷ []) long = absurd (omega arith)
+long_run (c1 ∷ c2 ∷ more) long = refl
 
 pub long_next : (ds : List Declaration) (n : ℕ) (row : List (List ℕ)) → 11 < length row → next_of ds n row ≡ bad_form n
 unfolding next_of
@@ -109,6 +109,6 @@ long_timed ds count waits carries row long = ap (λ (r : Result Event Reason). r
 -- the head
 pub long_head : (word : List ℕ) (row : List (List ℕ)) → 11 < length row → headed word row ≡ Err reasons.Form
 long_head word [] long = refl
-long_head word (f1 ∷ []) long = refl
-long_head word (f1 ∷ f2 ∷ []) long = absurd (omega arith)
-long_head word (f1 ∷ f2 ∷ f3 ∷ more) long = refl
+long_head word (c1 ∷ []) long = refl
+long_head word (c1 ∷ c2 ∷ []) long = absurd (omega arith)
+long_head word (c1 ∷ c2 ∷ c3 ∷ more) long = refl

@@ -29,3 +29,8 @@ place_small sort field ds p e few =
     let low = position_lt (λ d. fits sort d && is_named field d) (members sort ds) p e in
     let most = members_few sort ds few in
     omega arith
+
+-- a place is one of what is numbered together with its sort
+pub place_within : (sort : Sort) (field : List ℕ) (ds : List Declaration) (p : ℕ) → place_of sort field ds ≡ Some p → p < length (members sort ds)
+unfolding place_of
+place_within sort field ds p e = position_lt (λ d. fits sort d && is_named field d) (members sort ds) p e

@@ -1,5 +1,5 @@
 -- A text that is read as a schedule is the schedule's spelling.
-use Rattle.std.proofs.Common.{◌≡◌, ℕ, ◌+◌, List, [], ◌∷◌, ◌++◌, true, refl, sym, ap, ◌∙◌, subst, append_assoc, arith}
+use Rattle.std.proofs.Common.{◌≡◌, ℕ, ◌+◌, ◌≤◌, ◌^◌, List, [], ◌∷◌, ◌++◌, true, refl, sym, ap, ◌∙◌, subst, append_assoc, arith}
 use Rattle.std.specs.Prelude.{Result, Ok, Err, codes, decimal, map}
 use Rattle.std.specs.Str.{bytes_eq}
 use Rattle.std.proofs.lemmas.Bool.{cond_both}
@@ -154,6 +154,21 @@ head-spelled rows h e =
     ∙ ap (λ (r : List (List (List ℕ))). (codes "mip" ∷ codes "1" ∷ []) ∷ r) (seed-spelled v.0.1 s.0 s.1)
     ∙ ap (λ (r : List (List (List ℕ))). (codes "mip" ∷ codes "1" ∷ []) ∷ (codes "seed" ∷ hex_of s.0.0 ∷ []) ∷ r) (start-spelled s.0.1 t.0 t.1) in
     subst (λ (x : Head). rows ≡ head_rows x.seed x.start ++ x.rows) (ok_is (record { seed = s.0.0; start = record { 0 = t.0.0 }; rows = t.0.1 }) h t.2) is
+
+-- the start is within its bound
+start_bound : (rows : List (List (List ℕ))) (out : ℕ × List (List (List ℕ))) → start_line rows ≡ Ok out → out.0 ≤ 1099511627776
+unfolding start_line
+start_bound rows out e =
+    let h = head_line-spelled (codes "start") (kinds.number 0 1099511627776) 3 rows out e in
+    (number-within 0 1099511627776 h.field out.0 h.value).1
+
+pub start_within : (rows : List (List (List ℕ))) (h : Head) → head_of rows ≡ Ok h → h.start.0 ≤ 2 ^ 40
+unfolding head_of
+start_within rows h e =
+    let v = bind_ok (version_line rows) (λ version. seed_line version.1 >>= (λ seed. start_line seed.1 >>= (λ start. Ok (record { seed = seed.0; start = record { 0 = start.0 }; rows = start.1 })))) h e in
+    let s = bind_ok (seed_line v.0.1) (λ seed. start_line seed.1 >>= (λ start. Ok (record { seed = seed.0; start = record { 0 = start.0 }; rows = start.1 }))) h v.2 in
+    let t = bind_ok (start_line s.0.1) (λ start. Ok (record { seed = s.0.0; start = record { 0 = start.0 }; rows = start.1 })) h s.2 in
+    subst (λ (x : Head). x.start.0 ≤ 2 ^ 40) (ok_is (record { seed = s.0.0; start = record { 0 = t.0.0 }; rows = t.0.1 }) h t.2) (start_bound s.0.1 t.0 t.1)
 
 -- a text that is read as a schedule has the schedule's rows
 rows-spelled : (text : List ℕ) (s : Content) → reading text ≡ Ok s → rows_of text ≡ schedule_rows s ++ end_row ∷ []

@@ -15,3 +15,4 @@ pub mod Spelling
 pub mod Groups
 pub mod Accepted
 pub mod Schedules
+pub mod Lawful

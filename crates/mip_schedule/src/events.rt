@@ -30,7 +30,7 @@ impl Events {
         }
     }
 
-    /// Appends a event.
+    /// Appends an event.
     pub fn push(&mut self, event: Event) -> Result<(), Memory>
         ensures ok { OnOk result (self.new ≡ self.old ++ event ∷ []) }
         ensures err { OnErr result (self.new ≡ self.old) }

@@ -35,7 +35,7 @@ pub use declarations::Declarations;
 pub use event::Event;
 pub use events::Events;
 pub use fault::ScheduleFault;
-pub use laws::{few, names_found, spelling_read};
+pub use laws::{few, lawful, names_found, spelling_read, waits_are_short};
 pub use name::Name;
 pub use places::{Sort, place_of};
 pub use reason::Reason;

@@ -1,4 +1,4 @@
-ghost use Rattle.std.specs.Prelude.{◌≡◌, true};
+ghost use Rattle.std.specs.Prelude.{◌≡◌, ◌+◌, ◌<◌, ◌^◌, length, true};
 ghost use Rattle.std.specs.Coded.{Coded-set};
 ghost use Rattle.mip_schedule.specs.Accepted.{again, is_accepted};
 ghost use Rattle.mip_schedule.specs.Contents.{holding};
@@ -8,7 +8,7 @@ use crate::events::Events;
 use mip_words::Moment;
 
 /// A schedule: the seed of all secrets, the moment of the start, who there is, and what happens. What it
-/// holds can be written, and is read again from what is written.
+/// holds can be written, and is read again from what is written. The numbers of its lines are of 32 bits.
 #[derive(Drop)]
 pub struct Schedule {
     pub seed: [u8; 32],
@@ -20,4 +20,5 @@ pub struct Schedule {
     pub ghost same_start: { (again (holding seed start declarations events)).start ≡ start } by { Coded-set start-code _ _ },
     pub ghost same_declarations: { (again (holding seed start declarations events)).declarations ≡ declarations } by { Coded-set declarations-code _ _ },
     pub ghost same_events: { (again (holding seed start declarations events)).events ≡ events } by { Coded-set events-code _ _ },
+    pub ghost few_lines: { length declarations + length events + 5 < 2 ^ 32 },
 }

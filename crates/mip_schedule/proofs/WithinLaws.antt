@@ -1,0 +1,278 @@
+-- An event that is read names what is declared and routable addresses, and its numbers and bytes stay within their
+-- bounds.
+use Rattle.std.proofs.Common.{◌≡◌, ℕ, ◌<◌, ◌≤◌, List, [], ◌∷◌, length, sym, ◌∙◌, subst}
+use Rattle.std.specs.Prelude.{Option, Some, None, Result, Ok, codes, ⊤}
+use Rattle.std.specs.Str.{bytes_eq}
+use Rattle.std.proofs.lemmas.Bool.{cond_both}
+use Rattle.mip_words.specs.Addresses.{is_routable}
+use Rattle.mip_words.specs.Steps.{◌>>=◌}
+use Rattle.mip_words.specs.declared.address.Address.{Address}
+use Rattle.mip_words.specs.declared.ids.LinkId.{LinkId}
+use Rattle.mip_words.specs.declared.ids.NodeId.{NodeId}
+use Rattle.mip_words.proofs.StepLaws.{bind_ok, ok_is}
+use Rattle.mip_lines.specs.HexFields.{address_in}
+use Rattle.mip_lines.specs.Rows.{row1, row2, row3, row4, row6}
+use Rattle.mip_lines.proofs.HexFieldLaws.{hex_field-spelled}
+use Rattle.mip_schedule.specs.BindParts.{bind_ends, bind_numbers}
+use Rattle.mip_schedule.specs.EventRows.{wait_row, move_row, advertise_row, data_row, inject_row, probe_row, bind_row, tell_row, listen_row, deaf_row, squat_row, yield_row, carry_row, restart_row, refresh_row, plan_row, ask_row, show_row, settle_row, node_fields, packet_fields, outsider_fields, event_fields}
+use Rattle.mip_schedule.specs.Kinds as kinds
+use Rattle.mip_schedule.specs.Kinds.{to_host, address, bytes, place, link, node, outsider, some_link}
+use Rattle.mip_schedule.specs.Lawful.{IsLink, IsNode, IsOutsider, IsLinkIfAny, IsHost, IsWithin}
+use Rattle.mip_schedule.specs.Places.{members}
+use Rattle.mip_schedule.specs.Spelling.{event_text}
+use Rattle.mip_schedule.specs.declared.declaration.Declaration.{Declaration}
+use Rattle.mip_schedule.specs.declared.ends.Ends.{Ends}
+use Rattle.mip_schedule.specs.declared.event.Event.{Event}
+use Rattle.mip_schedule.specs.declared.event.Event.TheVariants as events
+use Rattle.mip_schedule.specs.declared.places.Sort.{Sort}
+use Rattle.mip_schedule.specs.declared.places.Sort.TheVariants as sorts
+use Rattle.mip_schedule.specs.declared.reason.Reason.{Reason}
+use Rattle.mip_schedule.specs.declared.reason.Reason.TheVariants as reasons
+use Rattle.mip_schedule.proofs.BindLaws.{bind_split}
+use Rattle.mip_schedule.proofs.KindLaws.{number-within, option_is}
+use Rattle.mip_schedule.proofs.PlaceLaws.{place_within}
+
+-- what a reading of a field accepts keeps to Q
+abbrev Keeps : {A : Type 0} → (List ℕ → Result A Reason) → (A → Type 0) → Type 0
+Keeps {A} read Q = (f : List ℕ) (a : A) → read f ≡ Ok a → Q a
+
+-- kinds of field
+any-keeps : {A : Type 0} (read : List ℕ → Result A Reason) → Keeps read (λ a. ⊤)
+any-keeps read f a e = tt
+
+most-keeps : (low high : ℕ) → Keeps (kinds.number low high) (λ n. n ≤ high)
+most-keeps low high f n e = (number-within low high f n e).1
+
+routable : (o : Option Address) (a : Address) → to_host o ≡ Ok a → IsHost a
+routable None a = λ e. absurd cc
+routable (Some b) a =
+    cond_both (is_routable b.0) _ _ (λ (r : Result Address Reason). r ≡ Ok a → IsHost a)
+    (λ test e. subst IsHost (ok_is b a e) test)
+    (λ _ e. absurd cc)
+
+address-keeps : Keeps kinds.address IsHost
+unfolding address
+address-keeps f a e = routable (address_in f) a e
+
+bytes-keeps : (most : ℕ) → Keeps (kinds.bytes most) (λ b. length b ≤ most)
+unfolding bytes
+bytes-keeps most f b e = (hex_field-spelled most f b (option_is _ _ _ e)).size
+
+place-keeps : (sort : Sort) (ds : List Declaration) → Keeps (kinds.place sort ds) (λ p. p < length (members sort ds))
+unfolding place
+place-keeps sort ds f p e = place_within sort f ds p (option_is _ _ _ e)
+
+link-keeps : (ds : List Declaration) → Keeps (kinds.link ds) (IsLink ds)
+unfolding link
+link-keeps ds f l e =
+    let x = bind_ok (kinds.place sorts.Link ds f) (λ p. Ok (record { 0 = p })) l e in
+    subst (IsLink ds) (ok_is _ l x.2) (place-keeps sorts.Link ds f x.0 x.1)
+
+sort-keeps : (sort : Sort) (ds : List Declaration) → Keeps (kinds.node sort ds) (λ n. n.0 < length (members sort ds))
+unfolding node
+sort-keeps sort ds f n e =
+    let x = bind_ok (kinds.place sort ds f) (λ p. Ok (record { 0 = p })) n e in
+    subst (λ (m : NodeId). m.0 < length (members sort ds)) (ok_is _ n x.2) (place-keeps sort ds f x.0 x.1)
+
+node-keeps : (ds : List Declaration) → Keeps (kinds.node sorts.Node ds) (IsNode ds)
+node-keeps ds = sort-keeps sorts.Node ds
+
+agent-keeps : (ds : List Declaration) → Keeps (kinds.node sorts.Agent ds) (IsNode ds)
+unfolding members
+agent-keeps ds = sort-keeps sorts.Agent ds
+
+mobile-keeps : (ds : List Declaration) → Keeps (kinds.node sorts.Mobile ds) (IsNode ds)
+unfolding members
+mobile-keeps ds = sort-keeps sorts.Mobile ds
+
+sender-keeps : (ds : List Declaration) → Keeps (kinds.node sorts.Host ds) (IsNode ds)
+unfolding members
+sender-keeps ds = sort-keeps sorts.Host ds
+
+outsider-keeps : (ds : List Declaration) → Keeps (kinds.outsider ds) (IsOutsider ds)
+unfolding outsider
+outsider-keeps ds = place-keeps sorts.Outsider ds
+
+some_link-keeps : (ds : List Declaration) → Keeps (kinds.some_link ds) (IsLinkIfAny ds)
+unfolding some_link
+some_link-keeps ds f o =
+    cond_both (bytes_eq f (codes "-")) _ _ (λ (r : Result (Option LinkId) Reason). r ≡ Ok o → IsLinkIfAny ds o)
+    (λ _ e. subst (IsLinkIfAny ds) (ok_is None o e) tt)
+    (λ _ e.
+    let x = bind_ok (kinds.link ds f) (λ y. Ok (Some y)) o e in
+    subst (IsLinkIfAny ds) (ok_is (Some x.0) o x.2) (link-keeps ds f x.0 x.1))
+
+-- a first field that was read
+kept : {A X : Type 0} {r : List ℕ → Result A Reason} {Q : A → Type 0} → Keeps r Q → (f : List ℕ) (k : A → Result X Reason) (x : X) (P : Type 0)
+    → (r f >>= k) ≡ Ok x → ((a : A) → Q a → k a ≡ Ok x → P) → P
+kept {r = r} s f k x P is more = let p = bind_ok (r f) k x is in more p.0 (s f p.0 p.1) p.2
+
+-- rows of fields
+row1-keeps : {A1 X : Type 0} (e : Reason) (P : X → Type 0) {k1 : List ℕ → Result A1 Reason} {Q1 : A1 → Type 0} {to : A1 → X}
+    → Keeps k1 Q1
+    → ((a1 : A1) → Q1 a1 → P (to a1))
+    → (c1 : List ℕ) (x : X) → row1 e k1 to (c1 ∷ []) ≡ Ok x → P x
+row1-keeps e P {to = to} s1 whole c1 x is =
+    kept s1 c1 (λ a1. Ok (to a1)) x (P x) is (λ a1 q1 is1.
+    subst P (ok_is (to a1) x is1) (whole a1 q1))
+
+row2-keeps : {A1 A2 X : Type 0} (e : Reason) (P : X → Type 0)
+    {k1 : List ℕ → Result A1 Reason} {Q1 : A1 → Type 0} {k2 : List ℕ → Result A2 Reason} {Q2 : A2 → Type 0} {to : A1 → A2 → X}
+    → Keeps k1 Q1 → Keeps k2 Q2
+    → ((a1 : A1) (a2 : A2) → Q1 a1 → Q2 a2 → P (to a1 a2))
+    → (c1 c2 : List ℕ) (x : X) → row2 e k1 k2 to (c1 ∷ c2 ∷ []) ≡ Ok x → P x
+row2-keeps e P {k2 = k2} {to = to} s1 s2 whole c1 c2 x is =
+    kept s1 c1 (λ a1. k2 c2 >>= (λ a2. Ok (to a1 a2))) x (P x) is (λ a1 q1 is1.
+    kept s2 c2 (λ a2. Ok (to a1 a2)) x (P x) is1 (λ a2 q2 is2.
+    subst P (ok_is (to a1 a2) x is2) (whole a1 a2 q1 q2)))
+
+row3-keeps : {A1 A2 A3 X : Type 0} (e : Reason) (P : X → Type 0)
+    {k1 : List ℕ → Result A1 Reason} {Q1 : A1 → Type 0} {k2 : List ℕ → Result A2 Reason} {Q2 : A2 → Type 0} {k3 : List ℕ → Result A3 Reason} {Q3 : A3 → Type 0}
+    {to : A1 → A2 → A3 → X}
+    → Keeps k1 Q1 → Keeps k2 Q2 → Keeps k3 Q3
+    → ((a1 : A1) (a2 : A2) (a3 : A3) → Q1 a1 → Q2 a2 → Q3 a3 → P (to a1 a2 a3))
+    → (c1 c2 c3 : List ℕ) (x : X) → row3 e k1 k2 k3 to (c1 ∷ c2 ∷ c3 ∷ []) ≡ Ok x → P x
+row3-keeps e P {k2 = k2} {k3 = k3} {to = to} s1 s2 s3 whole c1 c2 c3 x is =
+    kept s1 c1 (λ a1. k2 c2 >>= (λ a2. k3 c3 >>= (λ a3. Ok (to a1 a2 a3)))) x (P x) is (λ a1 q1 is1.
+    row2-keeps e P s2 s3 (λ a2 a3 q2 q3. whole a1 a2 a3 q1 q2 q3) c2 c3 x is1)
+
+row4-keeps : {A1 A2 A3 A4 X : Type 0} (e : Reason) (P : X → Type 0)
+    {k1 : List ℕ → Result A1 Reason} {Q1 : A1 → Type 0} {k2 : List ℕ → Result A2 Reason} {Q2 : A2 → Type 0}
+    {k3 : List ℕ → Result A3 Reason} {Q3 : A3 → Type 0} {k4 : List ℕ → Result A4 Reason} {Q4 : A4 → Type 0}
+    {to : A1 → A2 → A3 → A4 → X}
+    → Keeps k1 Q1 → Keeps k2 Q2 → Keeps k3 Q3 → Keeps k4 Q4
+    → ((a1 : A1) (a2 : A2) (a3 : A3) (a4 : A4) → Q1 a1 → Q2 a2 → Q3 a3 → Q4 a4 → P (to a1 a2 a3 a4))
+    → (c1 c2 c3 c4 : List ℕ) (x : X) → row4 e k1 k2 k3 k4 to (c1 ∷ c2 ∷ c3 ∷ c4 ∷ []) ≡ Ok x → P x
+row4-keeps e P {k2 = k2} {k3 = k3} {k4 = k4} {to = to} s1 s2 s3 s4 whole c1 c2 c3 c4 x is =
+    kept s1 c1 (λ a1. k2 c2 >>= (λ a2. k3 c3 >>= (λ a3. k4 c4 >>= (λ a4. Ok (to a1 a2 a3 a4))))) x (P x) is (λ a1 q1 is1.
+    row3-keeps e P s2 s3 s4 (λ a2 a3 a4 q2 q3 q4. whole a1 a2 a3 a4 q1 q2 q3 q4) c2 c3 c4 x is1)
+
+row6-keeps : {A1 A2 A3 A4 A5 A6 X : Type 0} (e : Reason) (P : X → Type 0)
+    {k1 : List ℕ → Result A1 Reason} {Q1 : A1 → Type 0} {k2 : List ℕ → Result A2 Reason} {Q2 : A2 → Type 0}
+    {k3 : List ℕ → Result A3 Reason} {Q3 : A3 → Type 0} {k4 : List ℕ → Result A4 Reason} {Q4 : A4 → Type 0}
+    {k5 : List ℕ → Result A5 Reason} {Q5 : A5 → Type 0} {k6 : List ℕ → Result A6 Reason} {Q6 : A6 → Type 0}
+    {to : A1 → A2 → A3 → A4 → A5 → A6 → X}
+    → Keeps k1 Q1 → Keeps k2 Q2 → Keeps k3 Q3 → Keeps k4 Q4 → Keeps k5 Q5 → Keeps k6 Q6
+    → ((a1 : A1) (a2 : A2) (a3 : A3) (a4 : A4) (a5 : A5) (a6 : A6) → Q1 a1 → Q2 a2 → Q3 a3 → Q4 a4 → Q5 a5 → Q6 a6 → P (to a1 a2 a3 a4 a5 a6))
+    → (c1 c2 c3 c4 c5 c6 : List ℕ) (x : X) → row6 e k1 k2 k3 k4 k5 k6 to (c1 ∷ c2 ∷ c3 ∷ c4 ∷ c5 ∷ c6 ∷ []) ≡ Ok x → P x
+row6-keeps e P {k2 = k2} {k3 = k3} {k4 = k4} {k5 = k5} {k6 = k6} {to = to} s1 s2 s3 s4 s5 s6 whole c1 c2 c3 c4 c5 c6 x is =
+    kept s1 c1 (λ a1. k2 c2 >>= (λ a2. k3 c3 >>= (λ a3. k4 c4 >>= (λ a4. k5 c5 >>= (λ a5. k6 c6 >>= (λ a6. Ok (to a1 a2 a3 a4 a5 a6))))))) x (P x) is (λ a1 q1 is1.
+    kept s2 c2 (λ a2. k3 c3 >>= (λ a3. k4 c4 >>= (λ a4. k5 c5 >>= (λ a5. k6 c6 >>= (λ a6. Ok (to a1 a2 a3 a4 a5 a6)))))) x (P x) is1 (λ a2 q2 is2.
+    row4-keeps e P s3 s4 s5 s6 (λ a3 a4 a5 a6 q3 q4 q5 q6. whole a1 a2 a3 a4 a5 a6 q1 q2 q3 q4 q5 q6) c3 c4 c5 c6 x is2))
+
+-- lines of events
+abbrev Within : List Declaration → List (List ℕ) → (List (List ℕ) → Result Event Reason) → Type 0
+Within ds fields row = (x : Event) → row fields ≡ Ok x → IsWithin ds x
+
+-- who posts an update where, and its addresses
+abbrev AreEnds : List Declaration → Ends → Type 0
+AreEnds ds e = IsOutsider ds e.outsider × IsLink ds e.link × IsHost e.source × IsHost e.peer × IsHost e.home × IsHost e.careof
+
+module _ (ds : List Declaration) where
+  wait-within : (f : List ℕ) → Within ds (f ∷ []) (wait_row ds)
+  unfolding wait_row
+  wait-within = row1-keeps reasons.Form (IsWithin ds) (most-keeps 1 600000) (λ a q. q)
+
+  move-within : (f g : List ℕ) → Within ds (f ∷ g ∷ []) (move_row ds)
+  unfolding move_row
+  move-within = row2-keeps reasons.Form (IsWithin ds) (mobile-keeps ds) (some_link-keeps ds) (λ a b p q. (p, q))
+
+  advertise-within : (f : List ℕ) → Within ds (f ∷ []) (advertise_row ds)
+  unfolding advertise_row
+  advertise-within = row1-keeps reasons.Form (IsWithin ds) (link-keeps ds) (λ a q. q)
+
+  data-within : (f g h i : List ℕ) → Within ds (f ∷ g ∷ h ∷ i ∷ []) (data_row ds)
+  unfolding data_row
+  data-within = row4-keeps reasons.Form (IsWithin ds) (sender-keeps ds) address-keeps (any-keeps (kinds.number 0 255)) (bytes-keeps 512) (λ a b c d p q r s. (p, q, s))
+
+  inject-within : (f g h : List ℕ) → Within ds (f ∷ g ∷ h ∷ []) (inject_row ds)
+  unfolding inject_row
+  inject-within = row3-keeps reasons.Form (IsWithin ds) (outsider-keeps ds) (link-keeps ds) (bytes-keeps 2048) (λ a b c p q r. (p, q, r))
+
+  probe-within : (f g h i j k : List ℕ) → Within ds (f ∷ g ∷ h ∷ i ∷ j ∷ k ∷ []) (probe_row ds)
+  unfolding probe_row
+  probe-within = row6-keeps reasons.Form (IsWithin ds) (outsider-keeps ds) (link-keeps ds) (any-keeps kinds.careof) address-keeps address-keeps (any-keeps kinds.cookie) (λ a b c d e f p q r s t u. (p, q, s, t))
+
+  bind-within : (c1 c2 c3 c4 c5 c6 c7 c8 c9 c10 : List ℕ) → Within ds (c1 ∷ c2 ∷ c3 ∷ c4 ∷ c5 ∷ c6 ∷ c7 ∷ c8 ∷ c9 ∷ c10 ∷ []) (bind_row ds)
+  unfolding bind_ends bind_numbers
+  bind-within c1 c2 c3 c4 c5 c6 c7 c8 c9 c10 x e =
+      let p = bind_ok (bind_ends ds c1 c2 c3 c4 c5 c6) (λ n. bind_numbers n c7 c8 c9 c10) x (sym (bind_split ds c1 c2 c3 c4 c5 c6 c7 c8 c9 c10) ∙ e) in
+      let are : AreEnds ds p.0 =
+      row6-keeps reasons.Form (AreEnds ds) {to = λ a b s t h c. record { outsider = a; link = b; source = s; peer = t; home = h; careof = c }}
+      (outsider-keeps ds) (link-keeps ds) address-keeps address-keeps address-keeps address-keeps (λ a b s t h c q1 q2 q3 q4 q5 q6. (q1, q2, q3, q4, q5, q6)) c1 c2 c3 c4 c5 c6 p.0 p.1 in
+      row4-keeps reasons.Form (IsWithin ds) {to = λ q t k j. events.Bind p.0.outsider p.0.link p.0.source p.0.peer p.0.home p.0.careof q t k j}
+      (any-keeps (kinds.number 0 65535)) (any-keeps (kinds.number 0 65535)) (any-keeps (kinds.number 0 4294967295)) (any-keeps kinds.some_packet) (λ q t k j _ _ _ _. are) c7 c8 c9 c10 x p.2
+
+  tell-within : (f g h i : List ℕ) → Within ds (f ∷ g ∷ h ∷ i ∷ []) (tell_row ds)
+  unfolding tell_row
+  tell-within = row4-keeps reasons.Form (IsWithin ds) (outsider-keeps ds) (link-keeps ds) (any-keeps (kinds.number 0 4294967295)) (any-keeps (kinds.number 0 4294967295)) (λ a b c d p q r s. (p, q))
+
+  listen-within : (f g : List ℕ) → Within ds (f ∷ g ∷ []) (listen_row ds)
+  unfolding listen_row
+  listen-within = row2-keeps reasons.Form (IsWithin ds) (outsider-keeps ds) (link-keeps ds) (λ a b p q. (p, q))
+
+  deaf-within : (f g : List ℕ) → Within ds (f ∷ g ∷ []) (deaf_row ds)
+  unfolding deaf_row
+  deaf-within = row2-keeps reasons.Form (IsWithin ds) (outsider-keeps ds) (link-keeps ds) (λ a b p q. (p, q))
+
+  squat-within : (f g : List ℕ) → Within ds (f ∷ g ∷ []) (squat_row ds)
+  unfolding squat_row
+  squat-within = row2-keeps reasons.Form (IsWithin ds) (outsider-keeps ds) address-keeps (λ a b p q. (p, q))
+
+  yield-within : (f g : List ℕ) → Within ds (f ∷ g ∷ []) (yield_row ds)
+  unfolding yield_row
+  yield-within = row2-keeps reasons.Form (IsWithin ds) (outsider-keeps ds) address-keeps (λ a b p q. (p, q))
+
+  carry-within : (f : List ℕ) → Within ds (f ∷ []) (carry_row ds)
+  unfolding carry_row
+  carry-within = row1-keeps reasons.Form (IsWithin ds) (most-keeps 1 1000) (λ a q. q)
+
+  restart-within : (f : List ℕ) → Within ds (f ∷ []) (restart_row ds)
+  unfolding restart_row
+  restart-within = row1-keeps reasons.Form (IsWithin ds) (node-keeps ds) (λ a q. q)
+
+  refresh-within : (f g : List ℕ) → Within ds (f ∷ g ∷ []) (refresh_row ds)
+  unfolding refresh_row
+  refresh-within = row2-keeps reasons.Form (IsWithin ds) (sender-keeps ds) address-keeps (λ a b p q. (p, q))
+
+  plan-within : (f g h : List ℕ) → Within ds (f ∷ g ∷ h ∷ []) (plan_row ds)
+  unfolding plan_row
+  plan-within = row3-keeps reasons.Form (IsWithin ds) (agent-keeps ds) (any-keeps (kinds.number 0 4294967295)) (any-keeps (kinds.number 0 4294967295)) (λ a b c p q r. p)
+
+  ask-within : (f : List ℕ) → Within ds (f ∷ []) (ask_row ds)
+  unfolding ask_row
+  ask-within = row1-keeps reasons.Form (IsWithin ds) (mobile-keeps ds) (λ a q. q)
+
+  show-within : (f : List ℕ) → Within ds (f ∷ []) (show_row ds)
+  unfolding show_row
+  show-within = row1-keeps reasons.Form (IsWithin ds) (node-keeps ds) (λ a q. q)
+
+  settle-within : (f g : List ℕ) → Within ds (f ∷ g ∷ []) (settle_row ds)
+  unfolding settle_row
+  settle-within = row2-keeps reasons.Form (IsWithin ds) (sender-keeps ds) (sender-keeps ds) (λ a b p q. (p, q))
+
+-- an event whose line is read is within its bounds
+pub event-within : (ds : List Declaration) (x : Event) → event_fields ds (event_text ds x) ≡ Ok x → IsWithin ds x
+unfolding event_fields outsider_fields packet_fields node_fields
+event-within ds (events.Wait a) e = wait-within ds _ _ e
+event-within ds (events.Move a b) e = move-within ds _ _ _ e
+event-within ds (events.Advertise a) e = advertise-within ds _ _ e
+event-within ds (events.Payload a b c d) e = data-within ds _ _ _ _ _ e
+event-within ds (events.Inject a b c) e = inject-within ds _ _ _ _ e
+event-within ds (events.Probe a b c d x f) e = probe-within ds _ _ _ _ _ _ _ e
+event-within ds (events.Bind a b c d x f g h i j) e = bind-within ds _ _ _ _ _ _ _ _ _ _ _ e
+event-within ds (events.Tell a b c d) e = tell-within ds _ _ _ _ _ e
+event-within ds (events.Listen a b) e = listen-within ds _ _ _ e
+event-within ds (events.Deaf a b) e = deaf-within ds _ _ _ e
+event-within ds (events.Squat a b) e = squat-within ds _ _ _ e
+event-within ds (events.Yield a b) e = yield-within ds _ _ _ e
+event-within ds (events.Deliver a) e = tt
+event-within ds (events.Repeat a) e = tt
+event-within ds (events.Lose a) e = tt
+event-within ds (events.Carry a) e = carry-within ds _ _ e
+event-within ds (events.Restart a) e = restart-within ds _ _ e
+event-within ds (events.Refresh a b) e = refresh-within ds _ _ _ e
+event-within ds (events.Plan a b c) e = plan-within ds _ _ _ _ e
+event-within ds (events.Ask a) e = ask-within ds _ _ e
+event-within ds (events.Show a) e = show-within ds _ _ e
+event-within ds (events.Settle a b) e = settle-within ds _ _ _ e
