@@ -22,7 +22,7 @@ use Rattle.mip_history.proofs.Runs.{Meets}
 use Rattle.mip_history.proofs.Places.{is_numbered_for, IsPlaced, placed}
 
 -- the later items meet what they should, too
-each_rest : {X : Type 0} (P : List X → X → Type 0) (front xs ys : List X) → EachAfter P front (xs ++ ys) → EachAfter P (front ++ xs) ys
+pub each_rest : {X : Type 0} (P : List X → X → Type 0) (front xs ys : List X) → EachAfter P front (xs ++ ys) → EachAfter P (front ++ xs) ys
 each_rest {X = X} P front [] ys each = subst (λ (f : List X). EachAfter P f ys) (sym (append-nil front)) each
 each_rest {X = X} P front (x ∷ xs) ys each = subst (λ (f : List X). EachAfter P f ys) (append_assoc front (x ∷ []) xs) (each_rest P (front ++ x ∷ []) xs ys each.1)
 

@@ -19,10 +19,12 @@ use Rattle.mip_rules_correspondent.specs.declared.request.Request.{Request}
 use Rattle.mip_rules_correspondent.specs.Steps.{Step, is_acceptance}
 use Rattle.mip_rules_correspondent.specs.Turns.{Turn}
 use Rattle.mip_rules_correspondent.specs.Requests.{request_in, home_of}
+use Rattle.mip_rules_correspondent.specs.declared.verdict.Verdict.TheVariants.{Accept}
 use Rattle.mip_rules_correspondent.specs.Verdicts.{Bench, verdict}
 use Rattle.mip_rules_correspondent.specs.Rules.{bench}
 use Rattle.mip_rules_correspondent.specs.Calls.{taken}
 use Rattle.mip_rules_correspondent.proofs.Acceptances.{floor-answers, full-answers}
+use Rattle.mip_rules_correspondent.proofs.VerdictLaws.{sound}
 use Rattle.mip_links.specs.Table.{Post}
 use Rattle.mip_history.specs.Setup.{Setup, Host}
 use Rattle.mip_history.specs.Runs.{Run, note}
@@ -47,16 +49,24 @@ record ReadsAs (bytes : List ℕ) (q : Packet) : Type 0 where
   read : packet_of bytes ≡ Ok packet
   source : q.head.source ≡ packet.head.source
   home : q.head.home ≡ packet.head.home
+  proto : q.head.proto ≡ packet.head.proto
   body : q.body ≡ packet.body
 
 reads_as : (bytes : List ℕ) (link : Option ℕ) (q : Packet) → packet_of (handed_over bytes link) ≡ Ok q → ReadsAs bytes q
-reads_as bytes None q read = record { packet = q; read = read; source = refl; home = refl; body = refl }
+reads_as bytes None q read = record { packet = q; read = read; source = refl; home = refl; proto = refl; body = refl }
 reads_as bytes (Some link) q read = by (packet_of bytes) refl (sym (packet_of_lowered bytes) ∙ read)
   where
     by : (r : Result Packet NotPacket) → packet_of bytes ≡ r → lowered_if_read r ≡ Ok q → ReadsAs bytes q
     by (Ok p) is e =
         let same : q ≡ lowered_packet p = cc in
-        record { packet = p; read = is; source = ap (λ (x : Packet). x.head.source) same; home = ap (λ (x : Packet). x.head.home) same; body = ap (λ (x : Packet). x.body) same }
+        record {
+          packet = p;
+          read = is;
+          source = ap (λ (x : Packet). x.head.source) same;
+          home = ap (λ (x : Packet). x.head.home) same;
+          proto = ap (λ (x : Packet). x.head.proto) same;
+          body = ap (λ (x : Packet). x.body) same;
+        }
     by (Err fault) is e = absurd cc
 
 bench_same : (own : Address) (secrets : Life) (now : ℕ) {a b : Option ℕ} {x y : Bool} → a ≡ b → x ≡ y
@@ -99,7 +109,12 @@ module _ (s : Setup) (k n : ℕ) (post : Post) (link : Option ℕ) (before : Run
 
   -- an update that is accepted stands behind its packet
   stands : (u : IsUpdateTaken me (known_in run n host) (now_in s run) k post.shield (handed_over post.packet link) steps) → IsAccepted s run.past n k u.home u.accepted
-  stands u = let as_posted = reads_as post.packet link u.packet u.read in
+  stands u =
+      let as_posted = reads_as post.packet link u.packet u.read in
+      let accepts : verdict (judge_in s run.past n host u.home.0) u.request as_posted.packet.body ≡ Accept u.home u.accepted u.granted u.kbm =
+      ap (λ (b : Bench). verdict b u.request as_posted.packet.body) (sym (same_judge u.request u.home (accepted_home _ u.request u.packet.body u.home u.accepted u.granted u.kbm u.verdict_is)))
+      ∙ ap (λ (l : List ℕ). verdict (bench me (known_in run n host) (now_in s run) u.request) u.request l) (sym as_posted.body)
+      ∙ u.verdict_is in
       record {
         host = host;
         is_host = host_is;
@@ -109,14 +124,13 @@ module _ (s : Setup) (k n : ℕ) (post : Post) (link : Option ℕ) (before : Run
         posted = told;
         packet = as_posted.packet;
         read = as_posted.read;
+        mobility = sym as_posted.proto ∙ u.mobility;
         request = u.request;
         asks = same as_posted.source as_posted.home as_posted.body ∙ u.asks;
         granted = u.granted;
         kbm = u.kbm;
-        verdict_is =
-            ap (λ (b : Bench). verdict b u.request as_posted.packet.body) (sym (same_judge u.request u.home (accepted_home _ u.request u.packet.body u.home u.accepted u.granted u.kbm u.verdict_is)))
-            ∙ ap (λ (l : List ℕ). verdict (bench me (known_in run n host) (now_in s run) u.request) u.request l) (sym as_posted.body)
-            ∙ u.verdict_is;
+        verdict_is = accepts;
+        sound = sound (judge_in s run.past n host u.home.0) u.request as_posted.packet.body u.home u.accepted u.granted u.kbm accepts;
       }
     where
       same : {a b : Address} {x y : Option Address} {l m : List ℕ} → b ≡ a → y ≡ x → m ≡ l → request_in a x l ≡ request_in b y m

@@ -30,7 +30,7 @@ use Rattle.mip_history.proofs.Numbered.{packet_numbered}
 use Rattle.mip_history.proofs.Events.{run_passes}
 use Rattle.mip_history.proofs.Bindings.{held_is_bound}
 
-permitted_each : (c : Content) → EachAfter (Meets (setup_of c)) [] (permitted c)
+pub permitted_each : (c : Content) → EachAfter (Meets (setup_of c)) [] (permitted c)
 unfolding permitted
 permitted_each c = (run_passes (setup_of c) c.events).run.kept.each
 

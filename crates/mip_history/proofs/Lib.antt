@@ -11,3 +11,8 @@ mod Places
 mod LastOnes
 mod Bindings
 mod Histories
+mod Rounds
+mod Moments
+mod Kept
+mod SameUpdates
+mod Repeats

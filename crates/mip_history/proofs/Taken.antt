@@ -3,6 +3,7 @@
 use Rattle.std.proofs.Common.{◌≡◌, ℕ, List, [], ◌∷◌, Bool, true, false, ◌⊎◌, inl, inr, refl, ap}
 use Rattle.std.specs.Prelude.{Option, Some, None, Result, Ok, Err, not, ◌==◌, ◌||◌, ◌&&◌, if◌then◌else◌, is_some}
 use Rattle.std.specs.List.{list_any}
+use Rattle.std.proofs.lemmas.Bool.{cond_both, eqb-true}
 use Rattle.mip_words.specs.Steps.{◌>>=◌}
 use Rattle.mip_words.specs.Sequence.{is_after}
 use Rattle.mip_words.specs.Addresses.{is_routable}
@@ -10,7 +11,7 @@ use Rattle.mip_words.specs.declared.address.Address.{Address}
 use Rattle.mip_words.specs.declared.shield.Shield.{Shield}
 use Rattle.mip_words.specs.declared.why.Why.{Why}
 use Rattle.mip_ipv6.specs.declared.not_packet.NotPacket.{NotPacket}
-use Rattle.mip_ipv6.specs.Packet.{Packet}
+use Rattle.mip_ipv6.specs.Packet.{Packet, source_of, destination_of}
 use Rattle.mip_ipv6.specs.Reading.{packet_of}
 use Rattle.mip_options.specs.Values.{Values}
 use Rattle.mip_options.specs.declared.indices.Indices.{Indices}
@@ -22,7 +23,6 @@ use Rattle.mip_nonce.specs.Window.{number_named}
 use Rattle.mip_tokens.specs.Token.{is_authentic}
 use Rattle.mip_tokens.specs.declared.kbm.Kbm.{Kbm}
 use Rattle.mip_bcache.specs.declared.accepted.Accepted.{Accepted}
-use Rattle.mip_says.specs.Says.{source_of, destination_of}
 use Rattle.mip_reception.specs.declared.refusal.Refusal.{Refusal}
 use Rattle.mip_reception.specs.declared.standing.Standing.{Standing}
 use Rattle.mip_reception.specs.Checks.{message_or_refusal, message_at, then_home, is_probe, is_update, checked}
@@ -127,10 +127,17 @@ message_read place p m = either (Ok (Some m)) (p.head.proto == 135) _ _ (by (mes
     by (Ok message) e = cc
     by (Err fault) e = absurd cc
 
+-- only a packet with a mobility header has a message
+message_proto : (place : ℕ) (p : Packet) (m : Said) → message_at place p ≡ Ok (Some m) → p.head.proto ≡ 135
+unfolding message_at
+message_proto place p m =
+    cond_both (p.head.proto == 135) _ _ (λ (r : Result (Option Said) Refusal). r ≡ Ok (Some m) → p.head.proto ≡ 135) (λ is e. eqb-true p.head.proto 135 is) (λ other e. absurd cc)
+
 -- the update in the packet is accepted at once, with this verdict
 pub record IsUpdateTaken (me : Identity) (k : Known) (now number : ℕ) (shield : Option Shield) (bytes : List ℕ) (steps : List Step) : Type 0 where
   pub packet : Packet
   pub read : packet_of bytes ≡ Ok packet
+  pub mobility : packet.head.proto ≡ 135
   pub request : Request
   pub asks : request_in packet.head.source packet.head.home packet.body ≡ Some request
   pub home : Address
@@ -149,12 +156,12 @@ module _ (me : Identity) (k : Known) (now number : ℕ) (shield : Option Shield)
   abbrev given : Turn
   given = noted (Given number shield bytes) (begun now k)
 
-  of_verdict : (p : Packet) (r : Request) → packet_of bytes ≡ Ok p → request_in p.head.source p.head.home p.body ≡ Some r
+  of_verdict : (p : Packet) (r : Request) → packet_of bytes ≡ Ok p → p.head.proto ≡ 135 → request_in p.head.source p.head.home p.body ≡ Some r
       → (v : Verdict) → verdict (bench me k now r) r p.body ≡ v → Is (judged me number r v given)
   unfolding noted denies accepts
-  of_verdict p r read asks (Refuse why) is = (refl, inl refl)
-  of_verdict p r read asks (Deny status last kbm) is = (refl, inl refl)
-  of_verdict p r read asks (Accept home a granted kbm) is = by r.ack
+  of_verdict p r read mobility asks (Refuse why) is = (refl, inl refl)
+  of_verdict p r read mobility asks (Deny status last kbm) is = (refl, inl refl)
+  of_verdict p r read mobility asks (Accept home a granted kbm) is = by r.ack
     where
       first : Turn
       first = noted (Accepts number home a) given
@@ -165,6 +172,7 @@ module _ (me : Identity) (k : Known) (now number : ℕ) (shield : Option Shield)
         inr (record {
           packet = p;
           read = read;
+          mobility = mobility;
           request = r;
           asks = asks;
           home = home;
@@ -182,6 +190,7 @@ module _ (me : Identity) (k : Known) (now number : ℕ) (shield : Option Shield)
         inr (record {
           packet = p;
           read = read;
+          mobility = mobility;
           request = r;
           asks = asks;
           home = home;
@@ -195,9 +204,9 @@ module _ (me : Identity) (k : Known) (now number : ℕ) (shield : Option Shield)
         }),
       )
 
-  of_update : (p : Packet) (r : Request) → packet_of bytes ≡ Ok p → request_in p.head.source p.head.home p.body ≡ Some r → Is (takes_update me number r p.body given)
+  of_update : (p : Packet) (r : Request) → packet_of bytes ≡ Ok p → p.head.proto ≡ 135 → request_in p.head.source p.head.home p.body ≡ Some r → Is (takes_update me number r p.body given)
   unfolding takes_update noted after
-  of_update p r read asks = of_verdict p r read asks (verdict (bench me k now r) r p.body) refl
+  of_update p r read mobility asks = of_verdict p r read mobility asks (verdict (bench me k now r) r p.body) refl
 
   of_message : (p : Packet) (place : ℕ) (m : Option Said) → packet_of bytes ≡ Ok p → message_at place p ≡ Ok m → Is (by_message me number p m given)
   unfolding noted hands_up answers_home_init answers_careof_init
@@ -205,7 +214,7 @@ module _ (me : Identity) (k : Known) (now number : ℕ) (shield : Option Shield)
   of_message p place (Some (HomeInit cookie options)) read is = (refl, inl refl)
   of_message p place (Some (CareofInit cookie options)) read is = (refl, inl refl)
   of_message p place (Some (Update s a h l key t o)) read is =
-      of_update p (request p.head.source p.head.home s a h t o) read
+      of_update p (request p.head.source p.head.home s a h t o) read (message_proto place p (Update s a h l key t o) is)
       (ap (request_said p.head.source p.head.home)
       (update_read p.body s a h l key t o (source_of p.head) (destination_of p.head) (message_read place p (Update s a h l key t o) is)))
   of_message p place (Some (Refresh options)) read is = (refl, inl refl)

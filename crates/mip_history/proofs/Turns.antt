@@ -27,7 +27,7 @@ use Rattle.mip_history.proofs.Runs.{Meets, IsKept, IsPast, IsRun, IsQuiet, Goes,
 use Rattle.mip_history.proofs.Posts.{quiet_steps}
 
 -- the moment that goes along with the acceptances is the moment
-lived_at : (n : ℕ) (l : Lived) (past : List Entry) → (fold (lived n) l past).at ≡ moment_in l.at past
+pub lived_at : (n : ℕ) (l : Lived) (past : List Entry) → (fold (lived n) l past).at ≡ moment_in l.at past
 lived_at n l [] = refl
 lived_at n l (e ∷ past) = lived_at n (lived n l e) past ∙ ap (λ (at : ℕ). moment_in at past) (by e)
   where

@@ -9,3 +9,4 @@ pub mod Permitted
 pub mod Passing
 pub mod Claims
 pub mod Bound
+pub mod Again

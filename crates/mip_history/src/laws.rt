@@ -19,6 +19,7 @@ ghost use Rattle.mip_history.specs.Nodes.{known_in, now_in};
 ghost use Rattle.mip_history.specs.Permitted.{run_of, happens, permitted};
 ghost use Rattle.mip_history.specs.Claims.{is_free_for};
 ghost use Rattle.mip_history.specs.Passing.{waited_by, restarted_by};
+ghost use Rattle.mip_history.specs.Again.{RepeatsAfterRounds};
 ghost use Rattle.mip_history.specs.Bound.{accepted_by, held_in, packet_in, packets_of, accepted_entry, is_accepted, is_restart_of, is_accepted_for, HasAccepted, IsBound};
 
 /// A schedule with one event more is run by letting that event happen last.
@@ -95,4 +96,11 @@ pub fn addresses_have_one_holder()
         → holder_in before address.0 ≡ Some who }
     ensures taken { (c : Content) (before : List Entry) (who : ℕ) (link : LinkId) (address : Address) (holder : ℕ) (after : List Entry) → permitted c ≡ before ++ Taken who link address holder ∷ after
         → holder_in before address.0 ≡ Some holder }
+{}
+
+/// In the permitted history of every schedule whose waits are at most 36,000 s together, as those of one that was read
+/// are, a node accepts the same update again in one life only where the sequences of its home have gone round since
+/// then. Until its home nonce is no longer valid, the last sequence is kept. RFC 6275 sections 5.2.2 and 9.5.1.
+pub fn repeats_come_after_rounds()
+    ensures { (c : Content) → sum_by waited_by c.events ≤ 36000000 → RepeatsAfterRounds (permitted c) }
 {}

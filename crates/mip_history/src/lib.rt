@@ -6,6 +6,6 @@ mod laws;
 pub use laws::{
     accepted_was_handed, addresses_have_one_holder, event_after_event, held_was_accepted,
     last_acceptance_counts, lives_are_restarts, moments_rise, nodes_keep_what_was_accepted,
-    packets_are_numbered,
+    packets_are_numbered, repeats_come_after_rounds,
 };
 pub use mip_entries::{Answer, Answers, Entry, History, UpdateSeen};

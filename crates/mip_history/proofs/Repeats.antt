@@ -1,0 +1,173 @@
+-- An update is accepted again only where the sequences of its home have gone round since.
+use Rattle.std.proofs.Common.{◌≡◌, ℕ, ◌+◌, ◌-◌, ◌*◌, ◌<◌, ◌≤◌, List, [], ◌∷◌, ◌++◌, length, false, true, refl, sym, ap, ◌∙◌, subst, arith}
+use Rattle.std.specs.Prelude.{fold, Option, Some}
+use Rattle.std.specs.List.{list_any, sum_by, AllByRecursion}
+use Rattle.std.proofs.lemmas.List.{append_assoc}
+use Rattle.std.proofs.lemmas.List.Sums.{fold-append}
+use Rattle.std.proofs.lemmas.List.Folds.{fold_stays}
+use Rattle.mip_words.specs.Numbers.{IsBytes}
+use Rattle.mip_words.specs.Sequence.{is_after}
+use Rattle.mip_words.specs.declared.address.Address.{Address}
+use Rattle.mip_words.specs.declared.ids.NodeId.{NodeId}
+use Rattle.mip_words.proofs.Fields.{IsBytes-drop}
+use Rattle.mip_lists.specs.EachAfter.{EachAfter}
+use Rattle.mip_lists.specs.Last.{or_else}
+use Rattle.mip_ipv6.proofs.Packets.{read_stands}
+use Rattle.mip_options.specs.declared.indices.Indices.{Indices}
+use Rattle.mip_says.specs.Says.{Key, carried, says}
+use Rattle.mip_says.specs.Says.Carried.{Update}
+use Rattle.mip_says.proofs.Sayings.{carried_plain}
+use Rattle.mip_binding.specs.Held.{floor}
+use Rattle.mip_bcache.specs.declared.accepted.Accepted.{Accepted}
+use Rattle.mip_entries.specs.declared.entry.Entry.{Entry}
+use Rattle.mip_entries.specs.Completed.{node_id}
+use Rattle.mip_schedule.specs.Contents.{Content}
+use Rattle.mip_rules_correspondent.specs.Soundness.{IsNonce}
+use Rattle.mip_history.specs.Setup.{Setup, setup_of}
+use Rattle.mip_history.specs.Questions.{moment_in}
+use Rattle.mip_history.specs.Permitted.{permitted}
+use Rattle.mip_history.specs.Passing.{waited_by}
+use Rattle.mip_history.specs.Bound.{accepted_by, packet_told, packet_in, accepted_entry, is_restart_of, IsAccepted, HasAccepted}
+use Rattle.mip_history.specs.Again.{CarriesUpdate, IsRepeat, advanced}
+use Rattle.mip_history.proofs.Runs.{Meets}
+use Rattle.mip_history.proofs.Bindings.{each_rest}
+use Rattle.mip_history.proofs.Histories.{permitted_each, permitted_accepted, permitted_waited}
+use Rattle.mip_history.proofs.Rounds.{last_in, gone_round}
+use Rattle.mip_history.proofs.Moments.{IsNotBefore, rises_from, same_nonce}
+use Rattle.mip_history.proofs.Kept.{last_stands}
+use Rattle.mip_history.proofs.SameUpdates.{AsksSame, asks_same}
+
+-- the earlier items meet what they should, too
+each_front : {X : Type 0} (P : List X → X → Type 0) (front xs ys : List X) → EachAfter P front (xs ++ ys) → EachAfter P front xs
+each_front P front [] ys each = tt
+each_front P front (x ∷ xs) ys each = (each.0, each_front P (front ++ x ∷ []) xs ys each.1)
+
+-- a packet that was posted stays the one of its number
+packet_stays : (k : ℕ) (front es : List Entry) (bytes : List ℕ) → packet_in front k ≡ Some bytes → packet_in (front ++ es) k ≡ Some bytes
+packet_stays k front es bytes posted =
+    fold-append (λ (o : Option (List ℕ)) (e : Entry). or_else o (packet_told k e)) _ front es
+    ∙ ap (λ (o : Option (List ℕ)). fold (λ (o : Option (List ℕ)) (e : Entry). or_else o (packet_told k e)) o es) posted
+    ∙ fold_stays (λ (o : Option (List ℕ)) (e : Entry). or_else o (packet_told k e)) (Some bytes) (λ e. refl) es
+
+-- what stands behind an acceptance, by its entry
+record Stood (s : Setup) (past : List Entry) (n k : ℕ) (home : Address) (sequence : ℕ) : Type 0 where
+  accepted : Accepted
+  of_sequence : accepted.sequence ≡ sequence
+  stands : IsAccepted s past n k home accepted
+
+stood : (s : Setup) (past : List Entry) (n k : ℕ) (home : Address) (a : Accepted) → HasAccepted s past (accepted_entry n k home a) → Stood s past n k home a.sequence
+stood s past n k home a has =
+    let e = has.is in
+    let nodes : node_id has.node ≡ node_id n = cc in
+    record {
+      accepted = has.accepted;
+      of_sequence = cc;
+      stands = moved (ap (λ (x : NodeId). x.0) nodes) (cc) (cc) has.stands;
+    }
+  where
+    moved : {m l : ℕ} {h : Address} {x : Accepted} → m ≡ n → l ≡ k → h ≡ home → IsAccepted s past m l h x → IsAccepted s past n k home x
+    moved {m} {l} {h} {x} em el eh stands =
+        subst (λ (y : Address). IsAccepted s past n k y x) eh
+        (subst (λ (y : ℕ). IsAccepted s past n y h x) el
+        (subst (λ (y : ℕ). IsAccepted s past y l h x) em stands))
+
+packet_is : (x y : List ℕ) → Some x ≡ Some y → x ≡ y
+packet_is x y e = cc
+
+-- the packet of an acceptance is the one that carries the update in the whole history
+same_packet : (s : Setup) (front es : List Entry) (n k : ℕ) (home : Address) (a : Accepted) (key : Key) (is : IsAccepted s front n k home a) (u : CarriesUpdate (front ++ es) k key) → u.packet ≡ is.bytes
+same_packet s front es n k home a key is u = packet_is u.packet is.bytes (sym u.posted ∙ packet_stays k front es is.bytes is.posted)
+
+accepted_says : (s : Setup) (front es : List Entry) (n k : ℕ) (home : Address) (a : Accepted) (key : Key) (is : IsAccepted s front n k home a) → CarriesUpdate (front ++ es) k key → says is.packet ≡ Update key
+accepted_says s front es n k home a key is u =
+    sym (carried_plain is.bytes is.packet is.read (λ t. let m = is.mobility in omega arith))
+    ∙ ap carried (sym (same_packet s front es n k home a key is u))
+    ∙ u.says
+
+accepted_bytes : (s : Setup) (front es : List Entry) (n k : ℕ) (home : Address) (a : Accepted) (key : Key) (is : IsAccepted s front n k home a) → CarriesUpdate (front ++ es) k key → IsBytes is.packet.body
+accepted_bytes s front es n k home a key is u =
+    let there = read_stands is.packet is.bytes is.read in
+    subst IsBytes (sym there.there) (IsBytes-drop (length is.bytes - length is.packet.body) is.bytes (subst IsBytes (same_packet s front es n k home a key is u) u.bytes))
+
+module _ (c : Content) (short : sum_by waited_by c.events ≤ 36000000) (before between after : List Entry) (n k l : ℕ) (home : Address) (a b : Accepted)
+    (whole : permitted c ≡ before ++ accepted_entry n k home a ∷ between ++ accepted_entry n l home b ∷ after) (alive : list_any (is_restart_of n) between ≡ false) (again : IsRepeat (permitted c) k l) where
+  abbrev s : Setup
+  s = setup_of c
+
+  abbrev middle : List Entry
+  middle = before ++ accepted_entry n k home a ∷ between
+
+  abbrev later : List Entry
+  later = accepted_entry n l home b ∷ after
+
+  abbrev since : List Entry
+  since = between ++ later
+
+  from_first : permitted c ≡ before ++ accepted_entry n k home a ∷ since
+  from_first = whole ∙ append_assoc before (accepted_entry n k home a ∷ between) later
+
+  first : Stood s before n k home a.sequence
+  first = stood s before n k home a (permitted_accepted c before (accepted_entry n k home a) since from_first refl)
+
+  second : Stood s middle n l home b.sequence
+  second = stood s middle n l home b (permitted_accepted c middle (accepted_entry n l home b) after whole refl)
+
+  carries_first : CarriesUpdate (before ++ accepted_entry n k home a ∷ since) k again.key
+  carries_first = subst (λ (p : List Entry). CarriesUpdate p k again.key) from_first again.first
+
+  carries_second : CarriesUpdate (middle ++ later) l again.key
+  carries_second = subst (λ (p : List Entry). CarriesUpdate p l again.key) whole again.second
+
+  -- both ask the same
+  same : AsksSame first.stands.request second.stands.request
+  same =
+      asks_same first.stands.packet second.stands.packet again.key
+      (accepted_bytes s before (accepted_entry n k home a ∷ since) n k home first.accepted again.key first.stands carries_first)
+      (accepted_bytes s middle later n l home second.accepted again.key second.stands carries_second)
+      (accepted_says s before (accepted_entry n k home a ∷ since) n k home first.accepted again.key first.stands carries_first)
+      (accepted_says s middle later n l home second.accepted again.key second.stands carries_second)
+      first.stands.request first.stands.asks second.stands.request second.stands.asks
+
+  -- the moments rise from the start to the end
+  each : EachAfter (Meets s) [] (middle ++ later)
+  each = subst (λ (p : List Entry). EachAfter (Meets s) [] p) whole (permitted_each c)
+
+  each_middle : EachAfter (Meets s) [] middle
+  each_middle = each_front (Meets s) [] middle later each
+
+  rises : AllByRecursion (IsNotBefore (moment_in s.start before)) (accepted_entry n k home a ∷ between) × (moment_in s.start before ≤ moment_in s.start middle)
+  rises = rises_from s (moment_in s.start before) before (accepted_entry n k home a ∷ between) (each_rest (Meets s) [] before (accepted_entry n k home a ∷ between) each_middle) (omega arith)
+
+  after_start : s.start ≤ moment_in s.start before
+  after_start = (rises_from s s.start [] before (each_front (Meets s) [] before (accepted_entry n k home a ∷ between) each_middle) (omega arith)).1
+
+  before_end : moment_in s.start middle ≤ moment_in s.start (permitted c)
+  before_end = subst (λ (p : List Entry). moment_in s.start middle ≤ moment_in s.start p) (sym whole)
+      (rises_from s (moment_in s.start middle) middle later (each_rest (Meets s) [] middle later each) (omega arith)).1
+
+  within : moment_in s.start middle ≤ moment_in s.start before + 36000000
+  within = omega (arith, permitted_waited c, after_start, before_end, short)
+
+  -- the nonce of the home token is one
+  near : moment_in s.start middle < moment_in s.start before + 240000
+  near =
+      let x = first.stands.sound.genuine in
+      let y = second.stands.sound.genuine in
+      let named : Some x.indices ≡ Some y.indices = sym x.named ∙ same.nonces ∙ y.named in
+      let one : x.indices ≡ y.indices = cc in
+      same_nonce (moment_in s.start before) (moment_in s.start middle) x.indices.home first.accepted.home_nonce second.accepted.home_nonce
+      (same.fits x.indices x.named) x.home_nonce
+      (subst (λ (i : Indices). IsNonce (moment_in s.start middle) i.home second.accepted.home_nonce) (sym one) y.home_nonce)
+      rises.1 within
+
+  kept : floor (accepted_by s.start middle n) home.0 (moment_in s.start middle) ≡ Some (last_in n home.0 a.sequence between)
+  kept = last_stands s.start n k home before between a (moment_in s.start middle) near alive rises.0.1
+
+  sequence_is : second.stands.request.sequence ≡ b.sequence
+  sequence_is = sym second.stands.sound.of_sequence ∙ second.of_sequence
+
+  pub permitted_repeats : (rounds : ℕ) × (0 < rounds) × (advanced n home.0 a.sequence (between ++ accepted_entry n l home b ∷ []) ≡ rounds * 65536)
+  permitted_repeats =
+      gone_round n l home a.sequence between b
+      (sym sequence_is ∙ sym same.sequence ∙ sym first.stands.sound.of_sequence ∙ first.of_sequence)
+      (subst (λ (q : ℕ). is_after q (last_in n home.0 a.sequence between) ≡ true) sequence_is (second.stands.sound.newer _ kept))
