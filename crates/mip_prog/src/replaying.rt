@@ -31,7 +31,7 @@ pub fn replay(alloc: Global, input: &[u8]) -> Result<Reply, Memory>
     }
     match read_schedule(alloc, input) {
         Ok(schedule) => run(alloc, &schedule),
-        Err(ScheduleFault::Bad { line, why }) => bad(alloc, u64::from(line), why),
+        Err(ScheduleFault::Bad { line, why }) => bad(alloc, line, why),
         Err(ScheduleFault::Memory) => Err(Memory),
     }
 }
@@ -62,7 +62,7 @@ fn trace(alloc: Global, schedule: &Schedule) -> Result<Reply, Memory>
 
 /// The line that tells a bad line.
 #[tactic(auto, unfolding(crate::specs::Answers::bad_text, mip_lines::specs::Lines::line_text))]
-fn bad(alloc: Global, line: u64, why: Reason) -> Result<Reply, Memory>
+fn bad(alloc: Global, line: u32, why: Reason) -> Result<Reply, Memory>
     ensures answers { IfOk result (λ reply. reply ≡ bad_answer line why) }
     ensures settled { IfOk result (λ reply. IsSettled reply.status) }
 {

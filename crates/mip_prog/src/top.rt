@@ -6,7 +6,7 @@ ghost use Rattle.mip_outside.specs.Cause.{Rose};
 ghost use Rattle.mip_schedule.specs.Reading.{reading};
 ghost use Rattle.mip_history.specs.Setup.{setup_of};
 ghost use Rattle.mip_history.specs.Permitted.{permitted};
-ghost use Rattle.mip_replay.specs.Bindings.{EachIsBound};
+ghost use Rattle.mip_replay.specs.Bindings.{EachIsBound, EachRepeatIsLate};
 ghost use Rattle.mip_prog.specs.Commands.{command_of};
 ghost use Rattle.mip_prog.specs.Answers.{answer_of, command_answer};
 ghost use Rattle.mip_prog.specs.Told.{IsAnswered, IsStatus, Told};
@@ -17,7 +17,7 @@ use crate::reading::{ReadFault, read_input};
 use crate::status::Status;
 use crate::writing::tell;
 use mip_outside::{Clock, Link, Sink, Source};
-use mip_replay::each_is_bound;
+use mip_replay::{each_is_bound, each_repeat_is_late};
 use mip_words::Memory;
 use std::alloc::Global;
 
@@ -39,6 +39,8 @@ pub fn mip<S: Source, K: Sink, C: Clock, L: Link>(
 
     // In the history of a schedule each care-of address that is held has its accepted update.
     ensures bound { IfSome (S.left source.old) (λ bytes. IfOk (reading bytes) (λ c. EachIsBound (setup_of c) (permitted c))) }
+    // In it the same update is accepted again in one life only where its sequences have gone round.
+    ensures repeats { IfSome (S.left source.old) (λ bytes. IfOk (reading bytes) (λ c. EachRepeatIsLate (permitted c))) }
 
     ensures statuses { IsStatus result.0 }
     ensures usage { result.0 ≡ 1 → command_of (map string_bytes words.now) ≡ None }
@@ -57,6 +59,7 @@ pub fn mip<S: Source, K: Sink, C: Clock, L: Link>(
     let _ = clock;
     let _ = link;
     each_is_bound();
+    each_repeat_is_late();
     match parse(words) {
         None => tell(sink, b"usage: mip COMMAND\n", Status::USAGE),
         Some(command) => answer_input(alloc, command, source, sink),

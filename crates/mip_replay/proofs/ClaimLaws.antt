@@ -1,5 +1,5 @@
 -- Addresses are taken and given up, and outsiders begin and end to listen.
-use Rattle.std.proofs.Common.{◌≡◌, ℕ, ◌<◌, List, [], ◌∷◌, ◌++◌, length, Bool, true, false, refl, sym, ap, ◌∙◌, subst, arith, length-set}
+use Rattle.std.proofs.Common.{◌≡◌, ◌≢◌, ℕ, ◌<◌, List, [], ◌∷◌, ◌++◌, length, Bool, true, false, refl, sym, ap, ◌∙◌, subst, arith, length-set}
 use Rattle.std.proofs.Math.Path.{fun_ext}
 use Rattle.std.proofs.lemmas.Bool.Decides.{nat_tests}
 use Rattle.std.specs.Prelude.{Option, Some, None, is_some, unwrap_or, slice_set, if◌then◌else◌, ◌&&◌, ◌==◌, not}
@@ -69,6 +69,19 @@ firsts_long firsts who a = split (is_some (declared_of firsts who))
     split : (t : Bool) → length (if t then firsts else slice_set firsts who (Some a)) ≡ length firsts
     split true = refl
     split false = length-set firsts who (Some a)
+
+-- an address on a link is not refused for want of one
+pub never_unlinked : (net : NetSeen) (who a l : ℕ) → link_of net.links a ≡ Some l → refusal net who a ≢ Some NoLink
+never_unlinked net who a l on refused =
+    by (holder_of net.rows a) (subst (λ (o : Option ℕ). (if is_some o then taken_by (holder_of net.rows a) who else Some NoLink) ≡ Some NoLink) on refused)
+  where
+    split : (t : Bool) (other : ℕ) → (if t then None else Some (TakenBy other)) ≢ Some NoLink
+    split true other e = cc
+    split false other e = cc
+
+    by : (o : Option ℕ) → taken_by o who ≢ Some NoLink
+    by None e = cc
+    by (Some other) e = split (other == who) other e
 
 -- an address has a holder from here on
 pub at_claimed : (e : EngineSeen) (s : Setup) (run : Run) (who l : ℕ) (a : Address) → who < 40 → IsAt e s run

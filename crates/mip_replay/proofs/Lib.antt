@@ -6,3 +6,7 @@ pub mod DeliveryLaws
 pub mod OpenLaws
 pub mod EventLaws
 pub mod BindingLaws
+pub mod ReadyLaws
+pub mod JoinLaws
+pub mod ForgingLaws
+pub mod WholeLaws

@@ -21,6 +21,7 @@ use Rattle.mip_rules_correspondent.specs.Stands.{Stands, with_turn}
 use Rattle.mip_rules_correspondent.specs.Turns.{Turn, begun, noted}
 use Rattle.mip_rules_correspondent.specs.Calls.{taken, refreshed, transmitted}
 use Rattle.mip_rules_correspondent.proofs.Calls.{taken-stands, refreshed-stands, transmitted-stands}
+use Rattle.mip_rules_correspondent.proofs.Wholes.{SendsLong}
 use Rattle.mip_rules_correspondent.proofs.Walks.{every-takes, every-refreshes, every-transmits}
 use Rattle.mip_history.specs.Setup.{Setup, Host}
 use Rattle.mip_history.specs.Runs.{Run, note, notes, with_past}
@@ -186,6 +187,10 @@ at_passed e s run ms at = subst (λ (now : ℕ). IsAt (with_entry (At (record { 
           history = history-same e s run y at;
         }
 
+-- the lives of the others go on
+lived_on : (n m life : ℕ) → m ≢ n → restarts m life (Restarted (node_id n)) ≡ life
+lived_on n m life other = grind (arith, nat_tests, other)
+
 -- a node begins its next life
 pub at_restarted : (e : EngineSeen) (s : Setup) (run : Run) (n : ℕ) (c : NodeSeen) → IsAt e s run → slice_get e.nodes n ≡ Some c
     → IsAt (with_entry (Restarted (node_id n)) (reborn n c e)) s (restarted run n)
@@ -213,9 +218,6 @@ at_restarted e s run n c at there =
       history = history-same e s run y at;
     }
   where
-    lived_on : (m : ℕ) → m ≢ n → restarts m (life_in run.past m) (Restarted (node_id n)) ≡ life_in run.past m
-    lived_on m other = grind (arith, nat_tests, other)
-
     lived : restarts n (life_in run.past n) (Restarted (node_id n)) ≡ suc (life_in run.past n)
     lived = grind (arith, nat_tests)
 
@@ -233,16 +235,52 @@ at_restarted e s run n c at there =
         ∙ ap (λ (o : Option Host). option_map (node_of s n (life_in (run.past ++ Restarted (node_id n) ∷ []) n) (slice_index_or (slice_set run.pasts n []) n [])) o) (sym is_host))
     by m host inside is_host is_node (inr other) =
         set_there e.nodes n m (new_node e.seed n (suc c.life) c.host) other ∙ at.nodes m
-        ∙ ap (λ (life : ℕ). option_map (node_of s m life (past_at run m)) (slice_get s.hosts m)) (sym (life-push run.past (Restarted (node_id n)) m ∙ lived_on m other))
+        ∙ ap (λ (life : ℕ). option_map (node_of s m life (past_at run m)) (slice_get s.hosts m)) (sym (life-push run.past (Restarted (node_id n)) m ∙ lived_on n m (life_in run.past m) other))
         ∙ ap (λ (p : List (Stamped Step)). option_map (node_of s m (life_in (run.past ++ Restarted (node_id n) ∷ []) m) p) (slice_get s.hosts m)) (sym (get_or-set_other run.pasts n m [] [] other))
+
+-- one that is not there leaves all as it was
+pub at_restarted_nowhere : (e : EngineSeen) (s : Setup) (run : Run) (n : ℕ) → IsAt e s run → slice_get e.nodes n ≡ None
+    → IsAt (with_entry (Restarted (node_id n)) e) s (restarted run n)
+unfolding restarted
+at_restarted_nowhere e s run n at none =
+    let y = Restarted (node_id n) in
+    let no_host = map_none (node_of s n (life_in run.past n) (past_at run n)) (slice_get s.hosts n) (sym (at.nodes n) ∙ none) in
+    record {
+      seed = at.seed;
+      asked = at.asked ∙ sym (asked-same s run.past y (record { holder = λ a. refl; declared = λ by. refl }));
+      hears = at.hears ∙ sym (hears-same run.past y (λ o l. refl));
+      posts = at.posts;
+      flying = at.flying;
+      spots = at.spots;
+      firsts = at.firsts;
+      nodes = λ m. by m no_host (cases_eq m n);
+      count = at.count;
+      pasts = length-set run.pasts n [] ∙ at.pasts;
+      outsiders = at.outsiders;
+      now = at.now ∙ sym (moment-push s.start run.past y);
+      history = history-same e s run y at;
+    }
+  where
+    node_at : ℕ → List (Stamped Step) → Host → NodeSeen
+    node_at m past host = node_of s m (life_in (run.past ++ Restarted (node_id n) ∷ []) m) past host
+
+    Is : ℕ → Type 0
+    Is m = slice_get e.nodes m ≡ option_map (node_at m (slice_index_or (slice_set run.pasts n []) m [])) (slice_get s.hosts m)
+
+    by : (m : ℕ) → slice_get s.hosts n ≡ None → (m ≡ n) ⊎ (m ≢ n) → Is m
+    by m no_host (inl same) = subst Is (sym same) (none ∙ ap (λ (o : Option Host). option_map (node_at n (slice_index_or (slice_set run.pasts n []) n [])) o) (sym no_host))
+    by m no_host (inr other) =
+        at.nodes m
+        ∙ ap (λ (life : ℕ). option_map (node_of s m life (past_at run m)) (slice_get s.hosts m)) (sym (life-push run.past (Restarted (node_id n)) m ∙ lived_on n m (life_in run.past m) other))
+        ∙ ap (λ (p : List (Stamped Step)). option_map (node_at m p) (slice_get s.hosts m)) (sym (get_or-set_other run.pasts n m [] [] other))
 
 -- the last moment that a node knows is that of its turn at most
 abbrev IsTimely : ℕ → Turn → Type 0
 IsTimely now t = (t.now ≡ now) × (t.known.last.0 ≤ now)
 
-timely_step : (now : ℕ) (step : Step) (t : Turn) → is_tick step ≡ false → IsTimely now t → IsTimely now (noted step t)
+timely_step : (now : ℕ) (step : Step) (t : Turn) → is_tick step ≡ false → SendsLong step → IsTimely now t → IsTimely now (noted step t)
 unfolding noted after
-timely_step now step t tick p = (p.0, by (is_call step))
+timely_step now step t tick long p = (p.0, by (is_call step))
   where
     by : (b : Bool) → (if b then record { 0 = t.now } else t.known.last).0 ≤ now
     by true = omega (arith, p.0)

@@ -119,8 +119,3 @@ claim_tried net who address = tried net who address (refusal net who address.0)
 abbrev pub released : NetSeen → ℕ → Address → NetSeen
 released net who address =
     if is_held_by (holder_of net.rows address.0) who then with_rows net (put net.rows address.0 None) else net
-
--- the private facts of an engine
-pub record IsEngine (nodes : List NodeSeen) (now links count : ℕ) : Type 0 where
-  pub calm : IsCalm nodes now
-  pub links_are : count ≡ links

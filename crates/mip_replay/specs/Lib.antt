@@ -5,3 +5,6 @@ pub mod Quiet
 pub mod Forged
 pub mod Payloads
 pub mod Bindings
+pub mod Ready
+pub mod Joining
+pub mod Groups

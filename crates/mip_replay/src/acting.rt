@@ -1,6 +1,6 @@
 //! Nodes act: they are handed packets, send data, ask for refreshes, and restart.
 
-ghost use Rattle.std.specs.Prelude.{◌≡◌, ◌<◌, length, [], ◌∷◌, map, Some, OnOk, slice_get};
+ghost use Rattle.std.specs.Prelude.{◌≡◌, ◌+◌, ◌<◌, ◌≤◌, ◌^◌, true, length, [], ◌∷◌, map, Some, OnOk, slice_get};
 ghost use Rattle.mip_bcache.specs.Seen.{kept_at};
 ghost use Rattle.mip_rules_correspondent.specs.Calls.{taken, refreshed, transmitted};
 ghost use Rattle.mip_history.specs.Setup.{Setup};
@@ -8,17 +8,20 @@ ghost use Rattle.mip_history.specs.Runs.{Run};
 ghost use Rattle.mip_history.specs.Nodes.{acts, row_entry, shown};
 ghost use Rattle.mip_history.specs.Permitted.{restarted, waited};
 ghost use Rattle.mip_replay.specs.Engines.{NodeSeen, with_entries};
+ghost use Rattle.mip_replay.specs.Payloads.{is_payload};
 ghost use Rattle.mip_replay.specs.Standing.{IsAt};
 
 use crate::engine::Engine;
 use mip_bcache::Row;
 use mip_entries::Entry;
+use mip_rules_correspondent::answers_are_whole;
 use mip_words::{Address, Memory, NodeId, Shield};
 use std::alloc::Global;
 
 impl Engine {
     /// Time goes on.
     pub(crate) fn wait(&mut self, ms: u32) -> Result<(), Memory>
+        requires { self.old.moment + ms < 2 ^ 62 }
         ensures { (s : Setup) (run : Run) → IsAt self.old s run → OnOk result (IsAt self.new s (waited s run ms)) }
     {
         self.pass(ms)
@@ -39,6 +42,7 @@ impl Engine {
             Some(from) => from,
             None => return self.note(Entry::Idle),
         };
+        answers_are_whole();
         let answers = self.node_takes(alloc, node, number, shield, packet)?;
         self.answer(alloc, node, from, &answers)
     }
@@ -52,12 +56,15 @@ impl Engine {
         proto: u8,
         payload: &[u8],
     ) -> Result<(), Memory>
+        requires data { is_payload proto ≡ true }
+        requires short { length payload.now ≤ 512 }
         ensures { (s : Setup) (run : Run) → IsAt self.old s run → OnOk result (IsAt self.new s (acts s node.0 (λ me k now. transmitted me k now to proto payload.now) run)) }
     {
         let from = match self.station(node) {
             Some(from) => from,
             None => return self.note(Entry::Idle),
         };
+        answers_are_whole();
         let answers = self.node_sends(alloc, node, to, proto, payload)?;
         self.answer(alloc, node, from, &answers)
     }
@@ -75,25 +82,28 @@ impl Engine {
             Some(from) => from,
             None => return self.note(Entry::Idle),
         };
+        answers_are_whole();
         let answers = self.node_refreshes(alloc, node, home)?;
         self.answer(alloc, node, from, &answers)
     }
 
     fn begin_life(&mut self, alloc: Global, node: NodeId) -> Result<(), Memory>
-        requires { node.0 < length self.old.nodes }
+        requires node { node.0 < length self.old.nodes }
+        requires life { (c : NodeSeen) → slice_get self.old.nodes node.0 ≡ Some c → c.life + 1 < 2 ^ 32 }
         ensures { (s : Setup) (run : Run) (c : NodeSeen) → IsAt self.old s run → slice_get self.old.nodes node.0 ≡ Some c → OnOk result (IsAt self.new s (restarted run node.0)) }
     {
         self.renew(alloc, node)?;
         self.note(Entry::Restarted { node })
     }
 
-    /// A node restarts. No schedule restarts a node that is not there.
+    /// A node restarts. That is noted also of a node that is not there.
     pub(crate) fn restart(&mut self, alloc: Global, node: NodeId) -> Result<(), Memory>
+        requires { (c : NodeSeen) → slice_get self.old.nodes node.0 ≡ Some c → c.life + 1 < 2 ^ 32 }
         ensures { (s : Setup) (run : Run) → IsAt self.old s run → OnOk result (IsAt self.new s (restarted run node.0)) }
     {
         match self.station(node) {
             Some(_) => self.begin_life(alloc, node),
-            None => Err(Memory),
+            None => self.note(Entry::Restarted { node }),
         }
     }
 
@@ -120,7 +130,7 @@ impl Engine {
             };
             self.show_row(node, row)?;
         }
-        Err(Memory)
+        Ok(())
     }
 
     /// The rows that a node keeps are shown.

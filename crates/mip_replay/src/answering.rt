@@ -1,10 +1,13 @@
 //! What a node answers, packet by packet and entry by entry.
 
-ghost use Rattle.std.specs.Prelude.{◌≡◌, ℕ, length, IfOk, OnOk};
+ghost use Rattle.std.specs.Prelude.{◌≡◌, ℕ, true, IfOk, OnOk};
+ghost use Rattle.std.specs.List.{AllByRecursion};
 ghost use Rattle.mip_entries.specs.Completed.{named};
+ghost use Rattle.mip_rules_correspondent.specs.Wholes.{IsWhole, is_own};
 ghost use Rattle.mip_history.specs.Setup.{Setup};
 ghost use Rattle.mip_history.specs.Runs.{Run};
 ghost use Rattle.mip_history.specs.Nodes.{answered, answered_one};
+ghost use Rattle.mip_replay.specs.Groups.{is_up};
 ghost use Rattle.mip_replay.specs.Quiet.{IsQuiet};
 ghost use Rattle.mip_replay.specs.Standing.{IsAt};
 
@@ -13,9 +16,10 @@ use mip_entries::{Answer, Answers, Entry};
 use mip_words::{Bytes, LinkId, Memory, NodeId};
 use std::alloc::Global;
 
-/// A correspondent's entry with its number. A correspondent leaves no entries of another kind.
+/// A correspondent's entry with its number.
 #[tactic(auto, using(crate::proofs::PostingLaws::quiet_idle, crate::proofs::PostingLaws::quiet_accepted, crate::proofs::PostingLaws::quiet_denied, crate::proofs::PostingLaws::quiet_dropped))]
 fn named(alloc: Global, node: NodeId, entry: &Entry) -> Result<Entry, Memory>
+    requires { is_own entry.now ≡ true }
     ensures named { IfOk result (λ x. (link : ℕ → ℕ) (next : ℕ) → x ≡ named node.0 link next entry.now) }
     ensures quiet { IfOk result (λ x. IsQuiet x) }
 {
@@ -53,13 +57,14 @@ fn named(alloc: Global, node: NodeId, entry: &Entry) -> Result<Entry, Memory>
         }),
         Entry::Up { .. } => handed_up(alloc, node, entry),
         Entry::Idle => Ok(Entry::Idle),
-        _ => Err(Memory),
+        _ => unreachable!(),
     }
 }
 
 /// The entry of data that a node hands up.
 #[tactic(auto, using(crate::proofs::PostingLaws::quiet_up))]
 fn handed_up(alloc: Global, node: NodeId, entry: &Entry) -> Result<Entry, Memory>
+    requires { is_up entry.now ≡ true }
     ensures named { IfOk result (λ x. (link : ℕ → ℕ) (next : ℕ) → x ≡ named node.0 link next entry.now) }
     ensures quiet { IfOk result (λ x. IsQuiet x) }
 {
@@ -72,7 +77,7 @@ fn handed_up(alloc: Global, node: NodeId, entry: &Entry) -> Result<Entry, Memory
         ..
     } = entry
     else {
-        return Err(Memory);
+        unreachable!();
     };
     let payload = Bytes::copy(alloc, payload.as_slice())?;
     Ok(Entry::Up {
@@ -93,6 +98,7 @@ impl Engine {
         from: LinkId,
         answer: &Answer,
     ) -> Result<(), Memory>
+        requires { IsWhole answer.now }
         ensures { (s : Setup) (run : Run) → IsAt self.old s run → OnOk result (IsAt self.new s (answered_one s node.0 from.0 run answer.now)) }
     {
         match answer {
@@ -115,11 +121,12 @@ impl Engine {
         from: LinkId,
         answers: &Answers,
     ) -> Result<(), Memory>
+        requires { AllByRecursion IsWhole answers.now }
         ensures { (s : Setup) (run : Run) → IsAt self.old s run → OnOk result (IsAt self.new s (answered s node.0 from.0 run answers.now)) }
     {
         for place in 0..answers.len() {
             let Some(answer) = answers.at(place) else {
-                return Err(Memory);
+                unreachable!();
             };
             self.answer_one(alloc, node, from, answer)?;
         }

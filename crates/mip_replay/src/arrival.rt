@@ -1,11 +1,11 @@
-ghost use Rattle.std.specs.Prelude.{◌≡◌, ◌<◌, length, option_map, slice_get, IfOk, Some};
+ghost use Rattle.std.specs.Prelude.{◌≡◌, ◌<◌, length, option_map, slice_get, Some};
 ghost use Rattle.mip_links.specs.Table.{Post, link_of, destination_in};
 ghost use Rattle.mip_history.specs.Delivery.{other_link};
 ghost use Rattle.mip_replay.specs.Arrivals.{arrival_seen};
 
-use crate::limits::{DESTINATION, HEADER};
+use crate::limits::DESTINATION;
 use mip_links::{Delivery, Net};
-use mip_words::{Address, LinkId, Memory, Shield};
+use mip_words::{Address, LinkId, Shield};
 
 /// A packet that is taken from the network.
 #[derive(Clone, Copy, Debug, PartialEq, Eq)]
@@ -17,40 +17,29 @@ pub(crate) struct Arrival {
 }
 
 /// Where a packet comes to that is delivered.
-pub(crate) fn arrival_of(net: &Net, number: u64, delivery: Delivery) -> Result<Arrival, Memory>
+pub(crate) fn arrival_of(net: &Net, number: u64, delivery: Delivery) -> Arrival
     requires { number < length net.now.posts }
-    ensures { IfOk result (λ a. (post : Post) → slice_get net.now.posts number ≡ Some post → arrival_seen a ≡ record { delivery = delivery; link = other_link (link_of net.now.links (destination_in post.packet)) post.from; shield = post.shield }) }
+    ensures { (post : Post) → slice_get net.now.posts number ≡ Some post → arrival_seen result ≡ record { delivery = delivery; link = other_link (link_of net.now.links (destination_in post.packet)) post.from; shield = post.shield } }
 {
     let Some(flight) = net.flight(number) else {
         unreachable!();
     };
-    let link = arrival_link(net, number, flight.from)?;
-    Ok(Arrival {
+    let link = arrival_link(net, number, flight.from);
+    Arrival {
         delivery,
         link,
         shield: flight.shield,
-    })
+    }
 }
 
-/// The link that a packet comes to, where that is another one than it was sent from. Every packet that was posted has
-/// its fixed header.
-fn arrival_link(net: &Net, number: u64, from: LinkId) -> Result<Option<LinkId>, Memory>
+/// The link that a packet comes to, where that is another one than it was sent from.
+fn arrival_link(net: &Net, number: u64, from: LinkId) -> Option<LinkId>
     requires { number < length net.now.posts }
-    ensures { IfOk result (λ l. (post : Post) → slice_get net.now.posts number ≡ Some post → option_map (λ l. l.0) l ≡ other_link (link_of net.now.links (destination_in post.packet)) from.0) }
+    ensures { (post : Post) → slice_get net.now.posts number ≡ Some post → option_map (λ l. l.0) result ≡ other_link (link_of net.now.links (destination_in post.packet)) from.0 }
 {
     let Some(packet) = net.packet(number) else {
         unreachable!();
     };
-    let bytes = packet.as_slice();
-    if bytes.len() < HEADER {
-        return Err(Memory);
-    }
-    let Some(link) = net.link_of(Address::at(bytes, DESTINATION)) else {
-        return Ok(None);
-    };
-    if link.0 == from.0 {
-        Ok(None)
-    } else {
-        Ok(Some(link))
-    }
+    let link = net.link_of(Address::at(packet.as_slice(), DESTINATION))?;
+    if link.0 == from.0 { None } else { Some(link) }
 }

@@ -1,4 +1,5 @@
-ghost use Rattle.std.specs.Prelude.{◌≡◌, IfOk, option_map, Some};
+ghost use Rattle.std.specs.Prelude.{◌≡◌, ◌≤◌, length, true, IfOk, option_map, Some};
+ghost use Rattle.mip_words.specs.Addresses.{is_routable};
 ghost use Rattle.mip_options.specs.declared.indices.Indices.{Indices as IndicesSeen};
 ghost use Rattle.mip_mobhdr.specs.Said.{said_plain};
 ghost use Rattle.mip_signals.specs.Sealed.{sealed};
@@ -64,7 +65,8 @@ fn message(binding: Binding, indices: Indices) -> Plain
     }
 }
 
-/// The update under a key. A schedule has routable addresses alone.
+/// The update under a key.
+#[tactic(auto, using(crate::proofs::ForgingLaws::bind_plain))]
 fn sealed(
     alloc: Global,
     binding: Binding,
@@ -72,12 +74,11 @@ fn sealed(
     kbm: Kbm,
     careof: Address,
 ) -> Result<Bytes, Memory>
-    ensures { IfOk result (λ b. b ≡ sealed (bind_head (seen.binding binding)) kbm.0 careof binding.peer (bind_message (seen.binding binding) indices.home indices.careof)) }
+    requires { is_routable binding.home.0 ≡ true }
+    ensures is { IfOk result (λ b. b ≡ sealed (bind_head (seen.binding binding)) kbm.0 careof binding.peer (bind_message (seen.binding binding) indices.home indices.careof)) }
+    ensures long { IfOk result (λ b. 40 ≤ length b) }
 {
     let head = head(binding);
-    if !head.plain() {
-        return Err(Memory);
-    }
     let message = message(binding, indices);
     write_sealed(alloc, &head, &message, &kbm, careof, binding.peer)
 }
@@ -89,7 +90,9 @@ pub(crate) fn bind_packet(
     home: Told,
     careof: Option<Told>,
 ) -> Result<Bytes, Memory>
-    ensures { IfOk result (λ b. b ≡ bind_packet (seen.binding binding) (seen.told home) (option_map seen.told careof)) }
+    requires { is_routable binding.home.0 ≡ true }
+    ensures is { IfOk result (λ b. b ≡ bind_packet (seen.binding binding) (seen.told home) (option_map seen.told careof)) }
+    ensures long { IfOk result (λ b. 40 ≤ length b) }
 {
     match careof {
         None => {

@@ -4,12 +4,12 @@ ghost use Rattle.std.specs.Prelude.{◌≡◌, ◌+◌, ◌<◌, ◌^◌, length
 ghost use Rattle.mip_history.specs.Permitted.{first_unbuilt, is_built_declaration, is_built_event, unbuilt_line};
 ghost use Rattle.mip_schedule.specs.Schedules.{content};
 
-use mip_schedule::{Declaration, Event, Schedule};
+use mip_schedule::{Declaration, Event, Schedule, lawful};
 
 /// The number of the first line of declarations, and how many lines stand besides declarations and events.
-const FIRST: u64 = 4;
+const FIRST: u32 = 4;
 
-const BESIDES: u64 = 5;
+const BESIDES: u32 = 5;
 
 fn is_built_declaration(d: &Declaration) -> bool
     ensures { result ≡ is_built_declaration d.now }
@@ -33,7 +33,8 @@ pub(crate) fn is_built_event(event: &Event) -> bool
     )
 }
 
-fn unbuilt_declaration(ds: &[Declaration]) -> Option<u64>
+fn unbuilt_declaration(ds: &[Declaration]) -> Option<u32>
+    requires { length ds.now + 4 < 2 ^ 32 }
     ensures { result ≡ first_unbuilt is_built_declaration 4 ds.now }
 {
     let mut line = FIRST;
@@ -46,8 +47,8 @@ fn unbuilt_declaration(ds: &[Declaration]) -> Option<u64>
     None
 }
 
-fn unbuilt_event(first: u64, events: &[Event]) -> Option<u64>
-    requires { first + length events.now < 2 ^ 64 }
+fn unbuilt_event(first: u32, events: &[Event]) -> Option<u32>
+    requires { first + length events.now < 2 ^ 32 }
     ensures { result ≡ first_unbuilt is_built_event first events.now }
 {
     let mut line = first;
@@ -62,12 +63,13 @@ fn unbuilt_event(first: u64, events: &[Event]) -> Option<u64>
 
 /// The first line of a schedule that does not run yet.
 #[tactic(auto, unfolding(mip_history::specs::Permitted::unbuilt_line))]
-pub fn unbuilt(schedule: &Schedule) -> Option<u64>
+pub fn unbuilt(schedule: &Schedule) -> Option<u32>
     ensures { result ≡ unbuilt_line (content schedule.now) }
 {
+    lawful(schedule);
     let ds = schedule.declarations.as_slice();
     match unbuilt_declaration(ds) {
         Some(line) => Some(line),
-        None => unbuilt_event(ds.len() as u64 + BESIDES, schedule.events.as_slice()),
+        None => unbuilt_event(ds.len() as u32 + BESIDES, schedule.events.as_slice()),
     }
 }

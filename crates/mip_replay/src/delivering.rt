@@ -1,6 +1,6 @@
 //! Packets are delivered.
 
-ghost use Rattle.std.specs.Prelude.{◌≡◌, ◌-◌, ◌≤◌, Option, Some, OnOk, option_map, slice_get};
+ghost use Rattle.std.specs.Prelude.{◌≡◌, ◌-◌, ◌<◌, ◌≤◌, length, Option, Some, OnOk, option_map, slice_get};
 ghost use Rattle.mip_links.specs.Table.{Post};
 ghost use Rattle.mip_links.specs.declared.delivery.Delivery.TheVariants.{Gone, Outsider, Node};
 ghost use Rattle.mip_history.specs.Setup.{Setup};
@@ -80,6 +80,7 @@ impl Engine {
         by: u8,
         arrival: Arrival,
     ) -> Result<(), Memory>
+        requires { number < length self.old.net.posts }
         ensures { (s : Setup) (run : Run) (post : Post) → IsAt self.old s run → slice_get run.posts number ≡ Some post → arrival.shield ≡ post.shield → OnOk result (IsAt self.new s (became s number post (option_map (λ l. l.0) arrival.link) run (Node by))) }
     {
         let node = NodeId(by);
@@ -90,6 +91,7 @@ impl Engine {
     }
 
     fn reach(&mut self, alloc: Global, number: u64, arrival: Arrival) -> Result<(), Memory>
+        requires { number < length self.old.net.posts }
         ensures { (s : Setup) (run : Run) (post : Post) → IsAt self.old s run → slice_get run.posts number ≡ Some post → arrival.shield ≡ post.shield → OnOk result (IsAt self.new s (became s number post (option_map (λ l. l.0) arrival.link) run arrival.delivery)) }
     {
         match arrival.delivery {
@@ -104,7 +106,7 @@ impl Engine {
     pub(crate) fn deliver(&mut self, alloc: Global, number: u64, keep: bool) -> Result<(), Memory>
         ensures { (s : Setup) (run : Run) → IsAt self.old s run → OnOk result (IsAt self.new s (delivered s run number keep)) }
     {
-        match self.lift(number, keep)? {
+        match self.lift(number, keep) {
             Some(arrival) => self.reach(alloc, number, arrival),
             None => self.note(Entry::Idle),
         }

@@ -1,4 +1,4 @@
-ghost use Rattle.std.specs.Prelude.{◌≡◌, ◌+◌, ◌<◌, ◌≤◌, ◌^◌, ℕ, Bool, nat_lt, not, true, false, if◌then◌else◌, length, map, IfOk, IfSome, OnOk, Option, Some, option_copied, option_map, slice_get, slice_index_or};
+ghost use Rattle.std.specs.Prelude.{◌≡◌, ◌+◌, ◌<◌, ◌≤◌, ◌^◌, ℕ, Bool, not, true, false, if◌then◌else◌, length, map, IfOk, IfSome, OnOk, Option, None, Some, is_some, option_copied, option_map, slice_get, slice_index_or};
 ghost use Rattle.mip_entries.specs.declared.entry.Entry.TheVariants.{At};
 ghost use Rattle.mip_bcache.specs.Seen.{kept_at};
 ghost use Rattle.mip_links.specs.Table.{Post, link_of, destination_in, in_pool};
@@ -8,12 +8,12 @@ ghost use Rattle.mip_rules_correspondent.specs.Calls.{taken, refreshed, transmit
 ghost use Rattle.mip_history.specs.Delivery.{handed_over, other_link};
 ghost use Rattle.mip_history.specs.Outsiders.{claim_entry};
 ghost use Rattle.mip_replay.specs.Arrivals.{arrival_of, arrival_seen};
+ghost use Rattle.mip_replay.specs.Payloads.{is_payload};
 ghost use Rattle.mip_replay.specs.Engines.{NodeSeen, new_engine, with_entry, with_net, at_moment, turn_by, turned_by, reborn, joined, station_of, claim_tried, released};
 
 use crate::arrival::{Arrival, arrival_of};
 use crate::claims::{claim_own, try_claim};
 use crate::host::Host;
-use crate::limits::{END, HEADER, LINKS, NODES};
 use crate::lowering::lowered;
 use crate::node::Node;
 use mip_bcache::Row;
@@ -28,7 +28,6 @@ use std::marker::Model;
 pub(crate) struct Engine {
     seed: [u8; 32],
     net: Net,
-    links: usize,
     nodes: Vec<Node>,
     outsiders: u8,
     moment: Moment,
@@ -36,8 +35,7 @@ pub(crate) struct Engine {
 }
 
 impl Model for Engine {
-    ghost use Rattle.std.specs.Prelude.{length};
-    ghost use Rattle.mip_replay.specs.Engines.{EngineSeen, IsEngine};
+    ghost use Rattle.mip_replay.specs.Engines.{EngineSeen, IsCalm};
 
     ghost Value = { EngineSeen };
 
@@ -50,11 +48,11 @@ impl Model for Engine {
       past = e.history;
     } };
 
-    ghost invariant = { λ e. IsEngine e.nodes.items e.moment.0 (length e.net.links) e.links };
+    ghost invariant = { λ e. IsCalm e.nodes.items e.moment.0 };
 }
 
 impl Engine {
-    /// A run in which nothing has happened. A schedule has at most 32 links and starts before the last moment.
+    /// A run in which nothing has happened.
     pub(crate) fn new(
         alloc: Global,
         seed: &[u8; 32],
@@ -62,15 +60,13 @@ impl Engine {
         links: &[Prefix],
         outsiders: u8,
     ) -> Result<Engine, Memory>
+        requires few { length links.now ≤ 32 }
+        requires early { start.0 < 2 ^ 62 }
         ensures { IfOk result (λ e. e ≡ new_engine seed.now start.0 (map (λ p. p.0) links.now) outsiders) }
     {
-        if links.len() > usize::from(LINKS) || start.0 >= END {
-            return Err(Memory);
-        }
         Ok(Engine {
             seed: *seed,
             net: Net::new(alloc, links)?,
-            links: links.len(),
             nodes: Vec::new(alloc),
             outsiders,
             moment: start,
@@ -97,13 +93,6 @@ impl Engine {
         self.outsiders
     }
 
-    /// Whether a link has been declared.
-    pub(crate) fn has_link(&self, link: LinkId) -> bool
-        ensures { result ≡ nat_lt link.0 (length self.now.net.links) }
-    {
-        usize::from(link.0) < self.links
-    }
-
     pub(crate) fn link_of(&self, address: Address) -> Option<LinkId>
         ensures { option_map (λ l. l.0) result ≡ link_of self.now.net.links address.0 }
     {
@@ -128,15 +117,13 @@ impl Engine {
         self.net.hears(outsider, link)
     }
 
-    /// Time goes on. The waits of a schedule do not come near the last moment.
+    /// Time goes on.
     #[tactic(auto, using(crate::proofs::NodeLaws::calm_later))]
     pub(crate) fn pass(&mut self, ms: u32) -> Result<(), Memory>
+        requires { self.old.moment + ms < 2 ^ 62 }
         ensures { OnOk result (self.new ≡ with_entry (At (record { 0 = self.old.moment + ms })) (at_moment (self.old.moment + ms) self.old)) }
     {
         let now = self.moment.0 + u64::from(ms);
-        if now >= END {
-            return Err(Memory);
-        }
         self.history.push(Entry::At {
             moment: Moment(now),
         })?;
@@ -144,7 +131,7 @@ impl Engine {
         Ok(())
     }
 
-    /// A packet enters the pool, with the next number. Every packet has its fixed header.
+    /// A packet enters the pool, with the next number.
     pub(crate) fn post(
         &mut self,
         alloc: Global,
@@ -152,12 +139,10 @@ impl Engine {
         shield: Option<Shield>,
         packet: &[u8],
     ) -> Result<u64, Memory>
+        requires { 40 ≤ length packet.now }
         ensures number { IfOk result (λ k. k ≡ length self.old.net.posts) }
         ensures after { OnOk result (self.new ≡ with_net (posted self.old.net (record { from = from.0; shield = shield; packet = packet.now })) self.old) }
     {
-        if packet.len() < HEADER {
-            return Err(Memory);
-        }
         let packet = Bytes::copy(alloc, packet)?;
         self.net.post(from, shield, packet)
     }
@@ -177,9 +162,10 @@ impl Engine {
         self.net.lowest()
     }
 
-    /// The bytes of a packet as it was posted.
+    /// The bytes of a packet as it was posted: its fixed header at least.
     pub(crate) fn packet(&self, number: u64) -> Option<&[u8]>
-        ensures { option_map (λ p. p.now) result ≡ option_map (λ p. p.packet) (slice_get self.now.net.posts number) }
+        ensures found { option_map (λ p. p.now) result ≡ option_map (λ p. p.packet) (slice_get self.now.net.posts number) }
+        ensures whole { IfSome result (λ p. 40 ≤ length p.now) }
     {
         match self.net.packet(number) {
             Some(packet) => Some(packet.as_slice()),
@@ -189,16 +175,16 @@ impl Engine {
 
     /// A packet of the pool, and what becomes of it; it leaves the pool unless it is kept.
     #[tactic(auto, using(crate::proofs::DeliveryLaws::come_posted))]
-    pub(crate) fn lift(&mut self, number: u64, keep: bool) -> Result<Option<Arrival>, Memory>
-        ensures found { IfOk result (λ a. option_map arrival_seen a ≡ option_map (arrival_of self.old.net) (in_pool self.old.net.flying self.old.net.posts number)) }
-        ensures after { OnOk result (self.new ≡ with_net (if keep then self.old.net else left self.old.net number) self.old) }
+    pub(crate) fn lift(&mut self, number: u64, keep: bool) -> Option<Arrival>
+        ensures found { option_map arrival_seen result ≡ option_map (arrival_of self.old.net) (in_pool self.old.net.flying self.old.net.posts number) }
+        ensures after { self.new ≡ with_net (if keep then self.old.net else left self.old.net number) self.old }
+        ensures posted { IfSome result (λ _. number < length self.new.net.posts) }
     {
         let delivery = self.net.deliver(number, keep);
         if delivery == Delivery::Idle {
-            return Ok(None);
+            return None;
         }
-        let arrival = arrival_of(&self.net, number, delivery)?;
-        Ok(Some(arrival))
+        Some(arrival_of(&self.net, number, delivery))
     }
 
     /// A packet as it is handed over: its hop limit is one less where it has come to another link.
@@ -208,10 +194,11 @@ impl Engine {
         number: u64,
         link: Option<LinkId>,
     ) -> Result<Bytes, Memory>
+        requires { number < length self.now.net.posts }
         ensures { IfOk result (λ b. (post : Post) → slice_get self.now.net.posts number ≡ Some post → b ≡ handed_over post.packet (option_map (λ l. l.0) link)) }
     {
         let Some(packet) = self.net.packet(number) else {
-            return Err(Memory);
+            unreachable!();
         };
         match link {
             Some(_) => lowered(alloc, packet.as_slice()),
@@ -226,7 +213,8 @@ impl Engine {
         link: LinkId,
         address: Address,
     ) -> Result<Entry, Memory>
-        requires { who < 40 }
+        requires who { who < 40 }
+        requires link { link_of self.old.net.links address.0 ≡ Some link.0 }
         ensures entry { IfOk result (λ x. x ≡ claim_entry who address link.0 (holder_of self.old.net.rows address.0)) }
         ensures after { OnOk result (self.new ≡ with_net (claim_tried self.old.net who address) self.old) }
     {
@@ -289,7 +277,9 @@ impl Engine {
         proto: u8,
         payload: &[u8],
     ) -> Result<Answers, Memory>
-        requires { node.0 < length self.old.nodes }
+        requires node { node.0 < length self.old.nodes }
+        requires data { is_payload proto ≡ true }
+        requires short { length payload.now ≤ 512 }
         ensures answers { (c : NodeSeen) → slice_get self.old.nodes node.0 ≡ Some c → IfOk result (λ a. a ≡ answers_of (turn_by (λ me k now. transmitted me k now to proto payload.now) c self.old.moment).steps) }
         ensures after { (c : NodeSeen) → slice_get self.old.nodes node.0 ≡ Some c → OnOk result (self.new ≡ turned_by (λ me k now. transmitted me k now to proto payload.now) node.0 c self.old) }
     {
@@ -316,7 +306,8 @@ impl Engine {
     /// A node begins its next life.
     #[tactic(auto, using(crate::proofs::NodeLaws::calm_set, std::proofs::lemmas::Option::get_or_from_slice_get))]
     pub(crate) fn renew(&mut self, alloc: Global, node: NodeId) -> Result<(), Memory>
-        requires { node.0 < length self.old.nodes }
+        requires node { node.0 < length self.old.nodes }
+        requires life { (c : NodeSeen) → slice_get self.old.nodes node.0 ≡ Some c → c.life + 1 < 2 ^ 32 }
         ensures { (c : NodeSeen) → slice_get self.old.nodes node.0 ≡ Some c → OnOk result (self.new ≡ reborn node.0 c self.old) }
     {
         let place = usize::from(node.0);
@@ -327,7 +318,8 @@ impl Engine {
     /// The row at a place among those that a node keeps, in order of home address.
     #[tactic(auto, using(std::proofs::lemmas::Option::get_or_from_slice_get))]
     pub(crate) fn row(&self, node: NodeId, place: u32) -> Option<Row>
-        ensures { (c : NodeSeen) → slice_get self.now.nodes node.0 ≡ Some c → result ≡ slice_get (kept_at c.role.known.cache self.now.moment) place }
+        ensures found { (c : NodeSeen) → slice_get self.now.nodes node.0 ≡ Some c → result ≡ slice_get (kept_at c.role.known.cache self.now.moment) place }
+        ensures few { (c : NodeSeen) → slice_get self.now.nodes node.0 ≡ Some c → length (kept_at c.role.known.cache self.now.moment) < 2 ^ 32 }
     {
         let node = self.nodes.get(usize::from(node.0))?;
         match node.row(self.moment, place) {
@@ -336,21 +328,18 @@ impl Engine {
         }
     }
 
-    /// A node more, which holds its address. A schedule has at most 32 nodes, each on a link and each with an
-    /// address of its own.
+    /// A node more, which holds its address: one on a link, which nobody has.
     #[tactic(auto, using(crate::proofs::NodeLaws::calm_push))]
     pub(crate) fn join(&mut self, alloc: Global, host: &Host) -> Result<(), Memory>
-        ensures few { OnOk result (length self.old.nodes < 32) }
-        ensures after { OnOk result (self.new ≡ joined host.now self.old) }
+        requires few { length self.old.nodes < 32 }
+        requires on_link { is_some (link_of self.old.net.links host.now.address.0) ≡ true }
+        requires free { holder_of self.old.net.rows host.now.address.0 ≡ None }
+        ensures { OnOk result (self.new ≡ joined host.now self.old) }
     {
-        let count = self.nodes.len();
-        if usize::from(NODES) <= count {
-            return Err(Memory);
-        }
-        let number = count as u8;
+        let number = self.nodes.len() as u8;
         let address = host.address();
         let Some(link) = self.net.link_of(address) else {
-            return Err(Memory);
+            unreachable!()
         };
         let node = Node::new(alloc, &self.seed, NodeId(number), 0, host)?;
         self.nodes.push(node)?;

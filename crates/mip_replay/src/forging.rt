@@ -1,10 +1,10 @@
 //! The packets of outsiders: inits of tests, tests and updates.
 
-ghost use Rattle.std.specs.Prelude.{◌≡◌, IfOk, OnOk, option_map, Option, Some, ℕ};
+ghost use Rattle.std.specs.Prelude.{◌≡◌, ◌≤◌, length, true, IfOk, IfSome, OnOk, option_map, Option, Some, ℕ};
+ghost use Rattle.mip_words.specs.Addresses.{is_routable};
 ghost use Rattle.mip_options.specs.Values.{nothing, set_values};
 ghost use Rattle.mip_mobhdr.specs.Said.{said_plain};
 ghost use Rattle.mip_says.specs.Says.{kind_of};
-ghost use Rattle.mip_signals.specs.Packets.{signal};
 ghost use Rattle.mip_history.specs.Setup.{Setup};
 ghost use Rattle.mip_history.specs.Runs.{Run};
 ghost use Rattle.mip_history.specs.Outsiders.{asking_in, injected, injected_if, probe_packet, tell_of, tell_with, test_in, test_init, test_packet, update_packet};
@@ -14,10 +14,9 @@ ghost use Rattle.mip_replay.specs.Standing.{IsAt};
 use crate::asking::{Asking, asking_in, test_message};
 use crate::binding::{Binding, bind_packet};
 use crate::engine::Engine;
-use crate::limits::{DESTINATION, HEADER, MOBILITY, SOURCE};
+use crate::limits::{DESTINATION, MOBILITY, SOURCE};
 use crate::told::{Told, told_in};
 use mip_entries::Entry;
-use mip_ipv6::Head;
 use mip_mobhdr::Plain;
 use mip_options::OptionSet;
 use mip_says::TestKind;
@@ -47,16 +46,7 @@ fn test_init(careof: bool, cookie: Cookie) -> Plain
     }
 }
 
-/// A packet with a message. Every head of a packet without extension headers can be written.
-fn written(alloc: Global, head: &Head, message: &Plain) -> Result<Bytes, Memory>
-    ensures { IfOk result (λ b. b ≡ signal head.now (said_plain message.now)) }
-{
-    if !head.plain() {
-        return Err(Memory);
-    }
-    write_signal(alloc, head, message)
-}
-
+#[tactic(auto, using(crate::proofs::ForgingLaws::straight_plain))]
 fn probe_packet(
     alloc: Global,
     careof: bool,
@@ -64,25 +54,26 @@ fn probe_packet(
     peer: Address,
     cookie: Cookie,
 ) -> Result<Bytes, Memory>
-    ensures { IfOk result (λ b. b ≡ probe_packet careof source peer cookie.0) }
+    ensures is { IfOk result (λ b. b ≡ probe_packet careof source peer cookie.0) }
+    ensures long { IfOk result (λ b. 40 ≤ length b) }
 {
     let head = straight(source, peer, MOBILITY);
     let message = test_init(careof, cookie);
-    written(alloc, &head, &message)
+    write_signal(alloc, &head, &message)
 }
 
 /// The test that answers an init, from where that went to where it came from.
+#[tactic(auto, using(crate::proofs::ForgingLaws::straight_plain))]
 fn tell_packet(alloc: Global, init: &[u8], asking: Asking, told: Told) -> Result<Bytes, Memory>
-    ensures { IfOk result (λ b. Some b ≡ tell_with init.now (seen.asking asking) (Some (seen.told told))) }
+    requires { 40 ≤ length init.now }
+    ensures is { IfOk result (λ b. Some b ≡ tell_with init.now (seen.asking asking) (Some (seen.told told))) }
+    ensures long { IfOk result (λ b. 40 ≤ length b) }
 {
-    if init.len() < HEADER {
-        return Err(Memory);
-    }
     let source = Address::at(init, DESTINATION);
     let peer = Address::at(init, SOURCE);
     let head = straight(source, peer, MOBILITY);
     let message = test_message(asking, told);
-    written(alloc, &head, &message)
+    write_signal(alloc, &head, &message)
 }
 
 impl Engine {
@@ -105,7 +96,9 @@ impl Engine {
         home: u64,
         careof: Option<u64>,
     ) -> Result<Option<Bytes>, Memory>
-        ensures { IfOk result (λ b. b ≡ update_packet (seen.binding binding) self.now.net.posts home careof) }
+        requires { is_routable binding.home.0 ≡ true }
+        ensures is { IfOk result (λ b. b ≡ update_packet (seen.binding binding) self.now.net.posts home careof) }
+        ensures long { IfOk result (λ b. IfSome b (λ p. 40 ≤ length p)) }
     {
         let Some(home) = self.told_at(TestKind::Home, home) else {
             return Ok(None);
@@ -126,7 +119,8 @@ impl Engine {
     /// The test with the token of one packet that answers the init in another.
     #[tactic(auto, unfolding(mip_history::specs::Outsiders::test_packet))]
     fn test(&self, alloc: Global, test: u64, init: u64) -> Result<Option<Bytes>, Memory>
-        ensures { IfOk result (λ b. b ≡ test_packet self.now.net.posts test init) }
+        ensures is { IfOk result (λ b. b ≡ test_packet self.now.net.posts test init) }
+        ensures long { IfOk result (λ b. IfSome b (λ p. 40 ≤ length p)) }
     {
         match self.packet(init) {
             Some(init) => self.test_for(alloc, test, init),
@@ -135,7 +129,9 @@ impl Engine {
     }
 
     fn test_for(&self, alloc: Global, test: u64, init: &[u8]) -> Result<Option<Bytes>, Memory>
-        ensures { IfOk result (λ b. b ≡ tell_of self.now.net.posts test init.now (asking_in init.now)) }
+        requires { 40 ≤ length init.now }
+        ensures is { IfOk result (λ b. b ≡ tell_of self.now.net.posts test init.now (asking_in init.now)) }
+        ensures long { IfOk result (λ b. IfSome b (λ p. 40 ≤ length p)) }
     {
         let Some(asking) = asking_in(init) else {
             return Ok(None);
@@ -154,6 +150,7 @@ impl Engine {
         link: LinkId,
         packet: Option<Bytes>,
     ) -> Result<(), Memory>
+        requires { IfSome packet (λ p. 40 ≤ length p) }
         ensures { (s : Setup) (run : Run) → IsAt self.old s run → OnOk result (IsAt self.new s (injected_if s run outsider link.0 packet)) }
     {
         match packet {
@@ -189,6 +186,7 @@ impl Engine {
         home: u64,
         careof: Option<u64>,
     ) -> Result<(), Memory>
+        requires { is_routable binding.home.0 ≡ true }
         ensures { (s : Setup) (run : Run) → IsAt self.old s run → OnOk result (IsAt self.new s (injected_if s run outsider link.0 (update_packet (seen.binding binding) run.posts home careof))) }
     {
         let packet = self.update(alloc, binding, home, careof)?;

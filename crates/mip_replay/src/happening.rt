@@ -1,13 +1,14 @@
 //! What each event makes of a run.
 
-ghost use Rattle.std.specs.Prelude.{◌≡◌, OnOk};
+ghost use Rattle.std.specs.Prelude.{◌≡◌, true, false, OnOk};
 ghost use Rattle.mip_history.specs.Setup.{Setup};
 ghost use Rattle.mip_history.specs.Runs.{Run};
-ghost use Rattle.mip_history.specs.Permitted.{happens};
+ghost use Rattle.mip_history.specs.Permitted.{happens, is_built_event};
+ghost use Rattle.mip_replay.specs.Groups.{is_bind, is_posting};
+ghost use Rattle.mip_replay.specs.Ready.{IsReady};
 ghost use Rattle.mip_replay.specs.Standing.{IsAt};
 
 use crate::binding::Binding;
-use crate::built::is_built_event;
 use crate::engine::Engine;
 use mip_entries::Entry;
 use mip_schedule::Event;
@@ -15,21 +16,10 @@ use mip_words::Memory;
 use std::alloc::Global;
 
 impl Engine {
-    /// Outsiders listen and take addresses. No other event comes here.
-    fn outsider_moves(&mut self, event: &Event) -> Result<(), Memory>
-        ensures { (s : Setup) (run : Run) → IsAt self.old s run → OnOk result (IsAt self.new s (happens s run event.now)) }
-    {
-        match event {
-            Event::Listen { outsider, link } => self.listen(*outsider, *link),
-            Event::Deaf { outsider, link } => self.deafen(*outsider, *link),
-            Event::Squat { outsider, address } => self.squat(*outsider, *address),
-            Event::Yield { outsider, address } => self.yield_up(*outsider, *address),
-            _ => Err(Memory),
-        }
-    }
-
-    /// An outsider posts an update. No other event comes here.
+    /// An outsider posts an update.
     fn outsider_binds(&mut self, alloc: Global, event: &Event) -> Result<(), Memory>
+        requires kind { is_bind event.now ≡ true }
+        requires ready { IsReady self.old event.now }
         ensures { (s : Setup) (run : Run) → IsAt self.old s run → OnOk result (IsAt self.new s (happens s run event.now)) }
     {
         let Event::Bind {
@@ -45,7 +35,7 @@ impl Engine {
             careof_test,
         } = event
         else {
-            return Err(Memory);
+            unreachable!();
         };
         let binding = Binding {
             source: *source,
@@ -69,8 +59,10 @@ impl Engine {
         )
     }
 
-    /// Outsiders post packets. No other event comes here.
+    /// Outsiders post packets.
     fn outsider_posts(&mut self, alloc: Global, event: &Event) -> Result<(), Memory>
+        requires kind { is_posting event.now ≡ true }
+        requires ready { IsReady self.old event.now }
         ensures { (s : Setup) (run : Run) → IsAt self.old s run → OnOk result (IsAt self.new s (happens s run event.now)) }
     {
         match event {
@@ -93,28 +85,36 @@ impl Engine {
                 test,
                 probe,
             } => self.tell(alloc, *outsider, *link, u64::from(*test), u64::from(*probe)),
-            _ => Err(Memory),
+            _ => unreachable!(),
         }
     }
 
-    /// Packets are delivered or lost. No other event comes here.
-    fn traffic(&mut self, alloc: Global, event: &Event) -> Result<(), Memory>
+    /// Events that do nothing yet.
+    fn nothing_happens(&mut self, event: &Event) -> Result<(), Memory>
+        requires { is_built_event event.now ≡ false }
+        ensures { (s : Setup) (run : Run) → IsAt self.old s run → OnOk result (IsAt self.new s (happens s run event.now)) }
+    {
+        self.note(Entry::Idle)
+    }
+
+    /// An event happens that finds the engine ready.
+    pub(crate) fn happen(&mut self, alloc: Global, event: &Event) -> Result<(), Memory>
+        requires ready { IsReady self.old event.now }
         ensures { (s : Setup) (run : Run) → IsAt self.old s run → OnOk result (IsAt self.new s (happens s run event.now)) }
     {
         match event {
+            Event::Listen { outsider, link } => self.listen(*outsider, *link),
+            Event::Deaf { outsider, link } => self.deafen(*outsider, *link),
+            Event::Squat { outsider, address } => self.squat(*outsider, *address),
+            Event::Yield { outsider, address } => self.yield_up(*outsider, *address),
+            Event::Bind { .. } => self.outsider_binds(alloc, event),
+            Event::Inject { .. } | Event::Probe { .. } | Event::Tell { .. } => {
+                self.outsider_posts(alloc, event)
+            }
             Event::Deliver { number } => self.deliver(alloc, u64::from(*number), false),
             Event::Repeat { number } => self.deliver(alloc, u64::from(*number), true),
             Event::Lose { number } => self.drop_packet(u64::from(*number)),
             Event::Carry { count } => self.carry(alloc, *count),
-            _ => Err(Memory),
-        }
-    }
-
-    /// Time goes on, and nodes act. No other event comes here.
-    fn node_acts(&mut self, alloc: Global, event: &Event) -> Result<(), Memory>
-        ensures { (s : Setup) (run : Run) → IsAt self.old s run → OnOk result (IsAt self.new s (happens s run event.now)) }
-    {
-        match event {
             Event::Wait { ms } => self.wait(*ms),
             Event::Payload {
                 node,
@@ -125,40 +125,6 @@ impl Engine {
             Event::Restart { node } => self.restart(alloc, *node),
             Event::Refresh { node, home } => self.refresh(alloc, *node, *home),
             Event::Show { node } => self.show(*node),
-            _ => Err(Memory),
-        }
-    }
-
-    /// Events that do nothing yet. No other event comes here.
-    fn nothing_happens(&mut self, event: &Event) -> Result<(), Memory>
-        ensures { (s : Setup) (run : Run) → IsAt self.old s run → OnOk result (IsAt self.new s (happens s run event.now)) }
-    {
-        if is_built_event(event) {
-            return Err(Memory);
-        }
-        self.note(Entry::Idle)
-    }
-
-    /// An event happens.
-    pub(crate) fn happen(&mut self, alloc: Global, event: &Event) -> Result<(), Memory>
-        ensures { (s : Setup) (run : Run) → IsAt self.old s run → OnOk result (IsAt self.new s (happens s run event.now)) }
-    {
-        match event {
-            Event::Listen { .. } | Event::Deaf { .. } | Event::Squat { .. } | Event::Yield { .. } =>
-                self.outsider_moves(event),
-            Event::Bind { .. } => self.outsider_binds(alloc, event),
-            Event::Inject { .. } | Event::Probe { .. } | Event::Tell { .. } => {
-                self.outsider_posts(alloc, event)
-            }
-            Event::Deliver { .. }
-            | Event::Repeat { .. }
-            | Event::Lose { .. }
-            | Event::Carry { .. } => self.traffic(alloc, event),
-            Event::Wait { .. }
-            | Event::Payload { .. }
-            | Event::Restart { .. }
-            | Event::Refresh { .. }
-            | Event::Show { .. } => self.node_acts(alloc, event),
             _ => self.nothing_happens(event),
         }
     }

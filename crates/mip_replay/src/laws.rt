@@ -1,11 +1,14 @@
 //! Laws of the histories that a replay answers.
 
+ghost use Rattle.std.specs.Prelude.{◌≡◌, ℕ, List, Ok};
 ghost use Rattle.mip_schedule.specs.Contents.{Content};
+ghost use Rattle.mip_schedule.specs.Reading.{reading};
 ghost use Rattle.mip_history.specs.Setup.{setup_of};
 ghost use Rattle.mip_history.specs.Permitted.{permitted};
-ghost use Rattle.mip_replay.specs.Bindings.{EachIsBound};
+ghost use Rattle.mip_replay.specs.Bindings.{EachIsBound, EachRepeatIsLate};
 
-use mip_history::held_was_accepted;
+use mip_history::{held_was_accepted, repeats_come_after_rounds};
+use mip_schedule::waits_are_short;
 
 /// In the permitted history of every schedule each care-of address that is held has its accepted update.
 #[tactic(auto, unfolding(crate::specs::Bindings::EachIsBound))]
@@ -13,4 +16,13 @@ pub fn each_is_bound()
     ensures { (c : Content) → EachIsBound (setup_of c) (permitted c) }
 {
     held_was_accepted();
+}
+
+/// In the permitted history of every schedule that is read the same update is accepted again in one life only where the
+/// sequences of its home have gone round since then.
+pub fn each_repeat_is_late()
+    ensures { (text : List ℕ) (c : Content) → reading text ≡ Ok c → EachRepeatIsLate (permitted c) }
+{
+    repeats_come_after_rounds();
+    waits_are_short();
 }

@@ -1,4 +1,4 @@
-ghost use Rattle.std.specs.Prelude.{◌≡◌, ◌<◌, ◌≤◌, ◌^◌, suc, not, ◌&&◌, length, IfOk, OnOk, OnErr, option_copied, slice_get};
+ghost use Rattle.std.specs.Prelude.{◌≡◌, ◌+◌, ◌<◌, ◌≤◌, ◌^◌, suc, true, length, IfOk, OnOk, OnErr, option_copied, slice_get};
 ghost use Rattle.mip_bcache.specs.Seen.{kept_at};
 ghost use Rattle.mip_replay.specs.Payloads.{is_payload};
 ghost use Rattle.mip_rules_correspondent.specs.Steps.{answers_of};
@@ -13,9 +13,6 @@ use mip_nonce::Secrets;
 use mip_words::{Address, Memory, Moment, NodeId, Shield};
 use std::alloc::Global;
 use std::marker::Model;
-
-/// How many bytes of data a node sends at most.
-const PAYLOAD: usize = 512;
 
 /// A node of a run.
 #[derive(Drop)]
@@ -49,18 +46,17 @@ impl Node {
         Ok(Node { host, life, role })
     }
 
-    /// The node in its next life. No run of a schedule has so many restarts that the count ends.
+    /// The node in its next life.
     pub(crate) fn reborn(
         &self,
         alloc: Global,
         seed: &[u8; 32],
         node: NodeId,
     ) -> Result<Node, Memory>
+        requires { self.now.life + 1 < 2 ^ 32 }
         ensures { IfOk result (λ c. c ≡ new_node seed.now node.0 (suc self.now.life) self.now.host) }
     {
-        let Some(life) = self.life.checked_add(1) else {
-            return Err(Memory);
-        };
+        let life = self.life + 1;
         Node::new(alloc, seed, node, life, &self.host)
     }
 
@@ -90,7 +86,7 @@ impl Node {
         self.role.take(alloc, now, number, shield, packet)
     }
 
-    /// The node is asked to send data. No schedule asks for data of another kind or length.
+    /// The node is asked to send data, of 512 bytes at most.
     #[tactic(auto, using(crate::proofs::NodeLaws::transmitted_timely))]
     pub(crate) fn send(
         &mut self,
@@ -102,14 +98,13 @@ impl Node {
     ) -> Result<Answers, Memory>
         requires later { self.old.role.known.last.0 ≤ now.0 }
         requires early { now.0 < 2 ^ 62 }
+        requires data { is_payload proto ≡ true }
+        requires short { length payload.now ≤ 512 }
         ensures answers { IfOk result (λ a. a ≡ answers_of (transmitted self.old.role.identity self.old.role.known now.0 to proto payload.now).steps) }
         ensures after { OnOk result (self.new ≡ with_known (transmitted self.old.role.identity self.old.role.known now.0 to proto payload.now).known self.old) }
         ensures err { OnErr result (self.new ≡ self.old) }
         ensures timely { self.new.role.known.last.0 ≤ now.0 }
     {
-        if !is_payload(proto) || payload.len() > PAYLOAD {
-            return Err(Memory);
-        }
         self.role.send(alloc, now, to, proto, payload)
     }
 
@@ -134,15 +129,9 @@ impl Node {
     /// The row at a place among those kept, in order of home address.
     pub(crate) fn row(&self, now: Moment, place: u32) -> Option<&Row>
         requires { self.now.role.known.last.0 ≤ now.0 }
-        ensures { option_copied result ≡ slice_get (kept_at self.now.role.known.cache now.0) place }
+        ensures found { option_copied result ≡ slice_get (kept_at self.now.role.known.cache now.0) place }
+        ensures few { length (kept_at self.now.role.known.cache now.0) < 2 ^ 32 }
     {
         self.role.row(now, place)
     }
-}
-
-/// Whether a next-header number names data.
-fn is_payload(proto: u8) -> bool
-    ensures { result ≡ is_payload proto }
-{
-    !matches!(proto, 0 | 41 | 43 | 44 | 50 | 51 | 58 | 59 | 60 | 135)
 }

@@ -1,6 +1,6 @@
 //! Outsiders listen, and take addresses.
 
-ghost use Rattle.std.specs.Prelude.{◌≡◌, ◌+◌, ◌<◌, ◌≤◌, length, if◌then◌else◌, Some, IfNone, IfSome, OnOk};
+ghost use Rattle.std.specs.Prelude.{◌≡◌, ◌+◌, ◌<◌, length, if◌then◌else◌, Some, OnOk};
 ghost use Rattle.mip_entries.specs.declared.entry.Entry.TheVariants.{Idle, Released};
 ghost use Rattle.mip_links.specs.Nets.{is_held_by};
 ghost use Rattle.mip_links.specs.Table.{link_of};
@@ -11,25 +11,22 @@ ghost use Rattle.mip_history.specs.Outsiders.{claim_entry, deafens, listens, squ
 ghost use Rattle.mip_replay.specs.Standing.{IsAt};
 
 use crate::engine::Engine;
-use crate::limits::{FIRST_OUTSIDER, LINKS, OUTSIDERS};
+use crate::limits::FIRST_OUTSIDER;
 use mip_entries::Entry;
 use mip_words::{Address, LinkId, Memory};
 
-/// An outsider among those that hold addresses. A schedule has no more than 8.
-fn holder(outsider: u8) -> Option<u8>
-    ensures is { IfSome result (λ who. who ≡ outsider + 32) }
-    ensures small { IfSome result (λ who. who < 40) }
-    ensures none { IfNone result (8 ≤ outsider) }
+/// An outsider among those that hold addresses.
+fn holder(outsider: u8) -> u8
+    requires { outsider < 8 }
+    ensures is { result ≡ outsider + 32 }
+    ensures small { result < 40 }
 {
-    if outsider < OUTSIDERS {
-        Some(outsider + FIRST_OUTSIDER)
-    } else {
-        None
-    }
+    outsider + FIRST_OUTSIDER
 }
 
 impl Engine {
-    fn listen_on(&mut self, outsider: u8, link: LinkId) -> Result<(), Memory>
+    /// An outsider listens on a link from now on.
+    pub(crate) fn listen(&mut self, outsider: u8, link: LinkId) -> Result<(), Memory>
         requires outsider { outsider < 8 }
         requires small { link.0 < 32 }
         requires link { link.0 < length self.old.net.links }
@@ -41,17 +38,8 @@ impl Engine {
         self.note(Entry::Idle)
     }
 
-    /// An outsider listens on a link from now on. No schedule names an outsider or a link that is not declared.
-    pub(crate) fn listen(&mut self, outsider: u8, link: LinkId) -> Result<(), Memory>
-        ensures { (s : Setup) (run : Run) → IsAt self.old s run → OnOk result (IsAt self.new s (listens run outsider link.0)) }
-    {
-        if outsider >= OUTSIDERS || link.0 >= LINKS || !self.has_link(link) {
-            return Err(Memory);
-        }
-        self.listen_on(outsider, link)
-    }
-
-    fn deafen_on(&mut self, outsider: u8, link: LinkId) -> Result<(), Memory>
+    /// And no more.
+    pub(crate) fn deafen(&mut self, outsider: u8, link: LinkId) -> Result<(), Memory>
         requires outsider { outsider < 8 }
         requires small { link.0 < 32 }
         requires link { link.0 < length self.old.net.links }
@@ -63,18 +51,9 @@ impl Engine {
         self.note(Entry::Idle)
     }
 
-    /// And no more.
-    pub(crate) fn deafen(&mut self, outsider: u8, link: LinkId) -> Result<(), Memory>
-        ensures { (s : Setup) (run : Run) → IsAt self.old s run → OnOk result (IsAt self.new s (deafens run outsider link.0)) }
-    {
-        if outsider >= OUTSIDERS || link.0 >= LINKS || !self.has_link(link) {
-            return Err(Memory);
-        }
-        self.deafen_on(outsider, link)
-    }
-
     fn squat_on(&mut self, who: u8, link: LinkId, address: Address) -> Result<(), Memory>
-        requires { who < 40 }
+        requires who { who < 40 }
+        requires link { link_of self.old.net.links address.0 ≡ Some link.0 }
         ensures { (s : Setup) (run : Run) → IsAt self.old s run → link_of self.old.net.links address.0 ≡ Some link.0 → OnOk result (IsAt self.new s (note (claim_entry who address link.0 (holder_in run.past address.0)) run)) }
     {
         let entry = self.take_claim(who, link, address)?;
@@ -83,11 +62,10 @@ impl Engine {
 
     /// An outsider takes an address, if nobody else has it.
     pub(crate) fn squat(&mut self, outsider: u8, address: Address) -> Result<(), Memory>
+        requires { outsider < 8 }
         ensures { (s : Setup) (run : Run) → IsAt self.old s run → OnOk result (IsAt self.new s (squats s run outsider address)) }
     {
-        let Some(who) = holder(outsider) else {
-            return Err(Memory);
-        };
+        let who = holder(outsider);
         match self.link_of(address) {
             Some(link) => self.squat_on(who, link, address),
             None => self.note(Entry::Idle),
@@ -105,11 +83,10 @@ impl Engine {
 
     /// And gives it up.
     pub(crate) fn yield_up(&mut self, outsider: u8, address: Address) -> Result<(), Memory>
+        requires { outsider < 8 }
         ensures { (s : Setup) (run : Run) → IsAt self.old s run → OnOk result (IsAt self.new s (yields s run outsider address)) }
     {
-        let Some(who) = holder(outsider) else {
-            return Err(Memory);
-        };
+        let who = holder(outsider);
         match self.link_of(address) {
             Some(link) => self.yield_on(who, link, address),
             None => self.note(Entry::Idle),

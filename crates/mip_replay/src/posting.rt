@@ -1,6 +1,6 @@
 //! Packets are posted, and outsiders hear them.
 
-ghost use Rattle.std.specs.Prelude.{◌≡◌, [], ◌∷◌, length, if◌then◌else◌, None, Some, is_some, OnOk};
+ghost use Rattle.std.specs.Prelude.{◌≡◌, ◌≤◌, [], ◌∷◌, length, if◌then◌else◌, None, Some, is_some, OnOk};
 ghost use Rattle.mip_entries.specs.declared.entry.Entry.TheVariants.{Heard, Sent};
 ghost use Rattle.mip_history.specs.Setup.{Setup};
 ghost use Rattle.mip_history.specs.Runs.{Run};
@@ -77,6 +77,7 @@ impl Engine {
         shield: Option<Shield>,
         packet: &[u8],
     ) -> Result<(), Memory>
+        requires { 40 ≤ length packet.now }
         ensures { (s : Setup) (run : Run) → IsAt self.old s run → OnOk result (IsAt self.new s (posted s (record { from = from.0; shield = shield; packet = packet.now }) None (Sent (length run.posts) node (is_some shield) packet.now) run)) }
     {
         let number = self.post(alloc, from, shield, packet)?;
@@ -98,6 +99,7 @@ impl Engine {
         link: LinkId,
         packet: &[u8],
     ) -> Result<(), Memory>
+        requires { 40 ≤ length packet.now }
         ensures { (s : Setup) (run : Run) → IsAt self.old s run → OnOk result (IsAt self.new s (injected s run outsider link.0 packet.now)) }
     {
         let number = self.post(alloc, link, None, packet)?;

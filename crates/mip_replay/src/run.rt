@@ -3,21 +3,28 @@
 ghost use Rattle.std.specs.Prelude.{◌≡◌, [], IfOk, OnOk};
 ghost use Rattle.mip_history.specs.Setup.{setup_of};
 ghost use Rattle.mip_history.specs.Permitted.{permitted, run_of};
+ghost use Rattle.mip_schedule.specs.Lawful.{IsLawful};
+ghost use Rattle.mip_schedule.specs.Places.{AreFew};
 ghost use Rattle.mip_schedule.specs.Schedules.{content};
-ghost use Rattle.mip_replay.specs.Bindings.{EachIsBound};
+ghost use Rattle.mip_replay.specs.Bindings.{EachIsBound, EachRepeatIsLate};
 ghost use Rattle.mip_replay.specs.Standing.{IsAt};
 
 use crate::engine::Engine;
 use mip_entries::History;
-use mip_history::held_was_accepted;
-use mip_schedule::Schedule;
+use mip_history::{held_was_accepted, lives_are_restarts, moments_rise, repeats_come_after_rounds};
+use mip_schedule::{Schedule, few, lawful, spelling_read, waits_are_short};
 use mip_words::Memory;
 use std::alloc::Global;
 
-/// The events of a schedule happen, one after the other.
+/// The events of a schedule happen, one after the other. Each finds the engine ready.
 fn run(alloc: Global, engine: &mut Engine, schedule: &Schedule) -> Result<(), Memory>
-    ensures { IsAt engine.old (setup_of (content schedule.now)) (run_of (setup_of (content schedule.now)) []) → OnOk result (IsAt engine.new (setup_of (content schedule.now)) (run_of (setup_of (content schedule.now)) schedule.now.events)) }
+    requires lawful { IsLawful (content schedule.now) }
+    requires few { AreFew schedule.now.declarations }
+    requires opened { IsAt engine.old (setup_of (content schedule.now)) (run_of (setup_of (content schedule.now)) []) }
+    ensures { OnOk result (IsAt engine.new (setup_of (content schedule.now)) (run_of (setup_of (content schedule.now)) schedule.now.events)) }
 {
+    moments_rise();
+    lives_are_restarts();
     for event in schedule.events.as_slice() {
         engine.happen(alloc, event)?;
     }
@@ -28,6 +35,8 @@ fn run(alloc: Global, engine: &mut Engine, schedule: &Schedule) -> Result<(), Me
 fn run_whole(alloc: Global, schedule: &Schedule) -> Result<History, Memory>
     ensures { IfOk result (λ h. h ≡ permitted (content schedule.now)) }
 {
+    few(schedule);
+    lawful(schedule);
     let mut engine = Engine::open(alloc, schedule)?;
     run(alloc, &mut engine, schedule)?;
     Ok(engine.into_history())
@@ -37,10 +46,15 @@ fn run_whole(alloc: Global, schedule: &Schedule) -> Result<History, Memory>
 ///
 /// In it a care-of address is held only by an update that was accepted in this life of the node, the last of its
 /// home, with the verdict Accept on its bytes under nonces that were valid then, and in sequence after what stood.
+/// The same update is accepted again in one life only where the sequences of its home have gone round since then.
 pub fn replay(alloc: Global, schedule: &Schedule) -> Result<History, Memory>
     ensures permitted { IfOk result (λ h. h ≡ permitted (content schedule.now)) }
     ensures bound { IfOk result (λ h. EachIsBound (setup_of (content schedule.now)) h) }
+    ensures repeats { IfOk result (λ h. EachRepeatIsLate h) }
 {
     held_was_accepted();
+    repeats_come_after_rounds();
+    waits_are_short();
+    spelling_read(schedule);
     run_whole(alloc, schedule)
 }

@@ -1,10 +1,13 @@
 //! What a schedule declares, as its run needs it.
 
-ghost use Rattle.std.specs.Prelude.{◌≡◌, ◌+◌, ◌++◌, [], ◌∷◌, map, IfOk, OnOk};
+ghost use Rattle.std.specs.Prelude.{◌≡◌, ◌+◌, ◌<◌, ◌^◌, ◌++◌, [], ◌∷◌, map, IfOk, OnOk};
 ghost use Rattle.mip_history.specs.Setup.{Setup, hosts_in, links_in, outsiders_in, setup_of};
 ghost use Rattle.mip_history.specs.Permitted.{opened};
+ghost use Rattle.mip_schedule.specs.Lawful.{IsLawful};
+ghost use Rattle.mip_schedule.specs.Places.{AreFew};
 ghost use Rattle.mip_schedule.specs.Schedules.{content};
 ghost use Rattle.mip_replay.specs.Engines.{new_engine};
+ghost use Rattle.mip_replay.specs.Joining.{ArePlaced};
 ghost use Rattle.mip_replay.specs.Standing.{IsAt};
 
 use crate::engine::Engine;
@@ -59,33 +62,34 @@ fn hosts_in(alloc: Global, ds: &[Declaration]) -> Result<Vec<Host>, Memory>
     Ok(hosts)
 }
 
-/// One more, where it is an outsider. No schedule has 256 of them.
-fn with_outsider(count: u8, d: &Declaration) -> Result<u8, Memory>
-    ensures { IfOk result (λ n. n ≡ count + outsiders_in (d.now ∷ [])) }
+/// One more, where it is an outsider.
+fn with_outsider(count: u8, d: &Declaration) -> u8
+    requires { count + outsiders_in (d.now ∷ []) < 2 ^ 8 }
+    ensures { result ≡ count + outsiders_in (d.now ∷ []) }
 {
     match d {
-        Declaration::Outsider { .. } => match count.checked_add(1) {
-            Some(count) => Ok(count),
-            None => Err(Memory),
-        },
-        _ => Ok(count),
+        Declaration::Outsider { .. } => count + 1,
+        _ => count,
     }
 }
 
 #[tactic(auto, using(crate::proofs::OpenLaws::outsiders_more))]
-fn outsiders_in(ds: &[Declaration]) -> Result<u8, Memory>
-    ensures { IfOk result (λ n. n ≡ outsiders_in ds.now) }
+fn outsiders_in(ds: &[Declaration]) -> u8
+    requires { AreFew ds.now }
+    ensures { result ≡ outsiders_in ds.now }
 {
     let mut count = 0;
     for d in ds {
-        count = with_outsider(count, d)?;
+        count = with_outsider(count, d);
     }
-    Ok(count)
+    count
 }
 
 impl Engine {
     /// Each node takes its address, in order of declaration.
     fn join_all(&mut self, alloc: Global, hosts: &[Host]) -> Result<(), Memory>
+        requires placed { ArePlaced self.old.net.links hosts.now }
+        requires new { self.old ≡ new_engine self.old.seed self.old.moment self.old.net.links self.old.outsiders }
         ensures { (s : Setup) → s.hosts ≡ hosts.now → self.old ≡ new_engine s.seed s.start s.links s.outsiders → OnOk result (IsAt self.new s (opened s)) }
     {
         for host in hosts {
@@ -96,18 +100,19 @@ impl Engine {
 
     /// The run before the first event.
     pub(crate) fn open(alloc: Global, schedule: &Schedule) -> Result<Engine, Memory>
+        requires lawful { IsLawful (content schedule.now) }
+        requires few { AreFew schedule.now.declarations }
         ensures { IfOk result (λ e. IsAt e (setup_of (content schedule.now)) (opened (setup_of (content schedule.now)))) }
     {
         let ds = schedule.declarations.as_slice();
         let links = links_in(alloc, ds)?;
         let hosts = hosts_in(alloc, ds)?;
-        let outsiders = outsiders_in(ds)?;
         let mut engine = Engine::new(
             alloc,
             &schedule.seed,
             schedule.start,
             links.as_slice(),
-            outsiders,
+            outsiders_in(ds),
         )?;
         engine.join_all(alloc, hosts.as_slice())?;
         Ok(engine)

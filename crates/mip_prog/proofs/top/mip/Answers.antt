@@ -10,7 +10,13 @@ returns-in-None-clause-told_of_some g c =
     ([], omega arith, prepend_none _ _ refl, rw none c.tell.ensures.told)
 
 pub returns-in-None-clause-bound : goal.returns-in-None-clause-bound
-returns-in-None-clause-bound g c = if_told c.each_is_bound.ensures (g.S.Source.left c.args.source.now)
+returns-in-None-clause-bound g c = if_told _ (λ text x read. c.each_is_bound.ensures x) (g.S.Source.left c.args.source.now)
+
+pub returns-in-None-clause-repeats : goal.returns-in-None-clause-repeats
+returns-in-None-clause-repeats g c = if_told _ c.each_repeat_is_late.ensures (g.S.Source.left c.args.source.now)
 
 pub returns-in-Some-clause-bound : goal.returns-in-Some-clause-bound
-returns-in-Some-clause-bound g c = if_told c.each_is_bound.ensures (g.S.Source.left c.args.source.now)
+returns-in-Some-clause-bound g c = if_told _ (λ text x read. c.each_is_bound.ensures x) (g.S.Source.left c.args.source.now)
+
+pub returns-in-Some-clause-repeats : goal.returns-in-Some-clause-repeats
+returns-in-Some-clause-repeats g c = if_told _ c.each_repeat_is_late.ensures (g.S.Source.left c.args.source.now)

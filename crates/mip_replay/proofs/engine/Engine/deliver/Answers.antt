@@ -1,11 +1,9 @@
-use Rattle.std.proofs.Common.{sym, ap, ◌∙◌}
-use Rattle.std.specs.Prelude.{Option, option_map}
+use Rattle.std.proofs.Common.{sym}
+use Rattle.std.specs.Prelude.{option_map}
 use Rattle.mip_words.specs.declared.ids.LinkId.{LinkId}
 use Rattle.mip_entries.specs.declared.entry.Entry.TheVariants.{Idle}
 use Rattle.mip_history.specs.Runs.{note}
 use Rattle.mip_history.specs.Delivery.{became, delivered}
-use Rattle.mip_replay.specs.declared.arrival.Arrival.{Arrival}
-use Rattle.mip_replay.specs.Arrivals.{arrival_seen}
 use Rattle.mip_replay.specs.Engines.{with_entry}
 use Rattle.mip_replay.proofs.QuietLaws.{at_is, at_note, at_ok, at_ok_run}
 use Rattle.mip_replay.proofs.PostingLaws.{quiet_idle}
@@ -18,10 +16,9 @@ returns-in-Some c = λ s run at.
     let k = c.args.number in
     let keep = c.args.keep in
     let a = c.in-Some.arrival in
-    let is = ap (λ (o : Option Arrival). option_map arrival_seen o) c.in-Some.is in
-    let come = comes e s run k keep at a (sym is ∙ c.in_ok-arrival.ensures.found) in
+    let come = comes e s run k keep at a c.in-Some.ensures.found in
     at_ok_run c.reach.result c.reach.new.self s (became s k come.post (option_map (λ (l : LinkId). l.0) a.link) (lifted k keep run) a.delivery) (delivered s run k keep)
-    (c.reach.ensures s (lifted k keep run) come.post (at_is c.in_ok-arrival.ensures.after (at_lifted e s run k keep at)) come.posted come.shield)
+    (c.reach.ensures s (lifted k keep run) come.post (at_is c.in-Some.ensures.after (at_lifted e s run k keep at)) come.posted come.shield)
     come.became_is
 
 pub returns-in-None : goal.returns-in-None
@@ -29,8 +26,7 @@ returns-in-None c = λ s run at.
     let e = c.args.self.now in
     let k = c.args.number in
     let keep = c.args.keep in
-    let is = ap (λ (o : Option Arrival). option_map arrival_seen o) c.in-None.is in
     at_ok_run c.note.result c.note.new.self s (note Idle (lifted k keep run)) (delivered s run k keep)
     (at_ok c.note.result c.note.new.self (with_entry Idle c.lift.new.self) s (note Idle (lifted k keep run)) c.note.ensures
-    (at_note c.lift.new.self s (lifted k keep run) Idle quiet_idle (at_is c.in_ok-arrival.ensures.after (at_lifted e s run k keep at))))
-    (sym (delivered_none e s run k keep at (sym c.in_ok-arrival.ensures.found ∙ is)))
+    (at_note c.lift.new.self s (lifted k keep run) Idle quiet_idle (at_is c.in-None.ensures.after (at_lifted e s run k keep at))))
+    (sym (delivered_none e s run k keep at (sym c.in-None.ensures.found)))

@@ -1,4 +1,4 @@
-use Rattle.std.proofs.Common.{◌≡◌, ℕ, List, length, ◌++◌, [], ◌∷◌, sym, ap, ◌∙◌, subst, arith}
+use Rattle.std.proofs.Common.{◌≡◌, ℕ, List, ◌++◌, [], ◌∷◌, sym, ap, subst, arith}
 use Rattle.mip_replay.specs.Engines.{NodeSeen, IsCalm}
 use Rattle.mip_replay.proofs.NodeLaws.{calm_push}
 use Rattle.mip_replay.proofs.engine.Engine.join.Goals as goal
@@ -10,16 +10,10 @@ pub invariant_of-self-in_err-push-2 : goal.invariant_of-self-in_err-push-2
 invariant_of-self-in_err-push-2 c =
     let node = c.in_ok-node.node in
     let new : node.role.known.last.0 ≡ 0 = ap (λ (x : NodeSeen). x.role.known.last.0) c.in_ok-node.ensures in
-    record {
-      calm = calm_new c.self.inside.nodes.items c.push.new.self.items c.self.inside.moment.0 node c.self.invariant.calm new c.in_ok-push.ensures.items;
-      links_are = c.self.invariant.links_are;
-    }
+    calm_new c.self.inside.nodes.items c.push.new.self.items c.self.inside.moment.0 node c.self.invariant new c.in_ok-push.ensures.items
 
 pub invariant_of-self-2 : goal.invariant_of-self-2
 invariant_of-self-2 c =
     let node = c.in_ok-node.node in
     let new : node.role.known.last.0 ≡ 0 = ap (λ (x : NodeSeen). x.role.known.last.0) c.in_ok-node.ensures in
-    record {
-      calm = calm_new c.self.inside.nodes.items c.push.new.self.items c.self.inside.moment.0 node c.self.invariant.calm new c.in_ok-push.ensures.items;
-      links_are = c.self.invariant.links_are ∙ sym (ap length c.claim_own.ensures.links);
-    }
+    calm_new c.self.inside.nodes.items c.push.new.self.items c.self.inside.moment.0 node c.self.invariant new c.in_ok-push.ensures.items

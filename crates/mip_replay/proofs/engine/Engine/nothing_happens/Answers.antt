@@ -1,7 +1,7 @@
-use Rattle.std.proofs.Common.{◌≡◌, false, sym, ◌∙◌}
+use Rattle.std.proofs.Common.{sym}
 use Rattle.mip_entries.specs.declared.entry.Entry.TheVariants.{Idle}
 use Rattle.mip_history.specs.Runs.{note}
-use Rattle.mip_history.specs.Permitted.{happens, is_built_event}
+use Rattle.mip_history.specs.Permitted.{happens}
 use Rattle.mip_replay.specs.Engines.{with_entry}
 use Rattle.mip_replay.proofs.QuietLaws.{at_note, at_ok, at_ok_run}
 use Rattle.mip_replay.proofs.PostingLaws.{quiet_idle}
@@ -12,7 +12,6 @@ pub returns : goal.returns
 returns c = λ s run at.
     let e = c.args.self.now in
     let event = c.args.event.now in
-    let unbuilt : is_built_event event ≡ false = sym c.is_built_event.ensures ∙ c.if-is_built_event.false in
     at_ok_run c.note.result c.note.new.self s (note Idle run) (happens s run event)
     (at_ok c.note.result c.note.new.self (with_entry Idle e) s (note Idle run) c.note.ensures (at_note e s run Idle quiet_idle at))
-    (sym (unbuilt_idle s run event unbuilt))
+    (sym (unbuilt_idle s run event c.requires))

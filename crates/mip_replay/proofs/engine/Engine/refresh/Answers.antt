@@ -1,9 +1,12 @@
-use Rattle.std.proofs.Common.{ℕ, sym}
+use Rattle.std.proofs.Common.{ℕ, List, sym, subst}
 use Rattle.std.specs.Prelude.{slice_get}
+use Rattle.std.specs.List.{AllByRecursion}
+use Rattle.mip_entries.specs.declared.answer.Answer.{Answer}
 use Rattle.mip_entries.specs.declared.entry.Entry.TheVariants.{Idle}
 use Rattle.mip_rules_correspondent.specs.declared.identity.Identity.{Identity}
 use Rattle.mip_rules_correspondent.specs.declared.known.Known.{Known}
 use Rattle.mip_rules_correspondent.specs.Stands.{with_turn}
+use Rattle.mip_rules_correspondent.specs.Wholes.{IsWhole}
 use Rattle.mip_rules_correspondent.specs.Calls.{refreshed}
 use Rattle.mip_history.specs.Runs.{note, with_past}
 use Rattle.mip_history.specs.Nodes.{acts, answered, past_at}
@@ -22,6 +25,13 @@ returns-in-None c = λ s run at.
     at_ok_run c.note.result c.note.new.self s (note Idle run) (acts s n call run)
     (at_ok c.note.result c.note.new.self (with_entry Idle e) s (note Idle run) c.note.ensures (at_note e s run Idle quiet_idle at))
     (sym (acts_none e s run at n call none))
+
+pub answer-requires : goal.answer-requires
+answer-requires c =
+    let e = c.args.self.now in
+    let found = map_some (λ (x : NodeSeen). station_of e.net.links x) (slice_get e.nodes c.args.node.0) c.in-Some.from.0 (sym c.in-Some.ensures.found) in
+    let node = found.0 in
+    subst (λ (answers : List Answer). AllByRecursion IsWhole answers) (sym (c.in_ok-answers.ensures.answers node found.1)) (c.answers_are_whole.ensures.refreshed node.role.identity node.role.known e.moment c.args.home)
 
 pub returns : goal.returns
 returns c = λ s run at.

@@ -7,7 +7,4 @@ pub invariant_of-self : goal.invariant_of-self
 invariant_of-self c =
     let node = c.in_ok-self-inside.field-0 in
     let new : node.role.known.last.0 ≡ 0 = ap (λ (x : NodeSeen). x.role.known.last.0) c.in_ok-self-inside.ensures in
-    record {
-      calm = calm_set c.self.inside.nodes.items c.self.inside.moment.0 c.from-place.result node c.self.invariant.calm (omega (arith, new));
-      links_are = c.self.invariant.links_are;
-    }
+    calm_set c.self.inside.nodes.items c.self.inside.moment.0 c.from-place.result node c.self.invariant (omega (arith, new))

@@ -20,4 +20,4 @@ returns c = λ s run at link.
     ap (λ (y : EngineSeen). with_entry x y) c.in_ok-entry.ensures.after
     ∙ ap (λ (y : Entry). with_entry y (with_net (claim_tried e.net who a) e)) c.in_ok-entry.ensures.entry in
     at_ok c.note.result c.note.new.self (with_entry x c.take_claim.new.self) s (note (claim_entry who a l (holder_in run.past a.0)) run) c.note.ensures
-    (at_is is (at_squatted e s run who l a c.requires link at))
+    (at_is is (at_squatted e s run who l a c.requires.who link at))

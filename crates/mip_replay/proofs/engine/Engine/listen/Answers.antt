@@ -7,7 +7,7 @@ use Rattle.mip_replay.specs.Engines.{EngineSeen, with_entry, with_net}
 use Rattle.mip_replay.specs.Standing.{IsAt}
 use Rattle.mip_replay.proofs.QuietLaws.{at_ok}
 use Rattle.mip_replay.proofs.ClaimLaws.{at_listens}
-use Rattle.mip_replay.proofs.engine.Engine.listen_on.Goals as goal
+use Rattle.mip_replay.proofs.engine.Engine.listen.Goals as goal
 
 pub returns-then-branch : goal.returns-then-branch
 returns-then-branch c = λ s run at.

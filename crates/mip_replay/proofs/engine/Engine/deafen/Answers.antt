@@ -7,7 +7,7 @@ use Rattle.mip_replay.specs.Engines.{EngineSeen, with_entry, with_net}
 use Rattle.mip_replay.specs.Standing.{IsAt}
 use Rattle.mip_replay.proofs.QuietLaws.{at_ok}
 use Rattle.mip_replay.proofs.ClaimLaws.{at_deafens}
-use Rattle.mip_replay.proofs.engine.Engine.deafen_on.Goals as goal
+use Rattle.mip_replay.proofs.engine.Engine.deafen.Goals as goal
 
 pub returns-then-end_listening : goal.returns-then-end_listening
 returns-then-end_listening c = λ s run at.

@@ -1,4 +1,4 @@
-use Rattle.mip_replay.proofs.engine.Engine.outsider_moves.Goals as goal
+use Rattle.mip_replay.proofs.engine.Engine.happen.Goals as goal
 
 pub returns-in-Listen : goal.returns-in-Listen
 returns-in-Listen c = λ s run at. rw c.in-Listen.is (c.listen.ensures s run at)

@@ -1,0 +1,25 @@
+-- What an engine needs to let an event happen: what the event names is there, and its sizes, the moment and the lives
+-- stay within their bounds. Every event of a schedule finds the engine ready.
+use Rattle.std.specs.Prelude.{◌≡◌, ℕ, ◌+◌, ◌<◌, ◌≤◌, ◌^◌, length, true, Some, slice_get, ⊤}
+use Rattle.mip_words.specs.Addresses.{is_routable}
+use Rattle.mip_words.specs.declared.ids.LinkId.{LinkId}
+use Rattle.mip_schedule.specs.declared.event.Event.{Event}
+use Rattle.mip_schedule.specs.declared.event.Event.TheVariants.{Wait, Payload, Inject, Bind, Listen, Deaf, Squat, Yield, Restart}
+use Rattle.mip_replay.specs.Engines.{NodeSeen, EngineSeen}
+use Rattle.mip_replay.specs.Payloads.{is_payload}
+
+-- the outsider and the link are there
+abbrev pub IsEar : EngineSeen → ℕ → LinkId → Type 0
+IsEar e outsider link = (outsider < 8) × (link.0 < 32) × (link.0 < length e.net.links)
+
+abbrev pub IsReady : EngineSeen → Event → Type 0
+IsReady e (Wait ms) = e.moment + ms < 2 ^ 62
+IsReady e (Payload node to proto payload) = (is_payload proto ≡ true) × (length payload ≤ 512)
+IsReady e (Inject outsider link packet) = 40 ≤ length packet
+IsReady e (Bind outsider link source peer home careof sequence lifetime home_test careof_test) = is_routable home.0 ≡ true
+IsReady e (Listen outsider link) = IsEar e outsider link
+IsReady e (Deaf outsider link) = IsEar e outsider link
+IsReady e (Squat outsider address) = outsider < 8
+IsReady e (Yield outsider address) = outsider < 8
+IsReady e (Restart node) = (c : NodeSeen) → slice_get e.nodes node.0 ≡ Some c → c.life + 1 < 2 ^ 32
+IsReady e _ = ⊤
