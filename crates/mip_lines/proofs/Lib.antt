@@ -4,3 +4,4 @@ pub mod RowLaws
 pub mod LineLaws
 pub mod HexFieldLaws
 pub mod LongRows
+pub mod RowReadings

@@ -1,5 +1,5 @@
--- What is known of rows of fields: a row that is read is spelled so, and a row that is spelled so is read.
-use Rattle.std.proofs.Common.{◌≡◌, ℕ, List, [], ◌∷◌, refl, sym, ap, ◌∙◌, subst}
+-- A row of fields that is read is spelled so.
+use Rattle.std.proofs.Common.{◌≡◌, ℕ, List, [], ◌∷◌, sym, ap, ◌∙◌, subst}
 use Rattle.std.specs.Prelude.{Result, Ok}
 use Rattle.mip_words.specs.Steps.{◌>>=◌}
 use Rattle.mip_words.proofs.StepLaws.{bind_ok, ok_is}
@@ -24,14 +24,6 @@ row1-spelled e text word {k1 = k1} {t1 = t1} {to = to} s1 same (c1 ∷ []) x is 
     sym (same a1) ∙ ap text (ok_is (to a1) x is1))
 row1-spelled e text word s1 same (c1 ∷ g ∷ more) x is = absurd cc
 
-pub row1-again : {A1 X E : Type 0} (e : E)
-    (k1 : List ℕ → Result A1 E)
-    (to : A1 → X)
-    (c1 : List ℕ) (a1 : A1)
-    → k1 c1 ≡ Ok a1
-    → row1 e k1 to (c1 ∷ []) ≡ Ok (to a1)
-row1-again e k1 to c1 a1 s1 = rw (s1) refl
-
 pub row2-spelled : {A1 A2 X E : Type 0} (e : E) (text : X → List (List ℕ)) (word : List ℕ)
     {k1 : List ℕ → Result A1 E} {t1 : A1 → List ℕ}
     {k2 : List ℕ → Result A2 E} {t2 : A2 → List ℕ}
@@ -47,15 +39,6 @@ row2-spelled e text word {k1 = k1} {t1 = t1} {k2 = k2} {t2 = t2} {to = to} s1 s2
     taken k2 t2 s2 c2 (λ a2. Ok (to a1 a2)) x (λ g. word ∷ t1 a1 ∷ g ∷ [] ≡ text x) is1 (λ a2 is2.
     sym (same a1 a2) ∙ ap text (ok_is (to a1 a2) x is2)))
 row2-spelled e text word s1 s2 same (c1 ∷ c2 ∷ g ∷ more) x is = absurd cc
-
-pub row2-again : {A1 A2 X E : Type 0} (e : E)
-    (k1 : List ℕ → Result A1 E) (k2 : List ℕ → Result A2 E)
-    (to : A1 → A2 → X)
-    (c1 : List ℕ) (a1 : A1) (c2 : List ℕ) (a2 : A2)
-    → k1 c1 ≡ Ok a1
-    → k2 c2 ≡ Ok a2
-    → row2 e k1 k2 to (c1 ∷ c2 ∷ []) ≡ Ok (to a1 a2)
-row2-again e k1 k2 to c1 a1 c2 a2 s1 s2 = rw (s1, s2) refl
 
 pub row3-spelled : {A1 A2 A3 X E : Type 0} (e : E) (text : X → List (List ℕ)) (word : List ℕ)
     {k1 : List ℕ → Result A1 E} {t1 : A1 → List ℕ}
@@ -76,16 +59,6 @@ row3-spelled e text word {k1 = k1} {t1 = t1} {k2 = k2} {t2 = t2} {k3 = k3} {t3 =
     taken k3 t3 s3 c3 (λ a3. Ok (to a1 a2 a3)) x (λ g. word ∷ t1 a1 ∷ t2 a2 ∷ g ∷ [] ≡ text x) is2 (λ a3 is3.
     sym (same a1 a2 a3) ∙ ap text (ok_is (to a1 a2 a3) x is3))))
 row3-spelled e text word s1 s2 s3 same (c1 ∷ c2 ∷ c3 ∷ g ∷ more) x is = absurd cc
-
-pub row3-again : {A1 A2 A3 X E : Type 0} (e : E)
-    (k1 : List ℕ → Result A1 E) (k2 : List ℕ → Result A2 E) (k3 : List ℕ → Result A3 E)
-    (to : A1 → A2 → A3 → X)
-    (c1 : List ℕ) (a1 : A1) (c2 : List ℕ) (a2 : A2) (c3 : List ℕ) (a3 : A3)
-    → k1 c1 ≡ Ok a1
-    → k2 c2 ≡ Ok a2
-    → k3 c3 ≡ Ok a3
-    → row3 e k1 k2 k3 to (c1 ∷ c2 ∷ c3 ∷ []) ≡ Ok (to a1 a2 a3)
-row3-again e k1 k2 k3 to c1 a1 c2 a2 c3 a3 s1 s2 s3 = rw (s1, s2, s3) refl
 
 pub row4-spelled : {A1 A2 A3 A4 X E : Type 0} (e : E) (text : X → List (List ℕ)) (word : List ℕ)
     {k1 : List ℕ → Result A1 E} {t1 : A1 → List ℕ}
@@ -110,17 +83,6 @@ row4-spelled e text word {k1 = k1} {t1 = t1} {k2 = k2} {t2 = t2} {k3 = k3} {t3 =
     taken k4 t4 s4 c4 (λ a4. Ok (to a1 a2 a3 a4)) x (λ g. word ∷ t1 a1 ∷ t2 a2 ∷ t3 a3 ∷ g ∷ [] ≡ text x) is3 (λ a4 is4.
     sym (same a1 a2 a3 a4) ∙ ap text (ok_is (to a1 a2 a3 a4) x is4)))))
 row4-spelled e text word s1 s2 s3 s4 same (c1 ∷ c2 ∷ c3 ∷ c4 ∷ g ∷ more) x is = absurd cc
-
-pub row4-again : {A1 A2 A3 A4 X E : Type 0} (e : E)
-    (k1 : List ℕ → Result A1 E) (k2 : List ℕ → Result A2 E) (k3 : List ℕ → Result A3 E) (k4 : List ℕ → Result A4 E)
-    (to : A1 → A2 → A3 → A4 → X)
-    (c1 : List ℕ) (a1 : A1) (c2 : List ℕ) (a2 : A2) (c3 : List ℕ) (a3 : A3) (c4 : List ℕ) (a4 : A4)
-    → k1 c1 ≡ Ok a1
-    → k2 c2 ≡ Ok a2
-    → k3 c3 ≡ Ok a3
-    → k4 c4 ≡ Ok a4
-    → row4 e k1 k2 k3 k4 to (c1 ∷ c2 ∷ c3 ∷ c4 ∷ []) ≡ Ok (to a1 a2 a3 a4)
-row4-again e k1 k2 k3 k4 to c1 a1 c2 a2 c3 a3 c4 a4 s1 s2 s3 s4 = rw (s1, s2, s3, s4) refl
 
 pub row5-spelled : {A1 A2 A3 A4 A5 X E : Type 0} (e : E) (text : X → List (List ℕ)) (word : List ℕ)
     {k1 : List ℕ → Result A1 E} {t1 : A1 → List ℕ}
@@ -149,18 +111,6 @@ row5-spelled e text word {k1 = k1} {t1 = t1} {k2 = k2} {t2 = t2} {k3 = k3} {t3 =
     taken k5 t5 s5 c5 (λ a5. Ok (to a1 a2 a3 a4 a5)) x (λ g. word ∷ t1 a1 ∷ t2 a2 ∷ t3 a3 ∷ t4 a4 ∷ g ∷ [] ≡ text x) is4 (λ a5 is5.
     sym (same a1 a2 a3 a4 a5) ∙ ap text (ok_is (to a1 a2 a3 a4 a5) x is5))))))
 row5-spelled e text word s1 s2 s3 s4 s5 same (c1 ∷ c2 ∷ c3 ∷ c4 ∷ c5 ∷ g ∷ more) x is = absurd cc
-
-pub row5-again : {A1 A2 A3 A4 A5 X E : Type 0} (e : E)
-    (k1 : List ℕ → Result A1 E) (k2 : List ℕ → Result A2 E) (k3 : List ℕ → Result A3 E) (k4 : List ℕ → Result A4 E) (k5 : List ℕ → Result A5 E)
-    (to : A1 → A2 → A3 → A4 → A5 → X)
-    (c1 : List ℕ) (a1 : A1) (c2 : List ℕ) (a2 : A2) (c3 : List ℕ) (a3 : A3) (c4 : List ℕ) (a4 : A4) (c5 : List ℕ) (a5 : A5)
-    → k1 c1 ≡ Ok a1
-    → k2 c2 ≡ Ok a2
-    → k3 c3 ≡ Ok a3
-    → k4 c4 ≡ Ok a4
-    → k5 c5 ≡ Ok a5
-    → row5 e k1 k2 k3 k4 k5 to (c1 ∷ c2 ∷ c3 ∷ c4 ∷ c5 ∷ []) ≡ Ok (to a1 a2 a3 a4 a5)
-row5-again e k1 k2 k3 k4 k5 to c1 a1 c2 a2 c3 a3 c4 a4 c5 a5 s1 s2 s3 s4 s5 = rw (s1, s2, s3, s4, s5) refl
 
 pub row6-spelled : {A1 A2 A3 A4 A5 A6 X E : Type 0} (e : E) (text : X → List (List ℕ)) (word : List ℕ)
     {k1 : List ℕ → Result A1 E} {t1 : A1 → List ℕ}
@@ -193,19 +143,6 @@ row6-spelled e text word {k1 = k1} {t1 = t1} {k2 = k2} {t2 = t2} {k3 = k3} {t3 =
     taken k6 t6 s6 c6 (λ a6. Ok (to a1 a2 a3 a4 a5 a6)) x (λ g. word ∷ t1 a1 ∷ t2 a2 ∷ t3 a3 ∷ t4 a4 ∷ t5 a5 ∷ g ∷ [] ≡ text x) is5 (λ a6 is6.
     sym (same a1 a2 a3 a4 a5 a6) ∙ ap text (ok_is (to a1 a2 a3 a4 a5 a6) x is6)))))))
 row6-spelled e text word s1 s2 s3 s4 s5 s6 same (c1 ∷ c2 ∷ c3 ∷ c4 ∷ c5 ∷ c6 ∷ g ∷ more) x is = absurd cc
-
-pub row6-again : {A1 A2 A3 A4 A5 A6 X E : Type 0} (e : E)
-    (k1 : List ℕ → Result A1 E) (k2 : List ℕ → Result A2 E) (k3 : List ℕ → Result A3 E) (k4 : List ℕ → Result A4 E) (k5 : List ℕ → Result A5 E) (k6 : List ℕ → Result A6 E)
-    (to : A1 → A2 → A3 → A4 → A5 → A6 → X)
-    (c1 : List ℕ) (a1 : A1) (c2 : List ℕ) (a2 : A2) (c3 : List ℕ) (a3 : A3) (c4 : List ℕ) (a4 : A4) (c5 : List ℕ) (a5 : A5) (c6 : List ℕ) (a6 : A6)
-    → k1 c1 ≡ Ok a1
-    → k2 c2 ≡ Ok a2
-    → k3 c3 ≡ Ok a3
-    → k4 c4 ≡ Ok a4
-    → k5 c5 ≡ Ok a5
-    → k6 c6 ≡ Ok a6
-    → row6 e k1 k2 k3 k4 k5 k6 to (c1 ∷ c2 ∷ c3 ∷ c4 ∷ c5 ∷ c6 ∷ []) ≡ Ok (to a1 a2 a3 a4 a5 a6)
-row6-again e k1 k2 k3 k4 k5 k6 to c1 a1 c2 a2 c3 a3 c4 a4 c5 a5 c6 a6 s1 s2 s3 s4 s5 s6 = rw (s1, s2, s3, s4, s5, s6) refl
 
 pub row7-spelled : {A1 A2 A3 A4 A5 A6 A7 X E : Type 0} (e : E) (text : X → List (List ℕ)) (word : List ℕ)
     {k1 : List ℕ → Result A1 E} {t1 : A1 → List ℕ}
@@ -242,20 +179,6 @@ row7-spelled e text word {k1 = k1} {t1 = t1} {k2 = k2} {t2 = t2} {k3 = k3} {t3 =
     taken k7 t7 s7 c7 (λ a7. Ok (to a1 a2 a3 a4 a5 a6 a7)) x (λ g. word ∷ t1 a1 ∷ t2 a2 ∷ t3 a3 ∷ t4 a4 ∷ t5 a5 ∷ t6 a6 ∷ g ∷ [] ≡ text x) is6 (λ a7 is7.
     sym (same a1 a2 a3 a4 a5 a6 a7) ∙ ap text (ok_is (to a1 a2 a3 a4 a5 a6 a7) x is7))))))))
 row7-spelled e text word s1 s2 s3 s4 s5 s6 s7 same (c1 ∷ c2 ∷ c3 ∷ c4 ∷ c5 ∷ c6 ∷ c7 ∷ g ∷ more) x is = absurd cc
-
-pub row7-again : {A1 A2 A3 A4 A5 A6 A7 X E : Type 0} (e : E)
-    (k1 : List ℕ → Result A1 E) (k2 : List ℕ → Result A2 E) (k3 : List ℕ → Result A3 E) (k4 : List ℕ → Result A4 E) (k5 : List ℕ → Result A5 E) (k6 : List ℕ → Result A6 E) (k7 : List ℕ → Result A7 E)
-    (to : A1 → A2 → A3 → A4 → A5 → A6 → A7 → X)
-    (c1 : List ℕ) (a1 : A1) (c2 : List ℕ) (a2 : A2) (c3 : List ℕ) (a3 : A3) (c4 : List ℕ) (a4 : A4) (c5 : List ℕ) (a5 : A5) (c6 : List ℕ) (a6 : A6) (c7 : List ℕ) (a7 : A7)
-    → k1 c1 ≡ Ok a1
-    → k2 c2 ≡ Ok a2
-    → k3 c3 ≡ Ok a3
-    → k4 c4 ≡ Ok a4
-    → k5 c5 ≡ Ok a5
-    → k6 c6 ≡ Ok a6
-    → k7 c7 ≡ Ok a7
-    → row7 e k1 k2 k3 k4 k5 k6 k7 to (c1 ∷ c2 ∷ c3 ∷ c4 ∷ c5 ∷ c6 ∷ c7 ∷ []) ≡ Ok (to a1 a2 a3 a4 a5 a6 a7)
-row7-again e k1 k2 k3 k4 k5 k6 k7 to c1 a1 c2 a2 c3 a3 c4 a4 c5 a5 c6 a6 c7 a7 s1 s2 s3 s4 s5 s6 s7 = rw (s1, s2, s3, s4, s5, s6, s7) refl
 
 pub row8-spelled : {A1 A2 A3 A4 A5 A6 A7 A8 X E : Type 0} (e : E) (text : X → List (List ℕ)) (word : List ℕ)
     {k1 : List ℕ → Result A1 E} {t1 : A1 → List ℕ}
@@ -296,21 +219,6 @@ row8-spelled e text word {k1 = k1} {t1 = t1} {k2 = k2} {t2 = t2} {k3 = k3} {t3 =
     taken k8 t8 s8 c8 (λ a8. Ok (to a1 a2 a3 a4 a5 a6 a7 a8)) x (λ g. word ∷ t1 a1 ∷ t2 a2 ∷ t3 a3 ∷ t4 a4 ∷ t5 a5 ∷ t6 a6 ∷ t7 a7 ∷ g ∷ [] ≡ text x) is7 (λ a8 is8.
     sym (same a1 a2 a3 a4 a5 a6 a7 a8) ∙ ap text (ok_is (to a1 a2 a3 a4 a5 a6 a7 a8) x is8)))))))))
 row8-spelled e text word s1 s2 s3 s4 s5 s6 s7 s8 same (c1 ∷ c2 ∷ c3 ∷ c4 ∷ c5 ∷ c6 ∷ c7 ∷ c8 ∷ g ∷ more) x is = absurd cc
-
-pub row8-again : {A1 A2 A3 A4 A5 A6 A7 A8 X E : Type 0} (e : E)
-    (k1 : List ℕ → Result A1 E) (k2 : List ℕ → Result A2 E) (k3 : List ℕ → Result A3 E) (k4 : List ℕ → Result A4 E) (k5 : List ℕ → Result A5 E) (k6 : List ℕ → Result A6 E) (k7 : List ℕ → Result A7 E) (k8 : List ℕ → Result A8 E)
-    (to : A1 → A2 → A3 → A4 → A5 → A6 → A7 → A8 → X)
-    (c1 : List ℕ) (a1 : A1) (c2 : List ℕ) (a2 : A2) (c3 : List ℕ) (a3 : A3) (c4 : List ℕ) (a4 : A4) (c5 : List ℕ) (a5 : A5) (c6 : List ℕ) (a6 : A6) (c7 : List ℕ) (a7 : A7) (c8 : List ℕ) (a8 : A8)
-    → k1 c1 ≡ Ok a1
-    → k2 c2 ≡ Ok a2
-    → k3 c3 ≡ Ok a3
-    → k4 c4 ≡ Ok a4
-    → k5 c5 ≡ Ok a5
-    → k6 c6 ≡ Ok a6
-    → k7 c7 ≡ Ok a7
-    → k8 c8 ≡ Ok a8
-    → row8 e k1 k2 k3 k4 k5 k6 k7 k8 to (c1 ∷ c2 ∷ c3 ∷ c4 ∷ c5 ∷ c6 ∷ c7 ∷ c8 ∷ []) ≡ Ok (to a1 a2 a3 a4 a5 a6 a7 a8)
-row8-again e k1 k2 k3 k4 k5 k6 k7 k8 to c1 a1 c2 a2 c3 a3 c4 a4 c5 a5 c6 a6 c7 a7 c8 a8 s1 s2 s3 s4 s5 s6 s7 s8 = rw (s1, s2, s3, s4, s5, s6, s7, s8) refl
 
 pub row9-spelled : {A1 A2 A3 A4 A5 A6 A7 A8 A9 X E : Type 0} (e : E) (text : X → List (List ℕ)) (word : List ℕ)
     {k1 : List ℕ → Result A1 E} {t1 : A1 → List ℕ}
@@ -355,22 +263,6 @@ row9-spelled e text word {k1 = k1} {t1 = t1} {k2 = k2} {t2 = t2} {k3 = k3} {t3 =
     taken k9 t9 s9 c9 (λ a9. Ok (to a1 a2 a3 a4 a5 a6 a7 a8 a9)) x (λ g. word ∷ t1 a1 ∷ t2 a2 ∷ t3 a3 ∷ t4 a4 ∷ t5 a5 ∷ t6 a6 ∷ t7 a7 ∷ t8 a8 ∷ g ∷ [] ≡ text x) is8 (λ a9 is9.
     sym (same a1 a2 a3 a4 a5 a6 a7 a8 a9) ∙ ap text (ok_is (to a1 a2 a3 a4 a5 a6 a7 a8 a9) x is9))))))))))
 row9-spelled e text word s1 s2 s3 s4 s5 s6 s7 s8 s9 same (c1 ∷ c2 ∷ c3 ∷ c4 ∷ c5 ∷ c6 ∷ c7 ∷ c8 ∷ c9 ∷ g ∷ more) x is = absurd cc
-
-pub row9-again : {A1 A2 A3 A4 A5 A6 A7 A8 A9 X E : Type 0} (e : E)
-    (k1 : List ℕ → Result A1 E) (k2 : List ℕ → Result A2 E) (k3 : List ℕ → Result A3 E) (k4 : List ℕ → Result A4 E) (k5 : List ℕ → Result A5 E) (k6 : List ℕ → Result A6 E) (k7 : List ℕ → Result A7 E) (k8 : List ℕ → Result A8 E) (k9 : List ℕ → Result A9 E)
-    (to : A1 → A2 → A3 → A4 → A5 → A6 → A7 → A8 → A9 → X)
-    (c1 : List ℕ) (a1 : A1) (c2 : List ℕ) (a2 : A2) (c3 : List ℕ) (a3 : A3) (c4 : List ℕ) (a4 : A4) (c5 : List ℕ) (a5 : A5) (c6 : List ℕ) (a6 : A6) (c7 : List ℕ) (a7 : A7) (c8 : List ℕ) (a8 : A8) (c9 : List ℕ) (a9 : A9)
-    → k1 c1 ≡ Ok a1
-    → k2 c2 ≡ Ok a2
-    → k3 c3 ≡ Ok a3
-    → k4 c4 ≡ Ok a4
-    → k5 c5 ≡ Ok a5
-    → k6 c6 ≡ Ok a6
-    → k7 c7 ≡ Ok a7
-    → k8 c8 ≡ Ok a8
-    → k9 c9 ≡ Ok a9
-    → row9 e k1 k2 k3 k4 k5 k6 k7 k8 k9 to (c1 ∷ c2 ∷ c3 ∷ c4 ∷ c5 ∷ c6 ∷ c7 ∷ c8 ∷ c9 ∷ []) ≡ Ok (to a1 a2 a3 a4 a5 a6 a7 a8 a9)
-row9-again e k1 k2 k3 k4 k5 k6 k7 k8 k9 to c1 a1 c2 a2 c3 a3 c4 a4 c5 a5 c6 a6 c7 a7 c8 a8 c9 a9 s1 s2 s3 s4 s5 s6 s7 s8 s9 = rw (s1, s2, s3, s4, s5, s6, s7, s8, s9) refl
 
 pub row10-spelled : {A1 A2 A3 A4 A5 A6 A7 A8 A9 A10 X E : Type 0} (e : E) (text : X → List (List ℕ)) (word : List ℕ)
     {k1 : List ℕ → Result A1 E} {t1 : A1 → List ℕ}
@@ -419,20 +311,3 @@ row10-spelled e text word {k1 = k1} {t1 = t1} {k2 = k2} {t2 = t2} {k3 = k3} {t3 
     taken k10 t10 s10 c10 (λ a10. Ok (to a1 a2 a3 a4 a5 a6 a7 a8 a9 a10)) x (λ g. word ∷ t1 a1 ∷ t2 a2 ∷ t3 a3 ∷ t4 a4 ∷ t5 a5 ∷ t6 a6 ∷ t7 a7 ∷ t8 a8 ∷ t9 a9 ∷ g ∷ [] ≡ text x) is9 (λ a10 is10.
     sym (same a1 a2 a3 a4 a5 a6 a7 a8 a9 a10) ∙ ap text (ok_is (to a1 a2 a3 a4 a5 a6 a7 a8 a9 a10) x is10)))))))))))
 row10-spelled e text word s1 s2 s3 s4 s5 s6 s7 s8 s9 s10 same (c1 ∷ c2 ∷ c3 ∷ c4 ∷ c5 ∷ c6 ∷ c7 ∷ c8 ∷ c9 ∷ c10 ∷ g ∷ more) x is = absurd cc
-
-pub row10-again : {A1 A2 A3 A4 A5 A6 A7 A8 A9 A10 X E : Type 0} (e : E)
-    (k1 : List ℕ → Result A1 E) (k2 : List ℕ → Result A2 E) (k3 : List ℕ → Result A3 E) (k4 : List ℕ → Result A4 E) (k5 : List ℕ → Result A5 E) (k6 : List ℕ → Result A6 E) (k7 : List ℕ → Result A7 E) (k8 : List ℕ → Result A8 E) (k9 : List ℕ → Result A9 E) (k10 : List ℕ → Result A10 E)
-    (to : A1 → A2 → A3 → A4 → A5 → A6 → A7 → A8 → A9 → A10 → X)
-    (c1 : List ℕ) (a1 : A1) (c2 : List ℕ) (a2 : A2) (c3 : List ℕ) (a3 : A3) (c4 : List ℕ) (a4 : A4) (c5 : List ℕ) (a5 : A5) (c6 : List ℕ) (a6 : A6) (c7 : List ℕ) (a7 : A7) (c8 : List ℕ) (a8 : A8) (c9 : List ℕ) (a9 : A9) (c10 : List ℕ) (a10 : A10)
-    → k1 c1 ≡ Ok a1
-    → k2 c2 ≡ Ok a2
-    → k3 c3 ≡ Ok a3
-    → k4 c4 ≡ Ok a4
-    → k5 c5 ≡ Ok a5
-    → k6 c6 ≡ Ok a6
-    → k7 c7 ≡ Ok a7
-    → k8 c8 ≡ Ok a8
-    → k9 c9 ≡ Ok a9
-    → k10 c10 ≡ Ok a10
-    → row10 e k1 k2 k3 k4 k5 k6 k7 k8 k9 k10 to (c1 ∷ c2 ∷ c3 ∷ c4 ∷ c5 ∷ c6 ∷ c7 ∷ c8 ∷ c9 ∷ c10 ∷ []) ≡ Ok (to a1 a2 a3 a4 a5 a6 a7 a8 a9 a10)
-row10-again e k1 k2 k3 k4 k5 k6 k7 k8 k9 k10 to c1 a1 c2 a2 c3 a3 c4 a4 c5 a5 c6 a6 c7 a7 c8 a8 c9 a9 c10 a10 s1 s2 s3 s4 s5 s6 s7 s8 s9 s10 = rw (s1, s2, s3, s4, s5, s6, s7, s8, s9, s10) refl

@@ -5,7 +5,7 @@ use Rattle.std.proofs.lemmas.Bool.{cond-true}
 use Rattle.std.proofs.lemmas.Slice.Eq.{bytes_eq-Decides}
 use Rattle.mip_words.specs.Steps.{◌>>=◌}
 use Rattle.mip_lines.specs.HexFields.{address_hex, hex_text}
-use Rattle.mip_lines.proofs.RowLaws.{row1-again, row2-again, row3-again, row4-again, row5-again, row6-again, row7-again, row9-again}
+use Rattle.mip_lines.proofs.RowReadings.{row1-again, row2-again, row3-again, row4-again, row5-again, row6-again, row7-again, row9-again}
 use Rattle.mip_schedule.specs.Places.{AreFew, NamesFound}
 use Rattle.mip_schedule.specs.declared.declaration.Declaration.{Declaration}
 use Rattle.mip_entries.specs.declared.entry.Entry.{Entry}
