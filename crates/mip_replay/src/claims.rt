@@ -16,7 +16,6 @@ pub(crate) fn claim_own(net: &mut Net, who: u8, address: Address) -> Result<(), 
     requires who { who < 40 }
     requires free { refusal net.old who address.0 ≡ None }
     ensures after { OnOk result (net.new ≡ claimed net.old who address) }
-    ensures links { net.new.links ≡ net.old.links }
 {
     match net.claim(who, address) {
         Ok(()) => Ok(()),
@@ -37,7 +36,6 @@ pub(crate) fn try_claim(
     requires link { link_of net.old.links address.0 ≡ Some link.0 }
     ensures entry { IfOk result (λ x. x ≡ claim_entry who address link.0 (holder_of net.old.rows address.0)) }
     ensures after { OnOk result (net.new ≡ claim_tried net.old who address) }
-    ensures links { net.new.links ≡ net.old.links }
 {
     match net.claim(who, address) {
         Ok(()) => Ok(Entry::Claimed { who, link, address }),
