@@ -4,5 +4,6 @@ pub mod Wholes
 pub mod Walks
 pub mod Refusals
 pub mod Calls
+pub mod Sendings
 pub mod VerdictLaws
 pub mod Answers
