@@ -8,6 +8,7 @@ pub mod Soundness
 pub mod Acks
 pub mod Rules
 pub mod Doing
+pub mod Seen
 pub mod Sendings
 pub mod Pasts
 pub mod Wholes

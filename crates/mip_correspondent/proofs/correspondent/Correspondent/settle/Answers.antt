@@ -1,6 +1,7 @@
 use Rattle.std.proofs.Common.{sym, subst, ◌≤◌}
 use Rattle.mip_bcache.specs.Seen.{CacheSeen}
-use Rattle.mip_correspondent.specs.Seen.{CorrespondentSeen, IsSound}
+use Rattle.mip_rules_correspondent.specs.Seen.{CorrespondentSeen}
+use Rattle.mip_correspondent.specs.Soundness.{IsSound}
 use Rattle.mip_correspondent.specs.Showing.{Fits}
 use Rattle.mip_correspondent.proofs.Rows.{settled_sound}
 use Rattle.mip_correspondent.proofs.correspondent.Correspondent.settle.Goals as goal
