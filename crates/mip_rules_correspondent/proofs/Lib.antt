@@ -6,4 +6,5 @@ pub mod Refusals
 pub mod Calls
 pub mod Sendings
 pub mod VerdictLaws
+pub mod Taken
 pub mod Answers

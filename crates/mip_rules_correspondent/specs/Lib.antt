@@ -10,5 +10,6 @@ pub mod Rules
 pub mod Doing
 pub mod Seen
 pub mod Sendings
+pub mod Taken
 pub mod Pasts
 pub mod Wholes

@@ -1,8 +1,9 @@
 //! The laws by which a role stands for a past, and its cache for the updates accepted in it; and those of verdicts.
 
-ghost use Rattle.std.specs.Prelude.{◌≡◌, ℕ, ◌≤◌, List, [], Option, Some, false, unwrap_or, option_map};
+ghost use Rattle.std.specs.Prelude.{◌≡◌, ℕ, ◌≤◌, List, [], Option, Some, true, false, unwrap_or, option_map};
 ghost use Rattle.std.specs.List.{list_any, AllByRecursion};
 ghost use Rattle.mip_words.specs.declared.address.Address.{Address};
+ghost use Rattle.mip_words.specs.declared.shield.Shield.{Shield};
 ghost use Rattle.mip_tokens.specs.declared.kbm.Kbm.{Kbm};
 ghost use Rattle.mip_lists.specs.Last.{last_where};
 ghost use Rattle.mip_binding.specs.Held.{held, floor, is_full};
@@ -16,13 +17,14 @@ ghost use Rattle.mip_rules_correspondent.specs.declared.verdict.Verdict.TheVaria
 ghost use Rattle.mip_rules_correspondent.specs.Soundness.{IsGenuine, IsSound, IsBehind};
 ghost use Rattle.mip_rules_correspondent.specs.Verdicts.{Bench, verdict};
 ghost use Rattle.mip_turns.specs.Pasts.{RisesFrom};
-ghost use Rattle.mip_rules_correspondent.specs.Calls.{Call, is_tick};
+ghost use Rattle.mip_rules_correspondent.specs.Calls.{Call, Take, Refresh, Send, Tick, is_tick};
 ghost use Rattle.mip_rules_correspondent.specs.Steps.{Step, answers_of, is_call, is_acceptance};
 ghost use Rattle.mip_rules_correspondent.specs.Questions.{known, held_of, floor_of, is_full_for};
 ghost use Rattle.mip_rules_correspondent.specs.Turns.{Turn, Stands, with_turn};
 ghost use Rattle.mip_rules_correspondent.specs.Pasts.{accepted_in};
 ghost use Rattle.mip_rules_correspondent.specs.Doing.{does, turn_of};
 ghost use Rattle.mip_rules_correspondent.specs.Sendings.{SendsOwn};
+ghost use Rattle.mip_rules_correspondent.specs.Taken.{IsUpdateTaken};
 ghost use Rattle.mip_rules_correspondent.specs.Wholes.{IsWhole};
 
 /// The last moment known is that of the last call.
@@ -59,6 +61,16 @@ pub fn answers_are_whole()
 /// goes back to the source of a refused packet, a refresh request, or data.
 pub fn each_packet_is_its_own()
     ensures { (me : Identity) (k : Known) (now : ℕ) (c : Call) → AllByRecursion (SendsOwn me now) (turn_of me k now c).steps }
+{}
+
+/// A packet that is handed over leads to no acceptance, or at once to that of the update in it, with the verdict Accept on
+/// its bytes by what is kept of its home; nothing else does, but for the part of a mobile.
+pub fn what_is_accepted_was_taken()
+    ensures taken { (me : Identity) (k : Known) (now number : ℕ) (shield : Option Shield) (bytes : List ℕ) → list_any is_acceptance (turn_of me k now (Take number shield bytes)).steps ≡ true
+        → IsUpdateTaken me k now number shield bytes (turn_of me k now (Take number shield bytes)).steps }
+    ensures refreshed { (me : Identity) (k : Known) (now : ℕ) (home : Address) → list_any is_acceptance (turn_of me k now (Refresh home)).steps ≡ false }
+    ensures sent { (me : Identity) (k : Known) (now : ℕ) (to : Address) (proto : ℕ) (payload : List ℕ) → list_any is_acceptance (turn_of me k now (Send to proto payload)).steps ≡ false }
+    ensures ticked { (me : Identity) (k : Known) (now : ℕ) → list_any is_acceptance (turn_of me k now Tick).steps ≡ false }
 {}
 
 /// A call that leads to no acceptance changes no row, unless it is for the passing of time: neither a packet that is dropped,
