@@ -115,6 +115,7 @@ impl Correspondent {
     {
         keep(&mut self.known.cache, now, kept)?;
         self.known.last = now;
+        self.identity.secrets.renew(now);
         Ok(())
     }
 
