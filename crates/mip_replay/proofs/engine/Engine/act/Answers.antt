@@ -19,7 +19,7 @@ pub returns-in-None : goal.returns-in-None
 returns-in-None c = λ s run at.
     let e = c.args.self.now in
     let n = c.args.node.0 in
-    let call = asked c.args.call.entry in
+    let call = asked c.args.call in
     let none = map_none (λ (x : NodeSeen). station_of e.net.links x) (slice_get e.nodes n) (sym c.in-None.ensures.found) in
     at_ok_run c.note.result c.note.new.self s (note Idle run) (acts s n call run)
     (at_ok c.note.result c.note.new.self (with_entry Idle e) s (note Idle run) c.note.ensures (at_note e s run Idle quiet_idle at))
@@ -30,13 +30,13 @@ answer-requires c =
     let e = c.args.self.now in
     let found = map_some (λ (x : NodeSeen). station_of e.net.links x) (slice_get e.nodes c.args.node.0) c.in-Some.from.0 (sym c.in-Some.ensures.found) in
     let node = found.0 in
-    subst (λ (answers : List Answer). AllByRecursion IsWhole answers) (sym (c.in_ok-answers.ensures.answers node found.1)) (c.answers_are_whole.ensures node.role.identity node.role.known e.moment (asked c.args.call.entry))
+    subst (λ (answers : List Answer). AllByRecursion IsWhole answers) (sym (c.in_ok-answers.ensures.answers node found.1)) (c.answers_are_whole.ensures node.role.identity node.role.known e.moment (asked c.args.call))
 
 pub returns : goal.returns
 returns c = λ s run at.
     let e = c.args.self.now in
     let n = c.args.node.0 in
-    let call = asked c.args.call.entry in
+    let call = asked c.args.call in
     let found = map_some (λ (x : NodeSeen). station_of e.net.links x) (slice_get e.nodes n) c.in-Some.from.0 (sym c.in-Some.ensures.found) in
     let node = found.0 in
     let after = with_past n (with_turn (past_at run n) (turn_at node.role e.moment call)) run in
