@@ -24,6 +24,7 @@ function entry(n, word,    at, size, i) {
     if (word != "sent" && word != "injected") return
     if ($6 == "-") { refuse(n, "a packet of no bytes"); return }
     at = next_micro()
+    if (at >= 4294967296000000) { refuse(n, "a capture has no moment so late"); return }
     size = length($6) / 2
     emit(word32(int(at / 1000000)) word32(at % 1000000) word32(size) word32(size))
     for (i = 1; i <= length($6); i += 60) emit(substr($6, i, 60))

@@ -42,6 +42,7 @@ function fault(    n, kind, i) {
     if (n != NF) return "`" $1 "` has " n - 1 " fields, and here stand " NF - 1
     for (i = 2; i <= n; i++) if (!is_field(kind[i], $i)) return "field " i - 1 " of `" $1 "` is no such field: `" substr($i, 1, 40) "`"
     if (($1 == "sent" || $1 == "injected") && $2 != posted) return "packet " $2 " is posted where packet " posted " comes next"
+    if ($1 == "at" && moved && $2 + 0 <= latest) return "moment " $2 " does not come after " latest
     if (($1 == "heard" || $1 == "handed" || $1 == "gone" || $1 == "lost") && $2 + 0 >= posted) return "packet " $2 " was not posted before"
     return ""
 }
@@ -54,5 +55,6 @@ function line(n,    why) {
         kind_of[posted] = $5
         posted++
     }
+    if ($1 == "at") { moved = 1; latest = $2 + 0 }
     entry(n, $1)
 }
