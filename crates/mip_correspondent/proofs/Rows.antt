@@ -11,7 +11,7 @@ use Rattle.mip_bcache.specs.Seen.{CacheSeen, home_of, until_of, kept_at, row_at,
 use Rattle.mip_rules_correspondent.specs.declared.identity.Identity.{Identity}
 use Rattle.mip_rules_correspondent.specs.declared.known.Known.{Known}
 use Rattle.mip_correspondent.specs.declared.kept.Kept.{Kept}
-use Rattle.mip_correspondent.specs.Seen.{HasRoutableHome, IsSound}
+use Rattle.mip_correspondent.specs.Soundness.{HasRoutableHome, IsSound}
 use Rattle.mip_correspondent.specs.Showing.{left, with_kept, Fits}
 
 found_routable : (home : ℕ) (rows : List Row) (row : Row) → AllByRecursion HasRoutableHome rows → find_by home_of home rows ≡ Some row → is_routable home ≡ true

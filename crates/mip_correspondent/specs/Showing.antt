@@ -6,8 +6,7 @@ use Rattle.mip_bcache.specs.Seen.{CacheSeen, with_row, row_for, has_no_room}
 use Rattle.mip_rules_correspondent.specs.declared.known.Known.{Known}
 use Rattle.mip_rules_correspondent.specs.declared.verdict.Verdict.{Verdict}
 use Rattle.mip_rules_correspondent.specs.declared.verdict.Verdict.TheVariants.{Refuse, Deny, Accept}
-use Rattle.mip_rules_correspondent.specs.Steps.{answers_of}
-use Rattle.mip_rules_correspondent.specs.Turns.{Turn}
+use Rattle.mip_rules_correspondent.specs.Turns.{Turn, ShowsAt}
 use Rattle.mip_correspondent.specs.declared.kept.Kept.{Kept}
 
 -- what is known after a call at a moment, which left this cache
@@ -15,9 +14,8 @@ abbrev pub left : ℕ → CacheSeen → Known
 left now cache = record { last = record { 0 = now }; cache = cache }
 
 -- a turn at a moment: the last call is of then, this cache is left, and these are the answers
-unfoldable pub Shows : (now : ℕ) (cache : CacheSeen) (answers : List Answer) → Turn → Type 0
-Shows now cache answers t =
-    (t.now ≡ now) × (t.known ≡ left now cache) × (answers_of t.steps ≡ answers)
+abbrev pub Shows : (now : ℕ) (cache : CacheSeen) (answers : List Answer) → Turn → Type 0
+Shows now cache answers t = ShowsAt now (left now cache) answers t
 
 -- a cache with the row of an accepted update, if there is one
 abbrev pub with_kept : ℕ → Option Kept → CacheSeen → CacheSeen

@@ -10,9 +10,10 @@ ghost use Rattle.mip_bcache.specs.Seen.{StandsFor, kept_at, seen_row};
 ghost use Rattle.mip_entries.specs.Stamped.{Stamped};
 ghost use Rattle.mip_rules_correspondent.specs.Steps.{Step, answers_of};
 ghost use Rattle.mip_rules_correspondent.specs.Questions.{fresh, held_of};
-ghost use Rattle.mip_rules_correspondent.specs.Stands.{Stands, with_turn};
+ghost use Rattle.mip_rules_correspondent.specs.Turns.{Stands, with_turn};
 ghost use Rattle.mip_rules_correspondent.specs.Rules.{is_data, is_for_part};
-ghost use Rattle.mip_rules_correspondent.specs.Calls.{taken, parted, ticked, refreshed, transmitted};
+ghost use Rattle.mip_rules_correspondent.specs.Calls as calls;
+ghost use Rattle.mip_rules_correspondent.specs.Seen.{turn_at, called};
 ghost use Rattle.mip_correspondent.specs.Showing.{left, with_kept, Fits};
 
 use crate::kept::Kept;
@@ -38,7 +39,8 @@ pub struct Correspondent {
 }
 
 impl Model for Correspondent {
-    ghost use Rattle.mip_correspondent.specs.Seen.{CorrespondentSeen, IsSound};
+    ghost use Rattle.mip_rules_correspondent.specs.Seen.{CorrespondentSeen};
+    ghost use Rattle.mip_correspondent.specs.Soundness.{IsSound};
 
     ghost Value = { CorrespondentSeen };
 
@@ -113,6 +115,7 @@ impl Correspondent {
     {
         keep(&mut self.known.cache, now, kept)?;
         self.known.last = now;
+        self.identity.secrets.renew(now);
         Ok(())
     }
 
@@ -128,10 +131,10 @@ impl Correspondent {
     ) -> Result<Answers, Memory>
         requires later { self.old.known.last.0 ≤ now.0 }
         requires early { now.0 < 2 ^ 62 }
-        ensures answers { IfOk result (λ a. a ≡ answers_of (taken self.old.identity self.old.known now.0 number shield packet.now).steps) }
-        ensures after { OnOk result (self.new ≡ record { identity = self.old.identity; known = (taken self.old.identity self.old.known now.0 number shield packet.now).known }) }
+        ensures answers { IfOk result (λ a. a ≡ answers_of (turn_at self.old now.0 (calls.Take number shield packet.now)).steps) }
+        ensures after { OnOk result (self.new ≡ called self.old now.0 (calls.Take number shield packet.now)) }
         ensures stands { (room : ℕ) (past : List (Stamped Step)) → Stands room past self.old.known →
-            OnOk result (Stands room (with_turn past (taken self.old.identity self.old.known now.0 number shield packet.now)) self.new.known) }
+            OnOk result (Stands room (with_turn past (turn_at self.old now.0 (calls.Take number shield packet.now))) self.new.known) }
         ensures last { OnOk result (self.new.known.last ≡ now) }
         ensures err { OnErr result (self.new ≡ self.old) }
     {
@@ -160,10 +163,10 @@ impl Correspondent {
         requires early { now.0 < 2 ^ 62 }
         requires kind { IsTrue (is_for_part packet.now.head.proto (message_in (tree packet.now))) }
         requires plain { IsTrue (is_routable_if_any packet.now.head.home) }
-        ensures answers { IfOk result (λ a. a ≡ answers_of (parted self.old.identity self.old.known now.0 number (tree packet.now)).steps) }
-        ensures after { OnOk result (self.new ≡ record { identity = self.old.identity; known = (parted self.old.identity self.old.known now.0 number (tree packet.now)).known }) }
+        ensures answers { IfOk result (λ a. a ≡ answers_of (turn_at self.old now.0 (calls.Part number (tree packet.now))).steps) }
+        ensures after { OnOk result (self.new ≡ called self.old now.0 (calls.Part number (tree packet.now))) }
         ensures stands { (room : ℕ) (past : List (Stamped Step)) → Stands room past self.old.known →
-            OnOk result (Stands room (with_turn past (parted self.old.identity self.old.known now.0 number (tree packet.now))) self.new.known) }
+            OnOk result (Stands room (with_turn past (turn_at self.old now.0 (calls.Part number (tree packet.now)))) self.new.known) }
         ensures last { OnOk result (self.new.known.last ≡ now) }
         ensures err { OnErr result (self.new ≡ self.old) }
     {
@@ -181,11 +184,10 @@ impl Correspondent {
     }
 
     /// Time goes on, and rows past their time are given up.
-    #[tactic(auto, unfolding(mip_rules_correspondent::specs::Turns::noted, mip_rules_correspondent::specs::Questions::after))]
     pub fn tick(&mut self, now: Moment)
         requires { self.old.known.last.0 ≤ now.0 }
-        ensures after { self.new ≡ record { identity = self.old.identity; known = (ticked self.old.known now.0).known } }
-        ensures stands { (room : ℕ) (past : List (Stamped Step)) → Stands room past self.old.known → Stands room (with_turn past (ticked self.old.known now.0)) self.new.known }
+        ensures after { self.new ≡ called self.old now.0 calls.Tick }
+        ensures stands { (room : ℕ) (past : List (Stamped Step)) → Stands room past self.old.known → Stands room (with_turn past (turn_at self.old now.0 calls.Tick)) self.new.known }
         ensures last { self.new.known.last ≡ now }
     {
         let _given_up = self.known.cache.expire(now);
@@ -197,10 +199,10 @@ impl Correspondent {
     pub fn refresh(&mut self, alloc: Global, now: Moment, home: Address) -> Result<Answers, Memory>
         requires later { self.old.known.last.0 ≤ now.0 }
         requires early { now.0 < 2 ^ 62 }
-        ensures answers { IfOk result (λ a. a ≡ answers_of (refreshed self.old.identity self.old.known now.0 home).steps) }
-        ensures after { OnOk result (self.new ≡ record { identity = self.old.identity; known = (refreshed self.old.identity self.old.known now.0 home).known }) }
+        ensures answers { IfOk result (λ a. a ≡ answers_of (turn_at self.old now.0 (calls.Refresh home)).steps) }
+        ensures after { OnOk result (self.new ≡ called self.old now.0 (calls.Refresh home)) }
         ensures stands { (room : ℕ) (past : List (Stamped Step)) → Stands room past self.old.known →
-            OnOk result (Stands room (with_turn past (refreshed self.old.identity self.old.known now.0 home)) self.new.known) }
+            OnOk result (Stands room (with_turn past (turn_at self.old now.0 (calls.Refresh home))) self.new.known) }
         ensures last { OnOk result (self.new.known.last ≡ now) }
         ensures err { OnErr result (self.new ≡ self.old) }
     {
@@ -226,10 +228,10 @@ impl Correspondent {
         requires data { IsTrue (is_data proto) }
         requires proto { IsFalse (names_no_body proto) }
         requires short { length payload.now ≤ 512 }
-        ensures answers { IfOk result (λ a. a ≡ answers_of (transmitted self.old.identity self.old.known now.0 to proto payload.now).steps) }
-        ensures after { OnOk result (self.new ≡ record { identity = self.old.identity; known = (transmitted self.old.identity self.old.known now.0 to proto payload.now).known }) }
+        ensures answers { IfOk result (λ a. a ≡ answers_of (turn_at self.old now.0 (calls.Send to proto payload.now)).steps) }
+        ensures after { OnOk result (self.new ≡ called self.old now.0 (calls.Send to proto payload.now)) }
         ensures stands { (room : ℕ) (past : List (Stamped Step)) → Stands room past self.old.known →
-            OnOk result (Stands room (with_turn past (transmitted self.old.identity self.old.known now.0 to proto payload.now)) self.new.known) }
+            OnOk result (Stands room (with_turn past (turn_at self.old now.0 (calls.Send to proto payload.now))) self.new.known) }
         ensures last { OnOk result (self.new.known.last ≡ now) }
         ensures err { OnErr result (self.new ≡ self.old) }
     {

@@ -9,7 +9,7 @@ ghost use Rattle.mip_mobhdr.specs.Said.Said.{Refresh};
 ghost use Rattle.mip_signals.specs.Packets.{node_head, signal};
 ghost use Rattle.mip_rules_correspondent.specs.Steps.{Sends};
 ghost use Rattle.mip_rules_correspondent.specs.Turns.{Turn, noted};
-ghost use Rattle.mip_rules_correspondent.specs.Calls.{request_refresh, data_packet, data_head};
+ghost use Rattle.mip_rules_correspondent.specs.Doing.{request_refresh, data_packet, data_head};
 ghost use Rattle.mip_correspondent.specs.Showing.{Shows};
 
 use crate::answering::{idle, send};

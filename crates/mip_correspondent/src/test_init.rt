@@ -40,7 +40,7 @@ fn write_home_test(
     ensures { IfOk result (λ b. b ≡ signal (straight me.now.own source 135) (home_test me.now now.0 source cookie.0)) }
 {
     let number = current(now);
-    let token = home_token(&me.secrets.kcn(), source, &me.secrets.nonce(number));
+    let token = home_token(me.secrets.kcn(), source, &me.secrets.nonce(number));
     let test = Plain::HomeTest {
         index: index_of(number),
         cookie,
@@ -61,7 +61,7 @@ fn write_careof_test(
     ensures { IfOk result (λ b. b ≡ signal (straight me.now.own source 135) (careof_test me.now now.0 source cookie.0)) }
 {
     let number = current(now);
-    let token = careof_token(&me.secrets.kcn(), source, &me.secrets.nonce(number));
+    let token = careof_token(me.secrets.kcn(), source, &me.secrets.nonce(number));
     let test = Plain::CareofTest {
         index: index_of(number),
         cookie,

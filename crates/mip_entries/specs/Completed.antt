@@ -1,6 +1,8 @@
 -- The entries of a role, completed by its caller: the node's number, the link of an address, and the
 -- number that the next packet sent takes.
-use Rattle.std.specs.Prelude.{ℕ, ◌+◌, List, [], ◌∷◌, Option, is_some}
+use Rattle.std.specs.Prelude.{ℕ, ◌+◌, List, [], ◌∷◌, Option, Some, None, is_some}
+use Rattle.std.specs.Option.{option_map_or}
+use Rattle.mip_words.specs.declared.address.Address.{Address}
 use Rattle.mip_words.specs.declared.ids.NodeId.{NodeId}
 use Rattle.mip_words.specs.declared.ids.LinkId.{LinkId}
 use Rattle.mip_entries.specs.declared.entry.Entry.{Entry}
@@ -11,12 +13,22 @@ use Rattle.mip_entries.specs.declared.answer.Answer.TheVariants.{Send, Note}
 abbrev pub node_id : ℕ → NodeId
 node_id n = record { 0 = n }
 
+abbrev pub link_id : ℕ → LinkId
+link_id l = record { 0 = l }
+
+-- the address that an entry of a role claims, gives up, or claims in vain
+abbrev pub claim_in : Entry → Option Address
+claim_in (Claimed who link address) = Some address
+claim_in (Released who link address) = Some address
+claim_in (Taken who link address holder) = Some address
+claim_in _ = None
+
 -- a role's entry with the node's number, the link of its address, and the next packet's number; what
 -- no role notes is no entry of it
-abbrev pub named : ℕ → (ℕ → ℕ) → ℕ → Entry → Entry
-named n link next (Claimed who on address) = Claimed n (record { 0 = link address.0 }) address
-named n link next (Released who on address) = Released n (record { 0 = link address.0 }) address
-named n link next (Taken who on address holder) = Taken n (record { 0 = link address.0 }) address holder
+abbrev pub named : ℕ → ℕ → ℕ → Entry → Entry
+named n link next (Claimed who on address) = Claimed n (link_id link) address
+named n link next (Released who on address) = Released n (link_id link) address
+named n link next (Taken who on address holder) = Taken n (link_id link) address holder
 named n link next (Careof node address) = Careof (node_id n) address
 named n link next (Home node home careof sequence end) = Home (node_id n) home careof sequence end
 named n link next (Registered node agent end) = Registered (node_id n) agent end
@@ -36,8 +48,12 @@ named n link next (Restarted node) = Restarted (node_id n)
 named n link next (Row node home binding careof sequence end kept) = Row (node_id n) home binding careof sequence end kept
 named n link next _ = Idle
 
+-- the link of the address that an entry claims; 0 where it claims none
+abbrev pub link_for : (ℕ → ℕ) → Entry → ℕ
+link_for link entry = option_map_or (λ address. link address.0) (claim_in entry) 0
+
 -- the entries of a node's answers, of which the first packet sent takes the next number
 abbrev pub completed : ℕ → (ℕ → ℕ) → ℕ → List Answer → List Entry
 completed n link next [] = []
-completed n link next (Note entry ∷ answers) = named n link next entry ∷ completed n link next answers
+completed n link next (Note entry ∷ answers) = named n (link_for link entry) next entry ∷ completed n link next answers
 completed n link next (Send shield packet ∷ answers) = Sent next (node_id n) (is_some shield) packet ∷ completed n link (next + 1) answers

@@ -1,4 +1,4 @@
-ghost use Rattle.std.specs.Prelude.{◌≡◌, ◌∷◌, ◌++◌, [], List, length, slice_get, IfOk, OnOk, OnErr};
+ghost use Rattle.std.specs.Prelude.{◌≡◌, ◌∷◌, ◌++◌, [], length, slice_get, IfOk, OnOk, OnErr};
 ghost use Rattle.std.specs.Option.{option_copied};
 
 use crate::answer::Answer;
@@ -30,6 +30,13 @@ impl Answers {
         })
     }
 
+    /// The answers of a list, in its order.
+    pub(crate) fn of_vec(list: Vec<Answer>) -> Answers
+        ensures { result ≡ list.items }
+    {
+        Answers { list }
+    }
+
     /// Appends an answer.
     pub fn push(&mut self, answer: Answer) -> Result<(), Memory>
         ensures ok { OnOk result (self.new ≡ self.old ++ answer ∷ []) }
@@ -50,5 +57,12 @@ impl Answers {
         ensures { option_copied result ≡ slice_get self.now place }
     {
         self.list.get(place)
+    }
+
+    /// The answers themselves, in order.
+    pub fn into_vec(self) -> Vec<Answer>
+        ensures { result.items ≡ self }
+    {
+        self.list
     }
 }

@@ -5,12 +5,15 @@
 
 mod answer;
 mod answers;
+mod completing;
 mod entry;
 mod history;
+mod reserved;
 mod update_seen;
 
 pub use answer::Answer;
 pub use answers::Answers;
 pub use entry::Entry;
 pub use history::History;
+pub use reserved::ReservedAnswers;
 pub use update_seen::UpdateSeen;

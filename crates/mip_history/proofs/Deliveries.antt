@@ -7,7 +7,7 @@ use Rattle.mip_entries.specs.Completed.{node_id}
 use Rattle.mip_rules_correspondent.specs.declared.identity.Identity.{Identity}
 use Rattle.mip_rules_correspondent.specs.declared.known.Known.{Known}
 use Rattle.mip_rules_correspondent.specs.Turns.{Turn}
-use Rattle.mip_rules_correspondent.specs.Calls.{taken}
+use Rattle.mip_rules_correspondent.specs.Calls.{Call, Take}
 use Rattle.mip_links.specs.Table.{Post, delivery, in_pool}
 use Rattle.mip_links.specs.Nets.{lowest_of}
 use Rattle.mip_links.specs.declared.delivery.Delivery.{Delivery}
@@ -34,8 +34,8 @@ handed_goes : (s : Setup) (k n : ℕ) (post : Post) (link : Option ℕ) (run : R
 unfolding handed
 handed_goes s k n post link run is posted = by (slice_get s.hosts n) refl
   where
-    call : Identity → Known → ℕ → Turn
-    call me known now = taken me known now k post.shield (handed_over post.packet link)
+    call : Call
+    call = Take k post.shield (handed_over post.packet link)
 
     next : Run
     next = note (entries.Handed k (node_id n)) run

@@ -19,11 +19,12 @@ use Rattle.mip_schedule.specs.declared.event.Event.{Event}
 use Rattle.mip_schedule.specs.declared.event.Event.TheVariants.{Wait, Payload, Inject, Probe, Bind, Tell, Listen, Deaf, Squat, Yield, Deliver, Repeat, Lose, Carry, Restart, Refresh, Show}
 use Rattle.mip_rules_correspondent.specs.declared.identity.Identity.{Identity}
 use Rattle.mip_rules_correspondent.specs.declared.known.Known.{Known}
-use Rattle.mip_rules_correspondent.specs.Steps.{Step, Wanted, is_acceptance}
-use Rattle.mip_rules_correspondent.specs.Questions.{held_of}
-use Rattle.mip_rules_correspondent.specs.Turns.{Turn, begun, noted}
+use Rattle.mip_rules_correspondent.specs.Steps.{is_acceptance}
 use Rattle.mip_rules_correspondent.specs.Pasts.{accepted_in}
-use Rattle.mip_rules_correspondent.specs.Calls.{request_refresh, refreshes, refreshed, transmits, transmitted}
+use Rattle.mip_rules_correspondent.specs.Calls as calls
+use Rattle.mip_rules_correspondent.specs.Calls.{Call}
+use Rattle.mip_rules_correspondent.specs.Doing.{turn_of}
+use Rattle.mip_rules_correspondent.proofs.Taken.{refreshed_none, sent_none}
 use Rattle.mip_links.specs.Table.{link_of}
 use Rattle.mip_links.specs.Nets.{is_held_by}
 use Rattle.mip_history.specs.Setup.{Setup, Host}
@@ -60,8 +61,8 @@ noted_one : (s : Setup) (run : Run) (e : Entry) → IsRun s run → is_met e ≡
 noted_one s run e is quiet = quietly s run (note e run) is (quiet_notes s (e ∷ []) run (ap (λ (b : Bool). b || false) quiet))
 
 -- a call that accepts nothing
-acts_quietly : (s : Setup) (n : ℕ) (call : Identity → Known → ℕ → Turn) (run : Run) → IsRun s run
-    → ((me : Identity) (k : Known) (now : ℕ) → ((call me k now).now ≡ now) × (list_any is_acceptance (call me k now).steps ≡ false))
+acts_quietly : (s : Setup) (n : ℕ) (call : Call) (run : Run) → IsRun s run
+    → ((me : Identity) (k : Known) (now : ℕ) → ((turn_of me k now call).now ≡ now) × (list_any is_acceptance (turn_of me k now call).steps ≡ false))
     → Passes s run (acts s n call run) 0 (λ n. 0)
 acts_quietly s n call run is none = by (slice_get s.hosts n) refl
   where
@@ -69,19 +70,7 @@ acts_quietly s n call run is none = by (slice_get s.hosts n) refl
     by None e = noted_one s run entries.Idle is refl
     by (Some host) e =
         let q = none (identity_in s run n host) (known_in run n host) (now_in s run) in
-        still s run _ (turned_quietly s n host run (call (identity_in s run n host) (known_in run n host) (now_in s run)) is e q.0 q.1)
-
-refreshed_none : (me : Identity) (k : Known) (now : ℕ) (home : Address) → ((refreshed me k now home).now ≡ now) × (list_any is_acceptance (refreshed me k now home).steps ≡ false)
-unfolding refreshes noted
-refreshed_none me k now home = by (held_of k now home)
-  where
-    by : (held : Option Address) → ((request_refresh me home held (noted (Wanted home) (begun now k))).now ≡ now) × (list_any is_acceptance (request_refresh me home held (noted (Wanted home) (begun now k))).steps ≡ false)
-    by None = (refl, refl)
-    by (Some careof) = (refl, refl)
-
-transmitted_none : (me : Identity) (k : Known) (now : ℕ) (to : Address) (proto : ℕ) (payload : List ℕ) → ((transmitted me k now to proto payload).now ≡ now) × (list_any is_acceptance (transmitted me k now to proto payload).steps ≡ false)
-unfolding transmits noted
-transmitted_none me k now to proto payload = (refl, refl)
+        still s run _ (turned_quietly s n host run (turn_of (identity_in s run n host) (known_in run n host) (now_in s run) call) is e q.0 q.1)
 
 -- what outsiders do
 injected_goes : (s : Setup) (run : Run) (o link : ℕ) (packet : List ℕ) → IsRun s run → Passes s run (injected s run o link packet) 0 (λ n. 0)
@@ -236,7 +225,7 @@ module _ (s : Setup) (run : Run) (n : ℕ) (is : IsRun s run) where
 -- whatever happens
 pub happened : (s : Setup) (run : Run) (event : Event) → IsRun s run → Happens s run event (happens s run event)
 happened s run (Wait ms) is = waited_goes s run ms is
-happened s run (Payload node to proto payload) is = acts_quietly s node.0 (λ me k now. transmitted me k now to proto payload) run is (λ me k now. transmitted_none me k now to proto payload)
+happened s run (Payload node to proto payload) is = acts_quietly s node.0 (calls.Send to proto payload) run is (λ me k now. sent_none me k now to proto payload)
 happened s run (Inject o link packet) is = injected_goes s run o link.0 packet is
 happened s run (Probe o link careof source peer cookie) is = injected_goes s run o link.0 (probe_packet careof source peer cookie.0) is
 happened s run (Bind o link source peer home careof sequence lifetime kh kc) is =
@@ -251,7 +240,7 @@ happened s run (Repeat k) is = still s run _ (delivered_goes s run k true is)
 happened s run (Lose k) is = lost_goes s run k is
 happened s run (Carry count) is = still s run _ (carried_goes s run count is)
 happened s run (Restart node) is = restarted_goes s run node.0 is
-happened s run (Refresh node home) is = acts_quietly s node.0 (λ me k now. refreshed me k now home) run is (λ me k now. refreshed_none me k now home)
+happened s run (Refresh node home) is = acts_quietly s node.0 (calls.Refresh home) run is (λ me k now. refreshed_none me k now home)
 happened s run (Show node) is = shown_goes s node.0 run is
 happened s run _ is = noted_one s run entries.Idle is refl
 

@@ -22,7 +22,9 @@ use Rattle.mip_rules_correspondent.specs.Requests.{request_in, home_of}
 use Rattle.mip_rules_correspondent.specs.declared.verdict.Verdict.TheVariants.{Accept}
 use Rattle.mip_rules_correspondent.specs.Verdicts.{Bench, verdict}
 use Rattle.mip_rules_correspondent.specs.Rules.{bench}
-use Rattle.mip_rules_correspondent.specs.Calls.{taken}
+use Rattle.mip_rules_correspondent.specs.Calls.{Take}
+use Rattle.mip_rules_correspondent.specs.Doing.{turn_of}
+use Rattle.mip_rules_correspondent.specs.Taken.{IsUpdateTaken}
 use Rattle.mip_rules_correspondent.proofs.Acceptances.{floor-answers, full-answers}
 use Rattle.mip_rules_correspondent.proofs.VerdictLaws.{sound}
 use Rattle.mip_links.specs.Table.{Post}
@@ -34,7 +36,7 @@ use Rattle.mip_history.specs.Bound.{accepted_by, packet_in, judge_in, IsAccepted
 use Rattle.mip_history.proofs.Numbered.{packet_numbered}
 use Rattle.mip_history.proofs.Runs.{IsRun, Goes, quiet_handed, quiet_run, goes_quietly, goes_then}
 use Rattle.mip_history.proofs.Turns.{done, quiet_turn, accepting_turn}
-use Rattle.mip_history.proofs.Taken.{accepted_home, IsUpdateTaken, taken_is}
+use Rattle.mip_rules_correspondent.proofs.Taken.{accepted_home, taken_is}
 
 -- a node's turn in which nothing is accepted
 pub turned_quietly : (s : Setup) (n : ℕ) (host : Host) (run : Run) (t : Turn) → IsRun s run → slice_get s.hosts n ≡ Some host
@@ -105,7 +107,7 @@ module _ (s : Setup) (k n : ℕ) (post : Post) (link : Option ℕ) (before : Run
       ∙ ap (λ (h : Address). is_full host.room (accepted_by s.start run.past n) h.0 (now_in s run)) (sym same))
 
   abbrev steps : List Step
-  steps = (taken me (known_in run n host) (now_in s run) k post.shield (handed_over post.packet link)).steps
+  steps = (turn_of me (known_in run n host) (now_in s run) (Take k post.shield (handed_over post.packet link))).steps
 
   -- an update that is accepted stands behind its packet
   stands : (u : IsUpdateTaken me (known_in run n host) (now_in s run) k post.shield (handed_over post.packet link) steps) → IsAccepted s run.past n k u.home u.accepted
@@ -136,11 +138,11 @@ module _ (s : Setup) (k n : ℕ) (post : Post) (link : Option ℕ) (before : Run
       same : {a b : Address} {x y : Option Address} {l m : List ℕ} → b ≡ a → y ≡ x → m ≡ l → request_in a x l ≡ request_in b y m
       same p q r = cc
 
-  pub handed_to : Goes s before (turned s n host (taken me (known_in run n host) (now_in s run) k post.shield (handed_over post.packet link)) run)
+  pub handed_to : Goes s before (turned s n host (turn_of me (known_in run n host) (now_in s run) (Take k post.shield (handed_over post.packet link))) run)
   handed_to = goes_then s before run _ (goes_quietly s before run is (quiet_handed s k (node_id n) before (slice_get_within before.posts k post posted))) (by found.1)
     where
       t : Turn
-      t = taken me (known_in run n host) (now_in s run) k post.shield (handed_over post.packet link)
+      t = turn_of me (known_in run n host) (now_in s run) (Take k post.shield (handed_over post.packet link))
 
       found : (t.now ≡ now_in s run) × ((list_any is_acceptance t.steps ≡ false) ⊎ IsUpdateTaken me (known_in run n host) (now_in s run) k post.shield (handed_over post.packet link) t.steps)
       found = taken_is me (known_in run n host) (now_in s run) k post.shield (handed_over post.packet link)
@@ -150,4 +152,4 @@ module _ (s : Setup) (k n : ℕ) (post : Post) (link : Option ℕ) (before : Run
       by (inr u) =
           subst (λ (at : ℕ). Goes s run (done s n (link_or_first s host.address.0) at t.steps run)) (sym found.0)
           (subst (λ (l : List Step). Goes s run (done s n (link_or_first s host.address.0) (now_in s run) l run)) (sym u.steps_are)
-          (accepting_turn s n (link_or_first s host.address.0) run run_is inside k post.shield (handed_over post.packet link) u.home u.accepted u.rest u.none (stands u)))
+          (accepting_turn s n (link_or_first s host.address.0) run run_is inside (Take k post.shield (handed_over post.packet link)) k u.home u.accepted u.rest u.none (stands u)))

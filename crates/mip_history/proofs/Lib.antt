@@ -2,7 +2,6 @@ mod Quiet
 mod Runs
 mod Posts
 mod Turns
-mod Taken
 mod Numbered
 mod Handing
 mod Deliveries

@@ -15,7 +15,7 @@ use Rattle.mip_entries.specs.declared.answer.Answer.{Answer}
 use Rattle.mip_entries.specs.declared.entry.Entry.{Entry}
 use Rattle.mip_entries.specs.declared.entry.Entry.TheVariants as entries
 use Rattle.mip_entries.specs.Completed.{node_id}
-use Rattle.mip_rules_correspondent.specs.Steps.{Step, Given, Passed, Ticked, Wanted, Asked, Sends, Accepts, Denies, Drops, HandsUp, Idles, answer_of, answers_of, is_acceptance}
+use Rattle.mip_rules_correspondent.specs.Steps.{Step, Called, Sends, Accepts, Denies, Drops, HandsUp, Idles, answer_of, answers_of, is_acceptance}
 use Rattle.mip_links.specs.Table.{Post}
 use Rattle.mip_history.specs.Setup.{Setup}
 use Rattle.mip_history.specs.Runs.{Run, note, notes, entered}
@@ -124,11 +124,7 @@ answered_append s n from run xs ys = fold-append (λ (r : Run) (answer : Answer)
 
 quiet_step : (s : Setup) (n from : ℕ) (run : Run) (step : Step) → is_acceptance step ≡ false → IsQuiet s run (answered s n from run (answer_of step))
 unfolding answered
-quiet_step s n from run (Given number shield packet) none = quiet_same s run
-quiet_step s n from run (Passed number packet) none = quiet_same s run
-quiet_step s n from run Ticked none = quiet_same s run
-quiet_step s n from run (Wanted home) none = quiet_same s run
-quiet_step s n from run (Asked to proto payload) none = quiet_same s run
+quiet_step s n from run (Called call) none = quiet_same s run
 quiet_step s n from run (Sends packet) none = quiet_sent s (record { from = from; shield = None; packet = packet }) n false run
 quiet_step s n from run (Accepts number home accepted) none = absurd cc
 quiet_step s n from run (Denies number status) none = quiet_notes s (entries.Denied (node_id n) number status ∷ []) run refl

@@ -12,7 +12,8 @@ use Rattle.mip_entries.specs.declared.entry.Entry.{Entry}
 use Rattle.mip_entries.specs.declared.entry.Entry.TheVariants as entries
 use Rattle.mip_entries.specs.Stamped.{Stamped}
 use Rattle.mip_rules_correspondent.specs.Steps.{Step}
-use Rattle.mip_rules_correspondent.specs.Pasts.{accepted_in, RisesFrom}
+use Rattle.mip_turns.specs.Pasts.{RisesFrom}
+use Rattle.mip_rules_correspondent.specs.Pasts.{accepted_in}
 use Rattle.mip_links.specs.Table.{Post}
 use Rattle.mip_history.specs.Setup.{Setup}
 use Rattle.mip_history.specs.Runs.{Run, note, notes}

@@ -1,6 +1,6 @@
 -- A turn of a node keeps a run, whether an update is accepted in it or not.
 use Rattle.std.proofs.Common.{◌≡◌, ◌≢◌, ℕ, ◌<◌, ◌≤◌, List, [], ◌∷◌, ◌++◌, Bool, true, false, length, inl, inr, refl, sym, ap, ◌∙◌, subst, arith, length-set}
-use Rattle.std.specs.Prelude.{fold, Option, unwrap_or, ◌==◌, if◌then◌else◌}
+use Rattle.std.specs.Prelude.{fold, unwrap_or, ◌==◌, if◌then◌else◌}
 use Rattle.std.specs.List.{list_any, AllByRecursion}
 use Rattle.std.proofs.lemmas.List.{append-nil, get_or-set_same, get_or-set_other}
 use Rattle.std.proofs.lemmas.List.Concat.{flat_map-append}
@@ -8,7 +8,6 @@ use Rattle.std.proofs.lemmas.List.Sums.{fold-append}
 use Rattle.std.proofs.lemmas.List.Elements.{filter_map-append}
 use Rattle.std.proofs.lemmas.Bool.{or_parts, cases_eq, eq-eqb, ne_eqb}
 use Rattle.mip_words.specs.declared.address.Address.{Address}
-use Rattle.mip_words.specs.declared.shield.Shield.{Shield}
 use Rattle.mip_lists.proofs.EachLaws.{each-append}
 use Rattle.mip_binding.specs.Acceptance.{Acceptance}
 use Rattle.mip_bcache.specs.declared.accepted.Accepted.{Accepted}
@@ -16,8 +15,11 @@ use Rattle.mip_bcache.specs.Seen.{acceptance}
 use Rattle.mip_entries.specs.declared.entry.Entry.{Entry}
 use Rattle.mip_entries.specs.declared.entry.Entry.TheVariants as entries
 use Rattle.mip_entries.specs.Stamped.{Stamped, stamped}
-use Rattle.mip_rules_correspondent.specs.Steps.{Step, Given, Accepts, answers_of, is_acceptance}
-use Rattle.mip_rules_correspondent.specs.Pasts.{acceptance_in, accepted_in, RisesFrom}
+use Rattle.mip_turns.specs.Pasts.{RisesFrom}
+use Rattle.mip_turns.proofs.PastLaws.{rises_turn}
+use Rattle.mip_rules_correspondent.specs.Calls.{Call}
+use Rattle.mip_rules_correspondent.specs.Steps.{Step, Called, Accepts, answers_of, is_acceptance}
+use Rattle.mip_rules_correspondent.specs.Pasts.{acceptance_in, accepted_in}
 use Rattle.mip_history.specs.Setup.{Setup}
 use Rattle.mip_history.specs.Runs.{Run, with_past}
 use Rattle.mip_history.specs.Questions.{moment_says, moment_in, restarts, life_in}
@@ -57,14 +59,6 @@ none_accepted at (step ∷ steps) none =
     ap (λ (l : List Acceptance). l ++ accepted_in (stamped at steps)) (none_in at step parts.0) ∙ none_accepted at steps parts.1
 
 -- moments rise through a turn
-rises_stamped : (from at : ℕ) (steps : List Step) → from ≤ at → RisesFrom from (stamped at steps)
-rises_stamped from at [] early = tt
-rises_stamped from at (step ∷ steps) early = (early, rises_stamped at at steps (omega arith))
-
-rises_turn : (from at : ℕ) (past : List (Stamped Step)) (steps : List Step) → from ≤ at → AllByRecursion (λ t. t.at ≤ at) past → RisesFrom from past → RisesFrom from (past ++ stamped at steps)
-rises_turn from at [] steps early all rises = rises_stamped from at steps early
-rises_turn from at (t ∷ past) steps early all rises = (rises.0, rises_turn t.at at past steps all.0 all.1 rises.1)
-
 early_stamped : (at : ℕ) (steps : List Step) → AllByRecursion (λ t. t.at ≤ at) (stamped at steps)
 early_stamped at [] = tt
 early_stamped at (step ∷ steps) = (omega arith, early_stamped at steps)
@@ -167,11 +161,11 @@ module _ (s : Setup) (n from : ℕ) (run : Run) (is : IsRun s run) (inside : n <
       refl (λ m. refl)
       (quiet_steps s n from middle steps none)
 
-  pub accepting_turn : (number : ℕ) (shield : Option Shield) (packet : List ℕ) (home : Address) (a : Accepted) (rest : List Step) → list_any is_acceptance rest ≡ false
+  pub accepting_turn : (call : Call) (number : ℕ) (home : Address) (a : Accepted) (rest : List Step) → list_any is_acceptance rest ≡ false
       → IsAccepted s run.past n number home a
-      → Goes s run (done s n from (moment_in s.start run.past) (Given number shield packet ∷ Accepts number home a ∷ rest) run)
+      → Goes s run (done s n from (moment_in s.start run.past) (Called call ∷ Accepts number home a ∷ rest) run)
   unfolding answered accepted_in
-  accepting_turn number shield packet home a rest none stands =
+  accepting_turn call number home a rest none stands =
       quietly middle (answered s n from middle (answers_of rest))
       (goes_on steps past same (λ m other. accepted_other s.start m n number run.past home a other) moment kept)
       moment
@@ -179,7 +173,7 @@ module _ (s : Setup) (n from : ℕ) (run : Run) (is : IsRun s run) (inside : n <
       (quiet_steps s n from middle rest none)
     where
       steps : List Step
-      steps = Given number shield packet ∷ Accepts number home a ∷ rest
+      steps = Called call ∷ Accepts number home a ∷ rest
 
       past : List Entry
       past = run.past ++ accepted_entry n number home a ∷ []

@@ -9,7 +9,7 @@ use Rattle.mip_links.specs.Table.{Post, link_of, destination_in, delivery, in_po
 use Rattle.mip_links.specs.Nets.{lowest_of}
 use Rattle.mip_links.specs.declared.delivery.Delivery.{Delivery}
 use Rattle.mip_links.specs.declared.delivery.Delivery.TheVariants.{Idle, Gone, Outsider, Node}
-use Rattle.mip_rules_correspondent.specs.Calls.{taken}
+use Rattle.mip_rules_correspondent.specs.Calls.{Take}
 use Rattle.mip_history.specs.Setup.{Setup}
 use Rattle.mip_history.specs.Runs.{Run, note, without}
 use Rattle.mip_history.specs.Questions.{asked_in, hears_in}
@@ -45,7 +45,7 @@ held_by_outsider run k o link = if hears_there run o link then run else note (He
 -- node n is handed the packet, and its answers follow
 unfoldable pub handed : Setup → ℕ → Post → ℕ → Option ℕ → Run → Run
 handed s k post n link run =
-    acts s n (λ me known now. taken me known now k post.shield (handed_over post.packet link)) (note (Handed k (node_id n)) run)
+    acts s n (Take k post.shield (handed_over post.packet link)) (note (Handed k (node_id n)) run)
 
 abbrev pub is_no_holder : Why → Bool
 is_no_holder whys.NoHolder = not false

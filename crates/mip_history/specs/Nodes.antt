@@ -7,13 +7,14 @@ use Rattle.mip_entries.specs.declared.answer.Answer.TheVariants.{Send, Note}
 use Rattle.mip_entries.specs.declared.entry.Entry.{Entry}
 use Rattle.mip_entries.specs.declared.entry.Entry.TheVariants.{Sent, Idle, Row as ShownRow}
 use Rattle.mip_entries.specs.Stamped.{Stamped}
-use Rattle.mip_entries.specs.Completed.{node_id, named}
+use Rattle.mip_entries.specs.Completed.{node_id, link_for, named}
 use Rattle.mip_rules_correspondent.specs.declared.identity.Identity.{Identity}
 use Rattle.mip_rules_correspondent.specs.declared.known.Known.{Known}
 use Rattle.mip_rules_correspondent.specs.Steps.{Step, answers_of}
 use Rattle.mip_rules_correspondent.specs.Questions.{known}
-use Rattle.mip_rules_correspondent.specs.Turns.{Turn}
-use Rattle.mip_rules_correspondent.specs.Stands.{with_turn}
+use Rattle.mip_rules_correspondent.specs.Turns.{Turn, with_turn}
+use Rattle.mip_rules_correspondent.specs.Calls.{Call}
+use Rattle.mip_rules_correspondent.specs.Doing.{turn_of}
 use Rattle.mip_links.specs.Table.{link_of}
 use Rattle.mip_history.specs.Setup.{Setup, Host}
 use Rattle.mip_history.specs.Runs.{Run, note, notes, with_past}
@@ -47,7 +48,7 @@ now_in s run = moment_in s.start run.past
 abbrev pub answered_one : Setup → ℕ → ℕ → Run → Answer → Run
 answered_one s n from run (Send shield packet) =
     posted s (record { from = from; shield = shield; packet = packet }) None (Sent (length run.posts) (node_id n) (is_some shield) packet) run
-answered_one s n from run (Note entry) = note (named n (λ address. link_or_first s address) (length run.posts) entry) run
+answered_one s n from run (Note entry) = note (named n (link_for (λ address. link_or_first s address) entry) (length run.posts) entry) run
 
 -- what node n does, in order
 unfoldable pub answered : Setup → ℕ → ℕ → Run → List Answer → Run
@@ -58,12 +59,12 @@ abbrev pub turned : Setup → ℕ → Host → Turn → Run → Run
 turned s n host turn run =
     answered s n (link_or_first s host.address.0) (with_past n (with_turn (past_at run n) turn) run) (answers_of turn.steps)
 
--- node n does what it does with what it is and what it knows; nothing where there is no such node
-abbrev pub by_host : Setup → ℕ → (Identity → Known → ℕ → Turn) → Run → Option Host → Run
+-- node n does what it does about a call; nothing where there is no such node
+abbrev pub by_host : Setup → ℕ → Call → Run → Option Host → Run
 by_host s n call run None = note Idle run
-by_host s n call run (Some host) = turned s n host (call (identity_in s run n host) (known_in run n host) (now_in s run)) run
+by_host s n call run (Some host) = turned s n host (turn_of (identity_in s run n host) (known_in run n host) (now_in s run) call) run
 
-abbrev pub acts : Setup → ℕ → (Identity → Known → ℕ → Turn) → Run → Run
+abbrev pub acts : Setup → ℕ → Call → Run → Run
 acts s n call run = by_host s n call run (slice_get s.hosts n)
 
 -- a row of its binding cache

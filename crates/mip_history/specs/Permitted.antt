@@ -8,7 +8,7 @@ use Rattle.mip_schedule.specs.declared.declaration.Declaration.{Declaration}
 use Rattle.mip_schedule.specs.declared.declaration.Declaration.TheVariants as declare
 use Rattle.mip_schedule.specs.declared.event.Event.{Event}
 use Rattle.mip_schedule.specs.declared.event.Event.TheVariants.{Wait, Move, Advertise, Payload, Inject, Probe, Bind, Tell, Listen, Deaf, Squat, Yield, Deliver, Repeat, Lose, Carry, Restart, Refresh, Plan, Ask, Show, Settle}
-use Rattle.mip_rules_correspondent.specs.Calls.{refreshed, transmitted}
+use Rattle.mip_rules_correspondent.specs.Calls as calls
 use Rattle.mip_history.specs.Setup.{Setup, Host, setup_of}
 use Rattle.mip_history.specs.Runs.{Run, note, without, with_past}
 use Rattle.mip_history.specs.Questions.{moment_in}
@@ -40,7 +40,7 @@ waited s run ms = note (entries.At (record { 0 = moment_in s.start run.past + ms
 -- what an event makes of a run. Moves, advertisements, plans, solicitations and the test of settled nodes do nothing yet
 abbrev pub happens : Setup → Run → Event → Run
 happens s run (Wait ms) = waited s run ms
-happens s run (Payload node to proto payload) = acts s node.0 (λ me k now. transmitted me k now to proto payload) run
+happens s run (Payload node to proto payload) = acts s node.0 (calls.Send to proto payload) run
 happens s run (Inject o link packet) = injected s run o link.0 packet
 happens s run (Probe o link careof source peer cookie) = injected s run o link.0 (probe_packet careof source peer cookie.0)
 happens s run (Bind o link source peer home careof sequence lifetime kh kc) =
@@ -55,7 +55,7 @@ happens s run (Repeat k) = delivered s run k true
 happens s run (Lose k) = lost run k
 happens s run (Carry count) = carried s run count
 happens s run (Restart node) = restarted run node.0
-happens s run (Refresh node home) = acts s node.0 (λ me k now. refreshed me k now home) run
+happens s run (Refresh node home) = acts s node.0 (calls.Refresh home) run
 happens s run (Show node) = shown s node.0 run
 happens s run _ = note entries.Idle run
 

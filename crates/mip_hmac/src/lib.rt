@@ -2,7 +2,9 @@
 #![tactic(auto)]
 
 mod keyed;
+mod prepared_key;
 #[cfg(test)]
 mod tests;
 
 pub use keyed::{hmac, hmac_of_parts};
+pub use prepared_key::PreparedKey;

@@ -10,6 +10,9 @@ use crate::write_fault::WriteFault;
 use mip_words::{Address, Bytes, Memory, u16_bytes, u32_bytes};
 use std::alloc::Global;
 
+/// The bytes of the fixed header.
+const FIXED: usize = 40;
+
 /// The first 40 bytes.
 #[tactic(auto, unfolding(crate::specs::Spelling::fixed_bytes))]
 fn put_fixed(out: &mut Bytes, head: &Head, next: u8, size: u16) -> Result<(), Memory>
@@ -101,7 +104,7 @@ fn written(alloc: Global, head: Head, body: &[u8], size: u16) -> Result<Bytes, M
 {
     let second = number_of_options(head.home, head.proto);
     let first = number_of_routing(head.route, second);
-    let mut out = Bytes::new(alloc);
+    let mut out = Bytes::with_capacity(alloc, FIXED + size as usize)?;
     put_fixed(&mut out, &head, first, size)?;
     put_routing(&mut out, head.route, second)?;
     put_options(&mut out, head.home, head.proto)?;

@@ -1,10 +1,33 @@
 -- What is known of the parts of a text.
-use Rattle.std.proofs.Common.{◌≡◌, ℕ, ◌+◌, ◌<◌, ◌≤◌, List, [], ◌∷◌, length, take, drop, Bool, not, refl, ap, ◌∙◌, subst, inl, inr, arith, nat_lt}
-use Rattle.std.specs.Prelude.{Option, Some, None, ◌==◌}
+use Rattle.std.proofs.Common.{◌≡◌, ℕ, ◌+◌, ◌<◌, ◌≤◌, List, [], ◌∷◌, length, take, drop, Bool, true, false, not, refl, sym, ap, ◌∙◌, subst, inl, inr, arith, nat_lt}
+use Rattle.std.specs.Prelude.{Option, Some, None, ◌==◌, slice_index}
 use Rattle.std.specs.List.{count_by, slice_split, onto_first, position, position_or_len}
 use Rattle.std.proofs.lemmas.Bool.{cond_both, cond-true, cond-false, cases_Bool, ltb-true, ltb-false, not_from_true, not_from_false}
 use Rattle.std.proofs.lemmas.List.Splits.{length-slice_split, slice_split-cons_no, slice_split_first}
+use Rattle.std.proofs.lemmas.List.Sums.{position_or_len_is}
+use Rattle.memchr.specs.Find.{IsFirstByte, is_byte}
 use Rattle.mip_lines.specs.Cutting.{parts, fields_of}
+
+-- what is not true is false
+false_if_not : (b : Bool) → ¬ (b ≡ true) → b ≡ false
+false_if_not true so = absurd (so refl)
+false_if_not false so = refl
+
+-- the place that a search of bytes finds is the first one
+pub first_place : (c : ℕ) (bytes : List ℕ) (place : Option ℕ) → IsFirstByte (is_byte c) bytes place → place ≡ position (λ b. b == c) bytes
+first_place c bytes None none =
+    let p : ℕ → Bool = λ b. b == c in
+    let far : position_or_len p bytes ≡ length bytes = position_or_len_is p bytes (length bytes) 0 (omega arith) (λ k l. false_if_not (p (slice_index bytes k)) (none k (omega arith) l)) (λ l. absurd (omega arith)) in
+    cond_both (nat_lt (position_or_len p bytes) (length bytes)) _ _ (λ (o : Option ℕ). None ≡ o)
+    (λ near. absurd (let l = ltb-true (position_or_len p bytes) (length bytes) near in omega arith))
+    (λ _. refl)
+first_place c bytes (Some i) found =
+    let p : ℕ → Bool = λ b. b == c in
+    let inside : i < length bytes = found.0.high in
+    let here : position_or_len p bytes ≡ i = position_or_len_is p bytes i 0 (omega arith) (λ k l. false_if_not (p (slice_index bytes k)) (found.0.before k (omega arith) l)) (λ l. found.1) in
+    cond_both (nat_lt (position_or_len p bytes) (length bytes)) _ _ (λ (o : Option ℕ). Some i ≡ o)
+    (λ _. ap (λ (k : ℕ). Some k) (sym here))
+    (λ past. absurd (let l = ltb-false (position_or_len p bytes) (length bytes) past in omega arith))
 
 -- where no byte passes, the list is the one part
 whole : (p : ℕ → Bool) (xs : List ℕ) → length xs ≤ position_or_len p xs → slice_split p xs ≡ xs ∷ []

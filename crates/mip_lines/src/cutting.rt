@@ -4,13 +4,15 @@ ghost use Rattle.std.specs.Prelude.{◌≡◌, ◌==◌, ◌+◌, ◌<◌, ◌�
 ghost use Rattle.std.specs.List.{count_by, position};
 ghost use Rattle.mip_lines.specs.Cutting.{parts, fields_of, texts};
 
+use memchr::memchr;
 use mip_words::Memory;
 use std::alloc::Global;
 
+#[tactic(auto, using(crate::proofs::Parts::first_place))]
 fn place_of(byte: u8, bytes: &[u8]) -> Option<usize>
     ensures { result ≡ position (λ b. b == byte) bytes.now }
 {
-    bytes.iter().position(|b| *b == byte)
+    memchr(byte, bytes)
 }
 
 /// What stands before the first such byte, and what stands behind it.
@@ -30,7 +32,13 @@ fn count_spaces(line: &[u8]) -> usize
     ensures value { result ≡ count_by (λ b. b == 32) line.now }
     ensures within { result ≤ length line.now }
 {
-    line.iter().filter(|b| **b == b' ').count()
+    let mut spaces = 0;
+    for b in line {
+        if *b == b' ' {
+            spaces += 1;
+        }
+    }
+    spaces
 }
 
 /// How many fields a line has.
@@ -41,11 +49,11 @@ fn count_fields(line: &[u8]) -> usize
     count_spaces(line) + 1
 }
 
-/// The fields of a line, which lie between single spaces.
-pub fn fields(alloc: Global, line: &[u8]) -> Result<Vec<&[u8]>, Memory>
+/// The fields of a line, in a list with room for this many.
+fn fields_in_room(alloc: Global, room: usize, line: &[u8]) -> Result<Vec<&[u8]>, Memory>
     ensures { IfOk result (λ v. texts v.items ≡ fields_of line.now) }
 {
-    let mut fields = Vec::new(alloc);
+    let mut fields = Vec::with_capacity(alloc, room)?;
     let mut rest = line;
     while let Some((field, more)) = cut_at(b' ', rest) {
         fields.push(field)?;
@@ -55,12 +63,20 @@ pub fn fields(alloc: Global, line: &[u8]) -> Result<Vec<&[u8]>, Memory>
     Ok(fields)
 }
 
+/// The fields of a line, which lie between single spaces.
+pub fn fields(alloc: Global, line: &[u8]) -> Result<Vec<&[u8]>, Memory>
+    ensures { IfOk result (λ v. texts v.items ≡ fields_of line.now) }
+{
+    fields_in_room(alloc, count_fields(line), line)
+}
+
 /// The fields of a line that has so many at most; none, and no memory taken, where it has more.
 pub fn fields_up_to(alloc: Global, most: usize, line: &[u8]) -> Result<Option<Vec<&[u8]>>, Memory>
     ensures { IfOk result (λ o. MatchOption o (most < length (fields_of line.now)) (λ v. texts v.items ≡ fields_of line.now)) }
 {
-    if most < count_fields(line) {
+    let count = count_fields(line);
+    if most < count {
         return Ok(None);
     }
-    Ok(Some(fields(alloc, line)?))
+    Ok(Some(fields_in_room(alloc, count, line)?))
 }

@@ -19,6 +19,9 @@ use mip_options::{OptionSet, write_options};
 use mip_words::{Address, Bytes, Memory, u16_bytes};
 use std::alloc::Global;
 
+/// The bytes of the longest message.
+const LONGEST: usize = 96;
+
 /// The canonical spelling of a message from `source` to `destination`, with its checksum.
 pub fn write_message(
     alloc: Global,
@@ -54,7 +57,7 @@ fn front_of(alloc: Global, message: &Plain) -> Result<Bytes, Memory>
     ensures short { IfOk result (λ b. length b ≤ 24) }
     ensures fits { OnOk result (HasWidths (said_plain message.now)) }
 {
-    let mut out = Bytes::new(alloc);
+    let mut out = Bytes::with_capacity(alloc, LONGEST)?;
     out.extend(&[59, 0, kind_of(message), 0, 0, 0])?;
     put_fields(&mut out, message)?;
     Ok(out)
@@ -143,7 +146,7 @@ fn sized(alloc: Global, message: &[u8]) -> Result<Bytes, Memory>
     ensures { IfOk result (λ b. b ≡ 59 ∷ (length message.now / 8 - 1) ∷ drop 2 message.now) }
 {
     let (_, behind) = message.split_at(2);
-    let mut out = Bytes::new(alloc);
+    let mut out = Bytes::with_capacity(alloc, message.len())?;
     out.extend(&[59, (message.len() / 8 - 1) as u8])?;
     out.extend(behind)?;
     Ok(out)
@@ -163,7 +166,7 @@ fn summed(
     let sum = checksum(source, destination, 135, message, 4);
     let (front, field) = message.split_at(4);
     let (_, behind) = field.split_at(2);
-    let mut out = Bytes::new(alloc);
+    let mut out = Bytes::with_capacity(alloc, message.len())?;
     out.extend(front)?;
     out.extend(&u16_bytes(sum))?;
     out.extend(behind)?;

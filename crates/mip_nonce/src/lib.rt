@@ -3,6 +3,7 @@
 #![tactic(auto)]
 
 mod secrets;
+mod source;
 #[cfg(test)]
 mod tests;
 mod window;

@@ -1,6 +1,6 @@
 -- The binding cache that a past leaves stands for the updates that were accepted in it.
 use Rattle.std.proofs.Common.{◌≡◌, ℕ, ◌≤◌, List, [], ◌∷◌, ◌++◌, refl, sym, ap, ◌∙◌, subst, arith}
-use Rattle.std.specs.Prelude.{Option, Some, None, option_map, fold}
+use Rattle.std.specs.Prelude.{Option, Some, None, option_map, fold, Bool, true, false, if◌then◌else◌}
 use Rattle.std.specs.List.{AllByRecursion}
 use Rattle.std.proofs.lemmas.List.{append_assoc, append-nil}
 use Rattle.mip_words.specs.declared.address.Address.{Address}
@@ -10,10 +10,13 @@ use Rattle.mip_bcache.specs.declared.row.Row.{Row}
 use Rattle.mip_bcache.specs.Seen.{CacheSeen, StandsFor, row_at, if_standing, expired}
 use Rattle.mip_bcache.proofs.Pasts.{empty_stands, look_answers, floor_answers, room_answers, expire_stands, accept_stands}
 use Rattle.mip_entries.specs.Stamped.{Stamped}
+use Rattle.mip_turns.specs.Pasts.{RisesFrom, last_at}
+use Rattle.mip_turns.proofs.PastLaws.{last_early}
 use Rattle.mip_rules_correspondent.specs.declared.known.Known.{Known}
-use Rattle.mip_rules_correspondent.specs.Steps.{Step, Given, Passed, Ticked, Wanted, Asked, Sends, Accepts, Denies, Drops, HandsUp, Idles}
+use Rattle.mip_rules_correspondent.specs.Calls.{is_tick}
+use Rattle.mip_rules_correspondent.specs.Steps.{Step, Called, Sends, Accepts, Denies, Drops, HandsUp, Idles}
 use Rattle.mip_rules_correspondent.specs.Questions.{cache_after, after, fresh, known, held_of, floor_of, is_full_for}
-use Rattle.mip_rules_correspondent.specs.Pasts.{acceptance_in, accepted_in, RisesFrom}
+use Rattle.mip_rules_correspondent.specs.Pasts.{acceptance_in, accepted_in}
 
 -- what one step makes of a cache that stands for the acceptances so far
 pub record Follows (cache : CacheSeen) (xs : List Acceptance) (limit at : ℕ) : Type 0 where
@@ -34,29 +37,20 @@ stepped cache xs limit from at (Accepts number home accepted) later f = record {
   limit_is = f.limit_is;
   early = omega arith;
 }
-stepped cache xs limit from at Ticked later f = record {
-  stands = subst (λ (l : List Acceptance). StandsFor (expired at cache) l) (sym (append-nil xs)) (expire_stands cache xs f.stands at (let e = f.early in omega arith));
-  limit_is = f.limit_is;
-  early = omega arith;
-}
-stepped cache xs limit from at (Given number shield packet) later f = quiet cache xs limit from at later f
-stepped cache xs limit from at (Passed number packet) later f = quiet cache xs limit from at later f
-stepped cache xs limit from at (Wanted home) later f = quiet cache xs limit from at later f
-stepped cache xs limit from at (Asked to proto payload) later f = quiet cache xs limit from at later f
+stepped cache xs limit from at (Called call) later f = by (is_tick call)
+  where
+    by : (tick : Bool) → Follows (if tick then expired at cache else cache) (xs ++ []) limit at
+    by true = record {
+      stands = subst (λ (l : List Acceptance). StandsFor (expired at cache) l) (sym (append-nil xs)) (expire_stands cache xs f.stands at (let e = f.early in omega arith));
+      limit_is = f.limit_is;
+      early = omega arith;
+    }
+    by false = quiet cache xs limit from at later f
 stepped cache xs limit from at (Sends packet) later f = quiet cache xs limit from at later f
 stepped cache xs limit from at (Denies number status) later f = quiet cache xs limit from at later f
 stepped cache xs limit from at (Drops number why) later f = quiet cache xs limit from at later f
 stepped cache xs limit from at (HandsUp number source destination proto payload) later f = quiet cache xs limit from at later f
 stepped cache xs limit from at Idles later f = quiet cache xs limit from at later f
-
--- the moment of the last step
-abbrev last_at : ℕ → List (Stamped Step) → ℕ
-last_at from [] = from
-last_at from (s ∷ past) = last_at s.at past
-
-last_early : (now from : ℕ) (past : List (Stamped Step)) → from ≤ now → AllByRecursion (λ s. s.at ≤ now) past → last_at from past ≤ now
-last_early now from [] early all = early
-last_early now from (s ∷ past) early all = last_early now s.at past all.0 all.1
 
 followed : (k : Known) (xs : List Acceptance) (limit from : ℕ) (past : List (Stamped Step)) → RisesFrom from past → Follows k.cache xs limit from
     → Follows (fold after k past).cache (xs ++ accepted_in past) limit (last_at from past)

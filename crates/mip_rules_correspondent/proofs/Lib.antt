@@ -4,5 +4,7 @@ pub mod Wholes
 pub mod Walks
 pub mod Refusals
 pub mod Calls
+pub mod Sendings
 pub mod VerdictLaws
+pub mod Taken
 pub mod Answers

@@ -1,12 +1,15 @@
+pub mod Calls
 pub mod Steps
 pub mod Questions
 pub mod Turns
-pub mod Stands
 pub mod Requests
 pub mod Verdicts
 pub mod Soundness
 pub mod Acks
 pub mod Rules
-pub mod Calls
+pub mod Doing
+pub mod Seen
+pub mod Sendings
+pub mod Taken
 pub mod Pasts
 pub mod Wholes

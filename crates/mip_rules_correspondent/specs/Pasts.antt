@@ -1,5 +1,5 @@
 -- The updates that were accepted in a past: what the binding cache stands for.
-use Rattle.std.specs.Prelude.{ℕ, ◌≤◌, List, [], ◌∷◌}
+use Rattle.std.specs.Prelude.{ℕ, List, [], ◌∷◌}
 use Rattle.std.specs.List.{flat_map}
 use Rattle.mip_binding.specs.Acceptance.{Acceptance}
 use Rattle.mip_bcache.specs.Seen.{acceptance}
@@ -13,8 +13,3 @@ acceptance_in at _ = []
 -- the acceptances of a past, oldest first
 unfoldable pub accepted_in : List (Stamped Step) → List Acceptance
 accepted_in past = flat_map (λ s. acceptance_in s.at s.step) past
-
--- moments do not fall, from this one on
-abbrev pub RisesFrom : ℕ → List (Stamped Step) → Type 0
-RisesFrom at [] = Unit {0}
-RisesFrom at (s ∷ past) = (at ≤ s.at) × RisesFrom s.at past

@@ -1,20 +1,23 @@
 -- What a correspondent knows of its past: one question a field, and what each step makes of the answer.
-use Rattle.std.specs.Prelude.{ℕ, List, [], fold, Bool, if◌then◌else◌, Option, option_map}
+use Rattle.std.specs.Prelude.{ℕ, List, [], Bool, if◌then◌else◌, Option, option_map}
 use Rattle.mip_words.specs.declared.address.Address.{Address}
 use Rattle.mip_words.specs.declared.moment.Moment.{Moment}
 use Rattle.mip_bcache.specs.Seen.{CacheSeen, expired, with_row, row_for, row_at, if_standing, has_no_room}
 use Rattle.mip_entries.specs.Stamped.{Stamped}
+use Rattle.mip_turns.specs.Turns.{known_by}
 use Rattle.mip_rules_correspondent.specs.declared.known.Known.{Known}
-use Rattle.mip_rules_correspondent.specs.Steps.{Step, Ticked, Accepts, is_call}
+use Rattle.mip_rules_correspondent.specs.Calls.{is_tick}
+use Rattle.mip_rules_correspondent.specs.Steps.{Step, Called, Accepts, is_call}
 
 -- the moment of the last call that it was given, 0 before the first
 abbrev pub last_after : Known → ℕ → Step → Moment
 last_after k at step = if is_call step then record { 0 = at } else k.last
 
--- the binding cache: an acceptance puts its row in the place of the one of its home (RFC 6275 section 9.5.1)
+-- the binding cache: an acceptance puts its row in the place of the one of its home, and rows past their time are given
+-- up as time goes on (RFC 6275 section 9.5.1)
 abbrev pub cache_after : CacheSeen → ℕ → Step → CacheSeen
 cache_after cache at (Accepts number home accepted) = with_row at (row_for at home 0 accepted) cache
-cache_after cache at Ticked = expired at cache
+cache_after cache at (Called call) = if is_tick call then expired at cache else cache
 cache_after cache at _ = cache
 
 -- one step more
@@ -27,7 +30,7 @@ fresh room = record { last = record { 0 = 0 }; cache = record { limit = room; la
 
 -- what a past leaves known
 unfoldable pub known : ℕ → List (Stamped Step) → Known
-known room past = fold after (fresh room) past
+known room past = known_by after (fresh room) past
 
 -- the care-of address that is held for a home
 abbrev pub held_of : Known → ℕ → Address → Option Address

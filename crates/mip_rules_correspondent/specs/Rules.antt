@@ -2,13 +2,11 @@
 use Rattle.std.specs.Prelude.{ℕ, ◌-◌, List, length, Bool, true, false, not, ◌&&◌, ◌==◌, if◌then◌else◌, Option, Some, None, Result, Ok, Err}
 use Rattle.std.specs.Option.{option_map_or}
 use Rattle.mip_words.specs.declared.address.Address.{Address}
-use Rattle.mip_words.specs.declared.shield.Shield.{Shield}
 use Rattle.mip_words.specs.declared.why.Why.{Why}
 use Rattle.mip_words.specs.declared.why.Why.TheVariants as whys
 use Rattle.mip_ipv6.specs.declared.head.Head.{Head}
 use Rattle.mip_ipv6.specs.declared.not_packet.NotPacket.{NotPacket}
 use Rattle.mip_ipv6.specs.Packet.{Packet, source_of, destination_of}
-use Rattle.mip_ipv6.specs.Reading.{packet_of}
 use Rattle.mip_options.specs.Values.{nothing}
 use Rattle.mip_mobhdr.specs.Said.{Said}
 use Rattle.mip_mobhdr.specs.Said.Said.{HomeInit, CareofInit, HomeTest, CareofTest, Update}
@@ -28,7 +26,7 @@ use Rattle.mip_rules_correspondent.specs.declared.known.Known.{Known}
 use Rattle.mip_rules_correspondent.specs.declared.request.Request.{Request}
 use Rattle.mip_rules_correspondent.specs.declared.verdict.Verdict.{Verdict}
 use Rattle.mip_rules_correspondent.specs.declared.verdict.Verdict.TheVariants.{Refuse, Deny, Accept}
-use Rattle.mip_rules_correspondent.specs.Steps.{Given, Sends, Accepts, Denies, Drops, HandsUp}
+use Rattle.mip_rules_correspondent.specs.Steps.{Sends, Accepts, Denies, Drops, HandsUp}
 use Rattle.mip_rules_correspondent.specs.Questions.{held_of, floor_of, is_full_for}
 use Rattle.mip_rules_correspondent.specs.Turns.{Turn, noted}
 use Rattle.mip_rules_correspondent.specs.Requests.{request, home_of}
@@ -146,7 +144,3 @@ abbrev pub receives : Identity → ℕ → List ℕ → Result Packet NotPacket 
 receives me number bytes (Err fault) t = noted (Drops number (packet_why fault)) t
 receives me number bytes (Ok p) t =
     after_checks me number bytes p (checked (standing_of me t.known t.now p.head) (place_in bytes p) p) t
-
--- a packet is handed to it
-unfoldable pub takes : Identity → ℕ → Option Shield → List ℕ → Turn → Turn
-takes me number shield packet t = receives me number packet (packet_of packet) (noted (Given number shield packet) t)

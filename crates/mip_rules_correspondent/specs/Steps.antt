@@ -1,28 +1,19 @@
--- The steps of a correspondent: what it was asked, and what it does about it.
+-- The steps of a correspondent: what it was called for, and what it does about it.
 use Rattle.std.specs.Prelude.{ℕ, List, [], ◌∷◌, Option, None, option_map, Bool, true, false}
-use Rattle.std.specs.List.{flat_map}
 use Rattle.mip_words.specs.declared.address.Address.{Address}
 use Rattle.mip_words.specs.declared.ids.NodeId.{NodeId}
-use Rattle.mip_words.specs.declared.shield.Shield.{Shield}
 use Rattle.mip_words.specs.declared.why.Why.{Why}
-use Rattle.mip_ipv6.specs.Packet.{Packet}
 use Rattle.mip_nonce.specs.Window.{index_of}
 use Rattle.mip_bcache.specs.declared.accepted.Accepted.{Accepted}
 use Rattle.mip_entries.specs.declared.answer.Answer.{Answer}
 use Rattle.mip_entries.specs.declared.answer.Answer.TheVariants.{Send, Note}
 use Rattle.mip_entries.specs.declared.entry.Entry.TheVariants as entries
+use Rattle.mip_turns.specs.Shows.{answers_by}
+use Rattle.mip_rules_correspondent.specs.Calls.{Call}
 
 pub data Step : Type 0 where
-  -- a packet was handed to it, by its number, its shield and its bytes; leaves no entry, nor do the next four
-  Given : (number : ℕ) (shield : Option Shield) (packet : List ℕ) → Step
-  -- a packet that had passed its node's checks was handed to it
-  Passed : (number : ℕ) (packet : Packet) → Step
-  -- time went on
-  Ticked : Step
-  -- it was asked for a Binding Refresh Request to a home
-  Wanted : (home : Address) → Step
-  -- it was asked to send data
-  Asked : (to : Address) (proto : ℕ) (payload : List ℕ) → Step
+  -- it was called; leaves no entry
+  Called : (call : Call) → Step
   -- it sends a packet, unshielded
   Sends : (packet : List ℕ) → Step
   -- it accepts the update in a packet
@@ -42,11 +33,7 @@ myself = record { 0 = 0 }
 
 -- what shows of a step
 abbrev pub answer_of : Step → List Answer
-answer_of (Given number shield packet) = []
-answer_of (Passed number packet) = []
-answer_of Ticked = []
-answer_of (Wanted home) = []
-answer_of (Asked to proto payload) = []
+answer_of (Called call) = []
 answer_of (Sends packet) = Send None packet ∷ []
 answer_of (Accepts number home a) =
     Note (entries.Accepted myself number home 0 a.careof a.sequence a.end (index_of a.home_nonce) (option_map index_of a.careof_nonce)) ∷ []
@@ -56,23 +43,14 @@ answer_of (HandsUp number source destination proto payload) = Note (entries.Up m
 answer_of Idles = Note entries.Idle ∷ []
 
 abbrev pub answers_of : List Step → List Answer
-answers_of steps = flat_map answer_of steps
+answers_of steps = answers_by answer_of steps
 
--- something that it was asked
+-- a call
 abbrev pub is_call : Step → Bool
-is_call (Given number shield packet) = true
-is_call (Passed number packet) = true
-is_call Ticked = true
-is_call (Wanted home) = true
-is_call (Asked to proto payload) = true
+is_call (Called call) = true
 is_call _ = false
 
 -- an update that was accepted
 abbrev pub is_acceptance : Step → Bool
 is_acceptance (Accepts number home accepted) = true
 is_acceptance _ = false
-
--- time going on
-abbrev pub is_tick : Step → Bool
-is_tick Ticked = true
-is_tick _ = false

@@ -1,18 +1,32 @@
--- A turn: one call, with what is known as it goes on and what was done in it so far.
-use Rattle.std.specs.Prelude.{ℕ, List, [], ◌∷◌, ◌++◌}
+-- The turns of a correspondent.
+use Rattle.std.specs.Prelude.{ℕ, List}
+use Rattle.mip_entries.specs.declared.answer.Answer.{Answer}
+use Rattle.mip_entries.specs.Stamped.{Stamped}
+use Rattle.mip_turns.specs.Turns as turns
+use Rattle.mip_turns.specs.Shows.{ShowsBy}
 use Rattle.mip_rules_correspondent.specs.declared.known.Known.{Known}
-use Rattle.mip_rules_correspondent.specs.Steps.{Step}
-use Rattle.mip_rules_correspondent.specs.Questions.{after}
+use Rattle.mip_rules_correspondent.specs.Steps.{Step, answer_of}
+use Rattle.mip_rules_correspondent.specs.Questions.{after, fresh}
 
-pub record Turn : Type 0 where
-  pub now : ℕ
-  pub known : Known
-  pub steps : List Step
+abbrev pub Turn : Type 0
+Turn = turns.Turn Known Step
 
 -- a call begins
 abbrev pub begun : ℕ → Known → Turn
-begun now k = record { now = now; known = k; steps = [] }
+begun now k = turns.begun now k
 
 -- the one thing that a rule does: a step is taken, and what is known goes on
-unfoldable pub noted : Step → Turn → Turn
-noted step t = record { now = t.now; known = after t.known (record { at = t.now; step = step }); steps = t.steps ++ step ∷ [] }
+abbrev pub noted : Step → Turn → Turn
+noted step t = turns.noted_by after step t
+
+-- what a correspondent keeps is what its past leaves known
+abbrev pub Stands : ℕ → List (Stamped Step) → Known → Type 0
+Stands room past k = turns.StandsBy after (fresh room) past k
+
+-- the past with a turn behind it
+abbrev pub with_turn : List (Stamped Step) → Turn → List (Stamped Step)
+with_turn past t = turns.with_turn past t
+
+-- a turn at a moment: this is known as it stands, and these are its answers so far
+abbrev pub ShowsAt : (now : ℕ) (known : Known) (answers : List Answer) → Turn → Type 0
+ShowsAt now known answers t = ShowsBy answer_of now known answers t

@@ -1,10 +1,9 @@
 //! The laws by which a role stands for a past, and its cache for the updates accepted in it; and those of verdicts.
 
-ghost use Rattle.std.specs.Prelude.{◌≡◌, ℕ, ◌≤◌, List, [], Option, Some, false, unwrap_or, option_map};
+ghost use Rattle.std.specs.Prelude.{◌≡◌, ℕ, ◌≤◌, List, [], Option, Some, true, false, unwrap_or, option_map};
 ghost use Rattle.std.specs.List.{list_any, AllByRecursion};
 ghost use Rattle.mip_words.specs.declared.address.Address.{Address};
 ghost use Rattle.mip_words.specs.declared.shield.Shield.{Shield};
-ghost use Rattle.mip_ipv6.specs.Packet.{Packet};
 ghost use Rattle.mip_tokens.specs.declared.kbm.Kbm.{Kbm};
 ghost use Rattle.mip_lists.specs.Last.{last_where};
 ghost use Rattle.mip_binding.specs.Held.{held, floor, is_full};
@@ -17,25 +16,16 @@ ghost use Rattle.mip_rules_correspondent.specs.declared.request.Request.{Request
 ghost use Rattle.mip_rules_correspondent.specs.declared.verdict.Verdict.TheVariants.{Deny, Accept};
 ghost use Rattle.mip_rules_correspondent.specs.Soundness.{IsGenuine, IsSound, IsBehind};
 ghost use Rattle.mip_rules_correspondent.specs.Verdicts.{Bench, verdict};
+ghost use Rattle.mip_turns.specs.Pasts.{RisesFrom};
+ghost use Rattle.mip_rules_correspondent.specs.Calls.{Call, Take, Refresh, Send, Tick, is_tick};
 ghost use Rattle.mip_rules_correspondent.specs.Steps.{Step, answers_of, is_call, is_acceptance};
-ghost use Rattle.mip_rules_correspondent.specs.Questions.{fresh, known, held_of, floor_of, is_full_for};
-ghost use Rattle.mip_rules_correspondent.specs.Turns.{Turn, noted};
-ghost use Rattle.mip_rules_correspondent.specs.Stands.{Stands, with_turn};
-ghost use Rattle.mip_rules_correspondent.specs.Pasts.{accepted_in, RisesFrom};
-ghost use Rattle.mip_rules_correspondent.specs.Rules.{takes};
-ghost use Rattle.mip_rules_correspondent.specs.Calls.{parts, taken, parted, ticked, refreshed, transmitted};
+ghost use Rattle.mip_rules_correspondent.specs.Questions.{known, held_of, floor_of, is_full_for};
+ghost use Rattle.mip_rules_correspondent.specs.Turns.{Turn, Stands, with_turn};
+ghost use Rattle.mip_rules_correspondent.specs.Pasts.{accepted_in};
+ghost use Rattle.mip_rules_correspondent.specs.Doing.{does, turn_of};
+ghost use Rattle.mip_rules_correspondent.specs.Sendings.{SendsOwn};
+ghost use Rattle.mip_rules_correspondent.specs.Taken.{IsUpdateTaken};
 ghost use Rattle.mip_rules_correspondent.specs.Wholes.{IsWhole};
-
-/// A new correspondent stands for the empty past.
-#[tactic(auto, unfolding(crate::specs::Stands::Stands, crate::specs::Questions::known))]
-pub fn stands_for_nothing()
-    ensures { (room : ℕ) → Stands room [] (fresh room) }
-{}
-
-/// Whoever stands for a past with the turn so far stands for it with one step more.
-pub fn stands_for_one_step_more()
-    ensures { (room : ℕ) (past : List (Stamped Step)) (step : Step) (t : Turn) → Stands room (with_turn past t) t.known → Stands room (with_turn past (noted step t)) (noted step t).known }
-{}
 
 /// The last moment known is that of the last call.
 pub fn last_is_of_the_last_call()
@@ -52,29 +42,41 @@ pub fn bindings_are_of_the_acceptances()
     ensures full { (room : ℕ) (past : List (Stamped Step)) (now : ℕ) (home : Address) → RisesFrom 0 past → AllByRecursion (λ s. s.at ≤ now) past → is_full_for (known room past) now home ≡ is_full room (accepted_in past) home.0 now }
 {}
 
+/// Whoever stands for a past knows what it leaves known.
+pub fn stands_for_what_is_known()
+    ensures { (room : ℕ) (past : List (Stamped Step)) (k : Known) → Stands room past k → k ≡ known room past }
+{}
+
 /// Whoever stands for a past stands, after any call, for the past with the call's turn.
 pub fn stands_after_each_call()
-    ensures taken { (room : ℕ) (past : List (Stamped Step)) (k : Known) (now : ℕ) (me : Identity) (number : ℕ) (shield : Option Shield) (packet : List ℕ) → Stands room past k → Stands room (with_turn past (taken me k now number shield packet)) (taken me k now number shield packet).known }
-    ensures parted { (room : ℕ) (past : List (Stamped Step)) (k : Known) (now : ℕ) (me : Identity) (number : ℕ) (p : Packet) → Stands room past k → Stands room (with_turn past (parted me k now number p)) (parted me k now number p).known }
-    ensures ticked { (room : ℕ) (past : List (Stamped Step)) (k : Known) (now : ℕ) → Stands room past k → Stands room (with_turn past (ticked k now)) (ticked k now).known }
-    ensures refreshed { (room : ℕ) (past : List (Stamped Step)) (k : Known) (now : ℕ) (me : Identity) (home : Address) → Stands room past k → Stands room (with_turn past (refreshed me k now home)) (refreshed me k now home).known }
-    ensures transmitted { (room : ℕ) (past : List (Stamped Step)) (k : Known) (now : ℕ) (me : Identity) (to : Address) (proto : ℕ) (payload : List ℕ) → Stands room past k → Stands room (with_turn past (transmitted me k now to proto payload)) (transmitted me k now to proto payload).known }
+    ensures { (room : ℕ) (past : List (Stamped Step)) (k : Known) (now : ℕ) (me : Identity) (c : Call) → Stands room past k → Stands room (with_turn past (turn_of me k now c)) (turn_of me k now c).known }
 {}
 
 /// Whatever a call gives out is whole.
 pub fn answers_are_whole()
-    ensures taken { (me : Identity) (k : Known) (now number : ℕ) (shield : Option Shield) (packet : List ℕ) → AllByRecursion IsWhole (answers_of (taken me k now number shield packet).steps) }
-    ensures parted { (me : Identity) (k : Known) (now number : ℕ) (p : Packet) → AllByRecursion IsWhole (answers_of (parted me k now number p).steps) }
-    ensures ticked { (k : Known) (now : ℕ) → AllByRecursion IsWhole (answers_of (ticked k now).steps) }
-    ensures refreshed { (me : Identity) (k : Known) (now : ℕ) (home : Address) → AllByRecursion IsWhole (answers_of (refreshed me k now home).steps) }
-    ensures transmitted { (me : Identity) (k : Known) (now : ℕ) (to : Address) (proto : ℕ) (payload : List ℕ) → AllByRecursion IsWhole (answers_of (transmitted me k now to proto payload).steps) }
+    ensures { (me : Identity) (k : Known) (now : ℕ) (c : Call) → AllByRecursion IsWhole (answers_of (turn_of me k now c).steps) }
 {}
 
-/// A packet that leads to no acceptance changes no row: neither one that is dropped, nor an update that
-/// is denied or refused in silence.
+/// Whatever a call sends is a packet that a correspondent sends at its moment: a test of its own, an acknowledgement, what
+/// goes back to the source of a refused packet, a refresh request, or data.
+pub fn each_packet_is_its_own()
+    ensures { (me : Identity) (k : Known) (now : ℕ) (c : Call) → AllByRecursion (SendsOwn me now) (turn_of me k now c).steps }
+{}
+
+/// A packet that is handed over leads to no acceptance, or at once to that of the update in it, with the verdict Accept on
+/// its bytes by what is kept of its home; nothing else does, but for the part of a mobile.
+pub fn what_is_accepted_was_taken()
+    ensures taken { (me : Identity) (k : Known) (now number : ℕ) (shield : Option Shield) (bytes : List ℕ) → list_any is_acceptance (turn_of me k now (Take number shield bytes)).steps ≡ true
+        → IsUpdateTaken me k now number shield bytes (turn_of me k now (Take number shield bytes)).steps }
+    ensures refreshed { (me : Identity) (k : Known) (now : ℕ) (home : Address) → list_any is_acceptance (turn_of me k now (Refresh home)).steps ≡ false }
+    ensures sent { (me : Identity) (k : Known) (now : ℕ) (to : Address) (proto : ℕ) (payload : List ℕ) → list_any is_acceptance (turn_of me k now (Send to proto payload)).steps ≡ false }
+    ensures ticked { (me : Identity) (k : Known) (now : ℕ) → list_any is_acceptance (turn_of me k now Tick).steps ≡ false }
+{}
+
+/// A call that leads to no acceptance changes no row, unless it is for the passing of time: neither a packet that is dropped,
+/// nor an update that is denied or refused in silence.
 pub fn refused_changes_no_row()
-    ensures takes { (me : Identity) (number : ℕ) (shield : Option Shield) (packet : List ℕ) (t : Turn) → list_any is_acceptance (takes me number shield packet t).steps ≡ false → (takes me number shield packet t).known.cache ≡ t.known.cache }
-    ensures parts { (me : Identity) (number : ℕ) (p : Packet) (t : Turn) → list_any is_acceptance (parts me number p t).steps ≡ false → (parts me number p t).known.cache ≡ t.known.cache }
+    ensures { (me : Identity) (c : Call) (t : Turn) → is_tick c ≡ false → list_any is_acceptance (does me c t).steps ≡ false → (does me c t).known.cache ≡ t.known.cache }
 {}
 
 /// An update is accepted only under valid nonces, with their authenticator, between routable addresses,

@@ -30,10 +30,14 @@ kbm_home_of home = sha1 home
 unfoldable pub authenticated : List ℕ → List ℕ
 authenticated message = take 4 message ++ 0 ∷ 0 ∷ slice_range message 6 (length message - 12)
 
--- First(96, HMAC_SHA1(Kbm, (care-of address | correspondent's address | message)))
+-- First(96, HMAC_SHA1(Kbm, (care-of address | correspondent's address | what is covered)))
+abbrev pub authenticator_over : List ℕ → Address → Address → List ℕ → List ℕ
+authenticator_over kbm careof peer covered =
+    take 12 (hmac_sha1 kbm (address_bytes careof ++ (address_bytes peer ++ covered)))
+
+-- the authenticator over what it covers of a message that ends with it
 unfoldable pub authenticator_of : List ℕ → Address → Address → List ℕ → List ℕ
-authenticator_of kbm careof peer message =
-    take 12 (hmac_sha1 kbm (address_bytes careof ++ (address_bytes peer ++ authenticated message)))
+authenticator_of kbm careof peer message = authenticator_over kbm careof peer (authenticated message)
 
 -- the message ends with its authenticator: as a test, and as a fact
 abbrev pub is_authentic : List ℕ → Address → Address → List ℕ → Bool

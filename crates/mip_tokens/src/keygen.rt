@@ -1,7 +1,7 @@
 ghost use Rattle.std.specs.Prelude.{◌≡◌};
 ghost use Rattle.mip_tokens.specs.Token.{token_of, home_token_of, careof_token_of};
 
-use mip_hmac::hmac_of_parts;
+use mip_hmac::PreparedKey;
 use mip_words::{Address, Token};
 
 /// The byte that is hashed for a home keygen token, and the one for a care-of keygen token.
@@ -11,7 +11,7 @@ const CAREOF: u8 = 1;
 
 /// The home keygen token of an address under a nonce (RFC 6275 section 5.2.5).
 #[tactic(auto, unfolding(crate::specs::Token::home_token_of))]
-pub fn home_token(kcn: &[u8; 20], address: Address, nonce: &[u8; 8]) -> Token
+pub fn home_token(kcn: &PreparedKey, address: Address, nonce: &[u8; 8]) -> Token
     ensures { result.0 ≡ home_token_of kcn.now address nonce.now }
 {
     token(kcn, address, nonce, HOME)
@@ -19,16 +19,16 @@ pub fn home_token(kcn: &[u8; 20], address: Address, nonce: &[u8; 8]) -> Token
 
 /// The care-of keygen token of an address under a nonce (RFC 6275 section 5.2.5).
 #[tactic(auto, unfolding(crate::specs::Token::careof_token_of))]
-pub fn careof_token(kcn: &[u8; 20], address: Address, nonce: &[u8; 8]) -> Token
+pub fn careof_token(kcn: &PreparedKey, address: Address, nonce: &[u8; 8]) -> Token
     ensures { result.0 ≡ careof_token_of kcn.now address nonce.now }
 {
     token(kcn, address, nonce, CAREOF)
 }
 
-fn token(kcn: &[u8; 20], address: Address, nonce: &[u8; 8], kind: u8) -> Token
+fn token(kcn: &PreparedKey, address: Address, nonce: &[u8; 8], kind: u8) -> Token
     ensures { result.0 ≡ token_of kind kcn.now address nonce.now }
 {
-    let hash = hmac_of_parts(kcn, &[&address.bytes(), nonce, &[kind]]);
+    let hash = kcn.hmac_of_parts(&[&address.bytes(), nonce, &[kind]]);
     let mut token = [0; 8];
     token.copy_from_slice(&hash[..8]);
     Token(token)

@@ -1,18 +1,21 @@
 use crate::{Kbm, authentic, authenticator, careof_token, home_token};
+use mip_hmac::PreparedKey;
 use mip_words::Address;
 
 // The values of another implementation (Python's `hmac` and `hashlib`), for Kcn and nonce 0 of node 0 in
 // life 0 under the seed 00 01 .. 1f: an update with sequence 1 and lifetime 105.
 #[test]
 fn tokens_keys_and_authenticators(rt: HostRuntime) {
-    let kcn = b"\x7d\x2b\xfd\x39\x6a\x19\xc5\xd9\x77\x03\xbd\x8d\x49\x4a\xdc\xb8\x6f\xd8\x35\x8a";
+    let kcn = PreparedKey::new(
+        b"\x7d\x2b\xfd\x39\x6a\x19\xc5\xd9\x77\x03\xbd\x8d\x49\x4a\xdc\xb8\x6f\xd8\x35\x8a",
+    );
     let nonce = b"\x02\xf1\xa4\x2f\x89\x8e\x80\x50";
     let home = Address(0x2001_0db8_0001_0000_0000_0000_0000_0077);
     let careof = Address(0x2001_0db8_0003_0000_0000_0000_0000_0077);
     let peer = Address(0x2001_0db8_0002_0000_0000_0000_0000_0002);
-    let home_token = home_token(kcn, home, nonce);
+    let home_token = home_token(&kcn, home, nonce);
     assert_eq!(rt; home_token.0, *b"\x1e\x89\x69\x19\x00\x48\xc3\x56");
-    let careof_token = careof_token(kcn, careof, nonce);
+    let careof_token = careof_token(&kcn, careof, nonce);
     assert_eq!(rt; careof_token.0, *b"\xed\x2a\xbd\x49\x20\x37\xc3\xa2");
     let both = Kbm::both(home_token, careof_token);
     assert_eq!(rt;

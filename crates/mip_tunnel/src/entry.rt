@@ -4,6 +4,7 @@ ghost use Rattle.mip_ipv6.specs.Reading.{packet_of};
 ghost use Rattle.mip_tunnel.specs.Tunnel.{hop_of, lowered, lowered_packet, outer_head, tunnel_packet, encapsulated, opened};
 
 use crate::entry_fault::EntryFault;
+use crate::lowering::lower;
 use mip_ipv6::{Head, WriteFault, write_packet};
 use mip_words::{Address, Bytes, Memory};
 use std::alloc::Global;
@@ -11,21 +12,6 @@ use std::alloc::Global;
 const TUNNEL: u8 = 41;
 
 const HOP_LIMIT: u8 = 64;
-
-/// The packet with its hop limit one less.
-#[tactic(auto, unfolding(crate::specs::Tunnel::lowered), using(crate::proofs::Tunnels::lowered_is))]
-fn lower(alloc: Global, packet: &[u8]) -> Result<Bytes, Memory>
-    requires inside { 7 < length packet.now }
-    requires hops { 0 < hop_of packet.now }
-    ensures { IfOk result (λ b. b ≡ lowered packet.now) }
-{
-    let (front, rest) = packet.split_at(7);
-    let (hop, behind) = rest.split_at(1);
-    let mut inner = Bytes::copy(alloc, front)?;
-    inner.extend(&[hop[0] - 1])?;
-    inner.extend(behind)?;
-    Ok(inner)
-}
 
 fn head_of_tunnel(entry: Address, exit: Address) -> Head
     ensures { result ≡ outer_head entry exit }
@@ -45,8 +31,6 @@ fn head_of_tunnel(entry: Address, exit: Address) -> Head
 /// The tunnel packet, where the packet fits.
 #[tactic(auto, unfolding(crate::specs::Tunnel::encapsulated), using(crate::proofs::Tunnels::length_tunnel))]
 fn wrapped(alloc: Global, entry: Address, exit: Address, packet: &[u8]) -> Result<Bytes, Memory>
-    requires inside { 7 < length packet.now }
-    requires hops { 0 < hop_of packet.now }
     requires fits { length packet.now ≤ 65535 }
     ensures answers { IfOk result (λ b. b ≡ encapsulated entry exit packet.now) }
     ensures back { IfOk result (λ b. packet_of b ≡ Ok (tunnel_packet entry exit packet.now)) }
@@ -59,16 +43,15 @@ fn wrapped(alloc: Global, entry: Address, exit: Address, packet: &[u8]) -> Resul
     }
 }
 
-/// Puts a packet into a tunnel from `entry` to `exit`: its hop limit becomes one less, and it becomes the body of a
-/// packet with hop limit 64.
-#[tactic(auto, using(crate::proofs::Tunnels::long_if_read))]
+/// Puts a packet of 40 bytes at least into a tunnel from `entry` to `exit`: its hop limit becomes one less, and it
+/// becomes the body of a packet with hop limit 64.
 pub fn encapsulate(
     alloc: Global,
     entry: Address,
     exit: Address,
     packet: &[u8],
 ) -> Result<Bytes, EntryFault>
-    requires { IsOk (packet_of packet.now) }
+    requires { 40 ≤ length packet.now }
     ensures hop { (result ≡ Err EntryFault.Hop) ↔ (hop_of packet.now < 2) }
     ensures too_big { (result ≡ Err EntryFault.TooBig)
         ↔ ((2 ≤ hop_of packet.now) × (65535 < length packet.now)) }

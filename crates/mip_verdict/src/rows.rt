@@ -122,12 +122,12 @@ fn kbm_of(judge: &Judge<'_>, request: &Request, home: u64, careof: Option<u64>) 
     ensures { result ≡ kbm_of (bench_of judge.now request.now) request.now home careof }
 {
     let kcn = judge.secrets.kcn();
-    let home_token = home_token(&kcn, home_of(request), &judge.secrets.nonce(home));
+    let home_token = home_token(kcn, home_of(request), &judge.secrets.nonce(home));
     match careof {
         None => Kbm::home(home_token),
         Some(careof) => {
             let nonce = judge.secrets.nonce(careof);
-            Kbm::both(home_token, careof_token(&kcn, careof_of(request), &nonce))
+            Kbm::both(home_token, careof_token(kcn, careof_of(request), &nonce))
         }
     }
 }

@@ -1,10 +1,11 @@
 -- Digits and bytes, both ways.
-use Rattle.std.proofs.Common.{◌≡◌, ℕ, ◌+◌, ◌*◌, ◌/◌, ◌%◌, ◌<◌, List, [], ◌∷◌, ◌++◌, length, take, drop, get_or, set, refl, sym, ap, ◌∙◌, subst, arith}
+use Rattle.std.proofs.Common.{◌≡◌, ℕ, ◌+◌, ◌*◌, ◌/◌, ◌%◌, ◌<◌, List, [], ◌∷◌, ◌++◌, length, take, drop, get_or, set, Bool, true, false, ◌&&◌, if◌then◌else◌, refl, sym, ap, ◌∙◌, subst, arith}
 use Rattle.std.proofs.lemmas.Bool.Decides.{nat_tests}
 use Rattle.std.proofs.lemmas.List.{append_assoc, length-set, take_more_set, drop_more, take_more, flat_map_more}
 use Rattle.std.specs.Prelude.{Option, Some, None, option_map}
+use Rattle.std.specs.List.{list_all}
 use Rattle.mip_words.specs.Numbers.{IsBytes}
-use Rattle.mip_words.specs.Hex.{glyph, hex_pair, hex_of, pair_value, paired, unhex}
+use Rattle.mip_words.specs.Hex.{glyph, hex_pair, hex_of, is_hex_digit, digit_value, pair_value, paired, unhex}
 use Rattle.mip_words.proofs.Fields.{IsBytes-more, IsBytes-rest}
 
 -- a `Some` has one value
@@ -43,11 +44,17 @@ filled_more field out i b inside room e so_far =
     moved None = refl
     moved (Some ys) = ap (λ (l : List ℕ). Some l) (sym (append_assoc (take i out) (b ∷ []) ys) ∙ ap (λ (l : List ℕ). l ++ ys) (sym (take_more_set out i b room)))
 
-pub not_filled : (field out : List ℕ) (i : ℕ) → 2 * i + 1 < length field → pair_value (get_or field (2 * i) 0) (get_or field (2 * i + 1) 0) ≡ None
-    → unhex field ≡ option_map (λ ys. take i out ++ ys) (unhex (drop (2 * i) field)) → unhex field ≡ None
-not_filled field out i inside e so_far =
-    let step = unhex_more field i inside ∙ ap (λ (o : Option ℕ). paired o (unhex (drop (2 * (i + 1)) field))) e in
-    so_far ∙ ap (option_map (λ ys. take i out ++ ys)) step
+-- a text with a byte that is no digit spells nothing
+pub not_digits : (field : List ℕ) → list_all is_hex_digit field ≡ false → unhex field ≡ None
+not_digits [] e = absurd cc
+not_digits (high ∷ []) e = refl
+not_digits (high ∷ low ∷ rest) e = by (is_hex_digit high) (is_hex_digit low) (list_all is_hex_digit rest) (unhex rest) (not_digits rest) e
+  where
+    by : (h l r : Bool) (o : Option (List ℕ)) → (r ≡ false → o ≡ None) → (h && (l && r)) ≡ false
+        → paired (if h && l then Some (16 * digit_value high + digit_value low) else None) o ≡ None
+    by false l r o more e = refl
+    by true false r o more e = refl
+    by true true r o more e = ap (paired (Some (16 * digit_value high + digit_value low))) (more e)
 
 -- the digits of one more byte
 pub hex_more : (out bytes : List ℕ) (i high low : ℕ) → i < length bytes → length out ≡ 2 * length bytes

@@ -1,4 +1,4 @@
-ghost use Rattle.std.specs.Prelude.{◌≡◌, ◌==◌, ◌++◌, List, ℕ, [], length, IfOk, OnOk, OnErr};
+ghost use Rattle.std.specs.Prelude.{◌≡◌, ◌==◌, ◌<◌, ◌++◌, List, ℕ, [], length, slice_set, IfOk, OnOk, OnErr};
 
 use crate::memory::Memory;
 use std::alloc::Global;
@@ -25,6 +25,14 @@ impl Bytes {
         }
     }
 
+    /// An empty list with room for this many bytes.
+    pub fn with_capacity(alloc: Global, capacity: usize) -> Result<Bytes, Memory>
+        ensures { IfOk result (λ b. b ≡ []) }
+    {
+        let list = Vec::with_capacity(alloc, capacity)?;
+        Ok(Bytes { list })
+    }
+
     pub fn copy(alloc: Global, bytes: &[u8]) -> Result<Bytes, Memory>
         ensures { IfOk result (λ b. b ≡ bytes.now) }
     {
@@ -39,6 +47,21 @@ impl Bytes {
     {
         self.list.extend_from_slice(bytes)?;
         Ok(())
+    }
+
+    /// Puts a byte in the place of the one that stands there.
+    pub fn set(&mut self, place: usize, byte: u8)
+        requires { place < length self.old }
+        ensures { self.new ≡ slice_set self.old place byte }
+    {
+        self.list[place] = byte;
+    }
+
+    /// Takes all bytes out. The room that they took stays for those to come.
+    pub fn clear(&mut self)
+        ensures { self.new ≡ [] }
+    {
+        self.list.clear();
     }
 
     pub fn as_slice(&self) -> &[u8]

@@ -1,10 +1,14 @@
 //! Bytes as lower-case hexadecimal digits.
 
-ghost use Rattle.std.specs.Prelude.{◌≡◌, ◌*◌, ◌<◌, ◌++◌, length, true, if◌then◌else◌, Some, None, OnOk};
-ghost use Rattle.mip_words.specs.Hex.{glyph, hex_pair, hex_of, is_hex_digit, digit_value, pair_value, unhex_exact};
+ghost use Rattle.std.specs.Prelude.{◌≡◌, ◌*◌, ◌<◌, ◌≤◌, ◌++◌, length, true, if◌then◌else◌, Some, None, OnOk};
+ghost use Rattle.std.specs.List.{list_all};
+ghost use Rattle.mip_words.specs.Hex.{glyph, hex_pair, hex_of, is_hex_digit, digit_value, pair_value, unhex, unhex_exact};
 
 use crate::bytes::Bytes;
 use crate::memory::Memory;
+
+/// How many bytes are written in digits at a time.
+const PIECE: usize = 128;
 
 fn glyph(digit: u8) -> u8
     requires { digit < 16 }
@@ -29,16 +33,6 @@ fn is_hex_digit(c: u8) -> bool
     matches!(c, b'0'..=b'9') || matches!(c, b'a'..=b'f')
 }
 
-fn pair_value(high: u8, low: u8) -> Option<u8>
-    ensures { result ≡ pair_value high low }
-{
-    if is_hex_digit(high) && is_hex_digit(low) {
-        Some(16 * digit_value(high) + digit_value(low))
-    } else {
-        None
-    }
-}
-
 fn digit_value(c: u8) -> u8
     requires { is_hex_digit c ≡ true }
     ensures value { result ≡ digit_value c }
@@ -47,20 +41,50 @@ fn digit_value(c: u8) -> u8
     if c < 58 { c - b'0' } else { c - (b'a' - 10) }
 }
 
+fn are_hex_digits(field: &[u8]) -> bool
+    ensures { result ≡ list_all is_hex_digit field.now }
+{
+    let mut all = true;
+    for c in field {
+        if !is_hex_digit(*c) {
+            all = false;
+        }
+    }
+    all
+}
+
+fn pair_value(high: u8, low: u8) -> u8
+    requires high { is_hex_digit high ≡ true }
+    requires low { is_hex_digit low ≡ true }
+    ensures { pair_value high low ≡ Some result }
+{
+    16 * digit_value(high) + digit_value(low)
+}
+
+/// Fills `out` with the bytes of these digits.
+fn fill(field: &[u8], out: &mut [u8])
+    requires digits { list_all is_hex_digit field.now ≡ true }
+    requires size { length field.now ≡ 2 * length out.old }
+    ensures { unhex field.now ≡ Some out.new }
+{
+    for i in 0..out.len() {
+        out[i] = pair_value(field[2 * i], field[2 * i + 1]);
+    }
+}
+
 /// Fills `out` with the bytes whose digits `field` is; false, with `out` left as anything, where `field`
 /// is not two digits for each byte of `out`.
+#[tactic(auto, using(crate::proofs::HexLaws::not_digits))]
 pub fn hex_exact(field: &[u8], out: &mut [u8]) -> bool
     ensures { unhex_exact (length out.old) field.now ≡ (if result then Some out.new else None) }
 {
     if field.len() % 2 != 0 || field.len() / 2 != out.len() {
         return false;
     }
-    for i in 0..out.len() {
-        let Some(byte) = pair_value(field[2 * i], field[2 * i + 1]) else {
-            return false;
-        };
-        out[i] = byte;
+    if !are_hex_digits(field) {
+        return false;
     }
+    fill(field, out);
     true
 }
 
@@ -76,12 +100,25 @@ pub fn hex_into(bytes: &[u8], out: &mut [u8])
     }
 }
 
+fn put_piece(out: &mut Bytes, piece: &[u8]) -> Result<(), Memory>
+    requires { length piece.now ≤ 128 }
+    ensures { OnOk result (out.new ≡ out.old ++ hex_of piece.now) }
+{
+    let mut room = [0; 2 * PIECE];
+    let digits = &mut room[..2 * piece.len()];
+    hex_into(piece, digits);
+    out.extend(digits)
+}
+
 /// Appends the digits of the bytes.
 pub fn put_hex(out: &mut Bytes, bytes: &[u8]) -> Result<(), Memory>
     ensures { OnOk result (out.new ≡ out.old ++ hex_of bytes.now) }
 {
-    for byte in bytes {
-        out.extend(&hex_pair(*byte))?;
+    let mut rest = bytes;
+    while !rest.is_empty() {
+        let (piece, behind) = rest.split_at(rest.len().min(PIECE));
+        put_piece(out, piece)?;
+        rest = behind;
     }
     Ok(())
 }

@@ -47,3 +47,16 @@ fn byte_lists(rt: HostRuntime) -> Result<(), Fail> {
     assert_eq!(rt; digits.as_slice(), b"010203040005".as_slice());
     Ok(())
 }
+
+// Digits of more bytes than one piece holds.
+#[test]
+fn digits_in_pieces(rt: HostRuntime) -> Result<(), Fail> {
+    let mut digits = Bytes::with_capacity(rt.alloc(), 260)?;
+    put_hex(&mut digits, &[0xa5; 130])?;
+    assert_eq!(rt; digits.len(), 260);
+    digits.set(259, b'0');
+    assert_eq!(rt; digits.as_slice()[255..], b"5a5a0"[..]);
+    digits.clear();
+    assert!(rt; digits.is_empty());
+    Ok(())
+}

@@ -1,27 +1,31 @@
-use Rattle.std.proofs.Common.{ap, sym, subst, ◌∙◌}
+use Rattle.std.proofs.Common.{◌≡◌, refl, ap, sym, subst, ◌∙◌}
 use Rattle.std.specs.Prelude.{Option}
 use Rattle.mip_words.specs.declared.address.Address.{Address}
+use Rattle.mip_bcache.specs.Seen.{CacheSeen}
 use Rattle.mip_rules_correspondent.specs.Steps.{Sends}
 use Rattle.mip_rules_correspondent.specs.Turns.{noted}
-use Rattle.mip_rules_correspondent.specs.Calls.{data_packet}
-use Rattle.mip_rules_correspondent.specs.declared.known.Known.{Known}
-use Rattle.mip_rules_correspondent.specs.Calls.{transmitted}
 use Rattle.mip_rules_correspondent.specs.Questions.{held_of}
-use Rattle.mip_rules_correspondent.specs.Stands.{Stands, with_turn}
-use Rattle.mip_rules_correspondent.proofs.Calls.{transmitted-stands}
-use Rattle.mip_correspondent.specs.Seen.{CorrespondentSeen}
+use Rattle.mip_rules_correspondent.specs.Doing.{data_packet}
+use Rattle.mip_rules_correspondent.specs.Calls as calls
+use Rattle.mip_rules_correspondent.specs.declared.known.Known.{Known}
+use Rattle.mip_rules_correspondent.specs.Turns.{Turn, Stands, with_turn}
+use Rattle.mip_rules_correspondent.specs.Seen.{CorrespondentSeen, turn_at}
+use Rattle.mip_rules_correspondent.proofs.Calls.{call-stands}
 use Rattle.mip_correspondent.specs.Showing.{Shows}
-use Rattle.mip_correspondent.proofs.Turning.{Ends, ends, transmitted-shows}
+use Rattle.mip_correspondent.proofs.Turning.{transmits-shown}
+use Rattle.mip_correspondent.proofs.Turning.{Ends, ends}
 use Rattle.mip_correspondent.proofs.correspondent.Correspondent.send.Goals as goal
 
-ended : (c : goal.In_ok-settle) → Ends c.args.self.now c.settle.new.self c.send_data.new.answers (transmitted c.args.self.now.identity c.args.self.now.known c.args.now.0 c.args.to c.args.proto c.args.payload.now)
+ended : (c : goal.In_ok-settle) → Ends c.args.self.now c.settle.new.self c.send_data.new.answers c.args.now.0 (calls.Send c.args.to c.args.proto c.args.payload.now)
 ended c =
-    let inside = c.self.inside in
+    let inside : CorrespondentSeen = record { identity = c.self.inside.identity; known = c.self.inside.known } in
     let now = c.args.now.0 in
-    let shows = transmitted-shows inside.identity inside.known now c.args.to c.args.proto c.args.payload.now c.in_ok-answers.answers c.send_data.new.answers c.in_ok-answers.ensures
-    (λ t begins. subst (λ (o : Option Address). Shows now inside.known.cache c.send_data.new.answers (noted (Sends (data_packet inside.identity c.args.to c.args.proto c.args.payload.now o)) t)) (c.route-held.ensures.found ∙ ap (λ (s : CorrespondentSeen). held_of s.known now c.args.to) (sym c.self.view_is)) (c.in_ok-send_data.ensures now inside.known.cache t begins)) in
-    ends c.args.self.now c.settle.new.self now c.args.self.now.known.cache c.send_data.new.answers _
-    (subst (λ (s : CorrespondentSeen). Shows now s.known.cache c.send_data.new.answers (transmitted s.identity s.known now c.args.to c.args.proto c.args.payload.now)) c.self.view_is shows)
+    let shown = Shows now inside.known.cache c.send_data.new.answers in
+    let packet = data_packet inside.identity c.args.to c.args.proto c.args.payload.now in
+    ends c.args.self.now inside c.settle.new.self now (calls.Send c.args.to c.args.proto c.args.payload.now) c.in_ok-answers.answers
+    (λ (cache : CacheSeen). cache) c.send_data.new.answers refl c.in_ok-answers.ensures c.self.view_is
+    (λ t begins. subst shown (sym (transmits-shown inside.identity c.args.to c.args.proto c.args.payload.now now inside.known.cache c.in_ok-answers.answers t begins))
+    (subst (λ (o : Option Address). shown (noted (Sends (packet o)) t)) (c.route-held.ensures.found ∙ ap (λ (s : CorrespondentSeen). held_of s.known now c.args.to) (sym c.self.view_is)) (c.in_ok-send_data.ensures now inside.known.cache t begins)))
     c.in_ok-settle.ensures.ok
 
 pub returns-clause-answers : goal.returns-clause-answers
@@ -33,6 +37,6 @@ returns-clause-after c = (ended c).after
 pub returns-clause-stands : goal.returns-clause-stands
 returns-clause-stands c = λ room past stands.
     let s = c.args.self.now in
-    let t = transmitted s.identity s.known c.args.now.0 c.args.to c.args.proto c.args.payload.now in
-    subst (λ (k : Known). Stands room (with_turn past t) k) (sym (ap (λ (s : CorrespondentSeen). s.known) (ended c).after))
-    (transmitted-stands room past s.known stands c.args.now.0 s.identity c.args.to c.args.proto c.args.payload.now)
+    let call = calls.Send c.args.to c.args.proto c.args.payload.now in
+    subst (λ (k : Known). Stands room (with_turn past (turn_at s c.args.now.0 call)) k) (sym (ap (λ (s : CorrespondentSeen). s.known) (ended c).after))
+    (call-stands room past s.known c.args.now.0 s.identity call stands)

@@ -1,21 +1,21 @@
-use Rattle.std.proofs.Common.{ap, sym, subst}
+use Rattle.std.proofs.Common.{◌≡◌, refl, ap, sym, subst, ◌∙◌}
+use Rattle.mip_bcache.specs.Seen.{CacheSeen}
+use Rattle.mip_rules_correspondent.specs.Doing.{takes}
+use Rattle.mip_rules_correspondent.specs.Calls as calls
 use Rattle.mip_rules_correspondent.specs.declared.known.Known.{Known}
-use Rattle.mip_rules_correspondent.specs.Calls.{taken}
-use Rattle.mip_rules_correspondent.specs.Stands.{Stands, with_turn}
-use Rattle.mip_rules_correspondent.proofs.Calls.{taken-stands}
-use Rattle.mip_correspondent.specs.Seen.{CorrespondentSeen}
-use Rattle.mip_correspondent.specs.Showing.{Shows, with_kept}
-use Rattle.mip_correspondent.proofs.Turning.{Ends, ends, taken-shows}
+use Rattle.mip_rules_correspondent.specs.Turns.{Turn, Stands, with_turn}
+use Rattle.mip_rules_correspondent.specs.Seen.{CorrespondentSeen, turn_at}
+use Rattle.mip_rules_correspondent.proofs.Calls.{call-stands}
+use Rattle.mip_correspondent.specs.Showing.{with_kept}
+use Rattle.mip_correspondent.proofs.Turning.{Ends, ends}
 use Rattle.mip_correspondent.proofs.correspondent.Correspondent.take.Goals as goal
 
-ended : (c : goal.In_ok-settle) → Ends c.args.self.now c.settle.new.self c.receive.new.answers (taken c.args.self.now.identity c.args.self.now.known c.args.now.0 c.args.number c.args.shield c.args.packet.now)
+ended : (c : goal.In_ok-settle) → Ends c.args.self.now c.settle.new.self c.receive.new.answers c.args.now.0 (calls.Take c.args.number c.args.shield c.args.packet.now)
+unfolding takes
 ended c =
-    let inside = c.self.inside in
-    let now = c.args.now.0 in
-    let kept = c.in_ok-kept.kept in
-    let shows = taken-shows inside.identity inside.known now c.args.number c.args.shield c.args.packet.now c.in_ok-answers.answers (with_kept now kept inside.known.cache) c.receive.new.answers c.in_ok-answers.ensures c.in_ok-kept.ensures.shows in
-    ends c.args.self.now c.settle.new.self now (with_kept now kept c.args.self.now.known.cache) c.receive.new.answers _
-    (subst (λ (s : CorrespondentSeen). Shows now (with_kept now kept s.known.cache) c.receive.new.answers (taken s.identity s.known now c.args.number c.args.shield c.args.packet.now)) c.self.view_is shows)
+    ends c.args.self.now (record { identity = c.self.inside.identity; known = c.self.inside.known }) c.settle.new.self c.args.now.0 (calls.Take c.args.number c.args.shield c.args.packet.now) c.in_ok-answers.answers
+    (λ (cache : CacheSeen). with_kept c.args.now.0 c.in_ok-kept.kept cache) c.receive.new.answers refl c.in_ok-answers.ensures c.self.view_is
+    (λ t begins. c.in_ok-kept.ensures.shows t begins)
     c.in_ok-settle.ensures.ok
 
 pub returns-clause-answers : goal.returns-clause-answers
@@ -27,6 +27,6 @@ returns-clause-after c = (ended c).after
 pub returns-clause-stands : goal.returns-clause-stands
 returns-clause-stands c = λ room past stands.
     let s = c.args.self.now in
-    let t = taken s.identity s.known c.args.now.0 c.args.number c.args.shield c.args.packet.now in
-    subst (λ (k : Known). Stands room (with_turn past t) k) (sym (ap (λ (s : CorrespondentSeen). s.known) (ended c).after))
-    (taken-stands room past s.known stands c.args.now.0 s.identity c.args.number c.args.shield c.args.packet.now)
+    let call = calls.Take c.args.number c.args.shield c.args.packet.now in
+    subst (λ (k : Known). Stands room (with_turn past (turn_at s c.args.now.0 call)) k) (sym (ap (λ (s : CorrespondentSeen). s.known) (ended c).after))
+    (call-stands room past s.known c.args.now.0 s.identity call stands)

@@ -1,10 +1,11 @@
-use Rattle.std.proofs.Common.{◌≡◌, ap, sym, subst, ◌∙◌}
+use Rattle.std.proofs.Common.{◌≡◌, ℕ, ap, sym, subst, ◌∙◌}
 use Rattle.mip_bcache.specs.Seen.{CacheSeen, expired}
+use Rattle.mip_rules_correspondent.specs.Calls as calls
 use Rattle.mip_rules_correspondent.specs.declared.known.Known.{Known}
-use Rattle.mip_rules_correspondent.specs.Calls.{ticked}
-use Rattle.mip_rules_correspondent.specs.Stands.{Stands, with_turn}
-use Rattle.mip_rules_correspondent.proofs.Calls.{ticked-stands}
-use Rattle.mip_correspondent.specs.Seen.{CorrespondentSeen, IsSound}
+use Rattle.mip_rules_correspondent.specs.Turns.{Stands, with_turn}
+use Rattle.mip_rules_correspondent.specs.Seen.{CorrespondentSeen, turn_at}
+use Rattle.mip_rules_correspondent.proofs.Calls.{call-stands}
+use Rattle.mip_correspondent.specs.Soundness.{IsSound}
 use Rattle.mip_correspondent.specs.Showing.{left}
 use Rattle.mip_correspondent.proofs.Rows.{ticked_sound}
 use Rattle.mip_correspondent.proofs.Turning.{ticked-known}
@@ -16,11 +17,18 @@ invariant_of-self c =
     subst (λ (cache : CacheSeen). IsSound (record { identity = inside.identity; known = record { last = c.args.now; cache = cache } })) (sym c.expire-given_up.ensures.rows)
     (ticked_sound inside.identity inside.known c.args.now.0 c.self.invariant)
 
+-- what is known afterwards
+leaves : (inside old : CorrespondentSeen) (now : ℕ) (cache : CacheSeen) → inside ≡ old → cache ≡ expired now inside.known.cache → left now cache ≡ (turn_at old now calls.Tick).known
+leaves inside old now cache same rows =
+    ap (left now) (rows ∙ ap (λ (s : CorrespondentSeen). expired now s.known.cache) same) ∙ sym (ticked-known old.identity old.known now)
+
+pub returns-clause-after : goal.returns-clause-after
+returns-clause-after c =
+    ap (λ (k : Known). record { identity = c.self.inside.identity; known = k }) (leaves (record { identity = c.self.inside.identity; known = c.self.inside.known }) c.args.self.now c.args.now.0 c.expire-given_up.new.self c.self.view_is c.expire-given_up.ensures.rows)
+    ∙ ap (λ (s : CorrespondentSeen). record { identity = s.identity; known = (turn_at c.args.self.now c.args.now.0 calls.Tick).known }) c.self.view_is
+
 pub returns-clause-stands : goal.returns-clause-stands
 returns-clause-stands c = λ room past stands.
-    let known = c.args.self.now.known in
-    let now = c.args.now.0 in
-    let rows : c.expire-given_up.new.self ≡ expired now known.cache =
-    c.expire-given_up.ensures.rows ∙ ap (λ (s : CorrespondentSeen). expired now s.known.cache) c.self.view_is in
-    subst (λ (k : Known). Stands room (with_turn past (ticked known now)) k)
-    (ticked-known known now ∙ ap (λ (cache : CacheSeen). left now cache) (sym rows)) (ticked-stands room past known stands now)
+    let s = c.args.self.now in
+    subst (λ (k : Known). Stands room (with_turn past (turn_at s c.args.now.0 calls.Tick)) k)
+    (sym (leaves (record { identity = c.self.inside.identity; known = c.self.inside.known }) s c.args.now.0 c.expire-given_up.new.self c.self.view_is c.expire-given_up.ensures.rows)) (call-stands room past s.known c.args.now.0 s.identity calls.Tick stands)

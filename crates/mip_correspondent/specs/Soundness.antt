@@ -1,14 +1,9 @@
--- A correspondent as contracts see it: what it was made with, and what it knows.
+-- What always holds of a correspondent.
 use Rattle.std.specs.Prelude.{◌≡◌, ◌≤◌, true}
 use Rattle.std.specs.List.{AllByRecursion}
 use Rattle.mip_words.specs.Addresses.{is_routable}
 use Rattle.mip_bcache.specs.declared.row.Row.{Row}
-use Rattle.mip_rules_correspondent.specs.declared.identity.Identity.{Identity}
-use Rattle.mip_rules_correspondent.specs.declared.known.Known.{Known}
-
-pub record CorrespondentSeen : Type 0 where
-  pub identity : Identity
-  pub known : Known
+use Rattle.mip_rules_correspondent.specs.Seen.{CorrespondentSeen}
 
 -- a home address that may stand in a routing header
 abbrev pub HasRoutableHome : Row → Type 0

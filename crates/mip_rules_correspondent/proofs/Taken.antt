@@ -23,6 +23,7 @@ use Rattle.mip_nonce.specs.Window.{number_named}
 use Rattle.mip_tokens.specs.Token.{is_authentic}
 use Rattle.mip_tokens.specs.declared.kbm.Kbm.{Kbm}
 use Rattle.mip_bcache.specs.declared.accepted.Accepted.{Accepted}
+use Rattle.mip_turns.specs.Turns.{noted_by}
 use Rattle.mip_reception.specs.declared.refusal.Refusal.{Refusal}
 use Rattle.mip_reception.specs.declared.standing.Standing.{Standing}
 use Rattle.mip_reception.specs.Checks.{message_or_refusal, message_at, then_home, is_probe, is_update, checked}
@@ -32,14 +33,16 @@ use Rattle.mip_rules_correspondent.specs.declared.known.Known.{Known}
 use Rattle.mip_rules_correspondent.specs.declared.request.Request.{Request}
 use Rattle.mip_rules_correspondent.specs.declared.verdict.Verdict.{Verdict}
 use Rattle.mip_rules_correspondent.specs.declared.verdict.Verdict.TheVariants.{Refuse, Deny, Accept}
-use Rattle.mip_rules_correspondent.specs.Steps.{Step, Given, Sends, Accepts, Drops, is_acceptance}
-use Rattle.mip_rules_correspondent.specs.Questions.{after}
+use Rattle.mip_rules_correspondent.specs.Calls as calls
+use Rattle.mip_rules_correspondent.specs.Steps.{Called, Sends, Accepts, Drops, Idles, is_acceptance}
+use Rattle.mip_rules_correspondent.specs.Questions.{held_of, after}
 use Rattle.mip_rules_correspondent.specs.Turns.{Turn, begun, noted}
 use Rattle.mip_rules_correspondent.specs.Requests.{request, request_said, request_in, home_of, careof_of, registered_of}
 use Rattle.mip_rules_correspondent.specs.Verdicts.{Bench, by_room, by_sequence, by_key, kbm_of, by_numbers, careof_number, by_indices, verdict}
 use Rattle.mip_rules_correspondent.specs.Acks.{ack_packet}
-use Rattle.mip_rules_correspondent.specs.Rules.{answers_home_init, answers_careof_init, bench, denies, accepts, judged, takes_update, hands_up, by_message, is_for_part, other_why, by_role, replies, refuses, standing_of, after_checks, place_in, receives, takes}
-use Rattle.mip_rules_correspondent.specs.Calls.{taken}
+use Rattle.mip_rules_correspondent.specs.Rules.{answers_home_init, answers_careof_init, bench, denies, accepts, judged, takes_update, hands_up, by_message, is_for_part, other_why, by_role, replies, refuses, standing_of, after_checks, place_in, receives}
+use Rattle.mip_rules_correspondent.specs.Doing.{takes, request_refresh, refreshes, transmits, does, turn_of}
+use Rattle.mip_rules_correspondent.specs.Taken.{IsUpdateTaken}
 
 -- whichever way a choice goes
 either : {X Q : Type 0} (u : X) (b : Bool) (x y : X) → (x ≡ u → Q) → (y ≡ u → Q) → (if b then x else y) ≡ u → Q
@@ -133,32 +136,16 @@ unfolding message_at
 message_proto place p m =
     cond_both (p.head.proto == 135) _ _ (λ (r : Result (Option Said) Refusal). r ≡ Ok (Some m) → p.head.proto ≡ 135) (λ is e. eqb-true p.head.proto 135 is) (λ other e. absurd cc)
 
--- the update in the packet is accepted at once, with this verdict
-pub record IsUpdateTaken (me : Identity) (k : Known) (now number : ℕ) (shield : Option Shield) (bytes : List ℕ) (steps : List Step) : Type 0 where
-  pub packet : Packet
-  pub read : packet_of bytes ≡ Ok packet
-  pub mobility : packet.head.proto ≡ 135
-  pub request : Request
-  pub asks : request_in packet.head.source packet.head.home packet.body ≡ Some request
-  pub home : Address
-  pub accepted : Accepted
-  pub granted : ℕ
-  pub kbm : Kbm
-  pub verdict_is : verdict (bench me k now request) request packet.body ≡ Accept home accepted granted kbm
-  pub rest : List Step
-  pub steps_are : steps ≡ Given number shield bytes ∷ Accepts number home accepted ∷ rest
-  pub none : list_any is_acceptance rest ≡ false
-
 module _ (me : Identity) (k : Known) (now number : ℕ) (shield : Option Shield) (bytes : List ℕ) where
   abbrev Is : Turn → Type 0
   Is t = (t.now ≡ now) × ((list_any is_acceptance t.steps ≡ false) ⊎ IsUpdateTaken me k now number shield bytes t.steps)
 
   abbrev given : Turn
-  given = noted (Given number shield bytes) (begun now k)
+  given = noted (Called (calls.Take number shield bytes)) (begun now k)
 
   of_verdict : (p : Packet) (r : Request) → packet_of bytes ≡ Ok p → p.head.proto ≡ 135 → request_in p.head.source p.head.home p.body ≡ Some r
       → (v : Verdict) → verdict (bench me k now r) r p.body ≡ v → Is (judged me number r v given)
-  unfolding noted denies accepts
+  unfolding noted_by denies accepts
   of_verdict p r read mobility asks (Refuse why) is = (refl, inl refl)
   of_verdict p r read mobility asks (Deny status last kbm) is = (refl, inl refl)
   of_verdict p r read mobility asks (Accept home a granted kbm) is = by r.ack
@@ -205,11 +192,11 @@ module _ (me : Identity) (k : Known) (now number : ℕ) (shield : Option Shield)
       )
 
   of_update : (p : Packet) (r : Request) → packet_of bytes ≡ Ok p → p.head.proto ≡ 135 → request_in p.head.source p.head.home p.body ≡ Some r → Is (takes_update me number r p.body given)
-  unfolding takes_update noted after
+  unfolding takes_update noted_by after
   of_update p r read mobility asks = of_verdict p r read mobility asks (verdict (bench me k now r) r p.body) refl
 
   of_message : (p : Packet) (place : ℕ) (m : Option Said) → packet_of bytes ≡ Ok p → message_at place p ≡ Ok m → Is (by_message me number p m given)
-  unfolding noted hands_up answers_home_init answers_careof_init
+  unfolding noted_by hands_up answers_home_init answers_careof_init
   of_message p place None read is = (refl, inl refl)
   of_message p place (Some (HomeInit cookie options)) read is = (refl, inl refl)
   of_message p place (Some (CareofInit cookie options)) read is = (refl, inl refl)
@@ -224,7 +211,7 @@ module _ (me : Identity) (k : Known) (now number : ℕ) (shield : Option Shield)
   of_message p place (Some (Error s home options)) read is = (refl, inl refl)
 
   of_role : (p : Packet) (place : ℕ) (m : Option Said) → packet_of bytes ≡ Ok p → message_at place p ≡ Ok m → Is (by_role me number p m given)
-  unfolding by_role noted
+  unfolding by_role noted_by
   of_role p place m read is = by (is_for_part p.head.proto m)
     where
       by : (mine : Bool) → Is (let t : Turn = (if mine then by_message me number p m given else noted (Drops number (other_why p.head.proto)) given) in t)
@@ -232,7 +219,7 @@ module _ (me : Identity) (k : Known) (now number : ℕ) (shield : Option Shield)
       by false = (refl, inl refl)
 
   of_reply : (reply : Option (List ℕ)) (why : Why) → Is (replies reply (noted (Drops number why) given))
-  unfolding noted
+  unfolding noted_by
   of_reply None why = (refl, inl refl)
   of_reply (Some packet) why = (refl, inl refl)
 
@@ -242,13 +229,33 @@ module _ (me : Identity) (k : Known) (now number : ℕ) (shield : Option Shield)
   of_checks p place (Ok m) read is = of_role p place m read (is m refl)
 
   of_packet : (r : Result Packet NotPacket) → packet_of bytes ≡ r → Is (receives me number bytes r given)
-  unfolding noted
+  unfolding noted_by
   of_packet (Err fault) read = (refl, inl refl)
   of_packet (Ok p) read =
       let standing = standing_of me given.known given.now p.head in
       let place = place_in bytes p in
       of_checks p place (checked standing place p) read (checked_message standing place p)
 
-  pub taken_is : Is (taken me k now number shield bytes)
-  unfolding takes
+  pub taken_is : Is (turn_of me k now (calls.Take number shield bytes))
+  unfolding does takes
   taken_is = of_packet (packet_of bytes) refl
+
+-- a call at a moment in which nothing is accepted
+abbrev AcceptsNone : ℕ → Turn → Type 0
+AcceptsNone now t = (t.now ≡ now) × (list_any is_acceptance t.steps ≡ false)
+
+pub refreshed_none : (me : Identity) (k : Known) (now : ℕ) (home : Address) → AcceptsNone now (turn_of me k now (calls.Refresh home))
+unfolding does refreshes noted_by
+refreshed_none me k now home = by (held_of (noted (Called (calls.Refresh home)) (begun now k)).known now home)
+  where
+    by : (held : Option Address) → AcceptsNone now (request_refresh me home held (noted (Called (calls.Refresh home)) (begun now k)))
+    by None = (refl, refl)
+    by (Some careof) = (refl, refl)
+
+pub sent_none : (me : Identity) (k : Known) (now : ℕ) (to : Address) (proto : ℕ) (payload : List ℕ) → AcceptsNone now (turn_of me k now (calls.Send to proto payload))
+unfolding does transmits noted_by
+sent_none me k now to proto payload = (refl, refl)
+
+pub ticked_none : (me : Identity) (k : Known) (now : ℕ) → AcceptsNone now (turn_of me k now calls.Tick)
+unfolding does noted_by
+ticked_none me k now = (refl, refl)

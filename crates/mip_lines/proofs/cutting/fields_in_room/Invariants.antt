@@ -1,6 +1,6 @@
 use Rattle.std.proofs.Common.{◌≡◌, ◌++◌, length}
 use Rattle.mip_lines.specs.Cutting.{parts, texts}
-use Rattle.mip_lines.proofs.cutting.fields.Given as goal
+use Rattle.mip_lines.proofs.cutting.fields_in_room.Given as goal
 
 abbrev pub invariant-loop-field : goal.invariant-loop-field
 invariant-loop-field l = texts l.fields.items ++ parts 32 l.rest ≡ parts 32 l.line

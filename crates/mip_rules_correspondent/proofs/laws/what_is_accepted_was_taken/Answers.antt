@@ -1,0 +1,26 @@
+use Rattle.std.proofs.Common.{◌≡◌, ◌∙◌, sym, inl, inr, ◌⊎◌, true, false}
+use Rattle.std.specs.List.{list_any}
+use Rattle.mip_rules_correspondent.specs.Calls.{Take}
+use Rattle.mip_rules_correspondent.specs.Steps.{is_acceptance}
+use Rattle.mip_rules_correspondent.specs.Doing.{turn_of}
+use Rattle.mip_rules_correspondent.specs.Taken.{IsUpdateTaken}
+use Rattle.mip_rules_correspondent.proofs.Taken.{taken_is, refreshed_none, sent_none, ticked_none}
+use Rattle.mip_rules_correspondent.proofs.laws.what_is_accepted_was_taken.Goals as goal
+
+pub returns-clause-taken : goal.returns-clause-taken
+returns-clause-taken c = λ me k now number shield bytes some.
+    let steps = (turn_of me k now (Take number shield bytes)).steps in
+    let found = taken_is me k now number shield bytes in
+    elim (found.1) as (λ _. IsUpdateTaken me k now number shield bytes steps) [
+      | inl none ↦ absurd (let both : true ≡ false = sym some ∙ none in cc)
+      | inr is ↦ is
+    ]
+
+pub returns-clause-refreshed : goal.returns-clause-refreshed
+returns-clause-refreshed c = λ me k now home. let t = refreshed_none me k now home in t.1
+
+pub returns-clause-sent : goal.returns-clause-sent
+returns-clause-sent c = λ me k now to proto payload. let t = sent_none me k now to proto payload in t.1
+
+pub returns-clause-ticked : goal.returns-clause-ticked
+returns-clause-ticked c = λ me k now. let t = ticked_none me k now in t.1
