@@ -1,16 +1,14 @@
 -- Of each address the list has the agent as it was last heard, while its life lasts.
-use Rattle.std.proofs.Common.{◌≡◌, ◌≢◌, ℕ, suc, ◌+◌, ◌<◌, ◌≤◌, List, [], ◌∷◌, Bool, true, false, length, map, refl, sym, ap, ◌∙◌, subst, arith}
+use Rattle.std.proofs.Common.{◌≡◌, ◌≢◌, ℕ, suc, ◌+◌, ◌≤◌, List, [], ◌∷◌, Bool, true, false, length, map, refl, sym, ap, ◌∙◌, subst, arith}
 use Rattle.std.specs.Prelude.{Option, Some, None, fold, nat_lt, not, ◌==◌, ◌&&◌, ◌||◌, if◌then◌else◌}
 use Rattle.std.specs.List.{filter, list_any, AllByRecursion}
 use Rattle.std.proofs.lemmas.Bool.Decides.{nat_tests}
 use Rattle.std.proofs.lemmas.Bool.{or_parts}
-use Rattle.mip_lists.specs.Last.{or_else, last_where}
-use Rattle.mip_words.specs.declared.address.Address.{Address}
-use Rattle.mip_words.specs.declared.moment.Moment.{Moment}
+use Rattle.mip_lists.specs.Last.{or_else}
 use Rattle.mip_discovery.specs.declared.agent.Agent.{Agent}
 use Rattle.mip_discovery.specs.Heard.{Heard, agent_of, is_live, is_of, is_again, renewed, stays, placed_by, entered_by}
 use Rattle.mip_discovery.specs.Listed.{Listed, Ledger, heard_by, ledger, listed, live_listed, live_as, last_heard}
-use Rattle.mip_discovery.proofs.ListLaws.{filter_alike, filter-filter, length_filter}
+use Rattle.mip_discovery.proofs.ListLaws.{filter_alike, filter-filter}
 use Rattle.mip_discovery.proofs.ViewLaws.{map-filter}
 
 abbrev put : (Agent → Agent) → Listed → Listed

@@ -1,6 +1,6 @@
 -- The list in memory is the list of the advertisements without the numbers.
 use Rattle.std.proofs.Common.{◌≡◌, ℕ, zero, suc, List, [], ◌∷◌, ◌++◌, Bool, true, false, map, refl, sym, ap, ◌∙◌}
-use Rattle.std.specs.Prelude.{fold, nat_lt, option_map, slice_get, ◌||◌, if◌then◌else◌}
+use Rattle.std.specs.Prelude.{nat_lt, option_map, slice_get, ◌||◌, if◌then◌else◌}
 use Rattle.std.specs.List.{filter, list_any}
 use Rattle.std.proofs.lemmas.List.Sums.{fold-append}
 use Rattle.mip_discovery.specs.declared.agent.Agent.{Agent}

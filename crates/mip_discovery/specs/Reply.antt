@@ -1,5 +1,5 @@
 -- The answer to a discovery request. RFC 6275 sections 6.6 and 10.5
-use Rattle.std.specs.Prelude.{ℕ, List, [], ◌∷◌, ◌++◌, map, take, Bool, not, ◌&&◌, ◌==◌, nat_lt}
+use Rattle.std.specs.Prelude.{ℕ, List, ◌∷◌, ◌++◌, map, take, Bool, not, ◌&&◌, nat_lt}
 use Rattle.std.specs.List.{filter, flat_map}
 use Rattle.mip_words.specs.Addresses.{address_bytes}
 use Rattle.mip_words.specs.declared.address.Address.{Address}

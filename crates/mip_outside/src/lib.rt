@@ -22,7 +22,9 @@ pub use claim::Claim;
 pub use clock::Clock;
 pub use failed::Failed;
 pub use link::Link;
-pub use memory::{FreePlace, Outbox, SetClock, SureLink, SureSink, SureSource, TextSink, TextSource};
+pub use memory::{
+    FreePlace, Outbox, SetClock, SureLink, SureSink, SureSource, TextSink, TextSource,
+};
 pub use place::Place;
 pub use put::Put;
 pub use put_fault::PutFault;
