@@ -2,3 +2,5 @@ pub mod Cause
 pub mod Moments
 pub mod Datagrams
 pub mod Failing
+pub mod Places
+pub mod Wires

@@ -1,24 +1,34 @@
-//! The outside of a node: where bytes come from and go to, the clock and the link, each as a trait
+//! The outside of a node: where bytes come from and go to, the clock, the link, the wire and the place, each as a trait
 //! with forms in memory and real ones.
 #![tactic(auto)]
 
+mod claim;
 mod clock;
 mod failed;
 mod faults;
 mod link;
 mod memory;
+mod place;
+mod put;
 mod put_fault;
 mod real;
 mod sink;
 mod source;
 #[cfg(test)]
 mod tests;
+mod wire;
 
+pub use claim::Claim;
 pub use clock::Clock;
 pub use failed::Failed;
 pub use link::Link;
-pub use memory::{SetClock, SureLink, SureSink, SureSource, TextSink, TextSource};
+pub use memory::{
+    FreePlace, Outbox, SetClock, SureLink, SureSink, SureSource, TextSink, TextSource,
+};
+pub use place::Place;
+pub use put::Put;
 pub use put_fault::PutFault;
 pub use real::{MonotoneClock, StdSink, StdSource};
 pub use sink::Sink;
 pub use source::Source;
+pub use wire::Wire;

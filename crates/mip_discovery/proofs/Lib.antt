@@ -1,0 +1,5 @@
+pub mod Places
+pub mod ListLaws
+pub mod OrderLaws
+pub mod ViewLaws
+pub mod ExactLaws

@@ -1,0 +1,75 @@
+ghost use Rattle.std.specs.Prelude.{◌≡◌, [], Some, IfOk, slice_get};
+ghost use Rattle.std.specs.Option.{option_map};
+ghost use Rattle.mip_outside.specs.Wires.{is_sent};
+
+use crate::put::Put;
+use crate::put_fault::PutFault;
+use crate::wire::Wire;
+use mip_words::{Bytes, Memory, Shield};
+use std::alloc::Global;
+use std::marker::Model;
+
+/// A wire that holds what it sent. It sends each packet, or memory runs out.
+#[derive(Drop)]
+pub struct Outbox {
+    alloc: Global,
+    sent: Vec<(Option<Shield>, Bytes)>,
+}
+
+impl Model for Outbox {
+    ghost use Rattle.std.specs.Prelude.{ℕ, List};
+    ghost use Rattle.std.specs.declared.option.Option.{Option};
+    ghost use Rattle.mip_words.specs.declared.shield.Shield.{Shield};
+
+    ghost Value = { List (Option Shield × List ℕ) };
+
+    ghost view = { λ o. o.sent.items };
+}
+
+impl Outbox {
+    pub fn new(alloc: Global) -> Result<Outbox, Memory>
+        ensures { IfOk result (λ outbox. outbox ≡ []) }
+    {
+        Ok(Outbox {
+            alloc,
+            sent: Vec::new(alloc),
+        })
+    }
+
+    /// The packet sent at a place, counted from 0, with its shield.
+    pub fn sent_at(&self, place: usize) -> Option<(Option<Shield>, &[u8])>
+        ensures { option_map (λ sent. (sent.0, sent.1.now)) result ≡ slice_get self.now place }
+    {
+        let (shield, packet) = self.sent.get(place)?;
+        Some((*shield, packet.as_slice()))
+    }
+
+    /// Forgets what it sent.
+    pub fn clear(&mut self)
+        ensures { self.new ≡ [] }
+    {
+        self.sent.clear();
+    }
+}
+
+impl Wire for Outbox {
+    ghost gives = { is_sent };
+
+    ghost out = { λ outbox. Some outbox };
+
+    ghost faults = { λ _. 0 };
+
+    ghost is_same = { λ _ _. Unit {0} };
+
+    ghost same_self = { λ _. tt };
+
+    ghost same_since = { λ _ _ _ _ _. tt };
+
+    fn put(&mut self, shield: Option<Shield>, packet: &[u8]) -> Result<Put, PutFault> {
+        let packet = Bytes::copy(self.alloc, packet)?;
+        match self.sent.push((shield, packet)) {
+            Ok(()) => Ok(Put::Sent),
+            Err(_) => Err(PutFault::Memory),
+        }
+    }
+}
