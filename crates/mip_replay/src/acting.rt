@@ -28,12 +28,7 @@ impl Engine {
     }
 
     /// A node is asked something, and does it.
-    pub(crate) fn act(
-        &mut self,
-        alloc: Global,
-        node: NodeId,
-        call: Call<'_>,
-    ) -> Result<(), Memory>
+    pub(crate) fn act(&mut self, alloc: Global, node: NodeId, call: Call<'_>) -> Result<(), Memory>
         requires { IsAskable call }
         ensures { (s : Setup) (run : Run) → IsAt self.old s run → OnOk result (IsAt self.new s (acts s node.0 (asked call.entry) run)) }
     {

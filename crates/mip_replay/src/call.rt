@@ -16,5 +16,7 @@ pub(crate) enum Call<'a> {
         payload: &'a [u8],
     },
     /// It is to ask for a binding to be refreshed.
-    Refresh { home: Address },
+    Refresh {
+        home: Address,
+    },
 }

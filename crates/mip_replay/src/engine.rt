@@ -15,7 +15,6 @@ use crate::arrival::{Arrival, arrival_of};
 use crate::call::Call;
 use crate::claims::{claim_own, try_claim};
 use crate::host::Host;
-
 use crate::node::Node;
 use mip_bcache::Row;
 use mip_entries::{Answers, Entry, History};

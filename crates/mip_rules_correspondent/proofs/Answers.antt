@@ -1,13 +1,12 @@
 -- What a call gives out is whole.
-use Rattle.std.proofs.Common.{◌≡◌, ℕ, List, [], ◌∷◌, ◌++◌, refl, sym, subst}
-use Rattle.std.specs.Prelude.{false}
+use Rattle.std.proofs.Common.{ℕ, List, [], ◌∷◌, ◌++◌, refl, sym, subst}
 use Rattle.std.specs.List.{AllByRecursion}
 use Rattle.mip_entries.specs.declared.answer.Answer.{Answer}
 use Rattle.mip_turns.proofs.ShowLaws.{answers-noted}
 use Rattle.mip_rules_correspondent.specs.declared.identity.Identity.{Identity}
 use Rattle.mip_rules_correspondent.specs.declared.known.Known.{Known}
 use Rattle.mip_rules_correspondent.specs.Calls.{Call}
-use Rattle.mip_rules_correspondent.specs.Steps.{Step, Called, Sends, Accepts, Denies, Drops, HandsUp, Idles, answer_of, answers_of, is_call}
+use Rattle.mip_rules_correspondent.specs.Steps.{Step, Called, Sends, Accepts, Denies, Drops, HandsUp, Idles, answer_of, answers_of}
 use Rattle.mip_rules_correspondent.specs.Questions.{after}
 use Rattle.mip_rules_correspondent.specs.Turns.{Turn, begun, noted}
 use Rattle.mip_rules_correspondent.specs.Doing.{turn_of}

@@ -1,5 +1,5 @@
 -- Whoever stands for a past stands, after a call, for the past with it.
-use Rattle.std.proofs.Common.{◌≡◌, ℕ, List}
+use Rattle.std.proofs.Common.{ℕ, List}
 use Rattle.mip_entries.specs.Stamped.{Stamped}
 use Rattle.mip_turns.proofs.TurnLaws.{stands-noted, stands-begun}
 use Rattle.mip_rules_correspondent.specs.declared.identity.Identity.{Identity}
@@ -7,7 +7,7 @@ use Rattle.mip_rules_correspondent.specs.declared.known.Known.{Known}
 use Rattle.mip_rules_correspondent.specs.Calls.{Call}
 use Rattle.mip_rules_correspondent.specs.Steps.{Step, Called}
 use Rattle.mip_rules_correspondent.specs.Questions.{after, fresh}
-use Rattle.mip_rules_correspondent.specs.Turns.{Turn, begun, noted, Stands, with_turn}
+use Rattle.mip_rules_correspondent.specs.Turns.{Turn, begun, Stands, with_turn}
 use Rattle.mip_rules_correspondent.specs.Doing.{turn_of}
 use Rattle.mip_rules_correspondent.proofs.Walks.{every-call}
 

@@ -1,5 +1,5 @@
 -- The last moment that a call leaves known is its own.
-use Rattle.std.proofs.Common.{◌≡◌, ℕ, false, true, refl, ap, ◌∙◌}
+use Rattle.std.proofs.Common.{◌≡◌, ℕ, false, ap, ◌∙◌}
 use Rattle.std.specs.Prelude.{if◌then◌else◌, Bool}
 use Rattle.mip_words.specs.declared.moment.Moment.{Moment}
 use Rattle.mip_turns.proofs.TurnLaws.{noted-now, noted-known}

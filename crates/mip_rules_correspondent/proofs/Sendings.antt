@@ -1,5 +1,5 @@
 -- Whatever a call sends is a packet that a correspondent sends at its moment.
-use Rattle.std.proofs.Common.{◌≡◌, ℕ, List, [], ◌∷◌, ◌++◌, refl, sym, ap, ◌∙◌, subst}
+use Rattle.std.proofs.Common.{◌≡◌, ℕ, List, [], ◌∷◌, ◌++◌, refl, sym, ◌∙◌, subst}
 use Rattle.std.specs.List.{AllByRecursion}
 use Rattle.mip_turns.proofs.TurnLaws.{noted-now, noted-steps}
 use Rattle.mip_rules_correspondent.specs.declared.identity.Identity.{Identity}

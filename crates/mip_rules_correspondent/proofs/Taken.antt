@@ -34,7 +34,7 @@ use Rattle.mip_rules_correspondent.specs.declared.request.Request.{Request}
 use Rattle.mip_rules_correspondent.specs.declared.verdict.Verdict.{Verdict}
 use Rattle.mip_rules_correspondent.specs.declared.verdict.Verdict.TheVariants.{Refuse, Deny, Accept}
 use Rattle.mip_rules_correspondent.specs.Calls as calls
-use Rattle.mip_rules_correspondent.specs.Steps.{Called, Sends, Accepts, Drops, Idles, is_acceptance}
+use Rattle.mip_rules_correspondent.specs.Steps.{Called, Sends, Accepts, Drops, is_acceptance}
 use Rattle.mip_rules_correspondent.specs.Questions.{held_of, after}
 use Rattle.mip_rules_correspondent.specs.Turns.{Turn, begun, noted}
 use Rattle.mip_rules_correspondent.specs.Requests.{request, request_said, request_in, home_of, careof_of, registered_of}

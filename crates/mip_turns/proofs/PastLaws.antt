@@ -1,5 +1,5 @@
 -- Moments of a past whose moments do not fall.
-use Rattle.std.proofs.Common.{◌≡◌, ℕ, ◌≤◌, List, [], ◌∷◌, ◌++◌, arith}
+use Rattle.std.proofs.Common.{ℕ, ◌≤◌, List, [], ◌∷◌, ◌++◌, arith}
 use Rattle.std.specs.List.{AllByRecursion}
 use Rattle.mip_entries.specs.Stamped.{Stamped, stamped}
 use Rattle.mip_turns.specs.Pasts.{RisesFrom, last_at}

@@ -1,6 +1,5 @@
 -- How a turn goes on by a step, and a past by a turn. Only here a step is looked into.
 use Rattle.std.proofs.Common.{◌≡◌, ℕ, List, [], ◌∷◌, ◌++◌, refl, sym, ap, ◌∙◌, subst}
-use Rattle.std.specs.Prelude.{fold}
 use Rattle.std.proofs.lemmas.List.{append_assoc, append-nil, map_push}
 use Rattle.std.proofs.lemmas.List.Sums.{fold-append}
 use Rattle.mip_entries.specs.Stamped.{Stamped, stamped}

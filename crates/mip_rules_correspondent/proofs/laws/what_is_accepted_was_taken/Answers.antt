@@ -1,7 +1,5 @@
-use Rattle.std.proofs.Common.{◌≡◌, ◌∙◌, sym, inl, inr, ◌⊎◌, true, false}
-use Rattle.std.specs.List.{list_any}
+use Rattle.std.proofs.Common.{◌≡◌, ◌∙◌, sym, inl, inr, true, false}
 use Rattle.mip_rules_correspondent.specs.Calls.{Take}
-use Rattle.mip_rules_correspondent.specs.Steps.{is_acceptance}
 use Rattle.mip_rules_correspondent.specs.Doing.{turn_of}
 use Rattle.mip_rules_correspondent.specs.Taken.{IsUpdateTaken}
 use Rattle.mip_rules_correspondent.proofs.Taken.{taken_is, refreshed_none, sent_none, ticked_none}
