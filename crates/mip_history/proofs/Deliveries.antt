@@ -4,9 +4,6 @@ use Rattle.std.specs.Prelude.{Option, Some, None, if◌then◌else◌, slice_get
 use Rattle.std.proofs.lemmas.Option.{slice_get_within}
 use Rattle.mip_entries.specs.declared.entry.Entry.TheVariants as entries
 use Rattle.mip_entries.specs.Completed.{node_id}
-use Rattle.mip_rules_correspondent.specs.declared.identity.Identity.{Identity}
-use Rattle.mip_rules_correspondent.specs.declared.known.Known.{Known}
-use Rattle.mip_rules_correspondent.specs.Turns.{Turn}
 use Rattle.mip_rules_correspondent.specs.Calls.{Call, Take}
 use Rattle.mip_links.specs.Table.{Post, delivery, in_pool}
 use Rattle.mip_links.specs.Nets.{lowest_of}

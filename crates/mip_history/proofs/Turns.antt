@@ -15,7 +15,6 @@ use Rattle.mip_bcache.specs.Seen.{acceptance}
 use Rattle.mip_entries.specs.declared.entry.Entry.{Entry}
 use Rattle.mip_entries.specs.declared.entry.Entry.TheVariants as entries
 use Rattle.mip_entries.specs.Stamped.{Stamped, stamped}
-use Rattle.mip_turns.specs.Pasts.{RisesFrom}
 use Rattle.mip_turns.proofs.PastLaws.{rises_turn}
 use Rattle.mip_rules_correspondent.specs.Calls.{Call}
 use Rattle.mip_rules_correspondent.specs.Steps.{Step, Called, Accepts, answers_of, is_acceptance}
