@@ -9,10 +9,11 @@ use Rattle.mip_links.specs.Table.{Post, delivery, in_pool}
 use Rattle.mip_links.specs.Nets.{lowest_of}
 use Rattle.mip_links.specs.declared.delivery.Delivery.{Delivery}
 use Rattle.mip_links.specs.declared.delivery.Delivery.TheVariants.{Idle, Gone, Outsider, Node}
-use Rattle.mip_history.specs.Setup.{Setup, Host}
+use Rattle.mip_history.specs.Setup.{Setup, Host, Kind}
+use Rattle.mip_history.specs.Setup.Kind.{Correspondent, Agent, Mobile}
 use Rattle.mip_history.specs.Runs.{Run, note, without}
 use Rattle.mip_history.specs.Questions.{asked_in}
-use Rattle.mip_history.specs.Nodes.{by_host}
+use Rattle.mip_history.specs.Nodes.{by_host, by_kind}
 use Rattle.mip_history.specs.Delivery.{handed_over, overheard_at, hears_there, handed, is_no_holder, became, arrival_link, arrived, delivered, carried_one, carried}
 use Rattle.mip_history.proofs.Runs.{IsRun, IsQuiet, Goes, quiet_same, quiet_then, quiet_notes, quiet_heard, quiet_handed, quiet_run, goes_quietly, goes_then}
 use Rattle.mip_history.proofs.Posts.{quiet_overheard, overheard_posts}
@@ -37,9 +38,17 @@ handed_goes s k n post link run is posted = by (slice_get s.hosts n) refl
     next : Run
     next = note (entries.Handed k (node_id n)) run
 
+    stays : Goes s run (note entries.Idle next)
+    stays = goes_quietly s run _ is (quiet_then s run next _ (quiet_handed s k (node_id n) run (slice_get_within run.posts k post posted)) (quiet_notes s (entries.Idle ∷ []) next refl))
+
     by : (o : Option Host) → slice_get s.hosts n ≡ o → Goes s run (by_host s n call next o)
-    by None e = goes_quietly s run _ is (quiet_then s run next _ (quiet_handed s k (node_id n) run (slice_get_within run.posts k post posted)) (quiet_notes s (entries.Idle ∷ []) next refl))
-    by (Some host) e = handed_to s k n post link run is posted host e
+    by None e = stays
+    by (Some host) e = of_kind host.kind e
+      where
+        of_kind : (kind : Kind) → slice_get s.hosts n ≡ Some (record { address = host.address; kind = kind }) → Goes s run (by_kind s n host.address call next kind)
+        of_kind (Correspondent room) e = handed_to s k n post link run is posted host.address room e
+        of_kind Agent e = stays
+        of_kind Mobile e = stays
 
 module _ (s : Setup) (k : ℕ) (post : Post) (link : Option ℕ) (run : Run) (is : IsRun s run) (posted : slice_get run.posts k ≡ Some post) where
   inside : k < length run.posts

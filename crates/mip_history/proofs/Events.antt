@@ -5,6 +5,7 @@ use Rattle.std.specs.List.{list_any, sum_by, AllByRecursion}
 use Rattle.std.proofs.lemmas.List.{append-nil, length-map, get_or-set_same, get_or-set_other}
 use Rattle.std.proofs.lemmas.List.Sums.{fold-append, sum_by-cons}
 use Rattle.std.proofs.lemmas.List.Elements.{filter_map-append}
+use Rattle.std.proofs.lemmas.Option.{slice_get_within}
 use Rattle.std.proofs.lemmas.Bool.{cases_eq, eqb-true, eq-eqb, ne_eqb}
 use Rattle.mip_words.specs.declared.address.Address.{Address}
 use Rattle.mip_bcache.specs.declared.row.Row.{Row}
@@ -27,10 +28,11 @@ use Rattle.mip_rules_correspondent.specs.Doing.{turn_of}
 use Rattle.mip_rules_correspondent.proofs.Taken.{refreshed_none, sent_none}
 use Rattle.mip_links.specs.Table.{link_of}
 use Rattle.mip_links.specs.Nets.{is_held_by}
-use Rattle.mip_history.specs.Setup.{Setup, Host}
+use Rattle.mip_history.specs.Setup.{Setup, Host, Kind}
+use Rattle.mip_history.specs.Setup.Kind.{Correspondent, Agent, Mobile}
 use Rattle.mip_history.specs.Runs.{Run, note, without}
 use Rattle.mip_history.specs.Questions.{moment_says, moment_in, restarts, life_in, holder_in, hears_in}
-use Rattle.mip_history.specs.Nodes.{link_or_first, past_at, known_in, identity_in, now_in, by_host, acts, row_entry, rows_shown, shown}
+use Rattle.mip_history.specs.Nodes.{link_or_first, past_at, known_in, identity_in, now_in, by_host, by_kind, acts, row_entry, rows_shown, rows_by_kind, shown}
 use Rattle.mip_history.specs.Outsiders.{link_id, injected, injected_if, probe_packet, update_packet, test_packet, claim_entry, squatted, squats, yielded, yields}
 use Rattle.mip_history.specs.Permitted.{claims_from, opened, lost, restarted, waited, happens, run_of}
 use Rattle.mip_history.specs.Passing.{waited_by, restarted_by}
@@ -68,9 +70,15 @@ acts_quietly s n call run is none = by (slice_get s.hosts n) refl
   where
     by : (o : Option Host) → slice_get s.hosts n ≡ o → Passes s run (by_host s n call run o) 0 (λ n. 0)
     by None e = noted_one s run entries.Idle is refl
-    by (Some host) e =
-        let q = none (identity_in s run n host) (known_in run n host) (now_in s run) in
-        still s run _ (turned_quietly s n host run (turn_of (identity_in s run n host) (known_in run n host) (now_in s run) call) is e q.0 q.1)
+    by (Some host) e = of_kind host.kind
+      where
+        of_kind : (kind : Kind) → Passes s run (by_kind s n host.address call run kind) 0 (λ n. 0)
+        of_kind (Correspondent room) =
+            let me = identity_in s run n host.address room in
+            let q = none me (known_in run n room) (now_in s run) in
+            still s run _ (turned_quietly s n host.address run (turn_of me (known_in run n room) (now_in s run) call) is (slice_get_within s.hosts n host e) q.0 q.1)
+        of_kind Agent = noted_one s run entries.Idle is refl
+        of_kind Mobile = noted_one s run entries.Idle is refl
 
 -- what outsiders do
 injected_goes : (s : Setup) (run : Run) (o link : ℕ) (packet : List ℕ) → IsRun s run → Passes s run (injected s run o link packet) 0 (λ n. 0)
@@ -129,9 +137,14 @@ shown_goes s n run is = by (slice_get s.hosts n)
   where
     by : (o : Option Host) → Passes s run (rows_shown s n run o) 0 (λ n. 0)
     by None = noted_one s run entries.Idle is refl
-    by (Some host) =
-        let rows = kept_at (known_in run n host).cache (now_in s run) in
-        quietly s run _ is (quiet_notes s (map (row_entry n) rows) run (rows_quiet n rows))
+    by (Some host) = of_kind host.kind
+      where
+        of_kind : (kind : Kind) → Passes s run (rows_by_kind s n run kind) 0 (λ n. 0)
+        of_kind (Correspondent room) =
+            let rows = kept_at (known_in run n room).cache (now_in s run) in
+            quietly s run _ is (quiet_notes s (map (row_entry n) rows) run (rows_quiet n rows))
+        of_kind Agent = noted_one s run entries.Idle is refl
+        of_kind Mobile = noted_one s run entries.Idle is refl
 
 lost_goes : (s : Setup) (run : Run) (k : ℕ) → IsRun s run → Passes s run (lost run k) 0 (λ n. 0)
 unfolding lost

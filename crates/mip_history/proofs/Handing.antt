@@ -28,7 +28,8 @@ use Rattle.mip_rules_correspondent.specs.Taken.{IsUpdateTaken}
 use Rattle.mip_rules_correspondent.proofs.Acceptances.{floor-answers, full-answers}
 use Rattle.mip_rules_correspondent.proofs.VerdictLaws.{sound}
 use Rattle.mip_links.specs.Table.{Post}
-use Rattle.mip_history.specs.Setup.{Setup, Host}
+use Rattle.mip_history.specs.Setup.{Setup}
+use Rattle.mip_history.specs.Setup.Kind.{Correspondent}
 use Rattle.mip_history.specs.Runs.{Run, note}
 use Rattle.mip_history.specs.Nodes.{link_or_first, identity_in, known_in, now_in, past_at, turned}
 use Rattle.mip_history.specs.Delivery.{handed_over}
@@ -39,11 +40,11 @@ use Rattle.mip_history.proofs.Turns.{done, quiet_turn, accepting_turn}
 use Rattle.mip_rules_correspondent.proofs.Taken.{accepted_home, taken_is}
 
 -- a node's turn in which nothing is accepted
-pub turned_quietly : (s : Setup) (n : ℕ) (host : Host) (run : Run) (t : Turn) → IsRun s run → slice_get s.hosts n ≡ Some host
-    → t.now ≡ now_in s run → list_any is_acceptance t.steps ≡ false → Goes s run (turned s n host t run)
-turned_quietly s n host run t is host_is now none =
-    subst (λ (at : ℕ). Goes s run (done s n (link_or_first s host.address.0) at t.steps run)) (sym now)
-    (quiet_turn s n (link_or_first s host.address.0) run is (slice_get_within s.hosts n host host_is) t.steps none)
+pub turned_quietly : (s : Setup) (n : ℕ) (own : Address) (run : Run) (t : Turn) → IsRun s run → n < length s.hosts
+    → t.now ≡ now_in s run → list_any is_acceptance t.steps ≡ false → Goes s run (turned s n own t run)
+turned_quietly s n own run t is inside now none =
+    subst (λ (at : ℕ). Goes s run (done s n (link_or_first s own.0) at t.steps run)) (sym now)
+    (quiet_turn s n (link_or_first s own.0) run is inside t.steps none)
 
 -- what is handed over reads as what was posted
 record ReadsAs (bytes : List ℕ) (q : Packet) : Type 0 where
@@ -75,7 +76,8 @@ bench_same : (own : Address) (secrets : Life) (now : ℕ) {a b : Option ℕ} {x 
     → (let k : Bench = record { own = own; secrets = secrets; now = now; floor = a; full = x } in k) ≡ record { own = own; secrets = secrets; now = now; floor = b; full = y }
 bench_same own secrets now p q = cc
 
-module _ (s : Setup) (k n : ℕ) (post : Post) (link : Option ℕ) (before : Run) (is : IsRun s before) (posted : slice_get before.posts k ≡ Some post) (host : Host) (host_is : slice_get s.hosts n ≡ Some host) where
+module _ (s : Setup) (k n : ℕ) (post : Post) (link : Option ℕ) (before : Run) (is : IsRun s before) (posted : slice_get before.posts k ≡ Some post) (own : Address) (room : ℕ)
+    (host_is : slice_get s.hosts n ≡ Some (record { address = own; kind = Correspondent room })) where
   abbrev pub run : Run
   run = note (entries.Handed k (node_id n)) before
 
@@ -83,7 +85,7 @@ module _ (s : Setup) (k n : ℕ) (post : Post) (link : Option ℕ) (before : Run
   run_is = quiet_run s before run (quiet_handed s k (node_id n) before (slice_get_within before.posts k post posted)) is
 
   inside : n < length s.hosts
-  inside = slice_get_within s.hosts n host host_is
+  inside = slice_get_within s.hosts n (record { address = own; kind = Correspondent room }) host_is
 
   told : packet_in run.past k ≡ Some post.packet
   told =
@@ -93,32 +95,33 @@ module _ (s : Setup) (k n : ℕ) (post : Post) (link : Option ℕ) (before : Run
       ∙ ap (λ (o : Option Post). option_map (λ p. p.packet) o) posted
 
   abbrev pub me : Identity
-  me = identity_in s run n host
+  me = identity_in s run n own room
 
   -- the judge of the turn is the one of the history
-  same_judge : (r : Request) (home : Address) → home ≡ home_of r → bench me (known_in run n host) (now_in s run) r ≡ judge_in s run.past n host home.0
+  same_judge : (r : Request) (home : Address) → home ≡ home_of r → bench me (known_in run n room) (now_in s run) r ≡ judge_in s run.past n own room home.0
   same_judge r home same = let p = run_is.pasts n inside in
-      bench_same host.address me.secrets (now_in s run)
-      (floor-answers host.room (past_at run n) p.rises (now_in s run) (home_of r) p.early
+      bench_same own me.secrets (now_in s run)
+      (floor-answers room (past_at run n) p.rises (now_in s run) (home_of r) p.early
       ∙ ap (λ (xs : List Acceptance). floor xs (home_of r).0 (now_in s run)) p.accepted
       ∙ ap (λ (h : Address). floor (accepted_by s.start run.past n) h.0 (now_in s run)) (sym same))
-      (full-answers host.room (past_at run n) p.rises (now_in s run) (home_of r) p.early
-      ∙ ap (λ (xs : List Acceptance). is_full host.room xs (home_of r).0 (now_in s run)) p.accepted
-      ∙ ap (λ (h : Address). is_full host.room (accepted_by s.start run.past n) h.0 (now_in s run)) (sym same))
+      (full-answers room (past_at run n) p.rises (now_in s run) (home_of r) p.early
+      ∙ ap (λ (xs : List Acceptance). is_full room xs (home_of r).0 (now_in s run)) p.accepted
+      ∙ ap (λ (h : Address). is_full room (accepted_by s.start run.past n) h.0 (now_in s run)) (sym same))
 
   abbrev steps : List Step
-  steps = (turn_of me (known_in run n host) (now_in s run) (Take k post.shield (handed_over post.packet link))).steps
+  steps = (turn_of me (known_in run n room) (now_in s run) (Take k post.shield (handed_over post.packet link))).steps
 
   -- an update that is accepted stands behind its packet
-  stands : (u : IsUpdateTaken me (known_in run n host) (now_in s run) k post.shield (handed_over post.packet link) steps) → IsAccepted s run.past n k u.home u.accepted
+  stands : (u : IsUpdateTaken me (known_in run n room) (now_in s run) k post.shield (handed_over post.packet link) steps) → IsAccepted s run.past n k u.home u.accepted
   stands u =
       let as_posted = reads_as post.packet link u.packet u.read in
-      let accepts : verdict (judge_in s run.past n host u.home.0) u.request as_posted.packet.body ≡ Accept u.home u.accepted u.granted u.kbm =
+      let accepts : verdict (judge_in s run.past n own room u.home.0) u.request as_posted.packet.body ≡ Accept u.home u.accepted u.granted u.kbm =
       ap (λ (b : Bench). verdict b u.request as_posted.packet.body) (sym (same_judge u.request u.home (accepted_home _ u.request u.packet.body u.home u.accepted u.granted u.kbm u.verdict_is)))
-      ∙ ap (λ (l : List ℕ). verdict (bench me (known_in run n host) (now_in s run) u.request) u.request l) (sym as_posted.body)
+      ∙ ap (λ (l : List ℕ). verdict (bench me (known_in run n room) (now_in s run) u.request) u.request l) (sym as_posted.body)
       ∙ u.verdict_is in
       record {
-        host = host;
+        own = own;
+        room = room;
         is_host = host_is;
         earlier = before.past;
         handed = refl;
@@ -132,24 +135,24 @@ module _ (s : Setup) (k n : ℕ) (post : Post) (link : Option ℕ) (before : Run
         granted = u.granted;
         kbm = u.kbm;
         verdict_is = accepts;
-        sound = sound (judge_in s run.past n host u.home.0) u.request as_posted.packet.body u.home u.accepted u.granted u.kbm accepts;
+        sound = sound (judge_in s run.past n own room u.home.0) u.request as_posted.packet.body u.home u.accepted u.granted u.kbm accepts;
       }
     where
       same : {a b : Address} {x y : Option Address} {l m : List ℕ} → b ≡ a → y ≡ x → m ≡ l → request_in a x l ≡ request_in b y m
       same p q r = cc
 
-  pub handed_to : Goes s before (turned s n host (turn_of me (known_in run n host) (now_in s run) (Take k post.shield (handed_over post.packet link))) run)
+  pub handed_to : Goes s before (turned s n own (turn_of me (known_in run n room) (now_in s run) (Take k post.shield (handed_over post.packet link))) run)
   handed_to = goes_then s before run _ (goes_quietly s before run is (quiet_handed s k (node_id n) before (slice_get_within before.posts k post posted))) (by found.1)
     where
       t : Turn
-      t = turn_of me (known_in run n host) (now_in s run) (Take k post.shield (handed_over post.packet link))
+      t = turn_of me (known_in run n room) (now_in s run) (Take k post.shield (handed_over post.packet link))
 
-      found : (t.now ≡ now_in s run) × ((list_any is_acceptance t.steps ≡ false) ⊎ IsUpdateTaken me (known_in run n host) (now_in s run) k post.shield (handed_over post.packet link) t.steps)
-      found = taken_is me (known_in run n host) (now_in s run) k post.shield (handed_over post.packet link)
+      found : (t.now ≡ now_in s run) × ((list_any is_acceptance t.steps ≡ false) ⊎ IsUpdateTaken me (known_in run n room) (now_in s run) k post.shield (handed_over post.packet link) t.steps)
+      found = taken_is me (known_in run n room) (now_in s run) k post.shield (handed_over post.packet link)
 
-      by : ((list_any is_acceptance t.steps ≡ false) ⊎ IsUpdateTaken me (known_in run n host) (now_in s run) k post.shield (handed_over post.packet link) t.steps) → Goes s run (turned s n host t run)
-      by (inl none) = turned_quietly s n host run t run_is host_is found.0 none
+      by : ((list_any is_acceptance t.steps ≡ false) ⊎ IsUpdateTaken me (known_in run n room) (now_in s run) k post.shield (handed_over post.packet link) t.steps) → Goes s run (turned s n own t run)
+      by (inl none) = turned_quietly s n own run t run_is inside found.0 none
       by (inr u) =
-          subst (λ (at : ℕ). Goes s run (done s n (link_or_first s host.address.0) at t.steps run)) (sym found.0)
-          (subst (λ (l : List Step). Goes s run (done s n (link_or_first s host.address.0) (now_in s run) l run)) (sym u.steps_are)
-          (accepting_turn s n (link_or_first s host.address.0) run run_is inside (Take k post.shield (handed_over post.packet link)) k u.home u.accepted u.rest u.none (stands u)))
+          subst (λ (at : ℕ). Goes s run (done s n (link_or_first s own.0) at t.steps run)) (sym found.0)
+          (subst (λ (l : List Step). Goes s run (done s n (link_or_first s own.0) (now_in s run) l run)) (sym u.steps_are)
+          (accepting_turn s n (link_or_first s own.0) run run_is inside (Take k post.shield (handed_over post.packet link)) k u.home u.accepted u.rest u.none (stands u)))

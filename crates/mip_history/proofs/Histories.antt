@@ -17,7 +17,8 @@ use Rattle.mip_schedule.specs.Contents.{Content}
 use Rattle.mip_schedule.specs.declared.event.Event.{Event}
 use Rattle.mip_rules_correspondent.specs.Questions.{held_of, floor_of, is_full_for}
 use Rattle.mip_rules_correspondent.proofs.Acceptances.{held-answers, floor-answers, full-answers}
-use Rattle.mip_history.specs.Setup.{Setup, Host, setup_of}
+use Rattle.mip_history.specs.Setup.{Setup, setup_of}
+use Rattle.mip_history.specs.Setup.Kind.{Correspondent}
 use Rattle.mip_history.specs.Runs.{Run}
 use Rattle.mip_history.specs.Questions.{moment_in, life_in, holder_in}
 use Rattle.mip_history.specs.Claims.{is_free_for}
@@ -91,24 +92,24 @@ pub permitted_taken : (c : Content) (before : List Entry) (who : ℕ) (link : Li
 permitted_taken c before who link address holder after whole = meets_at c before (entries.Taken who link address holder) after whole
 
 -- what a node keeps
-module _ (s : Setup) (events : List Event) (n : ℕ) (host : Host) (home : Address) (is : slice_get s.hosts n ≡ Some host) where
+module _ (s : Setup) (events : List Event) (n : ℕ) (own : Address) (room : ℕ) (home : Address) (is : slice_get s.hosts n ≡ Some (record { address = own; kind = Correspondent room })) where
   abbrev run : Run
   run = run_of s events
 
   past_is : IsPast s (run_of s events).past (past_at (run_of s events) n) n
-  past_is = (run_passes s events).run.pasts n (slice_get_within s.hosts n host is)
+  past_is = (run_passes s events).run.pasts n (slice_get_within s.hosts n (record { address = own; kind = Correspondent room }) is)
 
-  pub run_held : option_map (λ a. a.0) (held_of (known_in (run_of s events) n host) (now_in s (run_of s events)) home) ≡ held_in s (run_of s events).past n home.0
+  pub run_held : option_map (λ a. a.0) (held_of (known_in (run_of s events) n room) (now_in s (run_of s events)) home) ≡ held_in s (run_of s events).past n home.0
   run_held =
-      held-answers host.room (past_at run n) past_is.rises (now_in s run) home past_is.early
+      held-answers room (past_at run n) past_is.rises (now_in s run) home past_is.early
       ∙ ap (λ (xs : List Acceptance). held xs home.0 (now_in s run)) past_is.accepted
 
-  pub run_floor : floor_of (known_in (run_of s events) n host) (now_in s (run_of s events)) home ≡ floor (accepted_by s.start (run_of s events).past n) home.0 (now_in s (run_of s events))
+  pub run_floor : floor_of (known_in (run_of s events) n room) (now_in s (run_of s events)) home ≡ floor (accepted_by s.start (run_of s events).past n) home.0 (now_in s (run_of s events))
   run_floor =
-      floor-answers host.room (past_at run n) past_is.rises (now_in s run) home past_is.early
+      floor-answers room (past_at run n) past_is.rises (now_in s run) home past_is.early
       ∙ ap (λ (xs : List Acceptance). floor xs home.0 (now_in s run)) past_is.accepted
 
-  pub run_full : is_full_for (known_in (run_of s events) n host) (now_in s (run_of s events)) home ≡ is_full host.room (accepted_by s.start (run_of s events).past n) home.0 (now_in s (run_of s events))
+  pub run_full : is_full_for (known_in (run_of s events) n room) (now_in s (run_of s events)) home ≡ is_full room (accepted_by s.start (run_of s events).past n) home.0 (now_in s (run_of s events))
   run_full =
-      full-answers host.room (past_at run n) past_is.rises (now_in s run) home past_is.early
-      ∙ ap (λ (xs : List Acceptance). is_full host.room xs home.0 (now_in s run)) past_is.accepted
+      full-answers room (past_at run n) past_is.rises (now_in s run) home past_is.early
+      ∙ ap (λ (xs : List Acceptance). is_full room xs home.0 (now_in s run)) past_is.accepted

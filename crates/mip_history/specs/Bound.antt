@@ -19,7 +19,8 @@ use Rattle.mip_rules_correspondent.specs.declared.verdict.Verdict.TheVariants.{A
 use Rattle.mip_rules_correspondent.specs.Requests.{request_in}
 use Rattle.mip_rules_correspondent.specs.Soundness.{IsSound}
 use Rattle.mip_rules_correspondent.specs.Verdicts.{Bench, verdict}
-use Rattle.mip_history.specs.Setup.{Setup, Host}
+use Rattle.mip_history.specs.Setup.{Setup}
+use Rattle.mip_history.specs.Setup.Kind.{Correspondent}
 use Rattle.mip_history.specs.Questions.{moment_in, life_in}
 
 -- the moment, and what a node has accepted in its present life, oldest first
@@ -62,19 +63,21 @@ abbrev pub packets_of : List Entry → List (List ℕ)
 packets_of past = filter_map packet_posted past
 
 -- node n as a judge at the end of a history: its secrets of this life, the moment, and what it keeps of a home
-abbrev pub judge_in : Setup → List Entry → ℕ → Host → ℕ → Bench
-judge_in s past n host home = record {
-  own = host.address;
+abbrev pub judge_in : Setup → List Entry → ℕ → Address → ℕ → ℕ → Bench
+judge_in s past n own room home = record {
+  own = own;
   secrets = record { seed = s.seed; node = n; life = life_in past n };
   now = moment_in s.start past;
   floor = floor (accepted_by s.start past n) home (moment_in s.start past);
-  full = is_full host.room (accepted_by s.start past n) home (moment_in s.start past);
+  full = is_full room (accepted_by s.start past n) home (moment_in s.start past);
 }
 
 -- behind this history node n accepted packet k, which it had just been handed: the verdict on its bytes
 pub record IsAccepted (s : Setup) (past : List Entry) (n k : ℕ) (home : Address) (accepted : Accepted) : Type 0 where
-  pub host : Host
-  pub is_host : slice_get s.hosts n ≡ Some host
+  -- it is a correspondent with this address and room
+  pub own : Address
+  pub room : ℕ
+  pub is_host : slice_get s.hosts n ≡ Some (record { address = own; kind = Correspondent room })
   pub earlier : List Entry
   pub handed : past ≡ earlier ++ entries.Handed k (node_id n) ∷ []
   pub bytes : List ℕ
@@ -86,9 +89,9 @@ pub record IsAccepted (s : Setup) (past : List Entry) (n k : ℕ) (home : Addres
   pub asks : request_in packet.head.source packet.head.home packet.body ≡ Some request
   pub granted : ℕ
   pub kbm : Kbm
-  pub verdict_is : verdict (judge_in s past n host home.0) request packet.body ≡ Accept home accepted granted kbm
+  pub verdict_is : verdict (judge_in s past n own room home.0) request packet.body ≡ Accept home accepted granted kbm
   -- its authenticator is that of the tokens under nonces valid then, and its sequence comes after the one that was kept
-  pub sound : IsSound (judge_in s past n host home.0) request packet.body home accepted granted kbm
+  pub sound : IsSound (judge_in s past n own room home.0) request packet.body home accepted granted kbm
 
 -- the entry of what was accepted
 abbrev pub accepted_entry : ℕ → ℕ → Address → Accepted → Entry

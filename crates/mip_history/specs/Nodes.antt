@@ -16,7 +16,9 @@ use Rattle.mip_rules_correspondent.specs.Turns.{Turn, with_turn}
 use Rattle.mip_rules_correspondent.specs.Calls.{Call}
 use Rattle.mip_rules_correspondent.specs.Doing.{turn_of}
 use Rattle.mip_links.specs.Table.{link_of}
-use Rattle.mip_history.specs.Setup.{Setup, Host}
+use Rattle.mip_words.specs.declared.address.Address.{Address}
+use Rattle.mip_history.specs.Setup.{Setup, Host, Kind}
+use Rattle.mip_history.specs.Setup.Kind.{Correspondent, Agent, Mobile}
 use Rattle.mip_history.specs.Runs.{Run, note, notes, with_past}
 use Rattle.mip_history.specs.Questions.{moment_in, life_in}
 use Rattle.mip_history.specs.Posting.{posted}
@@ -25,20 +27,16 @@ use Rattle.mip_history.specs.Posting.{posted}
 abbrev pub link_or_first : Setup → ℕ → ℕ
 link_or_first s address = unwrap_or (link_of s.links address) 0
 
--- node n in its present life
-abbrev pub identity_in : Setup → Run → ℕ → Host → Identity
-identity_in s run n host = record {
-  own = host.address;
-  secrets = record { seed = s.seed; node = n; life = life_in run.past n };
-  room = host.room;
-}
+-- correspondent n in its present life
+abbrev pub identity_in : Setup → Run → ℕ → Address → ℕ → Identity
+identity_in s run n own room = record { own = own; secrets = record { seed = s.seed; node = n; life = life_in run.past n }; room = room }
 
 -- what it knows
 abbrev pub past_at : Run → ℕ → List (Stamped Step)
 past_at run n = slice_index_or run.pasts n []
 
-abbrev pub known_in : Run → ℕ → Host → Known
-known_in run n host = known host.room (past_at run n)
+abbrev pub known_in : Run → ℕ → ℕ → Known
+known_in run n room = known room (past_at run n)
 
 abbrev pub now_in : Setup → Run → ℕ
 now_in s run = moment_in s.start run.past
@@ -54,15 +52,20 @@ answered_one s n from run (Note entry) = note (named n (link_for (λ address. li
 unfoldable pub answered : Setup → ℕ → ℕ → Run → List Answer → Run
 answered s n from run answers = fold (λ r answer. answered_one s n from r answer) run answers
 
--- node n has done a turn
-abbrev pub turned : Setup → ℕ → Host → Turn → Run → Run
-turned s n host turn run =
-    answered s n (link_or_first s host.address.0) (with_past n (with_turn (past_at run n) turn) run) (answers_of turn.steps)
+-- node n with this address has done a turn
+abbrev pub turned : Setup → ℕ → Address → Turn → Run → Run
+turned s n own turn run =
+    answered s n (link_or_first s own.0) (with_past n (with_turn (past_at run n) turn) run) (answers_of turn.steps)
 
--- node n does what it does about a call; nothing where there is no such node
+-- node n does what it does about a call; nothing where there is no such node, or where it is no correspondent
+abbrev pub by_kind : Setup → ℕ → Address → Call → Run → Kind → Run
+by_kind s n own call run (Correspondent room) = turned s n own (turn_of (identity_in s run n own room) (known_in run n room) (now_in s run) call) run
+by_kind s n own call run Agent = note Idle run
+by_kind s n own call run Mobile = note Idle run
+
 abbrev pub by_host : Setup → ℕ → Call → Run → Option Host → Run
 by_host s n call run None = note Idle run
-by_host s n call run (Some host) = turned s n host (turn_of (identity_in s run n host) (known_in run n host) (now_in s run) call) run
+by_host s n call run (Some host) = by_kind s n host.address call run host.kind
 
 abbrev pub acts : Setup → ℕ → Call → Run → Run
 acts s n call run = by_host s n call run (slice_get s.hosts n)
@@ -71,9 +74,14 @@ acts s n call run = by_host s n call run (slice_get s.hosts n)
 abbrev pub row_entry : ℕ → Row → Entry
 row_entry n r = ShownRow (node_id n) r.home r.number r.careof r.sequence r.end r.kept_until
 
+abbrev pub rows_by_kind : Setup → ℕ → Run → Kind → Run
+rows_by_kind s n run (Correspondent room) = notes (map (row_entry n) (kept_at (known_in run n room).cache (now_in s run))) run
+rows_by_kind s n run Agent = note Idle run
+rows_by_kind s n run Mobile = note Idle run
+
 abbrev pub rows_shown : Setup → ℕ → Run → Option Host → Run
 rows_shown s n run None = note Idle run
-rows_shown s n run (Some host) = notes (map (row_entry n) (kept_at (known_in run n host).cache (now_in s run))) run
+rows_shown s n run (Some host) = rows_by_kind s n run host.kind
 
 -- the rows that node n keeps, in order of home
 abbrev pub shown : Setup → ℕ → Run → Run

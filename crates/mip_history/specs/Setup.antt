@@ -1,14 +1,23 @@
--- What a schedule declares, as its run needs it. Built today: links, correspondents and outsiders.
+-- What a schedule declares, as its run needs it. Agents and mobiles are counted and hold their addresses; they do nothing yet.
 use Rattle.std.specs.Prelude.{ℕ, suc, List, [], ◌∷◌}
 use Rattle.mip_words.specs.declared.address.Address.{Address}
 use Rattle.mip_schedule.specs.Contents.{Content}
 use Rattle.mip_schedule.specs.declared.declaration.Declaration.{Declaration}
 use Rattle.mip_schedule.specs.declared.declaration.Declaration.TheVariants as declare
 
--- a correspondent: its address, and how many homes its binding cache keeps
+-- what a node is
+pub data Kind : Type 0 where
+  -- a correspondent, whose binding cache keeps so many homes
+  Correspondent : (room : ℕ) → Kind
+  -- a home agent
+  Agent : Kind
+  -- a mobile
+  Mobile : Kind
+
+-- a declared node: its address, which is the home address of a mobile
 pub record Host : Type 0 where
   pub address : Address
-  pub room : ℕ
+  pub kind : Kind
 
 pub record Setup : Type 0 where
   pub seed : List ℕ
@@ -28,7 +37,9 @@ links_in (_ ∷ ds) = links_in ds
 
 abbrev pub hosts_in : List Declaration → List Host
 hosts_in [] = []
-hosts_in (declare.Correspondent name link address room ∷ ds) = record { address = address; room = room } ∷ hosts_in ds
+hosts_in (declare.Correspondent name link address room ∷ ds) = record { address = address; kind = Correspondent room } ∷ hosts_in ds
+hosts_in (declare.Agent name link address preference life room ∷ ds) = record { address = address; kind = Agent } ∷ hosts_in ds
+hosts_in (declare.Mobile name link address agent ∷ ds) = record { address = address; kind = Mobile } ∷ hosts_in ds
 hosts_in (_ ∷ ds) = hosts_in ds
 
 abbrev pub outsiders_in : List Declaration → ℕ

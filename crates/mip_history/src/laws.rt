@@ -13,7 +13,8 @@ ghost use Rattle.mip_schedule.specs.declared.event.Event.{Event};
 ghost use Rattle.mip_bcache.specs.declared.accepted.Accepted.{Accepted};
 ghost use Rattle.mip_binding.specs.Held.{floor, is_full};
 ghost use Rattle.mip_rules_correspondent.specs.Questions.{held_of, floor_of, is_full_for};
-ghost use Rattle.mip_history.specs.Setup.{Setup, Host, setup_of};
+ghost use Rattle.mip_history.specs.Setup.{Setup, setup_of};
+ghost use Rattle.mip_history.specs.Setup.Kind.{Correspondent};
 ghost use Rattle.mip_history.specs.Questions.{moment_in, life_in, holder_in};
 ghost use Rattle.mip_history.specs.Nodes.{known_in, now_in};
 ghost use Rattle.mip_history.specs.Permitted.{run_of, happens, permitted};
@@ -57,12 +58,12 @@ pub fn last_acceptance_counts()
 
 /// What a node keeps of a home is what the history says of it.
 pub fn nodes_keep_what_was_accepted()
-    ensures held { (s : Setup) (events : List Event) (n : ℕ) (host : Host) (home : Address) → slice_get s.hosts n ≡ Some host
-        → option_map (λ a. a.0) (held_of (known_in (run_of s events) n host) (now_in s (run_of s events)) home) ≡ held_in s (run_of s events).past n home.0 }
-    ensures floor { (s : Setup) (events : List Event) (n : ℕ) (host : Host) (home : Address) → slice_get s.hosts n ≡ Some host
-        → floor_of (known_in (run_of s events) n host) (now_in s (run_of s events)) home ≡ floor (accepted_by s.start (run_of s events).past n) home.0 (now_in s (run_of s events)) }
-    ensures full { (s : Setup) (events : List Event) (n : ℕ) (host : Host) (home : Address) → slice_get s.hosts n ≡ Some host
-        → is_full_for (known_in (run_of s events) n host) (now_in s (run_of s events)) home ≡ is_full host.room (accepted_by s.start (run_of s events).past n) home.0 (now_in s (run_of s events)) }
+    ensures held { (s : Setup) (events : List Event) (n : ℕ) (own : Address) (room : ℕ) (home : Address) → slice_get s.hosts n ≡ Some (record { address = own; kind = Correspondent room })
+        → option_map (λ a. a.0) (held_of (known_in (run_of s events) n room) (now_in s (run_of s events)) home) ≡ held_in s (run_of s events).past n home.0 }
+    ensures floor { (s : Setup) (events : List Event) (n : ℕ) (own : Address) (room : ℕ) (home : Address) → slice_get s.hosts n ≡ Some (record { address = own; kind = Correspondent room })
+        → floor_of (known_in (run_of s events) n room) (now_in s (run_of s events)) home ≡ floor (accepted_by s.start (run_of s events).past n) home.0 (now_in s (run_of s events)) }
+    ensures full { (s : Setup) (events : List Event) (n : ℕ) (own : Address) (room : ℕ) (home : Address) → slice_get s.hosts n ≡ Some (record { address = own; kind = Correspondent room })
+        → is_full_for (known_in (run_of s events) n room) (now_in s (run_of s events)) home ≡ is_full room (accepted_by s.start (run_of s events).past n) home.0 (now_in s (run_of s events)) }
 {}
 
 /// Moments do not fall, and time goes on by what the schedule waits.
