@@ -15,7 +15,7 @@ use Rattle.mip_lists.proofs.EachLaws.{each_at}
 use Rattle.mip_links.specs.Table.{Asked, link_from, link_of}
 use Rattle.mip_links.specs.Nets.{holder_of}
 use Rattle.mip_schedule.specs.Contents.{Content}
-use Rattle.mip_schedule.specs.DeclarationTimes.{interface_of, has_interface, is_interface_taken, gives_prefix, is_on_link, is_full, misplaced, undeclared}
+use Rattle.mip_schedule.specs.DeclarationTimes.{interface_of, has_interface, is_interface_taken, gives_prefix, is_on_link, is_full, has_no_room, misplaced, undeclared}
 use Rattle.mip_schedule.specs.Lawful.{IsLawful}
 use Rattle.mip_schedule.specs.Places.{AreFew, members}
 use Rattle.mip_schedule.specs.declared.declaration.Declaration.{Declaration}
@@ -23,6 +23,7 @@ use Rattle.mip_schedule.specs.declared.declaration.Declaration.TheVariants as de
 use Rattle.mip_schedule.specs.declared.places.Sort.TheVariants as sorts
 use Rattle.mip_schedule.specs.declared.reason.Reason.TheVariants as reasons
 use Rattle.mip_history.specs.Setup.{Setup, Host, links_in, hosts_in, outsiders_in}
+use Rattle.mip_history.specs.Setup.Kind.{Correspondent as OfCorrespondent, Agent as OfAgent, Mobile as OfMobile}
 use Rattle.mip_history.specs.Questions.{holder_says}
 use Rattle.mip_history.specs.Permitted.{claims_from, opened}
 use Rattle.mip_replay.specs.Engines.{EngineSeen, new_engine}
@@ -106,8 +107,12 @@ no_address (declare.Correspondent name link address room ∷ ds) a e =
     ap (λ (b : Bool). b || list_any (has_address a) (hosts_in ds)) (other_address a address.0 p.0) ∙ no_address ds a p.1
 no_address (declare.Outsider name ∷ ds) a e = no_address ds a e
 no_address (declare.Link name prefix ∷ ds) a e = no_address ds a e
-no_address (declare.Agent name link address preference life room ∷ ds) a e = no_address ds a (or_parts _ _ e).1
-no_address (declare.Mobile name link address agent ∷ ds) a e = no_address ds a (or_parts _ _ e).1
+no_address (declare.Agent name link address preference life room ∷ ds) a e =
+    let p = or_parts _ _ e in
+    ap (λ (b : Bool). b || list_any (has_address a) (hosts_in ds)) (other_address a address.0 p.0) ∙ no_address ds a p.1
+no_address (declare.Mobile name link address agent ∷ ds) a e =
+    let p = or_parts _ _ e in
+    ap (λ (b : Bool). b || list_any (has_address a) (hosts_in ds)) (other_address a address.0 p.0) ∙ no_address ds a p.1
 no_address (declare.Serve agent mobile ∷ ds) a e = no_address ds a e
 
 not_false : (b : Bool) → not b ≡ false → b ≡ true
@@ -142,15 +147,27 @@ placed_more : (all front ds : List Declaration) (d : Declaration) → all ≡ fr
 unfolding undeclared
 placed_more all front ds (declare.Correspondent name link address room) whole free rest =
     let d : Declaration = declare.Correspondent name link address room in
-    let host : Host = record { address = address; room = room } in (
+    let host : Host = record { address = address; kind = OfCorrespondent room } in (
       subst (λ (l : List Declaration). IsPlaced (links_in l) (hosts_in front) host) (sym whole)
           (placed front (d ∷ ds) link host (passed (is_full 32 (members sorts.Node front)) reasons.Limit (misplaced front link address) free).1),
       subst (λ (hs : List Host). EachAfter (IsPlaced (links_in all)) hs (hosts_in ds)) (hosts_in-append front (d ∷ [])) rest,
     )
 placed_more all front ds (declare.Outsider name) whole free rest = no_more all front ds (declare.Outsider name) refl rest
 placed_more all front ds (declare.Link name prefix) whole free rest = no_more all front ds (declare.Link name prefix) refl rest
-placed_more all front ds (declare.Agent name link address preference life room) whole free rest = no_more all front ds (declare.Agent name link address preference life room) refl rest
-placed_more all front ds (declare.Mobile name link address agent) whole free rest = no_more all front ds (declare.Mobile name link address agent) refl rest
+placed_more all front ds (declare.Agent name link address preference life room) whole free rest =
+    let d : Declaration = declare.Agent name link address preference life room in
+    let host : Host = record { address = address; kind = OfAgent } in (
+      subst (λ (l : List Declaration). IsPlaced (links_in l) (hosts_in front) host) (sym whole)
+          (placed front (d ∷ ds) link host (passed (is_full 32 (members sorts.Node front)) reasons.Limit (misplaced front link address) free).1),
+      subst (λ (hs : List Host). EachAfter (IsPlaced (links_in all)) hs (hosts_in ds)) (hosts_in-append front (d ∷ [])) rest,
+    )
+placed_more all front ds (declare.Mobile name link address agent) whole free rest =
+    let d : Declaration = declare.Mobile name link address agent in
+    let host : Host = record { address = address; kind = OfMobile } in (
+      subst (λ (l : List Declaration). IsPlaced (links_in l) (hosts_in front) host) (sym whole)
+          (placed front (d ∷ ds) link host (passed (has_no_room front) reasons.Limit (misplaced front link address) free).1),
+      subst (λ (hs : List Host). EachAfter (IsPlaced (links_in all)) hs (hosts_in ds)) (hosts_in-append front (d ∷ [])) rest,
+    )
 placed_more all front ds (declare.Serve agent mobile) whole free rest = no_more all front ds (declare.Serve agent mobile) refl rest
 
 placed_from : (all : List Declaration) → MayStand all → (front ds : List Declaration) → all ≡ front ++ ds

@@ -1,6 +1,7 @@
 pub mod QuietLaws
 pub mod ClaimLaws
 pub mod PostingLaws
+pub mod RoleLaws
 pub mod NodeLaws
 pub mod DeliveryLaws
 pub mod OpenLaws

@@ -5,7 +5,7 @@ use Rattle.std.proofs.lemmas.Bool.Decides.{nat_tests}
 use Rattle.std.proofs.lemmas.List.{get_or-set_same, get_or-set_other, map_push}
 use Rattle.std.proofs.lemmas.List.Sums.{fold-append}
 use Rattle.std.proofs.lemmas.Option.{slice_get_within}
-use Rattle.std.specs.Prelude.{Option, Some, None, option_map, slice_get, slice_set, slice_index_or, map, take}
+use Rattle.std.specs.Prelude.{Option, Some, None, option_map, slice_get, slice_set, slice_index_or, map, take, true, false}
 use Rattle.mip_entries.specs.Stamped.{Stamped}
 use Rattle.mip_entries.specs.Completed.{node_id}
 use Rattle.mip_entries.specs.declared.entry.Entry.{Entry}
@@ -16,22 +16,25 @@ use Rattle.mip_rules_correspondent.specs.Steps.{Step, answers_of}
 use Rattle.mip_rules_correspondent.specs.Questions.{known}
 use Rattle.mip_rules_correspondent.specs.Turns.{with_turn}
 use Rattle.mip_rules_correspondent.specs.Calls.{Call}
-use Rattle.mip_rules_correspondent.specs.Seen.{turn_at}
-use Rattle.mip_rules_correspondent.proofs.Pasts.{stands-known, known-stands}
-use Rattle.mip_rules_correspondent.proofs.Calls.{call-stands}
-use Rattle.mip_history.specs.Setup.{Setup, Host}
+use Rattle.mip_rules_correspondent.specs.Doing.{turn_of}
+use Rattle.mip_words.specs.declared.address.Address.{Address}
+use Rattle.mip_history.specs.Setup.{Setup, Host, Kind}
+use Rattle.mip_history.specs.Setup.Kind.{Correspondent as OfCorrespondent, Agent as OfAgent, Mobile as OfMobile}
 use Rattle.mip_history.specs.Runs.{Run, note, notes, with_past}
 use Rattle.mip_history.specs.Questions.{life_in, moment_in, restarts}
-use Rattle.mip_history.specs.Nodes.{past_at, acts, by_host, answered, answered_one, row_entry, rows_shown, shown}
-use Rattle.mip_bcache.specs.Seen.{kept_at}
+use Rattle.mip_history.specs.Nodes.{past_at, identity_in, known_in, acts, by_host, answered, answered_one, row_entry, rows_by_kind, rows_shown, shown}
+use Rattle.std.specs.Option.{option_map_or}
 use Rattle.mip_bcache.specs.declared.row.Row.{Row}
 use Rattle.mip_entries.specs.declared.answer.Answer.{Answer}
 use Rattle.std.specs.List.{AllByRecursion}
 use Rattle.mip_replay.specs.Quiet.{IsQuiet}
 use Rattle.mip_replay.proofs.PostingLaws.{at_quiets, quiet_row, with_more}
 use Rattle.mip_history.specs.Permitted.{restarted, waited}
-use Rattle.mip_replay.specs.Engines.{NodeSeen, EngineSeen, IsCalm, with_entry, with_entries, with_node, with_role, new_node, reborn, at_moment, acted, station_of}
-use Rattle.mip_replay.specs.Standing.{IsAt, node_of}
+use Rattle.mip_replay.specs.Engines.{NodeSeen, EngineSeen, IsCalm, with_entry, with_entries, with_node, with_role, new_node, reborn, at_moment, station_of}
+use Rattle.mip_replay.specs.declared.role.Role.TheVariants.{Correspondent}
+use Rattle.mip_replay.specs.Roles.{is_correspondent, last_of, answers_to, after_call, rows_of}
+use Rattle.mip_replay.proofs.RoleLaws.{born, knows_on}
+use Rattle.mip_replay.specs.Standing.{IsAt, role_of, node_of}
 use Rattle.mip_replay.proofs.QuietLaws.{life-push, moment-push, asked-same, hears-same, history-same, take_one}
 
 -- an item of a list in which one was set
@@ -55,6 +58,17 @@ pub map_none : {X Y : Type 0} (f : X → Y) (o : Option X) → option_map f o �
 map_none f None e = refl
 map_none f (Some x) e = absurd cc
 
+pub set_same : {X : Type 0} (xs : List X) (i : ℕ) (x : X) → slice_get xs i ≡ Some x → slice_set xs i x ≡ xs
+set_same [] i x there = absurd cc
+set_same (y ∷ ys) zero x there = let same : x ≡ y = cc in ap (λ z. z ∷ ys) same
+set_same (y ∷ ys) (suc i) x there = ap (λ l. y ∷ l) (set_same ys i x there)
+
+-- node n does what a call asks: with its answers the run goes on from a run for which the engine stands
+pub record Acts (e : EngineSeen) (s : Setup) (run : Run) (n : ℕ) (call : Call) (c : NodeSeen) (from now : ℕ) : Type 0 where
+  pub next : Run
+  pub stands : IsAt (with_node n (with_role (after_call c.role now call) c) e) s next
+  pub does : answered s n from next (answers_to c.role now call) ≡ acts s n call run
+
 -- what a node is made of, where there is one
 module _ (e : EngineSeen) (s : Setup) (run : Run) (at : IsAt e s run) (n : ℕ) where
   abbrev node_here : Host → NodeSeen
@@ -67,39 +81,32 @@ module _ (e : EngineSeen) (s : Setup) (run : Run) (at : IsAt e s run) (n : ℕ) 
   pub acts_none : (call : Call) → slice_get e.nodes n ≡ None → acts s n call run ≡ note Idle run
   acts_none call none = ap (by_host s n call run) (map_none node_here (slice_get s.hosts n) (sym (at.nodes n) ∙ none))
 
-  -- and else its turn is done
-  pub acts_some : (call : Call) (c : NodeSeen) → slice_get e.nodes n ≡ Some c
-      → acts s n call run
-      ≡ answered s n (station_of e.net.links c) (with_past n (with_turn (past_at run n) (turn_at c.role e.moment call)) run) (answers_of (turn_at c.role e.moment call).steps)
-  acts_some call c there =
-      let found = host_of c there in
-      ap (by_host s n call run) found.1
-      ∙ ap (λ (x : NodeSeen). done s.links x (moment_in s.start run.past)) found.2
-      ∙ ap (λ (now : ℕ). done s.links c now) (sym at.now)
-      ∙ ap (λ (q : Asked). done q.links c e.moment) (sym at.asked)
-    where
-      done : List ℕ → NodeSeen → ℕ → Run
-      done links x now =
-          answered s n (station_of links x) (with_past n (with_turn (past_at run n) (turn_at x.role now call)) run) (answers_of (turn_at x.role now call).steps)
-
-  pub acts_is : (call : Call) (c : NodeSeen) → slice_get e.nodes n ≡ Some c → (from : ℕ) (answers : List Answer)
-      → station_of e.net.links c ≡ from → answers ≡ answers_of (turn_at c.role e.moment call).steps
-      → answered s n from (with_past n (with_turn (past_at run n) (turn_at c.role e.moment call)) run) answers ≡ acts s n call run
-  acts_is call c there from answers is_from are =
-      ap (λ (f : ℕ). answered s n f (with_past n (with_turn (past_at run n) (turn_at c.role e.moment call)) run) answers) (sym is_from)
-      ∙ ap (λ (xs : List Answer). answered s n (station_of e.net.links c) (with_past n (with_turn (past_at run n) (turn_at c.role e.moment call)) run) xs) are
-      ∙ sym (acts_some call c there)
-
   -- its rows are shown
-  pub shown_none : slice_get e.nodes n ≡ None → shown s n run ≡ note Idle run
-  shown_none none = ap (rows_shown s n run) (map_none node_here (slice_get s.hosts n) (sym (at.nodes n) ∙ none))
+  pub shown_none : option_map_or (λ c. is_correspondent c.role) (slice_get e.nodes n) false ≡ false → shown s n run ≡ note Idle run
+  shown_none none = by (slice_get s.hosts n) (sym (ap (λ (o : Option NodeSeen). option_map_or (λ (c : NodeSeen). is_correspondent c.role) o false) (at.nodes n)) ∙ none)
+    where
+      of_kind : (life : ℕ) (past : List (Stamped Step)) (own : Address) (kind : Kind) → is_correspondent (role_of s n life past own kind) ≡ false → rows_by_kind s n run kind ≡ note Idle run
+      of_kind life past own (OfCorrespondent room) none = absurd cc
+      of_kind life past own OfAgent none = refl
+      of_kind life past own OfMobile none = refl
 
-  pub shown_some : (c : NodeSeen) → slice_get e.nodes n ≡ Some c → shown s n run ≡ notes (map (row_entry n) (kept_at c.role.known.cache e.moment)) run
-  shown_some c there =
+      by : (o : Option Host) → option_map_or (λ (c : NodeSeen). is_correspondent c.role) (option_map node_here o) false ≡ false → rows_shown s n run o ≡ note Idle run
+      by None none = refl
+      by (Some host) none = of_kind (life_in run.past n) (past_at run n) host.address host.kind none
+
+  pub shown_some : (c : NodeSeen) → slice_get e.nodes n ≡ Some c → is_correspondent c.role ≡ true → shown s n run ≡ notes (map (row_entry n) (rows_of c.role e.moment)) run
+  shown_some c there is =
       let found = host_of c there in
       ap (rows_shown s n run) found.1
-      ∙ ap (λ (x : NodeSeen). notes (map (row_entry n) (kept_at x.role.known.cache (moment_in s.start run.past))) run) found.2
-      ∙ ap (λ (now : ℕ). notes (map (row_entry n) (kept_at c.role.known.cache now)) run) (sym at.now)
+      ∙ rows_there found.0.address found.0.kind (ap (λ (x : NodeSeen). is_correspondent x.role) found.2 ∙ is)
+      ∙ ap (λ (x : NodeSeen). notes (map (row_entry n) (rows_of x.role (moment_in s.start run.past))) run) found.2
+      ∙ ap (λ (now : ℕ). notes (map (row_entry n) (rows_of c.role now)) run) (sym at.now)
+    where
+      rows_there : (own : Address) (kind : Kind) → is_correspondent (role_of s n (life_in run.past n) (past_at run n) own kind) ≡ true
+          → rows_by_kind s n run kind ≡ notes (map (row_entry n) (rows_of (role_of s n (life_in run.past n) (past_at run n) own kind) (moment_in s.start run.past))) run
+      rows_there own (OfCorrespondent room) is = refl
+      rows_there own OfAgent is = absurd cc
+      rows_there own OfMobile is = absurd cc
 
   pub at_shown : (rows : List Row) → IsAt (with_entries (map (row_entry n) rows) e) s (notes (map (row_entry n) rows) run)
   at_shown rows = at_quiets (map (row_entry n) rows) e s run (by rows) at
@@ -140,23 +147,50 @@ module _ (e : EngineSeen) (s : Setup) (run : Run) (at : IsAt e s run) (n : ℕ) 
           set_there e.nodes n m c other ∙ at.nodes m
           ∙ ap (λ (p : List (Stamped Step)). option_map (node_of s m (life_in run.past m) p) (slice_get s.hosts m)) (sym (get_or-set_other run.pasts n m past [] other))
 
-  -- a node that has done a turn
-  pub at_acted : (c : NodeSeen) → slice_get e.nodes n ≡ Some c → (call : Call)
-      → IsAt (acted call n c e) s (with_past n (with_turn (past_at run n) (turn_at c.role e.moment call)) run)
-  at_acted c there call =
-      let found = host_of c there in
-      let host = found.0 in
-      let t = turn_at c.role e.moment call in
+  -- the same node
+  at_same : (c : NodeSeen) → slice_get e.nodes n ≡ Some c → IsAt (with_node n c e) s run
+  at_same c there = subst (λ (nodes : List NodeSeen). IsAt (record e { nodes = nodes }) s run) (sym (set_same e.nodes n c there)) at
+
+  -- what a node of this kind does about a call
+  of_kind : (call : Call) (own : Address) (kind : Kind) → slice_get s.hosts n ≡ Some (record { address = own; kind = kind })
+      → slice_get e.nodes n ≡ Some (node_here (record { address = own; kind = kind })) → (from : ℕ) → station_of s.links (node_here (record { address = own; kind = kind })) ≡ from
+      → Acts e s run n call (node_here (record { address = own; kind = kind })) from (moment_in s.start run.past)
+  unfolding answered
+  of_kind call own (OfCorrespondent room) is_host there from sends =
+      let host : Host = record { address = own; kind = OfCorrespondent room } in
+      let me = identity_in s run n own room in
+      let now = moment_in s.start run.past in
+      let t = turn_of me (known_in run n room) now call in
       let past = with_turn (past_at run n) t in
-      let room : host.room ≡ c.role.identity.room = ap (λ (x : NodeSeen). x.role.identity.room) found.2 in
-      let knew : c.role.known ≡ known c.role.identity.room (past_at run n) =
-      ap (λ (x : NodeSeen). x.role.known) (sym found.2) ∙ ap (λ (r : ℕ). known r (past_at run n)) room in
-      let stands = call-stands c.role.identity.room (past_at run n) c.role.known e.moment c.role.identity call (known-stands c.role.identity.room (past_at run n) c.role.known knew) in
-      let knows : t.known ≡ known host.room past = stands-known c.role.identity.room past t.known stands ∙ ap (λ (r : ℕ). known r past) (sym room) in
-      let knowing = λ (k : Known) (x : NodeSeen). with_role (record { identity = x.role.identity; known = k }) x in
-      let is_node : knowing t.known c ≡ node_of s n (life_in run.past n) past host =
-      ap (λ (k : Known). knowing k c) knows ∙ ap (λ (x : NodeSeen). knowing (known host.room past) x) (sym found.2) in
-      at_node (knowing t.known c) host past found.1 is_node
+      let c = node_here host in
+      let is_node : with_role (after_call c.role now call) c ≡ node_of s n (life_in run.past n) past host =
+      ap (λ (k : Known). let x : NodeSeen = record { host = host; life = life_in run.past n; role = Correspondent (record { identity = me; known = k }) } in x) (knows_on me now room (past_at run n) call) in
+      record {
+        next = with_past n past run;
+        stands = at_node (with_role (after_call c.role now call) c) host past is_host is_node;
+        does = ap (λ (f : ℕ). answered s n f (with_past n past run) (answers_of t.steps)) (sym sends) ∙ sym (ap (by_host s n call run) is_host);
+      }
+  of_kind call own OfAgent is_host there from sends = record {
+    next = run;
+    stands = at_same (node_here (record { address = own; kind = OfAgent })) there;
+    does = sym (ap (by_host s n call run) is_host);
+  }
+  of_kind call own OfMobile is_host there from sends = record {
+    next = run;
+    stands = at_same (node_here (record { address = own; kind = OfMobile })) there;
+    does = sym (ap (by_host s n call run) is_host);
+  }
+
+  -- what a node does about a call
+  pub acts_some : (call : Call) (c : NodeSeen) → slice_get e.nodes n ≡ Some c → (from : ℕ) → station_of e.net.links c ≡ from → Acts e s run n call c from e.moment
+  acts_some call c there from sends =
+      let found = host_of c there in
+      let here = subst (λ (x : NodeSeen). slice_get e.nodes n ≡ Some x) (sym found.2) there in
+      let from_here : station_of s.links (node_here found.0) ≡ from =
+      ap (λ (x : NodeSeen). station_of s.links x) found.2 ∙ ap (λ (q : Asked). station_of q.links c) (sym at.asked) ∙ sends in
+      subst (λ (now : ℕ). Acts e s run n call c from now) (sym at.now)
+      (subst (λ (x : NodeSeen). Acts e s run n call x from (moment_in s.start run.past)) found.2
+      (of_kind call found.0.address found.0.kind found.1 here from from_here))
 
 -- time goes on
 pub at_passed : (e : EngineSeen) (s : Setup) (run : Run) (ms : ℕ) → IsAt e s run
@@ -190,14 +224,15 @@ lived_on n m life other = grind (arith, nat_tests, other)
 -- a node begins its next life
 pub at_restarted : (e : EngineSeen) (s : Setup) (run : Run) (n : ℕ) (c : NodeSeen) → IsAt e s run → slice_get e.nodes n ≡ Some c
     → IsAt (with_entry (Restarted (node_id n)) (reborn n c e)) s (restarted run n)
-unfolding restarted known
+unfolding restarted
 at_restarted e s run n c at there =
     let found = host_of e s run at n c there in
     let host = found.0 in
     let y = Restarted (node_id n) in
     let inside = slice_get_within s.hosts n host found.1 in
     let is_node : new_node e.seed n (suc c.life) c.host ≡ node_of s n (suc (life_in run.past n)) [] host =
-    ap (λ (x : NodeSeen). new_node e.seed n (suc x.life) x.host) (sym found.2) ∙ ap (λ (seed : List ℕ). new_node seed n (suc (life_in run.past n)) host) at.seed in
+    ap (λ (x : NodeSeen). new_node e.seed n (suc x.life) x.host) (sym found.2) ∙ ap (λ (seed : List ℕ). new_node seed n (suc (life_in run.past n)) host) at.seed
+    ∙ born s n (suc (life_in run.past n)) host in
     record {
       seed = at.seed;
       asked = at.asked ∙ sym (asked-same s run.past y (record { holder = λ a. refl; declared = λ by. refl }));
@@ -271,13 +306,13 @@ at_restarted_nowhere e s run n at none =
         ∙ ap (λ (p : List (Stamped Step)). option_map (node_at m p) (slice_get s.hosts m)) (sym (get_or-set_other run.pasts n m [] [] other))
 
 -- engines stay calm
-pub calm_set : (nodes : List NodeSeen) (now n : ℕ) (c : NodeSeen) → IsCalm nodes now → c.role.known.last.0 ≤ now → IsCalm (slice_set nodes n c) now
+pub calm_set : (nodes : List NodeSeen) (now n : ℕ) (c : NodeSeen) → IsCalm nodes now → last_of c.role ≤ now → IsCalm (slice_set nodes n c) now
 calm_set nodes now n c calm early = record { early = calm.early; later = by nodes n calm.later }
   where
-    by : (xs : List NodeSeen) (i : ℕ) → ((m : ℕ) (x : NodeSeen) → slice_get xs m ≡ Some x → x.role.known.last.0 ≤ now)
-        → (m : ℕ) (x : NodeSeen) → slice_get (slice_set xs i c) m ≡ Some x → x.role.known.last.0 ≤ now
+    by : (xs : List NodeSeen) (i : ℕ) → ((m : ℕ) (x : NodeSeen) → slice_get xs m ≡ Some x → last_of x.role ≤ now)
+        → (m : ℕ) (x : NodeSeen) → slice_get (slice_set xs i c) m ≡ Some x → last_of x.role ≤ now
     by [] i all m x found = absurd cc
-    by (y ∷ ys) zero all zero x found = let same : c ≡ x = cc in subst (λ (z : NodeSeen). z.role.known.last.0 ≤ now) same early
+    by (y ∷ ys) zero all zero x found = let same : c ≡ x = cc in subst (λ (z : NodeSeen). last_of z.role ≤ now) same early
     by (y ∷ ys) zero all (suc m) x found = all (suc m) x found
     by (y ∷ ys) (suc i) all zero x found = all zero x found
     by (y ∷ ys) (suc i) all (suc m) x found = by ys i (λ m x found. all (suc m) x found) m x found
@@ -285,12 +320,12 @@ calm_set nodes now n c calm early = record { early = calm.early; later = by node
 pub calm_later : (nodes : List NodeSeen) (now ms : ℕ) → IsCalm nodes now → now + ms < 2 ^ 62 → IsCalm nodes (now + ms)
 calm_later nodes now ms calm early = record { early = early; later = λ n c found. let l = calm.later n c found in omega arith }
 
-pub calm_push : (nodes : List NodeSeen) (now : ℕ) (c : NodeSeen) → IsCalm nodes now → c.role.known.last.0 ≤ now → IsCalm (nodes ++ c ∷ []) now
+pub calm_push : (nodes : List NodeSeen) (now : ℕ) (c : NodeSeen) → IsCalm nodes now → last_of c.role ≤ now → IsCalm (nodes ++ c ∷ []) now
 calm_push nodes now c calm early = record { early = calm.early; later = by nodes calm.later }
   where
-    by : (xs : List NodeSeen) → ((m : ℕ) (x : NodeSeen) → slice_get xs m ≡ Some x → x.role.known.last.0 ≤ now)
-        → (m : ℕ) (x : NodeSeen) → slice_get (xs ++ c ∷ []) m ≡ Some x → x.role.known.last.0 ≤ now
-    by [] all zero x found = let same : c ≡ x = cc in subst (λ (z : NodeSeen). z.role.known.last.0 ≤ now) same early
+    by : (xs : List NodeSeen) → ((m : ℕ) (x : NodeSeen) → slice_get xs m ≡ Some x → last_of x.role ≤ now)
+        → (m : ℕ) (x : NodeSeen) → slice_get (xs ++ c ∷ []) m ≡ Some x → last_of x.role ≤ now
+    by [] all zero x found = let same : c ≡ x = cc in subst (λ (z : NodeSeen). last_of z.role ≤ now) same early
     by [] all (suc m) x found = absurd cc
     by (y ∷ ys) all zero x found = all zero x found
     by (y ∷ ys) all (suc m) x found = by ys (λ m x found. all (suc m) x found) m x found

@@ -10,10 +10,10 @@ use Rattle.mip_entries.specs.declared.entry.Entry.TheVariants.{Claimed}
 use Rattle.mip_links.specs.Table.{Asked, link_of}
 use Rattle.mip_links.specs.Nets.{hears_of, spot, declared_of, claimed}
 use Rattle.mip_rules_correspondent.specs.Steps.{Step}
-use Rattle.mip_rules_correspondent.specs.Questions.{known}
 use Rattle.mip_schedule.specs.declared.declaration.Declaration.{Declaration}
 use Rattle.mip_schedule.specs.declared.declaration.Declaration.TheVariants as declare
 use Rattle.mip_history.specs.Setup.{Setup, Host, links_in, hosts_in, outsiders_in}
+use Rattle.mip_history.specs.Setup.Kind.{Correspondent as OfCorrespondent, Agent as OfAgent, Mobile as OfMobile}
 use Rattle.mip_history.specs.Runs.{note}
 use Rattle.mip_history.specs.Questions.{life_in, asked_in, hears_in, moment_in}
 use Rattle.mip_history.specs.Nodes.{past_at, link_or_first}
@@ -22,10 +22,11 @@ use Rattle.mip_history.specs.Permitted.{claims_from, opened}
 use Rattle.mip_replay.specs.Engines.{NodeSeen, EngineSeen, new_engine, new_node, joined, with_entry, with_net}
 use Rattle.mip_replay.specs.Standing.{IsAt, node_of}
 use Rattle.mip_replay.proofs.ClaimLaws.{at_claimed}
+use Rattle.mip_replay.proofs.RoleLaws.{born}
 
 -- these nodes alone
 abbrev pub with_hosts : List Host → Setup → Setup
-with_hosts hosts s = record { seed = s.seed; start = s.start; links = s.links; hosts = hosts; outsiders = s.outsiders }
+with_hosts hosts s = record s { hosts = hosts }
 
 none_first : (n by : ℕ) → declared_of (replicate n None) by ≡ None
 none_first zero by = refl
@@ -147,9 +148,8 @@ module _ (e : EngineSeen) (s : Setup) (hosts : List Host) (host : Host) (small :
       ∙ ap (λ (past : List (Stamped Step)). option_map (node_of s m 0 past) (slice_get hosts m)) (no_pasts hosts m)
 
   new_is : new_node e.seed (length e.nodes) 0 host ≡ node (length hosts) host
-  unfolding known
   new_is =
-      ap (λ (n : ℕ). new_node e.seed n 0 host) n_is ∙ ap (λ (seed : List ℕ). new_node seed (length hosts) 0 host) at.seed
+      ap (λ (n : ℕ). new_node e.seed n 0 host) n_is ∙ ap (λ (seed : List ℕ). new_node seed (length hosts) 0 host) at.seed ∙ born s (length hosts) 0 host
 
   are : (m : ℕ) → slice_get (e.nodes ++ new_node e.seed (length e.nodes) 0 host ∷ []) m
       ≡ option_map (node_of s m (life_in (opened after).past m) (past_at (opened after) m)) (slice_get (hosts ++ host ∷ []) m)
@@ -192,10 +192,10 @@ links_in-append (declare.Outsider name ∷ xs) ys = links_in-append xs ys
 pub hosts_in-append : (xs ys : List Declaration) → hosts_in (xs ++ ys) ≡ hosts_in xs ++ hosts_in ys
 hosts_in-append [] ys = refl
 hosts_in-append (declare.Link name prefix ∷ xs) ys = hosts_in-append xs ys
-hosts_in-append (declare.Agent name link address preference life room ∷ xs) ys = hosts_in-append xs ys
+hosts_in-append (declare.Agent name link address preference life room ∷ xs) ys = ap (λ (l : List Host). record { address = address; kind = OfAgent } ∷ l) (hosts_in-append xs ys)
 hosts_in-append (declare.Correspondent name link address room ∷ xs) ys =
-    ap (λ (l : List Host). record { address = address; room = room } ∷ l) (hosts_in-append xs ys)
-hosts_in-append (declare.Mobile name link address agent ∷ xs) ys = hosts_in-append xs ys
+    ap (λ (l : List Host). record { address = address; kind = OfCorrespondent room } ∷ l) (hosts_in-append xs ys)
+hosts_in-append (declare.Mobile name link address agent ∷ xs) ys = ap (λ (l : List Host). record { address = address; kind = OfMobile } ∷ l) (hosts_in-append xs ys)
 hosts_in-append (declare.Serve agent mobile ∷ xs) ys = hosts_in-append xs ys
 hosts_in-append (declare.Outsider name ∷ xs) ys = hosts_in-append xs ys
 

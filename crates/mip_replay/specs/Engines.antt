@@ -8,16 +8,16 @@ use Rattle.mip_links.specs.Nets.{NetSeen, new_net, hears_of, claimed, refusal, h
 use Rattle.mip_links.specs.Table.{link_of}
 use Rattle.mip_links.specs.declared.claim_fault.ClaimFault.{ClaimFault}
 use Rattle.mip_rules_correspondent.specs.Calls.{Call}
-use Rattle.mip_rules_correspondent.specs.Questions.{fresh}
-use Rattle.mip_rules_correspondent.specs.Seen.{CorrespondentSeen, called}
 use Rattle.mip_history.specs.Setup.{Host}
 use Rattle.mip_history.specs.Posting.{heards, is_other}
+use Rattle.mip_replay.specs.declared.role.Role.{Role}
+use Rattle.mip_replay.specs.Roles.{last_of, after_call, new_role}
 
 -- a node: what it was declared with, how often it was restarted, and its role
 pub record NodeSeen : Type 0 where
   pub host : Host
   pub life : ℕ
-  pub role : CorrespondentSeen
+  pub role : Role
 
 pub record EngineSeen : Type 0 where
   pub seed : List ℕ
@@ -30,7 +30,7 @@ pub record EngineSeen : Type 0 where
 -- no node was called at a later moment, and moments stay far from the last one
 pub record IsCalm (nodes : List NodeSeen) (now : ℕ) : Type 0 where
   pub early : now < 2 ^ 62
-  pub later : (n : ℕ) (c : NodeSeen) → slice_get nodes n ≡ Some c → c.role.known.last.0 ≤ now
+  pub later : (n : ℕ) (c : NodeSeen) → slice_get nodes n ≡ Some c → last_of c.role ≤ now
 
 abbrev pub with_entries : List Entry → EngineSeen → EngineSeen
 with_entries entries e =
@@ -50,19 +50,12 @@ abbrev pub at_moment : ℕ → EngineSeen → EngineSeen
 at_moment now e = record e { moment = now }
 
 -- a node with its role as it is now
-abbrev pub with_role : CorrespondentSeen → NodeSeen → NodeSeen
+abbrev pub with_role : Role → NodeSeen → NodeSeen
 with_role role c = record { host = c.host; life = c.life; role = role }
 
 -- node n in this life, with nothing behind it
 abbrev pub new_node : List ℕ → ℕ → ℕ → Host → NodeSeen
-new_node seed n life host = record {
-  host = host;
-  life = life;
-  role = record {
-    identity = record { own = host.address; secrets = record { seed = seed; node = n; life = life }; room = host.room };
-    known = fresh host.room;
-  };
-}
+new_node seed n life host = record { host = host; life = life; role = new_role seed n life host.address host.kind }
 
 -- node n in its next life
 abbrev pub reborn : ℕ → NodeSeen → EngineSeen → EngineSeen
@@ -81,7 +74,7 @@ joined host e = record {
 
 -- node n has done what it was asked
 abbrev pub acted : Call → ℕ → NodeSeen → EngineSeen → EngineSeen
-acted call n c e = with_node n (with_role (called c.role e.moment call) c) e
+acted call n c e = with_node n (with_role (after_call c.role e.moment call) c) e
 
 -- the link that a node sends from
 abbrev pub station_of : List ℕ → NodeSeen → ℕ

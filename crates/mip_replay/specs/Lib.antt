@@ -9,3 +9,5 @@ pub mod Ready
 pub mod Joining
 pub mod Groups
 pub mod Calls
+pub mod Hosts
+pub mod Roles

@@ -4,22 +4,27 @@ use Rattle.mip_entries.specs.Stamped.{Stamped}
 use Rattle.mip_links.specs.Nets.{asked_of, hears_of}
 use Rattle.mip_rules_correspondent.specs.Steps.{Step}
 use Rattle.mip_rules_correspondent.specs.Questions.{known}
-use Rattle.mip_history.specs.Setup.{Setup, Host}
+use Rattle.mip_words.specs.declared.address.Address.{Address}
+use Rattle.mip_history.specs.Setup.{Setup, Host, Kind}
+use Rattle.mip_history.specs.Setup.Kind.{Correspondent as OfCorrespondent, Agent as OfAgent, Mobile as OfMobile}
+use Rattle.mip_replay.specs.declared.role.Role.{Role}
+use Rattle.mip_replay.specs.declared.role.Role.TheVariants.{Correspondent, Agent, Mobile}
 use Rattle.mip_history.specs.Runs.{Run}
 use Rattle.mip_history.specs.Questions.{moment_in, hears_in, life_in, asked_in}
 use Rattle.mip_history.specs.Nodes.{past_at}
 use Rattle.mip_replay.specs.Engines.{NodeSeen, EngineSeen}
 
 -- node n in this life, after this past
+abbrev pub role_of : Setup → ℕ → ℕ → List (Stamped Step) → Address → Kind → Role
+role_of s n life past own (OfCorrespondent room) = Correspondent (record {
+  identity = record { own = own; secrets = record { seed = s.seed; node = n; life = life }; room = room };
+  known = known room past;
+})
+role_of s n life past own OfAgent = Agent
+role_of s n life past own OfMobile = Mobile
+
 abbrev pub node_of : Setup → ℕ → ℕ → List (Stamped Step) → Host → NodeSeen
-node_of s n life past host = record {
-  host = host;
-  life = life;
-  role = record {
-    identity = record { own = host.address; secrets = record { seed = s.seed; node = n; life = life }; room = host.room };
-    known = known host.room past;
-  };
-}
+node_of s n life past host = record { host = host; life = life; role = role_of s n life past host.address host.kind }
 
 pub record IsAt (e : EngineSeen) (s : Setup) (run : Run) : Type 0 where
   pub seed : e.seed ≡ s.seed

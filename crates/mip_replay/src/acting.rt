@@ -1,20 +1,19 @@
 //! Nodes act: they do what they are asked, restart, and show what they keep.
 
 ghost use Rattle.std.specs.Prelude.{◌≡◌, ◌+◌, ◌<◌, ◌^◌, length, [], ◌∷◌, map, Some, OnOk, slice_get};
-ghost use Rattle.mip_bcache.specs.Seen.{kept_at};
 ghost use Rattle.mip_history.specs.Setup.{Setup};
 ghost use Rattle.mip_history.specs.Runs.{Run};
 ghost use Rattle.mip_history.specs.Nodes.{acts, row_entry, shown};
 ghost use Rattle.mip_history.specs.Permitted.{restarted, waited};
 ghost use Rattle.mip_replay.specs.Engines.{NodeSeen, with_entries};
 ghost use Rattle.mip_replay.specs.Calls.{asked, IsAskable};
+ghost use Rattle.mip_replay.specs.Roles.{rows_of};
 ghost use Rattle.mip_replay.specs.Standing.{IsAt};
 
 use crate::call::Call;
 use crate::engine::Engine;
 use mip_bcache::Row;
 use mip_entries::Entry;
-use mip_rules_correspondent::answers_are_whole;
 use mip_words::{Memory, NodeId};
 use std::alloc::Global;
 
@@ -36,7 +35,6 @@ impl Engine {
             Some(from) => from,
             None => return self.note(Entry::Idle),
         };
-        answers_are_whole();
         let answers = self.ask_node(alloc, node, call)?;
         self.answer(alloc, node, from, answers)
     }
@@ -76,7 +74,7 @@ impl Engine {
     }
 
     fn show_rows(&mut self, node: NodeId) -> Result<(), Memory>
-        ensures { (c : NodeSeen) → slice_get self.old.nodes node.0 ≡ Some c → OnOk result (self.new ≡ with_entries (map (row_entry node.0) (kept_at c.role.known.cache self.old.moment)) self.old) }
+        ensures { (c : NodeSeen) → slice_get self.old.nodes node.0 ≡ Some c → OnOk result (self.new ≡ with_entries (map (row_entry node.0) (rows_of c.role self.old.moment)) self.old) }
     {
         for place in 0..u32::MAX {
             let Some(row) = self.row(node, place) else {
@@ -91,9 +89,9 @@ impl Engine {
     pub(crate) fn show(&mut self, node: NodeId) -> Result<(), Memory>
         ensures { (s : Setup) (run : Run) → IsAt self.old s run → OnOk result (IsAt self.new s (shown s node.0 run)) }
     {
-        match self.station(node) {
-            Some(_) => self.show_rows(node),
-            None => self.note(Entry::Idle),
+        if self.is_correspondent(node) {
+            return self.show_rows(node);
         }
+        self.note(Entry::Idle)
     }
 }

@@ -1,14 +1,13 @@
 ghost use Rattle.std.specs.Prelude.{◌≡◌, ◌+◌, ◌<◌, ◌≤◌, ◌^◌, ℕ, Bool, not, true, false, if◌then◌else◌, length, map, IfOk, IfSome, OnOk, Option, None, Some, is_some, option_copied, option_map, slice_get, slice_index_or};
+ghost use Rattle.std.specs.Option.{option_map_or};
 ghost use Rattle.mip_entries.specs.declared.entry.Entry.TheVariants.{At};
-ghost use Rattle.mip_bcache.specs.Seen.{kept_at};
 ghost use Rattle.mip_links.specs.Table.{Post, link_of, destination_in, in_pool};
 ghost use Rattle.mip_links.specs.Nets.{hears_of, holder_of, is_held_by, left, lowest_of, posted, with_hearing};
-ghost use Rattle.mip_rules_correspondent.specs.Steps.{answers_of};
-ghost use Rattle.mip_rules_correspondent.specs.Seen.{turn_at};
 ghost use Rattle.mip_history.specs.Delivery.{handed_over, other_link};
 ghost use Rattle.mip_history.specs.Outsiders.{claim_entry};
 ghost use Rattle.mip_replay.specs.Arrivals.{arrival_of, arrival_seen};
 ghost use Rattle.mip_replay.specs.Calls.{asked, IsAskable};
+ghost use Rattle.mip_replay.specs.Roles.{is_correspondent, answers_to, rows_of};
 ghost use Rattle.mip_replay.specs.Engines.{NodeSeen, new_engine, with_entry, with_net, at_moment, acted, reborn, joined, station_of, claim_tried, released};
 
 use crate::arrival::{Arrival, arrival_of};
@@ -109,6 +108,16 @@ impl Engine {
         match self.net.link_of(node.address()) {
             Some(link) => Some(link),
             None => Some(LinkId(0)),
+        }
+    }
+
+    /// Whether there is such a node, and it is a correspondent.
+    pub(crate) fn is_correspondent(&self, node: NodeId) -> bool
+        ensures { result ≡ option_map_or (λ c. is_correspondent c.role) (slice_get self.now.nodes node.0) false }
+    {
+        match self.nodes.get(usize::from(node.0)) {
+            Some(node) => node.is_correspondent(),
+            None => false,
         }
     }
 
@@ -258,7 +267,7 @@ impl Engine {
     ) -> Result<Answers, Memory>
         requires node { node.0 < length self.old.nodes }
         requires askable { IsAskable call }
-        ensures answers { (c : NodeSeen) → slice_get self.old.nodes node.0 ≡ Some c → IfOk result (λ a. a ≡ answers_of (turn_at c.role self.old.moment (asked call.entry)).steps) }
+        ensures answers { (c : NodeSeen) → slice_get self.old.nodes node.0 ≡ Some c → IfOk result (λ a. a ≡ answers_to c.role self.old.moment (asked call.entry)) }
         ensures after { (c : NodeSeen) → slice_get self.old.nodes node.0 ≡ Some c → OnOk result (self.new ≡ acted (asked call.entry) node.0 c self.old) }
     {
         let place = usize::from(node.0);
@@ -280,8 +289,8 @@ impl Engine {
     /// The row at a place among those that a node keeps, in order of home address.
     #[tactic(auto, using(std::proofs::lemmas::Option::get_or_from_slice_get))]
     pub(crate) fn row(&self, node: NodeId, place: u32) -> Option<Row>
-        ensures found { (c : NodeSeen) → slice_get self.now.nodes node.0 ≡ Some c → result ≡ slice_get (kept_at c.role.known.cache self.now.moment) place }
-        ensures few { (c : NodeSeen) → slice_get self.now.nodes node.0 ≡ Some c → length (kept_at c.role.known.cache self.now.moment) < 2 ^ 32 }
+        ensures found { (c : NodeSeen) → slice_get self.now.nodes node.0 ≡ Some c → result ≡ slice_get (rows_of c.role self.now.moment) place }
+        ensures few { (c : NodeSeen) → slice_get self.now.nodes node.0 ≡ Some c → length (rows_of c.role self.now.moment) < 2 ^ 32 }
     {
         let node = self.nodes.get(usize::from(node.0))?;
         match node.row(self.moment, place) {

@@ -1,28 +1,31 @@
 ghost use Rattle.std.specs.Prelude.{◌≡◌};
+ghost use Rattle.mip_replay.specs.Hosts.{kind_of};
 
+use crate::kind::Kind;
 use mip_words::Address;
 use std::marker::Model;
 
-/// A correspondent as a schedule declares it: its address, and how many homes its binding cache keeps.
+/// A node as a schedule declares it: its address, which is the home address of a mobile, and what it is.
 #[derive(Drop)]
 pub(crate) struct Host {
     address: Address,
-    room: u32,
+    kind: Kind,
 }
 
 impl Model for Host {
     ghost use Rattle.mip_history.specs.Setup.{Host as HostSeen};
+    ghost use Rattle.mip_replay.specs.Hosts.{kind_of};
 
     ghost Value = { HostSeen };
 
-    ghost view = { λ h. record { address = h.address; room = h.room } };
+    ghost view = { λ h. record { address = h.address; kind = kind_of h.kind } };
 }
 
 impl Host {
-    pub(crate) fn new(address: Address, room: u32) -> Host
-        ensures { result ≡ record { address = address; room = room } }
+    pub(crate) fn new(address: Address, kind: Kind) -> Host
+        ensures { result ≡ record { address = address; kind = kind_of kind } }
     {
-        Host { address, room }
+        Host { address, kind }
     }
 
     pub(crate) fn address(&self) -> Address
@@ -31,9 +34,9 @@ impl Host {
         self.address
     }
 
-    pub(crate) fn room(&self) -> u32
-        ensures { result ≡ self.now.room }
+    pub(crate) fn kind(&self) -> Kind
+        ensures { kind_of result ≡ self.now.kind }
     {
-        self.room
+        self.kind
     }
 }

@@ -1,16 +1,13 @@
 ghost use Rattle.std.specs.Prelude.{◌≡◌, ◌+◌, ◌<◌, ◌≤◌, ◌^◌, suc, length, IfOk, OnOk, OnErr, option_copied, slice_get};
-ghost use Rattle.mip_bcache.specs.Seen.{kept_at};
-ghost use Rattle.mip_rules_correspondent.specs.Steps.{answers_of};
-ghost use Rattle.mip_rules_correspondent.specs.Seen.{turn_at, called};
 ghost use Rattle.mip_replay.specs.Calls.{asked, IsAskable};
 ghost use Rattle.mip_replay.specs.Engines.{new_node, with_role};
+ghost use Rattle.mip_replay.specs.Roles.{is_correspondent, last_of, answers_to, after_call, rows_of};
 
 use crate::call::Call;
 use crate::host::Host;
+use crate::role::Role;
 use mip_bcache::Row;
-use mip_correspondent::Correspondent;
 use mip_entries::Answers;
-use mip_nonce::Secrets;
 use mip_words::{Address, Memory, Moment, NodeId};
 use std::alloc::Global;
 use std::marker::Model;
@@ -20,7 +17,7 @@ use std::marker::Model;
 pub(crate) struct Node {
     host: Host,
     life: u32,
-    role: Correspondent,
+    role: Role,
 }
 
 impl Model for Node {
@@ -41,9 +38,8 @@ impl Node {
     ) -> Result<Node, Memory>
         ensures { IfOk result (λ c. c ≡ new_node seed.now node.0 life host.now) }
     {
-        let secrets = Secrets::new(seed, node, life);
-        let role = Correspondent::new(alloc, host.address(), secrets, host.room())?;
-        let host = Host::new(host.address(), host.room());
+        let role = Role::new(alloc, seed, node, life, host.address(), host.kind())?;
+        let host = Host::new(host.address(), host.kind());
         Ok(Node { host, life, role })
     }
 
@@ -67,6 +63,12 @@ impl Node {
         self.host.address()
     }
 
+    pub(crate) fn is_correspondent(&self) -> bool
+        ensures { result ≡ is_correspondent self.now.role }
+    {
+        self.role.is_correspondent()
+    }
+
     /// The node is asked something.
     pub(crate) fn act(
         &mut self,
@@ -74,30 +76,22 @@ impl Node {
         now: Moment,
         call: Call<'_>,
     ) -> Result<Answers, Memory>
-        requires later { self.old.role.known.last.0 ≤ now.0 }
+        requires later { last_of self.old.role ≤ now.0 }
         requires early { now.0 < 2 ^ 62 }
         requires askable { IsAskable call }
-        ensures answers { IfOk result (λ a. a ≡ answers_of (turn_at self.old.role now.0 (asked call.entry)).steps) }
-        ensures after { OnOk result (self.new ≡ with_role (called self.old.role now.0 (asked call.entry)) self.old) }
+        ensures answers { IfOk result (λ a. a ≡ answers_to self.old.role now.0 (asked call.entry)) }
+        ensures after { OnOk result (self.new ≡ with_role (after_call self.old.role now.0 (asked call.entry)) self.old) }
         ensures err { OnErr result (self.new ≡ self.old) }
-        ensures timely { self.new.role.known.last.0 ≤ now.0 }
+        ensures timely { last_of self.new.role ≤ now.0 }
     {
-        match call {
-            Call::Take {
-                number,
-                shield,
-                packet,
-            } => self.role.take(alloc, now, number, shield, packet),
-            Call::Send { to, proto, payload } => self.role.send(alloc, now, to, proto, payload),
-            Call::Refresh { home } => self.role.refresh(alloc, now, home),
-        }
+        self.role.act(alloc, now, call)
     }
 
     /// The row at a place among those kept, in order of home address.
     pub(crate) fn row(&self, now: Moment, place: u32) -> Option<&Row>
-        requires { self.now.role.known.last.0 ≤ now.0 }
-        ensures found { option_copied result ≡ slice_get (kept_at self.now.role.known.cache now.0) place }
-        ensures few { length (kept_at self.now.role.known.cache now.0) < 2 ^ 32 }
+        requires { last_of self.now.role ≤ now.0 }
+        ensures found { option_copied result ≡ slice_get (rows_of self.now.role now.0) place }
+        ensures few { length (rows_of self.now.role now.0) < 2 ^ 32 }
     {
         self.role.row(now, place)
     }

@@ -12,6 +12,7 @@ ghost use Rattle.mip_replay.specs.Standing.{IsAt};
 
 use crate::engine::Engine;
 use crate::host::Host;
+use crate::kind::Kind;
 use mip_schedule::{Declaration, Schedule};
 use mip_words::{Memory, Prefix};
 use std::alloc::Global;
@@ -44,11 +45,14 @@ fn add_host(hosts: &mut Vec<Host>, d: &Declaration) -> Result<(), Memory>
 {
     match d {
         Declaration::Correspondent { address, room, .. } => {
-            hosts.push(Host::new(*address, *room))?;
-            Ok(())
+            let kind = Kind::Correspondent { room: *room };
+            hosts.push(Host::new(*address, kind))?;
         }
-        _ => Ok(()),
+        Declaration::Agent { address, .. } => hosts.push(Host::new(*address, Kind::Agent))?,
+        Declaration::Mobile { address, .. } => hosts.push(Host::new(*address, Kind::Mobile))?,
+        _ => {}
     }
+    Ok(())
 }
 
 #[tactic(auto, using(crate::proofs::OpenLaws::hosts_more))]
