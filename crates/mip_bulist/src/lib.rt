@@ -1,0 +1,19 @@
+//! Return routability with one peer in typed states (RFC 6275 sections 5.2 and 11.6): an update is made
+//! only by a trial that has the tokens that its aim needs.
+#![tactic(auto)]
+
+mod aim;
+mod any;
+mod made;
+mod recent;
+mod refused;
+mod state;
+mod tests;
+mod trial;
+
+pub use aim::Aim;
+pub use any::Any;
+pub use made::Made;
+pub use refused::Refused;
+pub use state::{Bound, Idle, Pending, Probing, Proved, State};
+pub use trial::{Ended, Probe, Trial};
