@@ -27,7 +27,7 @@ use Rattle.mip_says.specs.Says.{Key, update_said, said_by, says}
 use Rattle.mip_says.specs.Says.Carried.{Update, Other}
 use Rattle.mip_rules_correspondent.specs.declared.request.Request.{Request}
 use Rattle.mip_rules_correspondent.specs.Requests.{request, request_said, request_in}
-use Rattle.mip_history.proofs.Taken.{update_read}
+use Rattle.mip_rules_correspondent.proofs.Taken.{update_read}
 
 -- bytes end with the 12 of an authenticator
 record EndsWith (bytes a : List ℕ) : Type 0 where

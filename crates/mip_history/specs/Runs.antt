@@ -17,19 +17,19 @@ pub record Run : Type 0 where
 
 -- entries are left
 abbrev pub notes : List Entry → Run → Run
-notes entries run = record { past = run.past ++ entries; pasts = run.pasts; posts = run.posts; flying = run.flying }
+notes entries run = record run { past = run.past ++ entries }
 
 abbrev pub note : Entry → Run → Run
 note entry run = notes (entry ∷ []) run
 
 -- a packet enters the pool
 abbrev pub entered : Post → Run → Run
-entered post run = record { past = run.past; pasts = run.pasts; posts = run.posts ++ post ∷ []; flying = run.flying ++ true ∷ [] }
+entered post run = record run { posts = run.posts ++ post ∷ []; flying = run.flying ++ true ∷ [] }
 
 -- and leaves it
 abbrev pub without : ℕ → Run → Run
-without k run = record { past = run.past; pasts = run.pasts; posts = run.posts; flying = slice_set run.flying k false }
+without k run = record run { flying = slice_set run.flying k false }
 
 -- the past of a node goes on, or begins anew
 abbrev pub with_past : ℕ → List (Stamped Step) → Run → Run
-with_past n past run = record { past = run.past; pasts = slice_set run.pasts n past; posts = run.posts; flying = run.flying }
+with_past n past run = record run { pasts = slice_set run.pasts n past }

@@ -6,23 +6,19 @@ use Rattle.std.proofs.lemmas.List.{get_or-set_same, get_or-set_other, map_push}
 use Rattle.std.proofs.lemmas.List.Sums.{fold-append}
 use Rattle.std.proofs.lemmas.Option.{slice_get_within}
 use Rattle.std.specs.Prelude.{Option, Some, None, option_map, slice_get, slice_set, slice_index_or, map, take, fold, if◌then◌else◌}
-use Rattle.mip_words.specs.declared.address.Address.{Address}
-use Rattle.mip_words.specs.declared.shield.Shield.{Shield}
 use Rattle.mip_entries.specs.Stamped.{Stamped}
 use Rattle.mip_entries.specs.Completed.{node_id}
 use Rattle.mip_entries.specs.declared.entry.Entry.{Entry}
 use Rattle.mip_entries.specs.declared.entry.Entry.TheVariants.{Idle, Restarted, At}
 use Rattle.mip_links.specs.Table.{Asked}
-use Rattle.mip_rules_correspondent.specs.declared.identity.Identity.{Identity}
 use Rattle.mip_rules_correspondent.specs.declared.known.Known.{Known}
-use Rattle.mip_rules_correspondent.specs.Steps.{Step, answers_of, is_tick, is_call}
-use Rattle.mip_rules_correspondent.specs.Questions.{known, after}
-use Rattle.mip_rules_correspondent.specs.Stands.{Stands, with_turn}
-use Rattle.mip_rules_correspondent.specs.Turns.{Turn, begun, noted}
-use Rattle.mip_rules_correspondent.specs.Calls.{taken, refreshed, transmitted}
-use Rattle.mip_rules_correspondent.proofs.Calls.{taken-stands, refreshed-stands, transmitted-stands}
-use Rattle.mip_rules_correspondent.proofs.Wholes.{SendsLong}
-use Rattle.mip_rules_correspondent.proofs.Walks.{every-takes, every-refreshes, every-transmits}
+use Rattle.mip_rules_correspondent.specs.Steps.{Step, answers_of}
+use Rattle.mip_rules_correspondent.specs.Questions.{known}
+use Rattle.mip_rules_correspondent.specs.Turns.{with_turn}
+use Rattle.mip_rules_correspondent.specs.Calls.{Call}
+use Rattle.mip_rules_correspondent.specs.Seen.{turn_at}
+use Rattle.mip_rules_correspondent.proofs.Pasts.{stands-known, known-stands}
+use Rattle.mip_rules_correspondent.proofs.Calls.{call-stands}
 use Rattle.mip_history.specs.Setup.{Setup, Host}
 use Rattle.mip_history.specs.Runs.{Run, note, notes, with_past}
 use Rattle.mip_history.specs.Questions.{life_in, moment_in, restarts}
@@ -34,7 +30,7 @@ use Rattle.std.specs.List.{AllByRecursion}
 use Rattle.mip_replay.specs.Quiet.{IsQuiet}
 use Rattle.mip_replay.proofs.PostingLaws.{at_quiets, quiet_row, with_more}
 use Rattle.mip_history.specs.Permitted.{restarted, waited}
-use Rattle.mip_replay.specs.Engines.{NodeSeen, EngineSeen, IsCalm, with_entry, with_entries, with_node, with_known, new_node, reborn, at_moment, turn_by, turned_by, station_of}
+use Rattle.mip_replay.specs.Engines.{NodeSeen, EngineSeen, IsCalm, with_entry, with_entries, with_node, with_role, new_node, reborn, at_moment, acted, station_of}
 use Rattle.mip_replay.specs.Standing.{IsAt, node_of}
 use Rattle.mip_replay.proofs.QuietLaws.{life-push, moment-push, asked-same, hears-same, history-same, take_one}
 
@@ -68,13 +64,13 @@ module _ (e : EngineSeen) (s : Setup) (run : Run) (at : IsAt e s run) (n : ℕ) 
   host_of c there = map_some node_here (slice_get s.hosts n) c (sym (at.nodes n) ∙ there)
 
   -- nothing is done where there is no node
-  pub acts_none : (call : Identity → Known → ℕ → Turn) → slice_get e.nodes n ≡ None → acts s n call run ≡ note Idle run
+  pub acts_none : (call : Call) → slice_get e.nodes n ≡ None → acts s n call run ≡ note Idle run
   acts_none call none = ap (by_host s n call run) (map_none node_here (slice_get s.hosts n) (sym (at.nodes n) ∙ none))
 
   -- and else its turn is done
-  pub acts_some : (call : Identity → Known → ℕ → Turn) (c : NodeSeen) → slice_get e.nodes n ≡ Some c
+  pub acts_some : (call : Call) (c : NodeSeen) → slice_get e.nodes n ≡ Some c
       → acts s n call run
-      ≡ answered s n (station_of e.net.links c) (with_past n (with_turn (past_at run n) (turn_by call c e.moment)) run) (answers_of (turn_by call c e.moment).steps)
+      ≡ answered s n (station_of e.net.links c) (with_past n (with_turn (past_at run n) (turn_at c.role e.moment call)) run) (answers_of (turn_at c.role e.moment call).steps)
   acts_some call c there =
       let found = host_of c there in
       ap (by_host s n call run) found.1
@@ -84,14 +80,14 @@ module _ (e : EngineSeen) (s : Setup) (run : Run) (at : IsAt e s run) (n : ℕ) 
     where
       done : List ℕ → NodeSeen → ℕ → Run
       done links x now =
-          answered s n (station_of links x) (with_past n (with_turn (past_at run n) (turn_by call x now)) run) (answers_of (turn_by call x now).steps)
+          answered s n (station_of links x) (with_past n (with_turn (past_at run n) (turn_at x.role now call)) run) (answers_of (turn_at x.role now call).steps)
 
-  pub acts_is : (call : Identity → Known → ℕ → Turn) (c : NodeSeen) → slice_get e.nodes n ≡ Some c → (from : ℕ) (answers : List Answer)
-      → station_of e.net.links c ≡ from → answers ≡ answers_of (turn_by call c e.moment).steps
-      → answered s n from (with_past n (with_turn (past_at run n) (turn_by call c e.moment)) run) answers ≡ acts s n call run
+  pub acts_is : (call : Call) (c : NodeSeen) → slice_get e.nodes n ≡ Some c → (from : ℕ) (answers : List Answer)
+      → station_of e.net.links c ≡ from → answers ≡ answers_of (turn_at c.role e.moment call).steps
+      → answered s n from (with_past n (with_turn (past_at run n) (turn_at c.role e.moment call)) run) answers ≡ acts s n call run
   acts_is call c there from answers is_from are =
-      ap (λ (f : ℕ). answered s n f (with_past n (with_turn (past_at run n) (turn_by call c e.moment)) run) answers) (sym is_from)
-      ∙ ap (λ (xs : List Answer). answered s n (station_of e.net.links c) (with_past n (with_turn (past_at run n) (turn_by call c e.moment)) run) xs) are
+      ap (λ (f : ℕ). answered s n f (with_past n (with_turn (past_at run n) (turn_at c.role e.moment call)) run) answers) (sym is_from)
+      ∙ ap (λ (xs : List Answer). answered s n (station_of e.net.links c) (with_past n (with_turn (past_at run n) (turn_at c.role e.moment call)) run) xs) are
       ∙ sym (acts_some call c there)
 
   -- its rows are shown
@@ -145,22 +141,22 @@ module _ (e : EngineSeen) (s : Setup) (run : Run) (at : IsAt e s run) (n : ℕ) 
           ∙ ap (λ (p : List (Stamped Step)). option_map (node_of s m (life_in run.past m) p) (slice_get s.hosts m)) (sym (get_or-set_other run.pasts n m past [] other))
 
   -- a node that has done a turn
-  pub at_turned : (call : Identity → Known → ℕ → Turn) (c : NodeSeen) → slice_get e.nodes n ≡ Some c
-      → ((past : List (Stamped Step)) → Stands c.role.identity.room past c.role.known → Stands c.role.identity.room (with_turn past (turn_by call c e.moment)) (turn_by call c e.moment).known)
-      → IsAt (turned_by call n c e) s (with_past n (with_turn (past_at run n) (turn_by call c e.moment)) run)
-  unfolding Stands
-  at_turned call c there goes =
+  pub at_acted : (c : NodeSeen) → slice_get e.nodes n ≡ Some c → (call : Call)
+      → IsAt (acted call n c e) s (with_past n (with_turn (past_at run n) (turn_at c.role e.moment call)) run)
+  at_acted c there call =
       let found = host_of c there in
       let host = found.0 in
-      let t = turn_by call c e.moment in
+      let t = turn_at c.role e.moment call in
       let past = with_turn (past_at run n) t in
       let room : host.room ≡ c.role.identity.room = ap (λ (x : NodeSeen). x.role.identity.room) found.2 in
       let knew : c.role.known ≡ known c.role.identity.room (past_at run n) =
       ap (λ (x : NodeSeen). x.role.known) (sym found.2) ∙ ap (λ (r : ℕ). known r (past_at run n)) room in
-      let knows : t.known ≡ known host.room past = goes (past_at run n) knew ∙ ap (λ (r : ℕ). known r past) (sym room) in
-      let is_node : with_known t.known c ≡ node_of s n (life_in run.past n) past host =
-      ap (λ (k : Known). with_known k c) knows ∙ ap (λ (x : NodeSeen). with_known (known host.room past) x) (sym found.2) in
-      at_node (with_known t.known c) host past found.1 is_node
+      let stands = call-stands c.role.identity.room (past_at run n) c.role.known e.moment c.role.identity call (known-stands c.role.identity.room (past_at run n) c.role.known knew) in
+      let knows : t.known ≡ known host.room past = stands-known c.role.identity.room past t.known stands ∙ ap (λ (r : ℕ). known r past) (sym room) in
+      let knowing = λ (k : Known) (x : NodeSeen). with_role (record { identity = x.role.identity; known = k }) x in
+      let is_node : knowing t.known c ≡ node_of s n (life_in run.past n) past host =
+      ap (λ (k : Known). knowing k c) knows ∙ ap (λ (x : NodeSeen). knowing (known host.room past) x) (sym found.2) in
+      at_node (knowing t.known c) host past found.1 is_node
 
 -- time goes on
 pub at_passed : (e : EngineSeen) (s : Setup) (run : Run) (ms : ℕ) → IsAt e s run
@@ -274,27 +270,6 @@ at_restarted_nowhere e s run n at none =
         ∙ ap (λ (life : ℕ). option_map (node_of s m life (past_at run m)) (slice_get s.hosts m)) (sym (life-push run.past (Restarted (node_id n)) m ∙ lived_on n m (life_in run.past m) other))
         ∙ ap (λ (p : List (Stamped Step)). option_map (node_at m p) (slice_get s.hosts m)) (sym (get_or-set_other run.pasts n m [] [] other))
 
--- the last moment that a node knows is that of its turn at most
-abbrev IsTimely : ℕ → Turn → Type 0
-IsTimely now t = (t.now ≡ now) × (t.known.last.0 ≤ now)
-
-timely_step : (now : ℕ) (step : Step) (t : Turn) → is_tick step ≡ false → SendsLong step → IsTimely now t → IsTimely now (noted step t)
-unfolding noted after
-timely_step now step t tick long p = (p.0, by (is_call step))
-  where
-    by : (b : Bool) → (if b then record { 0 = t.now } else t.known.last).0 ≤ now
-    by true = omega (arith, p.0)
-    by false = p.1
-
-pub taken_timely : (me : Identity) (k : Known) (now number : ℕ) (shield : Option Shield) (packet : List ℕ) → k.last.0 ≤ now → (taken me k now number shield packet).known.last.0 ≤ now
-taken_timely me k now number shield packet early = (every-takes (IsTimely now) (timely_step now) me number shield packet (begun now k) (refl, early)).1
-
-pub refreshed_timely : (me : Identity) (k : Known) (now : ℕ) (home : Address) → k.last.0 ≤ now → (refreshed me k now home).known.last.0 ≤ now
-refreshed_timely me k now home early = (every-refreshes (IsTimely now) (timely_step now) me home (begun now k) (refl, early)).1
-
-pub transmitted_timely : (me : Identity) (k : Known) (now : ℕ) (to : Address) (proto : ℕ) (payload : List ℕ) → k.last.0 ≤ now → (transmitted me k now to proto payload).known.last.0 ≤ now
-transmitted_timely me k now to proto payload early = (every-transmits (IsTimely now) (timely_step now) me to proto payload (begun now k) (refl, early)).1
-
 -- engines stay calm
 pub calm_set : (nodes : List NodeSeen) (now n : ℕ) (c : NodeSeen) → IsCalm nodes now → c.role.known.last.0 ≤ now → IsCalm (slice_set nodes n c) now
 calm_set nodes now n c calm early = record { early = calm.early; later = by nodes n calm.later }
@@ -320,33 +295,11 @@ calm_push nodes now c calm early = record { early = calm.early; later = by nodes
     by (y ∷ ys) all zero x found = all zero x found
     by (y ∷ ys) all (suc m) x found = by ys (λ m x found. all (suc m) x found) m x found
 
--- the turns of the calls, and what each leaves known
-module _ (e : EngineSeen) (s : Setup) (run : Run) (at : IsAt e s run) (n : ℕ) (c : NodeSeen) (there : slice_get e.nodes n ≡ Some c) where
-  pub at_taken : (number : ℕ) (shield : Option Shield) (packet : List ℕ)
-      → IsAt (turned_by (λ me k now. taken me k now number shield packet) n c e) s (with_past n (with_turn (past_at run n) (turn_by (λ me k now. taken me k now number shield packet) c e.moment)) run)
-  at_taken number shield packet =
-      at_turned e s run at n (λ me k now. taken me k now number shield packet) c there
-      (λ past stands. taken-stands c.role.identity.room past c.role.known stands e.moment c.role.identity number shield packet)
-
-  pub at_refreshed : (home : Address)
-      → IsAt (turned_by (λ me k now. refreshed me k now home) n c e) s (with_past n (with_turn (past_at run n) (turn_by (λ me k now. refreshed me k now home) c e.moment)) run)
-  at_refreshed home =
-      at_turned e s run at n (λ me k now. refreshed me k now home) c there
-      (λ past stands. refreshed-stands c.role.identity.room past c.role.known stands e.moment c.role.identity home)
-
-  pub at_transmitted : (to : Address) (proto : ℕ) (payload : List ℕ)
-      → IsAt (turned_by (λ me k now. transmitted me k now to proto payload) n c e) s (with_past n (with_turn (past_at run n) (turn_by (λ me k now. transmitted me k now to proto payload) c e.moment)) run)
-  at_transmitted to proto payload =
-      at_turned e s run at n (λ me k now. transmitted me k now to proto payload) c there
-      (λ past stands. transmitted-stands c.role.identity.room past c.role.known stands e.moment c.role.identity to proto payload)
-
 -- one thing more that a node does
-pub answered_more : (s : Setup) (n from : ℕ) (run : Run) (answers : List Answer) (i : ℕ) (answer : Answer) → slice_get answers i ≡ Some answer
-    → answered_one s n from (answered s n from run (take i answers)) answer ≡ answered s n from run (take (i + 1) answers)
+pub answered_more : (s : Setup) (n from : ℕ) (run : Run) (answers : List Answer) (answer : Answer)
+    → answered_one s n from (answered s n from run answers) answer ≡ answered s n from run (answers ++ answer ∷ [])
 unfolding answered
-answered_more s n from run answers i answer there =
-    sym (fold-append (λ (r : Run) (a : Answer). answered_one s n from r a) run (take i answers) (answer ∷ []))
-    ∙ ap (λ (xs : List Answer). fold (λ (r : Run) (a : Answer). answered_one s n from r a) run xs) (sym (take_one answers i answer there))
+answered_more s n from run answers answer = sym (fold-append (λ (r : Run) (a : Answer). answered_one s n from r a) run answers (answer ∷ []))
 
 -- one row more
 pub rows_more : (n : ℕ) (rows : List Row) (i : ℕ) (row : Row) (e : EngineSeen) → slice_get rows i ≡ Some row

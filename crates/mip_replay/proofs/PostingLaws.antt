@@ -12,6 +12,8 @@ use Rattle.mip_words.specs.declared.why.Why.{Why}
 use Rattle.mip_words.specs.declared.moment.Moment.{Moment}
 use Rattle.mip_entries.specs.declared.entry.Entry.{Entry}
 use Rattle.mip_entries.specs.declared.entry.Entry.TheVariants.{Heard, Sent, Injected, Idle, Lost, Gone, Handed, Accepted, Denied, Dropped, Up, Row}
+use Rattle.mip_entries.specs.Completed.{node_id, named}
+use Rattle.mip_rules_correspondent.specs.Wholes.{is_own}
 use Rattle.mip_links.specs.Table.{Post}
 use Rattle.mip_links.specs.Nets.{posted, left}
 use Rattle.mip_history.specs.Setup.{Setup}
@@ -214,3 +216,20 @@ at_quiets (x ∷ xs) e s run quiet at =
     subst (λ (y : EngineSeen). IsAt y s (notes (x ∷ xs) run)) (with_more (x ∷ []) xs e)
     (subst (λ (r : Run). IsAt (with_entries xs (with_entry x e)) s r) (notes_more (x ∷ []) xs run)
     (at_quiets xs (with_entry x e) s (note x run) quiet.1 (at_note e s run x quiet.0 at)))
+
+-- what a correspondent notes claims no address and names no packet to come
+pub own_named : (n l k m j : ℕ) (x : Entry) → is_own x ≡ true → named n l k x ≡ named n m j x
+own_named n l k m j (Accepted node number home binding careof sequence end a b) own = refl
+own_named n l k m j (Denied node number status) own = refl
+own_named n l k m j (Dropped node number why) own = refl
+own_named n l k m j (Up node number source destination proto payload) own = refl
+own_named n l k m j Idle own = refl
+own_named n l k m j _ own = absurd cc
+
+pub quiet_own : (n l k : ℕ) (x : Entry) → is_own x ≡ true → IsQuiet (named n l k x)
+quiet_own n l k (Accepted node number home binding careof sequence end a b) own = quiet_accepted (node_id n) number home binding careof sequence end a b
+quiet_own n l k (Denied node number status) own = quiet_denied (node_id n) number status
+quiet_own n l k (Dropped node number why) own = quiet_dropped (node_id n) number why
+quiet_own n l k (Up node number source destination proto payload) own = quiet_up (node_id n) number source destination proto payload
+quiet_own n l k Idle own = quiet_idle
+quiet_own n l k _ own = absurd cc

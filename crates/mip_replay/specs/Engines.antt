@@ -7,11 +7,9 @@ use Rattle.mip_entries.specs.declared.entry.Entry.TheVariants.{Claimed}
 use Rattle.mip_links.specs.Nets.{NetSeen, new_net, hears_of, claimed, refusal, holder_of, is_held_by, with_rows, put}
 use Rattle.mip_links.specs.Table.{link_of}
 use Rattle.mip_links.specs.declared.claim_fault.ClaimFault.{ClaimFault}
-use Rattle.mip_rules_correspondent.specs.declared.identity.Identity.{Identity}
-use Rattle.mip_rules_correspondent.specs.declared.known.Known.{Known}
+use Rattle.mip_rules_correspondent.specs.Calls.{Call}
 use Rattle.mip_rules_correspondent.specs.Questions.{fresh}
-use Rattle.mip_rules_correspondent.specs.Turns.{Turn}
-use Rattle.mip_correspondent.specs.Seen.{CorrespondentSeen}
+use Rattle.mip_rules_correspondent.specs.Seen.{CorrespondentSeen, called}
 use Rattle.mip_history.specs.Setup.{Host}
 use Rattle.mip_history.specs.Posting.{heards, is_other}
 
@@ -36,24 +34,24 @@ pub record IsCalm (nodes : List NodeSeen) (now : ℕ) : Type 0 where
 
 abbrev pub with_entries : List Entry → EngineSeen → EngineSeen
 with_entries entries e =
-    record { seed = e.seed; net = e.net; nodes = e.nodes; outsiders = e.outsiders; moment = e.moment; past = e.past ++ entries }
+    record e { past = e.past ++ entries }
 
 abbrev pub with_entry : Entry → EngineSeen → EngineSeen
 with_entry entry e = with_entries (entry ∷ []) e
 
 abbrev pub with_net : NetSeen → EngineSeen → EngineSeen
-with_net net e = record { seed = e.seed; net = net; nodes = e.nodes; outsiders = e.outsiders; moment = e.moment; past = e.past }
+with_net net e = record e { net = net }
 
 abbrev pub with_node : ℕ → NodeSeen → EngineSeen → EngineSeen
 with_node n c e =
-    record { seed = e.seed; net = e.net; nodes = slice_set e.nodes n c; outsiders = e.outsiders; moment = e.moment; past = e.past }
+    record e { nodes = slice_set e.nodes n c }
 
 abbrev pub at_moment : ℕ → EngineSeen → EngineSeen
-at_moment now e = record { seed = e.seed; net = e.net; nodes = e.nodes; outsiders = e.outsiders; moment = now; past = e.past }
+at_moment now e = record e { moment = now }
 
--- a node with what it knows now
-abbrev pub with_known : Known → NodeSeen → NodeSeen
-with_known k c = record { host = c.host; life = c.life; role = record { identity = c.role.identity; known = k } }
+-- a node with its role as it is now
+abbrev pub with_role : CorrespondentSeen → NodeSeen → NodeSeen
+with_role role c = record { host = c.host; life = c.life; role = role }
 
 -- node n in this life, with nothing behind it
 abbrev pub new_node : List ℕ → ℕ → ℕ → Host → NodeSeen
@@ -81,13 +79,9 @@ joined host e = record {
   past = e.past ++ Claimed (length e.nodes) (record { 0 = unwrap_or (link_of e.net.links host.address.0) 0 }) host.address ∷ [];
 }
 
--- the turn that a call of a node is
-abbrev pub turn_by : (Identity → Known → ℕ → Turn) → NodeSeen → ℕ → Turn
-turn_by call c now = call c.role.identity c.role.known now
-
--- node n has done it
-abbrev pub turned_by : (Identity → Known → ℕ → Turn) → ℕ → NodeSeen → EngineSeen → EngineSeen
-turned_by call n c e = with_node n (with_known (turn_by call c e.moment).known c) e
+-- node n has done what it was asked
+abbrev pub acted : Call → ℕ → NodeSeen → EngineSeen → EngineSeen
+acted call n c e = with_node n (with_role (called c.role e.moment call) c) e
 
 -- the link that a node sends from
 abbrev pub station_of : List ℕ → NodeSeen → ℕ

@@ -8,3 +8,4 @@ pub mod Bindings
 pub mod Ready
 pub mod Joining
 pub mod Groups
+pub mod Calls

@@ -1,21 +1,21 @@
-//! Nodes act: they are handed packets, send data, ask for refreshes, and restart.
+//! Nodes act: they do what they are asked, restart, and show what they keep.
 
-ghost use Rattle.std.specs.Prelude.{◌≡◌, ◌+◌, ◌<◌, ◌≤◌, ◌^◌, true, length, [], ◌∷◌, map, Some, OnOk, slice_get};
+ghost use Rattle.std.specs.Prelude.{◌≡◌, ◌+◌, ◌<◌, ◌^◌, length, [], ◌∷◌, map, Some, OnOk, slice_get};
 ghost use Rattle.mip_bcache.specs.Seen.{kept_at};
-ghost use Rattle.mip_rules_correspondent.specs.Calls.{taken, refreshed, transmitted};
 ghost use Rattle.mip_history.specs.Setup.{Setup};
 ghost use Rattle.mip_history.specs.Runs.{Run};
 ghost use Rattle.mip_history.specs.Nodes.{acts, row_entry, shown};
 ghost use Rattle.mip_history.specs.Permitted.{restarted, waited};
 ghost use Rattle.mip_replay.specs.Engines.{NodeSeen, with_entries};
-ghost use Rattle.mip_replay.specs.Payloads.{is_payload};
+ghost use Rattle.mip_replay.specs.Calls.{asked, IsAskable};
 ghost use Rattle.mip_replay.specs.Standing.{IsAt};
 
+use crate::call::Call;
 use crate::engine::Engine;
 use mip_bcache::Row;
 use mip_entries::Entry;
 use mip_rules_correspondent::answers_are_whole;
-use mip_words::{Address, Memory, NodeId, Shield};
+use mip_words::{Memory, NodeId};
 use std::alloc::Global;
 
 impl Engine {
@@ -27,64 +27,23 @@ impl Engine {
         self.pass(ms)
     }
 
-    /// A node is handed a packet.
-    pub(crate) fn take(
+    /// A node is asked something, and does it.
+    pub(crate) fn act(
         &mut self,
         alloc: Global,
         node: NodeId,
-        number: u64,
-        shield: Option<Shield>,
-        packet: &[u8],
+        call: Call<'_>,
     ) -> Result<(), Memory>
-        ensures { (s : Setup) (run : Run) → IsAt self.old s run → OnOk result (IsAt self.new s (acts s node.0 (λ me k now. taken me k now number shield packet.now) run)) }
+        requires { IsAskable call }
+        ensures { (s : Setup) (run : Run) → IsAt self.old s run → OnOk result (IsAt self.new s (acts s node.0 (asked call.entry) run)) }
     {
         let from = match self.station(node) {
             Some(from) => from,
             None => return self.note(Entry::Idle),
         };
         answers_are_whole();
-        let answers = self.node_takes(alloc, node, number, shield, packet)?;
-        self.answer(alloc, node, from, &answers)
-    }
-
-    /// A node sends data.
-    pub(crate) fn send_data(
-        &mut self,
-        alloc: Global,
-        node: NodeId,
-        to: Address,
-        proto: u8,
-        payload: &[u8],
-    ) -> Result<(), Memory>
-        requires data { is_payload proto ≡ true }
-        requires short { length payload.now ≤ 512 }
-        ensures { (s : Setup) (run : Run) → IsAt self.old s run → OnOk result (IsAt self.new s (acts s node.0 (λ me k now. transmitted me k now to proto payload.now) run)) }
-    {
-        let from = match self.station(node) {
-            Some(from) => from,
-            None => return self.note(Entry::Idle),
-        };
-        answers_are_whole();
-        let answers = self.node_sends(alloc, node, to, proto, payload)?;
-        self.answer(alloc, node, from, &answers)
-    }
-
-    /// A node asks for a binding to be refreshed.
-    pub(crate) fn refresh(
-        &mut self,
-        alloc: Global,
-        node: NodeId,
-        home: Address,
-    ) -> Result<(), Memory>
-        ensures { (s : Setup) (run : Run) → IsAt self.old s run → OnOk result (IsAt self.new s (acts s node.0 (λ me k now. refreshed me k now home) run)) }
-    {
-        let from = match self.station(node) {
-            Some(from) => from,
-            None => return self.note(Entry::Idle),
-        };
-        answers_are_whole();
-        let answers = self.node_refreshes(alloc, node, home)?;
-        self.answer(alloc, node, from, &answers)
+        let answers = self.ask_node(alloc, node, call)?;
+        self.answer(alloc, node, from, answers)
     }
 
     fn begin_life(&mut self, alloc: Global, node: NodeId) -> Result<(), Memory>

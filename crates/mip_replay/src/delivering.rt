@@ -11,6 +11,7 @@ ghost use Rattle.mip_links.specs.Nets.{lowest_of};
 ghost use Rattle.mip_replay.specs.Standing.{IsAt};
 
 use crate::arrival::Arrival;
+use crate::call::Call;
 use crate::engine::Engine;
 use crate::limits::FIRST_OUTSIDER;
 use mip_entries::Entry;
@@ -87,7 +88,12 @@ impl Engine {
         let packet = self.handed_packet(alloc, number, arrival.link)?;
         self.overhear_at(number, arrival.shield, arrival.link)?;
         self.note(Entry::Handed { number, node })?;
-        self.take(alloc, node, number, arrival.shield, packet.as_slice())
+        let call = Call::Take {
+            number,
+            shield: arrival.shield,
+            packet: packet.as_slice(),
+        };
+        self.act(alloc, node, call)
     }
 
     fn reach(&mut self, alloc: Global, number: u64, arrival: Arrival) -> Result<(), Memory>

@@ -4,21 +4,23 @@ ghost use Rattle.mip_bcache.specs.Seen.{kept_at};
 ghost use Rattle.mip_links.specs.Table.{Post, link_of, destination_in, in_pool};
 ghost use Rattle.mip_links.specs.Nets.{hears_of, holder_of, is_held_by, left, lowest_of, posted, with_hearing};
 ghost use Rattle.mip_rules_correspondent.specs.Steps.{answers_of};
-ghost use Rattle.mip_rules_correspondent.specs.Calls.{taken, refreshed, transmitted};
+ghost use Rattle.mip_rules_correspondent.specs.Seen.{turn_at};
 ghost use Rattle.mip_history.specs.Delivery.{handed_over, other_link};
 ghost use Rattle.mip_history.specs.Outsiders.{claim_entry};
 ghost use Rattle.mip_replay.specs.Arrivals.{arrival_of, arrival_seen};
-ghost use Rattle.mip_replay.specs.Payloads.{is_payload};
-ghost use Rattle.mip_replay.specs.Engines.{NodeSeen, new_engine, with_entry, with_net, at_moment, turn_by, turned_by, reborn, joined, station_of, claim_tried, released};
+ghost use Rattle.mip_replay.specs.Calls.{asked, IsAskable};
+ghost use Rattle.mip_replay.specs.Engines.{NodeSeen, new_engine, with_entry, with_net, at_moment, acted, reborn, joined, station_of, claim_tried, released};
 
 use crate::arrival::{Arrival, arrival_of};
+use crate::call::Call;
 use crate::claims::{claim_own, try_claim};
 use crate::host::Host;
-use crate::lowering::lowered;
+
 use crate::node::Node;
 use mip_bcache::Row;
 use mip_entries::{Answers, Entry, History};
 use mip_links::{Delivery, Net};
+use mip_tunnel::lower;
 use mip_words::{Address, Bytes, LinkId, Memory, Moment, NodeId, Prefix, Shield};
 use std::alloc::Global;
 use std::marker::Model;
@@ -134,16 +136,14 @@ impl Engine {
     /// A packet enters the pool, with the next number.
     pub(crate) fn post(
         &mut self,
-        alloc: Global,
         from: LinkId,
         shield: Option<Shield>,
-        packet: &[u8],
+        packet: Bytes,
     ) -> Result<u64, Memory>
-        requires { 40 ≤ length packet.now }
+        requires { 40 ≤ length packet }
         ensures number { IfOk result (λ k. k ≡ length self.old.net.posts) }
-        ensures after { OnOk result (self.new ≡ with_net (posted self.old.net (record { from = from.0; shield = shield; packet = packet.now })) self.old) }
+        ensures after { OnOk result (self.new ≡ with_net (posted self.old.net (record { from = from.0; shield = shield; packet = packet })) self.old) }
     {
-        let packet = Bytes::copy(alloc, packet)?;
         self.net.post(from, shield, packet)
     }
 
@@ -201,7 +201,7 @@ impl Engine {
             unreachable!();
         };
         match link {
-            Some(_) => lowered(alloc, packet.as_slice()),
+            Some(_) => lower(alloc, packet.as_slice()),
             None => Bytes::copy(alloc, packet.as_slice()),
         }
     }
@@ -249,58 +249,21 @@ impl Engine {
         self.net.deaf(outsider, link)
     }
 
-    /// A node is handed a packet.
+    /// A node is asked something.
     #[tactic(auto, using(crate::proofs::NodeLaws::calm_set, std::proofs::lemmas::Option::get_or_from_slice_get))]
-    pub(crate) fn node_takes(
+    pub(crate) fn ask_node(
         &mut self,
         alloc: Global,
         node: NodeId,
-        number: u64,
-        shield: Option<Shield>,
-        packet: &[u8],
-    ) -> Result<Answers, Memory>
-        requires { node.0 < length self.old.nodes }
-        ensures answers { (c : NodeSeen) → slice_get self.old.nodes node.0 ≡ Some c → IfOk result (λ a. a ≡ answers_of (turn_by (λ me k now. taken me k now number shield packet.now) c self.old.moment).steps) }
-        ensures after { (c : NodeSeen) → slice_get self.old.nodes node.0 ≡ Some c → OnOk result (self.new ≡ turned_by (λ me k now. taken me k now number shield packet.now) node.0 c self.old) }
-    {
-        let place = usize::from(node.0);
-        self.nodes[place].take(alloc, self.moment, number, shield, packet)
-    }
-
-    /// A node is asked to send data.
-    #[tactic(auto, using(crate::proofs::NodeLaws::calm_set, std::proofs::lemmas::Option::get_or_from_slice_get))]
-    pub(crate) fn node_sends(
-        &mut self,
-        alloc: Global,
-        node: NodeId,
-        to: Address,
-        proto: u8,
-        payload: &[u8],
+        call: Call<'_>,
     ) -> Result<Answers, Memory>
         requires node { node.0 < length self.old.nodes }
-        requires data { is_payload proto ≡ true }
-        requires short { length payload.now ≤ 512 }
-        ensures answers { (c : NodeSeen) → slice_get self.old.nodes node.0 ≡ Some c → IfOk result (λ a. a ≡ answers_of (turn_by (λ me k now. transmitted me k now to proto payload.now) c self.old.moment).steps) }
-        ensures after { (c : NodeSeen) → slice_get self.old.nodes node.0 ≡ Some c → OnOk result (self.new ≡ turned_by (λ me k now. transmitted me k now to proto payload.now) node.0 c self.old) }
+        requires askable { IsAskable call }
+        ensures answers { (c : NodeSeen) → slice_get self.old.nodes node.0 ≡ Some c → IfOk result (λ a. a ≡ answers_of (turn_at c.role self.old.moment (asked call.entry)).steps) }
+        ensures after { (c : NodeSeen) → slice_get self.old.nodes node.0 ≡ Some c → OnOk result (self.new ≡ acted (asked call.entry) node.0 c self.old) }
     {
         let place = usize::from(node.0);
-        self.nodes[place].send(alloc, self.moment, to, proto, payload)
-    }
-
-    /// A node is asked for a Binding Refresh Request.
-    #[tactic(auto, using(crate::proofs::NodeLaws::calm_set, std::proofs::lemmas::Option::get_or_from_slice_get))]
-    pub(crate) fn node_refreshes(
-        &mut self,
-        alloc: Global,
-        node: NodeId,
-        home: Address,
-    ) -> Result<Answers, Memory>
-        requires { node.0 < length self.old.nodes }
-        ensures answers { (c : NodeSeen) → slice_get self.old.nodes node.0 ≡ Some c → IfOk result (λ a. a ≡ answers_of (turn_by (λ me k now. refreshed me k now home) c self.old.moment).steps) }
-        ensures after { (c : NodeSeen) → slice_get self.old.nodes node.0 ≡ Some c → OnOk result (self.new ≡ turned_by (λ me k now. refreshed me k now home) node.0 c self.old) }
-    {
-        let place = usize::from(node.0);
-        self.nodes[place].refresh(alloc, self.moment, home)
+        self.nodes[place].act(alloc, self.moment, call)
     }
 
     /// A node begins its next life.

@@ -9,6 +9,7 @@ ghost use Rattle.mip_replay.specs.Ready.{IsReady};
 ghost use Rattle.mip_replay.specs.Standing.{IsAt};
 
 use crate::binding::Binding;
+use crate::call::Call;
 use crate::engine::Engine;
 use mip_entries::Entry;
 use mip_schedule::Event;
@@ -121,9 +122,19 @@ impl Engine {
                 to,
                 proto,
                 payload,
-            } => self.send_data(alloc, *node, *to, *proto, payload.as_slice()),
+            } => self.act(
+                alloc,
+                *node,
+                Call::Send {
+                    to: *to,
+                    proto: *proto,
+                    payload: payload.as_slice(),
+                },
+            ),
             Event::Restart { node } => self.restart(alloc, *node),
-            Event::Refresh { node, home } => self.refresh(alloc, *node, *home),
+            Event::Refresh { node, home } => {
+                self.act(alloc, *node, Call::Refresh { home: *home })
+            }
             Event::Show { node } => self.show(*node),
             _ => self.nothing_happens(event),
         }

@@ -3,9 +3,7 @@
 /// Among those that hold addresses outsiders are counted from here on, behind the nodes.
 pub(crate) const FIRST_OUTSIDER: u8 = 32;
 
-/// The places of the hop limit and the addresses in a packet's fixed header (RFC 8200 section 3).
-pub(crate) const HOP: usize = 7;
-
+/// The places of the addresses in a packet's fixed header (RFC 8200 section 3).
 pub(crate) const SOURCE: usize = 8;
 
 pub(crate) const DESTINATION: usize = 24;

@@ -1,16 +1,17 @@
-ghost use Rattle.std.specs.Prelude.{◌≡◌, ◌+◌, ◌<◌, ◌≤◌, ◌^◌, suc, true, length, IfOk, OnOk, OnErr, option_copied, slice_get};
+ghost use Rattle.std.specs.Prelude.{◌≡◌, ◌+◌, ◌<◌, ◌≤◌, ◌^◌, suc, length, IfOk, OnOk, OnErr, option_copied, slice_get};
 ghost use Rattle.mip_bcache.specs.Seen.{kept_at};
-ghost use Rattle.mip_replay.specs.Payloads.{is_payload};
 ghost use Rattle.mip_rules_correspondent.specs.Steps.{answers_of};
-ghost use Rattle.mip_rules_correspondent.specs.Calls.{taken, refreshed, transmitted};
-ghost use Rattle.mip_replay.specs.Engines.{new_node, with_known};
+ghost use Rattle.mip_rules_correspondent.specs.Seen.{turn_at, called};
+ghost use Rattle.mip_replay.specs.Calls.{asked, IsAskable};
+ghost use Rattle.mip_replay.specs.Engines.{new_node, with_role};
 
+use crate::call::Call;
 use crate::host::Host;
 use mip_bcache::Row;
 use mip_correspondent::Correspondent;
 use mip_entries::Answers;
 use mip_nonce::Secrets;
-use mip_words::{Address, Memory, Moment, NodeId, Shield};
+use mip_words::{Address, Memory, Moment, NodeId};
 use std::alloc::Global;
 use std::marker::Model;
 
@@ -66,64 +67,30 @@ impl Node {
         self.host.address()
     }
 
-    /// A packet is handed to the node.
-    #[tactic(auto, using(crate::proofs::NodeLaws::taken_timely))]
-    pub(crate) fn take(
+    /// The node is asked something.
+    pub(crate) fn act(
         &mut self,
         alloc: Global,
         now: Moment,
-        number: u64,
-        shield: Option<Shield>,
-        packet: &[u8],
+        call: Call<'_>,
     ) -> Result<Answers, Memory>
         requires later { self.old.role.known.last.0 ≤ now.0 }
         requires early { now.0 < 2 ^ 62 }
-        ensures answers { IfOk result (λ a. a ≡ answers_of (taken self.old.role.identity self.old.role.known now.0 number shield packet.now).steps) }
-        ensures after { OnOk result (self.new ≡ with_known (taken self.old.role.identity self.old.role.known now.0 number shield packet.now).known self.old) }
+        requires askable { IsAskable call }
+        ensures answers { IfOk result (λ a. a ≡ answers_of (turn_at self.old.role now.0 (asked call.entry)).steps) }
+        ensures after { OnOk result (self.new ≡ with_role (called self.old.role now.0 (asked call.entry)) self.old) }
         ensures err { OnErr result (self.new ≡ self.old) }
         ensures timely { self.new.role.known.last.0 ≤ now.0 }
     {
-        self.role.take(alloc, now, number, shield, packet)
-    }
-
-    /// The node is asked to send data, of 512 bytes at most.
-    #[tactic(auto, using(crate::proofs::NodeLaws::transmitted_timely))]
-    pub(crate) fn send(
-        &mut self,
-        alloc: Global,
-        now: Moment,
-        to: Address,
-        proto: u8,
-        payload: &[u8],
-    ) -> Result<Answers, Memory>
-        requires later { self.old.role.known.last.0 ≤ now.0 }
-        requires early { now.0 < 2 ^ 62 }
-        requires data { is_payload proto ≡ true }
-        requires short { length payload.now ≤ 512 }
-        ensures answers { IfOk result (λ a. a ≡ answers_of (transmitted self.old.role.identity self.old.role.known now.0 to proto payload.now).steps) }
-        ensures after { OnOk result (self.new ≡ with_known (transmitted self.old.role.identity self.old.role.known now.0 to proto payload.now).known self.old) }
-        ensures err { OnErr result (self.new ≡ self.old) }
-        ensures timely { self.new.role.known.last.0 ≤ now.0 }
-    {
-        self.role.send(alloc, now, to, proto, payload)
-    }
-
-    /// The node is asked for a Binding Refresh Request.
-    #[tactic(auto, using(crate::proofs::NodeLaws::refreshed_timely))]
-    pub(crate) fn refresh(
-        &mut self,
-        alloc: Global,
-        now: Moment,
-        home: Address,
-    ) -> Result<Answers, Memory>
-        requires later { self.old.role.known.last.0 ≤ now.0 }
-        requires early { now.0 < 2 ^ 62 }
-        ensures answers { IfOk result (λ a. a ≡ answers_of (refreshed self.old.role.identity self.old.role.known now.0 home).steps) }
-        ensures after { OnOk result (self.new ≡ with_known (refreshed self.old.role.identity self.old.role.known now.0 home).known self.old) }
-        ensures err { OnErr result (self.new ≡ self.old) }
-        ensures timely { self.new.role.known.last.0 ≤ now.0 }
-    {
-        self.role.refresh(alloc, now, home)
+        match call {
+            Call::Take {
+                number,
+                shield,
+                packet,
+            } => self.role.take(alloc, now, number, shield, packet),
+            Call::Send { to, proto, payload } => self.role.send(alloc, now, to, proto, payload),
+            Call::Refresh { home } => self.role.refresh(alloc, now, home),
+        }
     }
 
     /// The row at a place among those kept, in order of home address.

@@ -75,13 +75,13 @@ impl Engine {
         node: NodeId,
         from: LinkId,
         shield: Option<Shield>,
-        packet: &[u8],
+        packet: Bytes,
     ) -> Result<(), Memory>
-        requires { 40 ≤ length packet.now }
-        ensures { (s : Setup) (run : Run) → IsAt self.old s run → OnOk result (IsAt self.new s (posted s (record { from = from.0; shield = shield; packet = packet.now }) None (Sent (length run.posts) node (is_some shield) packet.now) run)) }
+        requires { 40 ≤ length packet }
+        ensures { (s : Setup) (run : Run) → IsAt self.old s run → OnOk result (IsAt self.new s (posted s (record { from = from.0; shield = shield; packet = packet }) None (Sent (length run.posts) node (is_some shield) packet) run)) }
     {
-        let number = self.post(alloc, from, shield, packet)?;
-        let packet = Bytes::copy(alloc, packet)?;
+        let posted = Bytes::copy(alloc, packet.as_slice())?;
+        let number = self.post(from, shield, posted)?;
         self.note(Entry::Sent {
             number,
             node,
@@ -102,7 +102,8 @@ impl Engine {
         requires { 40 ≤ length packet.now }
         ensures { (s : Setup) (run : Run) → IsAt self.old s run → OnOk result (IsAt self.new s (injected s run outsider link.0 packet.now)) }
     {
-        let number = self.post(alloc, link, None, packet)?;
+        let posted = Bytes::copy(alloc, packet)?;
+        let number = self.post(link, None, posted)?;
         let packet = Bytes::copy(alloc, packet)?;
         self.note(Entry::Injected {
             number,

@@ -6,5 +6,6 @@ pub mod Refusals
 pub mod Calls
 pub mod Sendings
 pub mod VerdictLaws
+pub mod Moments
 pub mod Taken
 pub mod Answers

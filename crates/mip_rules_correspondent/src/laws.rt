@@ -32,6 +32,11 @@ pub fn last_is_of_the_last_call()
     ensures { (room : ℕ) (past : List (Stamped Step)) → (known room past).last.0 ≡ unwrap_or (option_map (λ s. s.at) (last_where (λ s. is_call s.step) past)) 0 }
 {}
 
+/// The last moment that a call leaves known is its own.
+pub fn each_call_is_the_last()
+    ensures { (me : Identity) (k : Known) (now : ℕ) (c : Call) → (turn_of me k now c).known.last.0 ≡ now }
+{}
+
 /// After a past whose moments do not fall, the bindings are those of the updates that were accepted in
 /// it: from its last step on, what is held, which sequence is kept and whether there is room is as these
 /// say.

@@ -5,7 +5,7 @@ use Rattle.mip_words.specs.declared.shield.Shield.{Shield}
 use Rattle.mip_entries.specs.Completed.{node_id}
 use Rattle.mip_entries.specs.declared.entry.Entry.TheVariants.{Handed}
 use Rattle.mip_links.specs.Table.{Post}
-use Rattle.mip_rules_correspondent.specs.Calls.{taken}
+use Rattle.mip_rules_correspondent.specs.Calls.{Take}
 use Rattle.mip_history.specs.Runs.{note}
 use Rattle.mip_history.specs.Nodes.{acts}
 use Rattle.mip_history.specs.Delivery.{handed, handed_over, overheard_at}
@@ -23,7 +23,7 @@ returns c = λ s run post at there same.
     let here = note (Handed k (node_id n)) heard in
     let packet : c.as_slice.result.now ≡ handed_over post.packet link =
     c.as_slice.ensures ∙ c.in_ok-packet.ensures post (ap (λ (ps : List Post). slice_get ps k) at.posts ∙ there) in
-    let after = λ (shield : Option Shield) (bytes : List ℕ). acts s n (λ me known now. taken me known now k shield bytes) here in
-    at_ok_run c.take.result c.take.new.self s (after c.args.arrival.shield c.as_slice.result.now) (after post.shield (handed_over post.packet link))
-    (c.take.ensures s here (at_is c.in_ok-note.ensures (at_note c.overhear_at.new.self s heard (Handed k (node_id n)) (quiet_handed k (node_id n)) (c.in_ok-overhear_at.ensures s run post at same))))
+    let after = λ (shield : Option Shield) (bytes : List ℕ). acts s n (Take k shield bytes) here in
+    at_ok_run c.act.result c.act.new.self s (after c.args.arrival.shield c.as_slice.result.now) (after post.shield (handed_over post.packet link))
+    (c.act.ensures s here (at_is c.in_ok-note.ensures (at_note c.overhear_at.new.self s heard (Handed k (node_id n)) (quiet_handed k (node_id n)) (c.in_ok-overhear_at.ensures s run post at same))))
     (ap (λ (shield : Option Shield). after shield c.as_slice.result.now) same ∙ ap (after post.shield) packet)

@@ -15,15 +15,15 @@ pub returns : goal.returns
 returns c = λ s run at.
     let e = c.args.self.now in
     let n = c.args.node in
-    let packet = c.args.packet.now in
+    let packet = c.args.packet in
     let post : Post = record { from = c.args.from.0; shield = c.args.shield; packet = packet } in
     let number : c.in_ok-number.number ≡ length run.posts = c.in_ok-number.ensures.number ∙ ap (λ (ps : List Post). length ps) at.posts in
     let x = Sent (length run.posts) n (is_some c.args.shield) packet in
     let here : c.note.new.self ≡ with_entry x (with_net (posted e.net post) e) =
     c.in_ok-note.ensures
-    ∙ ap (λ (y : EngineSeen). with_entry (Sent c.in_ok-number.number n c.is_some.result c.in_ok-packet.packet) y) c.in_ok-number.ensures.after
-    ∙ ap (λ (k : ℕ). with_entry (Sent k n c.is_some.result c.in_ok-packet.packet) (with_net (posted e.net post) e)) number
-    ∙ ap (λ (b : Bool). with_entry (Sent (length run.posts) n b c.in_ok-packet.packet) (with_net (posted e.net post) e)) c.is_some.ensures
-    ∙ ap (λ (b : List ℕ). with_entry (Sent (length run.posts) n (is_some c.args.shield) b) (with_net (posted e.net post) e)) c.in_ok-packet.ensures in
+    ∙ ap (λ (y : EngineSeen). with_entry (Sent c.in_ok-number.number n c.is_some.result packet) y) c.in_ok-number.ensures.after
+    ∙ ap (λ (b : List ℕ). with_entry (Sent c.in_ok-number.number n c.is_some.result packet) (with_net (posted e.net (record { from = c.args.from.0; shield = c.args.shield; packet = b })) e)) (c.in_ok-posted.ensures ∙ c.as_slice.ensures)
+    ∙ ap (λ (k : ℕ). with_entry (Sent k n c.is_some.result packet) (with_net (posted e.net post) e)) number
+    ∙ ap (λ (b : Bool). with_entry (Sent (length run.posts) n b packet) (with_net (posted e.net post) e)) c.is_some.ensures in
     subst (λ (k : ℕ). OnOk c.overhear.result (IsAt c.overhear.new.self s (overheard s c.args.from.0 c.args.shield None k (entered post (note x run))))) number
     (c.overhear.ensures s (entered post (note x run)) (at_is here (at_posting e s run post x (quiet_sent (length run.posts) n (is_some c.args.shield) packet) at)))

@@ -1,0 +1,80 @@
+# Makes the input named `what`: a schedule as text, or a packet as digits.
+BEGIN {
+    peer = "20010db8000200000000000000000002"
+    careof = "20010db8000300000000000000000099"
+    if (what == "mixed") mixed(events)
+    else if (what == "injected") { head(); for (i = 0; i < events; i++) print "inject o n2 " packet("3b", bytes_of("00", size - 40)) }
+    else if (what == "carried") {
+        head()
+        for (i = 0; i < 9000; i++) print "inject o n2 " packet("3b", "")
+        for (i = 0; i < 200; i++) print "carry 1000"
+    }
+    else if (what == "spaces") printf "mip 1\nseed %s\n", bytes_of(" ", 16777200)
+    else if (what == "options") print packet("3c", "3bff" bytes_of("00", 2046))
+    else if (what == "message") print packet("87", with_sum(135, "3bff0000" "0000" "0000" bytes_of("00", 2040), 4))
+    else if (what == "advertisement") print packet("3a", with_sum(58, "8600000040200708" "0000000000000000" bytes_of("0501000000000000", (size - 16) / 8), 2))
+}
+
+function bytes_of(text, count,    out) {
+    while (count) {
+        if (count % 2) out = out text
+        text = text text
+        count = int(count / 2)
+    }
+    return out
+}
+
+function hex(n, width,    out) {
+    while (width--) {
+        out = substr("0123456789abcdef", n % 16 + 1, 1) out
+        n = int(n / 16)
+    }
+    return out
+}
+
+function value(digits,    n, i) {
+    for (i = 1; i <= length(digits); i++) n = n * 16 + index("0123456789abcdef", substr(digits, i, 1)) - 1
+    return n
+}
+
+# A packet with this next header and body, from the home address to the peer.
+function packet(proto, body) { return "60000000" hex(length(body) / 2, 4) proto "40" "20010db8000100000000000000000077" peer body }
+
+# A body with its checksum at this place, which was zero (RFC 8200 section 8.1).
+function with_sum(proto, body, at,    text, sum, i) {
+    text = "20010db8000100000000000000000077" peer hex(length(body) / 2, 8) hex(proto, 8) body
+    for (i = 1; i <= length(text); i += 4) sum += value(substr(text, i, 4))
+    while (sum > 65535) sum = sum % 65536 + int(sum / 65536)
+    return substr(body, 1, 2 * at) hex(65535 - sum, 4) substr(body, 2 * at + 5)
+}
+
+function head() {
+    print "mip 1"
+    print "seed 000102030405060708090a0b0c0d0e0f101112131415161718191a1b1c1d1e1f"
+    print "start 0"
+    print "link n1 20010db800010000"
+    print "link n2 20010db800020000"
+    print "link n3 20010db800030000"
+    print "correspondent c n2 " peer " 64"
+    print "outsider o"
+    print "run"
+}
+
+# Rounds of ten events: two test inits and their tests, an update that is accepted, data, a loss, deliveries, a wait.
+function mixed(events,    round, k, home) {
+    head()
+    for (round = 0; round < events / 10; round++) {
+        k = 7 * round
+        home = "20010db80001000000000000000001" hex(round % 64, 2)
+        print "probe o n1 home " home " " peer " 0102030405060708"
+        print "probe o n3 careof " careof " " peer " 1112131415161718"
+        print "deliver " k
+        print "deliver " k + 1
+        print "bind o n3 " careof " " peer " " home " " careof " " int(round / 64) + 1 " 105 " k + 2 " " k + 3
+        print "deliver " k + 4
+        print "data c " home " 253 68656c6c6f"
+        print "lose " k + 2
+        print "carry 3"
+        print "wait 4000"
+    }
+}
