@@ -9,9 +9,9 @@ use Rattle.mip_tokens.specs.declared.kbm.Kbm.{Kbm}
 use Rattle.mip_tokens.specs.Token.{kbm_both_of, kbm_home_of}
 use Rattle.mip_bulist.specs.declared.aim.Aim.{Aim}
 use Rattle.mip_bulist.specs.declared.aim.Aim.TheVariants.{Bind, Delete}
-use Rattle.mip_bulist.specs.declared.tests.Test.{Test}
-use Rattle.mip_bulist.specs.declared.tests.Tested.{Tested}
-use Rattle.mip_bulist.specs.declared.tests.Tested.TheVariants.{Both, Home}
+use Rattle.mip_bulist.specs.declared.tested.Test.{Test}
+use Rattle.mip_bulist.specs.declared.tested.Tested.{Tested}
+use Rattle.mip_bulist.specs.declared.tested.Tested.TheVariants.{Both, Home}
 use Rattle.mip_bulist.specs.declared.recent.Recent.{Recent}
 use Rattle.mip_bulist.specs.declared.made.Made.{Made}
 use Rattle.mip_bulist.specs.declared.refused.Refused.{Refused}

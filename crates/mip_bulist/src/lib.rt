@@ -8,7 +8,7 @@ mod made;
 mod recent;
 mod refused;
 mod state;
-mod tests;
+mod tested;
 mod trial;
 
 pub use aim::Aim;

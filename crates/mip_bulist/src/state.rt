@@ -1,5 +1,5 @@
 use crate::aim::Aim;
-use crate::tests::{Test, Tested};
+use crate::tested::{Test, Tested};
 use mip_words::Cookie;
 
 mod sealed {

@@ -6,7 +6,7 @@ use crate::made::Made;
 use crate::recent::Recent;
 use crate::refused::Refused;
 use crate::state::{Bound, Idle, Pending, Probing, Proved, State};
-use crate::tests::{Test, Tested};
+use crate::tested::{Test, Tested};
 use mip_words::{Address, Cookie, Moment, Token};
 
 /// Return routability with one peer, in the state `S`. It cannot be copied.
