@@ -4,6 +4,7 @@
 
 mod aim;
 mod any;
+mod laws;
 mod made;
 mod recent;
 mod refused;
@@ -13,6 +14,7 @@ mod trial;
 
 pub use aim::Aim;
 pub use any::Any;
+pub use laws::{a_later_update_is_of_its_tests, a_test_is_of_its_start, an_update_is_of_its_tests};
 pub use made::Made;
 pub use refused::Refused;
 pub use state::{Bound, Idle, Pending, Probing, Proved, State};
