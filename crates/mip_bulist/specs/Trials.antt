@@ -4,8 +4,6 @@ use Rattle.std.specs.Prelude.{ℕ, ◌+◌, ◌-◌, ◌%◌, Bool, true, false,
 use Rattle.mip_words.specs.declared.address.Address.{Address}
 use Rattle.mip_words.specs.declared.moment.Moment.{Moment}
 use Rattle.mip_words.specs.declared.token.Cookie.{Cookie}
-use Rattle.mip_words.specs.declared.token.Token.{Token}
-use Rattle.mip_tokens.specs.declared.kbm.Kbm.{Kbm}
 use Rattle.mip_tokens.specs.Token.{kbm_both_of, kbm_home_of}
 use Rattle.mip_bulist.specs.declared.aim.Aim.{Aim}
 use Rattle.mip_bulist.specs.declared.aim.Aim.TheVariants.{Bind, Delete}
@@ -20,7 +18,6 @@ use Rattle.mip_bulist.specs.declared.state.Idle.{Idle}
 use Rattle.mip_bulist.specs.declared.state.Probing.{Probing}
 use Rattle.mip_bulist.specs.declared.state.Proved.{Proved}
 use Rattle.mip_bulist.specs.declared.state.Pending.{Pending}
-use Rattle.mip_bulist.specs.declared.state.Bound.{Bound}
 use Rattle.mip_bulist.specs.declared.trial.Trial.{Trial}
 use Rattle.mip_bulist.specs.declared.trial.Probe.{Probe}
 use Rattle.mip_bulist.specs.declared.trial.Probe.TheVariants.{More, Done}
