@@ -5,17 +5,30 @@
 mod aim;
 mod any;
 mod laws;
+mod list;
+mod list_full;
 mod made;
 mod recent;
 mod refused;
+mod row;
+mod rows;
 mod state;
 mod tested;
+mod timer;
+mod timers;
 mod trial;
+mod work;
 
 pub use aim::Aim;
 pub use any::Any;
 pub use laws::{a_later_update_is_of_its_tests, a_test_is_of_its_start, an_update_is_of_its_tests};
+pub use list::List;
+pub use list_full::ListFull;
 pub use made::Made;
 pub use refused::Refused;
 pub use state::{Bound, Idle, Pending, Probing, Proved, State};
 pub use trial::{Ended, Probe, Trial};
+pub use work::Work;
+
+#[cfg(test)]
+mod tests;
