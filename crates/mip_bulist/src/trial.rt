@@ -126,7 +126,7 @@ impl Trial<Probing> {
     ) -> Result<Probe, (Trial<Probing>, Refused)>
         ensures { result ≡ home_tested peer cookie (record { index = index; token = token; at = now }) self }
     {
-        if peer.0 != self.peer.0 {
+        if self.peer.0 != peer.0 {
             return Err((self, Refused::NotMine));
         }
         if cookie.0 != self.state.home_cookie.0 {
