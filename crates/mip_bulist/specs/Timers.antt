@@ -1,5 +1,5 @@
 -- The timers of a mobile: a list by due moment, ties in order of setting.
-use Rattle.std.specs.Prelude.{◌≢◌, ℕ, ◌+◌, ◌*◌, ◌<◌, Bool, not, ◌==◌, nat_lt, if◌then◌else◌, Option, Some, None, unwrap_or, option_map, List, [], ◌∷◌, length, filter, insert, position, slice_get}
+use Rattle.std.specs.Prelude.{◌≢◌, ℕ, ◌+◌, ◌*◌, ◌<◌, ◌≤◌, Bool, not, ◌==◌, nat_lt, if◌then◌else◌, Option, Some, None, unwrap_or, option_map, List, [], ◌∷◌, length, filter, insert, position, slice_get}
 use Rattle.std.specs.List.{list_any}
 use Rattle.mip_words.specs.declared.moment.Moment.{Moment}
 use Rattle.mip_bulist.specs.declared.work.Work.{Work}
@@ -60,6 +60,21 @@ IsAbsent n [] = Unit {0}
 IsAbsent n (t ∷ ts) = (number_of t.work ≢ n) × IsAbsent n ts
 
 -- numbers below 64, no two the same
-abbrev pub IsSound : List Timer → Type 0
-IsSound [] = Unit {0}
-IsSound (t ∷ ts) = (number_of t.work < 64) × IsAbsent (number_of t.work) ts × IsSound ts
+abbrev pub AreApart : List Timer → Type 0
+AreApart [] = Unit {0}
+AreApart (t ∷ ts) = (number_of t.work < 64) × IsAbsent (number_of t.work) ts × AreApart ts
+
+-- each is due at this moment or later
+abbrev pub AreDueFrom : ℕ → List Timer → Type 0
+AreDueFrom at [] = Unit {0}
+AreDueFrom at (t ∷ ts) = (at ≤ t.due.0) × AreDueFrom at ts
+
+-- the due moments never fall
+abbrev pub AreInOrder : List Timer → Type 0
+AreInOrder [] = Unit {0}
+AreInOrder (t ∷ ts) = AreDueFrom t.due.0 ts × AreInOrder ts
+
+-- timers of different works, in order of due moment
+pub record IsSound (ts : List Timer) : Type 0 where
+  pub apart : AreApart ts
+  pub order : AreInOrder ts

@@ -1,5 +1,5 @@
 ghost use Rattle.std.specs.Prelude.{◌≡◌, [], IfOk};
-ghost use Rattle.mip_bulist.specs.Timers.{IsInRange, is_set, without_timer, with_timer, due_work, without_due, first_due};
+ghost use Rattle.mip_bulist.specs.Timers.{AreInOrder, IsInRange, is_set, without_timer, with_timer, due_work, without_due, first_due};
 ghost use Rattle.mip_bulist.specs.Rows.{given_row, with_row, peer_at, lifted, with_trial, laid, rows_laid};
 
 use crate::any::Any;
@@ -93,6 +93,7 @@ impl List {
     /// Takes the set work of the earliest due moment, ties in order of setting. `None` exactly where none
     /// is due.
     pub fn pop(&mut self, now: Moment) -> Option<Work>
+        ensures order { AreInOrder self.old.timers }
         ensures work { result ≡ due_work now self.old.timers }
         ensures list { self.new ≡ record self.old { timers = without_due now self.old.timers } }
     {
@@ -101,7 +102,8 @@ impl List {
 
     /// The earliest due moment.
     pub fn due(&self) -> Option<Moment>
-        ensures { result ≡ first_due self.now.timers }
+        ensures order { AreInOrder self.now.timers }
+        ensures first { result ≡ first_due self.now.timers }
     {
         timers::first_due(&self.timers)
     }

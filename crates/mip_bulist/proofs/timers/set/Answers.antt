@@ -1,17 +1,15 @@
 use Rattle.std.proofs.Common.{◌≡◌, suc, ◌<◌, ◌≤◌, ◌∷◌, List, length, sym, subst, ap, ◌∙◌, arith}
 use Rattle.mip_bulist.specs.declared.timer.Timer.{Timer}
 use Rattle.mip_bulist.specs.Timers.{without_timer, put_timer, with_timer, IsSound}
-use Rattle.mip_bulist.proofs.TimerLaws.{with_sound, fresh_sound, few}
+use Rattle.mip_bulist.proofs.TimerLaws.{with_sound, room_left}
 use Rattle.mip_bulist.proofs.timers.set.Goals as goal
 
 pub put_in-requires : goal.put_in-requires
 put_in-requires c =
     let old = c.args.timers.now.items in
-    let t = c.args.timer in
-    let count : suc (length (without_timer t.work old)) ≤ 64 = few (t ∷ without_timer t.work old) (fresh_sound t.due t.work old c.requires.range c.requires.sound) in
-    let e = c.take_out.ensures.items in
-    let n : length c.take_out.new.timers.items ≡ length (without_timer t.work old) = ap length e in
-    let r = c.take_out.ensures.room in
+    let few = room_left c.args.timer.work old c.requires.range c.requires.sound in
+    let same : length c.take_out.new.timers.items ≡ length (without_timer c.args.timer.work old) = ap length c.take_out.ensures.items in
+    let kept = c.take_out.ensures.room in
     let room = c.requires.room in
     omega arith
 
