@@ -1,5 +1,5 @@
 -- Numbers below 64, no two the same: what stays so, and that there is room for one more.
-use Rattle.std.proofs.Common.{◌≡◌, ◌≢◌, ℕ, ◌+◌, ◌*◌, ◌<◌, ◌≤◌, Bool, true, false, sym, subst, ap, ◌∙◌, eqb, List, [], ◌∷◌, ◌++◌, length, map, take, drop, arith, take-append-drop, refl, nat_lt}
+use Rattle.std.proofs.Common.{◌≡◌, ◌≢◌, ℕ, ◌+◌, ◌<◌, ◌≤◌, Bool, true, false, sym, subst, eqb, List, [], ◌∷◌, ◌++◌, length, map, take, drop, arith, take-append-drop, refl, nat_lt}
 use Rattle.std.specs.Prelude.{not, cond, ◌==◌, ◌||◌, filter, insert, unwrap_or, Some, None, suc}
 use Rattle.std.specs.List.{list_any, IsDistinct, AllByRecursion, position_or_len}
 use Rattle.std.proofs.lemmas.List.{length-map}

@@ -1,6 +1,6 @@
 -- The rows of a mobile: one for each peer, in the order in which they were made, with the peer's trial
 -- where that is in.
-use Rattle.std.specs.Prelude.{ℕ, Bool, false, not, ◌&&◌, ◌==◌, nat_lt, if◌then◌else◌, Option, Some, None, Result, Ok, Err, is_none, option_and_then, List, [], ◌∷◌, ◌++◌, length, position, slice_get, slice_set}
+use Rattle.std.specs.Prelude.{ℕ, Bool, false, ◌&&◌, ◌==◌, nat_lt, if◌then◌else◌, Option, Some, None, Result, Ok, Err, is_none, option_and_then, List, [], ◌∷◌, ◌++◌, length, position, slice_get, slice_set}
 use Rattle.mip_words.specs.declared.address.Address.{Address}
 use Rattle.mip_bulist.specs.declared.any.Any.{Any}
 use Rattle.mip_bulist.specs.declared.any.Any.TheVariants as any

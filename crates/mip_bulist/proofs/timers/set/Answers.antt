@@ -1,5 +1,4 @@
-use Rattle.std.proofs.Common.{◌≡◌, suc, ◌<◌, ◌≤◌, ◌∷◌, List, length, sym, subst, ap, ◌∙◌, arith}
-use Rattle.mip_bulist.specs.declared.timer.Timer.{Timer}
+use Rattle.std.proofs.Common.{◌≡◌, length, sym, subst, ap, ◌∙◌, arith}
 use Rattle.mip_bulist.specs.Timers.{without_timer, put_timer, with_timer, IsSound}
 use Rattle.mip_bulist.proofs.TimerLaws.{with_sound, room_left}
 use Rattle.mip_bulist.proofs.timers.set.Goals as goal
