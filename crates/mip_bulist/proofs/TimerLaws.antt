@@ -10,7 +10,7 @@ use Rattle.mip_words.specs.declared.moment.Moment.{Moment}
 use Rattle.mip_bulist.specs.declared.work.Work.{Work}
 use Rattle.mip_bulist.specs.declared.work.Work.TheVariants.{Resend, Renew, End, Own}
 use Rattle.mip_bulist.specs.declared.timer.Timer.{Timer}
-use Rattle.mip_bulist.specs.Timers.{number_of, IsInRange, is_of, without_timer, put_timer, place_of, with_timer, without_due, IsAbsent, AreApart, AreDueFrom, AreInOrder, IsSound}
+use Rattle.mip_bulist.specs.Timers.{number_of, IsInRange, is_of, without_timer, put_timer, place_of, with_timer, without_due, due_work, IsAbsent, AreApart, AreDueFrom, AreInOrder, IsSound}
 
 pub number_below : (work : Work) → IsInRange work → number_of work < 64
 number_below (Resend row) h = omega arith
@@ -155,3 +155,13 @@ room_left work ts range s =
     let t : Timer = record { due = record { 0 = 0 }; work = work } in
     let count : suc (length (without_timer work ts)) ≤ 64 = few (t ∷ without_timer work ts) (fresh_apart t.due work ts range s.apart) in
     omega arith
+
+-- of timers in order none is due where the first is not
+pub none_due : (now : Moment) (ts : List Timer) → AreInOrder ts → due_work now ts ≡ None → AreDueFrom (now.0 + 1) ts
+none_due now [] o e = tt
+none_due now (t ∷ ts) o e =
+    let P : Bool → Type 0 = λ b. nat_lt now.0 t.due.0 ≡ b → cond b None (Some t.work) ≡ None → AreDueFrom (now.0 + 1) (t ∷ ts) in
+    (elim (nat_lt now.0 t.due.0) as P [
+      | true ↦ λ is _. let le : now.0 + 1 ≤ t.due.0 = grind (arith, nat_tests) in (le, from_earlier (now.0 + 1) t.due.0 ts le o.0)
+      | false ↦ λ _ no. absurd cc
+    ]) refl e

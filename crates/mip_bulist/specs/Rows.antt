@@ -1,6 +1,6 @@
 -- The rows of a mobile: one for each peer, in the order in which they were made, with the peer's trial
 -- where that is in.
-use Rattle.std.specs.Prelude.{ℕ, Bool, false, ◌&&◌, ◌==◌, nat_lt, if◌then◌else◌, Option, Some, None, Result, Ok, Err, is_none, option_and_then, List, [], ◌∷◌, ◌++◌, length, position, slice_get, slice_set}
+use Rattle.std.specs.Prelude.{◌≢◌, ℕ, Bool, false, ◌&&◌, ◌==◌, nat_lt, if◌then◌else◌, Option, Some, None, Result, Ok, Err, is_none, option_and_then, List, [], ◌∷◌, ◌++◌, length, position, slice_get, slice_set}
 use Rattle.mip_words.specs.declared.address.Address.{Address}
 use Rattle.mip_bulist.specs.declared.any.Any.{Any}
 use Rattle.mip_bulist.specs.declared.any.Any.TheVariants as any
@@ -68,3 +68,13 @@ laid row trial rows = if takes_at row (peer_of_any trial) rows then Ok tt else E
 
 abbrev pub rows_laid : ℕ → Any → List Row → List Row
 rows_laid row trial rows = if takes_at row (peer_of_any trial) rows then with_trial row (Some trial) rows else rows
+
+-- no row is of this peer
+abbrev pub IsNew : ℕ → List Row → Type 0
+IsNew peer [] = Unit {0}
+IsNew peer (r ∷ rows) = (r.peer.0 ≢ peer) × IsNew peer rows
+
+-- no two rows are of one peer
+abbrev pub AreOfDifferentPeers : List Row → Type 0
+AreOfDifferentPeers [] = Unit {0}
+AreOfDifferentPeers (r ∷ rows) = IsNew r.peer.0 rows × AreOfDifferentPeers rows

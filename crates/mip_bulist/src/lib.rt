@@ -25,7 +25,10 @@ pub use any::Any;
 pub use laws::{a_later_update_is_of_its_tests, a_test_is_of_its_start, an_update_is_of_its_tests};
 pub use list::List;
 pub use list_full::ListFull;
-pub use list_laws::{a_number_is_of_one_work, a_row_keeps_its_peer, a_trial_put_back_comes_out};
+pub use list_laws::{
+    a_number_is_of_one_work, a_row_keeps_its_peer, a_trial_put_back_comes_out,
+    none_is_due_before_the_first, rows_are_of_different_peers,
+};
 pub use made::Made;
 pub use refused::Refused;
 pub use state::{Bound, Idle, Pending, Probing, Proved, State};

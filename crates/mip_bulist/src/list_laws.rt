@@ -1,10 +1,12 @@
-ghost use Rattle.std.specs.Prelude.{◌≡◌, ℕ, Some, Option, List, IfOk, IfSome};
+ghost use Rattle.std.specs.Prelude.{◌≡◌, ℕ, ◌+◌, Some, None, Option, List, [], IfOk, IfSome};
 ghost use Rattle.mip_words.specs.declared.address.Address.{Address};
+ghost use Rattle.mip_words.specs.declared.moment.Moment.{Moment};
 ghost use Rattle.mip_bulist.specs.declared.any.Any.{Any};
 ghost use Rattle.mip_bulist.specs.declared.row.Row.{Row};
+ghost use Rattle.mip_bulist.specs.declared.timer.Timer.{Timer};
 ghost use Rattle.mip_bulist.specs.declared.work.Work.{Work};
-ghost use Rattle.mip_bulist.specs.Rows.{peer_at, with_row, with_trial, laid, rows_laid, lifted};
-ghost use Rattle.mip_bulist.specs.Timers.{number_of};
+ghost use Rattle.mip_bulist.specs.Rows.{AreOfDifferentPeers, peer_at, with_row, with_trial, laid, rows_laid, lifted};
+ghost use Rattle.mip_bulist.specs.Timers.{number_of, due_work, AreDueFrom, AreInOrder};
 
 /// A row has its peer for ever, whatever is done to the rows.
 pub fn a_row_keeps_its_peer()
@@ -21,4 +23,17 @@ pub fn a_trial_put_back_comes_out()
 /// Two works of one number are the same.
 pub fn a_number_is_of_one_work()
     ensures { (a b : Work) → number_of a ≡ number_of b → a ≡ b }
+{}
+
+/// Rows that are made and changed by these calls alone are of different peers.
+pub fn rows_are_of_different_peers()
+    ensures none { AreOfDifferentPeers [] }
+    ensures made { (peer : Address) (rows : List Row) → AreOfDifferentPeers rows → AreOfDifferentPeers (with_row peer rows) }
+    ensures lifted { (row : ℕ) (trial : Option Any) (rows : List Row) → AreOfDifferentPeers rows → AreOfDifferentPeers (with_trial row trial rows) }
+    ensures laid { (row : ℕ) (trial : Any) (rows : List Row) → AreOfDifferentPeers rows → AreOfDifferentPeers (rows_laid row trial rows) }
+{}
+
+/// Where `pop` gives nothing, none of the timers is due.
+pub fn none_is_due_before_the_first()
+    ensures { (now : Moment) (timers : List Timer) → AreInOrder timers → due_work now timers ≡ None → AreDueFrom (now.0 + 1) timers }
 {}
