@@ -1,0 +1,110 @@
+ghost use Rattle.std.specs.Prelude.{◌≡◌, [], IfOk};
+ghost use Rattle.mip_bulist.specs.Timers.{AreInOrder, IsInRange, is_set, without_timer, with_timer, due_work, without_due, first_due};
+ghost use Rattle.mip_bulist.specs.Rows.{given_row, with_row, peer_at, lifted, with_trial, laid, rows_laid};
+
+use crate::any::Any;
+use crate::list_full::ListFull;
+use crate::row::Row;
+use crate::timer::Timer;
+use crate::work::Work;
+use crate::{rows, timers};
+use mip_words::{Address, Memory, Moment};
+use std::alloc::Global;
+use std::marker::Model;
+
+/// The Binding Update List of a mobile: a trial with each peer, 16 at most, and timers
+/// (RFC 6275 sections 4.5 and 11.1). Only `new` takes memory.
+#[derive(Drop)]
+pub struct List {
+    rows: Vec<Row>,
+    timers: Vec<Timer>,
+}
+
+impl Model for List {
+    ghost use Rattle.std.specs.Prelude.{vec_capacity};
+    ghost use Rattle.mip_bulist.specs.Lists.{ListSeen, IsListSound};
+
+    ghost Value = { ListSeen };
+
+    ghost view = { λ l. record { rows = l.rows.items; timers = l.timers.items } };
+
+    ghost invariant = { λ l. IsListSound l.rows.items (vec_capacity l.rows) l.timers.items (vec_capacity l.timers) };
+}
+
+impl List {
+    /// No row and no timer, with room for 16 rows and for every timer.
+    pub fn new(alloc: Global) -> Result<List, Memory>
+        ensures { IfOk result (λ l. l ≡ record { rows = []; timers = [] }) }
+    {
+        Ok(List {
+            rows: Vec::with_capacity(alloc, 16)?,
+            timers: Vec::with_capacity(alloc, 64)?,
+        })
+    }
+
+    /// The row of a peer, made where new. `ListFull` exactly where 16 other peers have rows.
+    pub fn row(&mut self, peer: Address) -> Result<u8, ListFull>
+        ensures given { result ≡ given_row peer self.old.rows }
+        ensures list { self.new ≡ record self.old { rows = with_row peer self.old.rows } }
+    {
+        rows::give(&mut self.rows, peer)
+    }
+
+    /// The peer of a row. `None` exactly where the row is not made.
+    pub fn peer(&self, row: u8) -> Option<Address>
+        ensures { result ≡ peer_at row self.now.rows }
+    {
+        rows::peer_at(&self.rows, row as usize)
+    }
+
+    /// Takes a row's trial out. `None` exactly where the row is not made or its trial is out.
+    pub fn lift(&mut self, row: u8) -> Option<Any>
+        ensures trial { result ≡ lifted row self.old.rows }
+        ensures list { self.new ≡ record self.old { rows = with_trial row None self.old.rows } }
+    {
+        rows::lift(&mut self.rows, row as usize)
+    }
+
+    /// Puts a trial back. It is handed back exactly where the row is not made, holds a trial or has
+    /// another peer.
+    pub fn lay(&mut self, row: u8, trial: Any) -> Result<(), Any>
+        ensures answer { result ≡ laid row trial self.old.rows }
+        ensures list { self.new ≡ record self.old { rows = rows_laid row trial self.old.rows } }
+    {
+        rows::lay(&mut self.rows, row as usize, trial)
+    }
+
+    /// Sets the timer of this work, or sets it anew.
+    pub fn set(&mut self, due: Moment, work: Work)
+        requires { IsInRange work }
+        ensures { self.new ≡ record self.old { timers = with_timer due work self.old.timers } }
+    {
+        timers::set(&mut self.timers, Timer { due, work });
+    }
+
+    /// Stops the timer of this work. `false` exactly where it is not set.
+    pub fn stop(&mut self, work: Work) -> bool
+        ensures was { result ≡ is_set work self.old.timers }
+        ensures list { self.new ≡ record self.old { timers = without_timer work self.old.timers } }
+    {
+        timers::stop(&mut self.timers, work)
+    }
+
+    /// Takes the set work of the earliest due moment, ties in order of setting. `None` exactly where none
+    /// is due.
+    pub fn pop(&mut self, now: Moment) -> Option<Work>
+        ensures order { AreInOrder self.old.timers }
+        ensures work { result ≡ due_work now self.old.timers }
+        ensures list { self.new ≡ record self.old { timers = without_due now self.old.timers } }
+    {
+        timers::pop(&mut self.timers, now)
+    }
+
+    /// The earliest due moment.
+    pub fn due(&self) -> Option<Moment>
+        ensures order { AreInOrder self.now.timers }
+        ensures first { result ≡ first_due self.now.timers }
+    {
+        timers::first_due(&self.timers)
+    }
+}

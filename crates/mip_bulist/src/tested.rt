@@ -1,0 +1,104 @@
+ghost use Rattle.std.specs.Prelude.{◌≡◌};
+ghost use Rattle.mip_bulist.specs.Trials.{is_old, has_old, made_of, needed};
+
+use crate::aim::Aim;
+use crate::made::Made;
+use mip_options::Indices;
+use mip_tokens::Kbm;
+use mip_words::{Address, Moment, Token};
+
+/// How long a token serves after it came, in milliseconds (MAX_TOKEN_LIFETIME).
+const TOKEN_LIFE: u64 = 210_000;
+
+/// A Home Test or a Care-of Test that was kept (RFC 6275 sections 6.1.5 and 6.1.6).
+#[derive(Clone, Copy, Debug, PartialEq, Eq)]
+pub struct Test {
+    /// The nonce index.
+    pub index: u16,
+    pub token: Token,
+    /// When it came.
+    pub at: Moment,
+}
+
+/// The tests that an aim needs.
+#[derive(Clone, Copy, Debug, PartialEq, Eq)]
+pub enum Tested {
+    /// To bind to a care-of address.
+    Both {
+        to: Address,
+        home: Test,
+        careof: Test,
+    },
+    /// To delete.
+    Home {
+        home: Test,
+    },
+}
+
+impl Test {
+    /// Whether its token serves no more.
+    pub fn is_old(&self, now: Moment) -> bool
+        ensures { result ≡ is_old now self.now }
+    {
+        now.0.saturating_sub(self.at.0) >= TOKEN_LIFE
+    }
+}
+
+impl Tested {
+    /// The tests that an aim needs, where all are there.
+    pub fn of(aim: Aim, home: Option<Test>, careof: Option<Test>) -> Option<Tested>
+        ensures { result ≡ needed aim home careof }
+    {
+        match (aim, home, careof) {
+            (Aim::Bind(to), Some(home), Some(careof)) => Some(Tested::Both { to, home, careof }),
+            (Aim::Delete, Some(home), _) => Some(Tested::Home { home }),
+            _ => None,
+        }
+    }
+
+    /// Whether a token serves no more.
+    pub fn is_old(&self, now: Moment) -> bool
+        ensures { result ≡ has_old now self.now }
+    {
+        match self {
+            Tested::Both {
+                to: _,
+                home,
+                careof,
+            } => home.is_old(now) || careof.is_old(now),
+            Tested::Home { home } => home.is_old(now),
+        }
+    }
+
+    /// What an update with this sequence is written with.
+    pub fn made(&self, sequence: u16) -> Made
+        ensures { result ≡ made_of sequence self.now }
+    {
+        match self {
+            Tested::Both {
+                to: _,
+                home,
+                careof,
+            } => Made {
+                sequence,
+                kbm: Kbm::both(home.token, careof.token),
+                indices: Indices {
+                    home: home.index,
+                    careof: careof.index,
+                },
+                home: home.token,
+                careof: Some(careof.token),
+            },
+            Tested::Home { home } => Made {
+                sequence,
+                kbm: Kbm::home(home.token),
+                indices: Indices {
+                    home: home.index,
+                    careof: 0,
+                },
+                home: home.token,
+                careof: None,
+            },
+        }
+    }
+}

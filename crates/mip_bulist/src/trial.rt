@@ -1,0 +1,257 @@
+ghost use Rattle.std.specs.Prelude.{◌≡◌};
+ghost use Rattle.mip_bulist.specs.Trials.{peer_of, next_of, in_state, fresh_trial, probed, weighed, home_tested, careof_tested, made_now, updated, made_again, ended_with, acknowledged_as, resequenced, at_rest};
+
+use crate::aim::Aim;
+use crate::made::Made;
+use crate::recent::Recent;
+use crate::refused::Refused;
+use crate::state::{Bound, Idle, Pending, Probing, Proved, State};
+use crate::tested::{Test, Tested};
+use mip_words::{Address, Cookie, Moment, Token};
+
+/// Return routability with one peer, in the state `S`. It cannot be copied.
+#[must_use]
+#[derive(Debug, Drop)]
+pub struct Trial<S: State> {
+    peer: Address,
+    next: u16,
+    recent: Recent,
+    state: S,
+}
+
+/// What a test that was kept leaves.
+#[derive(Debug, Drop)]
+pub enum Probe {
+    /// A test that the aim needs is missing.
+    More(Trial<Probing>),
+    Done(Trial<Proved>),
+}
+
+/// What an acknowledgement leaves.
+#[derive(Debug, Drop)]
+pub enum Ended {
+    Bound(Trial<Bound>),
+    Deleted(Trial<Idle>),
+}
+
+impl<S: State> Trial<S> {
+    pub fn peer(&self) -> Address
+        ensures { result ≡ peer_of self.now }
+    {
+        self.peer
+    }
+
+    /// The sequence that the next update takes.
+    pub fn next(&self) -> u16
+        ensures { result ≡ next_of self.now }
+    {
+        self.next
+    }
+
+    /// Gives up what is under way.
+    pub fn idle(self) -> Trial<Idle>
+        ensures { result ≡ at_rest self }
+    {
+        self.into_state(Idle)
+    }
+
+    fn into_state<T: State>(self, state: T) -> Trial<T>
+        ensures { result ≡ in_state state self }
+    {
+        Trial {
+            peer: self.peer,
+            next: self.next,
+            recent: self.recent,
+            state,
+        }
+    }
+
+    /// Makes an update of these tests.
+    fn make(self, now: Moment, tested: Tested) -> (Trial<Pending>, Made)
+        ensures { result ≡ made_now now tested self }
+    {
+        let pending = Trial {
+            peer: self.peer,
+            next: self.next.wrapping_add(1),
+            recent: self.recent.with(now),
+            state: Pending {
+                tested,
+                last: self.next,
+            },
+        };
+        (pending, tested.made(self.next))
+    }
+}
+
+impl Trial<Idle> {
+    /// A trial that has made no update; its first one takes sequence 1.
+    pub fn new(peer: Address) -> Trial<Idle>
+        ensures { result ≡ fresh_trial peer }
+    {
+        Trial {
+            peer,
+            next: 1,
+            recent: Recent {
+                newest: None,
+                middle: None,
+                oldest: None,
+            },
+            state: Idle,
+        }
+    }
+
+    /// Starts tests with the cookies of its HoTI and its CoTI.
+    pub fn probe(self, _now: Moment, aim: Aim, home: Cookie, careof: Cookie) -> Trial<Probing>
+        ensures { result ≡ probed aim home careof self }
+    {
+        self.into_state(Probing {
+            aim,
+            home_cookie: home,
+            careof_cookie: careof,
+            home: None,
+            careof: None,
+        })
+    }
+}
+
+impl Trial<Probing> {
+    /// Keeps a Home Test (RFC 6275 section 11.6.2). A later one replaces it.
+    pub fn home_test(
+        self,
+        now: Moment,
+        peer: Address,
+        cookie: Cookie,
+        index: u16,
+        token: Token,
+    ) -> Result<Probe, (Trial<Probing>, Refused)>
+        ensures { result ≡ home_tested peer cookie (record { index = index; token = token; at = now }) self }
+    {
+        if self.peer.0 != peer.0 {
+            return Err((self, Refused::NotMine));
+        }
+        if cookie.0 != self.state.home_cookie.0 {
+            return Err((self, Refused::Cookie));
+        }
+        let test = Test {
+            index,
+            token,
+            at: now,
+        };
+        let state = Probing {
+            home: Some(test),
+            ..self.state
+        };
+        Ok(self.into_state(state).weigh())
+    }
+
+    /// Keeps a Care-of Test (RFC 6275 section 11.6.2). A later one replaces it.
+    pub fn careof_test(
+        self,
+        now: Moment,
+        peer: Address,
+        cookie: Cookie,
+        index: u16,
+        token: Token,
+    ) -> Result<Probe, (Trial<Probing>, Refused)>
+        ensures { result ≡ careof_tested peer cookie (record { index = index; token = token; at = now }) self }
+    {
+        if peer.0 != self.peer.0 {
+            return Err((self, Refused::NotMine));
+        }
+        if matches!(self.state.aim, Aim::Delete) {
+            return Err((self, Refused::Cookie));
+        }
+        if cookie.0 != self.state.careof_cookie.0 {
+            return Err((self, Refused::Cookie));
+        }
+        let test = Test {
+            index,
+            token,
+            at: now,
+        };
+        let state = Probing {
+            careof: Some(test),
+            ..self.state
+        };
+        Ok(self.into_state(state).weigh())
+    }
+
+    /// Proved, where the tests that the aim needs are there.
+    fn weigh(self) -> Probe
+        ensures { result ≡ weighed self }
+    {
+        match Tested::of(self.state.aim, self.state.home, self.state.careof) {
+            Some(tested) => Probe::Done(self.into_state(Proved { tested })),
+            None => Probe::More(self),
+        }
+    }
+}
+
+impl Trial<Proved> {
+    /// Makes the first update of these tests (RFC 6275 section 11.7.2).
+    pub fn update(self, now: Moment) -> Result<(Trial<Pending>, Made), (Trial<Proved>, Refused)>
+        ensures { result ≡ updated now self }
+    {
+        let tested = self.state.tested;
+        if tested.is_old(now) {
+            return Err((self, Refused::Old));
+        }
+        if self.recent.is_full(now) {
+            return Err((self, Refused::TooSoon));
+        }
+        Ok(self.make(now, tested))
+    }
+}
+
+impl Trial<Pending> {
+    /// Makes the update anew, under the next sequence (RFC 6275 section 11.8).
+    pub fn again(self, now: Moment) -> Result<(Trial<Pending>, Made), (Trial<Pending>, Refused)>
+        ensures { result ≡ made_again now self }
+    {
+        let tested = self.state.tested;
+        if tested.is_old(now) {
+            return Err((self, Refused::Old));
+        }
+        if self.recent.is_full(now) {
+            return Err((self, Refused::TooSoon));
+        }
+        Ok(self.make(now, tested))
+    }
+
+    /// Takes an acknowledgement that accepts, with the lifetime granted in units of 4 s
+    /// (RFC 6275 section 11.7.3).
+    pub fn acknowledged(
+        self,
+        peer: Address,
+        sequence: u16,
+        granted: u16,
+    ) -> Result<Ended, (Trial<Pending>, Refused)>
+        ensures { result ≡ acknowledged_as peer sequence granted self }
+    {
+        if peer.0 != self.peer.0 || sequence != self.state.last {
+            return Err((self, Refused::NotMine));
+        }
+        Ok(self.end(granted))
+    }
+
+    /// Goes on after the sequence that the peer last accepted (status 135, RFC 6275 section 11.7.3).
+    pub fn resequence(self, last: u16) -> Trial<Pending>
+        ensures { result ≡ resequenced last self }
+    {
+        Trial {
+            next: last.wrapping_add(1),
+            ..self
+        }
+    }
+
+    fn end(self, granted: u16) -> Ended
+        ensures { result ≡ ended_with granted self.state.tested self }
+    {
+        match self.state.tested {
+            Tested::Both { to, .. } if granted != 0 => Ended::Bound(self.into_state(Bound {
+                aim: Aim::Bind(to),
+            })),
+            _ => Ended::Deleted(self.into_state(Idle)),
+        }
+    }
+}
