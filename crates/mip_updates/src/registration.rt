@@ -3,7 +3,7 @@ use mip_words::Address;
 
 /// What a Binding Update asks of a correspondent (RFC 6275 section 6.1.7), but for its authenticator.
 #[derive(Clone, Copy, Debug, PartialEq, Eq)]
-pub struct Request {
+pub struct Registration {
     /// The source of its packet.
     pub source: Address,
     /// The Home Address option, where one stands.

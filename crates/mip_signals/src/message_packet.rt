@@ -5,9 +5,9 @@ ghost use Rattle.mip_ipv6.specs.Reading.{packet_of};
 ghost use Rattle.mip_mobhdr.specs.Said.{said_plain};
 ghost use Rattle.mip_mobhdr.specs.Reading.{message_of};
 ghost use Rattle.mip_mobhdr.specs.Spelling.{IsMessage, message_bytes};
-ghost use Rattle.mip_signals.specs.Packets.{signal};
+ghost use Rattle.mip_signals.specs.Packets.{message_packet};
 
-use crate::parcel::write_parcel;
+use crate::data_packet::write_data_packet;
 use mip_ipv6::Head;
 use mip_mobhdr::{Plain, write_message};
 use mip_words::{Bytes, Memory};
@@ -36,10 +36,10 @@ pub(crate) fn message_for(alloc: Global, head: &Head, message: &Plain) -> Result
 
 /// A packet with a mobility message, whose checksum counts home addresses where there are any (RFC 6275 section
 /// 6.1.1).
-#[tactic(auto, unfolding(crate::specs::Packets::signal, crate::specs::Packets::parcel))]
-pub fn write_signal(alloc: Global, head: &Head, message: &Plain) -> Result<Bytes, Memory>
+#[tactic(auto, unfolding(crate::specs::Packets::message_packet, crate::specs::Packets::data_packet))]
+pub fn write_message_packet(alloc: Global, head: &Head, message: &Plain) -> Result<Bytes, Memory>
     requires { IsTrue (is_plain head.now) }
-    ensures bytes { IfOk result (λ b. b ≡ signal head.now (said_plain message.now)) }
+    ensures bytes { IfOk result (λ b. b ≡ message_packet head.now (said_plain message.now)) }
     // It is read back: the packet with its body, and the message in that body.
     ensures back { IfOk result (λ b. (body : List ℕ) × (packet_of b ≡ Ok (record { head = head.now; body = body }))
         × (message_of (source_of head.now) (destination_of head.now) body ≡ Ok (said_plain message.now))) }
@@ -47,5 +47,5 @@ pub fn write_signal(alloc: Global, head: &Head, message: &Plain) -> Result<Bytes
     ensures long { IfOk result (λ b. 40 ≤ length b) }
 {
     let body = message_for(alloc, head, message)?;
-    write_parcel(alloc, head, body.as_slice())
+    write_data_packet(alloc, head, body.as_slice())
 }

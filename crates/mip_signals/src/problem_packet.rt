@@ -2,10 +2,11 @@ ghost use Rattle.std.specs.Prelude.{◌≡◌, ◌≤◌, length, take, IfOk};
 ghost use Rattle.mip_words.specs.Numbers.{number_at};
 ghost use Rattle.mip_icmp.specs.Said.{Parameter};
 ghost use Rattle.mip_icmp.specs.Spelling.{icmp_bytes};
-ghost use Rattle.mip_signals.specs.Packets.{problem};
+ghost use Rattle.mip_signals.specs.Packets.{problem_packet};
 
 use crate::heads::straight;
-use crate::parcel::write_parcel;
+use crate::data_packet::write_data_packet;
+use mip_constants::protocol::ICMPV6;
 use mip_icmp::{PlainIcmp, write_icmp};
 use mip_words::{Address, Bytes, Memory};
 use std::alloc::Global;
@@ -47,18 +48,18 @@ fn report(
 
 /// The Parameter Problem that points at a byte of this packet (RFC 4443 section 3.4). It quotes the first 1,232
 /// bytes at most.
-#[tactic(auto, unfolding(crate::specs::Packets::problem, crate::specs::Packets::parcel))]
-pub fn write_problem(
+#[tactic(auto, unfolding(crate::specs::Packets::problem_packet, crate::specs::Packets::data_packet))]
+pub fn write_problem_packet(
     alloc: Global,
     source: Address,
     destination: Address,
     pointer: u32,
     packet: &[u8],
 ) -> Result<Bytes, Memory>
-    ensures bytes { IfOk result (λ b. b ≡ problem source destination pointer packet.now) }
+    ensures bytes { IfOk result (λ b. b ≡ problem_packet source destination pointer packet.now) }
     ensures destination { IfOk result (λ b. number_at 16 24 b ≡ destination.0) }
     ensures long { IfOk result (λ b. 40 ≤ length b) }
 {
     let body = report(alloc, source, destination, pointer, packet)?;
-    write_parcel(alloc, &straight(source, destination, 58), body.as_slice())
+    write_data_packet(alloc, &straight(source, destination, ICMPV6), body.as_slice())
 }

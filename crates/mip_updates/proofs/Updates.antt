@@ -11,8 +11,8 @@ use Rattle.mip_mobhdr.specs.declared.fault.Fault.{Fault}
 use Rattle.mip_mobhdr.specs.Said.{Said}
 use Rattle.mip_mobhdr.specs.Said.Said.{Update}
 use Rattle.mip_mobhdr.specs.Reading.{has_bit, or_fault, options_in, update_of}
-use Rattle.mip_rules_correspondent.specs.declared.request.Request.{Request}
-use Rattle.mip_rules_correspondent.specs.Requests.{request, request_said, request_in}
+use Rattle.mip_updates.specs.declared.registration.Registration.{Registration}
+use Rattle.mip_updates.specs.Registrations.{registration, registration_said, registration_in}
 
 abbrev has_authorization : Values → Bool
 has_authorization v = is_some v.authorization
@@ -69,32 +69,32 @@ or_fault_ok (Ok x) v e = ap done (ok_is x v e)
 or_fault_ok (Err place) v e = absurd cc
 
 -- what is read of an update asks something
-pub update_asks : (source : Address) (home_option : Option Address) (message : List ℕ) (m : Said) → update_of message ≡ Ok m → request_said source home_option (Ok m) ≡ None → ⊥
+pub update_asks : (source : Address) (home_option : Option Address) (message : List ℕ) (m : Said) → update_of message ≡ Ok m → registration_said source home_option (Ok m) ≡ None → ⊥
 unfolding update_of
 update_asks source home_option message m e none =
     let flag : ℕ → Bool = λ worth. has_bit worth (slice_index message 8) in
     let f : Values → Result Said Fault = λ o. Ok (Update (number_at 2 6 message) (flag 128) (flag 64) (flag 32) (flag 16) (number_at 2 10 message) o) in
     let b = bind_ok (options_in 12 message) f m e in
-    let asked : Some (request source home_option (number_at 2 6 message) (flag 128) (flag 64) (number_at 2 10 message) b.0) ≡ None = ap (λ (x : Result Said Fault). request_said source home_option x) b.2 ∙ none in
+    let asked : Some (registration source home_option (number_at 2 6 message) (flag 128) (flag 64) (number_at 2 10 message) b.0) ≡ None = ap (λ (x : Result Said Fault). registration_said source home_option x) b.2 ∙ none in
     cc
 
 -- where something is asked, something was read
-read : (source : Address) (home_option : Option Address) (r : Request) (x : Result Said Fault) → request_said source home_option x ≡ Some r → (m : Said) × (x ≡ Ok m)
+read : (source : Address) (home_option : Option Address) (r : Registration) (x : Result Said Fault) → registration_said source home_option x ≡ Some r → (m : Said) × (x ≡ Ok m)
 read source home_option r (Ok m) e = (m, refl)
 read source home_option r (Err fault) e = absurd cc
 
-some_is : (x y : Request) → Some x ≡ Some y → x ≡ y
+some_is : (x y : Registration) → Some x ≡ Some y → x ≡ y
 some_is x y e = cc
 
 -- so has an update that brings one, behind its first 12 bytes
-pub authorized_is_long : (source : Address) (home_option : Option Address) (message : List ℕ) (r : Request) → request_in source home_option message ≡ Some r → r.authorized ≡ true → 26 ≤ length message
+pub authorized_is_long : (source : Address) (home_option : Option Address) (message : List ℕ) (r : Registration) → registration_in source home_option message ≡ Some r → r.authorized ≡ true → 26 ≤ length message
 unfolding update_of options_of
 authorized_is_long source home_option message r e some =
     let was = read source home_option r (update_of message) e in
     let flag : ℕ → Bool = λ worth. has_bit worth (slice_index message 8) in
     let f : Values → Result Said Fault = λ o. Ok (Update (number_at 2 6 message) (flag 128) (flag 64) (flag 32) (flag 16) (number_at 2 10 message) o) in
     let b = bind_ok (options_in 12 message) f was.0 was.1 in
-    let asked = some_is (request source home_option (number_at 2 6 message) (flag 128) (flag 64) (number_at 2 10 message) b.0) r (ap (λ (x : Result Said Fault). request_said source home_option x) (b.2 ∙ sym was.1) ∙ e) in
-    let there : has_authorization b.0 ≡ true = ap (λ (q : Request). q.authorized) asked ∙ some in
+    let asked = some_is (registration source home_option (number_at 2 6 message) (flag 128) (flag 64) (number_at 2 10 message) b.0) r (ap (λ (x : Result Said Fault). registration_said source home_option x) (b.2 ∙ sym was.1) ∙ e) in
+    let there : has_authorization b.0 ≡ true = ap (λ (q : Registration). q.authorized) asked ∙ some in
     let long = walked 0 12 nothing (drop 12 message) b.0 (or_fault_ok (options_of 12 message) b.0 b.1) refl there in
     omega (arith, length-drop 12 message, long)

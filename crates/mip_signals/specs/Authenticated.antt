@@ -8,7 +8,7 @@ use Rattle.mip_mobhdr.specs.Said.{Said}
 use Rattle.mip_mobhdr.specs.Said.Said.{Update, Acknowledgement}
 use Rattle.mip_mobhdr.specs.Spelling.{message_bytes}
 use Rattle.mip_tokens.specs.Token.{authenticator_of}
-use Rattle.mip_signals.specs.Packets.{signal}
+use Rattle.mip_signals.specs.Packets.{message_packet}
 
 -- the options with this authenticator
 abbrev pub with_authenticator : List ℕ → Values → Values
@@ -31,6 +31,6 @@ abbrev pub unsealed : Head → Said → List ℕ
 unsealed head message = message_bytes (source_of head) (destination_of head) (authorized (replicate 12 0) message)
 
 -- the packet with the message and its authenticator under this key, between a care-of address and a correspondent
-unfoldable pub sealed : Head → (kbm : List ℕ) → (careof peer : Address) → Said → List ℕ
-sealed head kbm careof peer message =
-    signal head (authorized (authenticator_of kbm careof peer (unsealed head message)) message)
+unfoldable pub authenticated_packet : Head → (kbm : List ℕ) → (careof peer : Address) → Said → List ℕ
+authenticated_packet head kbm careof peer message =
+    message_packet head (authorized (authenticator_of kbm careof peer (unsealed head message)) message)

@@ -6,9 +6,9 @@ ghost use Rattle.mip_ipv6.specs.Packet.{is_plain};
 ghost use Rattle.mip_options.specs.Values.{set_values};
 ghost use Rattle.mip_mobhdr.specs.Said.{said_plain};
 ghost use Rattle.mip_tokens.specs.Token.{authenticator_of};
-ghost use Rattle.mip_signals.specs.Sealed.{with_authenticator, authorized, has_authenticator, unsealed, sealed};
+ghost use Rattle.mip_signals.specs.Authenticated.{with_authenticator, authorized, has_authenticator, unsealed, authenticated_packet};
 
-use crate::signal::{message_for, write_signal};
+use crate::message_packet::{message_for, write_message_packet};
 use mip_ipv6::Head;
 use mip_mobhdr::Plain;
 use mip_options::OptionSet;
@@ -102,8 +102,8 @@ fn seal(
 
 /// A packet with an update or an acknowledgement and its authenticator under this key, between a care-of address
 /// and a correspondent. Any other message has no authenticator, and is written as it is.
-#[tactic(auto, unfolding(crate::specs::Sealed::sealed), using(crate::proofs::Seals::unauthorized))]
-pub fn write_sealed(
+#[tactic(auto, unfolding(crate::specs::Authenticated::authenticated_packet), using(crate::proofs::Seals::unauthorized))]
+pub fn write_authenticated_packet(
     alloc: Global,
     head: &Head,
     message: &Plain,
@@ -112,13 +112,13 @@ pub fn write_sealed(
     peer: Address,
 ) -> Result<Bytes, Memory>
     requires { IsTrue (is_plain head.now) }
-    ensures bytes { IfOk result (λ b. b ≡ sealed head.now kbm.now.0 careof peer (said_plain message.now)) }
+    ensures bytes { IfOk result (λ b. b ≡ authenticated_packet head.now kbm.now.0 careof peer (said_plain message.now)) }
     ensures destination { IfOk result (λ b. number_at 16 24 b ≡ head.now.destination.0) }
     ensures long { IfOk result (λ b. 40 ≤ length b) }
 {
     if !has_authenticator(message) {
-        return write_signal(alloc, head, message);
+        return write_message_packet(alloc, head, message);
     }
     let authenticator = seal(alloc, head, message, kbm, careof, peer)?;
-    write_signal(alloc, head, &authorized(message, authenticator))
+    write_message_packet(alloc, head, &authorized(message, authenticator))
 }
