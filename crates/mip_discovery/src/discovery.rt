@@ -18,7 +18,7 @@ pub struct Discovery {
 impl Model for Discovery {
     ghost use Rattle.std.specs.Prelude.{◌≤◌};
     ghost use Rattle.mip_constants.specs.Constants.{initial_dhaad_timeout};
-ghost use Rattle.mip_discovery.specs.Retries.{DiscoverySeen};
+    ghost use Rattle.mip_discovery.specs.Retries.{DiscoverySeen};
 
     ghost Value = { DiscoverySeen };
 

@@ -4,8 +4,8 @@ ghost use Rattle.mip_icmp.specs.Said.{Parameter};
 ghost use Rattle.mip_icmp.specs.Spelling.{icmp_bytes};
 ghost use Rattle.mip_signals.specs.Packets.{problem_packet};
 
-use crate::heads::straight;
 use crate::data_packet::write_data_packet;
+use crate::heads::straight;
 use mip_constants::protocol::ICMPV6;
 use mip_icmp::{PlainIcmp, write_icmp};
 use mip_words::{Address, Bytes, Memory};
@@ -61,5 +61,9 @@ pub fn write_problem_packet(
     ensures long { IfOk result (λ b. 40 ≤ length b) }
 {
     let body = report(alloc, source, destination, pointer, packet)?;
-    write_data_packet(alloc, &straight(source, destination, ICMPV6), body.as_slice())
+    write_data_packet(
+        alloc,
+        &straight(source, destination, ICMPV6),
+        body.as_slice(),
+    )
 }

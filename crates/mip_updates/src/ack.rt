@@ -66,6 +66,13 @@ pub fn write_ack(
     let message = acknowledgement(status, sequence, lifetime);
     match kbm {
         None => write_message_packet(alloc, &head, &message),
-        Some(kbm) => write_authenticated_packet(alloc, &head, &message, kbm, registered_of(registration), own),
+        Some(kbm) => write_authenticated_packet(
+            alloc,
+            &head,
+            &message,
+            kbm,
+            registered_of(registration),
+            own,
+        ),
     }
 }

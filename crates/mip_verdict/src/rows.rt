@@ -61,7 +61,11 @@ fn by_room(
     ensures { result ≡ by_room (bench_of judge.now registration.now) registration.now home careof kbm }
 {
     if !judge.cache.has_room(judge.moment, home_of(registration)) {
-        return deny(status::INSUFFICIENT_RESOURCES, registration.sequence, Some(kbm));
+        return deny(
+            status::INSUFFICIENT_RESOURCES,
+            registration.sequence,
+            Some(kbm),
+        );
     }
     Verdict::Accept {
         home: home_of(registration),
@@ -121,7 +125,10 @@ fn kbm_of(judge: &Judge<'_>, registration: &Registration, home: u64, careof: Opt
         None => Kbm::home(home_token),
         Some(careof) => {
             let nonce = judge.secrets.nonce(careof);
-            Kbm::both(home_token, careof_token(kcn, careof_of(registration), &nonce))
+            Kbm::both(
+                home_token,
+                careof_token(kcn, careof_of(registration), &nonce),
+            )
         }
     }
 }
@@ -151,7 +158,11 @@ fn by_numbers(
 }
 
 /// The number of the care-of nonce; where the binding ends its index is ignored.
-fn careof_number(judge: &Judge<'_>, registration: &Registration, indices: Indices) -> Option<Option<u64>>
+fn careof_number(
+    judge: &Judge<'_>,
+    registration: &Registration,
+    indices: Indices,
+) -> Option<Option<u64>>
     ensures { result ≡ careof_number (bench_of judge.now registration.now) registration.now indices }
 {
     if deletes(registration) {

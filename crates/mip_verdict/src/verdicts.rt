@@ -68,7 +68,11 @@ fn from_the_first(judge: &Judge<'_>, registration: &Registration, message: &[u8]
     ensures { result ≡ verdict (bench_of judge.now registration.now) registration.now message.now }
 {
     if registration.for_agent {
-        return deny(status::HOME_REGISTRATION_NOT_SUPPORTED, registration.sequence, None);
+        return deny(
+            status::HOME_REGISTRATION_NOT_SUPPORTED,
+            registration.sequence,
+            None,
+        );
     }
     if !(home_of(registration).routable() && careof_of(registration).routable()) {
         return Verdict::Refuse(Why::Unroutable);
