@@ -3,7 +3,7 @@ use Rattle.std.proofs.Common.{◌≡◌, ℕ, ◌+◌, ◌-◌, ◌≤◌, ◌<�
 use Rattle.std.proofs.lemmas.Bool.{cond_both, not-true, not-false, and_parts, ltb-true, leb-true}
 use Rattle.std.proofs.lemmas.Slice.Eq.{bytes_eq-Decides}
 use Rattle.std.proofs.Math.Nat.{le-max_right}
-use Rattle.std.specs.Prelude.{◌*◌, ◌/◌, max, Option, Some, None, option_map, is_some}
+use Rattle.std.specs.Prelude.{◌/◌, Option, Some, None, option_map, is_some}
 use Rattle.mip_constants.specs.Constants.{max_nonce_lifetime}
 use Rattle.mip_words.specs.Addresses.{is_routable}
 use Rattle.mip_words.specs.Sequence.{is_after}

@@ -10,6 +10,7 @@ use Rattle.mip_reception.specs.Replies.{reply_packet}
 use Rattle.mip_updates.specs.declared.registration.Registration.{Registration}
 use Rattle.mip_rules_correspondent.specs.declared.identity.Identity.{Identity}
 use Rattle.mip_updates.specs.Acks.{ack_packet}
+use Rattle.mip_rules_correspondent.specs.Calls.{Call}
 use Rattle.mip_rules_correspondent.specs.Sendings.{Sending, SendsHomeTest, SendsCareofTest, SendsAck, SendsReply, SendsRefresh, SendsData, IsPacketOf}
 
 ack-long : (own : Address) (r : Registration) (status sequence lifetime : ℕ) (kbm : Option Kbm) → IsLong (ack_packet own r status sequence lifetime kbm)
@@ -24,10 +25,10 @@ reply-long own source packet (BindingError status home) = message-long _ _
 reply-long own source packet (ParameterProblem pointer) = problem-long _ _ _ _
 
 -- whatever a correspondent sends has its fixed header
-pub sending-long : (me : Identity) (now : ℕ) (x : Sending) (packet : List ℕ) → IsPacketOf me now x packet → IsLong packet
-sending-long me now (SendsHomeTest source cookie) packet is = subst IsLong (sym is) (message-long _ _)
-sending-long me now (SendsCareofTest source cookie) packet is = subst IsLong (sym is) (message-long _ _)
-sending-long me now (SendsAck update status sequence lifetime kbm) packet is = subst IsLong (sym is) (ack-long me.own update status sequence lifetime kbm)
-sending-long me now (SendsReply source bytes reply) packet is = subst (λ (o : Option (List ℕ)). IfSome o IsLong) is (reply-long me.own source bytes reply)
-sending-long me now (SendsRefresh home careof) packet is = subst IsLong (sym is) (message-long _ _)
-sending-long me now (SendsData to proto payload held) packet is = subst IsLong (sym is) (data-long _ _)
+pub sending-long : (me : Identity) (c : Call) (now : ℕ) (x : Sending) (packet : List ℕ) → IsPacketOf me c now x packet → IsLong packet
+sending-long me c now (SendsHomeTest source cookie) packet is = subst IsLong (sym is) (message-long _ _)
+sending-long me c now (SendsCareofTest source cookie) packet is = subst IsLong (sym is) (message-long _ _)
+sending-long me c now (SendsAck update status sequence lifetime kbm) packet is = subst IsLong (sym is) (ack-long me.own update status sequence lifetime kbm)
+sending-long me c now (SendsReply source bytes reply) packet is = subst (λ (o : Option (List ℕ)). IfSome o IsLong) is (reply-long me.own source bytes reply)
+sending-long me c now (SendsRefresh home careof) packet is = subst IsLong (sym is) (message-long _ _)
+sending-long me c now (SendsData to proto payload held) packet is = subst IsLong (sym is.1) (data-long _ _)

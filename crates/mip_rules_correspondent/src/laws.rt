@@ -66,9 +66,9 @@ pub fn answers_are_whole()
 {}
 
 /// Whatever a call sends is a packet that a correspondent sends at its moment: a test of its own, an acknowledgement, what
-/// goes back to the source of a refused packet, a refresh request, or data.
+/// goes back to the source of a refused packet, a refresh request, or the data that the call asks for.
 pub fn each_packet_is_its_own()
-    ensures { (me : Identity) (k : Known) (now : ℕ) (c : Call) → AllByRecursion (SendsOwn me now) (turn_of me k now c).steps }
+    ensures { (me : Identity) (k : Known) (now : ℕ) (c : Call) → AllByRecursion (SendsOwn me c now) (turn_of me k now c).steps }
 {}
 
 /// A packet that is handed over leads to no acceptance, or at once to that of the update in it, with the verdict Accept on
