@@ -1,0 +1,11 @@
+//! What stands behind each acceptance of a history: the tokens, the update and their packets, or why there is no such
+//! origin.
+#![tactic(auto)]
+
+mod accepted_update;
+mod maker;
+mod mark;
+
+pub use accepted_update::AcceptedUpdate;
+pub use maker::Maker;
+pub use mark::Mark;
