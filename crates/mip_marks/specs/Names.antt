@@ -28,7 +28,7 @@ is_agent node (Agent n) = n == node
 is_agent node _ = false
 
 abbrev pub is_restart : ℕ → Sight → Bool
-is_restart node (Restarted n) = n == node
+is_restart node (Restarted n) = node == n
 is_restart node _ = false
 
 -- the life of a node
