@@ -1,2 +1,4 @@
 pub mod ListLaws
 pub mod Tokens
+pub mod Pairing
+pub mod Tracing

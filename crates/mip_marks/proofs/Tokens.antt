@@ -30,7 +30,7 @@ pub bytes_same : (a b : List ℕ) → a ≡ b → bytes_eq a b ≡ true
 bytes_same a b e = (bytes_eq-Decides a b).1 e
 
 -- the law of a sight at its place
-law_at : (seen before : List Sight) (here : Sight) (after : List Sight) → AreLawful seen → seen ≡ before ++ here ∷ after → IsLawful before here
+pub law_at : (seen before : List Sight) (here : Sight) (after : List Sight) → AreLawful seen → seen ≡ before ++ here ∷ after → IsLawful before here
 law_at seen before here after lawful whole = each_at IsLawful [] before here after (subst (λ (l : List Sight). EachAfter IsLawful [] l) whole lawful)
 
 -- a token that has reached somebody was posted before

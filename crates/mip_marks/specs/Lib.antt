@@ -8,5 +8,6 @@ pub mod Firsts
 pub mod Pairs
 pub mod Causes
 pub mod Marks
+pub mod Traces
 pub mod Laws
 pub mod Origins
