@@ -1,7 +1,7 @@
 -- The names of tokens: who sends a token, in which life, of which kind, to which address, with which nonce index.
 -- RFC 6275 sections 5.2.5, 6.1.5 and 6.1.6
-use Rattle.std.specs.Prelude.{ℕ, List, [], length, Bool, false, not, ◌&&◌, ◌==◌, if◌then◌else◌, Option, Some, None, option_map, unwrap_or}
-use Rattle.std.specs.List.{list_any, filter, find}
+use Rattle.std.specs.Prelude.{ℕ, suc, List, [], fold, Bool, false, not, ◌&&◌, ◌==◌, if◌then◌else◌, Option, Some, None, option_map, unwrap_or}
+use Rattle.std.specs.List.{list_any, find}
 use Rattle.std.specs.Str.{bytes_eq}
 use Rattle.mip_words.specs.declared.address.Address.{Address}
 use Rattle.mip_says.specs.Says.Carried.{Test}
@@ -27,13 +27,13 @@ abbrev pub is_agent : ℕ → Sight → Bool
 is_agent node (Agent n) = n == node
 is_agent node _ = false
 
-abbrev pub is_restart : ℕ → Sight → Bool
-is_restart node (Restarted n) = node == n
-is_restart node _ = false
+abbrev pub lives : ℕ → ℕ → Sight → ℕ
+lives node count (Restarted n) = if node == n then suc count else count
+lives node count _ = count
 
--- the life of a node
+-- the life of a node: how often it was restarted
 abbrev pub life_at : ℕ → List Sight → ℕ
-life_at node seen = length (filter (is_restart node) seen)
+life_at node seen = fold (lives node) 0 seen
 
 -- a node that is no agent sends a test, and so names its token; an agent passes tests on
 abbrev pub naming : List Sight → Sight → Option Naming
