@@ -3,3 +3,5 @@ pub mod Tokens
 pub mod Pairing
 pub mod Tracing
 pub mod Plain
+pub mod Standing
+pub mod Originating

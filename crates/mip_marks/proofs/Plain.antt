@@ -46,7 +46,7 @@ life_step past n c (entries.Handed number node) = by (token_at past number)
     by (Some t) = refl
 life_step past n c _ = refl
 
-lives_same : (past : List Entry) (n c : ℕ) (es : List Entry) → fold (lives n) c (map (sight past) es) ≡ fold (restarts n) c es
+pub lives_same : (past : List Entry) (n c : ℕ) (es : List Entry) → fold (lives n) c (map (sight past) es) ≡ fold (restarts n) c es
 lives_same past n c [] = refl
 lives_same past n c (e ∷ es) = ap (λ (d : ℕ). fold (lives n) d (map (sight past) es)) (life_step past n c e) ∙ lives_same past n (restarts n c e) es
 
@@ -80,7 +80,7 @@ post_step past k (entries.Handed number node) = by (token_at past number)
     by (Some t) = refl
 post_step past k _ = refl
 
-posts_same : (past : List Entry) (k : ℕ) (es : List Entry) → post_says (first_some (post_with k) (map (sight past) es)) ≡ option_map carried (first_some (packet_told k) es)
+pub posts_same : (past : List Entry) (k : ℕ) (es : List Entry) → post_says (first_some (post_with k) (map (sight past) es)) ≡ option_map carried (first_some (packet_told k) es)
 posts_same past k [] = refl
 posts_same past k (e ∷ es) = by (post_with k (sight past e)) (packet_told k e) (post_step past k e) (posts_same past k es)
   where
@@ -91,7 +91,7 @@ posts_same past k (e ∷ es) = by (post_with k (sight past e)) (packet_told k e)
     by None (Some y) here rest = absurd cc
     by (Some x) None here rest = absurd cc
 
-packet_first : (k : ℕ) (es : List Entry) → packet_in es k ≡ first_some (packet_told k) es
+pub packet_first : (k : ℕ) (es : List Entry) → packet_in es k ≡ first_some (packet_told k) es
 packet_first k es = fold_first (packet_told k) None es
 
 -- the update of a packet
@@ -110,19 +110,19 @@ key_in-update (Update x) key e = cc
 key_in-update (Test kind index token destination) key e = absurd cc
 key_in-update Other key e = absurd cc
 
-carries_of_key : (past : List Entry) (k : ℕ) (key : Key) → key_at (sights past) k ≡ Some key → Carries past k key
+pub carries_of_key : (past : List Entry) (k : ℕ) (key : Key) → key_at (sights past) k ≡ Some key → Carries past k key
 carries_of_key past k key e = by (packet_in past k) refl (sym (key_posted past k) ∙ e)
   where
     by : (o : Option (List ℕ)) → packet_in past k ≡ o → option_and_then (λ packet. key_in (carried packet)) o ≡ Some key → Carries past k key
     by None is e = absurd cc
     by (Some packet) is e = record { packet = packet; posted = is; says = key_in-update (carried packet) key e }
 
-key_of_carries : (past : List Entry) (k : ℕ) (key : Key) → Carries past k key → key_at (sights past) k ≡ Some key
+pub key_of_carries : (past : List Entry) (k : ℕ) (key : Key) → Carries past k key → key_at (sights past) k ≡ Some key
 key_of_carries past k key c =
     key_posted past k ∙ ap (λ (o : Option (List ℕ)). option_and_then (λ packet. key_in (carried packet)) o) c.posted ∙ ap key_in c.says
 
 -- who posts a packet
-poster_step : (past : List Entry) (k : ℕ) (e : Entry) (post : Post) → post_with k (sight past e) ≡ Some post → poster k e ≡ Some post.maker
+pub poster_step : (past : List Entry) (k : ℕ) (e : Entry) (post : Post) → post_with k (sight past e) ≡ Some post → poster k e ≡ Some post.maker
 poster_step past k (entries.Sent number node shielded packet) post is = by (number == k) is
   where
     by : (b : Bool) → (if b then Some (posted_by (Node node) (carried packet)) else None) ≡ Some post → (if b then Some (Node node) else None) ≡ Some post.maker
@@ -146,7 +146,7 @@ poster_step past k (entries.Handed number node) post is = by (token_at past numb
 poster_step past k _ post is = absurd cc
 
 -- a packet is posted where it says something
-is_post-some : (k : ℕ) (s : Sight) (post : Post) → post_with k s ≡ Some post → is_post k s ≡ true
+pub is_post-some : (k : ℕ) (s : Sight) (post : Post) → post_with k s ≡ Some post → is_post k s ≡ true
 is_post-some k (Sent number node c) post is = by (number == k) is
   where
     by : (b : Bool) → (if b then Some (posted_by (Node (record { 0 = node })) c) else None) ≡ Some post → b ≡ true
@@ -172,7 +172,7 @@ is_post-none k (Injected number outsider c) is = by (number == k) is
     by false is = refl
 is_post-none k _ is = refl
 
-unposted : (k : ℕ) (seen : List Sight) → first_some (post_with k) seen ≡ None → list_any (is_post k) seen ≡ false
+pub unposted : (k : ℕ) (seen : List Sight) → first_some (post_with k) seen ≡ None → list_any (is_post k) seen ≡ false
 unposted k [] e = refl
 unposted k (s ∷ seen) e = by (post_with k s) refl (unposted k seen) e
   where
@@ -181,7 +181,7 @@ unposted k (s ∷ seen) e = by (post_with k s) refl (unposted k seen) e
     by (Some p) is later e = absurd cc
 
 -- a packet that is posted has its number among those posted
-number_member : (k : ℕ) (seen : List Sight) (post : Post) → first_some (post_with k) seen ≡ Some post → list_any (λ x. x == k) (filter_map number_of seen) ≡ true
+pub number_member : (k : ℕ) (seen : List Sight) (post : Post) → first_some (post_with k) seen ≡ Some post → list_any (λ x. x == k) (filter_map number_of seen) ≡ true
 number_member k [] post e = absurd cc
 number_member k (s ∷ seen) post e = by (post_with k s) refl (number_member k seen post) e
   where
@@ -200,7 +200,7 @@ number_member k (s ∷ seen) post e = by (post_with k s) refl (number_member k s
     by (Some p) is later e = here s (is_post-some k s p is)
 
 -- updates that are the same by the test are the same
-key_same : (a b : Key) → same_key a b ≡ true → a ≡ b
+pub key_same : (a b : Key) → same_key a b ≡ true → a ≡ b
 key_same a b e =
     let first = and_parts (a.home.0 == b.home.0 && a.careof.0 == b.careof.0 && bytes_eq a.authenticator b.authenticator) (bytes_eq a.message b.message) e in
     let second = and_parts (a.home.0 == b.home.0 && a.careof.0 == b.careof.0) (bytes_eq a.authenticator b.authenticator) first.0 in
@@ -215,7 +215,7 @@ key_same a b e =
         → ◌≡◌ {A = Key} (record { home = h; careof = c; message = m; authenticator = x }) (record { home = i; careof = d; message = n; authenticator = y })
     joined h i c d m n x y e f g k = cc
 
-same_self : (a : Key) → same_key a a ≡ true
+pub same_self : (a : Key) → same_key a a ≡ true
 same_self a =
     and_from (a.home.0 == a.home.0 && a.careof.0 == a.careof.0 && bytes_eq a.authenticator a.authenticator) (bytes_eq a.message a.message)
     (and_from (a.home.0 == a.home.0 && a.careof.0 == a.careof.0) (bytes_eq a.authenticator a.authenticator)

@@ -3,9 +3,11 @@
 #![tactic(auto)]
 
 mod accepted_update;
+mod laws;
 mod maker;
 mod mark;
 
 pub use accepted_update::AcceptedUpdate;
+pub use laws::unforged_has_its_origin;
 pub use maker::Maker;
 pub use mark::Mark;
