@@ -12,18 +12,17 @@ const AUTHENTICATOR: usize = 12;
 /// care-of address is the one that the update binds; where it deletes, the home address stands for it.
 #[tactic(auto, unfolding(crate::specs::Token::authenticator_of, crate::specs::Token::authenticated))]
 pub fn authenticator(kbm: &Kbm, careof: Address, peer: Address, message: &[u8]) -> [u8; 12]
-    requires { 18 ≤ length message.now }
     ensures { result ≡ authenticator_of kbm.now.0 careof peer message.now }
 {
-    let end = message.len() - AUTHENTICATOR;
+    let end = message.len().saturating_sub(AUTHENTICATOR);
     let hash = hmac_of_parts(
         &kbm.0,
         &[
             &careof.bytes(),
             &peer.bytes(),
-            &message[..4],
+            message.get(..4).unwrap_or(message),
             &[0, 0],
-            &message[6..end],
+            message.get(6..end).unwrap_or(&[]),
         ],
     );
     let mut authenticator = [0; AUTHENTICATOR];
