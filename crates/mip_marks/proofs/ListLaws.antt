@@ -234,8 +234,14 @@ map_split {X = X} {Y = Y} f (x ∷ xs) (z ∷ before) y after e =
       front = x ∷ s.front;
       item = s.item;
       rest = s.rest;
-      whole = ap (λ (l : List X). x ∷ l) s.whole;
-      of_front = ap (λ (w : Y). w ∷ before) (sym head) ∙ ap (λ (l : List Y). f x ∷ l) s.of_front;
+      whole = cons xs (s.front ++ s.item ∷ s.rest) s.whole;
+      of_front = two before (map f s.front) (sym head) s.of_front;
       of_item = s.of_item;
       of_rest = s.of_rest;
     }
+  where
+    cons : (l m : List X) → l ≡ m → x ∷ l ≡ x ∷ m
+    cons l m e = cc
+
+    two : (m n : List Y) → z ≡ f x → m ≡ n → z ∷ m ≡ f x ∷ n
+    two m n e g = cc

@@ -11,7 +11,7 @@ use Rattle.mip_marks.specs.declared.maker.Maker.TheVariants.{Node, Outsider}
 use Rattle.mip_marks.specs.Lists.{first_some, until}
 use Rattle.mip_marks.specs.Sights.{Sight}
 use Rattle.mip_marks.specs.Sights.Sight.{Heard, Made}
-use Rattle.mip_marks.specs.Reached.{is_heard, is_handed, has_reached, value_heard, values}
+use Rattle.mip_marks.specs.Reached.{is_token, is_heard, is_handed, has_reached, value_heard, values}
 use Rattle.mip_marks.specs.Firsts.{is_post}
 use Rattle.mip_marks.specs.Pairs.{Pair, alone, both, if_gives, made_with, as_asked, pair_made, first_pair, pair_by}
 use Rattle.mip_marks.specs.Laws.{IsMadeBefore, IsLawful, AreLawful}
@@ -117,18 +117,19 @@ paired_made seen careof test node k pair lawful e = by (first_some (made_with no
 -- a value that was heard
 heard_of_value : (outsider : ℕ) (p : List ℕ) (front : List Sight) → list_any (λ v. bytes_eq v p) (values outsider front) ≡ true → list_any (is_heard outsider p) front ≡ true
 heard_of_value outsider p [] e = absurd cc
-heard_of_value outsider p (Heard o t ∷ front) e = by (o == outsider) refl (heard_of_value outsider p front) e
+heard_of_value outsider p (Heard o x ∷ front) e = by (o == outsider) refl x (heard_of_value outsider p front) e
   where
-    two : (u : Bool) → (o == outsider) ≡ true → bytes_eq t p ≡ u → (list_any (λ v. bytes_eq v p) (values outsider front) ≡ true → list_any (is_heard outsider p) front ≡ true)
-        → (u || list_any (λ v. bytes_eq v p) (values outsider front)) ≡ true → list_any (is_heard outsider p) (Heard o t ∷ front) ≡ true
-    two true test is later e = or_left (o == outsider && bytes_eq t p) (list_any (is_heard outsider p) front) (and_from (o == outsider) (bytes_eq t p) test is)
-    two false test is later e = or_right (o == outsider && bytes_eq t p) (list_any (is_heard outsider p) front) (later e)
+    two : (u : Bool) (t : List ℕ) → (o == outsider) ≡ true → bytes_eq t p ≡ u → (list_any (λ v. bytes_eq v p) (values outsider front) ≡ true → list_any (is_heard outsider p) front ≡ true)
+        → (u || list_any (λ v. bytes_eq v p) (values outsider front)) ≡ true → list_any (is_heard outsider p) (Heard o (Some t) ∷ front) ≡ true
+    two true t test is later e = or_left (o == outsider && bytes_eq t p) (list_any (is_heard outsider p) front) (and_from (o == outsider) (bytes_eq t p) test is)
+    two false t test is later e = or_right (o == outsider && bytes_eq t p) (list_any (is_heard outsider p) front) (later e)
 
-    by : (b : Bool) → (o == outsider) ≡ b → (list_any (λ v. bytes_eq v p) (values outsider front) ≡ true → list_any (is_heard outsider p) front ≡ true)
-        → list_any (λ v. bytes_eq v p) (cons_option (if b then Some t else None) (values outsider front)) ≡ true
-        → list_any (is_heard outsider p) (Heard o t ∷ front) ≡ true
-    by true test later e = two (bytes_eq t p) test refl later e
-    by false test later e = or_right (o == outsider && bytes_eq t p) (list_any (is_heard outsider p) front) (later e)
+    by : (b : Bool) → (o == outsider) ≡ b → (x : Option (List ℕ)) → (list_any (λ v. bytes_eq v p) (values outsider front) ≡ true → list_any (is_heard outsider p) front ≡ true)
+        → list_any (λ v. bytes_eq v p) (cons_option (if b then x else None) (values outsider front)) ≡ true
+        → list_any (is_heard outsider p) (Heard o x ∷ front) ≡ true
+    by true test (Some t) later e = two (bytes_eq t p) t test refl later e
+    by true test None later e = or_right (o == outsider && false) (list_any (is_heard outsider p) front) (later e)
+    by false test x later e = or_right (o == outsider && is_token p x) (list_any (is_heard outsider p) front) (later e)
 heard_of_value outsider p (_ ∷ front) e = heard_of_value outsider p front e
 
 -- a value at a place among those that were heard

@@ -20,7 +20,7 @@ use Rattle.mip_marks.specs.declared.maker.Maker.TheVariants.{Node, Outsider}
 use Rattle.mip_marks.specs.declared.accepted_update.AcceptedUpdate.{AcceptedUpdate}
 use Rattle.mip_marks.specs.Lists.{first_some, until, along, least}
 use Rattle.mip_marks.specs.Entries.{packet_told, packet_in, declared_in, restarts, life_in}
-use Rattle.mip_marks.specs.Sights.{Sight, token_in, token_at, heard, handed, sight, sights}
+use Rattle.mip_marks.specs.Sights.{Sight, sight, sights}
 use Rattle.mip_marks.specs.Sights.Sight.{Sent, Injected, Heard, Handed}
 use Rattle.mip_marks.specs.Reached.{reaches, has_reached}
 use Rattle.mip_marks.specs.Names.{Name, Naming, is_agent, lives, life_at, naming, namings, same_name, is_own}
@@ -34,16 +34,7 @@ use Rattle.mip_marks.proofs.Tokens.{same_bytes, bytes_same}
 
 -- lives are told by the same entries
 life_step : (past : List Entry) (n c : ℕ) (e : Entry) → lives n c (sight past e) ≡ restarts n c e
-life_step past n c (entries.Heard number outsider) = by (token_at past number)
-  where
-    by : (o : Option (List ℕ)) → lives n c (heard outsider o) ≡ c
-    by None = refl
-    by (Some t) = refl
-life_step past n c (entries.Handed number node) = by (token_at past number)
-  where
-    by : (o : Option (List ℕ)) → lives n c (handed node.0 o) ≡ c
-    by None = refl
-    by (Some t) = refl
+life_step past n c (entries.Restarted node) = refl
 life_step past n c _ = refl
 
 pub lives_same : (past : List Entry) (n c : ℕ) (es : List Entry) → fold (lives n) c (map (sight past) es) ≡ fold (restarts n) c es
@@ -68,16 +59,6 @@ post_step past k (entries.Injected number outsider link packet) = by (number == 
     by : (b : Bool) → post_says (if b then Some (posted_by (Outsider outsider) (carried packet)) else None) ≡ option_map carried (if b then Some packet else None)
     by true = refl
     by false = refl
-post_step past k (entries.Heard number outsider) = by (token_at past number)
-  where
-    by : (o : Option (List ℕ)) → post_says (post_with k (heard outsider o)) ≡ None
-    by None = refl
-    by (Some t) = refl
-post_step past k (entries.Handed number node) = by (token_at past number)
-  where
-    by : (o : Option (List ℕ)) → post_says (post_with k (handed node.0 o)) ≡ None
-    by None = refl
-    by (Some t) = refl
 post_step past k _ = refl
 
 pub posts_same : (past : List Entry) (k : ℕ) (es : List Entry) → post_says (first_some (post_with k) (map (sight past) es)) ≡ option_map carried (first_some (packet_told k) es)
@@ -133,16 +114,6 @@ poster_step past k (entries.Injected number outsider link packet) post is = by (
     by : (b : Bool) → (if b then Some (posted_by (Outsider outsider) (carried packet)) else None) ≡ Some post → (if b then Some (Outsider outsider) else None) ≡ Some post.maker
     by true is = let same : posted_by (Outsider outsider) (carried packet) ≡ post = cc in ap (λ (p : Post). Some p.maker) same
     by false is = absurd cc
-poster_step past k (entries.Heard number outsider) post is = by (token_at past number) is
-  where
-    by : (o : Option (List ℕ)) → post_with k (heard outsider o) ≡ Some post → None ≡ Some post.maker
-    by None is = absurd cc
-    by (Some t) is = absurd cc
-poster_step past k (entries.Handed number node) post is = by (token_at past number) is
-  where
-    by : (o : Option (List ℕ)) → post_with k (handed node.0 o) ≡ Some post → None ≡ Some post.maker
-    by None is = absurd cc
-    by (Some t) is = absurd cc
 poster_step past k _ post is = absurd cc
 
 -- a packet is posted where it says something

@@ -18,7 +18,7 @@ use Rattle.mip_marks.specs.declared.maker.Maker.{Maker}
 use Rattle.mip_marks.specs.declared.maker.Maker.TheVariants.{Node, Outsider}
 use Rattle.mip_marks.specs.Lists.{first_some, until, along, least}
 use Rattle.mip_marks.specs.Entries.{packet_told, packet_in, life_in}
-use Rattle.mip_marks.specs.Sights.{Sight, token_in, token_at, heard, handed, sight, sights}
+use Rattle.mip_marks.specs.Sights.{Sight, token_in, token_at, sight, sights}
 use Rattle.mip_marks.specs.Sights.Sight.{Sent, Injected, Heard, Handed}
 use Rattle.mip_marks.specs.Reached.{reaches, has_reached}
 use Rattle.mip_marks.specs.Names.{Name, Naming, is_agent, life_at, naming, namings, same_name, is_own}
@@ -106,28 +106,18 @@ test_at past k t token e same = by (packet_in past k) refl e
 came : (past : List Entry) (maker : Maker) (token : List ℕ) (e : Entry) → reaches maker token (sight past e) ≡ true → Came past maker token e
 came past (Node node) token (entries.Handed number n) passes = by (token_at past number) refl passes
   where
-    by : (o : Option (List ℕ)) → token_at past number ≡ o → reaches (Node node) token (handed n.0 o) ≡ true → Came past (Node node) token (entries.Handed number n)
-    by None is passes = absurd (false≢true passes)
+    by : (o : Option (List ℕ)) → token_at past number ≡ o → reaches (Node node) token (Handed n.0 o) ≡ true → Came past (Node node) token (entries.Handed number n)
+    by None is passes = absurd (false≢true (and_parts (n.0 == node.0) false passes).1)
     by (Some t) is passes =
         let parts = and_parts (n.0 == node.0) (bytes_eq t token) passes in
         record { number = number; is = ap (λ (m : NodeId). entries.Handed number m) (same_node n node parts.0); test = test_at past number t token is (same_bytes t token parts.1) }
 came past (Outsider outsider) token (entries.Heard number o) passes = by (token_at past number) refl passes
   where
-    by : (x : Option (List ℕ)) → token_at past number ≡ x → reaches (Outsider outsider) token (heard o x) ≡ true → Came past (Outsider outsider) token (entries.Heard number o)
-    by None is passes = absurd (false≢true passes)
+    by : (x : Option (List ℕ)) → token_at past number ≡ x → reaches (Outsider outsider) token (Heard o x) ≡ true → Came past (Outsider outsider) token (entries.Heard number o)
+    by None is passes = absurd (false≢true (and_parts (o == outsider) false passes).1)
     by (Some t) is passes =
         let parts = and_parts (o == outsider) (bytes_eq t token) passes in
         record { number = number; is = ap (λ (m : ℕ). entries.Heard number m) (eqb-true o outsider parts.0); test = test_at past number t token is (same_bytes t token parts.1) }
-came past (Node node) token (entries.Heard number o) passes = by (token_at past number) passes
-  where
-    by : (x : Option (List ℕ)) → reaches (Node node) token (heard o x) ≡ true → Came past (Node node) token (entries.Heard number o)
-    by None passes = absurd (false≢true passes)
-    by (Some t) passes = absurd (false≢true passes)
-came past (Outsider outsider) token (entries.Handed number n) passes = by (token_at past number) passes
-  where
-    by : (x : Option (List ℕ)) → reaches (Outsider outsider) token (handed n.0 x) ≡ true → Came past (Outsider outsider) token (entries.Handed number n)
-    by None passes = absurd (false≢true passes)
-    by (Some t) passes = absurd (false≢true passes)
 came past (Node node) token _ passes = absurd (false≢true passes)
 came past (Outsider outsider) token _ passes = absurd (false≢true passes)
 
@@ -196,16 +186,6 @@ named past front node kind index token address n (entries.Sent number m shielded
     by (Test kind' index' t d) is says = at kind' index' t d is (list_any (is_agent m.0) (map (sight past) front)) refl says
     by (Update key) is says = absurd cc
     by Other is says = absurd cc
-named past front node kind index token address n (entries.Heard number o) says own = by (token_at past number) says
-  where
-    by : (x : Option (List ℕ)) → naming (map (sight past) front) (heard o x) ≡ Some n → Named past front node kind index token address n (entries.Heard number o)
-    by None says = absurd cc
-    by (Some t) says = absurd cc
-named past front node kind index token address n (entries.Handed number m) says own = by (token_at past number) says
-  where
-    by : (x : Option (List ℕ)) → naming (map (sight past) front) (handed m.0 x) ≡ Some n → Named past front node kind index token address n (entries.Handed number m)
-    by None says = absurd cc
-    by (Some t) says = absurd cc
 named past front node kind index token address n _ says own = absurd cc
 
 -- no earlier packet of this life says the same

@@ -17,10 +17,10 @@ use Rattle.mip_marks.specs.declared.maker.Maker.TheVariants.{Node, Outsider}
 use Rattle.mip_marks.specs.Lists.{along}
 use Rattle.mip_marks.specs.Sights.{Sight}
 use Rattle.mip_marks.specs.Sights.Sight.{Sent, Injected, Heard, Handed}
-use Rattle.mip_marks.specs.Reached.{carries, is_heard, is_handed, reaches, has_reached}
+use Rattle.mip_marks.specs.Reached.{carries, is_token, is_heard, reaches, has_reached}
 use Rattle.mip_marks.specs.Names.{Name, Naming, is_agent, life_at, naming, namings, same_name, is_own, is_other, is_misnamed}
 use Rattle.mip_marks.specs.Causes.{early, is_early}
-use Rattle.mip_marks.specs.Laws.{IsLawful, AreLawful}
+use Rattle.mip_marks.specs.Laws.{WasPosted, IsLawful, AreLawful}
 use Rattle.mip_marks.proofs.ListLaws.{IsFound, found_of_any, any_front, each_before, along_here}
 
 pub same_bytes : (a b : List ℕ) → bytes_eq a b ≡ true → a ≡ b
@@ -40,12 +40,14 @@ reached_carried seen maker token lawful e =
     subst (λ (l : List Sight). list_any (carries token) l ≡ true) (sym s.whole)
     (any_front (carries token) s.before (s.here ∷ s.after) (by maker s.before s.here (law_at seen s.before s.here s.after lawful s.whole) s.passes))
   where
+    of_token : (before : List Sight) (o : Option (List ℕ)) → WasPosted before o → is_token token o ≡ true → list_any (carries token) before ≡ true
+    of_token before None law same = absurd (false≢true same)
+    of_token before (Some t) law same = subst (λ (x : List ℕ). list_any (carries x) before ≡ true) (same_bytes t token same) law
+
     by : (m : Maker) (before : List Sight) (here : Sight) → IsLawful before here → reaches m token here ≡ true → list_any (carries token) before ≡ true
-    by (Node n) before (Handed node t) law passes =
-        subst (λ (x : List ℕ). list_any (carries x) before ≡ true) (same_bytes t token (and_parts (node == n.0) (bytes_eq t token) passes).1) law
+    by (Node n) before (Handed node t) law passes = of_token before t law (and_parts (node == n.0) (is_token token t) passes).1
     by (Node n) before _ law passes = absurd (false≢true passes)
-    by (Outsider o) before (Heard outsider t) law passes =
-        subst (λ (x : List ℕ). list_any (carries x) before ≡ true) (same_bytes t token (and_parts (outsider == o) (bytes_eq t token) passes).1) law
+    by (Outsider o) before (Heard outsider t) law passes = of_token before t law (and_parts (outsider == o) (is_token token t) passes).1
     by (Outsider o) before _ law passes = absurd (false≢true passes)
 
 -- a token that was posted, that no outsider used early and nobody named otherwise, was named so

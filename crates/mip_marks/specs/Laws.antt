@@ -16,12 +16,16 @@ pub record IsMadeBefore (front : List Sight) (node number : ℕ) (home : List �
   pub home_came : list_any (is_handed node home) front ≡ true
   pub careof_came : IfSome careof (λ q. list_any (is_handed node q) front ≡ true)
 
+-- a test with the token was posted before
+abbrev pub WasPosted : List Sight → Option (List ℕ) → Type 0
+WasPosted front token = IfSome token (λ t. list_any (carries t) front ≡ true)
+
 -- an agent sends no test but one that was posted before; tests are heard and handed over once they are posted
 abbrev pub IsLawful : List Sight → Sight → Type 0
 IsLawful front (Sent number node (Test kind index token destination)) =
     list_any (is_agent node) front ≡ true → list_any (carries token) front ≡ true
-IsLawful front (Heard outsider token) = list_any (carries token) front ≡ true
-IsLawful front (Handed node token) = list_any (carries token) front ≡ true
+IsLawful front (Heard outsider token) = WasPosted front token
+IsLawful front (Handed node token) = WasPosted front token
 IsLawful front (Made node number home careof) = IsMadeBefore front node number home careof
 IsLawful front _ = Unit {0}
 

@@ -20,14 +20,18 @@ carries token (Sent number node carried) = says_token token carried
 carries token (Injected number outsider carried) = says_token token carried
 carries token _ = false
 
+abbrev pub is_token : List ℕ → Option (List ℕ) → Bool
+is_token token None = false
+is_token token (Some t) = bytes_eq t token
+
 -- an outsider hears the token
 abbrev pub is_heard : ℕ → List ℕ → Sight → Bool
-is_heard outsider token (Heard o t) = o == outsider && bytes_eq t token
+is_heard outsider token (Heard o t) = o == outsider && is_token token t
 is_heard outsider token _ = false
 
 -- a node is handed the token
 abbrev pub is_handed : ℕ → List ℕ → Sight → Bool
-is_handed node token (Handed n t) = n == node && bytes_eq t token
+is_handed node token (Handed n t) = n == node && is_token token t
 is_handed node token _ = false
 
 -- the token reaches a node or an outsider
@@ -40,7 +44,7 @@ abbrev pub has_reached : Maker → List ℕ → List Sight → Bool
 has_reached maker token seen = list_any (reaches maker token) seen
 
 abbrev pub value_heard : ℕ → Sight → Option (List ℕ)
-value_heard outsider (Heard o token) = if o == outsider then Some token else None
+value_heard outsider (Heard o t) = if o == outsider then t else None
 value_heard outsider _ = None
 
 -- the tokens that an outsider heard, in the order in which they came

@@ -12,10 +12,10 @@ pub data Sight : Type 0 where
   Sent : (number node : ℕ) (carried : Carried) → Sight
   -- an outsider did
   Injected : (number outsider : ℕ) (carried : Carried) → Sight
-  -- an outsider heard a test with this token
-  Heard : (outsider : ℕ) (token : List ℕ) → Sight
+  -- an outsider heard a packet: a test with this token, or none
+  Heard : (outsider : ℕ) (token : Option (List ℕ)) → Sight
   -- a node was handed one
-  Handed : (node : ℕ) (token : List ℕ) → Sight
+  Handed : (node : ℕ) (token : Option (List ℕ)) → Sight
   -- a node registered a home, as only agents do
   Agent : (node : ℕ) → Sight
   -- a mobile made the update of the packet with this number from these tokens
@@ -35,20 +35,12 @@ token_in Other = None
 abbrev pub token_at : List Entry → ℕ → Option (List ℕ)
 token_at past k = option_and_then (λ bytes. token_in (carried bytes)) (packet_in past k)
 
-abbrev pub heard : ℕ → Option (List ℕ) → Sight
-heard outsider None = Quiet
-heard outsider (Some token) = Heard outsider token
-
-abbrev pub handed : ℕ → Option (List ℕ) → Sight
-handed node None = Quiet
-handed node (Some token) = Handed node token
-
 -- an entry as a sight, where packet k has this token
 abbrev pub sight_with : (ℕ → Option (List ℕ)) → Entry → Sight
 sight_with token (entries.Sent number node shielded packet) = Sent number node.0 (carried packet)
 sight_with token (entries.Injected number outsider link packet) = Injected number outsider (carried packet)
-sight_with token (entries.Heard number outsider) = heard outsider (token number)
-sight_with token (entries.Handed number node) = handed node.0 (token number)
+sight_with token (entries.Heard number outsider) = Heard outsider (token number)
+sight_with token (entries.Handed number node) = Handed node.0 (token number)
 sight_with token (entries.Home node home careof sequence end) = Agent node.0
 sight_with token (entries.Made node peer number home careof) = Made node.0 number home.0 (option_map (λ t. t.0) careof)
 sight_with token (entries.Restarted node) = Restarted node.0
