@@ -8,6 +8,7 @@ pub mod Firsts
 pub mod Pairs
 pub mod Causes
 pub mod Marks
+pub mod Seen
 pub mod Traces
 pub mod Laws
 pub mod Origins

@@ -6,8 +6,14 @@ mod accepted_update;
 mod laws;
 mod maker;
 mod mark;
+mod post;
+mod names;
+mod posts;
+mod reached;
 
 pub use accepted_update::AcceptedUpdate;
 pub use laws::unforged_has_its_origin;
 pub use maker::Maker;
 pub use mark::Mark;
+pub use post::Post;
+pub use posts::{key, post as packet_posted, token};
