@@ -37,9 +37,10 @@ home_of past a maker k p hot t =
 
 careof_of : (past earlier : List Entry) (a : AcceptedUpdate) (maker : Maker) (k : ℕ) (j : Option ℕ) (q : Option (List ℕ)) (cot : Option ℕ)
     → until (is_post k) (sights past) ≡ map (sight past) earlier → IsCareofTraced (sights past) a maker k j q cot → HasCareof past a earlier maker j q cot
-careof_of past earlier a maker k (Some j) (Some q) (Some cot) front t =
-    (subst (λ (n : ℕ). WasSent past a.node n 1 j q a.careof) t.same (sent_stands past a.node 1 j q a.careof t.naming t.first),
-    reached_of past earlier maker k (careof_claim_at (sights past) a q j) cot front t)
+careof_of past earlier a maker k (Some j) (Some q) (Some cot) front t = (
+  subst (λ (n : ℕ). WasSent past a.node n 1 j q a.careof) t.same (sent_stands past a.node 1 j q a.careof t.naming t.first),
+  reached_of past earlier maker k (careof_claim_at (sights past) a q j) cot front t,
+)
 careof_of past earlier a maker k None None None front t = tt
 careof_of past earlier a maker k None None (Some cot) front t = t
 careof_of past earlier a maker k None (Some q) cot front t = t

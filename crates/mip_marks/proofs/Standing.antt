@@ -68,8 +68,8 @@ first_stands past key update post e is =
         unposted = none m.front (sym (posts_same past update m.front) ∙ ap (λ (o : Option Post). option_map (λ p. p.carried) o) (ap (first_some (post_with update)) (sym m.of_front) ∙ s.none_before));
         carries = carries_of_key past update key (key_of_test (sights past) key update (least_passes (carries_key (sights past) key) None (filter_map number_of (sights past)) update (λ b none. absurd cc) e));
         least = λ k c.
-          let at : key_at (sights past) k ≡ Some key = key_of_carries past k key c in
-          least_least (carries_key (sights past) key) None (filter_map number_of (sights past)) update k e (post_of_key (sights past) key k at) (test_of_key (sights past) key k at);
+            let at : key_at (sights past) k ≡ Some key = key_of_carries past k key c in
+            least_least (carries_key (sights past) key) None (filter_map number_of (sights past)) update k e (post_of_key (sights past) key k at) (test_of_key (sights past) key k at);
       };
     }
   where
@@ -200,24 +200,24 @@ unfolding sights
 none_sent past front before node kind index token address k hidden other after none no_agent whole life says =
     let name : Name = name_in past node kind index address in
     let cut : map (sight past) front ≡ map (sight past) before ++ Sent k node.0 (carried other) ∷ map (sight past) after =
-      ap (map (sight past)) whole ∙ map-append (sight past) before (entries.Sent k node hidden other ∷ after) in
+    ap (map (sight past)) whole ∙ map-append (sight past) before (entries.Sent k node hidden other ∷ after) in
     let quiet : list_any (is_agent node.0) (map (sight past) before) ≡ false =
-      (or_parts (list_any (is_agent node.0) (map (sight past) before)) (list_any (is_agent node.0) (Sent k node.0 (carried other) ∷ map (sight past) after))
-      (sym (list_any-append (is_agent node.0) (map (sight past) before) (Sent k node.0 (carried other) ∷ map (sight past) after)) ∙ ap (list_any (is_agent node.0)) (sym cut) ∙ no_agent)).0 in
+    (or_parts (list_any (is_agent node.0) (map (sight past) before)) (list_any (is_agent node.0) (Sent k node.0 (carried other) ∷ map (sight past) after))
+    (sym (list_any-append (is_agent node.0) (map (sight past) before) (Sent k node.0 (carried other) ∷ map (sight past) after)) ∙ ap (list_any (is_agent node.0)) (sym cut) ∙ no_agent)).0 in
     let n : Naming = record { number = k; token = token; name = record { node = node.0; life = life_at node.0 (map (sight past) before); kind = kind; address = address; index = index } } in
     let names : naming (map (sight past) before) (Sent k node.0 (carried other)) ≡ Some n =
-      ap (λ (c : Carried). naming (map (sight past) before) (Sent k node.0 c)) says ∙ ap (λ (b : Bool). if b then None else Some n) quiet in
+    ap (λ (c : Carried). naming (map (sight past) before) (Sent k node.0 c)) says ∙ ap (λ (b : Bool). if b then None else Some n) quiet in
     let lives : life_at node.0 (map (sight past) before) ≡ life_at node.0 (map (sight past) past) =
-      lives_same past node.0 0 before ∙ life ∙ sym (lives_same past node.0 0 past) in
+    lives_same past node.0 0 before ∙ life ∙ sym (lives_same past node.0 0 past) in
     let own : is_own token name n ≡ true =
-      and_from (bytes_eq token token) (same_name n.name name) (bytes_same token token refl)
-      (and_from (node.0 == node.0 && n.name.life == name.life && kind == kind && address.0 == address.0) (index == index)
-      (and_from (node.0 == node.0 && n.name.life == name.life && kind == kind) (address.0 == address.0)
-      (and_from (node.0 == node.0 && n.name.life == name.life) (kind == kind)
-      (and_from (node.0 == node.0) (n.name.life == name.life) (eq-eqb node.0 node.0 refl) (eq-eqb n.name.life name.life lives))
-      (eq-eqb kind kind refl))
-      (eq-eqb address.0 address.0 refl))
-      (eq-eqb index index refl)) in
+    and_from (bytes_eq token token) (same_name n.name name) (bytes_same token token refl)
+    (and_from (node.0 == node.0 && n.name.life == name.life && kind == kind && address.0 == address.0) (index == index)
+    (and_from (node.0 == node.0 && n.name.life == name.life && kind == kind) (address.0 == address.0)
+    (and_from (node.0 == node.0 && n.name.life == name.life) (kind == kind)
+    (and_from (node.0 == node.0) (n.name.life == name.life) (eq-eqb node.0 node.0 refl) (eq-eqb n.name.life name.life lives))
+    (eq-eqb kind kind refl))
+    (eq-eqb address.0 address.0 refl))
+    (eq-eqb index index refl)) in
     false≢true (sym none ∙ ap (λ (l : List Sight). list_any (is_own token name) (along naming [] l)) cut
     ∙ along_here naming (is_own token name) (map (sight past) before) (Sent k node.0 (carried other)) (map (sight past) after) n names own)
 
@@ -228,7 +228,7 @@ sent_stands past node kind index token address n e =
     let s = along_found naming (is_own token (name_in past node kind index address)) [] (map (sight past) past) n e in
     let m = map_split (sight past) past s.before s.here s.after s.whole in
     let d = named past m.front node kind index token address n m.item
-      (ap (λ (l : List Sight). naming l (sight past m.item)) (sym m.of_front) ∙ ap (naming s.before) (sym m.of_item) ∙ s.says_it) s.passes in
+    (ap (λ (l : List Sight). naming l (sight past m.item)) (sym m.of_front) ∙ ap (naming s.before) (sym m.of_item) ∙ s.says_it) s.passes in
     record {
       earlier = m.front;
       shielded = d.shielded;
@@ -238,5 +238,5 @@ sent_stands past node kind index token address n e =
       this_life = sym (lives_same past node.0 0 m.front) ∙ d.life ∙ lives_same past node.0 0 past;
       says = d.says;
       first = λ before k hidden other after.
-        none_sent past m.front before node kind index token address k hidden other after (ap (λ (l : List Sight). list_any (is_own token (name_in past node kind index address)) (along naming [] l)) (sym m.of_front) ∙ s.none_before) d.no_agent;
+          none_sent past m.front before node kind index token address k hidden other after (ap (λ (l : List Sight). list_any (is_own token (name_in past node kind index address)) (along naming [] l)) (sym m.of_front) ∙ s.none_before) d.no_agent;
     }

@@ -120,10 +120,10 @@ traced seen a own hot cot update lawful e = of_key (key_at seen a.number) refl e
           pair = pair;
           authentic = p.passes;
           home = subst (λ (n : ℕ). IsTraced seen post.maker n (home_claim seen a pair.home) hot) o.update_is
-            (subst (λ (n : ℕ). IsTraced seen post.maker k (home_claim seen a pair.home) n) o.hot_is
-            (traced_one seen post.maker k (home_claim seen a pair.home) lawful p.home_came o.home_clear.late o.home_clear.well));
+              (subst (λ (n : ℕ). IsTraced seen post.maker k (home_claim seen a pair.home) n) o.hot_is
+              (traced_one seen post.maker k (home_claim seen a pair.home) lawful p.home_came o.home_clear.late o.home_clear.well));
           careof = subst (λ (n : ℕ). IsCareofTraced seen a post.maker n a.careof_index pair.careof cot) o.update_is
-            (careof_traced seen a post.maker k a.careof_index pair.careof cot lawful p.careof_came o.careof_clear o.cot_is);
+              (careof_traced seen a post.maker k a.careof_index pair.careof cot lawful p.careof_came o.careof_clear o.cot_is);
         }
 
     of_post : (key : Key) (k : ℕ) → key_at seen a.number ≡ Some key → first_update seen key ≡ Some k → (o : Option Post) → post_at seen k ≡ o → by_post seen a own key k o ≡ Origin hot cot update

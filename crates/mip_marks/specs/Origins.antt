@@ -68,10 +68,10 @@ pub record WasSent (past : List Entry) (node : NodeId) (number kind index : ℕ)
   pub this_life : life_in earlier node.0 ≡ life_in past node.0
   pub says : carried packet ≡ Test kind index token address
   pub first : (before : List Entry) (k : ℕ) (hidden : Bool) (other : List ℕ) (after : List Entry)
-    → earlier ≡ before ++ entries.Sent k node hidden other ∷ after
-    → life_in before node.0 ≡ life_in past node.0
-    → carried other ≡ Test kind index token address
-    → ⊥
+      → earlier ≡ before ++ entries.Sent k node hidden other ∷ after
+      → life_in before node.0 ≡ life_in past node.0
+      → carried other ≡ Test kind index token address
+      → ⊥
 
 -- the care-of token with its packet, where the acceptance names a care-of nonce index; none where the binding ends
 abbrev pub HasCareof : List Entry → AcceptedUpdate → List Entry → Maker → Option ℕ → Option (List ℕ) → Option ℕ → Type 0

@@ -3,17 +3,23 @@
 #![tactic(auto)]
 
 mod accepted_update;
+mod claim;
 mod laws;
 mod maker;
 mod mark;
-mod post;
+mod name;
 mod names;
+mod naming;
+mod post;
 mod posts;
 mod reached;
 
 pub use accepted_update::AcceptedUpdate;
+pub use claim::Claim;
 pub use laws::unforged_has_its_origin;
 pub use maker::Maker;
 pub use mark::Mark;
+pub use name::Name;
+pub use naming::Naming;
 pub use post::Post;
 pub use posts::{key, post as packet_posted, token};

@@ -1,13 +1,20 @@
 //! Who names a token, and how.
 
-ghost use Rattle.std.specs.Prelude.{◌≡◌, ℕ, List, ◌≤◌, ◌<◌, suc, if◌then◌else◌, length, fold, option_map, slice_get};
+ghost use Rattle.std.specs.Prelude.{◌≡◌, ℕ, List, ◌≤◌, ◌<◌, suc, if◌then◌else◌, length, fold, option_map, false};
 ghost use Rattle.std.specs.List.{list_any};
+ghost use Rattle.std.specs.Option.{option_map_or};
 ghost use Rattle.mip_entries.specs.declared.entry.Entry.{Entry};
-ghost use Rattle.mip_marks.specs.Sights.{sight};
-ghost use Rattle.mip_marks.specs.Names.{is_agent, lives, life_at};
-ghost use Rattle.mip_marks.specs.Seen.{front_at};
+ghost use Rattle.mip_marks.specs.Sights.{sight, sights};
+ghost use Rattle.mip_says.specs.Says.{carried};
+ghost use Rattle.mip_marks.specs.Sights.Sight.{Sent};
+ghost use Rattle.mip_marks.specs.Names.{is_agent, lives, life_at, naming, is_own, is_other, is_misnamed, first_sent};
+ghost use Rattle.mip_marks.specs.Seen.{front_at, name_of, naming_of};
 
+use crate::claim::Claim;
+use crate::name::Name;
+use crate::naming::Naming;
 use mip_entries::Entry;
+use mip_says::{Carried, carried_in};
 use mip_words::NodeId;
 
 /// A node registers a home.
@@ -55,4 +62,82 @@ fn life(history: &[Entry], place: usize, node: NodeId) -> usize
         }
     }
     count
+}
+
+/// How a packet that a node sends behind a place names a token.
+fn named<'a>(
+    history: &[Entry],
+    place: usize,
+    number: u64,
+    node: NodeId,
+    packet: &'a [u8],
+) -> Option<Naming>
+    requires { place ≤ length history.now }
+    ensures { option_map naming_of result ≡ naming (front_at history.now place) (Sent number node.0 (carried packet.now)) }
+{
+    match carried_in(packet) {
+        Carried::Test {
+            kind,
+            index,
+            token,
+            destination,
+        } => {
+            if is_agent(history, place, node) {
+                return None;
+            }
+            let life = life(history, place, node);
+            Some(Naming {
+                number,
+                token,
+                name: Name {
+                    node,
+                    life,
+                    kind,
+                    address: destination,
+                    index,
+                },
+            })
+        }
+        _ => None,
+    }
+}
+
+/// How an entry behind a place names a token.
+fn naming(history: &[Entry], place: usize, entry: &Entry) -> Option<Naming>
+    requires { place ≤ length history.now }
+    ensures { option_map naming_of result ≡ naming (front_at history.now place) (sight history.now entry.now) }
+{
+    match entry {
+        Entry::Sent {
+            number,
+            node,
+            packet,
+            ..
+        } => named(history, place, *number, *node, packet.as_slice()),
+        _ => None,
+    }
+}
+
+/// An entry behind a place names the token otherwise.
+fn is_other_at(history: &[Entry], place: usize, entry: &Entry, claim: &Claim) -> bool
+    requires { place ≤ length history.now }
+    ensures { result ≡ option_map_or (is_other claim.now.token.0 (name_of claim.now.name)) (naming (front_at history.now place) (sight history.now entry.now)) false }
+{
+    match naming(history, place, entry) {
+        Some(naming) => claim.is_other(&naming),
+        None => false,
+    }
+}
+
+/// The token was sent under another name.
+#[tactic(auto, unfolding(crate::specs::Sights::sights))]
+pub fn is_misnamed(history: &[Entry], claim: &Claim) -> bool
+    ensures { result ≡ is_misnamed (sights history.now) claim.now.token.0 (name_of claim.now.name) }
+{
+    for (place, entry) in history.iter().enumerate() {
+        if is_other_at(history, place, entry, claim) {
+            return true;
+        }
+    }
+    false
 }

@@ -20,16 +20,32 @@ fn posted_by(entry: &Entry, number: u64) -> Option<Post<'_>>
     ensures post { (past : List Entry) → option_map post_of result ≡ post_with number (sight past entry.now) }
 {
     match entry {
-        Entry::Sent { number: k, node, packet, .. } => {
+        Entry::Sent {
+            number: k,
+            node,
+            packet,
+            ..
+        } => {
             if *k == number {
-                Some(Post { maker: Maker::Node(*node), packet: packet.as_slice() })
+                Some(Post {
+                    maker: Maker::Node(*node),
+                    packet: packet.as_slice(),
+                })
             } else {
                 None
             }
         }
-        Entry::Injected { number: k, outsider, packet, .. } => {
+        Entry::Injected {
+            number: k,
+            outsider,
+            packet,
+            ..
+        } => {
             if *k == number {
-                Some(Post { maker: Maker::Outsider(*outsider), packet: packet.as_slice() })
+                Some(Post {
+                    maker: Maker::Outsider(*outsider),
+                    packet: packet.as_slice(),
+                })
             } else {
                 None
             }

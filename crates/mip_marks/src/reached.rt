@@ -15,7 +15,10 @@ fn hears(history: &[Entry], entry: &Entry, outsider: u8, token: Token) -> bool
     ensures { result ≡ is_heard outsider token.0 (sight history.now entry.now) }
 {
     match entry {
-        Entry::Heard { number, outsider: o } => *o == outsider && posts::token(history, *number) == Some(token),
+        Entry::Heard {
+            number,
+            outsider: o,
+        } => *o == outsider && posts::token(history, *number) == Some(token),
         _ => false,
     }
 }
