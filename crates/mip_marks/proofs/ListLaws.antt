@@ -8,7 +8,7 @@ use Rattle.std.proofs.lemmas.List.Folds.{list_any-append}
 use Rattle.std.proofs.lemmas.Bool.{or_left, or_right, or_parts, and_parts, and_from, and_right, eqb-true, ltb-true, ltb-false}
 use Rattle.mip_lists.specs.EachAfter.{EachAfter}
 use Rattle.mip_lists.specs.Last.{or_else}
-use Rattle.mip_marks.specs.Lists.{first_some, until, along, lesser, least}
+use Rattle.mip_marks.specs.Lists.{first_some, until, along, if_passes, lesser}
 
 -- where the first item stands that says something
 pub record SaysFirst {X Y : Type 0} (says : X → Option Y) (xs : List X) (y : Y) : Type 0 where
@@ -263,10 +263,6 @@ any_along_more {Z = Z} f says p xs i x inside at =
     by : (o : Option Z) (rest : List Z) → list_any p (cons_option o rest) ≡ (option_map_or p o false || list_any p rest)
     by None rest = refl
     by (Some z) rest = refl
-
--- the item, if it passes
-abbrev pub if_passes : {Z : Type 0} → (Z → Bool) → Z → Option Z
-if_passes p z = if p z then Some z else None
 
 pub find_along_more : {X Y Z : Type 0} (f : X → Y) (says : List Y → Y → Option Z) (p : Z → Bool) (xs : List X) (i : ℕ) (x : X) → i < length xs → x ≡ get_or xs i x
     → find p (along says (map f (take i xs)) (map f (drop i xs)))

@@ -8,12 +8,12 @@ use Rattle.std.proofs.lemmas.Bool.{and_parts, and_from, eq-eqb, eqb-true, false�
 use Rattle.mip_words.specs.declared.ids.NodeId.{NodeId}
 use Rattle.mip_marks.specs.declared.maker.Maker.{Maker}
 use Rattle.mip_marks.specs.declared.maker.Maker.TheVariants.{Node, Outsider}
-use Rattle.mip_marks.specs.Lists.{first_some, until}
+use Rattle.mip_marks.specs.Lists.{first_some, until, if_passes}
 use Rattle.mip_marks.specs.Sights.{Sight}
 use Rattle.mip_marks.specs.Sights.Sight.{Heard, Made}
 use Rattle.mip_marks.specs.Reached.{is_token, is_heard, is_handed, has_reached, value_heard, values}
 use Rattle.mip_marks.specs.Firsts.{is_post}
-use Rattle.mip_marks.specs.Pairs.{Pair, alone, both, if_gives, made_with, as_asked, pair_made, first_pair, pair_by}
+use Rattle.mip_marks.specs.Pairs.{Pair, alone, both, made_with, as_asked, pair_made, first_pair, pair_by}
 use Rattle.mip_marks.specs.Laws.{IsMadeBefore, IsLawful, AreLawful}
 use Rattle.mip_marks.proofs.ListLaws.{SaysFirst, first_some-found, FoundFirst, find-found, until_past, any_at, any_front}
 use Rattle.mip_marks.proofs.Tokens.{same_bytes, bytes_same, law_at}
@@ -72,8 +72,8 @@ made_is seen node k made lawful e =
     by before _ after whole law is = absurd cc
 
 -- the test that a pair passed
-if_gives-some : (test : Pair → Bool) (made pair : Pair) → if_gives test made ≡ Some pair → (made ≡ pair) × (test pair ≡ true)
-if_gives-some test made pair e = by (test made) refl e
+if_passes-some : (test : Pair → Bool) (made pair : Pair) → if_passes test made ≡ Some pair → (made ≡ pair) × (test pair ≡ true)
+if_passes-some test made pair e = by (test made) refl e
   where
     by : (b : Bool) → test made ≡ b → (if b then Some made else None) ≡ Some pair → (made ≡ pair) × (test pair ≡ true)
     by true is e = let same : made ≡ pair = cc in (same, ap test (sym same) ∙ is)
@@ -83,10 +83,10 @@ paired_made : (seen : List Sight) (careof : Option ℕ) (test : Pair → Bool) (
     → IsPaired (until (is_post k) seen) (Node node) careof test pair
 paired_made seen careof test node k pair lawful e = by (first_some (made_with node.0 k) seen) refl e
   where
-    end : (made asked : Pair) → IsMade (until (is_post k) seen) node.0 made → as_asked careof made ≡ Some asked → if_gives test asked ≡ Some pair
+    end : (made asked : Pair) → IsMade (until (is_post k) seen) node.0 made → as_asked careof made ≡ Some asked → if_passes test asked ≡ Some pair
         → IsPaired (until (is_post k) seen) (Node node) careof test pair
     end made asked is shape e =
-        let passed = if_gives-some test asked pair e in
+        let passed = if_passes-some test asked pair e in
         subst (λ (p : Pair). IsPaired (until (is_post k) seen) (Node node) careof test p) passed.0
         (record { passes = ap test passed.0 ∙ passed.1; home_came = home careof shape; careof_came = rest careof made.careof is.careof_came shape })
       where
@@ -104,12 +104,12 @@ paired_made seen careof test node k pair lawful e = by (first_some (made_with no
         rest (Some j) None came shape = absurd cc
         rest (Some j) (Some q) came shape = let same : both made.home q ≡ asked = cc in subst (λ (p : Pair). HasCome (Node node) (until (is_post k) seen) (Some j) p.careof) same came
 
-    asked_so : (made : Pair) → IsMade (until (is_post k) seen) node.0 made → (o : Option Pair) → as_asked careof made ≡ o → option_and_then (if_gives test) o ≡ Some pair
+    asked_so : (made : Pair) → IsMade (until (is_post k) seen) node.0 made → (o : Option Pair) → as_asked careof made ≡ o → option_and_then (if_passes test) o ≡ Some pair
         → IsPaired (until (is_post k) seen) (Node node) careof test pair
     asked_so made is None shape e = absurd cc
     asked_so made is (Some asked) shape e = end made asked is shape e
 
-    by : (o : Option Pair) → first_some (made_with node.0 k) seen ≡ o → option_and_then (if_gives test) (option_and_then (as_asked careof) o) ≡ Some pair
+    by : (o : Option Pair) → first_some (made_with node.0 k) seen ≡ o → option_and_then (if_passes test) (option_and_then (as_asked careof) o) ≡ Some pair
         → IsPaired (until (is_post k) seen) (Node node) careof test pair
     by None is e = absurd cc
     by (Some made) is e = asked_so made (made_is seen node.0 k made lawful is) (as_asked careof made) refl e

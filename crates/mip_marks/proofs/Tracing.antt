@@ -13,7 +13,7 @@ use Rattle.mip_marks.specs.declared.mark.Mark.TheVariants.{Origin, Forged}
 use Rattle.mip_marks.specs.Lists.{until}
 use Rattle.mip_marks.specs.Sights.{Sight}
 use Rattle.mip_marks.specs.Reached.{carries, reaches, has_reached}
-use Rattle.mip_marks.specs.Names.{Name, Naming, namings, is_own, is_misnamed, first_sent}
+use Rattle.mip_marks.specs.Names.{Name, Naming, number_of_naming, namings, is_own, is_misnamed, first_sent}
 use Rattle.mip_marks.specs.Firsts.{Post, is_post, post_at, key_at, first_update}
 use Rattle.mip_marks.specs.Pairs.{Pair, gives, pair_by}
 use Rattle.mip_marks.specs.Causes.{Claim, home_claim, careof_claim_at, careof_claim_with, careof_claim, is_early, is_used_early, is_named_otherwise}
@@ -47,7 +47,7 @@ traced_one seen maker k claim lawful reached late well =
       reached = reached;
       naming = own.item;
       first = own.found;
-      same = sym (ap (λ (o : Option Naming). unwrap_or (option_map (λ n. n.number) o) 0) own.found);
+      same = sym (ap (λ (o : Option Naming). unwrap_or (option_map number_of_naming o) 0) own.found);
     }
 
 -- neither of causes 2 and 3 holds

@@ -3,10 +3,9 @@ use Rattle.std.specs.Prelude.{ℕ, List, [], Bool, false, ◌||◌, if◌then◌
 use Rattle.std.specs.List.{list_any}
 use Rattle.std.specs.Option.{option_map_or}
 use Rattle.std.specs.Str.{bytes_eq}
-use Rattle.mip_says.specs.Says.Carried.{Test}
 use Rattle.mip_marks.specs.declared.accepted_update.AcceptedUpdate.{AcceptedUpdate}
 use Rattle.mip_marks.specs.Lists.{along}
-use Rattle.mip_marks.specs.Sights.{Sight}
+use Rattle.mip_marks.specs.Sights.{Sight, token_in}
 use Rattle.mip_marks.specs.Sights.Sight.{Injected}
 use Rattle.mip_marks.specs.Reached.{is_heard}
 use Rattle.mip_marks.specs.Names.{Name, life_at, is_misnamed}
@@ -38,17 +37,21 @@ careof_claim_with seen a _ _ = None
 abbrev pub careof_claim : List Sight → AcceptedUpdate → Pair → Option Claim
 careof_claim seen a pair = careof_claim_with seen a pair.careof a.careof_index
 
--- an outsider injects a test with a token that had not reached it
+-- a token that has not come to an outsider
+abbrev pub new_to : List Sight → ℕ → Option (List ℕ) → Option (List ℕ)
+new_to front outsider None = None
+new_to front outsider (Some token) = if list_any (is_heard outsider token) front then None else Some token
+
+-- an outsider injects a test with a token that had not come to it
 abbrev pub early : List Sight → Sight → Option (List ℕ)
-early front (Injected number outsider (Test kind index token destination)) =
-    if list_any (is_heard outsider token) front then None else Some token
+early front (Injected number outsider carried) = new_to front outsider (token_in carried)
 early front _ = None
 
--- an outsider had used the token before it reached it
+-- an outsider had used the token before it came to it
 abbrev pub is_early : List Sight → List ℕ → Bool
 is_early seen token = list_any (bytes_eq token) (along early [] seen)
 
--- cause 2: an outsider had injected one of the tokens before that token reached it
+-- cause 2: an outsider had injected a test with one of the tokens before that token came to it
 abbrev pub is_used_early : List Sight → Claim → Option Claim → Bool
 is_used_early seen home careof = is_early seen home.token || option_map_or (λ c. is_early seen c.token) careof false
 

@@ -18,6 +18,10 @@ abbrev pub along : {X Y : Type 0} → (List X → X → Option Y) → List X →
 along says front [] = []
 along says front (x ∷ xs) = cons_option (says front x) (along says (front ++ x ∷ []) xs)
 
+-- an item where it passes the test
+abbrev pub if_passes : {X : Type 0} → (X → Bool) → X → Option X
+if_passes p x = if p x then Some x else None
+
 abbrev pub lesser : (ℕ → Bool) → Option ℕ → ℕ → Option ℕ
 lesser p None k = if p k then Some k else None
 lesser p (Some best) k = if p k && nat_lt k best then Some k else Some best

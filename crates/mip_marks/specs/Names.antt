@@ -23,6 +23,9 @@ pub record Naming : Type 0 where
   pub token : List ℕ
   pub name : Name
 
+abbrev pub number_of_naming : Naming → ℕ
+number_of_naming n = n.number
+
 abbrev pub is_agent : ℕ → Sight → Bool
 is_agent node (Agent n) = n == node
 is_agent node _ = false
@@ -63,4 +66,4 @@ is_misnamed seen token name = list_any (is_other token name) (namings seen)
 
 -- the number of the first packet with the token under this name; 0 where there is none
 abbrev pub first_sent : List Sight → List ℕ → Name → ℕ
-first_sent seen token name = unwrap_or (option_map (λ n. n.number) (find (is_own token name) (namings seen))) 0
+first_sent seen token name = unwrap_or (option_map number_of_naming (find (is_own token name) (namings seen))) 0

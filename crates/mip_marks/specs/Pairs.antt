@@ -11,7 +11,7 @@ use Rattle.mip_says.specs.Says.{Key}
 use Rattle.mip_marks.specs.declared.maker.Maker.{Maker}
 use Rattle.mip_marks.specs.declared.maker.Maker.TheVariants.{Node, Outsider}
 use Rattle.mip_marks.specs.declared.accepted_update.AcceptedUpdate.{AcceptedUpdate}
-use Rattle.mip_marks.specs.Lists.{first_some, until}
+use Rattle.mip_marks.specs.Lists.{first_some, until, if_passes}
 use Rattle.mip_marks.specs.Keys.{kbm_of_tokens}
 use Rattle.mip_marks.specs.Sights.{Sight}
 use Rattle.mip_marks.specs.Sights.Sight.{Made}
@@ -33,9 +33,6 @@ both p q = record { home = p; careof = Some q }
 abbrev pub gives : Address → Address → Key → Pair → Bool
 gives own careof key pair = bytes_eq (authenticator_over (kbm_of_tokens pair.home pair.careof) careof own key.message) key.authenticator
 
-abbrev pub if_gives : (Pair → Bool) → Pair → Option Pair
-if_gives test pair = if test pair then Some pair else None
-
 abbrev pub made_with : ℕ → ℕ → Sight → Option Pair
 made_with node k (Made n number home careof) = if n == node && number == k then Some (record { home = home; careof = careof }) else None
 made_with node k _ = None
@@ -48,7 +45,7 @@ as_asked (Some index) pair = option_map (both pair.home) pair.careof
 -- the pair that a mobile made packet k from
 abbrev pub pair_made : List Sight → Option ℕ → (Pair → Bool) → NodeId → ℕ → Option Pair
 pair_made seen careof test node k =
-    option_and_then (if_gives test) (option_and_then (as_asked careof) (first_some (made_with node.0 k) seen))
+    option_and_then (if_passes test) (option_and_then (as_asked careof) (first_some (made_with node.0 k) seen))
 
 -- the first pair of these values that passes, in the order of the first of the two, and then of the second
 abbrev pub first_pair : Option ℕ → (Pair → Bool) → List (List ℕ) → Option Pair

@@ -3,6 +3,7 @@
 #![tactic(auto)]
 
 mod accepted_update;
+mod causes;
 mod claim;
 mod laws;
 mod maker;

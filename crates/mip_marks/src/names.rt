@@ -2,12 +2,13 @@
 
 ghost use Rattle.std.specs.Prelude.{◌≡◌, ℕ, List, ◌≤◌, ◌<◌, suc, if◌then◌else◌, length, fold, option_map, false};
 ghost use Rattle.std.specs.List.{list_any};
-ghost use Rattle.std.specs.Option.{option_map_or};
+ghost use Rattle.std.specs.Option.{option_map_or, option_and_then};
+ghost use Rattle.mip_marks.specs.Lists.{if_passes};
 ghost use Rattle.mip_entries.specs.declared.entry.Entry.{Entry};
 ghost use Rattle.mip_marks.specs.Sights.{sight, sights};
 ghost use Rattle.mip_says.specs.Says.{carried};
 ghost use Rattle.mip_marks.specs.Sights.Sight.{Sent};
-ghost use Rattle.mip_marks.specs.Names.{is_agent, lives, life_at, naming, is_own, is_other, is_misnamed, first_sent};
+ghost use Rattle.mip_marks.specs.Names.{is_agent, number_of_naming, lives, life_at, naming, is_own, is_other, is_misnamed, first_sent};
 ghost use Rattle.mip_marks.specs.Seen.{front_at, name_of, naming_of};
 
 use crate::claim::Claim;
@@ -140,4 +141,35 @@ pub fn is_misnamed(history: &[Entry], claim: &Claim) -> bool
         }
     }
     false
+}
+
+/// The number of a packet that an entry behind a place posts, where it names the token so.
+fn own_at(history: &[Entry], place: usize, entry: &Entry, claim: &Claim) -> Option<u64>
+    requires { place ≤ length history.now }
+    ensures { result ≡ option_map number_of_naming (option_and_then (if_passes (is_own claim.now.token.0 (name_of claim.now.name))) (naming (front_at history.now place) (sight history.now entry.now))) }
+{
+    match naming(history, place, entry) {
+        Some(naming) => {
+            if claim.is_own(&naming) {
+                Some(naming.number)
+            } else {
+                None
+            }
+        }
+        None => None,
+    }
+}
+
+/// The first packet with the token under its name; 0 where there is none.
+#[tactic(auto, unfolding(crate::specs::Sights::sights))]
+pub fn first_sent(history: &[Entry], claim: &Claim) -> u64
+    ensures { result ≡ first_sent (sights history.now) claim.now.token.0 (name_of claim.now.name) }
+{
+    for (place, entry) in history.iter().enumerate() {
+        match own_at(history, place, entry, claim) {
+            Some(number) => return number,
+            None => (),
+        }
+    }
+    0
 }

@@ -70,7 +70,7 @@ pub fn post(history: &[Entry], number: u64) -> Option<Post<'_>>
 }
 
 /// The token of a test.
-fn token_said(packet: &[u8]) -> Option<Token>
+pub fn token_said(packet: &[u8]) -> Option<Token>
     ensures { option_map (λ t. t.0) result ≡ token_in (carried packet.now) }
 {
     match carried_in(packet) {
@@ -90,7 +90,7 @@ pub fn token(history: &[Entry], number: u64) -> Option<Token>
 }
 
 /// An update with its authenticator.
-fn key_said(packet: &[u8]) -> Option<Key<'_>>
+pub fn key_said(packet: &[u8]) -> Option<Key<'_>>
     ensures { option_map key_of result ≡ key_in (carried packet.now) }
 {
     match carried_in(packet) {
