@@ -5,3 +5,4 @@ pub mod Tracing
 pub mod Plain
 pub mod Standing
 pub mod Originating
+pub mod Covered

@@ -1,7 +1,7 @@
 -- The pair behind an update: it gives the authenticator, and both tokens had reached the maker before.
 use Rattle.std.proofs.Common.{◌≡◌, ℕ, List, [], ◌∷◌, ◌++◌, Bool, true, false, refl, sym, ap, ◌∙◌, subst}
 use Rattle.std.specs.Prelude.{Option, Some, None, ◌&&◌, ◌||◌, ◌==◌, if◌then◌else◌, option_map, IfSome, ⊤}
-use Rattle.std.specs.List.{list_any, find, filter_map, cons_option}
+use Rattle.std.specs.List.{list_any, cons_option}
 use Rattle.std.specs.Option.{option_and_then}
 use Rattle.std.specs.Str.{bytes_eq}
 use Rattle.std.proofs.lemmas.Bool.{and_parts, and_from, eq-eqb, eqb-true, false≢true, or_cases, or_left, or_right}
@@ -13,9 +13,9 @@ use Rattle.mip_marks.specs.Sights.{Sight}
 use Rattle.mip_marks.specs.Sights.Sight.{Heard, Made}
 use Rattle.mip_marks.specs.Reached.{is_token, is_heard, is_handed, has_reached, value_heard, values}
 use Rattle.mip_marks.specs.Firsts.{is_post}
-use Rattle.mip_marks.specs.Pairs.{Pair, alone, both, made_with, as_asked, pair_made, first_pair, pair_by}
+use Rattle.mip_marks.specs.Pairs.{Pair, alone, both, made_with, as_asked, pair_made, first_with, first_pair, pair_by}
 use Rattle.mip_marks.specs.Laws.{IsMadeBefore, IsLawful, AreLawful}
-use Rattle.mip_marks.proofs.ListLaws.{SaysFirst, first_some-found, FoundFirst, find-found, until_past, any_at, any_front}
+use Rattle.mip_marks.proofs.ListLaws.{SaysFirst, first_some-found, until_past, any_at, any_front}
 use Rattle.mip_marks.proofs.Tokens.{same_bytes, bytes_same, law_at}
 
 -- the care-of token has reached the maker, where one is asked for
@@ -139,27 +139,21 @@ heard_at outsider front before after p whole =
 
 paired_heard : (front : List Sight) (careof : Option ℕ) (test : Pair → Bool) (outsider : ℕ) (pair : Pair) → first_pair careof test (values outsider front) ≡ Some pair
     → IsPaired front (Outsider outsider) careof test pair
-paired_heard front None test outsider pair e = by (find (λ p. test (alone p)) (values outsider front)) refl e
-  where
-    by : (o : Option (List ℕ)) → find (λ p. test (alone p)) (values outsider front) ≡ o → option_map alone o ≡ Some pair → IsPaired front (Outsider outsider) None test pair
-    by None is e = absurd cc
-    by (Some p) is e =
-        let s = find-found (λ p. test (alone p)) (values outsider front) p is in
-        let same : alone p ≡ pair = cc in
-        subst (λ (x : Pair). IsPaired front (Outsider outsider) None test x) same
-        (record { passes = s.passes; home_came = heard_at outsider front s.before s.after p s.whole; careof_came = tt })
+paired_heard front None test outsider pair e =
+    let s = first_some-found (λ p. if_passes test (alone p)) (values outsider front) pair e in
+    let passed = if_passes-some test (alone s.here) pair s.says_it in
+    subst (λ (x : Pair). IsPaired front (Outsider outsider) None test x) passed.0
+    (record { passes = ap test passed.0 ∙ passed.1; home_came = heard_at outsider front s.before s.after s.here s.whole; careof_came = tt })
 paired_heard front (Some j) test outsider pair e =
-    let s = first_some-found (λ p. option_map (both p) (find (λ q. test (both p q)) (values outsider front))) (values outsider front) pair e in
-    by s.here s.before s.after s.whole (find (λ q. test (both s.here q)) (values outsider front)) refl s.says_it
-  where
-    by : (p : List ℕ) (before after : List (List ℕ)) → values outsider front ≡ before ++ p ∷ after → (o : Option (List ℕ)) → find (λ q. test (both p q)) (values outsider front) ≡ o
-        → option_map (both p) o ≡ Some pair → IsPaired front (Outsider outsider) (Some j) test pair
-    by p before after whole None is e = absurd cc
-    by p before after whole (Some q) is e =
-        let s = find-found (λ q. test (both p q)) (values outsider front) q is in
-        let same : both p q ≡ pair = cc in
-        subst (λ (x : Pair). IsPaired front (Outsider outsider) (Some j) test x) same
-        (record { passes = s.passes; home_came = heard_at outsider front before after p whole; careof_came = heard_at outsider front s.before s.after q s.whole })
+    let s = first_some-found (first_with test (values outsider front)) (values outsider front) pair e in
+    let t = first_some-found (λ q. if_passes test (both s.here q)) (values outsider front) pair s.says_it in
+    let passed = if_passes-some test (both s.here t.here) pair t.says_it in
+    subst (λ (x : Pair). IsPaired front (Outsider outsider) (Some j) test x) passed.0
+    (record {
+      passes = ap test passed.0 ∙ passed.1;
+      home_came = heard_at outsider front s.before s.after s.here s.whole;
+      careof_came = heard_at outsider front t.before t.after t.here t.whole;
+    })
 
 -- the pair behind a packet
 pub paired : (seen : List Sight) (careof : Option ℕ) (test : Pair → Bool) (k : ℕ) (maker : Maker) (pair : Pair) → AreLawful seen → pair_by seen careof test k maker ≡ Some pair

@@ -1,7 +1,6 @@
 -- The pair of tokens behind an update: the one that a mobile made it from, or the first that an outsider could.
 -- RFC 6275 sections 5.2.6 and 6.2.7
 use Rattle.std.specs.Prelude.{ℕ, List, Bool, ◌&&◌, ◌==◌, if◌then◌else◌, Option, Some, None, option_map}
-use Rattle.std.specs.List.{find}
 use Rattle.std.specs.Option.{option_and_then}
 use Rattle.std.specs.Str.{bytes_eq}
 use Rattle.mip_words.specs.declared.address.Address.{Address}
@@ -47,10 +46,18 @@ abbrev pub pair_made : List Sight → Option ℕ → (Pair → Bool) → NodeId 
 pair_made seen careof test node k =
     option_and_then (if_passes test) (option_and_then (as_asked careof) (first_some (made_with node.0 k) seen))
 
+-- the first of these values that passes alone
+abbrev pub first_alone : (Pair → Bool) → List (List ℕ) → Option Pair
+first_alone test vs = first_some (λ p. if_passes test (alone p)) vs
+
+-- the first of these values that passes with the home token p
+abbrev pub first_with : (Pair → Bool) → List (List ℕ) → List ℕ → Option Pair
+first_with test vs p = first_some (λ q. if_passes test (both p q)) vs
+
 -- the first pair of these values that passes, in the order of the first of the two, and then of the second
 abbrev pub first_pair : Option ℕ → (Pair → Bool) → List (List ℕ) → Option Pair
-first_pair None test vs = option_map alone (find (λ p. test (alone p)) vs)
-first_pair (Some index) test vs = first_some (λ p. option_map (both p) (find (λ q. test (both p q)) vs)) vs
+first_pair None test vs = first_alone test vs
+first_pair (Some index) test vs = first_some (first_with test vs) vs
 
 -- the pair behind packet k, by who posted it; an outsider's is of the values that had reached it before
 abbrev pub pair_by : List Sight → Option ℕ → (Pair → Bool) → ℕ → Maker → Option Pair

@@ -173,3 +173,11 @@ pub fn first_sent(history: &[Entry], claim: &Claim) -> u64
     }
     0
 }
+
+/// The life of a node at the end of a history.
+#[tactic(auto, unfolding(crate::specs::Sights::sights))]
+pub fn present_life(history: &[Entry], node: NodeId) -> usize
+    ensures { result ≡ life_at node.0 (sights history.now) }
+{
+    life(history, history.len(), node)
+}
