@@ -3,4 +3,4 @@
 
 mod laws;
 
-pub use laws::tests_are_own;
+pub use laws::{tests_are_own, unforged_acceptances_have_their_origin};
