@@ -32,3 +32,6 @@ pub use post::Post;
 pub use posts::{key, post as packet_posted, token};
 pub use signed::Signed;
 pub use watch::Watch;
+
+#[cfg(test)]
+mod tests;
