@@ -1,6 +1,6 @@
 //! Histories that no run gives. The packets are those that another program wrote for one correspondent.
 
-use crate::{Mark, Watch};
+use crate::{AcceptedUpdate, Mark, Watch};
 use mip_entries::{Entry, History};
 use mip_words::{Address, Bytes, LinkId, Memory, Moment, NodeId};
 use std::alloc::Global;
@@ -92,7 +92,13 @@ fn mark_of(alloc: Global, steps: &[Step]) -> Option<Mark> {
     let Ok(()) = history.push(entry) else {
         return None;
     };
-    Some(Watch::judge(&history, place))
+    let Some(last) = history.at(place) else {
+        return None;
+    };
+    match AcceptedUpdate::of(last) {
+        Some(_) => Some(Watch::judge(&history, place)),
+        None => None,
+    }
 }
 
 #[test]
