@@ -1,9 +1,9 @@
 -- What is known of the first answer in a list, of what stands before it, and of items seen with those before them.
-use Rattle.std.proofs.Common.{◌≡◌, ℕ, ◌+◌, ◌<◌, ◌≤◌, List, [], ◌∷◌, ◌++◌, length, get_or, take, drop, Bool, true, false, refl, sym, ap, ◌∙◌, subst, arith}
+use Rattle.std.proofs.Common.{◌≡◌, ℕ, ◌≤◌, List, [], ◌∷◌, ◌++◌, Bool, true, false, refl, sym, ap, ◌∙◌, subst, arith}
 use Rattle.std.specs.Prelude.{fold, map, Option, Some, None, ◌||◌, ◌&&◌, ◌==◌, nat_lt, if◌then◌else◌}
 use Rattle.std.specs.List.{list_any, find, cons_option, filter_map}
-use Rattle.std.specs.Option.{option_or, option_and_then, option_map_or}
-use Rattle.std.proofs.lemmas.List.{append_assoc, append-nil, map-append, drop_more, take_more}
+use Rattle.std.specs.Option.{option_or}
+use Rattle.std.proofs.lemmas.List.{append_assoc, append-nil}
 use Rattle.std.proofs.lemmas.List.Folds.{list_any-append}
 use Rattle.std.proofs.lemmas.Bool.{or_left, or_right, or_parts, and_parts, and_from, and_right, eqb-true, ltb-true, ltb-false}
 use Rattle.mip_lists.specs.EachAfter.{EachAfter}
@@ -245,35 +245,3 @@ map_split {X = X} {Y = Y} f (x ∷ xs) (z ∷ before) y after e =
 
     two : (m n : List Y) → z ≡ f x → m ≡ n → z ∷ m ≡ f x ∷ n
     two m n e g = cc
-
--- what is said along the rest of a list, one item on
-pub along_more : {X Y Z : Type 0} (f : X → Y) (says : List Y → Y → Option Z) (xs : List X) (i : ℕ) (x : X) → i < length xs → x ≡ get_or xs i x
-    → along says (map f (take i xs)) (map f (drop i xs)) ≡ cons_option (says (map f (take i xs)) (f x)) (along says (map f (take (i + 1) xs)) (map f (drop (i + 1) xs)))
-along_more {X = X} {Y = Y} {Z = Z} f says xs i x inside at =
-    ap (λ (l : List X). along says (map f (take i xs)) (map f l)) (drop_more xs i x inside ∙ ap (λ (y : X). y ∷ drop (i + 1) xs) (sym at))
-    ∙ ap (λ (front : List Y). cons_option (says (map f (take i xs)) (f x)) (along says front (map f (drop (i + 1) xs))))
-    (sym (map-append f (take i xs) (x ∷ [])) ∙ ap (λ (l : List X). map f l) (ap (λ (y : X). take i xs ++ y ∷ []) at ∙ sym (take_more xs i x inside)))
-
-pub any_along_more : {X Y Z : Type 0} (f : X → Y) (says : List Y → Y → Option Z) (p : Z → Bool) (xs : List X) (i : ℕ) (x : X) → i < length xs → x ≡ get_or xs i x
-    → list_any p (along says (map f (take i xs)) (map f (drop i xs)))
-    ≡ (option_map_or p (says (map f (take i xs)) (f x)) false || list_any p (along says (map f (take (i + 1) xs)) (map f (drop (i + 1) xs))))
-any_along_more {Z = Z} f says p xs i x inside at =
-    ap (list_any p) (along_more f says xs i x inside at) ∙ by (says (map f (take i xs)) (f x)) (along says (map f (take (i + 1) xs)) (map f (drop (i + 1) xs)))
-  where
-    by : (o : Option Z) (rest : List Z) → list_any p (cons_option o rest) ≡ (option_map_or p o false || list_any p rest)
-    by None rest = refl
-    by (Some z) rest = refl
-
-pub find_along_more : {X Y Z : Type 0} (f : X → Y) (says : List Y → Y → Option Z) (p : Z → Bool) (xs : List X) (i : ℕ) (x : X) → i < length xs → x ≡ get_or xs i x
-    → find p (along says (map f (take i xs)) (map f (drop i xs)))
-    ≡ option_or (option_and_then (if_passes p) (says (map f (take i xs)) (f x))) (find p (along says (map f (take (i + 1) xs)) (map f (drop (i + 1) xs))))
-find_along_more {Z = Z} f says p xs i x inside at =
-    ap (find p) (along_more f says xs i x inside at) ∙ by (says (map f (take i xs)) (f x)) (along says (map f (take (i + 1) xs)) (map f (drop (i + 1) xs)))
-  where
-    one : (b : Bool) (z : Z) (rest : List Z) → (if b then Some z else find p rest) ≡ option_or (if b then Some z else None) (find p rest)
-    one true z rest = refl
-    one false z rest = refl
-
-    by : (o : Option Z) (rest : List Z) → find p (cons_option o rest) ≡ option_or (option_and_then (if_passes p) o) (find p rest)
-    by None rest = refl
-    by (Some z) rest = one (p z) z rest

@@ -13,10 +13,11 @@ use Rattle.mip_marks.specs.Lists.{until}
 use Rattle.mip_marks.specs.Entries.{declared_in}
 use Rattle.mip_marks.specs.Sights.{Sight, sight, sights}
 use Rattle.mip_marks.specs.Reached.{reaches}
+use Rattle.mip_marks.specs.Names.{life_at}
 use Rattle.mip_marks.specs.Firsts.{is_post}
 use Rattle.mip_marks.specs.Marks.{mark_of, mark_in}
 use Rattle.mip_marks.specs.Traces.{IsTraced, IsCareofTraced, IsTracedMark}
-use Rattle.mip_marks.specs.Causes.{Claim, home_claim, careof_claim_at}
+use Rattle.mip_marks.specs.Causes.{Claim, home_claim, careof_claim_in}
 use Rattle.mip_marks.specs.Origins.{WasSent, HasReached, HasCareof, HasOrigin}
 use Rattle.mip_marks.specs.Laws.{AreLawful}
 use Rattle.mip_marks.proofs.Tokens.{same_bytes}
@@ -39,7 +40,7 @@ careof_of : (past earlier : List Entry) (a : AcceptedUpdate) (maker : Maker) (k 
     → until (is_post k) (sights past) ≡ map (sight past) earlier → IsCareofTraced (sights past) a maker k j q cot → HasCareof past a earlier maker j q cot
 careof_of past earlier a maker k (Some j) (Some q) (Some cot) front t = (
   subst (λ (n : ℕ). WasSent past a.node n 1 j q a.careof) t.same (sent_stands past a.node 1 j q a.careof t.naming t.first),
-  reached_of past earlier maker k (careof_claim_at (sights past) a q j) cot front t,
+  reached_of past earlier maker k (careof_claim_in (life_at a.node.0 (sights past)) a q j) cot front t,
 )
 careof_of past earlier a maker k None None None front t = tt
 careof_of past earlier a maker k None None (Some cot) front t = t

@@ -26,7 +26,7 @@ use Rattle.mip_marks.specs.Reached.{reaches, has_reached}
 use Rattle.mip_marks.specs.Names.{Name, Naming, is_agent, lives, life_at, naming, namings, same_name, is_own}
 use Rattle.mip_marks.specs.Firsts.{Post, post_with, post_at, is_post, number_of, key_in, key_at, same_key, carries_key, first_update}
 use Rattle.mip_marks.specs.Pairs.{Pair, gives}
-use Rattle.mip_marks.specs.Causes.{Claim, home_claim, careof_claim_at}
+use Rattle.mip_marks.specs.Causes.{Claim, home_claim, careof_claim_in}
 use Rattle.mip_marks.specs.Origins.{Carries, IsTest, poster, IsFirstOf, reaching, HasReached, WasSent, HasCareof, HasOrigin}
 use Rattle.mip_marks.specs.Traces.{IsTraced, IsCareofTraced, IsTracedMark}
 use Rattle.mip_marks.proofs.ListLaws.{SaysFirst, first_some-found, until_at, any_at, any_front, along_here, along_found, least_passes, least_least, fold_first, MapSplit, map_split}

@@ -13,10 +13,10 @@ use Rattle.mip_marks.specs.declared.mark.Mark.TheVariants.{Origin, Forged}
 use Rattle.mip_marks.specs.Lists.{until}
 use Rattle.mip_marks.specs.Sights.{Sight}
 use Rattle.mip_marks.specs.Reached.{carries, reaches, has_reached}
-use Rattle.mip_marks.specs.Names.{Name, Naming, number_of_naming, namings, is_own, is_misnamed, first_sent}
+use Rattle.mip_marks.specs.Names.{Name, Naming, number_of_naming, life_at, namings, is_own, is_misnamed, first_sent}
 use Rattle.mip_marks.specs.Firsts.{Post, is_post, post_at, key_at, first_update}
 use Rattle.mip_marks.specs.Pairs.{Pair, gives, pair_by}
-use Rattle.mip_marks.specs.Causes.{Claim, home_claim, careof_claim_at, careof_claim_with, careof_claim, is_early, is_used_early, is_named_otherwise}
+use Rattle.mip_marks.specs.Causes.{Claim, home_claim, careof_claim_in, careof_claim_with, careof_claim, is_early, is_used_early, is_named_otherwise}
 use Rattle.mip_marks.specs.Marks.{origin_of, by_claims, by_pair, by_post, by_first, by_key, mark_of}
 use Rattle.mip_marks.specs.Traces.{IsTraced, IsCareofTraced, IsTracedMark}
 use Rattle.mip_marks.specs.Laws.{AreLawful}
@@ -90,12 +90,12 @@ by_claims-origin seen home careof k hot cot update e = by (is_used_early seen ho
         }
 
 careof_traced : (seen : List Sight) (a : AcceptedUpdate) (maker : Maker) (k : ℕ) (j : Option ℕ) (q : Option (List ℕ)) (cot : Option ℕ) → AreLawful seen
-    → HasCome maker (until (is_post k) seen) j q → AreClear seen (careof_claim_with seen a q j)
-    → option_map (λ c. first_sent seen c.token c.name) (careof_claim_with seen a q j) ≡ cot → IsCareofTraced seen a maker k j q cot
+    → HasCome maker (until (is_post k) seen) j q → AreClear seen (careof_claim_with (life_at a.node.0 seen) a q j)
+    → option_map (λ c. first_sent seen c.token c.name) (careof_claim_with (life_at a.node.0 seen) a q j) ≡ cot → IsCareofTraced seen a maker k j q cot
 careof_traced seen a maker k None None cot lawful come clear is = subst (λ (o : Option ℕ). IsCareofTraced seen a maker k None None o) is tt
 careof_traced seen a maker k (Some j) (Some q) cot lawful come clear is =
     subst (λ (o : Option ℕ). IsCareofTraced seen a maker k (Some j) (Some q) o) is
-    (traced_one seen maker k (careof_claim_at seen a q j) lawful come clear.late clear.well)
+    (traced_one seen maker k (careof_claim_in (life_at a.node.0 seen) a q j) lawful come clear.late clear.well)
 careof_traced seen a maker k None (Some q) cot lawful come clear is = absurd come
 careof_traced seen a maker k (Some j) None cot lawful come clear is = absurd come
 

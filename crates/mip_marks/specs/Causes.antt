@@ -16,26 +16,25 @@ pub record Claim : Type 0 where
   pub token : List ℕ
   pub name : Name
 
--- the home token is that of the node in its present life, for the home address, under the home nonce index
-abbrev pub home_claim : List Sight → AcceptedUpdate → List ℕ → Claim
-home_claim seen a p = record {
-  token = p;
-  name = record { node = a.node.0; life = life_at a.node.0 seen; kind = 0; address = a.home; index = a.home_index };
-}
+-- the home token is that of the node in this life, for the home address, under the home nonce index
+abbrev pub home_claim_in : ℕ → AcceptedUpdate → List ℕ → Claim
+home_claim_in life a p = record { token = p; name = record { node = a.node.0; life = life; kind = 0; address = a.home; index = a.home_index } }
 
 -- the care-of token likewise, for the care-of address
-abbrev pub careof_claim_at : List Sight → AcceptedUpdate → List ℕ → ℕ → Claim
-careof_claim_at seen a q j = record {
-  token = q;
-  name = record { node = a.node.0; life = life_at a.node.0 seen; kind = 1; address = a.careof; index = j };
-}
+abbrev pub careof_claim_in : ℕ → AcceptedUpdate → List ℕ → ℕ → Claim
+careof_claim_in life a q j = record { token = q; name = record { node = a.node.0; life = life; kind = 1; address = a.careof; index = j } }
 
-abbrev pub careof_claim_with : List Sight → AcceptedUpdate → Option (List ℕ) → Option ℕ → Option Claim
-careof_claim_with seen a (Some q) (Some j) = Some (careof_claim_at seen a q j)
-careof_claim_with seen a _ _ = None
+-- none where the binding ends
+abbrev pub careof_claim_with : ℕ → AcceptedUpdate → Option (List ℕ) → Option ℕ → Option Claim
+careof_claim_with life a (Some q) (Some j) = Some (careof_claim_in life a q j)
+careof_claim_with life a _ _ = None
+
+-- in the node's present life
+abbrev pub home_claim : List Sight → AcceptedUpdate → List ℕ → Claim
+home_claim seen a p = home_claim_in (life_at a.node.0 seen) a p
 
 abbrev pub careof_claim : List Sight → AcceptedUpdate → Pair → Option Claim
-careof_claim seen a pair = careof_claim_with seen a pair.careof a.careof_index
+careof_claim seen a pair = careof_claim_with (life_at a.node.0 seen) a pair.careof a.careof_index
 
 -- a token that has not come to an outsider
 abbrev pub new_to : List Sight → ℕ → Option (List ℕ) → Option (List ℕ)

@@ -8,10 +8,10 @@ use Rattle.mip_marks.specs.declared.accepted_update.AcceptedUpdate.{AcceptedUpda
 use Rattle.mip_marks.specs.Lists.{until}
 use Rattle.mip_marks.specs.Sights.{Sight}
 use Rattle.mip_marks.specs.Reached.{has_reached}
-use Rattle.mip_marks.specs.Names.{Naming, namings, is_own}
+use Rattle.mip_marks.specs.Names.{Naming, life_at, namings, is_own}
 use Rattle.mip_marks.specs.Firsts.{Post, is_post, post_at, key_at, first_update}
 use Rattle.mip_marks.specs.Pairs.{Pair, gives}
-use Rattle.mip_marks.specs.Causes.{Claim, home_claim, careof_claim_at}
+use Rattle.mip_marks.specs.Causes.{Claim, home_claim, careof_claim_in}
 
 -- a token reached the maker before packet k was posted, and the first packet that names it so has this number
 pub record IsTraced (seen : List Sight) (maker : Maker) (k : ℕ) (claim : Claim) (number : ℕ) : Type 0 where
@@ -22,7 +22,7 @@ pub record IsTraced (seen : List Sight) (maker : Maker) (k : ℕ) (claim : Claim
 
 -- the care-of token likewise; none where the binding ends
 abbrev pub IsCareofTraced : List Sight → AcceptedUpdate → Maker → ℕ → Option ℕ → Option (List ℕ) → Option ℕ → Type 0
-IsCareofTraced seen a maker k (Some j) (Some q) (Some cot) = IsTraced seen maker k (careof_claim_at seen a q j) cot
+IsCareofTraced seen a maker k (Some j) (Some q) (Some cot) = IsTraced seen maker k (careof_claim_in (life_at a.node.0 seen) a q j) cot
 IsCareofTraced seen a maker k None None None = ⊤
 IsCareofTraced seen a maker k _ _ _ = ⊥
 

@@ -28,7 +28,9 @@ pub use mark::Mark;
 pub use name::Name;
 pub use naming::Naming;
 pub use pair::Pair;
-pub use post::Post;
-pub use posts::{key, post as packet_posted, token};
+pub use posts::{key_said, token_said};
 pub use signed::Signed;
 pub use watch::Watch;
+
+#[cfg(test)]
+mod tests;

@@ -6,7 +6,7 @@ ghost use Rattle.mip_marks.specs.Lists.{first_some, until};
 ghost use Rattle.mip_marks.specs.Sights.{sight, sights};
 ghost use Rattle.mip_marks.specs.Reached.{value_heard, values};
 ghost use Rattle.mip_marks.specs.Firsts.{is_post};
-ghost use Rattle.mip_marks.specs.Pairs.{made_with, as_asked, pair_made, first_alone, first_with, first_pair, pair_by};
+ghost use Rattle.mip_marks.specs.Pairs.{made_with, pair_made, first_alone, first_with, first_pair, pair_by};
 ghost use Rattle.mip_marks.specs.Seen.{front_at, pair_of, gives_it};
 
 use crate::maker::Maker;
@@ -55,22 +55,6 @@ fn made(history: &[Entry], by: NodeId, k: u64) -> Option<Pair>
     None
 }
 
-/// What an acceptance asks of a pair.
-pub fn as_asked(careof: Option<u16>, pair: Pair) -> Option<Pair>
-    ensures { option_map pair_of result ≡ as_asked careof (pair_of pair) }
-{
-    match careof {
-        None => Some(Pair {
-            home: pair.home,
-            careof: None,
-        }),
-        Some(_) => match pair.careof {
-            Some(_) => Some(pair),
-            None => None,
-        },
-    }
-}
-
 /// The pair from which a mobile made packet k, where it gives the authenticator.
 fn pair_made(
     history: &[Entry],
@@ -82,7 +66,7 @@ fn pair_made(
     ensures { option_map pair_of result ≡ pair_made (sights history.now) careof (gives_it signed.now) by k }
 {
     match made(history, by, k) {
-        Some(pair) => match as_asked(careof, pair) {
+        Some(pair) => match pair.as_asked(careof) {
             Some(pair) => signed.if_by(pair),
             None => None,
         },

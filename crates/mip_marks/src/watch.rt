@@ -1,26 +1,23 @@
 ghost use Rattle.std.specs.Prelude.{◌≡◌, ℕ, List, take, IsSome, IfSome, option_map};
 ghost use Rattle.mip_says.specs.Says.{key_of};
 ghost use Rattle.mip_entries.specs.declared.entry.Entry.{Entry};
-ghost use Rattle.mip_marks.specs.Entries.{claims, declared_in, update_accepted, accepted_at};
+ghost use Rattle.mip_marks.specs.Entries.{claims, declared_in, accepted_at};
 ghost use Rattle.mip_marks.specs.Sights.{sights};
 ghost use Rattle.mip_marks.specs.Firsts.{first_update};
-ghost use Rattle.mip_marks.specs.Causes.{home_claim, careof_claim};
 ghost use Rattle.mip_marks.specs.Marks.{by_claims, by_first, mark_in};
-ghost use Rattle.mip_marks.specs.Seen.{claim_of, pair_of};
+ghost use Rattle.mip_marks.specs.Seen.{claim_of};
 
 use crate::accepted_update::AcceptedUpdate;
 use crate::causes::{is_named_otherwise, is_used_early};
 use crate::claim::Claim;
 use crate::firsts::first_update;
 use crate::mark::Mark;
-use crate::name::Name;
 use crate::names::{first_sent, present_life};
-use crate::pair::Pair;
 use crate::pairs::pair;
 use crate::posts::{key, post};
 use crate::signed::Signed;
 use mip_entries::{Entry, History};
-use mip_says::{Key, TestKind};
+use mip_says::Key;
 use mip_words::{Address, NodeId};
 
 /// Whoever looks at a whole history.
@@ -47,68 +44,6 @@ fn declared(history: &[Entry], node: NodeId) -> Option<Address>
         }
     }
     None
-}
-
-/// The update that an entry accepts.
-pub fn accepted_in(entry: &Entry) -> Option<AcceptedUpdate>
-    ensures { result ≡ update_accepted entry.now }
-{
-    match entry {
-        Entry::Accepted {
-            node,
-            number,
-            home,
-            careof,
-            home_index,
-            careof_index,
-            ..
-        } => Some(AcceptedUpdate {
-            node: *node,
-            number: *number,
-            home: *home,
-            careof: *careof,
-            home_index: *home_index,
-            careof_index: *careof_index,
-        }),
-        _ => None,
-    }
-}
-
-/// The home token, and the name that it has in an acceptance.
-fn home_claim(past: &[Entry], accepted: &AcceptedUpdate, pair: &Pair) -> Claim
-    ensures { claim_of result ≡ home_claim (sights past.now) accepted.now (pair_of pair.now).home }
-{
-    let life = present_life(past, accepted.node);
-    Claim {
-        token: pair.home,
-        name: Name {
-            node: accepted.node,
-            life,
-            kind: TestKind::Home,
-            address: accepted.home,
-            index: accepted.home_index,
-        },
-    }
-}
-
-/// The care-of token likewise; none where the binding ends.
-fn careof_claim(past: &[Entry], accepted: &AcceptedUpdate, pair: &Pair) -> Option<Claim>
-    ensures { option_map claim_of result ≡ careof_claim (sights past.now) accepted.now (pair_of pair.now) }
-{
-    let life = present_life(past, accepted.node);
-    match (pair.careof, accepted.careof_index) {
-        (Some(token), Some(index)) => Some(Claim {
-            token,
-            name: Name {
-                node: accepted.node,
-                life,
-                kind: TestKind::Careof,
-                address: accepted.careof,
-                index,
-            },
-        }),
-        _ => None,
-    }
 }
 
 /// Causes 2 and 3; where neither holds, the origin.
@@ -147,8 +82,9 @@ fn mark_with(past: &[Entry], accepted: &AcceptedUpdate, own: Address, key: &Key)
     let Some(pair) = pair(past, accepted.careof_index, &signed, update, first.maker) else {
         return Mark::Forged(1);
     };
-    let home = home_claim(past, accepted, &pair);
-    let careof = careof_claim(past, accepted, &pair);
+    let life = present_life(past, accepted.node);
+    let home = accepted.home_claim(life, &pair);
+    let careof = accepted.careof_claim(life, &pair);
     judged(past, &home, &careof, update)
 }
 
@@ -173,7 +109,7 @@ impl Watch {
         ensures { IfSome (accepted_at history.now accepted) (λ a. result ≡ mark_in (take accepted history.now) a) }
     {
         let past = history.as_slice();
-        match accepted_in(&past[accepted]) {
+        match AcceptedUpdate::of(&past[accepted]) {
             Some(update) => mark(&past[..accepted], &update),
             None => unreachable!(),
         }
