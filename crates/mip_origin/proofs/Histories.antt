@@ -1,6 +1,6 @@
 -- Each test in the history of a run was sent as its sender's own.
 use Rattle.std.proofs.Common.{◌≡◌, ℕ, zero, suc, ◌+◌, ◌-◌, List, [], ◌∷◌, ◌++◌, Bool, true, false, length, refl, sym, ap, ◌∙◌, subst}
-use Rattle.std.specs.Prelude.{fold, map, Option, Some, None, unwrap_or, is_some, ◌==◌, if◌then◌else◌, ◌||◌, ◌&&◌, slice_get, slice_index_or}
+use Rattle.std.specs.Prelude.{fold, map, Option, Some, None, unwrap_or, option_map, is_some, ◌==◌, if◌then◌else◌, ◌||◌, ◌&&◌, slice_get, slice_index_or}
 use Rattle.std.specs.List.{list_any, AllByRecursion}
 use Rattle.std.proofs.lemmas.List.{append_assoc, append-nil}
 use Rattle.std.proofs.lemmas.List.Sums.{fold-append}
@@ -11,6 +11,7 @@ use Rattle.mip_words.specs.declared.shield.Shield.{Shield}
 use Rattle.mip_lists.specs.EachAfter.{EachAfter}
 use Rattle.mip_lists.proofs.EachLaws.{each-append}
 use Rattle.mip_nonce.specs.Secrets.{Life}
+use Rattle.mip_nonce.specs.Window.{index_of}
 use Rattle.mip_says.specs.Says.{carried}
 use Rattle.mip_bcache.specs.declared.row.Row.{Row}
 use Rattle.mip_bcache.specs.Seen.{kept_at}
@@ -41,6 +42,12 @@ use Rattle.mip_history.specs.Delivery.{arrival_link, handed_over, overheard_at, 
 use Rattle.mip_history.specs.Permitted.{claims_from, opened, lost, restarted, waited, happens, permitted}
 use Rattle.mip_history.proofs.Posts.{answered_append}
 use Rattle.mip_origin.specs.OwnTests.{IsOwnTest, SendsOwnTests, SendsPlainData}
+use Rattle.mip_marks.specs.declared.accepted_update.AcceptedUpdate.{AcceptedUpdate}
+use Rattle.mip_marks.specs.declared.mark.Mark.{Mark}
+use Rattle.mip_marks.specs.declared.mark.Mark.TheVariants.{Origin, Forged}
+use Rattle.mip_marks.specs.Entries.{update_accepted, mark_entry}
+use Rattle.mip_marks.specs.Marks.{mark_in}
+use Rattle.mip_origin.specs.Marked.{IsFollowed, EachIsFollowed}
 use Rattle.mip_origin.specs.OwnHistories.{life_of, IsOwnEntry, IsPlainEvent, ArePlain}
 use Rattle.mip_origin.proofs.Own.{call-own-tests}
 
@@ -51,6 +58,7 @@ is_busy (entries.Restarted node) = true
 is_busy (entries.Sent number node shielded packet) = true
 is_busy (entries.Home node home careof sequence end) = true
 is_busy (entries.Made node peer number home careof) = true
+is_busy (entries.Accepted node number home binding careof sequence end i j) = true
 is_busy _ = false
 
 abbrev is_timed : Entry → Bool
@@ -84,12 +92,35 @@ fold_same {S = S} f same x (e ∷ es) steady =
     let parts = or_parts (is_timed e) (list_any is_timed es) steady in
     ap (λ (y : S). fold f y es) (same x e parts.0) ∙ fold_same f same x es parts.1
 
+-- an entry that accepts nothing, and another behind it
+followed_idle_one : (front rest : List Entry) (e : Entry) → is_busy e ≡ false → IsFollowed front (update_accepted e) rest
+followed_idle_one front rest (entries.Accepted node number home binding careof sequence end i j) idle = absurd cc
+followed_idle_one front rest _ idle = tt
+
+followed_idle : (front es : List Entry) → list_any is_busy es ≡ false → EachIsFollowed front es
+followed_idle front [] idle = tt
+followed_idle front (e ∷ es) idle =
+    let parts = or_parts (is_busy e) (list_any is_busy es) idle in
+    (followed_idle_one front es e parts.0, followed_idle (front ++ e ∷ []) es parts.1)
+
+followed_more : (front rest more : List Entry) (o : Option AcceptedUpdate) → IsFollowed front o rest → IsFollowed front o (rest ++ more)
+followed_more front rest more None is = tt
+followed_more front rest more (Some a) is = (is.0 ++ more, ap (λ (l : List Entry). l ++ more) is.1)
+
+followed-append : (front xs ys : List Entry) → EachIsFollowed front xs → EachIsFollowed (front ++ xs) ys → EachIsFollowed front (xs ++ ys)
+followed-append front [] ys a b = subst (λ (f : List Entry). EachIsFollowed f ys) (append-nil front) b
+followed-append front (x ∷ xs) ys a b = (
+  followed_more front xs ys (update_accepted x) a.0,
+  followed-append (front ++ x ∷ []) xs ys a.1 (subst (λ (f : List Entry). EachIsFollowed f ys) (sym (append_assoc front (x ∷ []) xs)) b),
+)
+
 module _ (s : Setup) where
   -- a run goes on by entries that are right, and no time passes
   record Adds (a b : Run) : Type 0 where
     es : List Entry
     whole : b.past ≡ a.past ++ es
     own : EachAfter (IsOwnEntry s) a.past es
+    followed : EachIsFollowed a.past es
     steady : list_any is_timed es ≡ false
 
   adds_moment : (a b : Run) → Adds a b → moment_in s.start b.past ≡ moment_in s.start a.past
@@ -104,13 +135,14 @@ module _ (s : Setup) where
       (ap (λ (past : List Entry). life_in past n) adds.whole ∙ fold-append (restarts n) 0 a.past adds.es ∙ fold_same (restarts n) (life_same n) (life_in a.past n) adds.es adds.steady)
 
   adds_same : (a b : Run) → b.past ≡ a.past → Adds a b
-  adds_same a b e = record { es = []; whole = e ∙ sym (append-nil a.past); own = tt; steady = refl }
+  adds_same a b e = record { es = []; whole = e ∙ sym (append-nil a.past); own = tt; followed = tt; steady = refl }
 
   adds_then : (a b c : Run) → Adds a b → Adds b c → Adds a c
   adds_then a b c p q = record {
     es = p.es ++ q.es;
     whole = q.whole ∙ ap (λ (l : List Entry). l ++ q.es) p.whole ∙ append_assoc a.past p.es q.es;
     own = each-append (IsOwnEntry s) a.past p.es q.es p.own (subst (λ (l : List Entry). EachAfter (IsOwnEntry s) l q.es) p.whole q.own);
+    followed = followed-append a.past p.es q.es p.followed (subst (λ (l : List Entry). EachIsFollowed l q.es) p.whole q.followed);
     steady = list_any-append is_timed p.es q.es ∙ ap (λ (x : Bool). x || list_any is_timed q.es) p.steady ∙ q.steady;
   }
 
@@ -127,7 +159,7 @@ module _ (s : Setup) where
       ap (λ (x : Bool). x || list_any is_timed es) (untimed e parts.0) ∙ all_untimed es parts.1
 
   adds_notes : (es : List Entry) (run : Run) → list_any is_busy es ≡ false → Adds run (notes es run)
-  adds_notes es run idle = record { es = es; whole = refl; own = each_idle run.past es idle; steady = all_untimed es idle }
+  adds_notes es run idle = record { es = es; whole = refl; own = each_idle run.past es idle; followed = followed_idle run.past es idle; steady = all_untimed es idle }
 
   adds_one : (e : Entry) (run : Run) → is_busy e ≡ false → Adds run (note e run)
   adds_one e run idle = adds_notes (e ∷ []) run (ap (λ (x : Bool). x || false) idle)
@@ -158,19 +190,45 @@ module _ (s : Setup) where
       at true = adds_same run run refl
       at false = adds_notes (heards hears k s.outsiders) run (heards_idle hears k s.outsiders)
 
-  adds_posted : (post : Post) (by : Option ℕ) (e : Entry) (run : Run) → IsOwnEntry s run.past e → is_timed e ≡ false → Adds run (posted s post by e run)
-  adds_posted post by e run own steady =
+  adds_posted : (post : Post) (by : Option ℕ) (e : Entry) (run : Run) → IsOwnEntry s run.past e → update_accepted e ≡ None → is_timed e ≡ false → Adds run (posted s post by e run)
+  adds_posted post by e run own none steady =
       adds_then run (entered post (note e run)) _
-      (record { es = e ∷ []; whole = refl; own = (own, tt); steady = ap (λ (x : Bool). x || false) steady })
+      (record { es = e ∷ []; whole = refl; own = (own, tt); followed = (subst (λ (o : Option AcceptedUpdate). IsFollowed run.past o []) (sym none) tt, tt); steady = ap (λ (x : Bool). x || false) steady })
       (adds_overheard post.from post.shield by (length run.posts) (entered post (note e run)))
 
   adds_injected : (o link : ℕ) (packet : List ℕ) (run : Run) → Adds run (injected s run o link packet)
   adds_injected o link packet run =
-      adds_posted (record { from = link; shield = None; packet = packet }) (Some o) (entries.Injected (length run.posts) o (link_id link) packet) run tt refl
+      adds_posted (record { from = link; shield = None; packet = packet }) (Some o) (entries.Injected (length run.posts) o (link_id link) packet) run tt refl refl
 
   adds_injected_if : (o link : ℕ) (packet : Option (List ℕ)) (run : Run) → Adds run (injected_if s run o link packet)
   adds_injected_if o link None run = adds_one entries.Idle run refl
   adds_injected_if o link (Some packet) run = adds_injected o link packet run
+
+  -- an accepted update, and its mark
+  adds_accepted : (e : Entry) (a : AcceptedUpdate) (run : Run) → update_accepted e ≡ Some a → is_timed e ≡ false → IsOwnEntry s run.past e
+      → Adds run (notes (e ∷ mark_entry (mark_in run.past a) ∷ []) run)
+  adds_accepted e a run is steady own = record {
+    es = e ∷ mark_entry (mark_in run.past a) ∷ [];
+    whole = refl;
+    own = (own, (own_mark (run.past ++ e ∷ []) (mark_in run.past a), tt));
+    followed = (
+      subst (λ (o : Option AcceptedUpdate). IsFollowed run.past o (mark_entry (mark_in run.past a) ∷ [])) (sym is) ([], refl),
+      (mark_followed (run.past ++ e ∷ []) (mark_in run.past a), tt),
+    );
+    steady = ap (λ (x : Bool). x || list_any is_timed (mark_entry (mark_in run.past a) ∷ [])) steady ∙ ap (λ (x : Bool). x || false) (mark_steady (mark_in run.past a));
+  }
+    where
+      own_mark : (front : List Entry) (m : Mark) → IsOwnEntry s front (mark_entry m)
+      own_mark front (Origin hot cot update) = tt
+      own_mark front (Forged cause) = tt
+
+      mark_followed : (front : List Entry) (m : Mark) → IsFollowed front (update_accepted (mark_entry m)) []
+      mark_followed front (Origin hot cot update) = tt
+      mark_followed front (Forged cause) = tt
+
+      mark_steady : (m : Mark) → is_timed (mark_entry m) ≡ false
+      mark_steady (Origin hot cot update) = refl
+      mark_steady (Forged cause) = refl
 
   -- what a node does
   adds_step : (me : Identity) (n from now : ℕ) (step : Step) (run : Run) → SendsOwnTests me now step → me.secrets ≡ life_of s run.past n → now ≡ moment_in s.start run.past
@@ -179,8 +237,10 @@ module _ (s : Setup) where
   adds_step me n from now (Called call) run own life moment = adds_same run run refl
   adds_step me n from now (Sends packet) run own life moment =
       adds_posted (record { from = from; shield = None; packet = packet }) None (entries.Sent (length run.posts) (node_id n) false packet) run
-      (subst (λ (l : Life). IsOwnTest l (moment_in s.start run.past) (carried packet)) life (subst (λ (t : ℕ). IsOwnTest me.secrets t (carried packet)) moment own)) refl
-  adds_step me n from now (Accepts number home a) run own life moment = adds_one _ run refl
+      (subst (λ (l : Life). IsOwnTest l (moment_in s.start run.past) (carried packet)) life (subst (λ (t : ℕ). IsOwnTest me.secrets t (carried packet)) moment own)) refl refl
+  adds_step me n from now (Accepts number home a) run own life moment =
+      adds_accepted (entries.Accepted (node_id n) number home 0 a.careof a.sequence a.end (index_of a.home_nonce) (option_map index_of a.careof_nonce))
+      (record { node = node_id n; number = number; home = home; careof = a.careof; home_index = index_of a.home_nonce; careof_index = option_map index_of a.careof_nonce }) run refl refl tt
   adds_step me n from now (Denies number status) run own life moment = adds_one _ run refl
   adds_step me n from now (Drops number why) run own life moment = adds_one _ run refl
   adds_step me n from now (HandsUp number source destination proto payload) run own life moment = adds_one _ run refl
@@ -300,20 +360,26 @@ module _ (s : Setup) where
       adds_then run (without k run) _ (adds_same run (without k run) refl)
       (adds_either (slice_index_or run.flying k false) (entries.Lost k) entries.Idle (without k run) refl refl)
 
-  -- each entry so far is right
+  -- each entry so far is right, and each `accepted` is followed by its mark
+  abbrev IsOwnPast : List Entry → Type 0
+  IsOwnPast past = EachAfter (IsOwnEntry s) [] past × EachIsFollowed [] past
+
   abbrev IsOwnRun : Run → Type 0
-  IsOwnRun run = EachAfter (IsOwnEntry s) [] run.past
+  IsOwnRun run = IsOwnPast run.past
+
+  own_more : (past es : List Entry) → IsOwnPast past → EachAfter (IsOwnEntry s) past es → EachIsFollowed past es → IsOwnPast (past ++ es)
+  own_more past es own each followed = (each-append (IsOwnEntry s) [] past es own.0 each, followed-append [] past es own.1 followed)
 
   own_adds : (a b : Run) → IsOwnRun a → Adds a b → IsOwnRun b
-  own_adds a b own adds = subst (λ (past : List Entry). EachAfter (IsOwnEntry s) [] past) (sym adds.whole) (each-append (IsOwnEntry s) [] a.past adds.es own adds.own)
+  own_adds a b own adds = subst IsOwnPast (sym adds.whole) (own_more a.past adds.es own adds.own adds.followed)
 
   own_waited : (run : Run) (ms : ℕ) → IsOwnRun run → IsOwnRun (waited s run ms)
   unfolding waited
-  own_waited run ms own = each-append (IsOwnEntry s) [] run.past (entries.At (record { 0 = moment_in s.start run.past + ms }) ∷ []) own (tt, tt)
+  own_waited run ms own = own_more run.past (entries.At (record { 0 = moment_in s.start run.past + ms }) ∷ []) own (tt, tt) (tt, tt)
 
   own_restarted : (run : Run) (n : ℕ) → IsOwnRun run → IsOwnRun (restarted run n)
   unfolding restarted
-  own_restarted run n own = each-append (IsOwnEntry s) [] run.past (entries.Restarted (node_id n) ∷ []) own (tt, tt)
+  own_restarted run n own = own_more run.past (entries.Restarted (node_id n) ∷ []) own (tt, tt) (tt, tt)
 
   own_happens : (run : Run) (event : Event) → IsPlainEvent event → IsOwnRun run → IsOwnRun (happens s run event)
   own_happens run (Wait ms) plain own = own_waited run ms own
@@ -345,8 +411,12 @@ module _ (s : Setup) where
   claims_idle n (host ∷ hosts) = claims_idle (suc n) hosts
 
 -- the whole history of a schedule
-pub own_permitted : (c : Content) → ArePlain c → EachAfter (IsOwnEntry (setup_of c)) [] (permitted c)
+pub own_and_marked : (c : Content) → ArePlain c → EachAfter (IsOwnEntry (setup_of c)) [] (permitted c) × EachIsFollowed [] (permitted c)
 unfolding permitted
-own_permitted c plain =
+own_and_marked c plain =
     let s = setup_of c in
-    own_all s (opened s) c.events plain (each_idle s [] (claims_from s 0 s.hosts) (claims_idle s 0 s.hosts))
+    let quiet = claims_idle s 0 s.hosts in
+    own_all s (opened s) c.events plain (each_idle s [] (claims_from s 0 s.hosts) quiet, followed_idle [] (claims_from s 0 s.hosts) quiet)
+
+pub own_permitted : (c : Content) → ArePlain c → EachAfter (IsOwnEntry (setup_of c)) [] (permitted c)
+own_permitted c plain = (own_and_marked c plain).0

@@ -18,6 +18,7 @@ ghost use Rattle.mip_history.specs.Permitted.{permitted};
 ghost use Rattle.mip_origin.specs.OwnTests.{SendsOwnTests, SendsPlainData};
 ghost use Rattle.mip_origin.specs.OwnHistories.{ArePlain};
 ghost use Rattle.mip_origin.specs.Origins.{IsOriginOf};
+ghost use Rattle.mip_origin.specs.Marked.{EachIsMarked};
 
 /// Each test that a correspondent sends is its own: it has the index of the newest nonce of this life, and the token for the
 /// address that it goes to (RFC 6275 sections 9.4.3 and 9.4.4).
@@ -32,4 +33,9 @@ pub fn unforged_acceptances_have_their_origin()
     ensures { (c : Content) → ArePlain c → sum_by waited_by c.events ≤ 36000000 → (before : List Entry) (e : Entry) (after : List Entry) → permitted c ≡ before ++ e ∷ after
         → (a : AcceptedUpdate) → update_accepted e ≡ Some a → (hot : ℕ) (cot : Option ℕ) (update : ℕ) → mark_in before a ≡ Origin hot cot update
         → IsOriginOf (setup_of c) before e a hot cot update }
+{}
+
+/// Each accepted update of such a history is followed by its mark.
+pub fn acceptances_are_marked()
+    ensures { (c : Content) → ArePlain c → sum_by waited_by c.events ≤ 36000000 → EachIsMarked (setup_of c) (permitted c) }
 {}

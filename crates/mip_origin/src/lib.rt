@@ -3,4 +3,4 @@
 
 mod laws;
 
-pub use laws::{tests_are_own, unforged_acceptances_have_their_origin};
+pub use laws::{acceptances_are_marked, tests_are_own, unforged_acceptances_have_their_origin};

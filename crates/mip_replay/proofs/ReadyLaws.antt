@@ -126,6 +126,12 @@ life_is : AreRestarts → (c : Content) (events : List Event) (n : ℕ) → life
 unfolding permitted
 life_is lives c events n = omega (arith, lives (so_far c events) n, restarts_few n events)
 
+-- what an event sends as data may be sent
+pub payload_fits : (ds : List Declaration) (before : List Event) (node : NodeId) (to : Address) (proto : ℕ) (payload : List ℕ) → IsEvent ds before (Payload node to proto payload) → is_payload proto ≡ true
+unfolding misfit
+payload_fits ds before node to proto payload is =
+    data_fits proto (passed (is_reserved proto) reasons.Number None (timely ds (length before) (waited before) (carried before) (Payload node to proto payload) is.fits).1).0
+
 module _ (waits : AreWaits) (lives : AreRestarts) (c : Content) (lawful : IsLawful c) (few : AreFew c.declarations)
     (before : List Event) (e : EngineSeen) (at : IsAt e (setup_of c) (run_of (setup_of c) before)) where
   abbrev ds : List Declaration
