@@ -1,59 +1,47 @@
-//! The names of nodes, links and outsiders.
+//! The names of nodes, links and outsiders, as the lines of entries write them.
 
 ghost use Rattle.std.specs.Prelude.{◌≡◌, ◌<◌};
 ghost use Rattle.mip_trace.specs.Lines.{or_dash};
-ghost use Rattle.mip_trace.specs.Names.{names_of, node_name, link_name, outsider_name, who_name};
+ghost use Rattle.mip_trace.specs.Names.{node_name, link_name, outsider_name, who_name};
 
-use mip_schedule::Schedule;
+use crate::name_table::NameTable;
 use mip_words::{LinkId, NodeId};
 
-#[tactic(auto, unfolding(crate::specs::Names::node_name))]
-pub fn node_name<'a>(names: Option<&'a Schedule>, node: NodeId) -> &'a [u8]
-    ensures { result.now ≡ node_name (names_of names.entry) node }
+pub fn node_name<'a>(names: &'a NameTable<'_>, node: NodeId) -> &'a [u8]
+    ensures { result.now ≡ node_name names.now node }
 {
-    match names {
-        Some(schedule) => schedule.declarations.node_name(node),
-        None => b"self",
-    }
+    names.node_name(node)
 }
 
-#[tactic(auto, unfolding(crate::specs::Names::link_name))]
-pub fn link_name<'a>(names: Option<&'a Schedule>, link: LinkId) -> &'a [u8]
-    ensures { result.now ≡ link_name (names_of names.entry) link }
+pub fn link_name<'a>(names: &'a NameTable<'_>, link: LinkId) -> &'a [u8]
+    ensures { result.now ≡ link_name names.now link }
 {
-    match names {
-        Some(schedule) => schedule.declarations.link_name(link),
-        None => b"-",
-    }
+    names.link_name(link)
 }
 
-pub fn some_link_name<'a>(names: Option<&'a Schedule>, link: Option<LinkId>) -> &'a [u8]
-    ensures { result.now ≡ or_dash (link_name (names_of names.entry)) link }
+pub fn some_link_name<'a>(names: &'a NameTable<'_>, link: Option<LinkId>) -> &'a [u8]
+    ensures { result.now ≡ or_dash (link_name names.now) link }
 {
     match link {
-        Some(link) => link_name(names, link),
+        Some(link) => names.link_name(link),
         None => b"-",
     }
 }
 
-#[tactic(auto, unfolding(crate::specs::Names::outsider_name))]
-pub fn outsider_name<'a>(names: Option<&'a Schedule>, outsider: u8) -> &'a [u8]
-    ensures { result.now ≡ outsider_name (names_of names.entry) outsider }
+pub fn outsider_name<'a>(names: &'a NameTable<'_>, outsider: u8) -> &'a [u8]
+    ensures { result.now ≡ outsider_name names.now outsider }
 {
-    match names {
-        Some(schedule) => schedule.declarations.outsider_name(outsider),
-        None => b"",
-    }
+    names.outsider_name(outsider)
 }
 
 /// The name of a node by its number, or of an outsider by 32 more than its number.
 #[tactic(auto, unfolding(crate::specs::Names::who_name))]
-pub fn who_name<'a>(names: Option<&'a Schedule>, who: u8) -> &'a [u8]
-    ensures { result.now ≡ who_name (names_of names.entry) who }
+pub fn who_name<'a>(names: &'a NameTable<'_>, who: u8) -> &'a [u8]
+    ensures { result.now ≡ who_name names.now who }
 {
     if who < 32 {
-        node_name(names, NodeId(who))
+        names.node_name(NodeId(who))
     } else {
-        outsider_name(names, who - 32)
+        names.outsider_name(who - 32)
     }
 }
