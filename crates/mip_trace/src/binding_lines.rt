@@ -7,7 +7,6 @@ ghost use Rattle.mip_trace.specs.Lines.{binding_row};
 
 use crate::data_lines::put_data_entry;
 use crate::name_table::NameTable;
-use crate::names::node_name;
 use itoa::Buffer;
 use mip_entries::Entry;
 use mip_lines::put_line;
@@ -78,14 +77,7 @@ pub fn put_binding_entry(
             careof,
             sequence,
             end,
-        } => put_home(
-            out,
-            node_name(names, *node),
-            *home,
-            *careof,
-            *sequence,
-            *end,
-        ),
+        } => put_home(out, names.node_name(*node), *home, *careof, *sequence, *end),
         Entry::Row {
             node,
             home,
@@ -96,7 +88,7 @@ pub fn put_binding_entry(
             kept_until,
         } => put_row(
             out,
-            node_name(names, *node),
+            names.node_name(*node),
             *home,
             *binding,
             *careof,

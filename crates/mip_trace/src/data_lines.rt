@@ -7,7 +7,6 @@ ghost use Rattle.mip_trace.specs.Lines.{data_row};
 ghost use Rattle.mip_trace.specs.Whys.{why_word};
 
 use crate::name_table::NameTable;
-use crate::names::node_name;
 use crate::why_words::why_word;
 use itoa::Buffer;
 use mip_entries::Entry;
@@ -60,7 +59,7 @@ pub fn put_data_entry(out: &mut Bytes, names: &NameTable<'_>, entry: &Entry) -> 
     match entry {
         Entry::Dropped { node, number, why } => put_dropped(
             out,
-            node_name(names, *node),
+            names.node_name(*node),
             *number,
             *why,
         ),
@@ -73,7 +72,7 @@ pub fn put_data_entry(out: &mut Bytes, names: &NameTable<'_>, entry: &Entry) -> 
             payload,
         } => put_up(
             out,
-            node_name(names, *node),
+            names.node_name(*node),
             *number,
             *source,
             *destination,

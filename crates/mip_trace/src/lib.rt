@@ -11,7 +11,6 @@ mod kinds;
 mod mobile_lines;
 mod mobile_rows;
 mod name_table;
-mod names;
 mod numbered;
 mod packet_kind;
 mod packet_lines;

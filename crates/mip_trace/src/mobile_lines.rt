@@ -8,7 +8,6 @@ ghost use Rattle.mip_trace.specs.Names.{node_name};
 
 use crate::fields::{some_token, token_digits};
 use crate::name_table::NameTable;
-use crate::names::node_name;
 use crate::place_lines::put_node_address;
 use crate::update_lines::put_update_entry;
 use itoa::Buffer;
@@ -31,7 +30,7 @@ fn put_until<'a>(
         out,
         &[
             word,
-            node_name(names, node),
+            names.node_name(node),
             &address.digits(),
             Buffer::new().format(end.0).as_bytes(),
         ],
@@ -50,7 +49,7 @@ fn put_refused(
         out,
         &[
             b"refused",
-            node_name(names, node),
+            names.node_name(node),
             Buffer::new().format(status).as_bytes(),
         ],
     )
@@ -69,7 +68,7 @@ fn put_prefixes(
         out,
         &[
             b"prefixes",
-            node_name(names, node),
+            names.node_name(node),
             Buffer::new().format(valid).as_bytes(),
             Buffer::new().format(preferred).as_bytes(),
         ],
@@ -133,7 +132,7 @@ pub fn put_mobile_entry(out: &mut Bytes, names: &NameTable<'_>, entry: &Entry) -
             number,
             home,
             careof,
-        } => put_made(out, node_name(names, *node), *peer, *number, *home, *careof),
+        } => put_made(out, names.node_name(*node), *peer, *number, *home, *careof),
         Entry::Bound { node, peer, end } => put_until(out, names, b"bound", *node, *peer, *end),
         Entry::Unbound { node, peer } => put_node_address(out, names, b"unbound", *node, *peer),
         _ => put_update_entry(out, names, entry),

@@ -1,5 +1,6 @@
 ghost use Rattle.std.specs.Prelude.{◌≡◌, Some, IfOk};
-ghost use Rattle.mip_trace.specs.Names.{names_of, node_name, link_name, outsider_name};
+ghost use Rattle.mip_trace.specs.Lines.{or_dash};
+ghost use Rattle.mip_trace.specs.Names.{names_of, node_name, link_name, outsider_name, who_name};
 
 use crate::numbered;
 use mip_schedule::Schedule;
@@ -60,6 +61,16 @@ impl<'a> NameTable<'a> {
         numbered::link_in(self.schedule, &self.links, link)
     }
 
+    /// The name of a link, or `-` for none.
+    pub fn some_link_name(&self, link: Option<LinkId>) -> &[u8]
+        ensures { result.now ≡ or_dash (link_name self.now) link }
+    {
+        match link {
+            Some(link) => self.link_name(link),
+            None => b"-",
+        }
+    }
+
     /// The name of a node.
     pub fn node_name(&self, node: NodeId) -> &[u8]
         ensures { result.now ≡ node_name self.now node }
@@ -72,5 +83,17 @@ impl<'a> NameTable<'a> {
         ensures { result.now ≡ outsider_name self.now outsider }
     {
         numbered::outsider_in(self.schedule, &self.outsiders, outsider)
+    }
+
+    /// The name of a node by its number, or of an outsider by 32 more than its number.
+    #[tactic(auto, unfolding(crate::specs::Names::who_name))]
+    pub fn who_name(&self, who: u8) -> &[u8]
+        ensures { result.now ≡ who_name self.now who }
+    {
+        if who < 32 {
+            self.node_name(NodeId(who))
+        } else {
+            self.outsider_name(who - 32)
+        }
     }
 }

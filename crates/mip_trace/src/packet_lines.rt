@@ -11,7 +11,6 @@ ghost use Rattle.mip_trace.specs.Whys.{why_word};
 use crate::fields::shield_mark;
 use crate::mobile_lines::put_mobile_entry;
 use crate::name_table::NameTable;
-use crate::names::{link_name, node_name, outsider_name};
 use crate::packet_kind::kind_word;
 use crate::why_words::why_word;
 use itoa::Buffer;
@@ -34,7 +33,7 @@ fn put_sent(
         b"sent",
         &[
             Buffer::new().format(number).as_bytes(),
-            node_name(names, node),
+            names.node_name(node),
             shield_mark(shielded),
             kind_word(packet),
         ],
@@ -57,8 +56,8 @@ fn put_injected(
         b"injected",
         &[
             Buffer::new().format(number).as_bytes(),
-            outsider_name(names, outsider),
-            link_name(names, link),
+            names.outsider_name(outsider),
+            names.link_name(link),
             kind_word(packet),
         ],
         packet,
@@ -82,7 +81,7 @@ fn put_numbered(out: &mut Bytes, word: &[u8], number: u64, field: &[u8]) -> Resu
 fn put_unsent(out: &mut Bytes, names: &NameTable<'_>, node: NodeId, why: Why) -> Result<(), Memory>
     ensures { OnOk result (out.new ≡ out.old ++ line_text (codes "unsent" ∷ node_name names.now node ∷ why_word why ∷ [])) }
 {
-    put_line(out, &[b"unsent", node_name(names, node), why_word(why)])
+    put_line(out, &[b"unsent", names.node_name(node), why_word(why)])
 }
 
 /// Appends the line of an entry that is not of time, place and claims.
@@ -103,11 +102,11 @@ pub fn put_packet_entry(out: &mut Bytes, names: &NameTable<'_>, entry: &Entry) -
             packet,
         } => put_injected(out, names, *number, *outsider, *link, packet.as_slice()),
         Entry::Heard { number, outsider } => {
-            let outsider = outsider_name(names, *outsider);
+            let outsider = names.outsider_name(*outsider);
             put_numbered(out, b"heard", *number, outsider)
         }
         Entry::Handed { number, node } => {
-            let node = node_name(names, *node);
+            let node = names.node_name(*node);
             put_numbered(out, b"handed", *number, node)
         }
         Entry::Gone { number, why } => {

@@ -8,7 +8,6 @@ ghost use Rattle.mip_trace.specs.Names.{node_name, link_name, outsider_name, who
 
 use crate::fields::{some_address, yes_or_no};
 use crate::name_table::NameTable;
-use crate::names::{link_name, node_name, outsider_name, some_link_name, who_name};
 use crate::packet_lines::put_packet_entry;
 use itoa::Buffer;
 use mip_entries::Entry;
@@ -31,11 +30,7 @@ fn put_moved(
 {
     put_line(
         out,
-        &[
-            b"moved",
-            node_name(names, node),
-            some_link_name(names, link),
-        ],
+        &[b"moved", names.node_name(node), names.some_link_name(link)],
     )
 }
 
@@ -66,7 +61,7 @@ fn put_listener<'a>(
 {
     put_line(
         out,
-        &[word, outsider_name(names, outsider), link_name(names, link)],
+        &[word, names.outsider_name(outsider), names.link_name(link)],
     )
 }
 
@@ -80,13 +75,13 @@ pub fn put_node_address<'a>(
 ) -> Result<(), Memory>
     ensures { OnOk result (out.new ≡ out.old ++ line_text (word.now ∷ node_name names.now node ∷ address_hex address ∷ [])) }
 {
-    put_line(out, &[word, node_name(names, node), &address.digits()])
+    put_line(out, &[word, names.node_name(node), &address.digits()])
 }
 
 fn put_restarted(out: &mut Bytes, names: &NameTable<'_>, node: NodeId) -> Result<(), Memory>
     ensures { OnOk result (out.new ≡ out.old ++ line_text (codes "restarted" ∷ node_name names.now node ∷ [])) }
 {
-    put_line(out, &[b"restarted", node_name(names, node)])
+    put_line(out, &[b"restarted", names.node_name(node)])
 }
 
 fn put_settled(
@@ -102,8 +97,8 @@ fn put_settled(
         out,
         &[
             b"settled",
-            node_name(names, a),
-            node_name(names, b),
+            names.node_name(a),
+            names.node_name(b),
             yes_or_no(yes),
         ],
     )
@@ -124,8 +119,8 @@ fn put_claim<'a>(
         out,
         &[
             word,
-            who_name(names, who),
-            link_name(names, link),
+            names.who_name(who),
+            names.link_name(link),
             &address.digits(),
         ],
     )
@@ -145,10 +140,10 @@ fn put_taken(
         out,
         &[
             b"taken",
-            who_name(names, who),
-            link_name(names, link),
+            names.who_name(who),
+            names.link_name(link),
             &address.digits(),
-            who_name(names, holder),
+            names.who_name(holder),
         ],
     )
 }
@@ -187,8 +182,8 @@ pub fn put_entry(out: &mut Bytes, names: &NameTable<'_>, entry: &Entry) -> Resul
         Entry::Moved { node, link } => put_moved(out, names, *node, *link),
         Entry::Advertised { node, link, agent } => put_advertised(
             out,
-            node_name(names, *node),
-            link_name(names, *link),
+            names.node_name(*node),
+            names.link_name(*link),
             *agent,
         ),
         Entry::Listening { outsider, link } => put_listener(

@@ -8,7 +8,6 @@ ghost use Rattle.mip_trace.specs.Lines.{or_dash, update_row};
 use crate::binding_lines::put_binding_entry;
 use crate::fields::{some_index, some_number};
 use crate::name_table::NameTable;
-use crate::names::node_name;
 use crate::packet_lines::put_number;
 use itoa::Buffer;
 use mip_entries::Entry;
@@ -91,7 +90,7 @@ pub fn put_update_entry(out: &mut Bytes, names: &NameTable<'_>, entry: &Entry) -
             careof_index,
         } => put_accepted(
             out,
-            node_name(names, *node),
+            names.node_name(*node),
             *number,
             *home,
             *binding,
@@ -107,7 +106,7 @@ pub fn put_update_entry(out: &mut Bytes, names: &NameTable<'_>, entry: &Entry) -
             node,
             number,
             status,
-        } => put_denied(out, node_name(names, *node), *number, *status),
+        } => put_denied(out, names.node_name(*node), *number, *status),
         _ => put_binding_entry(out, names, entry),
     }
 }
