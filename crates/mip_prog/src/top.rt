@@ -15,6 +15,7 @@ use crate::answering::answer;
 use crate::command::{Command, parse};
 use crate::reading::{ReadFault, read_input};
 use crate::status::Status;
+use crate::telling::tell_reply;
 use crate::writing::tell;
 use mip_outside::{Clock, Link, Sink, Source};
 use mip_replay::{each_is_bound, each_repeat_is_late};
@@ -88,7 +89,7 @@ fn answer_input<S: Source, K: Sink>(
         Err(ReadFault::Memory) => return Status::MEMORY,
     };
     match answer(alloc, command, bytes.as_slice()) {
-        Ok(reply) => tell(sink, reply.text.as_slice(), reply.status),
+        Ok(reply) => tell_reply(alloc, sink, &reply),
         Err(Memory) => Status::MEMORY,
     }
 }
