@@ -7,7 +7,8 @@ use Rattle.std.proofs.lemmas.Bool.{and_parts, not-true}
 use Rattle.mip_ipv6.specs.Packet.{names_no_body}
 use Rattle.mip_entries.specs.declared.entry.Entry.{Entry}
 use Rattle.mip_schedule.specs.Contents.{Content, waited}
-use Rattle.mip_schedule.specs.Lawful.{IsEvent, IsLawful}
+use Rattle.mip_schedule.specs.Lawful.{IsEvent}
+use Rattle.mip_schedule.proofs.LawfulLaws.{read_so}
 use Rattle.mip_schedule.specs.declared.declaration.Declaration.{Declaration}
 use Rattle.mip_schedule.specs.declared.event.Event.{Event}
 use Rattle.mip_schedule.specs.declared.event.Event.TheVariants.{Payload}
@@ -33,18 +34,25 @@ plain_event : (ds : List Declaration) (before : List Event) (event : Event) → 
 plain_event ds before (Payload node to proto payload) is = plain_proto proto (payload_fits ds before node to proto payload is)
 plain_event ds before _ is = tt
 
-pub plain_events : (c : Content) → IsLawful c → ArePlain c
-plain_events c lawful = by [] c.events refl
+-- each event stands after those before it
+abbrev AreEvents : Content → Type 0
+AreEvents c = (before : List Event) (e : Event) (after : List Event) → c.events ≡ before ++ e ∷ after → IsEvent c.declarations before e
+
+plain_events : (c : Content) → AreEvents c → ArePlain c
+plain_events c each = by [] c.events refl
   where
     by : (before rest : List Event) → c.events ≡ before ++ rest → AllByRecursion IsPlainEvent rest
     by before [] whole = tt
     by before (event ∷ rest) whole =
-        (plain_event c.declarations before event (lawful.events before event rest whole), by (before ++ event ∷ []) rest (whole ∙ sym (append_assoc before (event ∷ []) rest)))
+        (plain_event c.declarations before event (each before event rest whole), by (before ++ event ∷ []) rest (whole ∙ sym (append_assoc before (event ∷ []) rest)))
 
 abbrev pub AreMarked : Type 0
 AreMarked = (c : Content) → ArePlain c → sum_by waited_by c.events ≤ 36000000 → EachIsMarked (setup_of c) (permitted c)
 
-pub marked_of : AreMarked → AreShort → (c : Content) (h : List Entry) → IsLawful c → reading (spelling c) ≡ Ok c → h ≡ permitted c → EachIsMarked (setup_of c) h
+pub marked_of_text : AreMarked → AreShort → (text : List ℕ) (c : Content) → reading text ≡ Ok c → EachIsMarked (setup_of c) (permitted c)
 unfolding waited
-marked_of marked short c h lawful read is =
-    subst (EachIsMarked (setup_of c)) (sym is) (marked c (plain_events c lawful) (subst (λ (n : ℕ). n ≤ 36000000) (sym (waits_are c.events)) (short (spelling c) c read)))
+marked_of_text marked short text c read =
+    marked c (plain_events c (read_so text c read).events) (subst (λ (n : ℕ). n ≤ 36000000) (sym (waits_are c.events)) (short text c read))
+
+pub marked_of : AreMarked → AreShort → (c : Content) (h : List Entry) → reading (spelling c) ≡ Ok c → h ≡ permitted c → EachIsMarked (setup_of c) h
+marked_of marked short c h read is = subst (EachIsMarked (setup_of c)) (sym is) (marked_of_text marked short (spelling c) c read)

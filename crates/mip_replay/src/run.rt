@@ -62,7 +62,6 @@ pub fn replay(alloc: Global, schedule: &Schedule) -> Result<History, Memory>
     repeats_come_after_rounds();
     acceptances_are_marked();
     waits_are_short();
-    lawful(schedule);
     spelling_read(schedule);
     run_whole(alloc, schedule)
 }

@@ -16,4 +16,4 @@ returns-clause-repeats c =
 pub returns-clause-marked : goal.returns-clause-marked
 returns-clause-marked c =
     IfOk-weaker c.run_whole.result _ _
-    (λ h is. marked_of c.acceptances_are_marked.ensures c.waits_are_short.ensures (content c.args.schedule.now) h c.lawful.ensures c.spelling_read.ensures is) c.run_whole.ensures
+    (λ h is. marked_of c.acceptances_are_marked.ensures c.waits_are_short.ensures (content c.args.schedule.now) h c.spelling_read.ensures is) c.run_whole.ensures
