@@ -1,0 +1,16 @@
+pub mod Timing
+pub mod Calls
+pub mod Trials
+pub mod Sendings
+pub mod Steps
+pub mod Known
+pub mod HomeQuestions
+pub mod DiscoveryQuestions
+pub mod RowQuestions
+pub mod TimerQuestions
+pub mod Questions
+pub mod Turns
+pub mod OutRules
+pub mod TrialRules
+pub mod HomeRules
+pub mod PeerRules
