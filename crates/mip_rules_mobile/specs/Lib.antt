@@ -14,3 +14,8 @@ pub mod OutRules
 pub mod TrialRules
 pub mod HomeRules
 pub mod PeerRules
+pub mod MovingRules
+pub mod IcmpRules
+pub mod ReceivingRules
+pub mod RingingRules
+pub mod Doing
