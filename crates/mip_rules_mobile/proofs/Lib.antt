@@ -1,0 +1,10 @@
+pub mod Steady
+pub mod PartAnswers
+pub mod OutWalks
+pub mod TrialWalks
+pub mod HomeWalks
+pub mod PeerWalks
+pub mod MovingWalks
+pub mod RingWalks
+pub mod ReceivingWalks
+pub mod Walks

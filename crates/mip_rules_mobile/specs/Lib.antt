@@ -19,3 +19,4 @@ pub mod IcmpRules
 pub mod ReceivingRules
 pub mod RingingRules
 pub mod Doing
+pub mod Fitting

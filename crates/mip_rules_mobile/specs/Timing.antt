@@ -1,5 +1,5 @@
 -- The times of a mobile, in milliseconds. RFC 6275 sections 11.8 and 12
-use Rattle.std.specs.Prelude.{ℕ, ◌*◌, min}
+use Rattle.std.specs.Prelude.{ℕ, ◌*◌, min, max}
 
 -- before the first home registration of a life is sent again (InitialBindackTimeoutFirstReg)
 abbrev pub first_home_wait : ℕ
@@ -13,9 +13,9 @@ first_wait = 1000
 abbrev pub longest_wait : ℕ
 longest_wait = 32000
 
--- each such time is twice the one before
+-- each such time is twice the one before, from the first one to the longest
 abbrev pub doubled : ℕ → ℕ
-doubled wait = min (2 * wait) longest_wait
+doubled wait = max first_wait (min (2 * wait) longest_wait)
 
 -- a unit of a lifetime
 abbrev pub unit : ℕ

@@ -1,0 +1,168 @@
+-- What steady steps and acknowledgements keep, a packet that is handed over keeps; but for one that is dropped at once,
+-- perhaps with an answer to its source, and one for the correspondent part.
+use Rattle.std.proofs.Common.{◌≡◌, ℕ, List, [], ◌∷◌, refl}
+use Rattle.std.specs.Prelude.{Option, Some, None, Bool, true, false, not, ◌==◌, ◌&&◌, is_some, is_none, if◌then◌else◌, Result, Ok, Err}
+use Rattle.mip_words.specs.declared.address.Address.{Address}
+use Rattle.mip_words.specs.declared.shield.Shield.{Shield}
+use Rattle.mip_words.specs.declared.why.Why.{Why}
+use Rattle.mip_words.specs.declared.why.Why.TheVariants as whys
+use Rattle.mip_ipv6.specs.declared.not_packet.NotPacket.{NotPacket}
+use Rattle.mip_ipv6.specs.Packet.{Packet, source_of, destination_of}
+use Rattle.mip_ipv6.specs.Reading.{packet_of}
+use Rattle.mip_mobhdr.specs.Said.{Said}
+use Rattle.mip_mobhdr.specs.Said.Said.{Refresh, HomeInit, CareofInit, HomeTest, CareofTest, Update, Acknowledgement, Error}
+use Rattle.mip_options.specs.Values.{Values}
+use Rattle.mip_icmp.specs.declared.fault.IcmpFault.{IcmpFault}
+use Rattle.mip_icmp.specs.declared.options.IcmpSet.{IcmpSet}
+use Rattle.mip_icmp.specs.declared.prefix_info.PrefixInfo.{PrefixInfo}
+use Rattle.mip_icmp.specs.Said as icmp
+use Rattle.mip_icmp.specs.Reading.{icmp_of}
+use Rattle.mip_tunnel.specs.declared.exit_fault.ExitFault.{ExitFault}
+use Rattle.mip_tunnel.specs.declared.exit_fault.ExitFault.TheVariants.{NotTunnel, WrongEntry, Inner}
+use Rattle.mip_tunnel.specs.Tunnel.{opened}
+use Rattle.mip_reception.specs.declared.refusal.Refusal.{Refusal}
+use Rattle.mip_reception.specs.Words.{packet_why}
+use Rattle.mip_reception.specs.Checks.{checked}
+use Rattle.mip_rules_correspondent.specs.Rules.{is_for_part, place_in}
+use Rattle.mip_rules_mobile.specs.declared.standing.Standing.{Standing}
+use Rattle.mip_rules_mobile.specs.declared.standing.Standing.TheVariants.{Detached, AtHome, Away}
+use Rattle.mip_rules_mobile.specs.declared.home_update.HomeUpdate.{HomeUpdate}
+use Rattle.mip_rules_mobile.specs.Calls.{Call}
+use Rattle.mip_rules_mobile.specs.Steps.{Step, Drops, Finds, Chooses, Learns, Stops}
+use Rattle.mip_rules_mobile.specs.HomeQuestions.{home_of, agent_of}
+use Rattle.mip_rules_mobile.specs.TimerQuestions.{seeking}
+use Rattle.mip_rules_mobile.specs.Turns.{Turn, noted}
+use Rattle.mip_rules_mobile.specs.HomeRules.{home_answered, takes_home_ack, registers}
+use Rattle.mip_rules_mobile.specs.IcmpRules.{agents_named, is_matched, drops_icmp, finds, takes_discovery_reply, is_from_agent, learns, takes_prefix_reply, by_icmp, takes_icmp}
+use Rattle.mip_rules_mobile.specs.ReceivingRules.{acks_by, takes_ack, takes_for_part, by_proto, by_message, by_role, refuses, after_inner_checks, inner_standing, takes_inner, opens_with, opens_from, opens, after_checks, standing_of, receives, takes}
+use Rattle.mip_rules_mobile.proofs.Steady.{Goes, at-noted}
+use Rattle.mip_rules_mobile.proofs.HomeWalks.{Acks, every-home_ack, every-registers}
+use Rattle.mip_rules_mobile.proofs.PeerWalks.{every-home_test, every-careof_test, every-ack_of, every-error, every-refresh}
+
+module _ (c : Call) (P : Turn → Type 0) (more : Goes c P) (acks : Acks c P) (Q : Turn → Type 0) (done : (u : Turn) → P u → Q u) (t : Turn) (p : P t)
+    (drops : (number : ℕ) (why : Why) → Q (noted (Drops number why) t)) where
+  every-ack : (number : ℕ) (tunnelled : Bool) (shield : Option Shield) (packet : Packet) (status sequence lifetime : ℕ) (options : Values) → Q (takes_ack number tunnelled shield packet status sequence lifetime options t)
+  unfolding takes_ack
+  every-ack number tunnelled shield packet status sequence lifetime options =
+      by (home_answered t.known tunnelled shield (source_of packet.head) status sequence)
+    where
+      by : (u : Option HomeUpdate) → Q (acks_by u number (source_of packet.head) status sequence lifetime options.authorization packet.body t)
+      by (Some u) = done (takes_home_ack u status sequence lifetime t) (every-home_ack c P more acks u status sequence lifetime t p)
+      by None = every-ack_of c P more acks Q done t p drops number (source_of packet.head) status sequence lifetime options.authorization packet.body
+
+  every-discovery : (number identifier : ℕ) (agents : List ℕ) → Q (takes_discovery_reply number identifier agents t)
+  unfolding takes_discovery_reply
+  every-discovery number identifier agents = by (is_matched t.known.discovery identifier) t.known.standing (agents_named agents) refl
+    where
+      by : (right : Bool) (s : Standing) (list : List Address) → t.known.standing ≡ s → Q (if right then finds number s list t else drops_icmp number t)
+      by false s list here = drops number whys.Icmp
+      by true (Away careof) (agent ∷ others) here =
+          let one = noted (Finds (agent ∷ others)) t in
+          let two = noted (Stops seeking) one in
+          let at1 = at-noted (Away careof) (home_of t.known) (Finds (agent ∷ others)) t refl (here, refl) in
+          let at2 = at-noted (Away careof) (home_of t.known) (Stops seeking) one refl at1 in
+          let at3 = at-noted (Away careof) (home_of t.known) (Chooses agent) two refl at2 in
+          done (registers careof (noted (Chooses agent) two))
+          (every-registers c P more careof (noted (Chooses agent) two) at3.0
+          (more (Chooses agent) two refl tt (more (Stops seeking) one refl tt (more (Finds (agent ∷ others)) t refl tt p))))
+      by true (Away careof) [] here = drops number whys.Icmp
+      by true Detached list here = drops number whys.Icmp
+      by true AtHome list here = drops number whys.Icmp
+
+  every-prefixes : (number : ℕ) (shield : Option Shield) (options : IcmpSet) → Q (takes_prefix_reply number shield options t)
+  unfolding takes_prefix_reply
+  every-prefixes number shield options = by (is_from_agent shield (agent_of t.known t.now)) options.prefix
+    where
+      by : (right : Bool) (o : Option PrefixInfo) → Q (learns number right o t)
+      by right None = drops number whys.Icmp
+      by true (Some x) = done (noted (Learns x.valid x.preferred) t) (more (Learns x.valid x.preferred) t refl tt p)
+      by false (Some x) = drops number whys.Icmp
+
+  every-icmp : (number : ℕ) (shield : Option Shield) (packet : Packet) → Q (takes_icmp number shield packet t)
+  unfolding takes_icmp
+  every-icmp number shield packet = by (icmp_of (source_of packet.head) (destination_of packet.head) packet.body)
+    where
+      by : (r : Result icmp.Said IcmpFault) → Q (by_icmp number shield r t)
+      by (Err fault) = drops number whys.Icmp
+      by (Ok (icmp.DiscoverReply identifier agents)) = every-discovery number identifier agents
+      by (Ok (icmp.PrefixReply identifier options)) = every-prefixes number shield options
+      by (Ok (icmp.Parameter pointer quoted)) = drops number whys.Icmp
+      by (Ok (icmp.Advertisement hop agent life options)) = drops number whys.Icmp
+      by (Ok (icmp.DiscoverAsk identifier)) = drops number whys.Icmp
+      by (Ok (icmp.PrefixAsk identifier)) = drops number whys.Icmp
+
+  every-message : (number : ℕ) (tunnelled : Bool) (shield : Option Shield) (packet : Packet) (message : Option Said) → Q (by_message number tunnelled shield packet message t)
+  every-message number tunnelled shield packet None = by (packet.head.proto == 58) (packet.head.proto == 59)
+    where
+      by : (icmp none : Bool) → Q (if icmp then takes_icmp number shield packet t else if none then noted (Drops number whys.NoNext) t else noted (Drops number whys.Role) t)
+      by true none = every-icmp number shield packet
+      by false true = drops number whys.NoNext
+      by false false = drops number whys.Role
+  every-message number tunnelled shield packet (Some (HomeTest index cookie token options)) =
+      every-home_test c P more acks Q done t p drops number tunnelled (source_of packet.head) index cookie token
+  every-message number tunnelled shield packet (Some (CareofTest index cookie token options)) =
+      every-careof_test c P more acks Q done t p drops number tunnelled (source_of packet.head) index cookie token
+  every-message number tunnelled shield packet (Some (Acknowledgement status key sequence lifetime options)) =
+      every-ack number tunnelled shield packet status sequence lifetime options
+  every-message number tunnelled shield packet (Some (Error status home options)) =
+      every-error c P more acks Q done t p drops number (source_of packet.head) status home
+  every-message number tunnelled shield packet (Some (Refresh options)) =
+      every-refresh c P more acks Q done t p drops number (source_of packet.head)
+  every-message number tunnelled shield packet (Some (HomeInit cookie options)) = drops number whys.Role
+  every-message number tunnelled shield packet (Some (CareofInit cookie options)) = drops number whys.Role
+  every-message number tunnelled shield packet (Some (Update s a h l k t' o)) = drops number whys.Role
+
+  module _ (refusing : (number : ℕ) (bytes : List ℕ) (source : Address) (refusal : Refusal) → Q (refuses number bytes source refusal t))
+      (parting : (number : ℕ) (tunnelled : Bool) (packet : Packet) (message : Option Said) → is_for_part packet.head.proto message ≡ true → Q (takes_for_part number tunnelled packet message t)) where
+    every-role : (number : ℕ) (tunnelled : Bool) (shield : Option Shield) (packet : Packet) (message : Option Said) → Q (by_role number tunnelled shield packet message t)
+    unfolding by_role
+    every-role number tunnelled shield packet message = by (is_for_part packet.head.proto message) refl
+      where
+        by : (mine : Bool) → is_for_part packet.head.proto message ≡ mine → Q (if mine then takes_for_part number tunnelled packet message t else by_message number tunnelled shield packet message t)
+        by true is = parting number tunnelled packet message is
+        by false is = every-message number tunnelled shield packet message
+
+    every-inner : (number : ℕ) (shield : Option Shield) (bytes : List ℕ) (packet : Packet) → Q (takes_inner number shield bytes packet t)
+    unfolding takes_inner
+    every-inner number shield bytes packet =
+        by (packet.head.proto == 41) (not (packet.head.destination.0 == (home_of t.known).0)) (is_some packet.head.route) ((packet.head.proto == 135) && is_none shield)
+        (checked (inner_standing t.known t.now packet.head) (place_in bytes packet) packet)
+      where
+        by : (nested other routed bare : Bool) (r : Result (Option Said) Refusal)
+            → Q (if nested then noted (Drops number whys.Nested) t else if other then noted (Drops number whys.Address) t else if routed then noted (Drops number whys.Route) t else if bare then noted (Drops number whys.Unshielded) t else after_inner_checks number shield bytes packet r t)
+        by true other routed bare r = drops number whys.Nested
+        by false true routed bare r = drops number whys.Address
+        by false false true bare r = drops number whys.Route
+        by false false false true r = drops number whys.Unshielded
+        by false false false false (Err refusal) = refusing number bytes packet.head.source refusal
+        by false false false false (Ok message) = every-role number true shield packet message
+
+    every-opens : (number : ℕ) (shield : Option Shield) (packet : Packet) → Q (opens number shield packet t)
+    unfolding opens
+    every-opens number shield packet = by (agent_of t.known t.now)
+      where
+        opening : (r : Result Packet ExitFault) → Q (opens_with number shield packet.body r t)
+        opening (Ok inner) = every-inner number shield packet.body inner
+        opening (Err NotTunnel) = drops number whys.Entry
+        opening (Err (WrongEntry seen)) = drops number whys.Entry
+        opening (Err (Inner fault)) = drops number (packet_why fault)
+
+        by : (agent : Option Address) → Q (opens_from agent number shield packet t)
+        by None = drops number whys.Entry
+        by (Some agent) = opening (opened agent packet)
+
+    pub every-takes : (number : ℕ) (shield : Option Shield) (bytes : List ℕ) → Q (takes number shield bytes t)
+    unfolding takes
+    every-takes number shield bytes = by (packet_of bytes)
+      where
+        outer : (packet : Packet) (message : Option Said) (tunnel : Bool) → Q (if tunnel then opens number shield packet t else by_role number false shield packet message t)
+        outer packet message true = every-opens number shield packet
+        outer packet message false = every-role number false shield packet message
+
+        checks : (packet : Packet) (r : Result (Option Said) Refusal) → Q (after_checks number shield bytes packet r t)
+        checks packet (Err refusal) = refusing number bytes packet.head.source refusal
+        checks packet (Ok message) = outer packet message (packet.head.proto == 41)
+
+        by : (r : Result Packet NotPacket) → Q (receives number shield bytes r t)
+        by (Err fault) = drops number (packet_why fault)
+        by (Ok packet) = checks packet (checked (standing_of t.known t.now packet.head) (place_in bytes packet) packet)
