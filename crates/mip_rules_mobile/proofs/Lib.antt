@@ -8,3 +8,7 @@ pub mod MovingWalks
 pub mod RingWalks
 pub mod ReceivingWalks
 pub mod Walks
+pub mod Fits
+pub mod Calls
+pub mod Told
+pub mod Timers

@@ -13,7 +13,7 @@ use Rattle.mip_rules_mobile.specs.Calls.{Call}
 use Rattle.mip_rules_mobile.specs.Trials.{Rest, is_bound}
 use Rattle.mip_rules_mobile.specs.Steps.{Unregisters, Tries, Unbinds, Rings}
 use Rattle.mip_rules_mobile.specs.RowQuestions.{peer_of_row, trial_of}
-use Rattle.mip_rules_mobile.specs.TimerQuestions.{later}
+use Rattle.mip_rules_mobile.specs.TimerQuestions.{moment}
 use Rattle.mip_rules_mobile.specs.Turns.{Turn, noted}
 use Rattle.mip_rules_mobile.specs.HomeRules.{seeks_again, registers, resends_home}
 use Rattle.mip_rules_mobile.specs.RingingRules.{renews_home, ends_home, rests_if_bound, ends_at, ends_row, rings_own, does_work, rings, rings_on, ticks, ticks_all}
@@ -59,7 +59,7 @@ module _ (c : Call) (P : Turn → Type 0) (more : Goes c P) where
       by false false false true = every-seeks_again c P more t p
       by false false false false = p
 
-  every-work : (work : Work) (t : Turn) → P t → P (does_work work t)
+  pub every-work : (work : Work) (t : Turn) → P t → P (does_work work t)
   every-work (Resend row) t p = every-resends_row c P more row t p
   every-work (Renew row) t p = every-starts c P more row t p
   every-work (End row) t p = every-ends_row row t p
@@ -72,7 +72,7 @@ module _ (c : Call) (P : Turn → Type 0) (more : Goes c P) where
   pub every-ticks : (n : ℕ) (t : Turn) → P t → P (ticks n t)
   unfolding ticks
   every-ticks zero t p = p
-  every-ticks (suc n) t p = by (λ u q. every-ticks n u q) (due_work (later t.now 0) t.known.list.timers)
+  every-ticks (suc n) t p = by (λ u q. every-ticks n u q) (due_work (moment t.now) t.known.list.timers)
     where
       by : ((u : Turn) → P u → P (ticks n u)) → (work : Option Work) → P (rings_on (ticks n) work t)
       by again None = p

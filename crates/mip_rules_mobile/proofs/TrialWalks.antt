@@ -60,7 +60,7 @@ module _ (c : Call) (P : Turn → Type 0) (more : Goes c P) where
           let second = goes_out (AsksHome peer home.0) first in
           let q = every-goes_out c P more (AsksHome peer home.0) first tt (more start t refl tt p) in
           let s = out-stays c t.known.standing t.known.part.identity t.now (AsksHome peer home.0) first tt
-                  (stays-noted t.known.standing t.known.part.identity t.now start t refl (stays-here t)) in
+          (stays-noted t.known.standing t.known.part.identity t.now start t refl (stays-here t)) in
           more (Waits (Resend row) 1000) (noted (Sends (AsksCareof careof peer other.0)) second) refl (omega arith)
           (more (Sends (AsksCareof careof peer other.0)) second refl (let both : second.known.standing ≡ Away careof = cc (s.standing, here) in both) q)
 

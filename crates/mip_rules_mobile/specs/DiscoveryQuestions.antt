@@ -1,5 +1,5 @@
 -- What a mobile knows of other agents and of its prefix. RFC 6275 section 11.4
-use Rattle.std.specs.Prelude.{ℕ, ◌+◌, ◌%◌, Option, Some, None, option_and_then, List, [], slice_get}
+use Rattle.std.specs.Prelude.{ℕ, ◌+◌, ◌%◌, Bool, true, false, if◌then◌else◌, Option, Some, None, is_some, unwrap_or, option_and_then, List, [], slice_get}
 use Rattle.mip_words.specs.declared.address.Address.{Address}
 use Rattle.mip_discovery.specs.Retries.{DiscoverySeen, started, retried}
 use Rattle.mip_rules_mobile.specs.Sendings.{Solicits}
@@ -23,24 +23,31 @@ discoveries_after k Seeks = (k.discoveries + 1) % 65536
 discoveries_after k (Restarts secrets) = 1
 discoveries_after k _ = k.discoveries
 
--- the agents of the last matching reply that named any
+-- the agents of a matching reply that names any
+abbrev pub found_said : Step → Option (List Address)
+found_said (Finds agents) = Some agents
+found_said (Restarts secrets) = Some []
+found_said _ = None
+
 abbrev pub found_after : Known → Step → List Address
-found_after k (Finds agents) = agents
-found_after k (Restarts secrets) = []
-found_after k _ = k.found
+found_after k step = unwrap_or (found_said step) k.found
 
--- how many were chosen since
-abbrev pub tried_after : Known → Step → ℕ
-tried_after k (Finds agents) = 0
-tried_after k (Chooses agent) = k.tried + 1
-tried_after k (Restarts secrets) = 0
-tried_after k _ = k.tried
+-- the agent that a step turns to
+abbrev pub chosen_said : Step → Option (Option Address)
+chosen_said (Chooses agent) = Some (Some agent)
+chosen_said (Restarts secrets) = Some None
+chosen_said _ = None
 
--- the agent chosen last
 abbrev pub chosen_after : Known → Step → Option Address
-chosen_after k (Chooses agent) = Some agent
-chosen_after k (Restarts secrets) = None
-chosen_after k _ = k.chosen
+chosen_after k step = unwrap_or (chosen_said step) k.chosen
+
+abbrev pub is_choice : Step → Bool
+is_choice (Chooses agent) = true
+is_choice _ = false
+
+-- how many of the agents found were chosen since
+abbrev pub tried_after : Known → Step → ℕ
+tried_after k step = if is_some (found_said step) then 0 else if is_choice step then k.tried + 1 else k.tried
 
 -- identifiers grow by one a solicitation
 abbrev pub solicitations_after : Known → Step → ℕ

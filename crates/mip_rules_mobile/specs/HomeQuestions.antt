@@ -21,45 +21,61 @@ home_of k = k.part.identity.own
 abbrev pub standing_at : (home address : Address) → Standing
 standing_at home address = if address.0 == home.0 then AtHome else Away address
 
--- the last address that it uses; none once it left, or found its address taken
+-- where a step says that it stands: at the last address that it uses, nowhere once it left or found its address taken
+abbrev pub standing_said : Address → Step → Option Standing
+standing_said home (Arrives address) = Some (standing_at home address)
+standing_said home (FindsTaken address holder) = Some Detached
+standing_said home Detaches = Some Detached
+standing_said home _ = None
+
 abbrev pub standing_after : Known → Step → Standing
-standing_after k (Arrives address) = standing_at (home_of k) address
-standing_after k (FindsTaken address holder) = Detached
-standing_after k Detaches = Detached
-standing_after k _ = k.standing
+standing_after k step = unwrap_or (standing_said (home_of k) step) k.standing
 
--- the last registration acknowledged, since it last arrived, left, found its address taken or restarted, and not ended
--- since
+-- the registration that a step says it has: the last one acknowledged, since it last arrived, left, found its address taken
+-- or restarted, and not ended since
+abbrev pub registered_said : Step → Option (Option Registered)
+registered_said (Registers agent end renew) = Some (Some (record { agent = agent; end = end }))
+registered_said (Unregisters agent) = Some None
+registered_said (Arrives address) = Some None
+registered_said (FindsTaken address holder) = Some None
+registered_said Detaches = Some None
+registered_said (Restarts secrets) = Some None
+registered_said _ = None
+
 abbrev pub registered_after : Known → Step → Option Registered
-registered_after k (Registers agent end renew) = Some (record { agent = agent; end = end })
-registered_after k (Unregisters agent) = None
-registered_after k (Arrives address) = None
-registered_after k (FindsTaken address holder) = None
-registered_after k Detaches = None
-registered_after k (Restarts secrets) = None
-registered_after k _ = k.registered
+registered_after k step = unwrap_or (registered_said step) k.registered
 
--- the last home registration or deregistration since it last restarted
+abbrev pub sent_home : (agent : Address) (sequence at : ℕ) (deletes : Bool) → HomeUpdate
+sent_home agent sequence at deletes = record { agent = agent; sequence = sequence; at = record { 0 = at }; deletes = deletes }
+
+-- the home registration or deregistration that a step sends; none is known after a restart
+abbrev pub latest_said : ℕ → Step → Option (Option HomeUpdate)
+latest_said at (Sends (RegistersHome home careof agent sequence)) = Some (Some (sent_home agent sequence at false))
+latest_said at (Sends (DeregistersHome home agent sequence)) = Some (Some (sent_home agent sequence at true))
+latest_said at (Restarts secrets) = Some None
+latest_said at _ = None
+
 abbrev pub latest_after : Known → ℕ → Step → Option HomeUpdate
-latest_after k at (Sends (RegistersHome home careof agent sequence)) =
-    Some (record { agent = agent; sequence = sequence; at = record { 0 = at }; deletes = false })
-latest_after k at (Sends (DeregistersHome home agent sequence)) =
-    Some (record { agent = agent; sequence = sequence; at = record { 0 = at }; deletes = true })
-latest_after k at (Restarts secrets) = None
-latest_after k at _ = k.latest
+latest_after k at step = unwrap_or (latest_said at step) k.latest
 
--- where the last home registration since then went
+-- where a home registration goes
+abbrev pub agent_said : Step → Option (Option Address)
+agent_said (Sends (RegistersHome home careof agent sequence)) = Some (Some agent)
+agent_said (Restarts secrets) = Some None
+agent_said _ = None
+
 abbrev pub agent_after : Known → Step → Option Address
-agent_after k (Sends (RegistersHome home careof agent sequence)) = Some agent
-agent_after k (Restarts secrets) = None
-agent_after k _ = k.agent
+agent_after k step = unwrap_or (agent_said step) k.agent
 
 -- a home registration was sent since the last end of one, or since it restarted
+abbrev pub owes_said : Step → Option Bool
+owes_said (Sends (RegistersHome home careof agent sequence)) = Some true
+owes_said (Unregisters agent) = Some false
+owes_said (Restarts secrets) = Some false
+owes_said _ = None
+
 abbrev pub owes_after : Known → Step → Bool
-owes_after k (Sends (RegistersHome home careof agent sequence)) = true
-owes_after k (Unregisters agent) = false
-owes_after k (Restarts secrets) = false
-owes_after k _ = k.owes
+owes_after k step = unwrap_or (owes_said step) k.owes
 
 -- the number of the next update to an agent: 1 where there was none
 abbrev pub next_to : Address → List Numbering → ℕ
@@ -74,13 +90,26 @@ with_next agent next (n ∷ ns) = if n.agent.0 == agent.0 then record { agent = 
 abbrev pub number_after : ℕ → ℕ
 number_after sequence = (sequence + 1) % 65536
 
--- one more than the last one sent to an agent, or than a value received later with status 135
+-- a number that the next update to an agent takes
+pub record Next : Type 0 where
+  pub agent : Address
+  pub next : ℕ
+
+-- one more than the one sent, or than a value received with status 135; a restart forgets all
+abbrev pub next_said : Step → Option (Option Next)
+next_said (Sends (RegistersHome home careof agent sequence)) = Some (Some (record { agent = agent; next = number_after sequence }))
+next_said (Sends (DeregistersHome home agent sequence)) = Some (Some (record { agent = agent; next = number_after sequence }))
+next_said (Resequences agent last) = Some (Some (record { agent = agent; next = number_after last }))
+next_said (Restarts secrets) = Some None
+next_said _ = None
+
+abbrev pub renumbered : Option (Option Next) → List Numbering → List Numbering
+renumbered (Some (Some n)) ns = with_next n.agent n.next ns
+renumbered (Some None) ns = []
+renumbered None ns = ns
+
 abbrev pub numberings_after : Known → Step → List Numbering
-numberings_after k (Sends (RegistersHome home careof agent sequence)) = with_next agent (number_after sequence) k.numberings
-numberings_after k (Sends (DeregistersHome home agent sequence)) = with_next agent (number_after sequence) k.numberings
-numberings_after k (Resequences agent last) = with_next agent (number_after last) k.numberings
-numberings_after k (Restarts secrets) = []
-numberings_after k _ = k.numberings
+numberings_after k step = renumbered (next_said step) k.numberings
 
 -- how long the resending of a home registration or deregistration waits
 abbrev pub wait_after : Known → Step → ℕ

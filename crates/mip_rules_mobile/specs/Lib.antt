@@ -19,4 +19,5 @@ pub mod IcmpRules
 pub mod ReceivingRules
 pub mod RingingRules
 pub mod Doing
+pub mod Told
 pub mod Fitting

@@ -12,7 +12,7 @@ use Rattle.mip_rules_mobile.specs.Trials.{Rest, is_bound}
 use Rattle.mip_rules_mobile.specs.Steps.{Unregisters, Tries, Unbinds, Rings}
 use Rattle.mip_rules_mobile.specs.Known.{Known}
 use Rattle.mip_rules_mobile.specs.RowQuestions.{peer_of_row, trial_of}
-use Rattle.mip_rules_mobile.specs.TimerQuestions.{later}
+use Rattle.mip_rules_mobile.specs.TimerQuestions.{moment}
 use Rattle.mip_rules_mobile.specs.Turns.{Turn, noted}
 use Rattle.mip_rules_mobile.specs.TrialRules.{starts, resends_row}
 use Rattle.mip_rules_mobile.specs.HomeRules.{seeks_again, registers, resends_home}
@@ -64,7 +64,7 @@ rings_on more (Some work) t = more (rings work t)
 
 unfoldable pub ticks : ℕ → Turn → Turn
 ticks zero t = t
-ticks (suc n) t = rings_on (ticks n) (due_work (later t.now 0) t.known.list.timers) t
+ticks (suc n) t = rings_on (ticks n) (due_work (moment t.now) t.known.list.timers) t
 
 -- each timer that is set rings once at most: what is set meanwhile is due later
 unfoldable pub ticks_all : Turn → Turn

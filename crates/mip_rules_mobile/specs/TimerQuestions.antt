@@ -27,11 +27,14 @@ seeking = Own 3
 abbrev pub later : ℕ → ℕ → Moment
 later at wait = record { 0 = at + wait }
 
+abbrev pub moment : ℕ → Moment
+moment at = record { 0 = at }
+
 -- the timers: what was set last for each work, until it rings or is stopped; all stop as the mobile leaves or restarts
 abbrev pub timers_after : List Timer → ℕ → Step → List Timer
 timers_after timers at (Waits work wait) = with_timer (later at wait) work timers
 timers_after timers at (Stops work) = without_timer work timers
-timers_after timers at (Rings work) = without_due (later at 0) timers
+timers_after timers at (Rings work) = without_due (moment at) timers
 timers_after timers at (Registers agent end renew) = with_timer end ending_home (with_timer renew renewing_home timers)
 timers_after timers at (Binds row peer end renew) = with_timer end (End row) (with_timer renew (Renew row) timers)
 timers_after timers at (Unbinds row peer) = without_timer (End row) (without_timer (Renew row) timers)

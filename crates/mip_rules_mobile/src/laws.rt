@@ -1,1 +1,67 @@
+//! The laws by which a mobile stands for a past, and by which its steps, packets and timers are as they should be.
 
+ghost use Rattle.std.specs.Prelude.{◌≡◌, ℕ, ◌+◌, List, [], Option, Some, None, Bool, false, is_some, length, filter, if◌then◌else◌};
+ghost use Rattle.mip_words.specs.declared.address.Address.{Address};
+ghost use Rattle.mip_nonce.specs.Secrets.{Life};
+ghost use Rattle.mip_lists.specs.Last.{since};
+ghost use Rattle.mip_bulist.specs.Timers.{AreDueFrom, AreInOrder};
+ghost use Rattle.mip_entries.specs.Stamped.{Stamped};
+ghost use Rattle.mip_rules_mobile.specs.declared.standing.Standing.TheVariants.{AtHome};
+ghost use Rattle.mip_rules_mobile.specs.Calls.{Call, Tick};
+ghost use Rattle.mip_rules_mobile.specs.Steps.{Step, is_call};
+ghost use Rattle.mip_rules_mobile.specs.Known.{Known};
+ghost use Rattle.mip_rules_mobile.specs.HomeQuestions.{standing_said, registered_said, latest_said, agent_said, owes_said, next_said, next_to};
+ghost use Rattle.mip_rules_mobile.specs.DiscoveryQuestions.{found_said, chosen_said, is_choice};
+ghost use Rattle.mip_rules_mobile.specs.Questions.{known};
+ghost use Rattle.mip_rules_mobile.specs.Turns.{Stands, with_turn};
+ghost use Rattle.mip_rules_mobile.specs.Told.{last_told, next_in};
+ghost use Rattle.mip_rules_mobile.specs.Fitting.{EachFits};
+ghost use Rattle.mip_rules_mobile.specs.Doing.{turn_of};
+
+/// Whoever stands for a past knows what it leaves known.
+pub fn stands_for_what_is_known()
+    ensures { (home : Address) (declared : Option Address) (secrets : Life) (past : List (Stamped Step)) (k : Known) → Stands home declared secrets past k → k ≡ known home declared secrets past }
+{}
+
+/// Whoever stands for a past stands, after any call, for the past with the call's turn.
+pub fn stands_after_each_call()
+    ensures { (home : Address) (declared : Option Address) (secrets : Life) (past : List (Stamped Step)) (k : Known) (now : ℕ) (c : Call) → Stands home declared secrets past k
+        → Stands home declared secrets (with_turn past (turn_of k now c)) (turn_of k now c).known }
+{}
+
+/// Each step of a call fits where it is taken: a packet leaves from the address that the mobile stands at, a packet of its
+/// correspondent part is one that a correspondent sends, an update is the one that its trial makes.
+pub fn each_step_fits()
+    ensures { (k : Known) (now : ℕ) (c : Call) → EachFits c now k (turn_of k now c).steps }
+{}
+
+/// The last moment that a call leaves known is its own.
+pub fn each_call_is_the_last()
+    ensures { (k : Known) (now : ℕ) (c : Call) → (turn_of k now c).known.last.0 ≡ now }
+{}
+
+/// What is known of a question is what the last step says that says anything of it: where the mobile stands, whether it is
+/// registered, the last home registration or deregistration and the agent of the last registration, whether one is to be undone,
+/// the next sequence to an agent, the agents that were found, how many of them were chosen since, and the last one chosen.
+pub fn each_answer_is_the_last_told()
+    ensures last { (home : Address) (declared : Option Address) (secrets : Life) (past : List (Stamped Step)) → (known home declared secrets past).last.0 ≡ last_told (λ s. if is_call s.step then Some s.at else None) 0 past }
+    ensures standing { (home : Address) (declared : Option Address) (secrets : Life) (past : List (Stamped Step)) → (known home declared secrets past).standing ≡ last_told (λ s. standing_said home s.step) AtHome past }
+    ensures registered { (home : Address) (declared : Option Address) (secrets : Life) (past : List (Stamped Step)) → (known home declared secrets past).registered ≡ last_told (λ s. registered_said s.step) None past }
+    ensures latest { (home : Address) (declared : Option Address) (secrets : Life) (past : List (Stamped Step)) → (known home declared secrets past).latest ≡ last_told (λ s. latest_said s.at s.step) None past }
+    ensures agent { (home : Address) (declared : Option Address) (secrets : Life) (past : List (Stamped Step)) → (known home declared secrets past).agent ≡ last_told (λ s. agent_said s.step) None past }
+    ensures owes { (home : Address) (declared : Option Address) (secrets : Life) (past : List (Stamped Step)) → (known home declared secrets past).owes ≡ last_told (λ s. owes_said s.step) false past }
+    ensures next { (home : Address) (declared : Option Address) (secrets : Life) (past : List (Stamped Step)) (agent : Address) → next_to agent (known home declared secrets past).numberings ≡ last_told (λ s. next_in agent (next_said s.step)) 1 past }
+    ensures found { (home : Address) (declared : Option Address) (secrets : Life) (past : List (Stamped Step)) → (known home declared secrets past).found ≡ last_told (λ s. found_said s.step) [] past }
+    ensures tried { (home : Address) (declared : Option Address) (secrets : Life) (past : List (Stamped Step)) → (known home declared secrets past).tried ≡ length (filter (λ s. is_choice s.step) (since (λ s. is_some (found_said s.step)) past)) }
+    ensures chosen { (home : Address) (declared : Option Address) (secrets : Life) (past : List (Stamped Step)) → (known home declared secrets past).chosen ≡ last_told (λ s. chosen_said s.step) None past }
+{}
+
+/// After every past the timers stand in order of due moment.
+pub fn timers_are_in_order()
+    ensures { (home : Address) (declared : Option Address) (secrets : Life) (past : List (Stamped Step)) → AreInOrder (known home declared secrets past).list.timers }
+{}
+
+/// A tick leaves nothing that is due at its moment.
+pub fn a_tick_leaves_nothing_due()
+    ensures { (k : Known) (now : ℕ) → AreInOrder k.list.timers → AreDueFrom (now + 1) (turn_of k now Tick).known.list.timers }
+{}
