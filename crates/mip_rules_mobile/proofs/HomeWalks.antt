@@ -5,10 +5,12 @@ use Rattle.std.specs.Prelude.{◌*◌, ◌^◌, Option, Some, None, Bool, true, 
 use Rattle.std.proofs.lemmas.Nat.{pow_pos}
 use Rattle.mip_words.specs.declared.address.Address.{Address}
 use Rattle.mip_discovery.specs.Retries.{DiscoverySeen, retried}
+use Rattle.mip_updates.specs.Statuses.{accepts_it, sequence_out_of_window}
 use Rattle.mip_rules_mobile.specs.declared.standing.Standing.{Standing}
 use Rattle.mip_rules_mobile.specs.declared.standing.Standing.TheVariants.{Detached, AtHome, Away}
 use Rattle.mip_rules_mobile.specs.declared.home_update.HomeUpdate.{HomeUpdate}
-use Rattle.mip_rules_mobile.specs.Timing.{first_wait, unit, refresh_unit, first_discovery_wait}
+use Rattle.mip_constants.specs.Constants.{initial_bindack_timeout, lifetime_unit, initial_dhaad_timeout}
+use Rattle.mip_rules_mobile.specs.Timing.{refresh_unit}
 use Rattle.mip_rules_mobile.specs.Calls.{Call}
 use Rattle.mip_rules_mobile.specs.Trials.{is_idle}
 use Rattle.mip_rules_mobile.specs.Sendings.{RegistersHome, DeregistersHome, Discovers}
@@ -39,7 +41,7 @@ module _ (c : Call) (P : Turn → Type 0) (more : Goes c P) where
   pub every-seeks : (careof : Address) (t : Turn) → t.known.standing ≡ Away careof → P t → P (seeks careof t)
   unfolding seeks
   every-seeks careof t here p =
-      more (Waits seeking first_discovery_wait) _ refl (omega arith)
+      more (Waits seeking initial_dhaad_timeout) _ refl (omega arith)
       (more (Sends (Discovers (home_of t.known) careof t.known.discoveries)) (noted Seeks t) refl (at-noted (Away careof) (home_of t.known) Seeks t refl (here, refl))
       (more Seeks t refl tt p))
 
@@ -50,7 +52,7 @@ module _ (c : Call) (P : Turn → Type 0) (more : Goes c P) where
       from : (careof : Address) (d : DiscoverySeen) (o : Option DiscoverySeen) → t.known.standing ≡ Away careof → retried t.now d ≡ o → P (seeks_again_from careof o d.identifier t)
       from careof d None here is = more GivesUp t refl tt p
       from careof d (Some e) here is =
-          more (Waits seeking (first_discovery_wait * 2 ^ e.retries)) _ refl (positive-power e.retries)
+          more (Waits seeking (initial_dhaad_timeout * 2 ^ e.retries)) _ refl (positive-power e.retries)
           (more (Sends (Discovers (home_of t.known) careof d.identifier)) (noted SeeksAgain t) refl (at-noted (Away careof) (home_of t.known) SeeksAgain t refl (here, refl))
           (more SeeksAgain t refl tt p))
 
@@ -82,7 +84,7 @@ module _ (c : Call) (P : Turn → Type 0) (more : Goes c P) where
 
   pub every-deregisters_at : (agent : Option Address) (t : Turn) → t.known.standing ≡ AtHome → P t → P (deregisters_at agent t)
   every-deregisters_at None t here p = p
-  every-deregisters_at (Some agent) t here p = every-deregisters_with agent first_wait t here (omega arith) p
+  every-deregisters_at (Some agent) t here p = every-deregisters_with agent initial_bindack_timeout t here (omega arith) p
 
   pub every-resends_home : (wait : ℕ) (t : Turn) → 0 < wait → P t → P (resends_home wait t)
   unfolding resends_home
@@ -122,7 +124,7 @@ module _ (c : Call) (P : Turn → Type 0) (more : Goes c P) where
       by (Away careof) (Some agent) here =
           let one = at-noted (Away careof) (home_of t.known) (IsRefused status) t refl (here, refl) in
           let two = at-noted (Away careof) (home_of t.known) (Chooses agent) first refl one in
-          every-registers_with careof agent first_wait (noted (Chooses agent) first) two.0 (omega arith)
+          every-registers_with careof agent initial_bindack_timeout (noted (Chooses agent) first) two.0 (omega arith)
           (more (Chooses agent) first refl tt (more (IsRefused status) t refl tt p))
       by (Away careof) None here = stops
       by Detached agent here = stops
@@ -138,7 +140,7 @@ module _ (c : Call) (P : Turn → Type 0) (more : Goes c P) where
   every-behind : (u : HomeUpdate) (sequence : ℕ) (t : Turn) → P t → P (is_behind u sequence t)
   unfolding is_behind
   every-behind u sequence t p =
-      every-resends_home first_wait (noted (Resequences u.agent sequence) t) (omega arith) (more (Resequences u.agent sequence) t refl tt p)
+      every-resends_home initial_bindack_timeout (noted (Resequences u.agent sequence) t) (omega arith) (more (Resequences u.agent sequence) t refl tt p)
 
   module _ (acks : Acks c P) where
     every-registered : (u : HomeUpdate) (lifetime : ℕ) (t : Turn) → P t → P (is_registered u lifetime t)
@@ -146,13 +148,13 @@ module _ (c : Call) (P : Turn → Type 0) (more : Goes c P) where
     every-registered u lifetime t p =
         every-row P starts_bound
         (λ row v q. starting (is_touched_row v.known row && (is_idle (trial_of v.known row) && not (is_bound_row v.known v.now row))) row v q)
-        (noted (Registers u.agent (later u.at.0 (unit * lifetime)) (later u.at.0 (refresh_unit * lifetime))) (noted (Stops resending_home) t))
-        (acks (Registers u.agent (later u.at.0 (unit * lifetime)) (later u.at.0 (refresh_unit * lifetime))) (noted (Stops resending_home) t) refl tt
+        (noted (Registers u.agent (later u.at.0 (lifetime_unit * lifetime)) (later u.at.0 (refresh_unit * lifetime))) (noted (Stops resending_home) t))
+        (acks (Registers u.agent (later u.at.0 (lifetime_unit * lifetime)) (later u.at.0 (refresh_unit * lifetime))) (noted (Stops resending_home) t) refl tt
         (more (Stops resending_home) t refl tt p))
 
     pub every-home_ack : (u : HomeUpdate) (status sequence lifetime : ℕ) (t : Turn) → P t → P (takes_home_ack u status sequence lifetime t)
     unfolding takes_home_ack
-    every-home_ack u status sequence lifetime t p = by (nat_lt status 128) (status == 135)
+    every-home_ack u status sequence lifetime t p = by (accepts_it status) (status == sequence_out_of_window)
       where
         granted : (deletes none : Bool) → P (if deletes then is_unregistered u t else if none then is_refused status t else is_registered u lifetime t)
         granted true none = every-unregistered u t p

@@ -19,7 +19,7 @@ use Rattle.mip_rules_mobile.specs.Steps.{Parts, Notes, Sends, Unsends}
 use Rattle.mip_rules_mobile.specs.HomeQuestions.{home_of, registered_agent}
 use Rattle.mip_rules_mobile.specs.Turns.{Turn, noted}
 use Rattle.mip_rules_mobile.specs.OutRules.{tunnels, goes_from, goes_out, passes_all, part_answers, asks_part, goes_back, replies}
-use Rattle.mip_rules_mobile.specs.Fitting.{IsOfPart, IsInner}
+use Rattle.mip_rules_mobile.specs.Fitting.{IsAsked, IsOfPart, IsInner}
 use Rattle.mip_rules_mobile.proofs.Steady.{Goes, Stays, stays-noted, staying, stays-here}
 use Rattle.mip_rules_mobile.proofs.PartAnswers.{IsPartAnswer, part-answers}
 
@@ -42,28 +42,28 @@ pub out-stays : (c : Call) (s : Standing) (me : Identity) (now : ℕ) (inner : I
 out-stays c s me now inner t is stays = every-goes_out c (Stays s me now) (staying c s me now) inner t is stays
 
 -- a packet of the part is one at the turn too
-pub of-part : (s : Standing) (me : Identity) (now : ℕ) (packet : List ℕ) (t : Turn) → Stays s me now t → IsOfPart me now packet → IsOfPart t.known.part.identity t.now packet
-of-part s me now packet t stays is =
-    subst (λ (n : ℕ). IsOfPart t.known.part.identity n packet) (sym stays.moment)
-    (subst (λ (i : Identity). IsOfPart i now packet) (sym stays.identity) is)
+pub of-part : (c : Call) (s : Standing) (me : Identity) (now : ℕ) (packet : List ℕ) (t : Turn) → Stays s me now t → IsOfPart c me now packet → IsOfPart c t.known.part.identity t.now packet
+of-part c s me now packet t stays is =
+    subst (λ (n : ℕ). IsOfPart c t.known.part.identity n packet) (sym stays.moment)
+    (subst (λ (i : Identity). IsOfPart c i now packet) (sym stays.identity) is)
 
 module _ (c : Call) (P : Turn → Type 0) (more : Goes c P) where
-  every-passes : (s : Standing) (me : Identity) (now : ℕ) (answers : List Answer) → AllByRecursion (IsPartAnswer me now) answers → (t : Turn) → Stays s me now t → P t → P (passes_all answers t)
+  every-passes : (s : Standing) (me : Identity) (now : ℕ) (answers : List Answer) → AllByRecursion (IsPartAnswer c me now) answers → (t : Turn) → Stays s me now t → P t → P (passes_all answers t)
   unfolding passes_all
   every-passes s me now [] all t stays p = p
   every-passes s me now (Send shield packet ∷ answers) all t stays p =
-      let is = of-part s me now packet t stays all.0 in
+      let is = of-part c s me now packet t stays all.0 in
       every-passes s me now answers all.1 (goes_out (OfPart packet) t) (out-stays c s me now (OfPart packet) t is stays)
       (every-goes_out c P more (OfPart packet) t is p)
   every-passes s me now (Note entry ∷ answers) all t stays p =
       every-passes s me now answers all.1 (noted (Notes entry) t) (stays-noted s me now (Notes entry) t refl stays)
       (more (Notes entry) t refl all.0 p)
 
-  pub every-asks_part : (call : parts.Call) (t : Turn) → P t → P (asks_part call t)
+  pub every-asks_part : (call : parts.Call) → IsAsked c call → (t : Turn) → P t → P (asks_part call t)
   unfolding asks_part
-  every-asks_part call t p =
+  every-asks_part call asked t p =
       every-passes t.known.standing t.known.part.identity t.now (part_answers t call)
-      (part-answers t.known.part.identity t.known.part.known t.now call) (noted (Parts call) t)
+      (part-answers c t.known.part.identity t.known.part.known t.now call asked) (noted (Parts call) t)
       (stays-noted t.known.standing t.known.part.identity t.now (Parts call) t refl (stays-here t)) (more (Parts call) t refl tt p)
 
   pub every-replies : (source : Address) (bytes : List ℕ) (reply : Reply) (t : Turn) → P t → P (replies source bytes reply t)
@@ -72,4 +72,4 @@ module _ (c : Call) (P : Turn → Type 0) (more : Goes c P) where
     where
       by : (o : Option (List ℕ)) → reply_packet (home_of t.known) source bytes reply ≡ o → P (goes_back o t)
       by None is = p
-      by (Some packet) is = every-goes_out c P more (OfPart packet) t (SendsReply source bytes reply, is) p
+      by (Some packet) is = every-goes_out c P more (OfPart packet) t (record { call = parts.Tick; asked = tt; sending = SendsReply source bytes reply; is = is }) p

@@ -15,7 +15,8 @@ use Rattle.mip_bulist.specs.declared.tested.Test.{Test}
 use Rattle.mip_bulist.specs.declared.trial.Trial.{Trial}
 use Rattle.mip_bulist.specs.declared.work.Work.TheVariants.{Resend}
 use Rattle.mip_bulist.specs.Rows.{given_row}
-use Rattle.mip_rules_mobile.specs.Timing.{first_wait}
+use Rattle.mip_constants.specs.Constants.{initial_bindack_timeout}
+use Rattle.mip_updates.specs.Statuses.{accepts_it, sequence_out_of_window}
 use Rattle.mip_rules_mobile.specs.Calls.{Call}
 use Rattle.mip_rules_mobile.specs.Trials.{HomeTest, CareofTest, Resequence, Acknowledge, Rest, last_made, binds_to, sent_at, is_idle}
 use Rattle.mip_rules_mobile.specs.Steps.{Step, Drops, Meets, Tries, Forgets, Binds, Unbinds, Stops}
@@ -23,7 +24,7 @@ use Rattle.mip_rules_mobile.specs.HomeQuestions.{home_of, registration_of}
 use Rattle.mip_rules_mobile.specs.RowQuestions.{row_of, trial_of, is_bound_row, bound_row_of}
 use Rattle.mip_rules_mobile.specs.Turns.{Turn, noted}
 use Rattle.mip_rules_mobile.specs.TrialRules.{starts, updates}
-use Rattle.mip_rules_mobile.specs.PeerRules.{begins_at, meets, comes_right, test_at, cookie, home_row, careof_row, keeps_home, keeps_careof, takes_home_test, takes_careof_test, acknowledges, binds_from, ends_for, is_granted, rests, takes_peer_ack, acks_trial, acks_row, takes_ack_of, loses, takes_error, renews, takes_refresh}
+use Rattle.mip_rules_mobile.specs.PeerRules.{tells_of_nonces, begins_at, meets, comes_right, test_at, cookie, home_row, careof_row, keeps_home, keeps_careof, takes_home_test, takes_careof_test, acknowledges, binds_from, ends_for, is_granted, rests, takes_peer_ack, acks_trial, acks_row, takes_ack_of, loses, takes_error, renews, takes_refresh}
 use Rattle.mip_rules_mobile.proofs.Steady.{Goes}
 use Rattle.mip_rules_mobile.proofs.TrialWalks.{every-starts, every-updates}
 use Rattle.mip_rules_mobile.proofs.HomeWalks.{Acks}
@@ -72,11 +73,11 @@ module _ (c : Call) (P : Turn → Type 0) (more : Goes c P) where
 
     every-peer_ack : (row : ℕ) (u : Trial pending.Pending) (status sequence lifetime : ℕ) (t : Turn) → P t → P (takes_peer_ack row u status sequence lifetime t)
     unfolding takes_peer_ack
-    every-peer_ack row u status sequence lifetime t p = by (nat_lt status 128) (status == 135) (nat_le 136 status && nat_le status 138)
+    every-peer_ack row u status sequence lifetime t p = by (accepts_it status) (status == sequence_out_of_window) (tells_of_nonces status)
       where
-        by : (accepted behind expired : Bool) → P (if accepted then is_granted row u sequence lifetime t else if behind then updates row first_wait (noted (Tries row (Resequence sequence)) t) else if expired then starts row t else rests row t)
+        by : (accepted behind expired : Bool) → P (if accepted then is_granted row u sequence lifetime t else if behind then updates row initial_bindack_timeout (noted (Tries row (Resequence sequence)) t) else if expired then starts row t else rests row t)
         by true behind expired = every-granted row u sequence lifetime t p
-        by false true expired = every-updates c P more row first_wait (noted (Tries row (Resequence sequence)) t) (omega arith) (more (Tries row (Resequence sequence)) t refl tt p)
+        by false true expired = every-updates c P more row initial_bindack_timeout (noted (Tries row (Resequence sequence)) t) (omega arith) (more (Tries row (Resequence sequence)) t refl tt p)
         by false false true = every-starts c P more row t p
         by false false false = every-rests row t p
 
@@ -92,7 +93,7 @@ module _ (c : Call) (P : Turn → Type 0) (more : Goes c P) where
           by true None = drops number whys.Cookie
           by true (Some row) =
               let step : Step = Tries row (HomeTest peer (cookie c') test) in
-              done (updates row first_wait (noted step t)) (every-updates c P more row first_wait (noted step t) (omega arith) (more step t refl tt p))
+              done (updates row initial_bindack_timeout (noted step t)) (every-updates c P more row initial_bindack_timeout (noted step t) (omega arith) (more step t refl tt p))
           by false row = drops number whys.Cookie
 
       pub every-careof_test : (number : ℕ) (tunnelled : Bool) (peer : Address) (index c' : ℕ) (token : List ℕ) → Q (takes_careof_test number tunnelled peer index c' token t)
@@ -106,7 +107,7 @@ module _ (c : Call) (P : Turn → Type 0) (more : Goes c P) where
           by true None = drops number whys.Cookie
           by true (Some row) =
               let step : Step = Tries row (CareofTest peer (cookie c') test) in
-              done (updates row first_wait (noted step t)) (every-updates c P more row first_wait (noted step t) (omega arith) (more step t refl tt p))
+              done (updates row initial_bindack_timeout (noted step t)) (every-updates c P more row initial_bindack_timeout (noted step t) (omega arith) (more step t refl tt p))
           by false row = drops number whys.Cookie
 
       pub every-ack_of : (number : ℕ) (peer : Address) (status sequence lifetime : ℕ) (authenticator : Option (List ℕ)) (message : List ℕ) → Q (takes_ack_of number peer status sequence lifetime authenticator message t)

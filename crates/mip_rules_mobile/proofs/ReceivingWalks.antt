@@ -2,6 +2,7 @@
 -- perhaps with an answer to its source, and one for the correspondent part.
 use Rattle.std.proofs.Common.{◌≡◌, ℕ, List, [], ◌∷◌, refl}
 use Rattle.std.specs.Prelude.{Option, Some, None, Bool, true, false, not, ◌==◌, ◌&&◌, is_some, is_none, if◌then◌else◌, Result, Ok, Err}
+use Rattle.mip_constants.specs.Protocols.{ipv6, icmpv6, no_next_header, mobility_header}
 use Rattle.mip_words.specs.declared.address.Address.{Address}
 use Rattle.mip_words.specs.declared.shield.Shield.{Shield}
 use Rattle.mip_words.specs.declared.why.Why.{Why}
@@ -92,7 +93,7 @@ module _ (c : Call) (P : Turn → Type 0) (more : Goes c P) (acks : Acks c P) (Q
       by (Ok (icmp.PrefixAsk identifier)) = drops number whys.Icmp
 
   every-message : (number : ℕ) (tunnelled : Bool) (shield : Option Shield) (packet : Packet) (message : Option Said) → Q (by_message number tunnelled shield packet message t)
-  every-message number tunnelled shield packet None = by (packet.head.proto == 58) (packet.head.proto == 59)
+  every-message number tunnelled shield packet None = by (packet.head.proto == icmpv6) (packet.head.proto == no_next_header)
     where
       by : (icmp none : Bool) → Q (if icmp then takes_icmp number shield packet t else if none then noted (Drops number whys.NoNext) t else noted (Drops number whys.Role) t)
       by true none = every-icmp number shield packet
@@ -125,7 +126,7 @@ module _ (c : Call) (P : Turn → Type 0) (more : Goes c P) (acks : Acks c P) (Q
     every-inner : (number : ℕ) (shield : Option Shield) (bytes : List ℕ) (packet : Packet) → Q (takes_inner number shield bytes packet t)
     unfolding takes_inner
     every-inner number shield bytes packet =
-        by (packet.head.proto == 41) (not (packet.head.destination.0 == (home_of t.known).0)) (is_some packet.head.route) ((packet.head.proto == 135) && is_none shield)
+        by (packet.head.proto == ipv6) (not (packet.head.destination.0 == (home_of t.known).0)) (is_some packet.head.route) ((packet.head.proto == mobility_header) && is_none shield)
         (checked (inner_standing t.known t.now packet.head) (place_in bytes packet) packet)
       where
         by : (nested other routed bare : Bool) (r : Result (Option Said) Refusal)
@@ -161,7 +162,7 @@ module _ (c : Call) (P : Turn → Type 0) (more : Goes c P) (acks : Acks c P) (Q
 
         checks : (packet : Packet) (r : Result (Option Said) Refusal) → Q (after_checks number shield bytes packet r t)
         checks packet (Err refusal) = refusing number bytes packet.head.source refusal
-        checks packet (Ok message) = outer packet message (packet.head.proto == 41)
+        checks packet (Ok message) = outer packet message (packet.head.proto == ipv6)
 
         by : (r : Result Packet NotPacket) → Q (receives number shield bytes r t)
         by (Err fault) = drops number (packet_why fault)

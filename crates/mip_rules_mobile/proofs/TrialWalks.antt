@@ -16,7 +16,8 @@ use Rattle.mip_bulist.specs.declared.work.Work.TheVariants.{Resend}
 use Rattle.mip_rules_correspondent.specs.declared.identity.Identity.{Identity}
 use Rattle.mip_rules_mobile.specs.declared.standing.Standing.{Standing}
 use Rattle.mip_rules_mobile.specs.declared.standing.Standing.TheVariants.{Detached, AtHome, Away}
-use Rattle.mip_rules_mobile.specs.Timing.{longest_wait, doubled}
+use Rattle.mip_constants.specs.Constants.{max_bindack_timeout}
+use Rattle.mip_rules_mobile.specs.Timing.{doubled}
 use Rattle.mip_rules_mobile.specs.Calls.{Call}
 use Rattle.mip_rules_mobile.specs.Trials.{Start, Rest, makes, lacks_home, lacks_careof}
 use Rattle.mip_rules_mobile.specs.Sendings.{PeerUpdate, AsksHome, AsksCareof}
@@ -140,4 +141,4 @@ module _ (c : Call) (P : Turn → Type 0) (more : Goes c P) where
 
       by : (peer : Option Address) → P (resends_at peer row (wait_of_row t.known row) t)
       by None = p
-      by (Some peer) = last peer (wait_of_row t.known row) (wait_of_row t.known row == longest_wait)
+      by (Some peer) = last peer (wait_of_row t.known row) (wait_of_row t.known row == max_bindack_timeout)

@@ -32,15 +32,16 @@ use Rattle.mip_rules_mobile.proofs.RingWalks.{every-ticks_all}
 use Rattle.mip_rules_mobile.proofs.ReceivingWalks.{every-takes}
 
 module _ (c : Call) (P : Turn → Type 0) (more : Goes c P) where
-  every-transmits : (to : Address) (proto : ℕ) (payload : List ℕ) (t : Turn) → P t → P (transmits to proto payload t)
+  every-transmits : (to : Address) (proto : ℕ) (payload : List ℕ) → c ≡ calls.Send to proto payload → (t : Turn) → P t → P (transmits to proto payload t)
   unfolding transmits
-  every-transmits to proto payload t p = by t.known.standing (bound_row_of t.known t.now to) refl
+  every-transmits to proto payload asked t p = by t.known.standing (bound_row_of t.known t.now to) refl
     where
       by : (s : Standing) (row : Option ℕ) → t.known.standing ≡ s → P (transmits_from s row to proto payload t)
-      by (Away careof) (Some row) here = more (Sends (SendsData (home_of t.known) careof to (held_of t.known.part.known t.now to) proto payload)) t refl (here, refl) p
-      by (Away careof) None here = every-asks_part c P more (parts.Send to proto payload) t p
-      by Detached row here = every-asks_part c P more (parts.Send to proto payload) t p
-      by AtHome row here = every-asks_part c P more (parts.Send to proto payload) t p
+      by (Away careof) (Some row) here =
+          more (Sends (SendsData (home_of t.known) careof to (held_of t.known.part.known t.now to) proto payload)) t refl ((here, refl), asked) p
+      by (Away careof) None here = every-asks_part c P more (parts.Send to proto payload) asked t p
+      by Detached row here = every-asks_part c P more (parts.Send to proto payload) asked t p
+      by AtHome row here = every-asks_part c P more (parts.Send to proto payload) asked t p
 
   every-solicits : (t : Turn) → P t → P (solicits t)
   unfolding solicits
@@ -61,7 +62,7 @@ module _ (c : Call) (P : Turn → Type 0) (more : Goes c P) where
       first = asks_part (parts.Part number packet) t
 
       q : P first
-      q = every-asks_part c P more (parts.Part number packet) t p
+      q = every-asks_part c P more (parts.Part number packet) tt t p
 
       by : (met : Bool) → P (then_meets met packet first)
       by true = every-meets c P more (source_of packet.head) first q
@@ -90,8 +91,8 @@ module _ (c : Call) (P : Turn → Type 0) (more : Goes c P) (acks : Acks c P) (m
           (λ number tunnelled packet message mine. every-for_part c P more number tunnelled packet message t p)
           number shield packet
       by calls.Tick is = every-ticks_all c P more t p
-      by (calls.Send to proto payload) is = every-transmits c P more to proto payload t p
-      by (calls.Refresh home) is = every-asks_part c P more (parts.Refresh home) t p
+      by (calls.Send to proto payload) is = every-transmits c P more to proto payload is t p
+      by (calls.Refresh home) is = every-asks_part c P more (parts.Refresh home) tt t p
       by calls.Ask is = every-solicits c P more t p
       by (calls.Restart secrets) is = every-restarts c P more moves secrets t p
       by (calls.Tunnel inner) is = every-goes_out c P more (Given inner) t is p

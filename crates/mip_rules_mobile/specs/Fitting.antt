@@ -4,6 +4,7 @@
 use Rattle.std.specs.Prelude.{◌≡◌, ℕ, ◌<◌, List, [], ◌∷◌, Option, Some, None, true, Ok}
 use Rattle.mip_words.specs.declared.address.Address.{Address}
 use Rattle.mip_rules_correspondent.specs.declared.identity.Identity.{Identity}
+use Rattle.mip_rules_correspondent.specs.Calls as part_calls
 use Rattle.mip_rules_correspondent.specs.Sendings as parts
 use Rattle.mip_rules_correspondent.specs.Wholes.{is_own}
 use Rattle.mip_rules_mobile.specs.declared.standing.Standing.{Standing}
@@ -19,13 +20,21 @@ use Rattle.mip_rules_mobile.specs.RowQuestions.{peer_of_row, trial_of}
 use Rattle.mip_rules_mobile.specs.Questions.{after}
 use Rattle.mip_rules_mobile.specs.TrialRules.{source_for}
 
--- a packet that a correspondent sends at a moment
-abbrev pub IsOfPart : Identity → ℕ → List ℕ → Type 0
-IsOfPart me now packet = (x : parts.Sending) × parts.IsPacketOf me now x packet
+-- what the correspondent part is asked is what the mobile was asked, where it is asked to send data
+abbrev pub IsAsked : Call → part_calls.Call → Type 0
+IsAsked c (part_calls.Send to proto payload) = c ≡ calls.Send to proto payload
+IsAsked c _ = Unit {0}
+
+-- a packet that a correspondent sends in a call at a moment
+pub record IsOfPart (c : Call) (me : Identity) (now : ℕ) (packet : List ℕ) : Type 0 where
+  pub call : part_calls.Call
+  pub asked : IsAsked c call
+  pub sending : parts.Sending
+  pub is : parts.IsPacketOf me call now sending packet
 
 -- a packet from the home address: of the correspondent part, a Home Test Init, or the one that this call gave
 abbrev pub IsInner : Call → Identity → ℕ → Inner → Type 0
-IsInner c me now (OfPart packet) = IsOfPart me now packet
+IsInner c me now (OfPart packet) = IsOfPart c me now packet
 IsInner c me now (AsksHome peer cookie) = Unit {0}
 IsInner c me now (Given packet) = c ≡ calls.Tunnel packet
 
@@ -40,7 +49,7 @@ IsSentBy c now k (ByTunnel home careof agent inner) = IsAt k (Away careof) home 
 IsSentBy c now k (AsksCareof careof peer cookie) = k.standing ≡ Away careof
 IsSentBy c now k (RegistersHome home careof agent sequence) = IsAt k (Away careof) home
 IsSentBy c now k (DeregistersHome home agent sequence) = IsAt k AtHome home
-IsSentBy c now k (SendsData home careof to held proto payload) = IsAt k (Away careof) home
+IsSentBy c now k (SendsData home careof to held proto payload) = IsAt k (Away careof) home × (c ≡ calls.Send to proto payload)
 IsSentBy c now k (Discovers home careof identifier) = IsAt k (Away careof) home
 IsSentBy c now k (Solicits home careof agent identifier) = IsAt k (Away careof) home
 

@@ -4,10 +4,12 @@ use Rattle.std.specs.Option.{option_map_or}
 use Rattle.mip_words.specs.declared.address.Address.{Address}
 use Rattle.mip_words.specs.declared.shield.Shield.{Shield}
 use Rattle.mip_discovery.specs.Retries.{DiscoverySeen, retried}
+use Rattle.mip_updates.specs.Statuses.{accepts_it, sequence_out_of_window}
 use Rattle.mip_rules_mobile.specs.declared.standing.Standing.{Standing}
 use Rattle.mip_rules_mobile.specs.declared.standing.Standing.TheVariants.{Detached, AtHome, Away}
 use Rattle.mip_rules_mobile.specs.declared.home_update.HomeUpdate.{HomeUpdate}
-use Rattle.mip_rules_mobile.specs.Timing.{first_home_wait, first_wait, doubled, unit, refresh_unit, first_discovery_wait}
+use Rattle.mip_constants.specs.Constants.{initial_bindack_timeout_first_reg, initial_bindack_timeout, lifetime_unit, initial_dhaad_timeout}
+use Rattle.mip_rules_mobile.specs.Timing.{doubled, refresh_unit}
 use Rattle.mip_rules_mobile.specs.Trials.{is_idle}
 use Rattle.mip_rules_mobile.specs.Sendings.{RegistersHome, DeregistersHome, Discovers}
 use Rattle.mip_rules_mobile.specs.Steps.{Sends, Registers, Unregisters, IsRefused, Resequences, Seeks, SeeksAgain, GivesUp, Chooses, Waits, Stops}
@@ -22,13 +24,13 @@ use Rattle.mip_rules_mobile.specs.TrialRules.{each_row, starts}
 -- a discovery begins: a request goes to all agents of the home link
 unfoldable pub seeks : Address → Turn → Turn
 seeks careof t =
-    noted (Waits seeking first_discovery_wait) (noted (Sends (Discovers (home_of t.known) careof t.known.discoveries)) (noted Seeks t))
+    noted (Waits seeking initial_dhaad_timeout) (noted (Sends (Discovers (home_of t.known) careof t.known.discoveries)) (noted Seeks t))
 
 -- the request again, or the end of the discovery after the last time
 abbrev pub seeks_again_from : Address → Option DiscoverySeen → ℕ → Turn → Turn
 seeks_again_from careof None identifier t = noted GivesUp t
 seeks_again_from careof (Some d) identifier t =
-    noted (Waits seeking (first_discovery_wait * 2 ^ d.retries)) (noted (Sends (Discovers (home_of t.known) careof identifier)) (noted SeeksAgain t))
+    noted (Waits seeking (initial_dhaad_timeout * 2 ^ d.retries)) (noted (Sends (Discovers (home_of t.known) careof identifier)) (noted SeeksAgain t))
 
 abbrev pub seeks_again_at : Standing → Option DiscoverySeen → Turn → Turn
 seeks_again_at (Away careof) (Some d) t = seeks_again_from careof (retried t.now d) d.identifier t
@@ -51,8 +53,8 @@ deregisters_with agent wait t =
 
 -- the first registration of a life waits longer
 abbrev pub wait_behind : Option HomeUpdate → ℕ
-wait_behind None = first_home_wait
-wait_behind (Some u) = first_wait
+wait_behind None = initial_bindack_timeout_first_reg
+wait_behind (Some u) = initial_bindack_timeout
 
 abbrev pub registers_at : Address → Option Address → Turn → Turn
 registers_at careof None t = seeks careof t
@@ -64,7 +66,7 @@ registers careof t = registers_at careof (target_of t.known) t
 
 abbrev pub deregisters_at : Option Address → Turn → Turn
 deregisters_at None t = t
-deregisters_at (Some agent) t = deregisters_with agent first_wait t
+deregisters_at (Some agent) t = deregisters_with agent initial_bindack_timeout t
 
 -- the last registration or deregistration again, with a new sequence
 abbrev pub resends_as : Standing → Option HomeUpdate → ℕ → Turn → Turn
@@ -87,7 +89,7 @@ is_answered_at (Away careof) u = true
 -- sequence or status 135
 abbrev pub is_answer_to : Standing → (tunnelled : Bool) → Option Shield → (source : Address) (status sequence : ℕ) → HomeUpdate → Bool
 is_answer_to standing tunnelled shield source status sequence u =
-    not tunnelled && (is_some shield && ((source.0 == u.agent.0) && (((sequence == u.sequence) || (status == 135)) && is_answered_at standing u)))
+    not tunnelled && (is_some shield && ((source.0 == u.agent.0) && (((sequence == u.sequence) || (status == sequence_out_of_window)) && is_answered_at standing u)))
 
 abbrev pub if_answered : Bool → HomeUpdate → Option HomeUpdate
 if_answered answered u = if answered then Some u else None
@@ -112,7 +114,7 @@ starts_bound row t =
 unfoldable pub is_registered : HomeUpdate → ℕ → Turn → Turn
 is_registered u lifetime t =
     each_row starts_bound
-    (noted (Registers u.agent (later u.at.0 (unit * lifetime)) (later u.at.0 (refresh_unit * lifetime))) (noted (Stops resending_home) t))
+    (noted (Registers u.agent (later u.at.0 (lifetime_unit * lifetime)) (later u.at.0 (refresh_unit * lifetime))) (noted (Stops resending_home) t))
 
 -- once deregistered, each touched row starts a trial to delete its binding
 abbrev pub starts_deletion : ℕ → Turn → Turn
@@ -123,7 +125,7 @@ is_unregistered u t = each_row starts_deletion (noted (Unregisters u.agent) (not
 
 -- refused: the next agent that was found is tried; without one, nothing more is sent
 abbrev pub turns_to : Standing → Option Address → Turn → Turn
-turns_to (Away careof) (Some agent) t = registers_with careof agent first_wait (noted (Chooses agent) t)
+turns_to (Away careof) (Some agent) t = registers_with careof agent initial_bindack_timeout (noted (Chooses agent) t)
 turns_to standing agent t = noted (Stops renewing_home) (noted (Stops resending_home) t)
 
 unfoldable pub is_refused : ℕ → Turn → Turn
@@ -131,7 +133,7 @@ is_refused status t = turns_to t.known.standing (next_found t.known) (noted (IsR
 
 -- status 135: the next sequence comes after the one received, and the sending follows at once
 unfoldable pub is_behind : HomeUpdate → ℕ → Turn → Turn
-is_behind u sequence t = resends_home first_wait (noted (Resequences u.agent sequence) t)
+is_behind u sequence t = resends_home initial_bindack_timeout (noted (Resequences u.agent sequence) t)
 
 abbrev pub is_accepted : HomeUpdate → (status lifetime : ℕ) → Turn → Turn
 is_accepted u status lifetime t =
@@ -142,6 +144,6 @@ is_accepted u status lifetime t =
 -- what an agent answers
 unfoldable pub takes_home_ack : HomeUpdate → (status sequence lifetime : ℕ) → Turn → Turn
 takes_home_ack u status sequence lifetime t =
-    if nat_lt status 128 then is_accepted u status lifetime t
-    else if status == 135 then is_behind u sequence t
+    if accepts_it status then is_accepted u status lifetime t
+    else if status == sequence_out_of_window then is_behind u sequence t
     else is_refused status t

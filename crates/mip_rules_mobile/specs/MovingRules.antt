@@ -8,7 +8,7 @@ use Rattle.mip_outside.specs.declared.claim.Claim.TheVariants.{Held, Waiting, Ta
 use Rattle.mip_outside.specs.Places.{is_held}
 use Rattle.mip_rules_mobile.specs.declared.standing.Standing.{Standing}
 use Rattle.mip_rules_mobile.specs.declared.standing.Standing.TheVariants.{Detached, AtHome, Away}
-use Rattle.mip_rules_mobile.specs.Timing.{first_wait}
+use Rattle.mip_constants.specs.Constants.{initial_bindack_timeout}
 use Rattle.mip_rules_mobile.specs.Steps.{Claims, Releases, FindsTaken, Arrives, Detaches, Restarts, Unbinds}
 use Rattle.mip_rules_mobile.specs.Known.{Known}
 use Rattle.mip_rules_mobile.specs.HomeQuestions.{home_of, agent_of}

@@ -14,9 +14,11 @@ use Rattle.mip_bulist.specs.declared.tested.Test.{Test}
 use Rattle.mip_bulist.specs.declared.trial.Trial.{Trial}
 use Rattle.mip_bulist.specs.declared.work.Work.TheVariants.{Resend}
 use Rattle.mip_bulist.specs.Rows.{given_row}
+use Rattle.mip_updates.specs.Statuses.{accepts_it, sequence_out_of_window, expired_home_nonce, expired_nonces}
 use Rattle.mip_rules_mobile.specs.declared.standing.Standing.{Standing}
 use Rattle.mip_rules_mobile.specs.declared.standing.Standing.TheVariants.{Detached, AtHome, Away}
-use Rattle.mip_rules_mobile.specs.Timing.{first_wait, unit, refresh_unit}
+use Rattle.mip_constants.specs.Constants.{initial_bindack_timeout, lifetime_unit}
+use Rattle.mip_rules_mobile.specs.Timing.{refresh_unit}
 use Rattle.mip_rules_mobile.specs.Trials.{HomeTest, CareofTest, Resequence, Acknowledge, Rest, keeps_home_test, keeps_careof_test, last_made, binds_to, sent_at, is_idle}
 use Rattle.mip_rules_mobile.specs.Steps.{Drops, Meets, Tries, Forgets, Binds, Unbinds, Stops}
 use Rattle.mip_rules_mobile.specs.Known.{Known}
@@ -60,11 +62,11 @@ careof_row k peer c test (Some row) = if keeps_careof_test peer c test (trial_of
 
 abbrev pub keeps_home : ℕ → Address → Cookie → Test → Option ℕ → Turn → Turn
 keeps_home number peer c test None t = noted (Drops number whys.Cookie) t
-keeps_home number peer c test (Some row) t = updates row first_wait (noted (Tries row (HomeTest peer c test)) t)
+keeps_home number peer c test (Some row) t = updates row initial_bindack_timeout (noted (Tries row (HomeTest peer c test)) t)
 
 abbrev pub keeps_careof : ℕ → Address → Cookie → Test → Option ℕ → Turn → Turn
 keeps_careof number peer c test None t = noted (Drops number whys.Cookie) t
-keeps_careof number peer c test (Some row) t = updates row first_wait (noted (Tries row (CareofTest peer c test)) t)
+keeps_careof number peer c test (Some row) t = updates row initial_bindack_timeout (noted (Tries row (CareofTest peer c test)) t)
 
 -- a Home Test is kept by the trial that asked for it; with all that its aim needs, an update is made
 unfoldable pub takes_home_test : ℕ → Bool → Address → (index cookie : ℕ) → List ℕ → Turn → Turn
@@ -80,6 +82,10 @@ takes_careof_test number tunnelled peer index c token t =
     then keeps_careof number peer (cookie c) (test_at t.now index token) (careof_row t.known peer (cookie c) (test_at t.now index token) (row_of t.known peer)) t
     else noted (Drops number whys.Cookie) t
 
+-- expired nonce indices
+abbrev pub tells_of_nonces : ℕ → Bool
+tells_of_nonces status = nat_le expired_home_nonce status && nat_le status expired_nonces
+
 -- the authenticator is that of the last update: between the address that it binds, where it deletes the home address, and
 -- the peer
 abbrev pub is_genuine : Address → Trial pending.Pending → List ℕ → Bool
@@ -87,19 +93,19 @@ is_genuine home u message = is_authentic (last_made u).kbm.0 (unwrap_or (binds_t
 
 -- it is authentic, or tells of expired nonces without an authenticator
 abbrev pub is_trusted : Address → Trial pending.Pending → (status : ℕ) → Option (List ℕ) → List ℕ → Bool
-is_trusted home u status None message = nat_le 136 status && nat_le status 138
+is_trusted home u status None message = tells_of_nonces status
 is_trusted home u status (Some authenticator) message = is_genuine home u message
 
 -- an acknowledgement of the last update: trusted, with its sequence or status 135
 abbrev pub acknowledges : Address → (status sequence : ℕ) → Option (List ℕ) → List ℕ → Trial pending.Pending → Bool
 acknowledges home status sequence authenticator message u =
-    is_trusted home u status authenticator message && ((sequence == (last_made u).sequence) || (status == 135))
+    is_trusted home u status authenticator message && ((sequence == (last_made u).sequence) || (status == sequence_out_of_window))
 
 -- the binding: its end is counted from the sending, and so is its renewal
 abbrev pub binds_from : Trial pending.Pending → ℕ → ℕ → Turn → Turn
 binds_from u row lifetime t =
     let sent = option_map_or (λ m. m.0) (sent_at u) t.now in
-    noted (Binds row u.peer (later sent (unit * lifetime)) (later sent (refresh_unit * lifetime))) t
+    noted (Binds row u.peer (later sent (lifetime_unit * lifetime)) (later sent (refresh_unit * lifetime))) t
 
 abbrev pub ends_for : Option Address → Trial pending.Pending → ℕ → ℕ → Turn → Turn
 ends_for None u row lifetime t = noted (Forgets row) t
@@ -118,9 +124,9 @@ rests row t = noted (Tries row Rest) (noted (Stops (Resend row)) t)
 -- anew
 unfoldable pub takes_peer_ack : ℕ → Trial pending.Pending → (status sequence lifetime : ℕ) → Turn → Turn
 takes_peer_ack row u status sequence lifetime t =
-    if nat_lt status 128 then is_granted row u sequence lifetime t
-    else if status == 135 then updates row first_wait (noted (Tries row (Resequence sequence)) t)
-    else if nat_le 136 status && nat_le status 138 then starts row t
+    if accepts_it status then is_granted row u sequence lifetime t
+    else if status == sequence_out_of_window then updates row initial_bindack_timeout (noted (Tries row (Resequence sequence)) t)
+    else if tells_of_nonces status then starts row t
     else rests row t
 
 abbrev pub acks_trial : ℕ → ℕ → Address → (status sequence lifetime : ℕ) → Option (List ℕ) → List ℕ → Option Any → Turn → Turn

@@ -1,6 +1,7 @@
 -- What a mobile does about a packet that it is handed. RFC 6275 sections 9.2, 9.3.1, 11.3.3 and 11.3.4
 use Rattle.std.specs.Prelude.{ℕ, ◌-◌, List, length, Bool, true, false, not, ◌&&◌, ◌==◌, if◌then◌else◌, Option, Some, None, is_some, is_none, Result, Ok, Err}
 use Rattle.std.specs.Option.{option_map_or}
+use Rattle.mip_constants.specs.Protocols.{ipv6, icmpv6, no_next_header, mobility_header}
 use Rattle.mip_words.specs.declared.address.Address.{Address}
 use Rattle.mip_words.specs.declared.shield.Shield.{Shield}
 use Rattle.mip_words.specs.declared.why.Why.{Why}
@@ -56,8 +57,8 @@ takes_for_part number tunnelled p message t =
 -- what is no packet for anybody: ICMPv6 that is not understood, nothing, a tunnel in a tunnel
 abbrev pub by_proto : ℕ → Option Shield → Packet → Turn → Turn
 by_proto number shield p t =
-    if p.head.proto == 58 then takes_icmp number shield p t
-    else if p.head.proto == 59 then noted (Drops number whys.NoNext) t
+    if p.head.proto == icmpv6 then takes_icmp number shield p t
+    else if p.head.proto == no_next_header then noted (Drops number whys.NoNext) t
     else noted (Drops number whys.Role) t
 
 abbrev pub by_message : ℕ → Bool → Option Shield → Packet → Option Said → Turn → Turn
@@ -94,10 +95,10 @@ inner_standing k now head = record { is_mine = true; takes_route = true; holds =
 -- is checked as any packet is
 unfoldable pub takes_inner : ℕ → Option Shield → List ℕ → Packet → Turn → Turn
 takes_inner number shield bytes p t =
-    if p.head.proto == 41 then noted (Drops number whys.Nested) t
+    if p.head.proto == ipv6 then noted (Drops number whys.Nested) t
     else if not (p.head.destination.0 == (home_of t.known).0) then noted (Drops number whys.Address) t
     else if is_some p.head.route then noted (Drops number whys.Route) t
-    else if (p.head.proto == 135) && is_none shield then noted (Drops number whys.Unshielded) t
+    else if (p.head.proto == mobility_header) && is_none shield then noted (Drops number whys.Unshielded) t
     else after_inner_checks number shield bytes p (checked (inner_standing t.known t.now p.head) (place_in bytes p) p) t
 
 -- a tunnel packet: it comes from the agent
@@ -117,7 +118,7 @@ opens number shield p t = opens_from (agent_of t.known t.now) number shield p t
 abbrev pub after_checks : ℕ → Option Shield → List ℕ → Packet → Result (Option Said) Refusal → Turn → Turn
 after_checks number shield bytes p (Err refusal) t = refuses number bytes p.head.source refusal t
 after_checks number shield bytes p (Ok message) t =
-    if p.head.proto == 41 then opens number shield p t else by_role number false shield p message t
+    if p.head.proto == ipv6 then opens number shield p t else by_role number false shield p message t
 
 -- its address: the home address at home, the care-of address away
 abbrev pub is_address_of : Standing → Address → Address → Bool

@@ -13,7 +13,8 @@ use Rattle.mip_bulist.specs.declared.trial.Trial.{Trial}
 use Rattle.mip_bulist.specs.declared.work.Work.TheVariants.{Resend}
 use Rattle.mip_rules_mobile.specs.declared.standing.Standing.{Standing}
 use Rattle.mip_rules_mobile.specs.declared.standing.Standing.TheVariants.{Detached, AtHome, Away}
-use Rattle.mip_rules_mobile.specs.Timing.{first_wait, longest_wait, doubled}
+use Rattle.mip_constants.specs.Constants.{initial_bindack_timeout, max_bindack_timeout}
+use Rattle.mip_rules_mobile.specs.Timing.{doubled}
 use Rattle.mip_rules_mobile.specs.Trials.{Start, Make, Rest, makes, lacks_home, lacks_careof}
 use Rattle.mip_rules_mobile.specs.Sendings.{AsksHome, AsksCareof}
 use Rattle.mip_rules_mobile.specs.Steps.{Sends, Tries, Updates, Waits}
@@ -40,11 +41,11 @@ abbrev pub starts_with : Standing → ℕ → Address → Turn → Turn
 starts_with Detached row peer t = t
 starts_with AtHome row peer t =
     let home = first_cookie t.known in
-    waits row first_wait (goes_out (AsksHome peer home.0) (noted (Tries row (Start Delete home home)) t))
+    waits row initial_bindack_timeout (goes_out (AsksHome peer home.0) (noted (Tries row (Start Delete home home)) t))
 starts_with (Away careof) row peer t =
     let home = first_cookie t.known in
     let other = second_cookie t.known in
-    waits row first_wait
+    waits row initial_bindack_timeout
     (noted (Sends (AsksCareof careof peer other.0)) (goes_out (AsksHome peer home.0) (noted (Tries row (Start (Bind careof) home other)) t)))
 
 abbrev pub starts_at : Option Address → ℕ → Turn → Turn
@@ -107,7 +108,7 @@ goes_on None row peer wait t = t
 abbrev pub resends_at : Option Address → ℕ → ℕ → Turn → Turn
 resends_at None row wait t = t
 resends_at (Some peer) row wait t =
-    if wait == longest_wait then noted (Tries row Rest) t
+    if wait == max_bindack_timeout then noted (Tries row Rest) t
     else goes_on (trial_of t.known row) row peer (doubled wait) t
 
 -- a time of resending: what waits for an answer is sent again, and after the longest time the trial is given up
