@@ -12,3 +12,7 @@ pub mod Fits
 pub mod Calls
 pub mod Told
 pub mod Timers
+pub mod Answers
+pub mod Wholes
+pub mod Sources
+pub mod Says

@@ -21,3 +21,4 @@ pub mod RingingRules
 pub mod Doing
 pub mod Told
 pub mod Fitting
+pub mod Answering

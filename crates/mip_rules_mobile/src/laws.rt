@@ -16,6 +16,7 @@ ghost use Rattle.mip_rules_mobile.specs.Questions.{known};
 ghost use Rattle.mip_rules_mobile.specs.Turns.{Stands, with_turn};
 ghost use Rattle.mip_rules_mobile.specs.Told.{last_told, next_in};
 ghost use Rattle.mip_rules_mobile.specs.Fitting.{EachFits};
+ghost use Rattle.mip_rules_mobile.specs.Answering.{EachAnswer, CanBeAsked, IsWhole, LeavesRight, IsElsewhere, SaysRight};
 ghost use Rattle.mip_rules_mobile.specs.Doing.{turn_of};
 
 /// Whoever stands for a past knows what it leaves known.
@@ -64,4 +65,23 @@ pub fn timers_are_in_order()
 /// A tick leaves nothing that is due at its moment.
 pub fn a_tick_leaves_nothing_due()
     ensures { (k : Known) (now : ℕ) → AreInOrder k.list.timers → AreDueFrom (now + 1) (turn_of k now Tick).known.list.timers }
+{}
+
+/// Whatever a call gives out is whole: a packet has its fixed header, and an entry is of a kind that a mobile leaves. What it is
+/// asked to send has a fixed header too.
+pub fn answers_are_whole()
+    ensures { (k : Known) (now : ℕ) (c : Call) → CanBeAsked c → EachAnswer IsWhole now k (turn_of k now c).steps }
+{}
+
+/// Away, the care-of address is another one than the home address, after every past; a packet that is handed to the wire then
+/// leaves from the care-of address, and detached none is.
+pub fn packets_leave_from_where_it_stands()
+    ensures elsewhere { (home : Address) (declared : Option Address) (secrets : Life) (past : List (Stamped Step)) → IsElsewhere (known home declared secrets past) }
+    ensures leaves { (k : Known) (now : ℕ) (c : Call) → IsElsewhere k → EachAnswer LeavesRight now k (turn_of k now c).steps }
+{}
+
+/// Whatever a mobile sends is a test of its own correspondent part, or says no test, or says what the packet said that it was
+/// asked to send: it passes on no other test.
+pub fn each_test_is_its_own()
+    ensures { (k : Known) (now : ℕ) (c : Call) → CanBeAsked c → EachAnswer (SaysRight c now) now k (turn_of k now c).steps }
 {}
