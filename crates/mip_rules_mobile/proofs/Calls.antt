@@ -10,7 +10,7 @@ use Rattle.mip_entries.specs.Stamped.{Stamped}
 use Rattle.mip_turns.specs.Turns.{StandsBy}
 use Rattle.mip_turns.proofs.TurnLaws.{noted-now, noted-known, stands-noted, stands-begun}
 use Rattle.mip_rules_mobile.specs.Calls.{Call}
-use Rattle.mip_rules_mobile.specs.Steps.{Step, Called, Drops, is_call}
+use Rattle.mip_rules_mobile.specs.Steps.{Step, Called, Notes, Drops, is_call}
 use Rattle.mip_rules_mobile.specs.Known.{Known}
 use Rattle.mip_rules_mobile.specs.Questions.{last_after, after, fresh, known}
 use Rattle.mip_rules_mobile.specs.Turns.{Turn, begun, noted, Stands, with_turn}
@@ -28,6 +28,7 @@ call-stands home declared secrets past k now c stands =
     let first = fresh home declared secrets in
     every-call c (λ (t : Turn). Stands home declared secrets (with_turn past t) t.known)
     (λ step t steady fits s. stands-noted after first past step t s)
+    (λ entry t own s. stands-noted after first past (Notes entry) t s)
     (λ step t ack fits s. stands-noted after first past step t s)
     (λ step t move fits s. stands-noted after first past step t s)
     (λ number why t s. stands-noted after first past (Drops number why) t s)
@@ -55,6 +56,7 @@ call-last k now c =
     let first = noted (Called c) (begun now k) in
     let is = every-handles c (IsAt now)
     (λ step t steady fits is. at-noted now step t is)
+    (λ entry t own is. at-noted now (Notes entry) t is)
     (λ step t ack fits is. at-noted now step t is)
     (λ step t move fits is. at-noted now step t is)
     (λ number why t is. at-noted now (Drops number why) t is)

@@ -1,5 +1,6 @@
 pub mod Steady
 pub mod PartAnswers
+pub mod Checks
 pub mod OutWalks
 pub mod TrialWalks
 pub mod HomeWalks

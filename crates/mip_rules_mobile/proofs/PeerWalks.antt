@@ -25,6 +25,7 @@ use Rattle.mip_rules_mobile.specs.RowQuestions.{row_of, trial_of, is_bound_row, 
 use Rattle.mip_rules_mobile.specs.Turns.{Turn, noted}
 use Rattle.mip_rules_mobile.specs.TrialRules.{starts, updates}
 use Rattle.mip_rules_mobile.specs.PeerRules.{tells_of_nonces, begins_at, meets, comes_right, test_at, cookie, home_row, careof_row, keeps_home, keeps_careof, takes_home_test, takes_careof_test, acknowledges, binds_from, ends_for, is_granted, rests, takes_peer_ack, acks_trial, acks_row, takes_ack_of, loses, takes_error, renews, takes_refresh}
+use Rattle.mip_rules_mobile.specs.Fitting.{IsHanded}
 use Rattle.mip_rules_mobile.proofs.Steady.{Goes}
 use Rattle.mip_rules_mobile.proofs.TrialWalks.{every-starts, every-updates}
 use Rattle.mip_rules_mobile.proofs.HomeWalks.{Acks}
@@ -82,9 +83,9 @@ module _ (c : Call) (P : Turn → Type 0) (more : Goes c P) where
         by false false false = every-rests row t p
 
     module _ (Q : Turn → Type 0) (done : (u : Turn) → P u → Q u) (t : Turn) (p : P t) (drops : (number : ℕ) (why : Why) → Q (noted (Drops number why) t)) where
-      pub every-home_test : (number : ℕ) (tunnelled : Bool) (peer : Address) (index c' : ℕ) (token : List ℕ) → Q (takes_home_test number tunnelled peer index c' token t)
+      pub every-home_test : (number : ℕ) (tunnelled : Bool) (peer : Address) (index c' : ℕ) (token : List ℕ) → IsHanded c t.now 0 (test_at t.now index token) → Q (takes_home_test number tunnelled peer index c' token t)
       unfolding takes_home_test
-      every-home_test number tunnelled peer index c' token = by (comes_right t.known.standing tunnelled) (home_row t.known peer (cookie c') test (row_of t.known peer))
+      every-home_test number tunnelled peer index c' token handed = by (comes_right t.known.standing tunnelled) (home_row t.known peer (cookie c') test (row_of t.known peer))
         where
           test : Test
           test = test_at t.now index token
@@ -93,12 +94,12 @@ module _ (c : Call) (P : Turn → Type 0) (more : Goes c P) where
           by true None = drops number whys.Cookie
           by true (Some row) =
               let step : Step = Tries row (HomeTest peer (cookie c') test) in
-              done (updates row initial_bindack_timeout (noted step t)) (every-updates c P more row initial_bindack_timeout (noted step t) (omega arith) (more step t refl tt p))
+              done (updates row initial_bindack_timeout (noted step t)) (every-updates c P more row initial_bindack_timeout (noted step t) (omega arith) (more step t refl handed p))
           by false row = drops number whys.Cookie
 
-      pub every-careof_test : (number : ℕ) (tunnelled : Bool) (peer : Address) (index c' : ℕ) (token : List ℕ) → Q (takes_careof_test number tunnelled peer index c' token t)
+      pub every-careof_test : (number : ℕ) (tunnelled : Bool) (peer : Address) (index c' : ℕ) (token : List ℕ) → IsHanded c t.now 1 (test_at t.now index token) → Q (takes_careof_test number tunnelled peer index c' token t)
       unfolding takes_careof_test
-      every-careof_test number tunnelled peer index c' token = by (comes_right t.known.standing (not tunnelled)) (careof_row t.known peer (cookie c') test (row_of t.known peer))
+      every-careof_test number tunnelled peer index c' token handed = by (comes_right t.known.standing (not tunnelled)) (careof_row t.known peer (cookie c') test (row_of t.known peer))
         where
           test : Test
           test = test_at t.now index token
@@ -107,7 +108,7 @@ module _ (c : Call) (P : Turn → Type 0) (more : Goes c P) where
           by true None = drops number whys.Cookie
           by true (Some row) =
               let step : Step = Tries row (CareofTest peer (cookie c') test) in
-              done (updates row initial_bindack_timeout (noted step t)) (every-updates c P more row initial_bindack_timeout (noted step t) (omega arith) (more step t refl tt p))
+              done (updates row initial_bindack_timeout (noted step t)) (every-updates c P more row initial_bindack_timeout (noted step t) (omega arith) (more step t refl handed p))
           by false row = drops number whys.Cookie
 
       pub every-ack_of : (number : ℕ) (peer : Address) (status sequence lifetime : ℕ) (authenticator : Option (List ℕ)) (message : List ℕ) → Q (takes_ack_of number peer status sequence lifetime authenticator message t)

@@ -1,6 +1,8 @@
 -- What stays the same along the steps that are steady: where the mobile stands, what its correspondent part is, and the
 -- moment of the turn.
-use Rattle.std.proofs.Common.{◌≡◌, ℕ, List, refl, ap, ◌∙◌, sym}
+use Rattle.std.proofs.Common.{◌≡◌, ℕ, true, List, refl, ap, ◌∙◌, sym}
+use Rattle.mip_entries.specs.declared.entry.Entry.{Entry}
+use Rattle.mip_rules_correspondent.specs.Wholes.{is_own}
 use Rattle.mip_turns.proofs.TurnLaws.{noted-now, noted-known}
 use Rattle.mip_words.specs.declared.address.Address.{Address}
 use Rattle.mip_rules_correspondent.specs.declared.identity.Identity.{Identity}
@@ -11,7 +13,7 @@ use Rattle.mip_rules_mobile.specs.Known.{Known}
 use Rattle.mip_rules_mobile.specs.HomeQuestions.{standing_after, home_of}
 use Rattle.mip_rules_mobile.specs.Questions.{after, part_after}
 use Rattle.mip_rules_mobile.specs.Turns.{Turn, noted}
-use Rattle.mip_rules_mobile.specs.Fitting.{IsAt, Fits, Kind, OfCall, OfMove, OfAck, OfDrop, Steady, kind_of}
+use Rattle.mip_rules_mobile.specs.Fitting.{IsAt, Fits, Kind, OfCall, OfMove, OfAck, OfDrop, OfNote, Steady, kind_of}
 
 -- every steady step may be taken that fits
 abbrev pub Goes : Call → (Turn → Type 0) → Type 0
@@ -34,7 +36,7 @@ pub record Stays (s : Standing) (me : Identity) (now : ℕ) (t : Turn) : Type 0 
 steady-standing : (step : Step) (k : Known) → kind_of step ≡ Steady → standing_after k step ≡ k.standing
 steady-standing (Called call) k is = absurd cc
 steady-standing (Parts call) k is = refl
-steady-standing (Notes entry) k is = refl
+steady-standing (Notes entry) k is = absurd cc
 steady-standing (Sends sending) k is = refl
 steady-standing (Unsends why) k is = refl
 steady-standing (Drops number why) k is = refl
@@ -67,7 +69,7 @@ steady-standing (Rings work) k is = refl
 steady-identity : (step : Step) (k : Known) (at : ℕ) → kind_of step ≡ Steady → (part_after k.part at step).identity ≡ k.part.identity
 steady-identity (Called call) k at is = absurd cc
 steady-identity (Parts call) k at is = refl
-steady-identity (Notes entry) k at is = refl
+steady-identity (Notes entry) k at is = absurd cc
 steady-identity (Sends sending) k at is = refl
 steady-identity (Unsends why) k at is = refl
 steady-identity (Drops number why) k at is = refl
@@ -103,6 +105,17 @@ stays-noted s me now step t is stays = record {
   identity = identity-noted step t ∙ steady-identity step t.known t.now is ∙ stays.identity;
   moment = noted-now after step t ∙ stays.moment;
 }
+
+pub stays-told : (s : Standing) (me : Identity) (now : ℕ) (entry : Entry) (t : Turn) → Stays s me now t → Stays s me now (noted (Notes entry) t)
+stays-told s me now entry t stays = record {
+  standing = standing-noted (Notes entry) t ∙ stays.standing;
+  identity = identity-noted (Notes entry) t ∙ stays.identity;
+  moment = noted-now after (Notes entry) t ∙ stays.moment;
+}
+
+-- an entry of the correspondent part may be left
+abbrev pub Notings : (Turn → Type 0) → Type 0
+Notings P = (entry : Entry) (t : Turn) → is_own entry ≡ true → P t → P (noted (Notes entry) t)
 
 -- so a walk over steady steps stays
 pub staying : (c : Call) (s : Standing) (me : Identity) (now : ℕ) → Goes c (Stays s me now)

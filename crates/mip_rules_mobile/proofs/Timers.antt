@@ -23,7 +23,7 @@ use Rattle.mip_rules_mobile.specs.Questions.{after, fresh, known}
 use Rattle.mip_rules_mobile.specs.Turns.{Turn, begun, noted}
 use Rattle.mip_rules_mobile.specs.RingingRules.{rings, rings_on, ticks, ticks_all}
 use Rattle.mip_rules_mobile.specs.Doing.{does, turn_of}
-use Rattle.mip_rules_mobile.specs.Fitting.{Fits, Kind, OfCall, OfMove, OfAck, OfDrop, Steady, kind_of}
+use Rattle.mip_rules_mobile.specs.Fitting.{Fits, Kind, OfCall, OfMove, OfAck, OfDrop, OfNote, Steady, kind_of}
 use Rattle.mip_rules_mobile.proofs.Steady.{Goes}
 use Rattle.mip_rules_mobile.proofs.RingWalks.{every-work}
 
@@ -202,7 +202,7 @@ late-length now (t ∷ ts) =
 late-kept : (c : Call) (now : ℕ) (k : Known) (step : Step) (ts : List Timer) → kind_of step ≡ Steady → Fits c now k step → late now (timers_after ts now step) ≤ late now ts
 late-kept c now k (Called call) ts is fits = absurd cc
 late-kept c now k (Parts call) ts is fits = omega arith
-late-kept c now k (Notes entry) ts is fits = omega arith
+late-kept c now k (Notes entry) ts is fits = absurd cc
 late-kept c now k (Sends sending) ts is fits = omega arith
 late-kept c now k (Unsends why) ts is fits = omega arith
 late-kept c now k (Drops number why) ts is fits = absurd cc

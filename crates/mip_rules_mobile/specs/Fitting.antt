@@ -3,6 +3,9 @@
 -- RFC 6275 sections 11.3, 11.6 and 11.7
 use Rattle.std.specs.Prelude.{◌≡◌, ℕ, ◌<◌, List, [], ◌∷◌, Option, Some, None, true, Ok}
 use Rattle.mip_words.specs.declared.address.Address.{Address}
+use Rattle.mip_words.specs.declared.shield.Shield.{Shield}
+use Rattle.mip_says.specs.Says.{carried, Test as Told}
+use Rattle.mip_bulist.specs.declared.tested.Test.{Test}
 use Rattle.mip_rules_correspondent.specs.declared.identity.Identity.{Identity}
 use Rattle.mip_rules_correspondent.specs.Calls as part_calls
 use Rattle.mip_rules_correspondent.specs.Sendings as parts
@@ -11,7 +14,7 @@ use Rattle.mip_rules_mobile.specs.declared.standing.Standing.{Standing}
 use Rattle.mip_rules_mobile.specs.declared.standing.Standing.TheVariants.{Detached, AtHome, Away}
 use Rattle.mip_rules_mobile.specs.Calls as calls
 use Rattle.mip_rules_mobile.specs.Calls.{Call}
-use Rattle.mip_rules_mobile.specs.Trials.{makes}
+use Rattle.mip_rules_mobile.specs.Trials.{Change, HomeTest, CareofTest, makes}
 use Rattle.mip_rules_mobile.specs.Sendings.{Inner, OfPart, AsksHome, Given, Sending, FromHome, ByTunnel, AsksCareof, RegistersHome, DeregistersHome, SendsData, Discovers, Solicits, PeerUpdate}
 use Rattle.mip_rules_mobile.specs.Steps.{Step, Called, Parts, Notes, Sends, Unsends, Drops, Claims, Releases, FindsTaken, Arrives, Detaches, Restarts, Registers, Unregisters, IsRefused, Resequences, Seeks, SeeksAgain, GivesUp, Finds, Chooses, Learns, Meets, Tries, Updates, Forgets, Binds, Unbinds, Waits, Stops, Rings}
 use Rattle.mip_rules_mobile.specs.Known.{Known}
@@ -60,12 +63,29 @@ pub record IsUpdateOf (now : ℕ) (k : Known) (row : ℕ) (u : PeerUpdate) : Typ
   pub made : makes (record { 0 = now }) (trial_of k row) ≡ Some (Ok u.made)
   pub source : source_for k.standing (home_of k) u.made ≡ Some u.source
 
+-- a test that was kept: a packet that was handed over said it, at this moment
+pub record IsHanded (c : Call) (now kind : ℕ) (test : Test) : Type 0 where
+  pub number : ℕ
+  pub shield : Option Shield
+  pub packet : List ℕ
+  pub destination : Address
+  pub call : c ≡ calls.Take number shield packet
+  pub says : carried packet ≡ Told kind test.index test.token.0 destination
+  pub moment : test.at.0 ≡ now
+
+-- a trial is given a test that was handed over
+abbrev pub IsChangedBy : Call → ℕ → Change → Type 0
+IsChangedBy c now (HomeTest peer cookie test) = IsHanded c now 0 test
+IsChangedBy c now (CareofTest peer cookie test) = IsHanded c now 1 test
+IsChangedBy c now _ = Unit {0}
+
 -- a step is taken in a call, at a moment, where this is known
 abbrev pub Fits : Call → ℕ → Known → Step → Type 0
 Fits c now k (Called call) = c ≡ call
 Fits c now k (Notes entry) = is_own entry ≡ true
 Fits c now k (Sends sending) = IsSentBy c now k sending
 Fits c now k (Updates row update) = IsUpdateOf now k row update
+Fits c now k (Tries row change) = IsChangedBy c now change
 Fits c now k (Waits work wait) = 0 < wait
 Fits c now k _ = Unit {0}
 
@@ -74,18 +94,20 @@ abbrev pub EachFits : Call → ℕ → Known → List Step → Type 0
 EachFits c now k [] = Unit {0}
 EachFits c now k (step ∷ steps) = Fits c now k step × EachFits c now (after k (record { at = now; step = step })) steps
 
--- which steps change what others rest on: a call begins, the mobile moves or restarts, a binding is acknowledged, a packet
--- is dropped
+-- which steps change what others rest on, or tell of what did not change: a call begins, the mobile moves or restarts, a
+-- binding is acknowledged, a packet is dropped, the correspondent part leaves an entry
 pub data Kind : Type 0 where
   OfCall : Kind
   OfMove : Kind
   OfAck : Kind
   OfDrop : Kind
+  OfNote : Kind
   Steady : Kind
 
 abbrev pub kind_of : Step → Kind
 kind_of (Called call) = OfCall
 kind_of (Drops number why) = OfDrop
+kind_of (Notes entry) = OfNote
 kind_of (FindsTaken address holder) = OfMove
 kind_of (Arrives address) = OfMove
 kind_of Detaches = OfMove
