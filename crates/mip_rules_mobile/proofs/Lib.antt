@@ -17,3 +17,5 @@ pub mod Answers
 pub mod Wholes
 pub mod Sources
 pub mod Says
+pub mod Kept
+pub mod Refusals

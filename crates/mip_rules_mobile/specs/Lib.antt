@@ -20,5 +20,7 @@ pub mod ReceivingRules
 pub mod RingingRules
 pub mod Doing
 pub mod Told
+pub mod Kept
 pub mod Fitting
 pub mod Answering
+pub mod Refusing

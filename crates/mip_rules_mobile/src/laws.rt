@@ -1,13 +1,16 @@
 //! The laws by which a mobile stands for a past, and by which its steps, packets and timers are as they should be.
 
-ghost use Rattle.std.specs.Prelude.{◌≡◌, ℕ, ◌+◌, List, [], Option, Some, None, Bool, false, is_some, length, filter, if◌then◌else◌};
+ghost use Rattle.std.specs.Prelude.{◌≡◌, ℕ, ◌+◌, List, [], Option, Some, None, Bool, true, false, is_some, length, filter, if◌then◌else◌};
+ghost use Rattle.std.specs.List.{list_any};
 ghost use Rattle.mip_words.specs.declared.address.Address.{Address};
+ghost use Rattle.mip_words.specs.declared.shield.Shield.{Shield};
 ghost use Rattle.mip_nonce.specs.Secrets.{Life};
 ghost use Rattle.mip_lists.specs.Last.{since};
 ghost use Rattle.mip_bulist.specs.Timers.{AreDueFrom, AreInOrder};
 ghost use Rattle.mip_entries.specs.Stamped.{Stamped};
 ghost use Rattle.mip_rules_mobile.specs.declared.standing.Standing.TheVariants.{AtHome};
-ghost use Rattle.mip_rules_mobile.specs.Calls.{Call, Tick};
+ghost use Rattle.mip_rules_mobile.specs.Calls.{Call, Take, Tick};
+ghost use Rattle.mip_rules_mobile.specs.Sendings.{PeerUpdate};
 ghost use Rattle.mip_rules_mobile.specs.Steps.{Step, is_call};
 ghost use Rattle.mip_rules_mobile.specs.Known.{Known};
 ghost use Rattle.mip_rules_mobile.specs.HomeQuestions.{standing_said, registered_said, latest_said, agent_said, owes_said, next_said, next_to};
@@ -15,7 +18,9 @@ ghost use Rattle.mip_rules_mobile.specs.DiscoveryQuestions.{found_said, chosen_s
 ghost use Rattle.mip_rules_mobile.specs.Questions.{known};
 ghost use Rattle.mip_rules_mobile.specs.Turns.{Stands, with_turn};
 ghost use Rattle.mip_rules_mobile.specs.Told.{last_told, next_in};
-ghost use Rattle.mip_rules_mobile.specs.Fitting.{EachFits};
+ghost use Rattle.mip_rules_mobile.specs.Fitting.{IsUpdateOf, EachFits};
+ghost use Rattle.mip_rules_mobile.specs.Kept.{RowsGiven, IsMadeFrom};
+ghost use Rattle.mip_rules_mobile.specs.Refusing.{is_refusal, tables_of};
 ghost use Rattle.mip_rules_mobile.specs.Answering.{EachAnswer, CanBeAsked, IsWhole, LeavesRight, IsElsewhere, SaysRight};
 ghost use Rattle.mip_rules_mobile.specs.Doing.{turn_of};
 
@@ -84,4 +89,18 @@ pub fn packets_leave_from_where_it_stands()
 /// asked to send: it passes on no other test.
 pub fn each_test_is_its_own()
     ensures { (k : Known) (now : ℕ) (c : Call) → CanBeAsked c → EachAnswer (SaysRight c now) now k (turn_of k now c).steps }
+{}
+
+/// A packet that is dropped, and an update that is denied, change nothing but the moments of the last calls: no binding, no
+/// registration, no trial, no timer, no list.
+pub fn refused_changes_nothing()
+    ensures { (k : Known) (now number : ℕ) (shield : Option Shield) (packet : List ℕ) → list_any is_refusal (turn_of k now (Take number shield packet)).steps ≡ true
+        → tables_of (turn_of k now (Take number shield packet)).known ≡ tables_of k }
+{}
+
+/// The tests that a trial keeps were given to it since it started, after every past; and an update has the tokens of such
+/// tests. That a test which is given was handed over is part of `each_step_fits`.
+pub fn updates_are_of_tests_since_the_start()
+    ensures trials { (home : Address) (declared : Option Address) (secrets : Life) (past : List (Stamped Step)) → RowsGiven past (known home declared secrets past).list.rows }
+    ensures updates { (home : Address) (declared : Option Address) (secrets : Life) (past : List (Stamped Step)) (now row : ℕ) (u : PeerUpdate) → IsUpdateOf now (known home declared secrets past) row u → IsMadeFrom past row u.made }
 {}
