@@ -1,11 +1,10 @@
 -- Whoever stands for a past stands, after a call, for the past with it; and the last moment that a call leaves known is its
 -- own.
-use Rattle.std.proofs.Common.{◌≡◌, ℕ, List, [], ◌∷◌, refl, sym, ap, ◌∙◌}
-use Rattle.std.specs.Prelude.{Option, Some, None, unwrap_or, option_map, if◌then◌else◌, Bool, true, false}
+use Rattle.std.proofs.Common.{◌≡◌, ℕ, List, ap, ◌∙◌}
+use Rattle.std.specs.Prelude.{Option, if◌then◌else◌, Bool, true, false}
 use Rattle.mip_words.specs.declared.address.Address.{Address}
 use Rattle.mip_words.specs.declared.moment.Moment.{Moment}
 use Rattle.mip_nonce.specs.Secrets.{Life}
-use Rattle.mip_lists.specs.Last.{or_else, last_where}
 use Rattle.mip_entries.specs.Stamped.{Stamped}
 use Rattle.mip_turns.specs.Turns.{StandsBy}
 use Rattle.mip_turns.proofs.TurnLaws.{noted-now, noted-known, stands-noted, stands-begun}

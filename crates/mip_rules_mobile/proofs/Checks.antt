@@ -1,9 +1,9 @@
 -- What passes the checks is the message of the packet, and what comes out of a tunnel stands in it.
-use Rattle.std.proofs.Common.{◌≡◌, ℕ, List, Bool, true, false, refl, sym, ap, ◌∙◌}
+use Rattle.std.proofs.Common.{◌≡◌, ℕ, Bool, true, false}
 use Rattle.std.specs.Prelude.{Option, Some, None, Result, Ok, Err, not, ◌==◌, ◌||◌, ◌&&◌, if◌then◌else◌, is_some}
 use Rattle.std.specs.Result.{result_ok}
 use Rattle.std.proofs.lemmas.Bool.{cond_both, eqb-true}
-use Rattle.mip_constants.specs.Protocols.{ipv6, mobility_header}
+use Rattle.mip_constants.specs.Protocols.{mobility_header}
 use Rattle.mip_words.specs.declared.address.Address.{Address}
 use Rattle.mip_ipv6.specs.declared.not_packet.NotPacket.{NotPacket}
 use Rattle.mip_ipv6.specs.Packet.{Packet, source_of, destination_of}
@@ -11,7 +11,6 @@ use Rattle.mip_ipv6.specs.Reading.{packet_of}
 use Rattle.mip_mobhdr.specs.declared.fault.Fault.{Fault}
 use Rattle.mip_mobhdr.specs.Said.{Said}
 use Rattle.mip_mobhdr.specs.Reading.{message_of}
-use Rattle.mip_tunnel.specs.declared.exit_fault.ExitFault.{ExitFault}
 use Rattle.mip_tunnel.specs.Tunnel.{inner, opened}
 use Rattle.mip_says.specs.Says.{message_in}
 use Rattle.mip_reception.specs.declared.refusal.Refusal.{Refusal}

@@ -1,7 +1,7 @@
 -- What steady steps keep, sending a home registration or a request of agents keeps; and with the steps by which a binding is
 -- acknowledged, an agent's answer does.
-use Rattle.std.proofs.Common.{◌≡◌, ℕ, zero, suc, ◌+◌, ◌<◌, ◌≤◌, refl, sym, ap, subst, arith}
-use Rattle.std.specs.Prelude.{◌*◌, ◌^◌, Option, Some, None, Bool, true, false, ◌==◌, ◌&&◌, not, nat_lt, if◌then◌else◌}
+use Rattle.std.proofs.Common.{◌≡◌, ℕ, ◌<◌, refl, arith}
+use Rattle.std.specs.Prelude.{◌*◌, ◌^◌, Option, Some, None, Bool, true, false, ◌==◌, ◌&&◌, not, if◌then◌else◌}
 use Rattle.std.proofs.lemmas.Nat.{pow_pos}
 use Rattle.mip_words.specs.declared.address.Address.{Address}
 use Rattle.mip_discovery.specs.Retries.{DiscoverySeen, retried}
@@ -14,15 +14,14 @@ use Rattle.mip_rules_mobile.specs.Timing.{refresh_unit}
 use Rattle.mip_rules_mobile.specs.Calls.{Call}
 use Rattle.mip_rules_mobile.specs.Trials.{is_idle}
 use Rattle.mip_rules_mobile.specs.Sendings.{RegistersHome, DeregistersHome, Discovers}
-use Rattle.mip_rules_mobile.specs.Steps.{Step, Sends, Registers, Binds, Unregisters, IsRefused, Resequences, Seeks, SeeksAgain, GivesUp, Chooses, Waits, Stops}
+use Rattle.mip_rules_mobile.specs.Steps.{Step, Sends, Registers, Unregisters, IsRefused, Resequences, Seeks, SeeksAgain, GivesUp, Chooses, Waits, Stops}
 use Rattle.mip_rules_mobile.specs.HomeQuestions.{home_of, next_to, target_of}
 use Rattle.mip_rules_mobile.specs.DiscoveryQuestions.{next_found}
 use Rattle.mip_rules_mobile.specs.RowQuestions.{trial_of, is_bound_row, is_touched_row}
 use Rattle.mip_rules_mobile.specs.TimerQuestions.{resending_home, renewing_home, seeking, later}
 use Rattle.mip_rules_mobile.specs.Turns.{Turn, noted}
-use Rattle.mip_rules_mobile.specs.TrialRules.{each_row, starts}
 use Rattle.mip_rules_mobile.specs.HomeRules.{seeks, seeks_again_from, seeks_again_at, seeks_again, registers_with, deregisters_with, wait_behind, registers_at, registers, deregisters_at, resends_as, resends_home, starts_for, starts_bound, is_registered, starts_deletion, is_unregistered, turns_to, is_refused, is_behind, is_accepted, takes_home_ack}
-use Rattle.mip_rules_mobile.specs.Fitting.{Fits, OfAck, Steady, kind_of}
+use Rattle.mip_rules_mobile.specs.Fitting.{Fits, OfAck, kind_of}
 use Rattle.mip_rules_mobile.proofs.Steady.{Goes, at-noted}
 use Rattle.mip_rules_mobile.proofs.TrialWalks.{every-row, every-starts}
 

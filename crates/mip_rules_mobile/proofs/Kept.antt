@@ -1,44 +1,37 @@
 -- The tests that a trial keeps were given to it since it started.
-use Rattle.std.proofs.Common.{◌≡◌, ℕ, zero, suc, List, [], ◌∷◌, ◌++◌, length, Bool, true, false, ◌⊎◌, inl, inr, refl, sym, ap, ◌∙◌, subst}
-use Rattle.std.specs.Prelude.{Option, Some, None, IfSome, Result, Ok, Err, option_map, option_and_then, slice_get, slice_set, map, fold, ◌==◌, ◌&&◌, ◌||◌, not, nat_lt, if◌then◌else◌}
-use Rattle.std.specs.List.{list_any}
+use Rattle.std.proofs.Common.{◌≡◌, ℕ, zero, suc, List, [], ◌∷◌, ◌++◌, length, Bool, true, false, refl, sym, ap, ◌∙◌, subst}
+use Rattle.std.specs.Prelude.{Option, Some, None, IfSome, Ok, Err, option_map, slice_get, fold, ◌==◌, ◌||◌, not, nat_lt, if◌then◌else◌}
 use Rattle.std.proofs.lemmas.List.{append_assoc, append-nil}
 use Rattle.std.proofs.lemmas.List.Folds.{list_any-append}
 use Rattle.std.proofs.lemmas.Bool.{eqb-true, eqb-false}
 use Rattle.mip_words.specs.declared.address.Address.{Address}
 use Rattle.mip_words.specs.declared.moment.Moment.{Moment}
-use Rattle.mip_words.specs.declared.token.Cookie.{Cookie}
-use Rattle.mip_words.specs.declared.token.Token.{Token}
 use Rattle.mip_nonce.specs.Secrets.{Life}
 use Rattle.mip_bulist.specs.declared.aim.Aim.{Aim}
 use Rattle.mip_bulist.specs.declared.aim.Aim.TheVariants.{Bind, Delete}
 use Rattle.mip_bulist.specs.declared.any.Any.{Any}
 use Rattle.mip_bulist.specs.declared.any.Any.TheVariants.{Idle, Probing, Proved, Pending, Bound}
 use Rattle.mip_bulist.specs.declared.made.Made.{Made}
-use Rattle.mip_bulist.specs.declared.refused.Refused.{Refused}
 use Rattle.mip_bulist.specs.declared.refused.Refused.TheVariants as refused
 use Rattle.mip_bulist.specs.declared.row.Row.{Row}
 use Rattle.mip_bulist.specs.declared.state.Idle as idle
 use Rattle.mip_bulist.specs.declared.state.Probing as probing
-use Rattle.mip_bulist.specs.declared.state.Proved as proved
-use Rattle.mip_bulist.specs.declared.state.Pending as pending
 use Rattle.mip_bulist.specs.declared.tested.Test.{Test}
 use Rattle.mip_bulist.specs.declared.tested.Tested.{Tested}
 use Rattle.mip_bulist.specs.declared.tested.Tested.TheVariants.{Both, Home}
-use Rattle.mip_bulist.specs.declared.trial.Ended.{Ended}
 use Rattle.mip_bulist.specs.declared.trial.Ended.TheVariants as ends
 use Rattle.mip_bulist.specs.declared.trial.Trial.{Trial}
 use Rattle.mip_bulist.specs.Rows.{lifted, with_trial, set_trial, with_row, rows_given, row_place, new_row}
-use Rattle.mip_bulist.specs.Trials.{fresh_trial, needed, proved_where, weighed, with_home, with_careof, home_tested, careof_tested, is_deletion, has_old, is_too_soon, made_of, made_now, in_state, updated, made_again, making, acknowledged_as, ended_with}
+use Rattle.mip_bulist.specs.Trials.{fresh_trial, needed, proved_where, weighed, with_home, with_careof, is_deletion, has_old, is_too_soon, made_of, made_now, in_state, making, ended_with}
 use Rattle.mip_entries.specs.Stamped.{Stamped}
-use Rattle.mip_rules_mobile.specs.Trials.{Change, Start, HomeTest, CareofTest, Make, Resequence, Acknowledge, Rest, after_probe, with_home_test, with_careof_test, after_update, after_again, with_update, with_last, after_end, with_end, changed, changed_at, with_change, rested_row, all_rested, making_of, makes, resting}
+use Rattle.mip_rules_mobile.specs.Trials.{Change, Start, HomeTest, CareofTest, Make, Resequence, Acknowledge, Rest, after_probe, after_update, after_again, with_update, after_end, changed, changed_at, with_change, all_rested, making_of, makes, resting}
 use Rattle.mip_rules_mobile.specs.Steps.{Step, Called, Parts, Notes, Sends, Unsends, Drops, Claims, Releases, FindsTaken, Arrives, Detaches, Restarts, Registers, Unregisters, IsRefused, Resequences, Seeks, SeeksAgain, GivesUp, Finds, Chooses, Learns, Meets, Tries, Updates, Forgets, Binds, Unbinds, Waits, Stops, Rings}
 use Rattle.mip_rules_mobile.specs.Sendings.{PeerUpdate}
 use Rattle.mip_rules_mobile.specs.Known.{Known}
 use Rattle.mip_rules_mobile.specs.RowQuestions.{rows_after, trial_of}
 use Rattle.mip_rules_mobile.specs.Questions.{after, fresh, known}
 use Rattle.mip_rules_mobile.specs.Fitting.{IsUpdateOf}
-use Rattle.mip_rules_mobile.specs.Kept.{is_start, GivesHome, GivesCareof, WasGiven, HomeGiven, CareofGiven, TestedGiven, TrialGiven, RowsGiven, CareofFrom, IsMadeFrom}
+use Rattle.mip_rules_mobile.specs.Kept.{is_start, GivesHome, GivesCareof, WasGiven, HomeGiven, CareofGiven, TestedGiven, TrialGiven, RowsGiven, IsMadeFrom}
 
 -- one step more
 module _ (past : List (Stamped Step)) (s : Stamped Step) (row : ℕ) where

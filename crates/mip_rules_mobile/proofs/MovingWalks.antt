@@ -1,6 +1,6 @@
 -- What steady steps and moves keep, the rules of moving keep.
 use Rattle.std.proofs.Common.{◌≡◌, ℕ, refl, ◌∙◌}
-use Rattle.std.specs.Prelude.{Option, Some, None, Bool, true, false, ◌==◌, if◌then◌else◌}
+use Rattle.std.specs.Prelude.{Option, Some, None, Bool, true, false, if◌then◌else◌}
 use Rattle.mip_words.specs.declared.address.Address.{Address}
 use Rattle.mip_nonce.specs.Secrets.{Life}
 use Rattle.mip_outside.specs.declared.claim.Claim.{Claim}
@@ -14,7 +14,7 @@ use Rattle.mip_rules_mobile.specs.HomeQuestions.{home_of, agent_of}
 use Rattle.mip_rules_mobile.specs.RowQuestions.{peer_of_row, is_bound_row}
 use Rattle.mip_rules_mobile.specs.Turns.{Turn, noted}
 use Rattle.mip_rules_mobile.specs.TrialRules.{each_row}
-use Rattle.mip_rules_mobile.specs.HomeRules.{registers, deregisters_at}
+use Rattle.mip_rules_mobile.specs.HomeRules.{deregisters_at}
 use Rattle.mip_rules_mobile.specs.MovingRules.{releases, unbinds_with, unbinds, leaves, settles_at, settles, arrives_by, address_under, arrives, uses_prefix, leaves_first, attaches, registers_if_away, restarts}
 use Rattle.mip_rules_mobile.specs.Fitting.{Fits, OfMove, kind_of}
 use Rattle.mip_rules_mobile.proofs.Steady.{Goes, standing-noted}

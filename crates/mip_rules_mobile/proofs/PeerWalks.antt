@@ -1,10 +1,8 @@
 -- What steady steps and acknowledgements keep, the rules for a peer's messages keep; a message that is not taken is dropped at
 -- once.
-use Rattle.std.proofs.Common.{◌≡◌, ℕ, List, refl, arith}
-use Rattle.std.specs.Prelude.{Option, Some, None, Bool, true, false, ◌==◌, ◌&&◌, ◌||◌, not, nat_lt, nat_le, is_some, if◌then◌else◌, Result, Ok, Err}
-use Rattle.std.specs.Option.{option_map_or}
+use Rattle.std.proofs.Common.{ℕ, List, refl, arith}
+use Rattle.std.specs.Prelude.{Option, Some, None, Bool, true, false, ◌==◌, ◌&&◌, not, is_some, if◌then◌else◌, Result, Ok, Err}
 use Rattle.mip_words.specs.declared.address.Address.{Address}
-use Rattle.mip_words.specs.declared.token.Cookie.{Cookie}
 use Rattle.mip_words.specs.declared.why.Why.{Why}
 use Rattle.mip_words.specs.declared.why.Why.TheVariants as whys
 use Rattle.mip_bulist.specs.declared.any.Any.{Any}
@@ -18,8 +16,8 @@ use Rattle.mip_bulist.specs.Rows.{given_row}
 use Rattle.mip_constants.specs.Constants.{initial_bindack_timeout}
 use Rattle.mip_updates.specs.Statuses.{accepts_it, sequence_out_of_window}
 use Rattle.mip_rules_mobile.specs.Calls.{Call}
-use Rattle.mip_rules_mobile.specs.Trials.{HomeTest, CareofTest, Resequence, Acknowledge, Rest, last_made, binds_to, sent_at, is_idle}
-use Rattle.mip_rules_mobile.specs.Steps.{Step, Drops, Meets, Tries, Forgets, Binds, Unbinds, Stops}
+use Rattle.mip_rules_mobile.specs.Trials.{HomeTest, CareofTest, Resequence, Acknowledge, Rest, binds_to, is_idle}
+use Rattle.mip_rules_mobile.specs.Steps.{Step, Drops, Meets, Tries, Forgets, Unbinds, Stops}
 use Rattle.mip_rules_mobile.specs.HomeQuestions.{home_of, registration_of}
 use Rattle.mip_rules_mobile.specs.RowQuestions.{row_of, trial_of, is_bound_row, bound_row_of}
 use Rattle.mip_rules_mobile.specs.Turns.{Turn, noted}

@@ -33,13 +33,13 @@ use Rattle.mip_rules_mobile.specs.declared.standing.Standing.TheVariants.{Detach
 use Rattle.mip_rules_mobile.specs.declared.home_update.HomeUpdate.{HomeUpdate}
 use Rattle.mip_rules_mobile.specs.Calls as calls
 use Rattle.mip_rules_mobile.specs.Calls.{Call}
-use Rattle.mip_rules_mobile.specs.Steps.{Step, Drops, Finds, Chooses, Learns, Stops}
+use Rattle.mip_rules_mobile.specs.Steps.{Drops, Finds, Chooses, Learns, Stops}
 use Rattle.mip_rules_mobile.specs.HomeQuestions.{home_of, agent_of}
 use Rattle.mip_rules_mobile.specs.TimerQuestions.{seeking}
 use Rattle.mip_rules_mobile.specs.Turns.{Turn, noted}
 use Rattle.mip_rules_mobile.specs.HomeRules.{home_answered, takes_home_ack, registers}
 use Rattle.mip_rules_mobile.specs.IcmpRules.{agents_named, is_matched, drops_icmp, finds, takes_discovery_reply, is_from_agent, learns, takes_prefix_reply, by_icmp, takes_icmp}
-use Rattle.mip_rules_mobile.specs.ReceivingRules.{acks_by, takes_ack, takes_for_part, by_proto, by_message, by_role, refuses, after_inner_checks, inner_standing, takes_inner, opens_with, opens_from, opens, after_checks, standing_of, receives, takes}
+use Rattle.mip_rules_mobile.specs.ReceivingRules.{acks_by, takes_ack, takes_for_part, by_message, by_role, refuses, after_inner_checks, inner_standing, takes_inner, opens_with, opens_from, opens, after_checks, standing_of, receives, takes}
 use Rattle.mip_rules_mobile.specs.Fitting.{IsHanded}
 use Rattle.mip_rules_mobile.proofs.Steady.{Goes, at-noted}
 use Rattle.mip_rules_mobile.proofs.Checks.{checked-in, in-proto, in-reads, opened-reads}

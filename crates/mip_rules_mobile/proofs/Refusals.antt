@@ -1,5 +1,5 @@
 -- A packet that is dropped, and an update that is denied, change nothing but the moments of the last calls.
-use Rattle.std.proofs.Common.{◌≡◌, ℕ, List, [], ◌∷◌, ◌++◌, Bool, true, false, ◌⊎◌, inl, inr, refl, sym, ap, ◌∙◌, subst}
+use Rattle.std.proofs.Common.{◌≡◌, ℕ, List, [], ◌∷◌, Bool, true, false, ◌⊎◌, inl, inr, refl, sym, ap, ◌∙◌, subst}
 use Rattle.std.specs.Prelude.{Option, Some, None, ◌||◌, ◌&&◌, is_none, if◌then◌else◌}
 use Rattle.std.specs.List.{list_any, AllByRecursion}
 use Rattle.std.proofs.lemmas.List.Folds.{list_any-append}
@@ -49,7 +49,7 @@ use Rattle.mip_rules_mobile.specs.Turns.{Turn, begun, noted}
 use Rattle.mip_rules_mobile.specs.OutRules.{tunnels, goes_from, goes_out, passes_all, part_answers, asks_part, goes_back, replies}
 use Rattle.mip_rules_mobile.specs.ReceivingRules.{then_meets, takes_for_part, refuses}
 use Rattle.mip_rules_mobile.specs.Doing.{does, turn_of}
-use Rattle.mip_rules_mobile.specs.Fitting.{Fits, Kind, OfCall, OfMove, OfAck, OfDrop, OfNote, Steady, kind_of}
+use Rattle.mip_rules_mobile.specs.Fitting.{OfAck, Steady, kind_of}
 use Rattle.mip_rules_mobile.specs.Refusing.{tells_of_refusal, is_refusal, tables_of}
 use Rattle.mip_rules_mobile.proofs.Steady.{Goes}
 use Rattle.mip_rules_mobile.proofs.HomeWalks.{Acks}

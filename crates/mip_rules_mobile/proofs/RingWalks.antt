@@ -1,5 +1,5 @@
 -- What steady steps keep, due work keeps.
-use Rattle.std.proofs.Common.{◌≡◌, ℕ, zero, suc, List, length, refl}
+use Rattle.std.proofs.Common.{◌≡◌, ℕ, zero, suc, length, refl}
 use Rattle.std.specs.Prelude.{Option, Some, None, Bool, true, false, ◌==◌, if◌then◌else◌}
 use Rattle.mip_words.specs.declared.address.Address.{Address}
 use Rattle.mip_bulist.specs.declared.work.Work.{Work}
@@ -15,8 +15,8 @@ use Rattle.mip_rules_mobile.specs.Steps.{Unregisters, Tries, Unbinds, Rings}
 use Rattle.mip_rules_mobile.specs.RowQuestions.{peer_of_row, trial_of}
 use Rattle.mip_rules_mobile.specs.TimerQuestions.{moment}
 use Rattle.mip_rules_mobile.specs.Turns.{Turn, noted}
-use Rattle.mip_rules_mobile.specs.HomeRules.{seeks_again, registers, resends_home}
-use Rattle.mip_rules_mobile.specs.RingingRules.{renews_home, ends_home, rests_if_bound, ends_at, ends_row, rings_own, does_work, rings, rings_on, ticks, ticks_all}
+use Rattle.mip_rules_mobile.specs.HomeRules.{seeks_again, resends_home}
+use Rattle.mip_rules_mobile.specs.RingingRules.{renews_home, ends_home, ends_at, ends_row, rings_own, does_work, rings, rings_on, ticks, ticks_all}
 use Rattle.mip_rules_mobile.proofs.Steady.{Goes}
 use Rattle.mip_rules_mobile.proofs.TrialWalks.{every-starts, every-resends_row, doubled-positive}
 use Rattle.mip_rules_mobile.proofs.HomeWalks.{every-registers, every-resends_home, every-seeks_again}

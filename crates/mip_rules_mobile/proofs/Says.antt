@@ -6,15 +6,13 @@ use Rattle.mip_ipv6.specs.declared.head.Head.{Head}
 use Rattle.mip_ipv6.specs.declared.not_packet.NotPacket.{NotPacket}
 use Rattle.mip_ipv6.specs.Packet.{Packet, names_no_body}
 use Rattle.mip_ipv6.specs.Reading.{packet_of}
-use Rattle.mip_mobhdr.specs.Said.{Said}
-use Rattle.mip_mobhdr.specs.Said.Said.{Update, Acknowledgement}
 use Rattle.mip_tokens.specs.declared.kbm.Kbm.{Kbm}
-use Rattle.mip_tunnel.specs.Tunnel.{lowered, tunnel_packet, encapsulated}
-use Rattle.mip_says.specs.Says.{Carried, carried}
+use Rattle.mip_tunnel.specs.Tunnel.{tunnel_packet, encapsulated}
+use Rattle.mip_says.specs.Says.{carried}
 use Rattle.mip_says.proofs.Sayings.{carried_is, said_if_read, carried_outer, carried_lowered}
-use Rattle.mip_signals.specs.Packets.{node_head, straight, data_packet, message_packet}
+use Rattle.mip_signals.specs.Packets.{data_packet}
 use Rattle.mip_signals.specs.Authenticated.{authenticated_packet}
-use Rattle.mip_written.specs.Written.{SaysNoTest, is_test}
+use Rattle.mip_written.specs.Written.{SaysNoTest}
 use Rattle.mip_written.proofs.Packets.{read_back}
 use Rattle.mip_written.proofs.Sayings.{message_says_no_test, data_says_no_test, problem_says_no_test}
 use Rattle.mip_reception.specs.declared.reply.Reply.{Reply}

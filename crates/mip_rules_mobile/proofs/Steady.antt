@@ -1,6 +1,6 @@
 -- What stays the same along the steps that are steady: where the mobile stands, what its correspondent part is, and the
 -- moment of the turn.
-use Rattle.std.proofs.Common.{◌≡◌, ℕ, true, List, refl, ap, ◌∙◌, sym}
+use Rattle.std.proofs.Common.{◌≡◌, ℕ, true, refl, ap, ◌∙◌, sym}
 use Rattle.mip_entries.specs.declared.entry.Entry.{Entry}
 use Rattle.mip_rules_correspondent.specs.Wholes.{is_own}
 use Rattle.mip_turns.proofs.TurnLaws.{noted-now, noted-known}
@@ -10,10 +10,10 @@ use Rattle.mip_rules_mobile.specs.declared.standing.Standing.{Standing}
 use Rattle.mip_rules_mobile.specs.Calls.{Call}
 use Rattle.mip_rules_mobile.specs.Steps.{Step, Called, Parts, Notes, Sends, Unsends, Drops, Claims, Releases, FindsTaken, Arrives, Detaches, Restarts, Registers, Unregisters, IsRefused, Resequences, Seeks, SeeksAgain, GivesUp, Finds, Chooses, Learns, Meets, Tries, Updates, Forgets, Binds, Unbinds, Waits, Stops, Rings}
 use Rattle.mip_rules_mobile.specs.Known.{Known}
-use Rattle.mip_rules_mobile.specs.HomeQuestions.{standing_after, home_of}
+use Rattle.mip_rules_mobile.specs.HomeQuestions.{standing_after}
 use Rattle.mip_rules_mobile.specs.Questions.{after, part_after}
 use Rattle.mip_rules_mobile.specs.Turns.{Turn, noted}
-use Rattle.mip_rules_mobile.specs.Fitting.{IsAt, Fits, Kind, OfCall, OfMove, OfAck, OfDrop, OfNote, Steady, kind_of}
+use Rattle.mip_rules_mobile.specs.Fitting.{IsAt, Fits, Steady, kind_of}
 
 -- every steady step may be taken that fits
 abbrev pub Goes : Call → (Turn → Type 0) → Type 0

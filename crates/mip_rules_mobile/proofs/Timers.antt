@@ -10,7 +10,7 @@ use Rattle.mip_nonce.specs.Secrets.{Life}
 use Rattle.mip_bulist.specs.declared.work.Work.{Work}
 use Rattle.mip_bulist.specs.declared.work.Work.TheVariants as works
 use Rattle.mip_bulist.specs.declared.timer.Timer.{Timer}
-use Rattle.mip_bulist.specs.Timers.{is_of, without_timer, put_timer, place_of, with_timer, without_due, due_work, AreDueFrom, AreInOrder}
+use Rattle.mip_bulist.specs.Timers.{is_of, without_timer, place_of, with_timer, without_due, due_work, AreDueFrom, AreInOrder}
 use Rattle.mip_bulist.proofs.TimerLaws.{none_due}
 use Rattle.mip_entries.specs.Stamped.{Stamped}
 use Rattle.mip_turns.proofs.TurnLaws.{noted-now, noted-known}
@@ -23,7 +23,7 @@ use Rattle.mip_rules_mobile.specs.Questions.{after, fresh, known}
 use Rattle.mip_rules_mobile.specs.Turns.{Turn, begun, noted}
 use Rattle.mip_rules_mobile.specs.RingingRules.{rings, rings_on, ticks, ticks_all}
 use Rattle.mip_rules_mobile.specs.Doing.{does, turn_of}
-use Rattle.mip_rules_mobile.specs.Fitting.{Fits, Kind, OfCall, OfMove, OfAck, OfDrop, OfNote, Steady, kind_of}
+use Rattle.mip_rules_mobile.specs.Fitting.{Fits, Steady, kind_of}
 use Rattle.mip_rules_mobile.proofs.Steady.{Goes}
 use Rattle.mip_rules_mobile.proofs.RingWalks.{every-work}
 

@@ -1,6 +1,6 @@
 -- What steady steps keep, trials keep: starting, asking again, making updates.
-use Rattle.std.proofs.Common.{◌≡◌, ℕ, zero, suc, ◌+◌, ◌<◌, ◌≤◌, refl, sym, ap, subst, arith}
-use Rattle.std.specs.Prelude.{◌*◌, min, max, Option, Some, None, Bool, true, false, ◌==◌, if◌then◌else◌, Result, Ok, Err}
+use Rattle.std.proofs.Common.{◌≡◌, ℕ, zero, suc, ◌+◌, ◌<◌, refl, arith}
+use Rattle.std.specs.Prelude.{◌*◌, min, Option, Some, None, Bool, true, false, ◌==◌, if◌then◌else◌, Result, Ok, Err}
 use Rattle.std.proofs.Math.Nat.{le-max_left}
 use Rattle.mip_words.specs.declared.address.Address.{Address}
 use Rattle.mip_words.specs.declared.token.Cookie.{Cookie}

@@ -9,7 +9,6 @@ use Rattle.mip_mobhdr.specs.Said.{Said}
 use Rattle.mip_reception.specs.declared.refusal.Refusal.{Refusal}
 use Rattle.mip_rules_correspondent.specs.Calls as parts
 use Rattle.mip_rules_correspondent.specs.Questions.{held_of}
-use Rattle.mip_rules_correspondent.specs.Rules.{is_for_part}
 use Rattle.mip_rules_mobile.specs.declared.standing.Standing.{Standing}
 use Rattle.mip_rules_mobile.specs.declared.standing.Standing.TheVariants.{Detached, AtHome, Away}
 use Rattle.mip_rules_mobile.specs.Calls as calls
@@ -22,7 +21,6 @@ use Rattle.mip_rules_mobile.specs.Turns.{Turn, noted}
 use Rattle.mip_rules_mobile.specs.OutRules.{asks_part}
 use Rattle.mip_rules_mobile.specs.ReceivingRules.{then_meets, takes_for_part, refuses}
 use Rattle.mip_rules_mobile.specs.Doing.{transmits_from, transmits, solicits_from, solicits, handles, does}
-use Rattle.mip_rules_mobile.specs.Fitting.{Fits}
 use Rattle.mip_rules_mobile.proofs.Steady.{Goes, Notings}
 use Rattle.mip_rules_mobile.proofs.OutWalks.{every-goes_out, every-asks_part, every-replies}
 use Rattle.mip_rules_mobile.proofs.HomeWalks.{Acks}

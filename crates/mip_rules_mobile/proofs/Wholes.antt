@@ -1,14 +1,11 @@
 -- The packets that a mobile sends have their fixed header.
-use Rattle.std.proofs.Common.{◌≡◌, ℕ, ◌≤◌, List, length, Bool, true, false, sym, ap, subst}
-use Rattle.std.specs.Prelude.{Option, Some, None, is_some}
+use Rattle.std.proofs.Common.{ℕ, List, Bool, true, false, subst}
+use Rattle.std.specs.Prelude.{is_some}
 use Rattle.mip_words.specs.declared.address.Address.{Address}
-use Rattle.mip_entries.specs.declared.answer.Answer.{Answer}
-use Rattle.mip_entries.specs.declared.answer.Answer.TheVariants.{Send, Note}
 use Rattle.mip_tunnel.specs.Tunnel.{encapsulated}
 use Rattle.mip_signals.proofs.Longs.{IsLong, packet-long, data-long, message-long, authenticated-long}
 use Rattle.mip_rules_correspondent.specs.declared.identity.Identity.{Identity}
 use Rattle.mip_rules_correspondent.proofs.Wholes as parts
-use Rattle.mip_rules_mobile.specs.Calls as calls
 use Rattle.mip_rules_mobile.specs.Calls.{Call}
 use Rattle.mip_rules_mobile.specs.Sendings.{Inner, OfPart, AsksHome, Given, Sending, FromHome, ByTunnel, AsksCareof, RegistersHome, DeregistersHome, SendsData, Discovers, Solicits, PeerUpdate, inner_packet, registration_packet, deregistration_packet, discovery_packet, solicitation_packet, packet_of_sending, update_bytes, update_packet}
 use Rattle.mip_rules_mobile.specs.Known.{Known}

@@ -4,7 +4,7 @@ use Rattle.std.specs.List.{AllByRecursion}
 use Rattle.mip_words.specs.Addresses.{address_bytes}
 use Rattle.mip_words.specs.declared.address.Address.{Address}
 use Rattle.mip_ipv6.specs.Packet.{names_no_body}
-use Rattle.mip_says.specs.Says.{Carried, carried}
+use Rattle.mip_says.specs.Says.{carried}
 use Rattle.mip_written.specs.Written.{SaysNoTest}
 use Rattle.mip_entries.specs.declared.answer.Answer.{Answer}
 use Rattle.mip_entries.specs.declared.answer.Answer.TheVariants.{Send, Note}

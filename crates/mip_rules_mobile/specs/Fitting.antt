@@ -1,7 +1,7 @@
 -- What is true of each step of a mobile where it is taken: a packet leaves from the address that the mobile stands at, a
 -- packet of the correspondent part is one that a correspondent sends, and an update is the one that its trial makes.
 -- RFC 6275 sections 11.3, 11.6 and 11.7
-use Rattle.std.specs.Prelude.{◌≡◌, ℕ, ◌<◌, List, [], ◌∷◌, Option, Some, None, true, Ok}
+use Rattle.std.specs.Prelude.{◌≡◌, ℕ, ◌<◌, List, [], ◌∷◌, Option, Some, true, Ok}
 use Rattle.mip_words.specs.declared.address.Address.{Address}
 use Rattle.mip_words.specs.declared.shield.Shield.{Shield}
 use Rattle.mip_says.specs.Says.{carried, Test as Told}
@@ -11,12 +11,12 @@ use Rattle.mip_rules_correspondent.specs.Calls as part_calls
 use Rattle.mip_rules_correspondent.specs.Sendings as parts
 use Rattle.mip_rules_correspondent.specs.Wholes.{is_own}
 use Rattle.mip_rules_mobile.specs.declared.standing.Standing.{Standing}
-use Rattle.mip_rules_mobile.specs.declared.standing.Standing.TheVariants.{Detached, AtHome, Away}
+use Rattle.mip_rules_mobile.specs.declared.standing.Standing.TheVariants.{AtHome, Away}
 use Rattle.mip_rules_mobile.specs.Calls as calls
 use Rattle.mip_rules_mobile.specs.Calls.{Call}
 use Rattle.mip_rules_mobile.specs.Trials.{Change, HomeTest, CareofTest, makes}
 use Rattle.mip_rules_mobile.specs.Sendings.{Inner, OfPart, AsksHome, Given, Sending, FromHome, ByTunnel, AsksCareof, RegistersHome, DeregistersHome, SendsData, Discovers, Solicits, PeerUpdate}
-use Rattle.mip_rules_mobile.specs.Steps.{Step, Called, Parts, Notes, Sends, Unsends, Drops, Claims, Releases, FindsTaken, Arrives, Detaches, Restarts, Registers, Unregisters, IsRefused, Resequences, Seeks, SeeksAgain, GivesUp, Finds, Chooses, Learns, Meets, Tries, Updates, Forgets, Binds, Unbinds, Waits, Stops, Rings}
+use Rattle.mip_rules_mobile.specs.Steps.{Step, Called, Notes, Sends, Drops, FindsTaken, Arrives, Detaches, Restarts, Registers, Tries, Updates, Binds, Waits}
 use Rattle.mip_rules_mobile.specs.Known.{Known}
 use Rattle.mip_rules_mobile.specs.HomeQuestions.{home_of}
 use Rattle.mip_rules_mobile.specs.RowQuestions.{peer_of_row, trial_of}

@@ -1,6 +1,5 @@
 -- Home registration and discovery of agents. RFC 6275 sections 11.4.1, 11.5.5, 11.7.1, 11.7.3 and 11.8
-use Rattle.std.specs.Prelude.{ℕ, ◌+◌, ◌*◌, ◌^◌, Bool, true, false, ◌&&◌, ◌||◌, not, ◌==◌, nat_lt, if◌then◌else◌, Option, Some, None, is_some}
-use Rattle.std.specs.Option.{option_map_or}
+use Rattle.std.specs.Prelude.{ℕ, ◌*◌, ◌^◌, Bool, true, false, ◌&&◌, ◌||◌, not, ◌==◌, if◌then◌else◌, Option, Some, None, is_some}
 use Rattle.mip_words.specs.declared.address.Address.{Address}
 use Rattle.mip_words.specs.declared.shield.Shield.{Shield}
 use Rattle.mip_discovery.specs.Retries.{DiscoverySeen, retried}
@@ -9,7 +8,7 @@ use Rattle.mip_rules_mobile.specs.declared.standing.Standing.{Standing}
 use Rattle.mip_rules_mobile.specs.declared.standing.Standing.TheVariants.{Detached, AtHome, Away}
 use Rattle.mip_rules_mobile.specs.declared.home_update.HomeUpdate.{HomeUpdate}
 use Rattle.mip_constants.specs.Constants.{initial_bindack_timeout_first_reg, initial_bindack_timeout, lifetime_unit, initial_dhaad_timeout}
-use Rattle.mip_rules_mobile.specs.Timing.{doubled, refresh_unit}
+use Rattle.mip_rules_mobile.specs.Timing.{refresh_unit}
 use Rattle.mip_rules_mobile.specs.Trials.{is_idle}
 use Rattle.mip_rules_mobile.specs.Sendings.{RegistersHome, DeregistersHome, Discovers}
 use Rattle.mip_rules_mobile.specs.Steps.{Sends, Registers, Unregisters, IsRefused, Resequences, Seeks, SeeksAgain, GivesUp, Chooses, Waits, Stops}

@@ -1,6 +1,5 @@
 -- What a mobile does about ICMPv6 messages. RFC 6275 sections 11.4.1 and 11.4.3
-use Rattle.std.specs.Prelude.{ℕ, ◌+◌, List, [], ◌∷◌, Bool, true, false, ◌==◌, if◌then◌else◌, Option, Some, None, Result, Ok, Err, zero, suc, length, ◌/◌, drop}
-use Rattle.std.specs.Option.{option_map_or}
+use Rattle.std.specs.Prelude.{ℕ, List, [], ◌∷◌, Bool, false, ◌==◌, if◌then◌else◌, Option, Some, None, Result, Ok, Err, zero, suc, length, ◌/◌, drop}
 use Rattle.mip_words.specs.Addresses.{address_at}
 use Rattle.mip_words.specs.declared.address.Address.{Address}
 use Rattle.mip_words.specs.declared.shield.Shield.{Shield}
@@ -9,13 +8,12 @@ use Rattle.mip_ipv6.specs.Packet.{Packet, source_of, destination_of}
 use Rattle.mip_icmp.specs.declared.fault.IcmpFault.{IcmpFault}
 use Rattle.mip_icmp.specs.declared.options.IcmpSet.{IcmpSet}
 use Rattle.mip_icmp.specs.declared.prefix_info.PrefixInfo.{PrefixInfo}
-use Rattle.mip_icmp.specs.Said.{Said, Parameter, Advertisement, DiscoverAsk, DiscoverReply, PrefixAsk, PrefixReply}
+use Rattle.mip_icmp.specs.Said.{Said, DiscoverReply, PrefixReply}
 use Rattle.mip_icmp.specs.Reading.{icmp_of}
 use Rattle.mip_discovery.specs.Retries.{DiscoverySeen}
 use Rattle.mip_rules_mobile.specs.declared.standing.Standing.{Standing}
-use Rattle.mip_rules_mobile.specs.declared.standing.Standing.TheVariants.{Detached, AtHome, Away}
+use Rattle.mip_rules_mobile.specs.declared.standing.Standing.TheVariants.{Away}
 use Rattle.mip_rules_mobile.specs.Steps.{Drops, Finds, Chooses, Learns, Stops}
-use Rattle.mip_rules_mobile.specs.Known.{Known}
 use Rattle.mip_rules_mobile.specs.HomeQuestions.{agent_of}
 use Rattle.mip_rules_mobile.specs.TimerQuestions.{seeking}
 use Rattle.mip_rules_mobile.specs.Turns.{Turn, noted}

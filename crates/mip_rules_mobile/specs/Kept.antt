@@ -1,5 +1,5 @@
 -- Where the tests that a trial keeps come from: they were given to it since it started. RFC 6275 sections 5.2.5 and 11.6.2
-use Rattle.std.specs.Prelude.{◌≡◌, ℕ, List, ◌∷◌, ◌++◌, Bool, true, false, ◌==◌, Option, Some, None, IfSome}
+use Rattle.std.specs.Prelude.{◌≡◌, ℕ, List, ◌∷◌, ◌++◌, Bool, false, ◌==◌, Option, Some, None, IfSome}
 use Rattle.std.specs.List.{list_any}
 use Rattle.mip_words.specs.declared.address.Address.{Address}
 use Rattle.mip_words.specs.declared.token.Cookie.{Cookie}
@@ -13,7 +13,7 @@ use Rattle.mip_bulist.specs.declared.tested.Tested.{Tested}
 use Rattle.mip_bulist.specs.declared.tested.Tested.TheVariants.{Both, Home}
 use Rattle.mip_bulist.specs.Rows.{lifted}
 use Rattle.mip_entries.specs.Stamped.{Stamped}
-use Rattle.mip_rules_mobile.specs.Trials.{Change, Start, HomeTest, CareofTest}
+use Rattle.mip_rules_mobile.specs.Trials.{Start, HomeTest, CareofTest}
 use Rattle.mip_rules_mobile.specs.Steps.{Step, Tries}
 
 -- the trial of a row starts

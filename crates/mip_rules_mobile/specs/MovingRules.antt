@@ -1,5 +1,5 @@
 -- How a mobile moves: a router advertises a prefix, it leaves, it restarts. RFC 6275 sections 11.5.1 to 11.5.5
-use Rattle.std.specs.Prelude.{ℕ, ◌%◌, ◌^◌, Bool, true, false, ◌==◌, if◌then◌else◌, Option, Some, None}
+use Rattle.std.specs.Prelude.{ℕ, ◌%◌, ◌^◌, Bool, false, ◌==◌, if◌then◌else◌, Option, Some, None}
 use Rattle.mip_words.specs.Addresses.{joined_address, prefix_of}
 use Rattle.mip_words.specs.declared.address.Address.{Address}
 use Rattle.mip_nonce.specs.Secrets.{Life}
@@ -8,9 +8,7 @@ use Rattle.mip_outside.specs.declared.claim.Claim.TheVariants.{Held, Waiting, Ta
 use Rattle.mip_outside.specs.Places.{is_held}
 use Rattle.mip_rules_mobile.specs.declared.standing.Standing.{Standing}
 use Rattle.mip_rules_mobile.specs.declared.standing.Standing.TheVariants.{Detached, AtHome, Away}
-use Rattle.mip_constants.specs.Constants.{initial_bindack_timeout}
 use Rattle.mip_rules_mobile.specs.Steps.{Claims, Releases, FindsTaken, Arrives, Detaches, Restarts, Unbinds}
-use Rattle.mip_rules_mobile.specs.Known.{Known}
 use Rattle.mip_rules_mobile.specs.HomeQuestions.{home_of, agent_of}
 use Rattle.mip_rules_mobile.specs.RowQuestions.{peer_of_row, is_bound_row}
 use Rattle.mip_rules_mobile.specs.Turns.{Turn, noted}

@@ -1,14 +1,13 @@
 -- What a mobile does about the messages of a peer. RFC 6275 sections 11.3.5, 11.3.6, 11.6.2, 11.7.3 and 11.7.4
-use Rattle.std.specs.Prelude.{ℕ, ◌+◌, ◌*◌, List, Bool, true, false, ◌&&◌, ◌||◌, not, ◌==◌, nat_lt, nat_le, if◌then◌else◌, Option, Some, None, is_some, is_none, unwrap_or, option_map, Result, Ok, Err}
+use Rattle.std.specs.Prelude.{ℕ, ◌*◌, List, Bool, true, ◌&&◌, ◌||◌, not, ◌==◌, nat_le, if◌then◌else◌, Option, Some, None, is_some, unwrap_or, Result, Ok, Err}
 use Rattle.std.specs.Option.{option_map_or}
 use Rattle.mip_words.specs.declared.address.Address.{Address}
 use Rattle.mip_words.specs.declared.token.Cookie.{Cookie}
 use Rattle.mip_words.specs.declared.why.Why.TheVariants as whys
 use Rattle.mip_tokens.specs.Token.{is_authentic}
 use Rattle.mip_bulist.specs.declared.any.Any.{Any}
-use Rattle.mip_bulist.specs.declared.any.Any.TheVariants.{Idle, Probing, Proved, Pending, Bound}
+use Rattle.mip_bulist.specs.declared.any.Any.TheVariants.{Pending}
 use Rattle.mip_bulist.specs.declared.list_full.ListFull.{ListFull}
-use Rattle.mip_bulist.specs.declared.row.Row.{Row}
 use Rattle.mip_bulist.specs.declared.state.Pending as pending
 use Rattle.mip_bulist.specs.declared.tested.Test.{Test}
 use Rattle.mip_bulist.specs.declared.trial.Trial.{Trial}

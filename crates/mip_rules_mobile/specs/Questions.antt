@@ -1,5 +1,5 @@
 -- What a mobile knows of its past, and what each step makes of it.
-use Rattle.std.specs.Prelude.{ℕ, List, [], Bool, false, if◌then◌else◌, Option, Some, None}
+use Rattle.std.specs.Prelude.{ℕ, List, [], false, if◌then◌else◌, Option, None}
 use Rattle.mip_words.specs.declared.address.Address.{Address}
 use Rattle.mip_words.specs.declared.moment.Moment.{Moment}
 use Rattle.mip_nonce.specs.Secrets.{Life}
@@ -7,7 +7,6 @@ use Rattle.mip_entries.specs.Stamped.{Stamped}
 use Rattle.mip_turns.specs.Turns.{known_by}
 use Rattle.mip_rules_correspondent.specs.Questions as parts
 use Rattle.mip_rules_correspondent.specs.Seen.{CorrespondentSeen, called}
-use Rattle.mip_rules_mobile.specs.declared.standing.Standing.{Standing}
 use Rattle.mip_rules_mobile.specs.declared.standing.Standing.TheVariants.{AtHome}
 use Rattle.mip_rules_mobile.specs.Steps.{Step, Parts, Restarts, is_call}
 use Rattle.mip_rules_mobile.specs.Known.{Known}

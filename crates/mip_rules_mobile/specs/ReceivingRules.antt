@@ -1,10 +1,8 @@
 -- What a mobile does about a packet that it is handed. RFC 6275 sections 9.2, 9.3.1, 11.3.3 and 11.3.4
-use Rattle.std.specs.Prelude.{ℕ, ◌-◌, List, length, Bool, true, false, not, ◌&&◌, ◌==◌, if◌then◌else◌, Option, Some, None, is_some, is_none, Result, Ok, Err}
-use Rattle.std.specs.Option.{option_map_or}
+use Rattle.std.specs.Prelude.{ℕ, List, Bool, true, false, not, ◌&&◌, ◌==◌, if◌then◌else◌, Option, Some, None, is_some, is_none, Result, Ok, Err}
 use Rattle.mip_constants.specs.Protocols.{ipv6, icmpv6, no_next_header, mobility_header}
 use Rattle.mip_words.specs.declared.address.Address.{Address}
 use Rattle.mip_words.specs.declared.shield.Shield.{Shield}
-use Rattle.mip_words.specs.declared.why.Why.{Why}
 use Rattle.mip_words.specs.declared.why.Why.TheVariants as whys
 use Rattle.mip_ipv6.specs.declared.head.Head.{Head}
 use Rattle.mip_ipv6.specs.declared.not_packet.NotPacket.{NotPacket}
@@ -12,7 +10,7 @@ use Rattle.mip_ipv6.specs.Packet.{Packet, source_of}
 use Rattle.mip_ipv6.specs.Reading.{packet_of}
 use Rattle.mip_options.specs.Values.{Values}
 use Rattle.mip_mobhdr.specs.Said.{Said}
-use Rattle.mip_mobhdr.specs.Said.Said.{Refresh, HomeInit, CareofInit, HomeTest, CareofTest, Update, Acknowledgement, Error}
+use Rattle.mip_mobhdr.specs.Said.Said.{Refresh, HomeTest, CareofTest, Acknowledgement, Error}
 use Rattle.mip_tunnel.specs.declared.exit_fault.ExitFault.{ExitFault}
 use Rattle.mip_tunnel.specs.declared.exit_fault.ExitFault.TheVariants.{NotTunnel, WrongEntry, Inner}
 use Rattle.mip_tunnel.specs.Tunnel.{opened}

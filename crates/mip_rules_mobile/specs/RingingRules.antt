@@ -1,5 +1,5 @@
 -- Due work. RFC 6275 sections 11.4.1, 11.7.1, 11.7.2 and 11.8
-use Rattle.std.specs.Prelude.{ℕ, zero, suc, ◌==◌, if◌then◌else◌, List, length, Option, Some, None}
+use Rattle.std.specs.Prelude.{ℕ, zero, suc, ◌==◌, if◌then◌else◌, length, Option, Some, None}
 use Rattle.mip_words.specs.declared.address.Address.{Address}
 use Rattle.mip_bulist.specs.declared.work.Work.{Work}
 use Rattle.mip_bulist.specs.declared.work.Work.TheVariants.{Resend, Renew, End, Own}
@@ -10,7 +10,6 @@ use Rattle.mip_rules_mobile.specs.declared.registered.Registered.{Registered}
 use Rattle.mip_rules_mobile.specs.Timing.{doubled}
 use Rattle.mip_rules_mobile.specs.Trials.{Rest, is_bound}
 use Rattle.mip_rules_mobile.specs.Steps.{Unregisters, Tries, Unbinds, Rings}
-use Rattle.mip_rules_mobile.specs.Known.{Known}
 use Rattle.mip_rules_mobile.specs.RowQuestions.{peer_of_row, trial_of}
 use Rattle.mip_rules_mobile.specs.TimerQuestions.{moment}
 use Rattle.mip_rules_mobile.specs.Turns.{Turn, noted}

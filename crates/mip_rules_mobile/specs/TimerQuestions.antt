@@ -3,7 +3,7 @@ use Rattle.std.specs.Prelude.{ℕ, ◌+◌, List, []}
 use Rattle.mip_words.specs.declared.moment.Moment.{Moment}
 use Rattle.mip_bulist.specs.declared.timer.Timer.{Timer}
 use Rattle.mip_bulist.specs.declared.work.Work.{Work}
-use Rattle.mip_bulist.specs.declared.work.Work.TheVariants.{Resend, Renew, End, Own}
+use Rattle.mip_bulist.specs.declared.work.Work.TheVariants.{Renew, End, Own}
 use Rattle.mip_bulist.specs.Timers.{with_timer, without_timer, without_due}
 use Rattle.mip_rules_mobile.specs.Steps.{Step, Detaches, Restarts, Registers, Binds, Unbinds, Waits, Stops, Rings}
 

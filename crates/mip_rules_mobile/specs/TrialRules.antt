@@ -1,7 +1,6 @@
 -- Return routability with a peer: how a trial starts, asks again, and makes updates. RFC 6275 sections 11.6, 11.7.2 and 11.8
-use Rattle.std.specs.Prelude.{ℕ, zero, suc, ◌+◌, Bool, true, false, ◌&&◌, not, ◌==◌, if◌then◌else◌, Option, Some, None, is_some, Result, Ok, Err}
+use Rattle.std.specs.Prelude.{ℕ, zero, suc, ◌+◌, Bool, ◌==◌, if◌then◌else◌, Option, Some, None, is_some, Result, Ok, Err}
 use Rattle.mip_words.specs.declared.address.Address.{Address}
-use Rattle.mip_bulist.specs.declared.aim.Aim.{Aim}
 use Rattle.mip_bulist.specs.declared.aim.Aim.TheVariants.{Bind, Delete}
 use Rattle.mip_bulist.specs.declared.any.Any.{Any}
 use Rattle.mip_bulist.specs.declared.any.Any.TheVariants.{Idle, Probing, Proved, Pending, Bound}
@@ -15,7 +14,7 @@ use Rattle.mip_rules_mobile.specs.declared.standing.Standing.{Standing}
 use Rattle.mip_rules_mobile.specs.declared.standing.Standing.TheVariants.{Detached, AtHome, Away}
 use Rattle.mip_constants.specs.Constants.{initial_bindack_timeout, max_bindack_timeout}
 use Rattle.mip_rules_mobile.specs.Timing.{doubled}
-use Rattle.mip_rules_mobile.specs.Trials.{Start, Make, Rest, makes, lacks_home, lacks_careof}
+use Rattle.mip_rules_mobile.specs.Trials.{Start, Rest, makes, lacks_home, lacks_careof}
 use Rattle.mip_rules_mobile.specs.Sendings.{AsksHome, AsksCareof}
 use Rattle.mip_rules_mobile.specs.Steps.{Sends, Tries, Updates, Waits}
 use Rattle.mip_rules_mobile.specs.HomeQuestions.{home_of}

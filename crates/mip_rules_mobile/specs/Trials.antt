@@ -1,10 +1,9 @@
 -- A trial as the rules read and change it, whatever its state. RFC 6275 sections 5.2, 11.6 and 11.7.2
-use Rattle.std.specs.Prelude.{ℕ, Bool, true, false, ◌&&◌, not, Option, Some, None, is_none, Result, Ok, Err, option_map, option_and_then, List, map, slice_get}
+use Rattle.std.specs.Prelude.{ℕ, Bool, true, false, Option, Some, None, is_none, Result, Ok, Err, option_map, List, map}
 use Rattle.mip_words.specs.declared.address.Address.{Address}
 use Rattle.mip_words.specs.declared.moment.Moment.{Moment}
 use Rattle.mip_words.specs.declared.token.Cookie.{Cookie}
 use Rattle.mip_bulist.specs.declared.aim.Aim.{Aim}
-use Rattle.mip_bulist.specs.declared.aim.Aim.TheVariants.{Bind, Delete}
 use Rattle.mip_bulist.specs.declared.any.Any.{Any}
 use Rattle.mip_bulist.specs.declared.any.Any.TheVariants.{Idle, Probing, Proved, Pending, Bound}
 use Rattle.mip_bulist.specs.declared.made.Made.{Made}
