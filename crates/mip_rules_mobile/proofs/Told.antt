@@ -1,6 +1,6 @@
 -- What is known of a question is what the last step says that says anything of it.
 use Rattle.std.proofs.Common.{◌≡◌, ℕ, ◌+◌, List, [], ◌∷◌, length, filter, refl, sym, ap, ◌∙◌, arith}
-use Rattle.std.specs.Prelude.{Option, Some, None, unwrap_or, is_some, option_and_then, fold, if◌then◌else◌, Bool, true, false, ◌==◌, ◌||◌}
+use Rattle.std.specs.Prelude.{not, ◌++◌, Option, Some, None, unwrap_or, is_some, option_and_then, fold, if◌then◌else◌, Bool, true, false, ◌==◌, ◌||◌}
 use Rattle.std.specs.List.{list_any}
 use Rattle.std.proofs.lemmas.Bool.{eqb-true, eqb-false}
 use Rattle.mip_words.specs.declared.address.Address.{Address}
@@ -100,17 +100,21 @@ next-with agent to next [] = by (to.0 == agent.0)
     by false = refl
 next-with agent to next (n ∷ ns) = by (n.agent.0 == to.0) refl (next-with agent to next ns)
   where
-    here : (a b : Bool) → b ≡ a → (if a then next else next_to agent ns) ≡ unwrap_or (if b then Some next else None) (if a then n.next else next_to agent ns)
-    here true true is = refl
-    here false false is = refl
-    here true false is = absurd cc
-    here false true is = absurd cc
+    later : ℕ
+    later = next_to agent (with_next to next ns)
 
-    other : (a b : Bool) → (a ≡ true → b ≡ false) → next_to agent (with_next to next ns) ≡ unwrap_or (if b then Some next else None) (next_to agent ns)
-        → (if a then n.next else next_to agent (with_next to next ns)) ≡ unwrap_or (if b then Some next else None) (if a then n.next else next_to agent ns)
-    other false b apart is = is
-    other true true apart is = absurd (let both : true ≡ false = apart refl in cc)
-    other true false apart is = refl
+    dropped : (a b : Bool) → (a ≡ true → b ≡ true) → later ≡ unwrap_or (if b then Some next else None) (next_to agent ns)
+        → later ≡ unwrap_or (if b then Some next else None) (if a then n.next else next_to agent ns)
+    dropped true true same is = is
+    dropped true false same is = absurd (let both : false ≡ true = same refl in cc)
+    dropped false true same is = is
+    dropped false false same is = is
+
+    kept : (a b : Bool) → (a ≡ true → b ≡ false) → later ≡ unwrap_or (if b then Some next else None) (next_to agent ns)
+        → (if a then n.next else later) ≡ unwrap_or (if b then Some next else None) (if a then n.next else next_to agent ns)
+    kept false b apart is = is
+    kept true true apart is = absurd (let both : true ≡ false = apart refl in cc)
+    kept true false apart is = refl
 
     differ : n.agent.0 == to.0 ≡ false → n.agent.0 == agent.0 ≡ true → (b : Bool) → to.0 == agent.0 ≡ b → b ≡ false
     differ apart same false is = refl
@@ -118,10 +122,11 @@ next-with agent to next (n ∷ ns) = by (n.agent.0 == to.0) refl (next-with agen
         let one : n.agent.0 ≡ to.0 = eqb-true n.agent.0 agent.0 same ∙ sym (eqb-true to.0 agent.0 is) in
         absurd (eqb-false n.agent.0 to.0 apart one)
 
-    by : (same : Bool) → n.agent.0 == to.0 ≡ same → next_to agent (with_next to next ns) ≡ unwrap_or (if to.0 == agent.0 then Some next else None) (next_to agent ns)
-        → next_to agent (if same then record { agent = n.agent; next = next } ∷ ns else n ∷ with_next to next ns) ≡ unwrap_or (if to.0 == agent.0 then Some next else None) (next_to agent (n ∷ ns))
-    by true same later = here (n.agent.0 == agent.0) (to.0 == agent.0) (ap (λ (m : ℕ). m == agent.0) (sym (eqb-true n.agent.0 to.0 same)))
-    by false apart later = other (n.agent.0 == agent.0) (to.0 == agent.0) (λ same. differ apart same (to.0 == agent.0) refl) later
+    by : (same : Bool) → n.agent.0 == to.0 ≡ same → later ≡ unwrap_or (if to.0 == agent.0 then Some next else None) (next_to agent ns)
+        → next_to agent ((if not same then n ∷ filter (λ m. not (m.agent.0 == to.0)) ns else filter (λ m. not (m.agent.0 == to.0)) ns) ++ record { agent = to; next = next } ∷ [])
+        ≡ unwrap_or (if to.0 == agent.0 then Some next else None) (next_to agent (n ∷ ns))
+    by true same is = dropped (n.agent.0 == agent.0) (to.0 == agent.0) (λ e. ap (λ (m : ℕ). m == agent.0) (sym (eqb-true n.agent.0 to.0 same)) ∙ e) is
+    by false apart is = kept (n.agent.0 == agent.0) (to.0 == agent.0) (λ same. differ apart same (to.0 == agent.0) refl) is
 
 next-row : (agent : Address) (o : Option (Option Next)) (ns : List Numbering) → next_to agent (renumbered o ns) ≡ unwrap_or (next_in agent o) (next_to agent ns)
 next-row agent None ns = refl

@@ -1,5 +1,5 @@
 -- What a mobile knows of where it stands and of its home registration. RFC 6275 sections 11.5 and 11.7.1
-use Rattle.std.specs.Prelude.{ℕ, ◌+◌, ◌%◌, Bool, true, false, ◌==◌, nat_lt, if◌then◌else◌, Option, Some, None, unwrap_or, option_map, List, [], ◌∷◌}
+use Rattle.std.specs.Prelude.{ℕ, ◌+◌, ◌%◌, Bool, true, false, ◌==◌, nat_lt, if◌then◌else◌, Option, Some, None, unwrap_or, option_map, List, [], ◌∷◌, not, filter, ◌++◌}
 use Rattle.std.specs.Option.{option_or}
 use Rattle.mip_words.specs.declared.address.Address.{Address}
 use Rattle.mip_bulist.specs.declared.work.Work.TheVariants.{Own}
@@ -83,8 +83,7 @@ next_to agent (n ∷ ns) = if n.agent.0 == agent.0 then n.next else next_to agen
 
 -- the next update to an agent takes this number
 abbrev pub with_next : Address → ℕ → List Numbering → List Numbering
-with_next agent next [] = record { agent = agent; next = next } ∷ []
-with_next agent next (n ∷ ns) = if n.agent.0 == agent.0 then record { agent = n.agent; next = next } ∷ ns else n ∷ with_next agent next ns
+with_next agent next ns = filter (λ n. not (n.agent.0 == agent.0)) ns ++ record { agent = agent; next = next } ∷ []
 
 abbrev pub number_after : ℕ → ℕ
 number_after sequence = (sequence + 1) % 65536
