@@ -6,7 +6,8 @@ use Rattle.std.proofs.lemmas.List.{append_assoc}
 use Rattle.std.proofs.lemmas.Bool.{and_parts, not-true}
 use Rattle.mip_ipv6.specs.Packet.{names_no_body}
 use Rattle.mip_entries.specs.declared.entry.Entry.{Entry}
-use Rattle.mip_schedule.specs.Contents.{Content, waited}
+use Rattle.mip_schedule.specs.Contents.{Content}
+use Rattle.mip_schedule.specs.EventTimes.{waited}
 use Rattle.mip_schedule.specs.Lawful.{IsEvent}
 use Rattle.mip_schedule.proofs.LawfulLaws.{read_so}
 use Rattle.mip_schedule.specs.declared.declaration.Declaration.{Declaration}
@@ -27,7 +28,8 @@ use Rattle.mip_replay.proofs.BindingLaws.{AreShort}
 plain_proto : (proto : ℕ) → is_payload proto ≡ true → (names_no_body proto ≡ false) × (proto ≡ 135 → ⊥) × (proto ≡ 41 → ⊥)
 plain_proto proto is = (
   not-true _ (and_parts (is_data proto) (not (names_no_body proto)) is).1,
-  ((λ e. let both = sym (ap is_payload e) ∙ is in absurd cc), (λ e. let both = sym (ap is_payload e) ∙ is in absurd cc)),
+  (λ e. let both = sym (ap is_payload e) ∙ is in absurd cc),
+  (λ e. let both = sym (ap is_payload e) ∙ is in absurd cc),
 )
 
 plain_event : (ds : List Declaration) (before : List Event) (event : Event) → IsEvent ds before event → IsPlainEvent event

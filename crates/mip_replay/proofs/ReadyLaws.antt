@@ -23,6 +23,8 @@ use Rattle.mip_history.specs.Questions.{moment_in, life_in}
 use Rattle.mip_history.specs.Permitted.{permitted, run_of}
 use Rattle.mip_history.specs.Passing.{waited_by, restarted_by}
 use Rattle.mip_replay.specs.Engines.{NodeSeen, EngineSeen}
+use Rattle.mip_words.specs.declared.ids.NodeId.{NodeId}
+use Rattle.mip_words.specs.declared.address.Address.{Address}
 use Rattle.mip_replay.specs.Payloads.{is_payload}
 use Rattle.mip_replay.specs.Ready.{IsReady, IsEar}
 use Rattle.mip_replay.specs.Standing.{IsAt}
