@@ -1,3 +1,10 @@
+pub mod Sights
 pub mod Nodes
 pub mod Names
+pub mod Heard
+pub mod Early
+pub mod Made
 pub mod Firsts
+pub mod Updates
+pub mod Addresses
+pub mod Answers

@@ -1,7 +1,9 @@
 ghost use Rattle.std.specs.Prelude.{◌≡◌, ◌==◌, ℕ, OnOk, if◌then◌else◌};
-ghost use Rattle.mip_watch.specs.Nodes.{stranger, known_at};
+ghost use Rattle.mip_watch.specs.Nodes.{stranger, known_at, known_step};
+ghost use Rattle.mip_watch.specs.Sights.{sight_of};
 
 use crate::known::Known;
+use crate::sight::Sight;
 use mip_words::Memory;
 use std::alloc::Global;
 use std::collections::BTreeMap;
@@ -27,17 +29,48 @@ impl Nodes {
         match self.map.get(&node) {
             Some(known) => *known,
             None => Known {
-                address: None,
                 is_agent: false,
                 life: 0,
             },
         }
     }
 
-    pub fn put(&mut self, node: u8, known: Known) -> Result<(), Memory>
+    fn put(&mut self, node: u8, known: Known) -> Result<(), Memory>
         ensures { OnOk result ((n : ℕ) → known_at self.new n ≡ (if node == n then known else known_at self.old n)) }
     {
         self.map.insert(node, known)?;
         Ok(())
+    }
+
+    /// Takes one more sight.
+    pub fn note(&mut self, sight: &Sight) -> Result<(), Memory>
+        ensures { OnOk result ((n : ℕ) → known_at self.new n ≡ known_step n (sight_of sight.now) (known_at self.old n)) }
+    {
+        match sight {
+            Sight::Agent(node) => {
+                let known = self.known(node.0);
+                self.put(
+                    node.0,
+                    Known {
+                        is_agent: true,
+                        life: known.life,
+                    },
+                )
+            }
+            Sight::Restarted(node) => {
+                let known = self.known(node.0);
+                let Some(life) = known.life.checked_add(1) else {
+                    return Err(Memory);
+                };
+                self.put(
+                    node.0,
+                    Known {
+                        is_agent: known.is_agent,
+                        life,
+                    },
+                )
+            }
+            _ => Ok(()),
+        }
     }
 }

@@ -1,0 +1,10 @@
+use Rattle.std.proofs.Common.{◌≡◌, drop, take}
+use Rattle.mip_marks.specs.Pairs.{first_with}
+use Rattle.mip_marks.specs.Seen.{gives_it}
+use Rattle.mip_watch.specs.Heard.{heard_by}
+use Rattle.mip_watch.proofs.heard.Heard.first_with.Given as goal
+
+abbrev pub invariant-loop-arrival : goal.invariant-loop-arrival
+invariant-loop-arrival l =
+    first_with (gives_it l.signed) (heard_by l.by (drop l.arrival-index (take l.count l.self.list.items))) l.home.0
+    ≡ first_with (gives_it l.signed) (heard_by l.by (take l.count l.self.list.items)) l.home.0
