@@ -8,3 +8,4 @@ pub mod Firsts
 pub mod Updates
 pub mod Addresses
 pub mod Answers
+pub mod Stands

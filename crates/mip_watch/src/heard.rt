@@ -1,4 +1,4 @@
-ghost use Rattle.std.specs.Prelude.{◌≡◌, ◌≤◌, List, [], ◌∷◌, ℕ, ◌++◌, ◌||◌, OnOk, false, Some, length, take, option_map, if◌then◌else◌};
+ghost use Rattle.std.specs.Prelude.{◌≡◌, List, [], ◌∷◌, ℕ, ◌++◌, ◌||◌, OnOk, false, Some, length, take, option_map, if◌then◌else◌};
 ghost use Rattle.mip_marks.specs.Lists.{first_some};
 ghost use Rattle.mip_marks.specs.Reached.{is_heard};
 ghost use Rattle.mip_marks.specs.Pairs.{first_alone, first_with};
@@ -76,54 +76,59 @@ impl Heard {
         }
     }
 
-    /// The first of so many tokens of an outsider that gives the authenticator alone.
-    pub fn first_alone(&self, count: usize, signed: &Signed, by: u8) -> Option<Pair>
-        requires { count ≤ length self.now.list.items }
-        ensures { option_map pair_of result ≡ first_alone (gives_it signed.now) (heard_by by (take count self.now.list.items)) }
+    /// The first so many arrivals.
+    pub fn front(&self, count: usize) -> &[Arrival]
+        ensures { result.now ≡ take count self.now.list.items }
     {
-        for arrival in &self.list[..count] {
-            match arrival.token_for(by) {
-                Some(token) => match signed.alone(token) {
-                    Some(pair) => return Some(pair),
-                    None => (),
-                },
-                None => (),
-            }
-        }
-        None
+        let list = self.list.as_slice();
+        list.get(..count).unwrap_or(list)
     }
+}
 
-    /// The first of so many tokens of an outsider that gives the authenticator with a home token.
-    fn first_with(&self, count: usize, signed: &Signed, by: u8, home: Token) -> Option<Pair>
-        requires { count ≤ length self.now.list.items }
-        ensures { option_map pair_of result ≡ first_with (gives_it signed.now) (heard_by by (take count self.now.list.items)) home.0 }
-    {
-        for arrival in &self.list[..count] {
-            match arrival.token_for(by) {
-                Some(token) => match signed.both(home, token) {
-                    Some(pair) => return Some(pair),
-                    None => (),
-                },
+/// The first token of an outsider that gives the authenticator alone.
+pub fn first_alone(arrivals: &[Arrival], signed: &Signed, by: u8) -> Option<Pair>
+    ensures { option_map pair_of result ≡ first_alone (gives_it signed.now) (heard_by by arrivals.now) }
+{
+    for arrival in arrivals {
+        match arrival.token_for(by) {
+            Some(token) => match signed.alone(token) {
+                Some(pair) => return Some(pair),
                 None => (),
-            }
+            },
+            None => (),
         }
-        None
     }
+    None
+}
 
-    /// The first two of so many tokens of an outsider that give the authenticator.
-    pub fn first_both(&self, count: usize, signed: &Signed, by: u8) -> Option<Pair>
-        requires { count ≤ length self.now.list.items }
-        ensures { option_map pair_of result ≡ first_some (first_with (gives_it signed.now) (heard_by by (take count self.now.list.items))) (heard_by by (take count self.now.list.items)) }
-    {
-        for arrival in &self.list[..count] {
-            match arrival.token_for(by) {
-                Some(token) => match self.first_with(count, signed, by, token) {
-                    Some(pair) => return Some(pair),
-                    None => (),
-                },
+/// The first token of an outsider that gives the authenticator with a home token.
+fn first_with(arrivals: &[Arrival], signed: &Signed, by: u8, home: Token) -> Option<Pair>
+    ensures { option_map pair_of result ≡ first_with (gives_it signed.now) (heard_by by arrivals.now) home.0 }
+{
+    for arrival in arrivals {
+        match arrival.token_for(by) {
+            Some(token) => match signed.both(home, token) {
+                Some(pair) => return Some(pair),
                 None => (),
-            }
+            },
+            None => (),
         }
-        None
     }
+    None
+}
+
+/// The first two tokens of an outsider that give the authenticator.
+pub fn first_both(arrivals: &[Arrival], signed: &Signed, by: u8) -> Option<Pair>
+    ensures { option_map pair_of result ≡ first_some (first_with (gives_it signed.now) (heard_by by arrivals.now)) (heard_by by arrivals.now) }
+{
+    for arrival in arrivals {
+        match arrival.token_for(by) {
+            Some(token) => match first_with(arrivals, signed, by, token) {
+                Some(pair) => return Some(pair),
+                None => (),
+            },
+            None => (),
+        }
+    }
+    None
 }

@@ -1,15 +1,20 @@
-ghost use Rattle.std.specs.Prelude.{◌≡◌, ◌≤◌, ℕ, List, length, option_map};
+ghost use Rattle.std.specs.Prelude.{◌≡◌, ◌∷◌, ◌++◌, [], List, Some, OnOk, option_map};
 ghost use Rattle.std.specs.Option.{option_and_then};
 ghost use Rattle.mip_says.specs.Says.{carried, key_of};
+ghost use Rattle.mip_entries.specs.declared.entry.Entry.{Entry};
+ghost use Rattle.mip_marks.specs.Entries.{packet_in, declared_in};
+ghost use Rattle.mip_marks.specs.Marks.{mark_of};
 ghost use Rattle.mip_marks.specs.Firsts.{key_in};
 ghost use Rattle.mip_marks.specs.declared.maker.Maker.TheVariants.{Node};
 ghost use Rattle.mip_marks.specs.Seen.{claim_of, pair_of, gives_it};
+ghost use Rattle.mip_watch.specs.Sights.{seen_in};
+ghost use Rattle.mip_watch.specs.Stands.{StandsFor, IsNext, AreBytes};
 ghost use Rattle.mip_watch.specs.Answers.{pair_by_maker, is_used_by, is_otherwise_by, claims_looked, key_looked, mark_looked};
 
 use crate::addresses::Addresses;
 use crate::early::Early;
 use crate::first::First;
-use crate::heard::Heard;
+use crate::heard::{Heard, first_alone, first_both};
 use crate::made::Made;
 use crate::names::Names;
 use crate::nodes::Nodes;
@@ -44,7 +49,10 @@ fn key_of_packet(packet: Option<&[u8]>) -> Option<Key<'_>>
 }
 
 impl Watch {
-    pub fn new(alloc: Global) -> Watch {
+    /// Of a history with no entry yet.
+    pub fn new(alloc: Global) -> Watch
+        ensures { StandsFor result [] }
+    {
         Watch {
             addresses: Addresses::new(alloc),
             nodes: Nodes::new(alloc),
@@ -95,15 +103,17 @@ impl Watch {
 
     /// The pair behind the first packet of an update.
     fn pair(&self, careof: Option<u16>, signed: &Signed, first: &First) -> Option<Pair>
-        requires { first.now.heard ≤ length self.now.heard.list.items }
         ensures { option_map pair_of result ≡ pair_by_maker self.now careof (gives_it signed.now) first.now first.now.maker }
     {
         match first.maker {
             Maker::Node(node) => self.pair_made(careof, signed, first, node),
-            Maker::Outsider(outsider) => match careof {
-                None => self.heard.first_alone(first.heard, signed, outsider),
-                Some(_) => self.heard.first_both(first.heard, signed, outsider),
-            },
+            Maker::Outsider(outsider) => {
+                let arrivals = self.heard.front(first.heard);
+                match careof {
+                    None => first_alone(arrivals, signed, outsider),
+                    Some(_) => first_both(arrivals, signed, outsider),
+                }
+            }
         }
     }
 
@@ -149,5 +159,48 @@ impl Watch {
             Some(claim) => self.names.is_otherwise(claim),
             None => false,
         }
+    }
+
+    /// The mark of an acceptance whose update was found.
+    fn mark_with(&self, accepted: &AcceptedUpdate, own: Address, key: &Key) -> Mark
+        ensures { result ≡ key_looked self.now accepted.now own (Some (key_of key.now)) }
+    {
+        let Some(first) = self.updates.first(accepted.number) else {
+            return Mark::Forged(1);
+        };
+        let signed = Signed {
+            own,
+            careof: accepted.careof,
+            key: *key,
+        };
+        let Some(pair) = self.pair(accepted.careof_index, &signed, &first) else {
+            return Mark::Forged(1);
+        };
+        let life = self.nodes.known(accepted.node.0).life;
+        let home = accepted.home_claim(life, &pair);
+        let careof = accepted.careof_claim(life, &pair);
+        self.judged(&home, &careof, first.number)
+    }
+
+    /// The mark by look-ups.
+    #[tactic(auto, unfolding(crate::specs::Answers::mark_looked))]
+    fn looked(&self, accepted: &AcceptedUpdate, packet: Option<&[u8]>) -> Mark
+        ensures { result ≡ mark_looked self.now accepted.now (option_map (λ p. p.now) packet.entry) }
+    {
+        let Some(own) = self.addresses.address(accepted.node) else {
+            return Mark::Forged(1);
+        };
+        let Some(key) = key_of_packet(packet) else {
+            return Mark::Forged(1);
+        };
+        self.mark_with(accepted, own, &key)
+    }
+
+    /// The mark of an update that is accepted next, where the packet that carried it has these bytes.
+    pub fn mark(&self, accepted: &AcceptedUpdate, packet: Option<&[u8]>) -> Mark
+        ensures { (past : List Entry) → StandsFor self.now past → option_map (λ p. p.now) packet.entry ≡ packet_in past accepted.now.number
+            → result ≡ mark_of (seen_in past) accepted.now (declared_in past accepted.now.node.0) }
+    {
+        self.looked(accepted, packet)
     }
 }
