@@ -70,7 +70,10 @@ impl Watch {
         alloc: Global,
         entry: &Entry,
         packet: Option<&[u8]>,
-    ) -> Result<(), Memory> {
+    ) -> Result<(), Memory>
+        ensures { (past : List Entry) → StandsFor self.old past → IsNext past entry.now → AreBytes past entry.now (option_map (λ p. p.now) packet.entry)
+            → OnOk result (StandsFor self.new (past ++ entry.now ∷ [])) }
+    {
         let sight = sight(entry, packet);
         self.names.note(&self.nodes, &sight)?;
         self.early.note(&self.heard, &sight)?;
