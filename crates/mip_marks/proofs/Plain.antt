@@ -42,13 +42,13 @@ lives_same past n c [] = refl
 lives_same past n c (e ∷ es) = ap (λ (d : ℕ). fold (lives n) d (map (sight past) es)) (life_step past n c e) ∙ lives_same past n (restarts n c e) es
 
 -- packets are told by the same entries
-abbrev post_says : Option Post → Option Carried
+abbrev pub post_says : Option Post → Option Carried
 post_says o = option_map (λ p. p.carried) o
 
-abbrev posted_by : Maker → Carried → Post
+abbrev pub posted_by : Maker → Carried → Post
 posted_by maker c = record { maker = maker; carried = c }
 
-post_step : (past : List Entry) (k : ℕ) (e : Entry) → post_says (post_with k (sight past e)) ≡ option_map carried (packet_told k e)
+pub post_step : (past : List Entry) (k : ℕ) (e : Entry) → post_says (post_with k (sight past e)) ≡ option_map carried (packet_told k e)
 post_step past k (entries.Sent number node shielded packet) = by (number == k)
   where
     by : (b : Bool) → post_says (if b then Some (posted_by (Node node) (carried packet)) else None) ≡ option_map carried (if b then Some packet else None)
