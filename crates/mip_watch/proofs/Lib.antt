@@ -8,3 +8,4 @@ pub mod FirstSteps
 pub mod Updating
 pub mod Marking
 pub mod Noting
+pub mod Telling

@@ -9,3 +9,4 @@ pub mod Updates
 pub mod Addresses
 pub mod Answers
 pub mod Stands
+pub mod Told

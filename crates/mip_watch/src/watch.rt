@@ -3,11 +3,12 @@ ghost use Rattle.std.specs.Option.{option_and_then};
 ghost use Rattle.mip_says.specs.Says.{carried, key_of};
 ghost use Rattle.mip_entries.specs.declared.entry.Entry.{Entry};
 ghost use Rattle.mip_marks.specs.Entries.{packet_in, declared_in};
-ghost use Rattle.mip_marks.specs.Marks.{mark_of};
+ghost use Rattle.mip_marks.specs.Marks.{mark_of, mark_in};
 ghost use Rattle.mip_marks.specs.Firsts.{key_in};
 ghost use Rattle.mip_marks.specs.declared.maker.Maker.TheVariants.{Node};
 ghost use Rattle.mip_marks.specs.Seen.{claim_of, pair_of, gives_it};
 ghost use Rattle.mip_watch.specs.Sights.{seen_in};
+ghost use Rattle.mip_watch.specs.Told.{AreTold};
 ghost use Rattle.mip_watch.specs.Stands.{StandsFor, IsNext, AreBytes};
 ghost use Rattle.mip_watch.specs.Answers.{pair_by_maker, is_used_by, is_otherwise_by, claims_looked, key_looked, mark_looked};
 
@@ -201,8 +202,10 @@ impl Watch {
 
     /// The mark of an update that is accepted next, where the packet that carried it has these bytes.
     pub fn mark(&self, accepted: &AcceptedUpdate, packet: Option<&[u8]>) -> Mark
-        ensures { (past : List Entry) → StandsFor self.now past → option_map (λ p. p.now) packet.entry ≡ packet_in past accepted.now.number
+        ensures seen { (past : List Entry) → StandsFor self.now past → option_map (λ p. p.now) packet.entry ≡ packet_in past accepted.now.number
             → result ≡ mark_of (seen_in past) accepted.now (declared_in past accepted.now.node.0) }
+        ensures exact { (past : List Entry) → StandsFor self.now past → AreTold past → option_map (λ p. p.now) packet.entry ≡ packet_in past accepted.now.number
+            → result ≡ mark_in past accepted.now }
     {
         self.looked(accepted, packet)
     }
