@@ -30,7 +30,7 @@ pub use naming::Naming;
 pub use pair::Pair;
 pub use posts::{key_said, token_said};
 pub use signed::Signed;
-pub use watch::Watch;
+pub use watch::{Watch, mark as mark_behind};
 
 #[cfg(test)]
 mod tests;

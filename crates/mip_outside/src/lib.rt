@@ -2,6 +2,7 @@
 //! with forms in memory and real ones.
 #![tactic(auto)]
 
+mod buffered;
 mod claim;
 mod clock;
 mod failed;
@@ -18,6 +19,7 @@ mod source;
 mod tests;
 mod wire;
 
+pub use buffered::Buffered;
 pub use claim::Claim;
 pub use clock::Clock;
 pub use failed::Failed;

@@ -36,3 +36,20 @@ fn moments_and_datagrams_come_in_order(rt: HostRuntime) -> Result<(), Fail> {
     assert_eq!(rt; link.sent_at(0), Some((7, b"de".as_slice())));
     Ok(())
 }
+
+// The second call of the inner sink fails: what it did not take waits, and goes with what follows.
+#[test]
+fn bytes_that_wait_are_put_on_together(rt: HostRuntime) -> Result<(), Fail> {
+    let inner = TextSink::new(rt.alloc(), &[2])?;
+    let mut sink = Buffered::new(rt.alloc(), inner, 4)?;
+    assert_eq!(rt; sink.give(b"ab"), Ok(2));
+    assert_eq!(rt; sink.give(b"c"), Ok(1));
+    assert_eq!(rt; sink.inner().bytes(), b"".as_slice());
+    assert_eq!(rt; sink.give(b"de"), Ok(2));
+    assert_eq!(rt; sink.inner().bytes(), b"abc".as_slice());
+    assert_eq!(rt; sink.flush(), Err(PutFault::Failed));
+    assert_eq!(rt; sink.flush(), Ok(()));
+    assert_eq!(rt; sink.give(b"fghij"), Ok(5));
+    assert_eq!(rt; sink.inner().bytes(), b"abcdefghij".as_slice());
+    Ok(())
+}

@@ -36,10 +36,7 @@ fn decode(alloc: Global, input: &[u8]) -> Result<Reply, Memory>
     ensures settled { IfOk result (λ reply. IsSettled reply.status) }
 {
     match explain(alloc, input) {
-        Ok(text) => Ok(Reply {
-            status: Status::OK,
-            text,
-        }),
+        Ok(text) => Ok(Reply::whole(Status::OK, text)),
         Err(ExplainFault::NotPacket(refusal)) => dropped(alloc, refusal),
         Err(ExplainFault::Memory) => Err(Memory),
     }
@@ -53,8 +50,5 @@ fn dropped(alloc: Global, refusal: NotPacket) -> Result<Reply, Memory>
     let mut text = Bytes::copy(alloc, b"drop ")?;
     text.extend(refusal_word(refusal))?;
     text.extend(b"\n")?;
-    Ok(Reply {
-        status: Status::NOT_A_PACKET,
-        text,
-    })
+    Ok(Reply::whole(Status::NOT_A_PACKET, text))
 }

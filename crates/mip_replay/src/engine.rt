@@ -1,14 +1,17 @@
-ghost use Rattle.std.specs.Prelude.{◌≡◌, ◌+◌, ◌<◌, ◌≤◌, ◌^◌, ℕ, Bool, not, true, false, if◌then◌else◌, length, map, IfOk, IfSome, OnOk, Option, None, Some, is_some, option_copied, option_map, slice_get, slice_index_or};
+ghost use Rattle.std.specs.Prelude.{◌≡◌, ◌+◌, ◌<◌, ◌≤◌, ◌^◌, ◌∷◌, ℕ, Bool, not, true, false, if◌then◌else◌, length, map, IfOk, IfSome, OnOk, Option, None, Some, is_some, option_copied, option_map, slice_get, slice_index_or};
 ghost use Rattle.std.specs.Option.{option_map_or};
 ghost use Rattle.mip_entries.specs.declared.entry.Entry.TheVariants.{At};
 ghost use Rattle.mip_links.specs.Table.{Post, link_of, destination_in, in_pool};
 ghost use Rattle.mip_links.specs.Nets.{hears_of, holder_of, is_held_by, left, lowest_of, posted, with_hearing};
 ghost use Rattle.mip_history.specs.Delivery.{handed_over, other_link};
 ghost use Rattle.mip_history.specs.Outsiders.{claim_entry};
+ghost use Rattle.mip_history.specs.Nodes.{marks_of};
+ghost use Rattle.mip_marks.specs.Entries.{update_accepted};
+ghost use Rattle.mip_marks.specs.Marks.{mark_in};
 ghost use Rattle.mip_replay.specs.Arrivals.{arrival_of, arrival_seen};
 ghost use Rattle.mip_replay.specs.Calls.{asked, IsAskable};
 ghost use Rattle.mip_replay.specs.Roles.{is_correspondent, answers_to, rows_of};
-ghost use Rattle.mip_replay.specs.Engines.{NodeSeen, new_engine, with_entry, with_net, at_moment, acted, reborn, joined, station_of, claim_tried, released};
+ghost use Rattle.mip_replay.specs.Engines.{NodeSeen, new_engine, with_entry, with_entries, with_net, at_moment, acted, reborn, joined, station_of, claim_tried, released};
 
 use crate::arrival::{Arrival, arrival_of};
 use crate::call::Call;
@@ -18,6 +21,7 @@ use crate::node::Node;
 use mip_bcache::Row;
 use mip_entries::{Answers, Entry, History};
 use mip_links::{Delivery, Net};
+use mip_marks::{AcceptedUpdate, Mark, mark_behind};
 use mip_tunnel::lower;
 use mip_words::{Address, Bytes, LinkId, Memory, Moment, NodeId, Prefix, Shield};
 use std::alloc::Global;
@@ -85,6 +89,29 @@ impl Engine {
         ensures { OnOk result (self.new ≡ with_entry entry self.old) }
     {
         self.history.push(entry)
+    }
+
+    /// The mark of the update that an entry accepts, if it accepts one.
+    fn mark_of(&self, entry: &Entry) -> Option<Mark>
+        ensures { result ≡ option_map (mark_in self.now.past) (update_accepted entry.now) }
+    {
+        match AcceptedUpdate::of(entry) {
+            Some(accepted) => Some(mark_behind(self.history.as_slice(), &accepted)),
+            None => None,
+        }
+    }
+
+    /// An entry is left, and behind an `accepted` the mark of its origin.
+    #[tactic(auto, using(crate::proofs::MarkLaws::marks_none, crate::proofs::MarkLaws::marks_one))]
+    pub(crate) fn note_marked(&mut self, entry: Entry) -> Result<(), Memory>
+        ensures { OnOk result (self.new ≡ with_entries (entry ∷ marks_of self.old.past (update_accepted entry)) self.old) }
+    {
+        let mark = self.mark_of(&entry);
+        self.note(entry)?;
+        match mark {
+            Some(mark) => self.note(mark.entry()),
+            None => Ok(()),
+        }
     }
 
     pub(crate) fn outsiders(&self) -> u8

@@ -1,0 +1,49 @@
+-- A mobile as contracts see it.
+use Rattle.std.specs.Prelude.{◌≡◌, ℕ, ◌^◌, ◌<◌, ◌≤◌, List, true}
+use Rattle.mip_words.specs.Addresses.{is_routable}
+use Rattle.mip_entries.specs.declared.answer.Answer.{Answer}
+use Rattle.mip_rules_mobile.specs.Known.{Known}
+use Rattle.mip_rules_mobile.specs.HomeQuestions.{home_of}
+use Rattle.mip_rules_mobile.specs.Turns.{Turn, ShowsAt}
+use Rattle.mip_mobile.specs.declared.kept.Kept.{Kept}
+
+-- what is kept, as the rules know it
+abbrev pub seen : Kept → Known
+seen k = record {
+  last = k.last;
+  part = k.part;
+  declared = k.declared;
+  standing = k.standing;
+  registered = k.registered;
+  latest = k.latest;
+  agent = k.agent;
+  owes = k.owes;
+  numberings = k.numberings;
+  wait = k.wait;
+  discovery = k.discovery;
+  discoveries = k.discoveries;
+  found = k.found;
+  tried = k.tried;
+  chosen = k.chosen;
+  solicitations = k.solicitations;
+  cookies = k.cookies;
+  list = k.list;
+  peers = k.peers;
+}
+
+-- a call under way: its moment, what is known, and the answers so far
+pub record DeskSeen : Type 0 where
+  pub now : ℕ
+  pub known : Known
+  pub answers : List Answer
+
+-- the moment is no later than a clock says, the correspondent part's last call no later than that, and the home address
+-- may stand in an option
+pub record IsSound (d : DeskSeen) : Type 0 where
+  pub early : d.now < 2 ^ 62
+  pub later : d.known.part.known.last.0 ≤ d.now
+  pub home : is_routable (home_of d.known).0 ≡ true
+
+-- the desk shows a turn
+abbrev pub Shows : DeskSeen → Turn → Type 0
+Shows d t = ShowsAt d.now d.known d.answers t

@@ -1,0 +1,10 @@
+//! A mobile node (RFC 6275 section 11).
+#![tactic(auto)]
+
+mod agents;
+mod desk;
+mod kept;
+mod numberings;
+
+pub use desk::Desk;
+pub use kept::Kept;

@@ -1,0 +1,63 @@
+-- Whoever stands for a past stands, after a call, for the past with it; and the last moment that a call leaves known is its
+-- own.
+use Rattle.std.proofs.Common.{◌≡◌, ℕ, List, ap, ◌∙◌}
+use Rattle.std.specs.Prelude.{Option, if◌then◌else◌, Bool, true, false}
+use Rattle.mip_words.specs.declared.address.Address.{Address}
+use Rattle.mip_words.specs.declared.moment.Moment.{Moment}
+use Rattle.mip_nonce.specs.Secrets.{Life}
+use Rattle.mip_entries.specs.Stamped.{Stamped}
+use Rattle.mip_turns.specs.Turns.{StandsBy}
+use Rattle.mip_turns.proofs.TurnLaws.{noted-now, noted-known, stands-noted, stands-begun}
+use Rattle.mip_rules_mobile.specs.Calls.{Call}
+use Rattle.mip_rules_mobile.specs.Steps.{Step, Called, Notes, Drops, is_call}
+use Rattle.mip_rules_mobile.specs.Known.{Known}
+use Rattle.mip_rules_mobile.specs.Questions.{last_after, after, fresh, known}
+use Rattle.mip_rules_mobile.specs.Turns.{Turn, begun, noted, Stands, with_turn}
+use Rattle.mip_rules_mobile.specs.Doing.{does, turn_of}
+use Rattle.mip_rules_mobile.proofs.Walks.{every-handles, every-call}
+
+-- whoever stands for a past knows what it leaves known
+pub stands-known : (home : Address) (declared : Option Address) (secrets : Life) (past : List (Stamped Step)) (k : Known) → Stands home declared secrets past k → k ≡ known home declared secrets past
+unfolding known StandsBy
+stands-known home declared secrets past k stands = stands
+
+pub call-stands : (home : Address) (declared : Option Address) (secrets : Life) (past : List (Stamped Step)) (k : Known) (now : ℕ) (c : Call)
+    → Stands home declared secrets past k → Stands home declared secrets (with_turn past (turn_of k now c)) (turn_of k now c).known
+call-stands home declared secrets past k now c stands =
+    let first = fresh home declared secrets in
+    every-call c (λ (t : Turn). Stands home declared secrets (with_turn past t) t.known)
+    (λ step t steady fits s. stands-noted after first past step t s)
+    (λ entry t own s. stands-noted after first past (Notes entry) t s)
+    (λ step t ack fits s. stands-noted after first past step t s)
+    (λ step t move fits s. stands-noted after first past step t s)
+    (λ number why t s. stands-noted after first past (Drops number why) t s)
+    (λ t s. stands-noted after first past (Called c) t s)
+    (begun now k) (stands-begun after first past now k stands)
+
+last-noted : (step : Step) (t : Turn) → (noted step t).known.last ≡ last_after t.known t.now step
+unfolding after
+last-noted step t = ap (λ (k : Known). k.last) (noted-known after step t)
+
+-- the turn is at this moment, and so is the last that is known
+abbrev IsAt : ℕ → Turn → Type 0
+IsAt now t = (t.now ≡ now) × (t.known.last.0 ≡ now)
+
+at-noted : (now : ℕ) (step : Step) (t : Turn) → IsAt now t → IsAt now (noted step t)
+at-noted now step t is = (noted-now after step t ∙ is.0, ap (λ (m : Moment). m.0) (last-noted step t) ∙ by (is_call step))
+  where
+    by : (b : Bool) → (let m : Moment = (if b then record { 0 = t.now } else t.known.last) in m.0) ≡ now
+    by true = is.0
+    by false = is.1
+
+pub call-last : (k : Known) (now : ℕ) (c : Call) → (turn_of k now c).known.last.0 ≡ now
+unfolding does
+call-last k now c =
+    let first = noted (Called c) (begun now k) in
+    let is = every-handles c (IsAt now)
+    (λ step t steady fits is. at-noted now step t is)
+    (λ entry t own is. at-noted now (Notes entry) t is)
+    (λ step t ack fits is. at-noted now step t is)
+    (λ step t move fits is. at-noted now step t is)
+    (λ number why t is. at-noted now (Drops number why) t is)
+    first (noted-now after (Called c) (begun now k), ap (λ (m : Moment). m.0) (last-noted (Called c) (begun now k))) in
+    is.1

@@ -1,0 +1,150 @@
+-- What steady steps and acknowledgements keep, the rules for a peer's messages keep; a message that is not taken is dropped at
+-- once.
+use Rattle.std.proofs.Common.{ℕ, List, refl, arith}
+use Rattle.std.specs.Prelude.{Option, Some, None, Bool, true, false, ◌==◌, ◌&&◌, not, is_some, if◌then◌else◌, Result, Ok, Err}
+use Rattle.mip_words.specs.declared.address.Address.{Address}
+use Rattle.mip_words.specs.declared.why.Why.{Why}
+use Rattle.mip_words.specs.declared.why.Why.TheVariants as whys
+use Rattle.mip_bulist.specs.declared.any.Any.{Any}
+use Rattle.mip_bulist.specs.declared.any.Any.TheVariants.{Idle, Probing, Proved, Pending, Bound}
+use Rattle.mip_bulist.specs.declared.list_full.ListFull.{ListFull}
+use Rattle.mip_bulist.specs.declared.state.Pending as pending
+use Rattle.mip_bulist.specs.declared.tested.Test.{Test}
+use Rattle.mip_bulist.specs.declared.trial.Trial.{Trial}
+use Rattle.mip_bulist.specs.declared.work.Work.TheVariants.{Resend}
+use Rattle.mip_bulist.specs.Rows.{given_row}
+use Rattle.mip_constants.specs.Constants.{initial_bindack_timeout}
+use Rattle.mip_updates.specs.Statuses.{accepts_it, sequence_out_of_window}
+use Rattle.mip_rules_mobile.specs.Calls.{Call}
+use Rattle.mip_rules_mobile.specs.Trials.{HomeTest, CareofTest, Resequence, Acknowledge, Rest, binds_to, is_idle}
+use Rattle.mip_rules_mobile.specs.Steps.{Step, Drops, Meets, Tries, Forgets, Unbinds, Stops}
+use Rattle.mip_rules_mobile.specs.HomeQuestions.{home_of, registration_of}
+use Rattle.mip_rules_mobile.specs.RowQuestions.{row_of, trial_of, is_bound_row, bound_row_of}
+use Rattle.mip_rules_mobile.specs.Turns.{Turn, noted}
+use Rattle.mip_rules_mobile.specs.TrialRules.{starts, updates}
+use Rattle.mip_rules_mobile.specs.PeerRules.{tells_of_nonces, begins_at, meets, comes_right, test_at, cookie, home_row, careof_row, keeps_home, keeps_careof, takes_home_test, takes_careof_test, acknowledges, binds_from, ends_for, is_granted, rests, takes_peer_ack, acks_trial, acks_row, takes_ack_of, loses, takes_error, renews, takes_refresh}
+use Rattle.mip_rules_mobile.specs.Fitting.{IsHanded}
+use Rattle.mip_rules_mobile.proofs.Steady.{Goes}
+use Rattle.mip_rules_mobile.proofs.TrialWalks.{every-starts, every-updates}
+use Rattle.mip_rules_mobile.proofs.HomeWalks.{Acks}
+
+module _ (c : Call) (P : Turn → Type 0) (more : Goes c P) where
+  pub every-meets : (peer : Address) (t : Turn) → P t → P (meets peer t)
+  unfolding meets
+  every-meets peer t p = by (given_row peer t.known.list.rows)
+    where
+      first : Turn
+      first = noted (Meets peer) t
+
+      q : P first
+      q = more (Meets peer) t refl tt p
+
+      if-due : (due : Bool) (row : ℕ) → P (if due then starts row first else first)
+      if-due true row = every-starts c P more row first q
+      if-due false row = q
+
+      by : (r : Result ℕ ListFull) → P (begins_at r first)
+      by (Ok row) = if-due (is_idle (trial_of first.known row) && (not (is_bound_row first.known first.now row) && is_some (registration_of first.known first.now))) row
+      by (Err full) = q
+
+  pub every-rests : (row : ℕ) (t : Turn) → P t → P (rests row t)
+  unfolding rests
+  every-rests row t p = more (Tries row Rest) (noted (Stops (Resend row)) t) refl tt (more (Stops (Resend row)) t refl tt p)
+
+  module _ (acks : Acks c P) where
+    every-granted : (row : ℕ) (u : Trial pending.Pending) (sequence lifetime : ℕ) (t : Turn) → P t → P (is_granted row u sequence lifetime t)
+    unfolding is_granted
+    every-granted row u sequence lifetime t p = by (binds_to u)
+      where
+        first : Turn
+        first = noted (Tries row (Acknowledge sequence lifetime)) (noted (Stops (Resend row)) t)
+
+        q : P first
+        q = more (Tries row (Acknowledge sequence lifetime)) (noted (Stops (Resend row)) t) refl tt (more (Stops (Resend row)) t refl tt p)
+
+        if-none : (none : Bool) → P (if none then first else binds_from u row lifetime first)
+        if-none true = q
+        if-none false = acks _ first refl tt q
+
+        by : (to : Option Address) → P (ends_for to u row lifetime first)
+        by None = more (Forgets row) first refl tt q
+        by (Some careof) = if-none (lifetime == 0)
+
+    every-peer_ack : (row : ℕ) (u : Trial pending.Pending) (status sequence lifetime : ℕ) (t : Turn) → P t → P (takes_peer_ack row u status sequence lifetime t)
+    unfolding takes_peer_ack
+    every-peer_ack row u status sequence lifetime t p = by (accepts_it status) (status == sequence_out_of_window) (tells_of_nonces status)
+      where
+        by : (accepted behind expired : Bool) → P (if accepted then is_granted row u sequence lifetime t else if behind then updates row initial_bindack_timeout (noted (Tries row (Resequence sequence)) t) else if expired then starts row t else rests row t)
+        by true behind expired = every-granted row u sequence lifetime t p
+        by false true expired = every-updates c P more row initial_bindack_timeout (noted (Tries row (Resequence sequence)) t) (omega arith) (more (Tries row (Resequence sequence)) t refl tt p)
+        by false false true = every-starts c P more row t p
+        by false false false = every-rests row t p
+
+    module _ (Q : Turn → Type 0) (done : (u : Turn) → P u → Q u) (t : Turn) (p : P t) (drops : (number : ℕ) (why : Why) → Q (noted (Drops number why) t)) where
+      pub every-home_test : (number : ℕ) (tunnelled : Bool) (peer : Address) (index c' : ℕ) (token : List ℕ) → IsHanded c t.now 0 (test_at t.now index token) → Q (takes_home_test number tunnelled peer index c' token t)
+      unfolding takes_home_test
+      every-home_test number tunnelled peer index c' token handed = by (comes_right t.known.standing tunnelled) (home_row t.known peer (cookie c') test (row_of t.known peer))
+        where
+          test : Test
+          test = test_at t.now index token
+
+          by : (right : Bool) (row : Option ℕ) → Q (if right then keeps_home number peer (cookie c') test row t else noted (Drops number whys.Cookie) t)
+          by true None = drops number whys.Cookie
+          by true (Some row) =
+              let step : Step = Tries row (HomeTest peer (cookie c') test) in
+              done (updates row initial_bindack_timeout (noted step t)) (every-updates c P more row initial_bindack_timeout (noted step t) (omega arith) (more step t refl handed p))
+          by false row = drops number whys.Cookie
+
+      pub every-careof_test : (number : ℕ) (tunnelled : Bool) (peer : Address) (index c' : ℕ) (token : List ℕ) → IsHanded c t.now 1 (test_at t.now index token) → Q (takes_careof_test number tunnelled peer index c' token t)
+      unfolding takes_careof_test
+      every-careof_test number tunnelled peer index c' token handed = by (comes_right t.known.standing (not tunnelled)) (careof_row t.known peer (cookie c') test (row_of t.known peer))
+        where
+          test : Test
+          test = test_at t.now index token
+
+          by : (right : Bool) (row : Option ℕ) → Q (if right then keeps_careof number peer (cookie c') test row t else noted (Drops number whys.Cookie) t)
+          by true None = drops number whys.Cookie
+          by true (Some row) =
+              let step : Step = Tries row (CareofTest peer (cookie c') test) in
+              done (updates row initial_bindack_timeout (noted step t)) (every-updates c P more row initial_bindack_timeout (noted step t) (omega arith) (more step t refl handed p))
+          by false row = drops number whys.Cookie
+
+      pub every-ack_of : (number : ℕ) (peer : Address) (status sequence lifetime : ℕ) (authenticator : Option (List ℕ)) (message : List ℕ) → Q (takes_ack_of number peer status sequence lifetime authenticator message t)
+      unfolding takes_ack_of
+      every-ack_of number peer status sequence lifetime authenticator message = by (row_of t.known peer)
+        where
+          home : Address
+          home = home_of t.known
+
+          pend : (row : ℕ) (u : Trial pending.Pending) (mine : Bool) → Q (if mine then takes_peer_ack row u status sequence lifetime t else noted (Drops number whys.Ack) t)
+          pend row u true = done (takes_peer_ack row u status sequence lifetime t) (every-peer_ack row u status sequence lifetime t p)
+          pend row u false = drops number whys.Ack
+
+          of : (row : ℕ) (o : Option Any) → Q (acks_trial number row home status sequence lifetime authenticator message o t)
+          of row (Some (Pending u)) = pend row u (acknowledges home status sequence authenticator message u)
+          of row (Some (Idle u)) = drops number whys.Ack
+          of row (Some (Probing u)) = drops number whys.Ack
+          of row (Some (Proved u)) = drops number whys.Ack
+          of row (Some (Bound u)) = drops number whys.Ack
+          of row None = drops number whys.Ack
+
+          by : (o : Option ℕ) → Q (acks_row number o status sequence lifetime authenticator message t)
+          by None = drops number whys.Ack
+          by (Some row) = of row (trial_of t.known row)
+
+      pub every-error : (number : ℕ) (peer : Address) (status : ℕ) (home : Address) → Q (takes_error number peer status home t)
+      unfolding takes_error
+      every-error number peer status home = by ((status == 1) && (home.0 == (home_of t.known).0)) (bound_row_of t.known t.now peer)
+        where
+          by : (mine : Bool) (o : Option ℕ) → Q (if mine then loses number o peer t else noted (Drops number whys.Error) t)
+          by true None = drops number whys.Error
+          by true (Some row) = done (rests row (noted (Unbinds row peer) t)) (every-rests row (noted (Unbinds row peer) t) (more (Unbinds row peer) t refl tt p))
+          by false o = drops number whys.Error
+
+      pub every-refresh : (number : ℕ) (peer : Address) → Q (takes_refresh number peer t)
+      unfolding takes_refresh
+      every-refresh number peer = by (bound_row_of t.known t.now peer)
+        where
+          by : (o : Option ℕ) → Q (renews number o t)
+          by None = drops number whys.Refresh
+          by (Some row) = done (starts row t) (every-starts c P more row t p)

@@ -1,0 +1,135 @@
+-- What stays the same along the steps that are steady: where the mobile stands, what its correspondent part is, and the
+-- moment of the turn.
+use Rattle.std.proofs.Common.{◌≡◌, ℕ, true, refl, ap, ◌∙◌, sym}
+use Rattle.mip_entries.specs.declared.entry.Entry.{Entry}
+use Rattle.mip_rules_correspondent.specs.Wholes.{is_own}
+use Rattle.mip_turns.proofs.TurnLaws.{noted-now, noted-known}
+use Rattle.mip_words.specs.declared.address.Address.{Address}
+use Rattle.mip_rules_correspondent.specs.declared.identity.Identity.{Identity}
+use Rattle.mip_rules_mobile.specs.declared.standing.Standing.{Standing}
+use Rattle.mip_rules_mobile.specs.Calls.{Call}
+use Rattle.mip_rules_mobile.specs.Steps.{Step, Called, Parts, Notes, Sends, Unsends, Drops, Claims, Releases, FindsTaken, Arrives, Detaches, Restarts, Registers, Unregisters, IsRefused, Resequences, Seeks, SeeksAgain, GivesUp, Finds, Chooses, Learns, Meets, Tries, Updates, Forgets, Binds, Unbinds, Waits, Stops, Rings}
+use Rattle.mip_rules_mobile.specs.Known.{Known}
+use Rattle.mip_rules_mobile.specs.HomeQuestions.{standing_after}
+use Rattle.mip_rules_mobile.specs.Questions.{after, part_after}
+use Rattle.mip_rules_mobile.specs.Turns.{Turn, noted}
+use Rattle.mip_rules_mobile.specs.Fitting.{IsAt, Fits, Steady, kind_of}
+
+-- every steady step may be taken that fits
+abbrev pub Goes : Call → (Turn → Type 0) → Type 0
+Goes c P = (step : Step) (t : Turn) → kind_of step ≡ Steady → Fits c t.now t.known step → P t → P (noted step t)
+
+pub standing-noted : (step : Step) (t : Turn) → (noted step t).known.standing ≡ standing_after t.known step
+unfolding after
+standing-noted step t = ap (λ (k : Known). k.standing) (noted-known after step t)
+
+pub identity-noted : (step : Step) (t : Turn) → (noted step t).known.part.identity ≡ (part_after t.known.part t.now step).identity
+unfolding after
+identity-noted step t = ap (λ (k : Known). k.part.identity) (noted-known after step t)
+
+-- the mobile stands here, its correspondent part is this, and the moment is this
+pub record Stays (s : Standing) (me : Identity) (now : ℕ) (t : Turn) : Type 0 where
+  pub standing : t.known.standing ≡ s
+  pub identity : t.known.part.identity ≡ me
+  pub moment : t.now ≡ now
+
+steady-standing : (step : Step) (k : Known) → kind_of step ≡ Steady → standing_after k step ≡ k.standing
+steady-standing (Called call) k is = absurd cc
+steady-standing (Parts call) k is = refl
+steady-standing (Notes entry) k is = absurd cc
+steady-standing (Sends sending) k is = refl
+steady-standing (Unsends why) k is = refl
+steady-standing (Drops number why) k is = refl
+steady-standing (Claims address) k is = refl
+steady-standing (Releases address) k is = refl
+steady-standing (FindsTaken address holder) k is = absurd cc
+steady-standing (Arrives address) k is = absurd cc
+steady-standing Detaches k is = absurd cc
+steady-standing (Restarts secrets) k is = absurd cc
+steady-standing (Registers agent end renew) k is = refl
+steady-standing (Unregisters agent) k is = refl
+steady-standing (IsRefused status) k is = refl
+steady-standing (Resequences agent last) k is = refl
+steady-standing Seeks k is = refl
+steady-standing SeeksAgain k is = refl
+steady-standing GivesUp k is = refl
+steady-standing (Finds agents) k is = refl
+steady-standing (Chooses agent) k is = refl
+steady-standing (Learns valid preferred) k is = refl
+steady-standing (Meets peer) k is = refl
+steady-standing (Tries row change) k is = refl
+steady-standing (Updates row update) k is = refl
+steady-standing (Forgets row) k is = refl
+steady-standing (Binds row peer end renew) k is = refl
+steady-standing (Unbinds row peer) k is = refl
+steady-standing (Waits work wait) k is = refl
+steady-standing (Stops work) k is = refl
+steady-standing (Rings work) k is = refl
+
+steady-identity : (step : Step) (k : Known) (at : ℕ) → kind_of step ≡ Steady → (part_after k.part at step).identity ≡ k.part.identity
+steady-identity (Called call) k at is = absurd cc
+steady-identity (Parts call) k at is = refl
+steady-identity (Notes entry) k at is = absurd cc
+steady-identity (Sends sending) k at is = refl
+steady-identity (Unsends why) k at is = refl
+steady-identity (Drops number why) k at is = refl
+steady-identity (Claims address) k at is = refl
+steady-identity (Releases address) k at is = refl
+steady-identity (FindsTaken address holder) k at is = refl
+steady-identity (Arrives address) k at is = refl
+steady-identity Detaches k at is = refl
+steady-identity (Restarts secrets) k at is = absurd cc
+steady-identity (Registers agent end renew) k at is = refl
+steady-identity (Unregisters agent) k at is = refl
+steady-identity (IsRefused status) k at is = refl
+steady-identity (Resequences agent last) k at is = refl
+steady-identity Seeks k at is = refl
+steady-identity SeeksAgain k at is = refl
+steady-identity GivesUp k at is = refl
+steady-identity (Finds agents) k at is = refl
+steady-identity (Chooses agent) k at is = refl
+steady-identity (Learns valid preferred) k at is = refl
+steady-identity (Meets peer) k at is = refl
+steady-identity (Tries row change) k at is = refl
+steady-identity (Updates row update) k at is = refl
+steady-identity (Forgets row) k at is = refl
+steady-identity (Binds row peer end renew) k at is = refl
+steady-identity (Unbinds row peer) k at is = refl
+steady-identity (Waits work wait) k at is = refl
+steady-identity (Stops work) k at is = refl
+steady-identity (Rings work) k at is = refl
+
+pub stays-noted : (s : Standing) (me : Identity) (now : ℕ) (step : Step) (t : Turn) → kind_of step ≡ Steady → Stays s me now t → Stays s me now (noted step t)
+stays-noted s me now step t is stays = record {
+  standing = standing-noted step t ∙ steady-standing step t.known is ∙ stays.standing;
+  identity = identity-noted step t ∙ steady-identity step t.known t.now is ∙ stays.identity;
+  moment = noted-now after step t ∙ stays.moment;
+}
+
+pub stays-told : (s : Standing) (me : Identity) (now : ℕ) (entry : Entry) (t : Turn) → Stays s me now t → Stays s me now (noted (Notes entry) t)
+stays-told s me now entry t stays = record {
+  standing = standing-noted (Notes entry) t ∙ stays.standing;
+  identity = identity-noted (Notes entry) t ∙ stays.identity;
+  moment = noted-now after (Notes entry) t ∙ stays.moment;
+}
+
+-- an entry of the correspondent part may be left
+abbrev pub Notings : (Turn → Type 0) → Type 0
+Notings P = (entry : Entry) (t : Turn) → is_own entry ≡ true → P t → P (noted (Notes entry) t)
+
+-- so a walk over steady steps stays
+pub staying : (c : Call) (s : Standing) (me : Identity) (now : ℕ) → Goes c (Stays s me now)
+staying c s me now step t is fits stays = stays-noted s me now step t is stays
+
+pub stays-here : (t : Turn) → Stays t.known.standing t.known.part.identity t.now t
+stays-here t = record { standing = refl; identity = refl; moment = refl }
+
+-- where the mobile stood before a steady step it stands after it, with the same home address
+pub at-noted : (s : Standing) (home : Address) (step : Step) (t : Turn) → kind_of step ≡ Steady → IsAt t.known s home → IsAt (noted step t).known s home
+at-noted s home step t is at = (
+  standing-noted step t ∙ steady-standing step t.known is ∙ at.0,
+  at.1 ∙ sym (ap (λ (i : Identity). i.own) (identity-noted step t ∙ steady-identity step t.known t.now is)),
+)
+
+pub at-stays : (s : Standing) (home : Address) (t u : Turn) → Stays t.known.standing t.known.part.identity t.now u → IsAt t.known s home → IsAt u.known s home
+at-stays s home t u stays at = (stays.standing ∙ at.0, at.1 ∙ sym (ap (λ (i : Identity). i.own) stays.identity))

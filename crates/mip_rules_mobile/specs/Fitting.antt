@@ -1,0 +1,117 @@
+-- What is true of each step of a mobile where it is taken: a packet leaves from the address that the mobile stands at, a
+-- packet of the correspondent part is one that a correspondent sends, and an update is the one that its trial makes.
+-- RFC 6275 sections 11.3, 11.6 and 11.7
+use Rattle.std.specs.Prelude.{◌≡◌, ℕ, ◌<◌, List, [], ◌∷◌, Option, Some, true, Ok}
+use Rattle.mip_words.specs.declared.address.Address.{Address}
+use Rattle.mip_words.specs.declared.shield.Shield.{Shield}
+use Rattle.mip_says.specs.Says.{carried, Test as Told}
+use Rattle.mip_bulist.specs.declared.tested.Test.{Test}
+use Rattle.mip_rules_correspondent.specs.declared.identity.Identity.{Identity}
+use Rattle.mip_rules_correspondent.specs.Calls as part_calls
+use Rattle.mip_rules_correspondent.specs.Sendings as parts
+use Rattle.mip_rules_correspondent.specs.Wholes.{is_own}
+use Rattle.mip_rules_mobile.specs.declared.standing.Standing.{Standing}
+use Rattle.mip_rules_mobile.specs.declared.standing.Standing.TheVariants.{AtHome, Away}
+use Rattle.mip_rules_mobile.specs.Calls as calls
+use Rattle.mip_rules_mobile.specs.Calls.{Call}
+use Rattle.mip_rules_mobile.specs.Trials.{Change, HomeTest, CareofTest, makes}
+use Rattle.mip_rules_mobile.specs.Sendings.{Inner, OfPart, AsksHome, Given, Sending, FromHome, ByTunnel, AsksCareof, RegistersHome, DeregistersHome, SendsData, Discovers, Solicits, PeerUpdate}
+use Rattle.mip_rules_mobile.specs.Steps.{Step, Called, Notes, Sends, Drops, FindsTaken, Arrives, Detaches, Restarts, Registers, Tries, Updates, Binds, Waits}
+use Rattle.mip_rules_mobile.specs.Known.{Known}
+use Rattle.mip_rules_mobile.specs.HomeQuestions.{home_of}
+use Rattle.mip_rules_mobile.specs.RowQuestions.{peer_of_row, trial_of}
+use Rattle.mip_rules_mobile.specs.Questions.{after}
+use Rattle.mip_rules_mobile.specs.TrialRules.{source_for}
+
+-- what the correspondent part is asked is what the mobile was asked, where it is asked to send data
+abbrev pub IsAsked : Call → part_calls.Call → Type 0
+IsAsked c (part_calls.Send to proto payload) = c ≡ calls.Send to proto payload
+IsAsked c _ = Unit {0}
+
+-- a packet that a correspondent sends in a call at a moment
+pub record IsOfPart (c : Call) (me : Identity) (now : ℕ) (packet : List ℕ) : Type 0 where
+  pub call : part_calls.Call
+  pub asked : IsAsked c call
+  pub sending : parts.Sending
+  pub is : parts.IsPacketOf me call now sending packet
+
+-- a packet from the home address: of the correspondent part, a Home Test Init, or the one that this call gave
+abbrev pub IsInner : Call → Identity → ℕ → Inner → Type 0
+IsInner c me now (OfPart packet) = IsOfPart c me now packet
+IsInner c me now (AsksHome peer cookie) = Unit {0}
+IsInner c me now (Given packet) = c ≡ calls.Tunnel packet
+
+-- it stands there, and this is its home address
+abbrev pub IsAt : Known → Standing → Address → Type 0
+IsAt k standing home = (k.standing ≡ standing) × (home ≡ home_of k)
+
+-- a packet leaves from the address that the mobile stands at
+abbrev pub IsSentBy : Call → ℕ → Known → Sending → Type 0
+IsSentBy c now k (FromHome home inner) = IsAt k AtHome home × IsInner c k.part.identity now inner
+IsSentBy c now k (ByTunnel home careof agent inner) = IsAt k (Away careof) home × IsInner c k.part.identity now inner
+IsSentBy c now k (AsksCareof careof peer cookie) = k.standing ≡ Away careof
+IsSentBy c now k (RegistersHome home careof agent sequence) = IsAt k (Away careof) home
+IsSentBy c now k (DeregistersHome home agent sequence) = IsAt k AtHome home
+IsSentBy c now k (SendsData home careof to held proto payload) = IsAt k (Away careof) home × (c ≡ calls.Send to proto payload)
+IsSentBy c now k (Discovers home careof identifier) = IsAt k (Away careof) home
+IsSentBy c now k (Solicits home careof agent identifier) = IsAt k (Away careof) home
+
+-- an update is the one that its row's trial makes, from where such an update is sent
+pub record IsUpdateOf (now : ℕ) (k : Known) (row : ℕ) (u : PeerUpdate) : Type 0 where
+  pub home : u.home ≡ home_of k
+  pub peer : peer_of_row k row ≡ Some u.peer
+  pub made : makes (record { 0 = now }) (trial_of k row) ≡ Some (Ok u.made)
+  pub source : source_for k.standing (home_of k) u.made ≡ Some u.source
+
+-- a test that was kept: a packet that was handed over said it, at this moment
+pub record IsHanded (c : Call) (now kind : ℕ) (test : Test) : Type 0 where
+  pub number : ℕ
+  pub shield : Option Shield
+  pub packet : List ℕ
+  pub destination : Address
+  pub call : c ≡ calls.Take number shield packet
+  pub says : carried packet ≡ Told kind test.index test.token.0 destination
+  pub moment : test.at.0 ≡ now
+
+-- a trial is given a test that was handed over
+abbrev pub IsChangedBy : Call → ℕ → Change → Type 0
+IsChangedBy c now (HomeTest peer cookie test) = IsHanded c now 0 test
+IsChangedBy c now (CareofTest peer cookie test) = IsHanded c now 1 test
+IsChangedBy c now _ = Unit {0}
+
+-- a step is taken in a call, at a moment, where this is known
+abbrev pub Fits : Call → ℕ → Known → Step → Type 0
+Fits c now k (Called call) = c ≡ call
+Fits c now k (Notes entry) = is_own entry ≡ true
+Fits c now k (Sends sending) = IsSentBy c now k sending
+Fits c now k (Updates row update) = IsUpdateOf now k row update
+Fits c now k (Tries row change) = IsChangedBy c now change
+Fits c now k (Waits work wait) = 0 < wait
+Fits c now k _ = Unit {0}
+
+-- each step fits where it is taken
+abbrev pub EachFits : Call → ℕ → Known → List Step → Type 0
+EachFits c now k [] = Unit {0}
+EachFits c now k (step ∷ steps) = Fits c now k step × EachFits c now (after k (record { at = now; step = step })) steps
+
+-- which steps change what others rest on, or tell of what did not change: a call begins, the mobile moves or restarts, a
+-- binding is acknowledged, a packet is dropped, the correspondent part leaves an entry
+pub data Kind : Type 0 where
+  OfCall : Kind
+  OfMove : Kind
+  OfAck : Kind
+  OfDrop : Kind
+  OfNote : Kind
+  Steady : Kind
+
+abbrev pub kind_of : Step → Kind
+kind_of (Called call) = OfCall
+kind_of (Drops number why) = OfDrop
+kind_of (Notes entry) = OfNote
+kind_of (FindsTaken address holder) = OfMove
+kind_of (Arrives address) = OfMove
+kind_of Detaches = OfMove
+kind_of (Restarts secrets) = OfMove
+kind_of (Registers agent end renew) = OfAck
+kind_of (Binds row peer end renew) = OfAck
+kind_of _ = Steady

@@ -1,0 +1,82 @@
+-- What a mobile knows of its past, and what each step makes of it.
+use Rattle.std.specs.Prelude.{ℕ, List, [], false, if◌then◌else◌, Option, None}
+use Rattle.mip_words.specs.declared.address.Address.{Address}
+use Rattle.mip_words.specs.declared.moment.Moment.{Moment}
+use Rattle.mip_nonce.specs.Secrets.{Life}
+use Rattle.mip_entries.specs.Stamped.{Stamped}
+use Rattle.mip_turns.specs.Turns.{known_by}
+use Rattle.mip_rules_correspondent.specs.Questions as parts
+use Rattle.mip_rules_correspondent.specs.Seen.{CorrespondentSeen, called}
+use Rattle.mip_rules_mobile.specs.declared.standing.Standing.TheVariants.{AtHome}
+use Rattle.mip_rules_mobile.specs.Steps.{Step, Parts, Restarts, is_call}
+use Rattle.mip_rules_mobile.specs.Known.{Known}
+use Rattle.mip_rules_mobile.specs.HomeQuestions.{standing_after, registered_after, latest_after, agent_after, owes_after, numberings_after, wait_after}
+use Rattle.mip_rules_mobile.specs.DiscoveryQuestions.{discovery_after, discoveries_after, found_after, tried_after, chosen_after, solicitations_after}
+use Rattle.mip_rules_mobile.specs.RowQuestions.{rows_after, peers_after, cookies_after, fresh_peers}
+use Rattle.mip_rules_mobile.specs.TimerQuestions.{timers_after}
+
+-- the moment of the last call that it was given, 0 before the first
+abbrev pub last_after : Known → ℕ → Step → Moment
+last_after k at step = if is_call step then record { 0 = at } else k.last
+
+-- a correspondent part with room for sixteen homes, to which nothing happened yet
+abbrev pub fresh_part : Address → Life → CorrespondentSeen
+fresh_part home secrets = record { identity = record { own = home; secrets = secrets; room = 16 }; known = parts.fresh 16 }
+
+-- the correspondent part: what its calls make of it; a restart gives it new secrets
+abbrev pub part_after : CorrespondentSeen → ℕ → Step → CorrespondentSeen
+part_after part at (Parts call) = called part at call
+part_after part at (Restarts secrets) = fresh_part part.identity.own secrets
+part_after part at _ = part
+
+-- one step more
+unfoldable pub after : Known → Stamped Step → Known
+after k s = record {
+  last = last_after k s.at s.step;
+  part = part_after k.part s.at s.step;
+  declared = k.declared;
+  standing = standing_after k s.step;
+  registered = registered_after k s.step;
+  latest = latest_after k s.at s.step;
+  agent = agent_after k s.step;
+  owes = owes_after k s.step;
+  numberings = numberings_after k s.step;
+  wait = wait_after k s.step;
+  discovery = discovery_after k s.at s.step;
+  discoveries = discoveries_after k s.step;
+  found = found_after k s.step;
+  tried = tried_after k s.step;
+  chosen = chosen_after k s.step;
+  solicitations = solicitations_after k s.step;
+  cookies = cookies_after k s.step;
+  list = record { rows = rows_after k.list.rows s.at s.step; timers = timers_after k.list.timers s.at s.step };
+  peers = peers_after k.peers s.step;
+}
+
+-- a new mobile: its home address, the agent that it is declared with, and the secrets of its first life
+abbrev pub fresh : Address → Option Address → Life → Known
+fresh home declared secrets = record {
+  last = record { 0 = 0 };
+  part = fresh_part home secrets;
+  declared = declared;
+  standing = AtHome;
+  registered = None;
+  latest = None;
+  agent = None;
+  owes = false;
+  numberings = [];
+  wait = 0;
+  discovery = None;
+  discoveries = 1;
+  found = [];
+  tried = 0;
+  chosen = None;
+  solicitations = 1;
+  cookies = 0;
+  list = record { rows = []; timers = [] };
+  peers = fresh_peers;
+}
+
+-- what a past leaves known
+unfoldable pub known : Address → Option Address → Life → List (Stamped Step) → Known
+known home declared secrets past = known_by after (fresh home declared secrets) past

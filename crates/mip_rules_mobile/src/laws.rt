@@ -1,0 +1,106 @@
+//! The laws by which a mobile stands for a past, and by which its steps, packets and timers are as they should be.
+
+ghost use Rattle.std.specs.Prelude.{◌≡◌, ℕ, ◌+◌, List, [], Option, Some, None, Bool, true, false, is_some, length, filter, if◌then◌else◌};
+ghost use Rattle.std.specs.List.{list_any};
+ghost use Rattle.mip_words.specs.declared.address.Address.{Address};
+ghost use Rattle.mip_words.specs.declared.shield.Shield.{Shield};
+ghost use Rattle.mip_nonce.specs.Secrets.{Life};
+ghost use Rattle.mip_lists.specs.Last.{since};
+ghost use Rattle.mip_bulist.specs.Timers.{AreDueFrom, AreInOrder};
+ghost use Rattle.mip_entries.specs.Stamped.{Stamped};
+ghost use Rattle.mip_rules_mobile.specs.declared.standing.Standing.TheVariants.{AtHome};
+ghost use Rattle.mip_rules_mobile.specs.Calls.{Call, Take, Tick};
+ghost use Rattle.mip_rules_mobile.specs.Sendings.{PeerUpdate};
+ghost use Rattle.mip_rules_mobile.specs.Steps.{Step, is_call};
+ghost use Rattle.mip_rules_mobile.specs.Known.{Known};
+ghost use Rattle.mip_rules_mobile.specs.HomeQuestions.{standing_said, registered_said, latest_said, agent_said, owes_said, next_said, next_to};
+ghost use Rattle.mip_rules_mobile.specs.DiscoveryQuestions.{found_said, chosen_said, is_choice};
+ghost use Rattle.mip_rules_mobile.specs.Questions.{known};
+ghost use Rattle.mip_rules_mobile.specs.Turns.{Stands, with_turn};
+ghost use Rattle.mip_rules_mobile.specs.Told.{last_told, next_in};
+ghost use Rattle.mip_rules_mobile.specs.Fitting.{IsUpdateOf, EachFits};
+ghost use Rattle.mip_rules_mobile.specs.Kept.{RowsGiven, IsMadeFrom};
+ghost use Rattle.mip_rules_mobile.specs.Refusing.{is_refusal, tables_of};
+ghost use Rattle.mip_rules_mobile.specs.Answering.{EachAnswer, CanBeAsked, IsWhole, LeavesRight, IsElsewhere, SaysRight};
+ghost use Rattle.mip_rules_mobile.specs.Doing.{turn_of};
+
+/// Whoever stands for a past knows what it leaves known.
+pub fn stands_for_what_is_known()
+    ensures { (home : Address) (declared : Option Address) (secrets : Life) (past : List (Stamped Step)) (k : Known) → Stands home declared secrets past k → k ≡ known home declared secrets past }
+{}
+
+/// Whoever stands for a past stands, after any call, for the past with the call's turn.
+pub fn stands_after_each_call()
+    ensures { (home : Address) (declared : Option Address) (secrets : Life) (past : List (Stamped Step)) (k : Known) (now : ℕ) (c : Call) → Stands home declared secrets past k
+        → Stands home declared secrets (with_turn past (turn_of k now c)) (turn_of k now c).known }
+{}
+
+/// Each step of a call fits where it is taken: a packet leaves from the address that the mobile stands at, a packet of its
+/// correspondent part is one that a correspondent sends, an update is the one that its trial makes.
+pub fn each_step_fits()
+    ensures { (k : Known) (now : ℕ) (c : Call) → EachFits c now k (turn_of k now c).steps }
+{}
+
+/// The last moment that a call leaves known is its own.
+pub fn each_call_is_the_last()
+    ensures { (k : Known) (now : ℕ) (c : Call) → (turn_of k now c).known.last.0 ≡ now }
+{}
+
+/// What is known of a question is what the last step says that says anything of it: where the mobile stands, whether it is
+/// registered, the last home registration or deregistration and the agent of the last registration, whether one is to be undone,
+/// the next sequence to an agent, the agents that were found, how many of them were chosen since, and the last one chosen.
+pub fn each_answer_is_the_last_told()
+    ensures last { (home : Address) (declared : Option Address) (secrets : Life) (past : List (Stamped Step)) → (known home declared secrets past).last.0 ≡ last_told (λ s. if is_call s.step then Some s.at else None) 0 past }
+    ensures standing { (home : Address) (declared : Option Address) (secrets : Life) (past : List (Stamped Step)) → (known home declared secrets past).standing ≡ last_told (λ s. standing_said home s.step) AtHome past }
+    ensures registered { (home : Address) (declared : Option Address) (secrets : Life) (past : List (Stamped Step)) → (known home declared secrets past).registered ≡ last_told (λ s. registered_said s.step) None past }
+    ensures latest { (home : Address) (declared : Option Address) (secrets : Life) (past : List (Stamped Step)) → (known home declared secrets past).latest ≡ last_told (λ s. latest_said s.at s.step) None past }
+    ensures agent { (home : Address) (declared : Option Address) (secrets : Life) (past : List (Stamped Step)) → (known home declared secrets past).agent ≡ last_told (λ s. agent_said s.step) None past }
+    ensures owes { (home : Address) (declared : Option Address) (secrets : Life) (past : List (Stamped Step)) → (known home declared secrets past).owes ≡ last_told (λ s. owes_said s.step) false past }
+    ensures next { (home : Address) (declared : Option Address) (secrets : Life) (past : List (Stamped Step)) (agent : Address) → next_to agent (known home declared secrets past).numberings ≡ last_told (λ s. next_in agent (next_said s.step)) 1 past }
+    ensures found { (home : Address) (declared : Option Address) (secrets : Life) (past : List (Stamped Step)) → (known home declared secrets past).found ≡ last_told (λ s. found_said s.step) [] past }
+    ensures tried { (home : Address) (declared : Option Address) (secrets : Life) (past : List (Stamped Step)) → (known home declared secrets past).tried ≡ length (filter (λ s. is_choice s.step) (since (λ s. is_some (found_said s.step)) past)) }
+    ensures chosen { (home : Address) (declared : Option Address) (secrets : Life) (past : List (Stamped Step)) → (known home declared secrets past).chosen ≡ last_told (λ s. chosen_said s.step) None past }
+{}
+
+/// After every past the timers stand in order of due moment.
+pub fn timers_are_in_order()
+    ensures { (home : Address) (declared : Option Address) (secrets : Life) (past : List (Stamped Step)) → AreInOrder (known home declared secrets past).list.timers }
+{}
+
+/// A tick leaves nothing that is due at its moment.
+pub fn a_tick_leaves_nothing_due()
+    ensures { (k : Known) (now : ℕ) → AreInOrder k.list.timers → AreDueFrom (now + 1) (turn_of k now Tick).known.list.timers }
+{}
+
+/// Whatever a call gives out is whole: a packet has its fixed header, and an entry is of a kind that a mobile leaves. What it is
+/// asked to send has a fixed header too.
+pub fn answers_are_whole()
+    ensures { (k : Known) (now : ℕ) (c : Call) → CanBeAsked c → EachAnswer IsWhole now k (turn_of k now c).steps }
+{}
+
+/// Away, the care-of address is another one than the home address, after every past; a packet that is handed to the wire then
+/// leaves from the care-of address, and detached none is.
+pub fn packets_leave_from_where_it_stands()
+    ensures elsewhere { (home : Address) (declared : Option Address) (secrets : Life) (past : List (Stamped Step)) → IsElsewhere (known home declared secrets past) }
+    ensures leaves { (k : Known) (now : ℕ) (c : Call) → IsElsewhere k → EachAnswer LeavesRight now k (turn_of k now c).steps }
+{}
+
+/// Whatever a mobile sends is a test of its own correspondent part, or says no test, or says what the packet said that it was
+/// asked to send: it passes on no other test.
+pub fn each_test_is_its_own()
+    ensures { (k : Known) (now : ℕ) (c : Call) → CanBeAsked c → EachAnswer (SaysRight c now) now k (turn_of k now c).steps }
+{}
+
+/// A packet that is dropped, and an update that is denied, change nothing but the moments of the last calls: no binding, no
+/// registration, no trial, no timer, no list.
+pub fn refused_changes_nothing()
+    ensures { (k : Known) (now number : ℕ) (shield : Option Shield) (packet : List ℕ) → list_any is_refusal (turn_of k now (Take number shield packet)).steps ≡ true
+        → tables_of (turn_of k now (Take number shield packet)).known ≡ tables_of k }
+{}
+
+/// The tests that a trial keeps were given to it since it started, after every past; and an update has the tokens of such
+/// tests. That a test which is given was handed over is part of `each_step_fits`.
+pub fn updates_are_of_tests_since_the_start()
+    ensures trials { (home : Address) (declared : Option Address) (secrets : Life) (past : List (Stamped Step)) → RowsGiven past (known home declared secrets past).list.rows }
+    ensures updates { (home : Address) (declared : Option Address) (secrets : Life) (past : List (Stamped Step)) (now row : ℕ) (u : PeerUpdate) → IsUpdateOf now (known home declared secrets past) row u → IsMadeFrom past row u.made }
+{}
