@@ -1,14 +1,14 @@
 -- What is known of the first answer in a list, of what stands before it, and of items seen with those before them.
-use Rattle.std.proofs.Common.{◌≡◌, ℕ, ◌≤◌, List, [], ◌∷◌, ◌++◌, Bool, true, false, refl, sym, ap, ◌∙◌, subst, arith}
+use Rattle.std.proofs.Common.{◌≡◌, ℕ, ◌≤◌, List, [], ◌∷◌, ◌++◌, Bool, true, false, refl, sym, ap, ◌∙◌, arith}
 use Rattle.std.specs.Prelude.{fold, map, Option, Some, None, ◌||◌, ◌&&◌, ◌==◌, nat_lt, if◌then◌else◌}
-use Rattle.std.specs.List.{list_any, find, cons_option, filter_map}
+use Rattle.std.specs.List.{list_any, find, cons_option}
 use Rattle.std.specs.Option.{option_or}
 use Rattle.std.proofs.lemmas.List.{append_assoc, append-nil}
 use Rattle.std.proofs.lemmas.List.Folds.{list_any-append}
 use Rattle.std.proofs.lemmas.Bool.{or_left, or_right, or_parts, and_parts, and_from, and_right, eqb-true, ltb-true, ltb-false}
 use Rattle.mip_lists.specs.EachAfter.{EachAfter}
 use Rattle.mip_lists.specs.Last.{or_else}
-use Rattle.mip_marks.specs.Lists.{first_some, until, along, if_passes, lesser}
+use Rattle.mip_marks.specs.Lists.{first_some, until, along, lesser}
 
 -- where the first item stands that says something
 pub record SaysFirst {X Y : Type 0} (says : X → Option Y) (xs : List X) (y : Y) : Type 0 where

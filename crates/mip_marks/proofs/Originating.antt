@@ -1,5 +1,5 @@
 -- A mark that is not forged is an origin.
-use Rattle.std.proofs.Common.{◌≡◌, ℕ, List, true, refl, sym, ap, ◌∙◌, subst}
+use Rattle.std.proofs.Common.{◌≡◌, ℕ, List, refl, sym, ap, ◌∙◌, subst}
 use Rattle.std.specs.Prelude.{map, Option, Some, None}
 use Rattle.std.specs.List.{list_any}
 use Rattle.mip_words.specs.declared.address.Address.{Address}
@@ -11,7 +11,7 @@ use Rattle.mip_marks.specs.declared.mark.Mark.TheVariants.{Origin}
 use Rattle.mip_marks.specs.Keys.{kbm_of_tokens}
 use Rattle.mip_marks.specs.Lists.{until}
 use Rattle.mip_marks.specs.Entries.{declared_in}
-use Rattle.mip_marks.specs.Sights.{Sight, sight, sights}
+use Rattle.mip_marks.specs.Sights.{sight, sights}
 use Rattle.mip_marks.specs.Reached.{reaches}
 use Rattle.mip_marks.specs.Names.{life_at}
 use Rattle.mip_marks.specs.Firsts.{is_post}
@@ -23,7 +23,7 @@ use Rattle.mip_marks.specs.Laws.{AreLawful}
 use Rattle.mip_marks.proofs.Tokens.{same_bytes}
 use Rattle.mip_marks.proofs.Tracing.{traced}
 use Rattle.mip_marks.proofs.Plain.{carries_of_key}
-use Rattle.mip_marks.proofs.Standing.{FirstStands, first_stands, reached_stands, sent_stands}
+use Rattle.mip_marks.proofs.Standing.{first_stands, reached_stands, sent_stands}
 
 -- a token that is traced reached the maker before these entries ended
 reached_of : (past earlier : List Entry) (maker : Maker) (k : ℕ) (claim : Claim) (number : ℕ) → until (is_post k) (sights past) ≡ map (sight past) earlier

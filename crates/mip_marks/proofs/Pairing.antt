@@ -4,19 +4,19 @@ use Rattle.std.specs.Prelude.{Option, Some, None, ◌&&◌, ◌||◌, ◌==◌, 
 use Rattle.std.specs.List.{list_any, cons_option}
 use Rattle.std.specs.Option.{option_and_then}
 use Rattle.std.specs.Str.{bytes_eq}
-use Rattle.std.proofs.lemmas.Bool.{and_parts, and_from, eq-eqb, eqb-true, false≢true, or_cases, or_left, or_right}
+use Rattle.std.proofs.lemmas.Bool.{and_parts, and_from, eqb-true, or_left, or_right}
 use Rattle.mip_words.specs.declared.ids.NodeId.{NodeId}
 use Rattle.mip_marks.specs.declared.maker.Maker.{Maker}
 use Rattle.mip_marks.specs.declared.maker.Maker.TheVariants.{Node, Outsider}
 use Rattle.mip_marks.specs.Lists.{first_some, until, if_passes}
 use Rattle.mip_marks.specs.Sights.{Sight}
 use Rattle.mip_marks.specs.Sights.Sight.{Heard, Made}
-use Rattle.mip_marks.specs.Reached.{is_token, is_heard, is_handed, has_reached, value_heard, values}
+use Rattle.mip_marks.specs.Reached.{is_token, is_heard, is_handed, has_reached, values}
 use Rattle.mip_marks.specs.Firsts.{is_post}
 use Rattle.mip_marks.specs.Pairs.{Pair, alone, both, made_with, as_asked, pair_made, first_with, first_pair, pair_by}
 use Rattle.mip_marks.specs.Laws.{IsMadeBefore, IsLawful, AreLawful}
-use Rattle.mip_marks.proofs.ListLaws.{SaysFirst, first_some-found, until_past, any_at, any_front}
-use Rattle.mip_marks.proofs.Tokens.{same_bytes, bytes_same, law_at}
+use Rattle.mip_marks.proofs.ListLaws.{first_some-found, until_past, any_at, any_front}
+use Rattle.mip_marks.proofs.Tokens.{bytes_same, law_at}
 
 -- the care-of token has reached the maker, where one is asked for
 abbrev pub HasCome : Maker → List Sight → Option ℕ → Option (List ℕ) → Type 0

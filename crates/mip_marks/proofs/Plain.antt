@@ -1,35 +1,25 @@
 -- From sights back to the entries of a history.
-use Rattle.std.proofs.Common.{◌≡◌, ℕ, suc, ◌≤◌, List, [], ◌∷◌, ◌++◌, Bool, true, false, refl, sym, ap, ◌∙◌, subst}
-use Rattle.std.specs.Prelude.{map, fold, Option, Some, None, ◌||◌, ◌&&◌, ◌==◌, if◌then◌else◌, option_map, ⊤}
-use Rattle.std.specs.List.{list_any, find, filter_map, cons_option}
-use Rattle.std.specs.Option.{option_or, option_and_then, option_map_or}
+use Rattle.std.proofs.Common.{◌≡◌, ℕ, List, [], ◌∷◌, Bool, true, false, refl, sym, ap, ◌∙◌}
+use Rattle.std.specs.Prelude.{map, fold, Option, Some, None, ◌||◌, ◌&&◌, ◌==◌, if◌then◌else◌, option_map}
+use Rattle.std.specs.List.{list_any, filter_map, cons_option}
+use Rattle.std.specs.Option.{option_or, option_and_then}
 use Rattle.std.specs.Str.{bytes_eq}
-use Rattle.std.proofs.lemmas.Bool.{and_parts, and_from, or_left, or_right, or_parts, eq-eqb, eqb-true, false≢true}
-use Rattle.std.proofs.lemmas.List.Folds.{list_any-append}
-use Rattle.std.proofs.lemmas.List.{append_assoc}
+use Rattle.std.proofs.lemmas.Bool.{and_parts, and_from, or_left, or_right, eq-eqb, eqb-true, false≢true}
 use Rattle.mip_words.specs.declared.address.Address.{Address}
-use Rattle.mip_words.specs.declared.ids.NodeId.{NodeId}
-use Rattle.mip_lists.specs.Last.{or_else}
-use Rattle.mip_lists.proofs.LastLaws.{first_of_any}
 use Rattle.mip_says.specs.Says.{Carried, Key, carried}
 use Rattle.mip_says.specs.Says.Carried.{Test, Update, Other}
 use Rattle.mip_entries.specs.declared.entry.Entry.{Entry}
 use Rattle.mip_entries.specs.declared.entry.Entry.TheVariants as entries
 use Rattle.mip_marks.specs.declared.maker.Maker.{Maker}
 use Rattle.mip_marks.specs.declared.maker.Maker.TheVariants.{Node, Outsider}
-use Rattle.mip_marks.specs.declared.accepted_update.AcceptedUpdate.{AcceptedUpdate}
-use Rattle.mip_marks.specs.Lists.{first_some, until, along, least}
-use Rattle.mip_marks.specs.Entries.{packet_told, packet_in, declared_in, restarts, life_in}
+use Rattle.mip_marks.specs.Lists.{first_some}
+use Rattle.mip_marks.specs.Entries.{packet_told, packet_in, restarts}
 use Rattle.mip_marks.specs.Sights.{Sight, sight, sights}
-use Rattle.mip_marks.specs.Sights.Sight.{Sent, Injected, Heard, Handed}
-use Rattle.mip_marks.specs.Reached.{reaches, has_reached}
-use Rattle.mip_marks.specs.Names.{Name, Naming, is_agent, lives, life_at, naming, namings, same_name, is_own}
-use Rattle.mip_marks.specs.Firsts.{Post, post_with, post_at, is_post, number_of, key_in, key_at, same_key, carries_key, first_update}
-use Rattle.mip_marks.specs.Pairs.{Pair, gives}
-use Rattle.mip_marks.specs.Causes.{Claim, home_claim, careof_claim_in}
-use Rattle.mip_marks.specs.Origins.{Carries, IsTest, poster, IsFirstOf, reaching, HasReached, WasSent, HasCareof, HasOrigin}
-use Rattle.mip_marks.specs.Traces.{IsTraced, IsCareofTraced, IsTracedMark}
-use Rattle.mip_marks.proofs.ListLaws.{SaysFirst, first_some-found, until_at, any_at, any_front, along_here, along_found, least_passes, least_least, fold_first, MapSplit, map_split}
+use Rattle.mip_marks.specs.Sights.Sight.{Sent, Injected}
+use Rattle.mip_marks.specs.Names.{lives}
+use Rattle.mip_marks.specs.Firsts.{Post, post_with, post_at, is_post, number_of, key_in, key_at, same_key}
+use Rattle.mip_marks.specs.Origins.{Carries, poster}
+use Rattle.mip_marks.proofs.ListLaws.{fold_first}
 use Rattle.mip_marks.proofs.Tokens.{same_bytes, bytes_same}
 
 -- lives are told by the same entries

@@ -1,6 +1,6 @@
 -- What is traced on sights stands among the entries of the history.
-use Rattle.std.proofs.Common.{◌≡◌, ℕ, ◌≤◌, List, [], ◌∷◌, ◌++◌, Bool, true, false, refl, sym, ap, ◌∙◌, subst}
-use Rattle.std.specs.Prelude.{map, Option, Some, None, ◌||◌, ◌&&◌, ◌==◌, if◌then◌else◌, option_map, ⊤}
+use Rattle.std.proofs.Common.{◌≡◌, ℕ, List, [], ◌∷◌, ◌++◌, Bool, true, false, refl, sym, ap, ◌∙◌, subst}
+use Rattle.std.specs.Prelude.{map, Option, Some, None, ◌&&◌, ◌==◌, if◌then◌else◌, option_map}
 use Rattle.std.specs.List.{list_any, find, filter_map}
 use Rattle.std.specs.Option.{option_map_or, option_and_then}
 use Rattle.std.specs.Str.{bytes_eq}
@@ -16,15 +16,15 @@ use Rattle.mip_entries.specs.declared.entry.Entry.{Entry}
 use Rattle.mip_entries.specs.declared.entry.Entry.TheVariants as entries
 use Rattle.mip_marks.specs.declared.maker.Maker.{Maker}
 use Rattle.mip_marks.specs.declared.maker.Maker.TheVariants.{Node, Outsider}
-use Rattle.mip_marks.specs.Lists.{first_some, until, along, least}
+use Rattle.mip_marks.specs.Lists.{first_some, until, along}
 use Rattle.mip_marks.specs.Entries.{packet_told, packet_in, life_in}
 use Rattle.mip_marks.specs.Sights.{Sight, token_in, token_at, sight, sights}
-use Rattle.mip_marks.specs.Sights.Sight.{Sent, Injected, Heard, Handed}
+use Rattle.mip_marks.specs.Sights.Sight.{Sent, Heard, Handed}
 use Rattle.mip_marks.specs.Reached.{reaches, has_reached}
 use Rattle.mip_marks.specs.Names.{Name, Naming, is_agent, life_at, naming, namings, same_name, is_own}
 use Rattle.mip_marks.specs.Firsts.{Post, post_with, post_at, is_post, number_of, key_in, key_at, same_key, carries_key, first_update}
-use Rattle.mip_marks.specs.Origins.{Carries, IsTest, poster, IsFirstOf, reaching, HasReached, WasSent}
-use Rattle.mip_marks.proofs.ListLaws.{SaysFirst, first_some-found, until_at, along_here, SaysAlong, along_found, least_passes, least_least, MapSplit, map_split}
+use Rattle.mip_marks.specs.Origins.{IsTest, IsFirstOf, reaching, HasReached, WasSent}
+use Rattle.mip_marks.proofs.ListLaws.{first_some-found, until_at, along_here, along_found, least_passes, least_least, map_split}
 use Rattle.mip_marks.proofs.Tokens.{same_bytes, bytes_same}
 use Rattle.mip_marks.proofs.Plain.{lives_same, posts_same, packet_first, carries_of_key, key_of_carries, poster_step, is_post-some, unposted, number_member, key_same, same_self}
 

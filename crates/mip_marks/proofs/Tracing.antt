@@ -1,28 +1,26 @@
 -- A mark that is not forged traces both tokens and the update.
-use Rattle.std.proofs.Common.{◌≡◌, ℕ, List, [], ◌∷◌, ◌++◌, Bool, true, false, refl, sym, ap, ◌∙◌, subst}
+use Rattle.std.proofs.Common.{◌≡◌, ℕ, List, [], ◌∷◌, Bool, true, false, refl, sym, ap, ◌∙◌, subst}
 use Rattle.std.specs.Prelude.{Option, Some, None, ◌||◌, if◌then◌else◌, option_map, unwrap_or, ⊤}
-use Rattle.std.specs.List.{list_any, find}
+use Rattle.std.specs.List.{list_any}
 use Rattle.std.specs.Option.{option_map_or}
 use Rattle.std.proofs.lemmas.Bool.{or_parts}
 use Rattle.mip_words.specs.declared.address.Address.{Address}
 use Rattle.mip_says.specs.Says.{Key}
 use Rattle.mip_marks.specs.declared.maker.Maker.{Maker}
 use Rattle.mip_marks.specs.declared.accepted_update.AcceptedUpdate.{AcceptedUpdate}
-use Rattle.mip_marks.specs.declared.mark.Mark.{Mark}
 use Rattle.mip_marks.specs.declared.mark.Mark.TheVariants.{Origin, Forged}
 use Rattle.mip_marks.specs.Lists.{until}
 use Rattle.mip_marks.specs.Sights.{Sight}
-use Rattle.mip_marks.specs.Reached.{carries, reaches, has_reached}
-use Rattle.mip_marks.specs.Names.{Name, Naming, number_of_naming, life_at, namings, is_own, is_misnamed, first_sent}
+use Rattle.mip_marks.specs.Reached.{reaches, has_reached}
+use Rattle.mip_marks.specs.Names.{Naming, number_of_naming, life_at, is_misnamed, first_sent}
 use Rattle.mip_marks.specs.Firsts.{Post, is_post, post_at, key_at, first_update}
 use Rattle.mip_marks.specs.Pairs.{Pair, gives, pair_by}
 use Rattle.mip_marks.specs.Causes.{Claim, home_claim, careof_claim_in, careof_claim_with, careof_claim, is_early, is_used_early, is_named_otherwise}
 use Rattle.mip_marks.specs.Marks.{origin_of, by_claims, by_pair, by_post, by_first, by_key, mark_of}
 use Rattle.mip_marks.specs.Traces.{IsTraced, IsCareofTraced, IsTracedMark}
 use Rattle.mip_marks.specs.Laws.{AreLawful}
-use Rattle.mip_marks.proofs.ListLaws.{IsFound}
 use Rattle.mip_marks.proofs.Tokens.{reached_carried, own_of_carried}
-use Rattle.mip_marks.proofs.Pairing.{HasCome, IsPaired, paired}
+use Rattle.mip_marks.proofs.Pairing.{HasCome, paired}
 
 -- what had come before a place is in the whole
 any_until : {X : Type 0} (p q : X → Bool) (xs : List X) → list_any p (until q xs) ≡ true → list_any p xs ≡ true

@@ -1,5 +1,5 @@
 -- What the entries of a history say by themselves: packets, addresses, lives, acceptances.
-use Rattle.std.specs.Prelude.{ℕ, suc, List, fold, slice_get, Bool, ◌==◌, if◌then◌else◌, Option, Some, None}
+use Rattle.std.specs.Prelude.{ℕ, suc, List, fold, slice_get, ◌==◌, if◌then◌else◌, Option, Some, None}
 use Rattle.std.specs.Option.{option_and_then}
 use Rattle.mip_lists.specs.Last.{or_else}
 use Rattle.mip_words.specs.declared.address.Address.{Address}

@@ -1,11 +1,10 @@
 -- The local laws of a history's sights: what a node passes on, hears, is handed or makes an update from was posted before.
-use Rattle.std.specs.Prelude.{◌≡◌, ℕ, List, [], true, false, Option, Some, None, IfSome}
+use Rattle.std.specs.Prelude.{◌≡◌, ℕ, List, [], true, false, Option, IfSome}
 use Rattle.std.specs.List.{list_any}
 use Rattle.mip_lists.specs.EachAfter.{EachAfter}
-use Rattle.mip_says.specs.Says.{Carried}
 use Rattle.mip_says.specs.Says.Carried.{Test}
 use Rattle.mip_marks.specs.Sights.{Sight}
-use Rattle.mip_marks.specs.Sights.Sight.{Sent, Injected, Heard, Handed, Agent, Made, Restarted, Quiet}
+use Rattle.mip_marks.specs.Sights.Sight.{Sent, Heard, Handed, Made}
 use Rattle.mip_marks.specs.Reached.{carries, is_handed}
 use Rattle.mip_marks.specs.Names.{is_agent}
 use Rattle.mip_marks.specs.Firsts.{is_post}

@@ -9,13 +9,12 @@ use Rattle.mip_tokens.specs.Token.{authenticator_over}
 use Rattle.mip_says.specs.Says.{Key}
 use Rattle.mip_marks.specs.declared.maker.Maker.{Maker}
 use Rattle.mip_marks.specs.declared.maker.Maker.TheVariants.{Node, Outsider}
-use Rattle.mip_marks.specs.declared.accepted_update.AcceptedUpdate.{AcceptedUpdate}
 use Rattle.mip_marks.specs.Lists.{first_some, until, if_passes}
 use Rattle.mip_marks.specs.Keys.{kbm_of_tokens}
 use Rattle.mip_marks.specs.Sights.{Sight}
 use Rattle.mip_marks.specs.Sights.Sight.{Made}
 use Rattle.mip_marks.specs.Reached.{values}
-use Rattle.mip_marks.specs.Firsts.{Post, is_post}
+use Rattle.mip_marks.specs.Firsts.{is_post}
 
 -- the home keygen token, and the care-of keygen token unless the binding ends
 pub record Pair : Type 0 where

@@ -1,30 +1,27 @@
 -- The first packets of updates after one more sight.
-use Rattle.std.proofs.Common.{⊎_elim, ◌≡◌, ℕ, suc, ◌+◌, ◌<◌, ◌≤◌, List, [], ◌∷◌, ◌++◌, length, take, Bool, true, false, refl, sym, ap, ◌∙◌, subst, arith, length-append}
-use Rattle.std.specs.Prelude.{fold, Option, Some, None, ◌||◌, ◌&&◌, ◌==◌, nat_lt, if◌then◌else◌, option_map, unwrap_or, ⊤}
-use Rattle.std.specs.List.{list_any, filter_map, cons_option}
-use Rattle.std.specs.Option.{option_or, option_and_then, option_map_or}
-use Rattle.std.specs.Str.{bytes_eq}
-use Rattle.std.proofs.lemmas.List.{append-nil, take-append-le, take_all}
-use Rattle.std.proofs.lemmas.Bool.{eq-eqb, eqb-true, le-ltb, and_parts, and_right, and_from, or_parts, cases_lt, false≢true, false_from_ne_true}
+use Rattle.std.proofs.Common.{⊎_elim, ◌≡◌, ℕ, ◌<◌, List, [], ◌∷◌, ◌++◌, length, Bool, true, false, refl, sym, ap, ◌∙◌, subst, arith, length-append}
+use Rattle.std.specs.Prelude.{fold, Option, Some, None, ◌||◌, ◌==◌, nat_lt, if◌then◌else◌}
+use Rattle.std.specs.List.{list_any, cons_option}
+use Rattle.std.specs.Option.{option_and_then, option_map_or}
+use Rattle.std.proofs.lemmas.List.{take-append-le}
+use Rattle.std.proofs.lemmas.Bool.{eq-eqb, le-ltb, and_right, cases_lt, false≢true}
 use Rattle.mip_says.specs.Says.{Carried, Key}
 use Rattle.mip_says.specs.Says.Carried.{Test, Update, Other}
 use Rattle.mip_marks.specs.declared.maker.Maker.{Maker}
 use Rattle.mip_marks.specs.declared.maker.Maker.TheVariants.{Node, Outsider}
 use Rattle.mip_marks.specs.Lists.{first_some, until, lesser}
 use Rattle.mip_marks.specs.Sights.{Sight}
-use Rattle.mip_marks.specs.Sights.Sight.{Sent, Injected, Heard, Handed, Agent, Made, Restarted, Quiet}
+use Rattle.mip_marks.specs.Sights.Sight.{Sent, Injected}
 use Rattle.mip_marks.specs.Reached.{values}
-use Rattle.mip_marks.specs.Firsts.{Post, post_with, post_at, is_post, number_of, key_in, key_at, same_key, carries_key, first_update}
-use Rattle.mip_marks.proofs.ListLaws.{SaysFirst, first_some-found, any_at, until_at, least_passes}
-use Rattle.mip_marks.proofs.Plain.{is_post-some, unposted, key_same, same_self}
+use Rattle.mip_marks.specs.Firsts.{Post, post_with, post_at, is_post, number_of, key_in, same_key, carries_key, first_update}
+use Rattle.mip_marks.proofs.ListLaws.{first_some-found, any_at, least_passes}
+use Rattle.mip_marks.proofs.Plain.{is_post-some}
 use Rattle.mip_watch.specs.declared.arrival.Arrival.{Arrival}
 use Rattle.mip_watch.specs.declared.first.First.{First}
-use Rattle.mip_watch.specs.declared.updates.Updates.{Updates}
 use Rattle.mip_watch.specs.Heard.{heard_by}
-use Rattle.mip_watch.specs.Updates.{Posting, update_posted, update_at, AreOf, fresh, chosen, look_step, at_step}
-use Rattle.mip_watch.specs.Stands.{numbers, IsNumber, AreNumberedFrom, AreAlike, IsFirst, IsFirstIf, IsFirstAt, IsFirstAtIf, UpdatesStand}
-use Rattle.mip_watch.proofs.Steps.{first_one}
-use Rattle.mip_watch.proofs.Numbers.{unposted_at, post_stays, key_stays, key_new, first_step}
+use Rattle.mip_watch.specs.Updates.{Posting, update_posted}
+use Rattle.mip_watch.specs.Stands.{numbers, IsNumber, AreNumberedFrom, IsFirst}
+use Rattle.mip_watch.proofs.Numbers.{unposted_at, post_stays, first_step}
 
 -- what a sight posts
 pub record Posts (s : Sight) (p : Posting) : Type 0 where

@@ -9,7 +9,7 @@ use Rattle.std.proofs.lemmas.List.Folds.{find-append}
 use Rattle.std.proofs.lemmas.Bool.{and_parts, and_from, and_right, or_parts, eq-eqb, eqb-true, not_from_true, not_from_false, false_from_ne_true, false≢true}
 use Rattle.mip_words.specs.declared.address.Address.{Address}
 use Rattle.mip_marks.specs.Names.{Name, Naming, number_of_naming, same_name, is_own, is_other}
-use Rattle.mip_marks.proofs.ListLaws.{FoundFirst, find-found, any_at}
+use Rattle.mip_marks.proofs.ListLaws.{find-found, any_at}
 use Rattle.mip_watch.specs.Names.{Kept, renamed, kept_step, is_otherwise, number_kept}
 use Rattle.mip_watch.specs.Stands.{has_token, IsKeptSo, IsKept}
 use Rattle.mip_watch.proofs.Steps.{any_more}

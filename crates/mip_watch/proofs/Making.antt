@@ -1,10 +1,9 @@
 -- The tokens from which mobiles made updates, after one more.
-use Rattle.std.proofs.Common.{◌≡◌, ℕ, List, Bool, true, false, refl, sym, ap, ◌∙◌}
+use Rattle.std.proofs.Common.{◌≡◌, ℕ, Bool, true, false, refl, sym, ap, ◌∙◌}
 use Rattle.std.specs.Prelude.{Option, Some, None, ◌==◌, ◌&&◌, option_map, is_some, if◌then◌else◌}
 use Rattle.std.specs.Option.{option_or}
 use Rattle.std.proofs.lemmas.Bool.{and_parts, eqb-true}
 use Rattle.mip_marks.specs.declared.pair.Pair.{Pair as FoundPair}
-use Rattle.mip_marks.specs.Pairs.{Pair}
 use Rattle.mip_marks.specs.Seen.{pair_of}
 
 pub none_there : {X : Type 0} (at : ℕ → ℕ → Option X) (x y n k : ℕ) → is_some (at x y) ≡ false → (x == n && y == k) ≡ true → at n k ≡ None

@@ -1,24 +1,21 @@
 -- The mark by look-ups is the mark of the sights.
 use Rattle.std.proofs.Common.{◌≡◌, ℕ, List, [], ◌∷◌, ◌++◌, take, Bool, true, false, refl, sym, ap, ◌∙◌, subst}
-use Rattle.std.specs.Prelude.{Option, Some, None, ◌||◌, if◌then◌else◌, option_map, unwrap_or}
-use Rattle.std.specs.List.{list_any, find}
+use Rattle.std.specs.Prelude.{Option, Some, None, ◌||◌, if◌then◌else◌, option_map}
 use Rattle.std.specs.Option.{option_or, option_and_then, option_map_or}
 use Rattle.std.proofs.lemmas.Bool.{or_parts}
 use Rattle.mip_words.specs.declared.address.Address.{Address}
-use Rattle.mip_says.specs.Says.{Carried, Key, carried}
+use Rattle.mip_says.specs.Says.{Key, carried}
 use Rattle.mip_entries.specs.declared.entry.Entry.{Entry}
 use Rattle.mip_marks.specs.declared.accepted_update.AcceptedUpdate.{AcceptedUpdate}
 use Rattle.mip_marks.specs.declared.maker.Maker.{Maker}
 use Rattle.mip_marks.specs.declared.maker.Maker.TheVariants.{Node, Outsider}
-use Rattle.mip_marks.specs.declared.mark.Mark.{Mark}
 use Rattle.mip_marks.specs.declared.mark.Mark.TheVariants.{Origin, Forged}
 use Rattle.mip_marks.specs.Lists.{first_some, until, along, if_passes}
 use Rattle.mip_marks.specs.Entries.{packet_told, packet_in, declared_in}
-use Rattle.mip_marks.specs.Sights.{Sight}
 use Rattle.mip_marks.specs.Reached.{values}
-use Rattle.mip_marks.specs.Names.{Naming, life_at, namings, is_own, is_other, is_misnamed, number_of_naming, first_sent}
+use Rattle.mip_marks.specs.Names.{life_at, namings, is_misnamed, first_sent}
 use Rattle.mip_marks.specs.Firsts.{Post, post_with, post_at, is_post, key_in, key_at, first_update}
-use Rattle.mip_marks.specs.Pairs.{Pair, alone, both, gives, as_asked, made_with, first_alone, first_with, first_pair, pair_by}
+use Rattle.mip_marks.specs.Pairs.{Pair, alone, both, gives, as_asked, first_with, first_pair, pair_by}
 use Rattle.mip_marks.specs.Causes.{Claim, home_claim_in, careof_claim_with, is_used_early, is_named_otherwise}
 use Rattle.mip_marks.specs.Marks.{origin_of, by_claims, by_pair, by_post, by_first, by_key, mark_of}
 use Rattle.mip_marks.proofs.Plain.{post_step, packet_first}
@@ -26,15 +23,11 @@ use Rattle.mip_watch.specs.declared.first.First.{First}
 use Rattle.mip_watch.specs.declared.known.Known.{Known}
 use Rattle.mip_watch.specs.declared.watch.Watch.{Watch}
 use Rattle.mip_watch.specs.Sights.{seen_behind, seen_in}
-use Rattle.mip_watch.specs.Nodes.{known_at}
 use Rattle.mip_watch.specs.Names.{kept_at, is_otherwise, number_kept}
 use Rattle.mip_watch.specs.Heard.{heard_by}
-use Rattle.mip_watch.specs.Early.{is_used}
-use Rattle.mip_watch.specs.Made.{made_at}
 use Rattle.mip_watch.specs.Updates.{update_at}
-use Rattle.mip_watch.specs.Addresses.{address_at}
 use Rattle.mip_watch.specs.Answers.{pair_by_maker, is_used_by, is_otherwise_by, claims_looked, pair_looked, first_looked, key_looked, own_looked, mark_looked}
-use Rattle.mip_watch.specs.Stands.{AreAlike, IsFirst, IsFirstAt, IsFirstAtIf, StandsFor}
+use Rattle.mip_watch.specs.Stands.{AreAlike, IsFirst, IsFirstAtIf, StandsFor}
 use Rattle.mip_watch.proofs.Kept.{kept_otherwise, kept_number}
 
 -- packets are told by the same entries

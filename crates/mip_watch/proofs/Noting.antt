@@ -1,6 +1,6 @@
 -- A watch stands for a history and one more entry.
-use Rattle.std.proofs.Common.{◌≡◌, ℕ, List, [], ◌∷◌, ◌++◌, length, Bool, true, false, refl, sym, ap, ◌∙◌, subst, arith}
-use Rattle.std.specs.Prelude.{fold, Option, Some, None, ◌||◌, option_map}
+use Rattle.std.proofs.Common.{◌≡◌, ℕ, List, [], ◌∷◌, ◌++◌, length, Bool, false, refl, sym, ap, ◌∙◌, subst, arith}
+use Rattle.std.specs.Prelude.{Option, None, ◌||◌, option_map}
 use Rattle.std.specs.List.{list_any, filter_map, cons_option}
 use Rattle.std.specs.Option.{option_or, option_and_then, option_map_or}
 use Rattle.std.specs.Str.{bytes_eq}
@@ -11,8 +11,8 @@ use Rattle.mip_says.specs.Says.{Key, carried}
 use Rattle.mip_entries.specs.declared.entry.Entry.{Entry}
 use Rattle.mip_entries.specs.declared.entry.Entry.TheVariants as entries
 use Rattle.mip_marks.specs.Lists.{first_some, along}
-use Rattle.mip_marks.specs.Entries.{claims, packet_in, declared_in}
-use Rattle.mip_marks.specs.Sights.{Sight, token_in, token_at, sight_with, sight}
+use Rattle.mip_marks.specs.Entries.{claims, declared_in}
+use Rattle.mip_marks.specs.Sights.{Sight, token_in, sight_with, sight}
 use Rattle.mip_marks.specs.Sights.Sight.{Heard, Handed}
 use Rattle.mip_marks.specs.Reached.{is_heard, values}
 use Rattle.mip_marks.specs.Names.{Naming, naming, namings}
@@ -21,12 +21,11 @@ use Rattle.mip_marks.specs.Pairs.{made_with}
 use Rattle.mip_marks.specs.Causes.{early, is_early}
 use Rattle.mip_watch.specs.declared.arrival.Arrival.{Arrival}
 use Rattle.mip_watch.specs.declared.first.First.{First}
-use Rattle.mip_watch.specs.declared.known.Known.{Known}
 use Rattle.mip_watch.specs.declared.sight.Sight.{Sight as Seen}
 use Rattle.mip_watch.specs.declared.watch.Watch.{Watch}
 use Rattle.mip_watch.specs.Sights.{sight_of, seen_behind, seen_in}
 use Rattle.mip_watch.specs.Nodes.{stranger, known_at, known_step}
-use Rattle.mip_watch.specs.Names.{Kept, kept_of, named_at, kept_at, naming_known, kept_step}
+use Rattle.mip_watch.specs.Names.{kept_of, named_at, kept_at, naming_known, kept_step}
 use Rattle.mip_watch.specs.Heard.{has_come, heard_by, arrivals_new}
 use Rattle.mip_watch.specs.Early.{is_used, early_known}
 use Rattle.mip_watch.specs.Made.{made_at}

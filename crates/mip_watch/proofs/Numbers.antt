@@ -1,20 +1,18 @@
 -- Packets that are numbered as they come.
-use Rattle.std.proofs.Common.{◌≡◌, ℕ, suc, ◌+◌, ◌<◌, ◌≤◌, List, [], ◌∷◌, ◌++◌, length, Bool, true, false, refl, sym, ap, ◌∙◌, subst, arith, length-append}
-use Rattle.std.specs.Prelude.{fold, Option, Some, None, ◌||◌, ◌&&◌, ◌==◌, nat_lt, if◌then◌else◌, ⊤}
-use Rattle.std.specs.List.{list_any, filter_map, cons_option}
+use Rattle.std.proofs.Common.{◌≡◌, ℕ, suc, ◌+◌, ◌<◌, ◌≤◌, List, [], ◌∷◌, ◌++◌, length, Bool, true, false, refl, ap, ◌∙◌, subst, arith}
+use Rattle.std.specs.Prelude.{fold, Option, Some, None, ◌||◌, ◌&&◌, ◌==◌, nat_lt, if◌then◌else◌}
+use Rattle.std.specs.List.{list_any, cons_option}
 use Rattle.std.specs.Option.{option_or, option_and_then, option_map_or}
-use Rattle.std.proofs.lemmas.List.{append-nil}
 use Rattle.std.proofs.lemmas.List.Elements.{filter_map-append}
 use Rattle.std.proofs.lemmas.List.Sums.{fold-append}
-use Rattle.std.proofs.lemmas.Bool.{eq-eqb, eqb-true, ne_eqb, le-ltb, and_parts, and_right, and_from, or_left, or_right}
+use Rattle.std.proofs.lemmas.Bool.{eq-eqb, eqb-true, or_left, or_right}
 use Rattle.mip_says.specs.Says.{Carried, Key}
-use Rattle.mip_says.specs.Says.Carried.{Test, Update, Other}
 use Rattle.mip_marks.specs.declared.maker.Maker.{Maker}
 use Rattle.mip_marks.specs.declared.maker.Maker.TheVariants.{Node, Outsider}
-use Rattle.mip_marks.specs.Lists.{first_some, until, lesser}
+use Rattle.mip_marks.specs.Lists.{lesser}
 use Rattle.mip_marks.specs.Sights.{Sight}
-use Rattle.mip_marks.specs.Sights.Sight.{Sent, Injected, Heard, Handed, Agent, Made, Restarted, Quiet}
-use Rattle.mip_marks.specs.Firsts.{Post, post_with, post_at, is_post, number_of, key_in, key_at, same_key, carries_key, first_update}
+use Rattle.mip_marks.specs.Sights.Sight.{Sent, Injected}
+use Rattle.mip_marks.specs.Firsts.{Post, post_with, post_at, number_of, key_in, key_at, same_key, carries_key, first_update}
 use Rattle.mip_watch.specs.Stands.{numbers, IsNumber, after_number, AreNumberedFrom}
 use Rattle.mip_watch.proofs.Steps.{first_one}
 

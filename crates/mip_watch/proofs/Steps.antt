@@ -1,24 +1,22 @@
 -- The simple indexes after one more sight.
-use Rattle.std.proofs.Common.{◌≡◌, ℕ, suc, List, [], ◌∷◌, ◌++◌, Bool, true, false, refl, sym, ap, ◌∙◌, subst}
-use Rattle.std.specs.Prelude.{fold, Option, Some, None, ◌||◌, ◌&&◌, ◌==◌, if◌then◌else◌, option_map, not}
-use Rattle.std.specs.List.{list_any, find, filter_map, cons_option}
+use Rattle.std.proofs.Common.{◌≡◌, ℕ, List, [], ◌∷◌, ◌++◌, Bool, true, false, refl, sym, ap, ◌∙◌, subst}
+use Rattle.std.specs.Prelude.{Option, Some, None, ◌||◌, ◌&&◌, ◌==◌, if◌then◌else◌}
+use Rattle.std.specs.List.{list_any, cons_option}
 use Rattle.std.specs.Option.{option_or, option_map_or}
 use Rattle.std.specs.Str.{bytes_eq}
-use Rattle.std.proofs.lemmas.List.{append-nil, append_assoc}
-use Rattle.std.proofs.lemmas.List.Folds.{list_any-append, find-append}
+use Rattle.std.proofs.lemmas.List.{append-nil}
+use Rattle.std.proofs.lemmas.List.Folds.{list_any-append}
 use Rattle.std.proofs.lemmas.List.Elements.{filter_map-append}
 use Rattle.std.proofs.lemmas.List.Sums.{fold-append}
 use Rattle.std.proofs.lemmas.Slice.Eq.{bytes_eq-Decides}
 use Rattle.std.proofs.lemmas.Bool.{eqb-true}
 use Rattle.mip_words.specs.declared.token.Token.{Token}
-use Rattle.mip_words.specs.declared.address.Address.{Address}
-use Rattle.mip_says.specs.Says.{Carried}
-use Rattle.mip_says.specs.Says.Carried.{Test, Update, Other}
+use Rattle.mip_says.specs.Says.Carried.{Test}
 use Rattle.mip_marks.specs.Lists.{first_some, along}
 use Rattle.mip_marks.specs.Sights.{Sight, token_in}
-use Rattle.mip_marks.specs.Sights.Sight.{Sent, Injected, Heard, Handed, Agent, Made, Restarted, Quiet}
+use Rattle.mip_marks.specs.Sights.Sight.{Sent, Injected, Heard}
 use Rattle.mip_marks.specs.Reached.{is_heard, value_heard, values}
-use Rattle.mip_marks.specs.Names.{Name, Naming, is_agent, lives, life_at, naming, namings, same_name, is_other}
+use Rattle.mip_marks.specs.Names.{Naming, is_agent, lives, naming}
 use Rattle.mip_marks.specs.Pairs.{Pair, made_with}
 use Rattle.mip_marks.specs.Causes.{new_to, early, is_early}
 use Rattle.mip_marks.proofs.ListLaws.{along-append}
@@ -28,10 +26,10 @@ use Rattle.mip_watch.specs.declared.sight.Sight.{Sight as Seen}
 use Rattle.mip_watch.specs.declared.sight.Sight.TheVariants as seen
 use Rattle.mip_watch.specs.Sights.{sight_of}
 use Rattle.mip_watch.specs.Nodes.{known_step}
-use Rattle.mip_watch.specs.Names.{Kept, naming_known, renamed, kept_step}
+use Rattle.mip_watch.specs.Names.{naming_known}
 use Rattle.mip_watch.specs.Heard.{arrival_from, heard_by, arrivals_new}
 use Rattle.mip_watch.specs.Early.{new_known, early_known}
-use Rattle.mip_watch.specs.Stands.{known_of, has_token, IsKeptSo, IsKept, AreAlike}
+use Rattle.mip_watch.specs.Stands.{known_of, AreAlike}
 
 pub any_more : {X : Type 0} (p : X → Bool) (xs : List X) (x : X) → (list_any p xs || p x) ≡ list_any p (xs ++ x ∷ [])
 any_more p xs x = sym (list_any-append p xs (x ∷ []) ∙ ap (λ (b : Bool). list_any p xs || b) (last (p x)))

@@ -1,12 +1,11 @@
 -- The index of updates stands for the sights after one more.
-use Rattle.std.proofs.Common.{◌≡◌, ℕ, suc, ◌+◌, ◌<◌, ◌≤◌, List, [], ◌∷◌, ◌++◌, length, take, Bool, true, false, refl, sym, ap, ◌∙◌, subst, arith, length-append}
-use Rattle.std.specs.Prelude.{Option, Some, None, ◌==◌, if◌then◌else◌, option_map, unwrap_or}
-use Rattle.std.specs.List.{list_any}
+use Rattle.std.proofs.Common.{◌≡◌, ℕ, ◌+◌, ◌≤◌, List, [], ◌∷◌, ◌++◌, length, Bool, true, false, refl, sym, ap, ◌∙◌, subst, arith, length-append}
+use Rattle.std.specs.Prelude.{Option, Some, None, ◌==◌, if◌then◌else◌, unwrap_or}
 use Rattle.std.specs.Option.{option_or, option_and_then, option_map_or}
-use Rattle.std.proofs.lemmas.List.{append-nil, take-append-le, take_all}
-use Rattle.std.proofs.lemmas.Bool.{eq-eqb, eqb-true, false≢true, false_from_ne_true}
+use Rattle.std.proofs.lemmas.List.{take-append-le, take_all}
+use Rattle.std.proofs.lemmas.Bool.{eqb-true, false≢true, false_from_ne_true}
 use Rattle.mip_says.specs.Says.{Key}
-use Rattle.mip_marks.specs.Lists.{first_some, until}
+use Rattle.mip_marks.specs.Lists.{first_some}
 use Rattle.mip_marks.specs.Sights.{Sight}
 use Rattle.mip_marks.specs.Reached.{values}
 use Rattle.mip_marks.specs.Firsts.{Post, post_with, post_at, is_post, number_of, key_in, key_at, same_key, carries_key, first_update}
@@ -20,7 +19,7 @@ use Rattle.mip_watch.specs.Updates.{Posting, update_posted, update_at, AreOf, fr
 use Rattle.mip_watch.specs.Stands.{numbers, IsNumber, AreNumberedFrom, AreAlike, IsFirst, IsFirstIf, IsFirstAt, IsFirstAtIf, UpdatesStand}
 use Rattle.mip_watch.proofs.Steps.{first_one}
 use Rattle.mip_watch.proofs.Numbers.{unposted_at, key_stays, key_new}
-use Rattle.mip_watch.proofs.FirstSteps.{Posts, posts_of, none_posted, other_posted, first_none, first_new, is_first_more}
+use Rattle.mip_watch.proofs.FirstSteps.{posts_of, none_posted, other_posted, first_none, first_new, is_first_more}
 
 module _ (arrivals more : List Arrival) (ss : List Sight) (s : Sight) (numbered : AreNumberedFrom 0 ss) (next : IsNumber (number_of s) (length (numbers ss)))
     (come : (o : ℕ) → AreAlike (heard_by o arrivals) (values o ss)) where

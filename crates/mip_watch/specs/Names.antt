@@ -1,6 +1,5 @@
 -- Who named each token first, and whether somebody named it otherwise.
 use Rattle.std.specs.Prelude.{ℕ, List, Bool, true, false, not, ◌||◌, if◌then◌else◌, Option, Some, None, option_map}
-use Rattle.std.specs.Option.{option_map_or}
 use Rattle.std.specs.Str.{bytes_eq}
 use Rattle.std.specs.Ordering.{nat_cmp}
 use Rattle.std.specs.Cmp.Lexicographic.{slice_cmp}

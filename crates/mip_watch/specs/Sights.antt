@@ -1,5 +1,5 @@
 -- The sights of a history that goes on: each entry with those before it.
-use Rattle.std.specs.Prelude.{ℕ, List, [], Option, Some, None, option_map}
+use Rattle.std.specs.Prelude.{List, [], Option, Some, option_map}
 use Rattle.mip_says.specs.Says.{carried_of}
 use Rattle.mip_entries.specs.declared.entry.Entry.{Entry}
 use Rattle.mip_marks.specs.Lists.{along}

@@ -1,5 +1,5 @@
 -- What a watch stands for: each index answers as the history does.
-use Rattle.std.specs.Prelude.{◌≡◌, ℕ, suc, ◌≤◌, List, [], ◌∷◌, length, take, Bool, true, false, Option, Some, None, ⊤, MatchOption}
+use Rattle.std.specs.Prelude.{◌≡◌, ℕ, suc, ◌≤◌, List, [], ◌∷◌, length, take, Bool, false, Option, Some, None, ⊤}
 use Rattle.std.specs.List.{list_any, filter_map, find}
 use Rattle.std.specs.Str.{bytes_eq}
 use Rattle.mip_says.specs.Says.{Key}

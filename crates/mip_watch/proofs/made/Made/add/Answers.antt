@@ -1,9 +1,7 @@
 use Rattle.std.proofs.Common.{Bool, ◌∙◌, sym, ap}
-use Rattle.std.specs.Prelude.{◌==◌, ◌&&◌, if◌then◌else◌, Option, Some, option_map}
+use Rattle.std.specs.Prelude.{◌==◌, ◌&&◌, if◌then◌else◌, Some}
 use Rattle.std.specs.BTreeMap.{get}
-use Rattle.mip_marks.specs.declared.pair.Pair.{Pair}
-use Rattle.mip_marks.specs.Seen.{pair_of}
-use Rattle.mip_watch.specs.Made.{making_cmp, made_at}
+use Rattle.mip_watch.specs.Made.{making_cmp}
 use Rattle.mip_watch.proofs.Maps.{is_eq_making}
 use Rattle.mip_watch.proofs.Making.{made_put, none_there}
 use Rattle.mip_watch.proofs.made.Made.add.Goals as goal
