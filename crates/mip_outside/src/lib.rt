@@ -17,6 +17,8 @@ mod sink;
 mod source;
 #[cfg(test)]
 mod tests;
+#[cfg(test)]
+mod turns;
 mod wire;
 
 pub use buffered::Buffered;

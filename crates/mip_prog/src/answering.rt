@@ -17,8 +17,8 @@ use std::alloc::Global;
 
 /// The answer of a command to its input.
 #[tactic(auto, unfolding(crate::specs::Answers::input_answer))]
-pub fn answer(alloc: Global, command: Command, input: &[u8]) -> Result<Reply, Memory>
-    ensures answers { IfOk result (λ reply. reply ≡ command_answer command input.now) }
+pub fn answer(alloc: Global, command: Command, input: Bytes) -> Result<Reply, Memory>
+    ensures answers { IfOk result (λ reply. reply ≡ command_answer command input) }
     ensures settled { IfOk result (λ reply. IsSettled reply.status) }
     ensures statuses { IfOk result (λ reply. IsStatus reply.status × (reply.status ≢ 1)) }
 {
@@ -27,7 +27,7 @@ pub fn answer(alloc: Global, command: Command, input: &[u8]) -> Result<Reply, Me
     }
     match command {
         Command::Replay => replay(alloc, input),
-        Command::Decode => decode(alloc, input),
+        Command::Decode => decode(alloc, input.as_slice()),
     }
 }
 

@@ -11,10 +11,10 @@ fn ends(text: &[u8]) -> usize
     ensures { result + 1 ≡ length (parts 10 text.now) }
 {
     let mut count = 0;
-    for byte in text {
-        if *byte == b'\n' {
-            count += 1;
-        }
+    let mut rest = text;
+    while let Some((_, more)) = cut_at(b'\n', rest) {
+        count += 1;
+        rest = more;
     }
     count
 }

@@ -20,16 +20,18 @@ use std::alloc::Global;
 /// The greatest number of events.
 const EVENTS: usize = 20_000;
 
-/// The trace of a schedule, or its first bad line and why.
-pub fn replay(alloc: Global, input: &[u8]) -> Result<Reply, Memory>
-    requires { length input.now ≤ 16777216 }
-    ensures answers { IfOk result (λ reply. reply ≡ replay_answer input.now) }
+/// The trace of a schedule, or its first bad line and why. The input is given up before the schedule runs.
+pub fn replay(alloc: Global, input: Bytes) -> Result<Reply, Memory>
+    requires { length input ≤ 16777216 }
+    ensures answers { IfOk result (λ reply. reply ≡ replay_answer input) }
     ensures settled { IfOk result (λ reply. IsSettled reply.status) }
 {
-    if event_lines(input) > EVENTS {
+    if event_lines(input.as_slice()) > EVENTS {
         return Reply::copy(alloc, Status::TOO_LONG, b"long\n");
     }
-    match read_schedule(alloc, input) {
+    let read = read_schedule(alloc, input.as_slice());
+    drop(input);
+    match read {
         Ok(schedule) => run(alloc, schedule),
         Err(ScheduleFault::Bad { line, why }) => bad(alloc, line, why),
         Err(ScheduleFault::Memory) => Err(Memory),

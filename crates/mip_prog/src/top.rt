@@ -93,7 +93,7 @@ fn answer_input<S: Source, K: Sink>(
         Err(ReadFault::Failed) => return Status::READ_FAULT,
         Err(ReadFault::Memory) => return Status::MEMORY,
     };
-    match answer(alloc, command, bytes.as_slice()) {
+    match answer(alloc, command, bytes) {
         Ok(reply) => tell_reply(alloc, sink, &reply),
         Err(Memory) => Status::MEMORY,
     }

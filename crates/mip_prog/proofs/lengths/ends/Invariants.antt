@@ -1,7 +1,10 @@
-use Rattle.std.proofs.Common.{◌≡◌, ◌≤◌, length, take}
-use Rattle.std.specs.Prelude.{◌==◌}
-use Rattle.std.specs.List.{count_by}
+use Rattle.std.proofs.Common.{◌≡◌, ◌+◌, ◌≤◌, length}
+use Rattle.mip_lines.specs.Cutting.{parts}
 use Rattle.mip_prog.proofs.lengths.ends.Given as goal
 
-abbrev pub invariant-loop-byte : goal.invariant-loop-byte
-invariant-loop-byte l = l.count ≡ count_by (λ b. b == 10) (take l.byte-index l.text)
+abbrev pub invariant-loop-more : goal.invariant-loop-more
+invariant-loop-more l =
+    (l.count + length (parts 10 l.rest) ≡ length (parts 10 l.text)) × (l.count + length l.rest ≤ length l.text)
+
+abbrev pub decreases-loop-more : goal.decreases-loop-more
+decreases-loop-more l = length l.rest
