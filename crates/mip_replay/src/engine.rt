@@ -19,9 +19,10 @@ use crate::claims::{claim_own, try_claim};
 use crate::host::Host;
 use crate::node::Node;
 use mip_bcache::Row;
+use mip_chronicle::Chronicle;
 use mip_entries::{Answers, Entry, History};
 use mip_links::{Delivery, Net};
-use mip_marks::{AcceptedUpdate, Mark, mark_behind};
+use mip_marks::{AcceptedUpdate, Mark};
 use mip_tunnel::lower;
 use mip_words::{Address, Bytes, LinkId, Memory, Moment, NodeId, Prefix, Shield};
 use std::alloc::Global;
@@ -35,7 +36,7 @@ pub(crate) struct Engine {
     nodes: Vec<Node>,
     outsiders: u8,
     moment: Moment,
-    history: History,
+    chronicle: Chronicle,
 }
 
 impl Model for Engine {
@@ -49,7 +50,7 @@ impl Model for Engine {
       nodes = e.nodes.items;
       outsiders = e.outsiders;
       moment = e.moment.0;
-      past = e.history;
+      past = e.chronicle;
     } };
 
     ghost invariant = { λ e. IsCalm e.nodes.items e.moment.0 };
@@ -74,21 +75,21 @@ impl Engine {
             nodes: Vec::new(alloc),
             outsiders,
             moment: start,
-            history: History::new(alloc)?,
+            chronicle: Chronicle::new(alloc)?,
         })
     }
 
     pub(crate) fn into_history(self) -> History
         ensures { result ≡ self.past }
     {
-        self.history
+        self.chronicle.into_history()
     }
 
     /// An entry is left.
     pub(crate) fn note(&mut self, entry: Entry) -> Result<(), Memory>
         ensures { OnOk result (self.new ≡ with_entry entry self.old) }
     {
-        self.history.push(entry)
+        self.chronicle.push(entry)
     }
 
     /// The mark of the update that an entry accepts, if it accepts one.
@@ -96,7 +97,7 @@ impl Engine {
         ensures { result ≡ option_map (mark_in self.now.past) (update_accepted entry.now) }
     {
         match AcceptedUpdate::of(entry) {
-            Some(accepted) => Some(mark_behind(self.history.as_slice(), &accepted)),
+            Some(accepted) => Some(self.chronicle.mark(&accepted)),
             None => None,
         }
     }
@@ -161,7 +162,7 @@ impl Engine {
         ensures { OnOk result (self.new ≡ with_entry (At (record { 0 = self.old.moment + ms })) (at_moment (self.old.moment + ms) self.old)) }
     {
         let now = self.moment.0 + u64::from(ms);
-        self.history.push(Entry::At {
+        self.chronicle.push(Entry::At {
             moment: Moment(now),
         })?;
         self.moment = Moment(now);
@@ -341,7 +342,7 @@ impl Engine {
         };
         let node = Node::new(alloc, &self.seed, NodeId(number), 0, host)?;
         self.nodes.push(node)?;
-        self.history.push(Entry::Claimed {
+        self.chronicle.push(Entry::Claimed {
             who: number,
             link,
             address,
