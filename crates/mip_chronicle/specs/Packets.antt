@@ -1,5 +1,5 @@
 -- The packets of a history by their places.
-use Rattle.std.specs.Prelude.{ℕ, List, Bool, true, ◌==◌, nat_lt, ◌&&◌, length, Option, Some, None, slice_get}
+use Rattle.std.specs.Prelude.{ℕ, List, Bool, true, ◌==◌, nat_lt, ◌&&◌, Option, Some, None, slice_get}
 use Rattle.std.specs.Option.{option_and_then, option_map_or}
 use Rattle.mip_entries.specs.declared.entry.Entry.{Entry}
 use Rattle.mip_entries.specs.declared.entry.Entry.TheVariants as entries

@@ -1,5 +1,5 @@
 -- A history that is watched: the watch and the places of the packets go along with it.
-use Rattle.std.specs.Prelude.{◌≡◌, ◌≢◌, ◌<◌, ℕ, List, Option, Some, None, length, slice_get}
+use Rattle.std.specs.Prelude.{◌≡◌, ◌≢◌, ◌<◌, ℕ, List, Some, None, length, slice_get}
 use Rattle.std.specs.List.{filter_map}
 use Rattle.mip_entries.specs.declared.entry.Entry.{Entry}
 use Rattle.mip_marks.specs.Entries.{packet_in}
