@@ -80,6 +80,9 @@ first_stands past key update post e is =
         by None e = refl
         by (Some x) e = absurd cc
 
+at_place : (front rest : List Entry) (x y : Entry) → x ≡ y → front ++ x ∷ rest ≡ front ++ y ∷ rest
+at_place front rest x y e = ap (λ (z : Entry). front ++ z ∷ rest) e
+
 same_node : (a b : NodeId) → (a.0 == b.0) ≡ true → a ≡ b
 same_node a b e = ap (λ (n : ℕ). (let i : NodeId = record { 0 = n } in i)) (eqb-true a.0 b.0 e)
 
@@ -130,7 +133,7 @@ reached_stands past earlier maker token e =
       number = c.number;
       before = m.front;
       after = m.rest;
-      whole = m.whole ∙ ap (λ (x : Entry). m.front ++ x ∷ m.rest) c.is;
+      whole = m.whole ∙ at_place m.front m.rest m.item (reaching maker c.number) c.is;
       test = c.test;
     }
 
@@ -234,7 +237,7 @@ sent_stands past node kind index token address n e =
       shielded = d.shielded;
       packet = d.packet;
       later = m.rest;
-      whole = m.whole ∙ ap (λ (x : Entry). m.front ++ x ∷ m.rest) d.is;
+      whole = m.whole ∙ at_place m.front m.rest m.item (entries.Sent n.number node d.shielded d.packet) d.is;
       this_life = sym (lives_same past node.0 0 m.front) ∙ d.life ∙ lives_same past node.0 0 past;
       says = d.says;
       first = λ before k hidden other after.

@@ -66,12 +66,12 @@ fn life(history: &[Entry], place: usize, node: NodeId) -> usize
 }
 
 /// How a packet that a node sends behind a place names a token.
-fn named<'a>(
+fn named(
     history: &[Entry],
     place: usize,
     number: u64,
     node: NodeId,
-    packet: &'a [u8],
+    packet: &[u8],
 ) -> Option<Naming>
     requires { place ≤ length history.now }
     ensures { option_map naming_of result ≡ naming (front_at history.now place) (Sent number node.0 (carried packet.now)) }

@@ -1,18 +1,20 @@
 -- A watch stands for a history and one more entry.
 use Rattle.std.proofs.Common.{◌≡◌, ℕ, List, [], ◌∷◌, ◌++◌, length, Bool, false, refl, sym, ap, ◌∙◌, subst, arith}
-use Rattle.std.specs.Prelude.{Option, None, ◌||◌, option_map}
+use Rattle.std.specs.Prelude.{Option, Some, None, ◌||◌, option_map}
 use Rattle.std.specs.List.{list_any, filter_map, cons_option}
 use Rattle.std.specs.Option.{option_or, option_and_then, option_map_or}
 use Rattle.std.specs.Str.{bytes_eq}
 use Rattle.std.proofs.lemmas.List.Sums.{fold-append}
 use Rattle.mip_words.specs.declared.address.Address.{Address}
+use Rattle.mip_words.specs.declared.ids.NodeId.{NodeId}
+use Rattle.mip_words.specs.declared.token.Token.{Token}
 use Rattle.mip_lists.specs.Last.{or_else}
 use Rattle.mip_says.specs.Says.{Key, carried}
 use Rattle.mip_entries.specs.declared.entry.Entry.{Entry}
 use Rattle.mip_entries.specs.declared.entry.Entry.TheVariants as entries
 use Rattle.mip_marks.specs.Lists.{first_some, along}
 use Rattle.mip_marks.specs.Entries.{claims, declared_in}
-use Rattle.mip_marks.specs.Sights.{Sight, token_in, sight_with, sight}
+use Rattle.mip_marks.specs.Sights.{Sight, token_in, token_at, sight}
 use Rattle.mip_marks.specs.Sights.Sight.{Heard, Handed}
 use Rattle.mip_marks.specs.Reached.{is_heard, values}
 use Rattle.mip_marks.specs.Names.{Naming, naming, namings}
@@ -22,8 +24,9 @@ use Rattle.mip_marks.specs.Causes.{early, is_early}
 use Rattle.mip_watch.specs.declared.arrival.Arrival.{Arrival}
 use Rattle.mip_watch.specs.declared.first.First.{First}
 use Rattle.mip_watch.specs.declared.sight.Sight.{Sight as Seen}
+use Rattle.mip_watch.specs.declared.sight.Sight.TheVariants as seen
 use Rattle.mip_watch.specs.declared.watch.Watch.{Watch}
-use Rattle.mip_watch.specs.Sights.{sight_of, seen_behind, seen_in}
+use Rattle.mip_watch.specs.Sights.{sight_of, glimpse, seen_behind, seen_in}
 use Rattle.mip_watch.specs.Nodes.{stranger, known_at, known_step}
 use Rattle.mip_watch.specs.Names.{kept_of, named_at, kept_at, naming_known, kept_step}
 use Rattle.mip_watch.specs.Heard.{has_come, heard_by, arrivals_new}
@@ -62,11 +65,10 @@ numbers_same front (e ∷ es) =
     ∙ ap (λ (l : List ℕ). cons_option (number_posted e) l) (numbers_same (front ++ e ∷ []) es)
 
 -- an entry is seen as it stands behind those before it
-pub sight_told : (past : List Entry) (e : Entry) (packet : Option (List ℕ)) → AreBytes past e packet
-    → sight_with (λ k. option_and_then (λ bytes. token_in (carried bytes)) packet) e ≡ sight past e
-sight_told past (entries.Heard number outsider) packet is = ap (λ (p : Option (List ℕ)). Heard outsider (option_and_then (λ bytes. token_in (carried bytes)) p)) is
-sight_told past (entries.Handed number node) packet is = ap (λ (p : Option (List ℕ)). Handed node.0 (option_and_then (λ bytes. token_in (carried bytes)) p)) is
-sight_told past _ packet is = refl
+sight_told : (past : List Entry) (e : Entry) (packet : Option (List ℕ)) → AreBytes past e packet → ((number : ℕ) (node : NodeId) → e ≡ entries.Handed number node → ⊥) → glimpse packet e ≡ sight past e
+sight_told past (entries.Heard number outsider) packet is other = ap (λ (p : Option (List ℕ)). Heard outsider (option_and_then (λ bytes. token_in (carried bytes)) p)) is
+sight_told past (entries.Handed number node) packet is other = absurd (other number node refl)
+sight_told past _ packet is other = refl
 
 seen_more : (past : List Entry) (e : Entry) → seen_in (past ++ e ∷ []) ≡ seen_in past ++ sight past e ∷ []
 unfolding seen_in
@@ -114,11 +116,9 @@ standing_more w v past e found old next is =
           (updates_more w.heard.list.items (arrivals_new (has_come w.heard) found) ss s old.numbered next old.values w.updates v.updates old.updates is.keys is.numbers);
     }
 
-pub stands_more : (w v : Watch) (past : List Entry) (e : Entry) (found : Seen) (packet : Option (List ℕ)) → StandsFor w past → IsNext past e → AreBytes past e packet
-    → sight_of found ≡ sight_with (λ k. option_and_then (λ bytes. token_in (carried bytes)) packet) e → Noted w v found e → StandsFor v (past ++ e ∷ [])
+stands_seen : (w v : Watch) (past : List Entry) (e : Entry) (found : Seen) → StandsFor w past → IsNext past e → sight_of found ≡ sight past e → Noted w v found e → StandsFor v (past ++ e ∷ [])
 unfolding seen_in
-stands_more w v past e found packet old next bytes seen is =
-    let same : sight_of found ≡ sight past e = seen ∙ sight_told past e packet bytes in
+stands_seen w v past e found old next same is =
     let number : number_of (sight_of found) ≡ number_posted e = ap number_of same ∙ number_same past e in
     let whole : seen_in past ++ sight_of found ∷ [] ≡ seen_in (past ++ e ∷ []) = ap (λ (x : Sight). seen_in past ++ x ∷ []) same ∙ sym (seen_more past e) in
     let counted : IsNumber (number_of (sight_of found)) (length (numbers (seen_in past))) =
@@ -136,6 +136,39 @@ stands_more w v past e found packet old next bytes seen is =
       made = s.made;
       updates = s.updates;
     }
+
+-- what was handed over changes no index, whatever it says
+handed_any : (w v : Watch) (e : Entry) (found : Seen) (n : ℕ) (node : NodeId) (token : Option Token) → sight_of found ≡ Handed n None → Noted w v found e → Noted w v (seen.Handed node token) e
+handed_any w v e (seen.Handed m x) n node token same is = record {
+  names = is.names;
+  early = is.early;
+  keys = is.keys;
+  numbers = is.numbers;
+  made = is.made;
+  heard = is.heard;
+  list = is.list;
+  nodes = is.nodes;
+  addresses = is.addresses;
+}
+handed_any w v e _ n node token same is = absurd cc
+
+-- a token of these bytes
+token_with : List ℕ → Token
+token_with t = record { 0 = t }
+
+pub stands_more : (w v : Watch) (past : List Entry) (e : Entry) (found : Seen) (packet : Option (List ℕ)) → StandsFor w past → IsNext past e → AreBytes past e packet
+    → sight_of found ≡ glimpse packet e → Noted w v found e → StandsFor v (past ++ e ∷ [])
+unfolding token_with
+stands_more w v past (entries.Handed number node) found packet old next bytes told is =
+    stands_seen w v past (entries.Handed number node) (seen.Handed node (option_map token_with (token_at past number))) old next
+    (ap (Handed node.0) (by (token_at past number)))
+    (handed_any w v (entries.Handed number node) found node.0 node (option_map token_with (token_at past number)) told is)
+  where
+    by : (o : Option (List ℕ)) → option_map (λ (t : Token). t.0) (option_map token_with o) ≡ o
+    by None = refl
+    by (Some t) = refl
+stands_more w v past e found packet old next bytes told is =
+    stands_seen w v past e found old next (told ∙ sight_told past e packet bytes (λ number node handed. absurd cc)) is
 
 -- a new watch
 pub stands_new : (w : Watch) → ((n : ℕ) → address_at w.addresses n ≡ None) → ((n : ℕ) → known_at w.nodes n ≡ stranger) → ((t : List ℕ) → named_at w.names t ≡ None)

@@ -1,8 +1,8 @@
 ghost use Rattle.std.specs.Prelude.{◌≡◌, option_map};
 ghost use Rattle.std.specs.Option.{option_and_then};
 ghost use Rattle.mip_says.specs.Says.{carried};
-ghost use Rattle.mip_marks.specs.Sights.{token_in, sight_with};
-ghost use Rattle.mip_watch.specs.Sights.{sight_of};
+ghost use Rattle.mip_marks.specs.Sights.{token_in};
+ghost use Rattle.mip_watch.specs.Sights.{sight_of, glimpse};
 
 use crate::sight::Sight;
 use mip_entries::Entry;
@@ -20,9 +20,9 @@ fn token_of(packet: Option<&[u8]>) -> Option<Token>
     }
 }
 
-/// An entry as a sight, where the packet that it names has these bytes.
+/// An entry as a sight, where the packet that was heard has these bytes. What was handed over is not read: no mark asks it.
 pub fn sight<'a>(entry: &'a Entry, packet: Option<&[u8]>) -> Sight<'a>
-    ensures { sight_of result ≡ sight_with (λ k. option_and_then (λ bytes. token_in (carried bytes)) (option_map (λ p. p.now) packet.entry)) entry.now }
+    ensures { sight_of result ≡ glimpse (option_map (λ p. p.now) packet.entry) entry.now }
 {
     match entry {
         Entry::Sent {
@@ -51,7 +51,7 @@ pub fn sight<'a>(entry: &'a Entry, packet: Option<&[u8]>) -> Sight<'a>
         },
         Entry::Handed { node, .. } => Sight::Handed {
             node: *node,
-            token: token_of(packet),
+            token: None,
         },
         Entry::Home { node, .. } => Sight::Agent(*node),
         Entry::Made {
