@@ -1,6 +1,7 @@
 -- What a contract sees of a cache, and for which past it stands.
 use Rattle.std.specs.Prelude.{◌≡◌, ℕ, ◌≤◌, ◌<◌, slice_get, slice_set, List, Option, Some, None, Bool, not, ◌&&◌, ◌==◌, length, map, is_some, nat_lt, max, ◌+◌, if◌then◌else◌}
 use Rattle.std.specs.List.{AllByRecursion, insert}
+use Rattle.mip_constants.specs.Constants.{max_nonce_lifetime}
 use Rattle.mip_binding.specs.Acceptance.{Acceptance}
 use Rattle.mip_binding.specs.Rows.{BindingRow, RisesBy, find_by, put_by, kept_by, kept_rows, table}
 use Rattle.mip_words.specs.declared.address.Address.{Address}
@@ -78,7 +79,7 @@ row_for now home number a = record {
   careof = a.careof;
   sequence = a.sequence;
   end = a.end;
-  kept_until = record { 0 = max a.end.0 (now + 240000) };
+  kept_until = record { 0 = max a.end.0 (now + max_nonce_lifetime) };
   home_nonce = a.home_nonce;
   careof_nonce = a.careof_nonce;
 }

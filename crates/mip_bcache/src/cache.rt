@@ -8,12 +8,10 @@ use crate::accepted::Accepted;
 use crate::fault::AcceptFault;
 use crate::row::Row;
 use crate::rows;
+use mip_constants::MAX_NONCE_LIFETIME;
 use mip_words::{Address, Memory, Moment};
 use std::alloc::Global;
 use std::marker::Model;
-
-/// How long a sequence is kept after its acceptance, in milliseconds (MAX_NONCE_LIFETIME).
-const KEPT: u64 = 240_000;
 
 /// The binding cache. A moment that a call is given is no earlier than those that `accept` and `expire`
 /// were given.
@@ -136,7 +134,7 @@ fn row_of(now: Moment, home: Address, number: u8, accepted: Accepted) -> Row
         careof: accepted.careof,
         sequence: accepted.sequence,
         end: accepted.end,
-        kept_until: Moment(accepted.end.0.max(now.0 + KEPT)),
+        kept_until: Moment(accepted.end.0.max(now.0 + MAX_NONCE_LIFETIME)),
         home_nonce: accepted.home_nonce,
         careof_nonce: accepted.careof_nonce,
     }

@@ -4,6 +4,7 @@ use Rattle.std.specs.Prelude.{ℕ, ◌+◌, ◌-◌, ◌%◌, Bool, true, false,
 use Rattle.mip_words.specs.declared.address.Address.{Address}
 use Rattle.mip_words.specs.declared.moment.Moment.{Moment}
 use Rattle.mip_words.specs.declared.token.Cookie.{Cookie}
+use Rattle.mip_constants.specs.Constants.{max_token_lifetime}
 use Rattle.mip_tokens.specs.Token.{kbm_both_of, kbm_home_of}
 use Rattle.mip_bulist.specs.declared.aim.Aim.{Aim}
 use Rattle.mip_bulist.specs.declared.aim.Aim.TheVariants.{Bind, Delete}
@@ -87,7 +88,7 @@ careof_tested peer cookie test t =
 
 -- a token serves for less than 210,000 ms (MAX_TOKEN_LIFETIME)
 abbrev pub is_old : Moment → Test → Bool
-is_old now test = not (nat_lt (now.0 - test.at.0) 210000)
+is_old now test = not (nat_lt (now.0 - test.at.0) max_token_lifetime)
 
 abbrev pub has_old : Moment → Tested → Bool
 has_old now (Both to home careof) = if is_old now home then true else is_old now careof

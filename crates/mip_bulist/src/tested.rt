@@ -3,12 +3,10 @@ ghost use Rattle.mip_bulist.specs.Trials.{is_old, has_old, made_of, needed};
 
 use crate::aim::Aim;
 use crate::made::Made;
+use mip_constants::MAX_TOKEN_LIFETIME;
 use mip_options::Indices;
 use mip_tokens::Kbm;
 use mip_words::{Address, Moment, Token};
-
-/// How long a token serves after it came, in milliseconds (MAX_TOKEN_LIFETIME).
-const TOKEN_LIFE: u64 = 210_000;
 
 /// A Home Test or a Care-of Test that was kept (RFC 6275 sections 6.1.5 and 6.1.6).
 #[derive(Clone, Copy, Debug, PartialEq, Eq)]
@@ -40,7 +38,7 @@ impl Test {
     pub fn is_old(&self, now: Moment) -> bool
         ensures { result ≡ is_old now self.now }
     {
-        now.0.saturating_sub(self.at.0) >= TOKEN_LIFE
+        now.0.saturating_sub(self.at.0) >= MAX_TOKEN_LIFETIME
     }
 }
 

@@ -8,7 +8,7 @@ use Rattle.mip_entries.specs.declared.answer.Answer.{Answer}
 use Rattle.mip_bcache.specs.Seen.{CacheSeen, has_no_room}
 use Rattle.mip_rules_correspondent.specs.declared.identity.Identity.{Identity}
 use Rattle.mip_rules_correspondent.specs.declared.known.Known.{Known}
-use Rattle.mip_rules_correspondent.specs.declared.request.Request.{Request}
+use Rattle.mip_updates.specs.declared.registration.Registration.{Registration}
 use Rattle.mip_rules_correspondent.specs.declared.verdict.Verdict.{Verdict}
 use Rattle.mip_rules_correspondent.specs.declared.verdict.Verdict.TheVariants.{Refuse, Deny, Accept}
 use Rattle.mip_rules_correspondent.specs.Rules.{bench}
@@ -20,12 +20,12 @@ use Rattle.mip_correspondent.specs.declared.kept.Kept.{Kept}
 use Rattle.mip_correspondent.specs.Showing.{left, Shows, kept_of, Fits}
 use Rattle.mip_correspondent.proofs.ShowingLaws.{shows-now, shows-known}
 
-pub bench-shown : (me : Identity) (r : Request) (now : ℕ) (cache : CacheSeen) (answers : List Answer) (t : Turn) → Shows now cache answers t → bench me t.known t.now r ≡ bench_at me.own me.secrets now cache r
+pub bench-shown : (me : Identity) (r : Registration) (now : ℕ) (cache : CacheSeen) (answers : List Answer) (t : Turn) → Shows now cache answers t → bench me t.known t.now r ≡ bench_at me.own me.secrets now cache r
 bench-shown me r now cache answers t s =
     ap (λ (k : Known). bench me k t.now r) (shows-known now cache answers t s)
     ∙ ap (λ (n : ℕ). bench me (left now cache) n r) (shows-now now cache answers t s)
 
-pub kept-fits : (own : Address) (secrets : Life) (now : ℕ) (cache : CacheSeen) (r : Request) (message : List ℕ) (v : Verdict) (kept : Option Kept) → v ≡ verdict (bench_at own secrets now cache r) r message → kept ≡ kept_of v → Fits now cache kept
+pub kept-fits : (own : Address) (secrets : Life) (now : ℕ) (cache : CacheSeen) (r : Registration) (message : List ℕ) (v : Verdict) (kept : Option Kept) → v ≡ verdict (bench_at own secrets now cache r) r message → kept ≡ kept_of v → Fits now cache kept
 kept-fits own secrets now cache r message (Refuse why) kept is e = subst (Fits now cache) (sym e) tt
 kept-fits own secrets now cache r message (Deny status last kbm) kept is e = subst (Fits now cache) (sym e) tt
 kept-fits own secrets now cache r message (Accept home accepted granted kbm) kept is e =

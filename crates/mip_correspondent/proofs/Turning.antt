@@ -10,7 +10,7 @@ use Rattle.mip_rules_correspondent.specs.Calls.{Call, Tick, is_tick}
 use Rattle.mip_rules_correspondent.specs.Steps.{Called, Sends, answers_of}
 use Rattle.mip_rules_correspondent.specs.Questions.{held_of, after}
 use Rattle.mip_rules_correspondent.specs.Turns.{Turn, begun, noted}
-use Rattle.mip_rules_correspondent.specs.Doing.{handles, does, turn_of, request_refresh, refreshes, data_packet, transmits}
+use Rattle.mip_rules_correspondent.specs.Doing.{handles, does, turn_of, request_refresh, refreshes, data_sent, transmits}
 use Rattle.mip_rules_correspondent.specs.Seen.{CorrespondentSeen, turn_at, called}
 use Rattle.mip_correspondent.specs.Showing.{left, Shows}
 use Rattle.mip_correspondent.proofs.ShowingLaws.{shows_begun, shows-answers, shows-known, shows-now}
@@ -43,11 +43,11 @@ refreshes-shown me home now cache answers t s =
     ∙ ap (λ (n : ℕ). request_refresh me home (held_of (left now cache) n home) t) (shows-now now cache answers t s)
 
 pub transmits-shown : (me : Identity) (to : Address) (proto : ℕ) (payload : List ℕ) (now : ℕ) (cache : CacheSeen) (answers : List Answer) (t : Turn) → Shows now cache answers t
-    → transmits me to proto payload t ≡ noted (Sends (data_packet me to proto payload (held_of (left now cache) now to))) t
+    → transmits me to proto payload t ≡ noted (Sends (data_sent me to proto payload (held_of (left now cache) now to))) t
 unfolding transmits
 transmits-shown me to proto payload now cache answers t s =
-    ap (λ (k : Known). noted (Sends (data_packet me to proto payload (held_of k t.now to))) t) (shows-known now cache answers t s)
-    ∙ ap (λ (n : ℕ). noted (Sends (data_packet me to proto payload (held_of (left now cache) n to))) t) (shows-now now cache answers t s)
+    ap (λ (k : Known). noted (Sends (data_sent me to proto payload (held_of k t.now to))) t) (shows-known now cache answers t s)
+    ∙ ap (λ (n : ℕ). noted (Sends (data_sent me to proto payload (held_of (left now cache) n to))) t) (shows-now now cache answers t s)
 
 pub ticked-known : (me : Identity) (k : Known) (now : ℕ) → (turn_of me k now Tick).known ≡ left now (expired now k.cache)
 unfolding does after

@@ -5,6 +5,7 @@
 mod answering;
 mod correspondent;
 mod kept;
+mod laws;
 mod part;
 mod receipt;
 mod receiving;
@@ -15,5 +16,6 @@ mod tests;
 mod update;
 
 pub use correspondent::Correspondent;
+pub use laws::what_was_read_has_a_routable_home;
 pub use mip_rules_correspondent::Verdict;
 pub use mip_verdict::judge;

@@ -15,10 +15,11 @@ use crate::kept::Kept;
 use crate::receipt::Receipt;
 use crate::test_init::{answer_careof_init, answer_home_init};
 use crate::update::take_update;
+use mip_constants::protocol::{ICMPV6, IPV6, MOBILITY_HEADER, NO_NEXT_HEADER};
 use mip_entries::Answers;
 use mip_ipv6::PacketRef;
 use mip_mobhdr::Message;
-use mip_verdict::request_of;
+use mip_updates::registration_of;
 use mip_words::Memory;
 use std::alloc::Global;
 
@@ -26,7 +27,7 @@ use std::alloc::Global;
 fn is_data(proto: u8) -> bool
     ensures { result ≡ is_data proto }
 {
-    proto != 41 && proto != 58 && proto != 59 && proto != 135
+    proto != IPV6 && proto != ICMPV6 && proto != NO_NEXT_HEADER && proto != MOBILITY_HEADER
 }
 
 /// What is for the correspondent part.
@@ -64,7 +65,7 @@ fn hand_up_data(
 }
 
 /// An update is taken; no other message is, but for test inits.
-#[tactic(auto, using(crate::proofs::Parts::request_read, crate::proofs::Parts::taken_request))]
+#[tactic(auto, using(crate::proofs::Parts::registration_read, crate::proofs::Parts::taken_registration))]
 fn answer_update(
     alloc: Global,
     answers: &mut Answers,
@@ -80,8 +81,8 @@ fn answer_update(
     ensures fits { IfOk result (Fits receipt.now.moment.0 receipt.now.cache.now) }
     ensures shows { (t : Turn) → Shows receipt.now.moment.0 receipt.now.cache.now answers.old t → IfOk result (λ kept. Shows receipt.now.moment.0 (with_kept receipt.now.moment.0 kept receipt.now.cache.now) answers.new (by_message receipt.now.identity.now receipt.now.number (tree packet.now) (Some (said message.now)) t)) }
 {
-    match request_of(packet.head.source, packet.head.home, message) {
-        Some(request) => take_update(alloc, answers, receipt, &request, packet.body),
+    match registration_of(packet.head.source, packet.head.home, message) {
+        Some(registration) => take_update(alloc, answers, receipt, &registration, packet.body),
         None => Ok(None),
     }
 }

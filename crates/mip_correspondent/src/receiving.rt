@@ -15,6 +15,7 @@ use crate::answering::{drop_packet, send};
 use crate::kept::Kept;
 use crate::part::{answer_message, is_for_part};
 use crate::receipt::Receipt;
+use mip_constants::protocol::{ICMPV6, NO_NEXT_HEADER};
 use mip_entries::Answers;
 use mip_ipv6::{Head, PacketRef, read_packet};
 use mip_mobhdr::Message;
@@ -72,8 +73,8 @@ fn other_why(proto: u8) -> Why
     ensures { result ≡ other_why proto }
 {
     match proto {
-        58 => Why::Icmp,
-        59 => Why::NoNext,
+        ICMPV6 => Why::Icmp,
+        NO_NEXT_HEADER => Why::NoNext,
         _ => Why::Role,
     }
 }

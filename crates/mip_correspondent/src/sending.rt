@@ -4,47 +4,18 @@ ghost use Rattle.std.specs.Prelude.{◌≡◌, ◌≤◌, ℕ, Some, None, IfOk,
 ghost use Rattle.mip_ipv6.specs.Packet.{is_plain, names_no_body};
 ghost use Rattle.mip_words.specs.Addresses.{is_routable};
 ghost use Rattle.mip_bcache.specs.Seen.{CacheSeen};
-ghost use Rattle.mip_options.specs.Values.{nothing};
-ghost use Rattle.mip_mobhdr.specs.Said.Said.{Refresh};
-ghost use Rattle.mip_signals.specs.Packets.{node_head, signal};
 ghost use Rattle.mip_rules_correspondent.specs.Steps.{Sends};
 ghost use Rattle.mip_rules_correspondent.specs.Turns.{Turn, noted};
-ghost use Rattle.mip_rules_correspondent.specs.Doing.{request_refresh, data_packet, data_head};
+ghost use Rattle.mip_rules_correspondent.specs.Doing.{request_refresh, data_sent, data_head};
 ghost use Rattle.mip_correspondent.specs.Showing.{Shows};
 
 use crate::answering::{idle, send};
 use mip_entries::Answers;
 use mip_ipv6::Head;
-use mip_mobhdr::Plain;
-use mip_options::OptionSet;
 use mip_rules_correspondent::Identity;
-use mip_signals::{node_head, straight, write_parcel, write_signal};
-use mip_words::{Address, Bytes, Memory};
+use mip_signals::{node_head, straight, write_data_packet, write_refresh};
+use mip_words::{Address, Memory};
 use std::alloc::Global;
-
-const MOBILITY: u8 = 135;
-
-/// A Binding Refresh Request to a care-of address, through the home address.
-fn write_refresh(
-    alloc: Global,
-    own: Address,
-    careof: Address,
-    home: Address,
-) -> Result<Bytes, Memory>
-    requires { IsTrue (is_routable home.0) }
-    ensures { IfOk result (λ b. b ≡ signal (node_head own careof (Some home) None 135) (Refresh nothing)) }
-{
-    let request = Plain::Refresh {
-        options: OptionSet {
-            advice: None,
-            alternate: None,
-            nonces: None,
-            authorization: None,
-        },
-    };
-    let head = node_head(own, careof, Some(home), None, MOBILITY);
-    write_signal(alloc, &head, &request)
-}
 
 /// The request goes to the care-of address that is held for a home; nothing where none is held.
 pub fn ask_refresh(
@@ -93,9 +64,9 @@ pub fn send_data(
     requires routable { IfSome held (λ _. IsTrue (is_routable to.0)) }
     requires proto { IsFalse (names_no_body proto) }
     requires short { length payload.now ≤ 512 }
-    ensures { (now : ℕ) (cache : CacheSeen) (t : Turn) → Shows now cache answers.old t → OnOk result (Shows now cache answers.new (noted (Sends (data_packet identity.now to proto payload.now held)) t)) }
+    ensures { (now : ℕ) (cache : CacheSeen) (t : Turn) → Shows now cache answers.old t → OnOk result (Shows now cache answers.new (noted (Sends (data_sent identity.now to proto payload.now held)) t)) }
 {
     let head = data_head(identity.own, to, proto, held);
-    let packet = write_parcel(alloc, &head, payload)?;
+    let packet = write_data_packet(alloc, &head, payload)?;
     send(answers, packet)
 }

@@ -2,7 +2,6 @@
 
 ghost use Rattle.std.specs.Prelude.{◌≡◌, IfOk, OnOk};
 ghost use Rattle.mip_bcache.specs.Seen.{CacheSeen};
-ghost use Rattle.mip_signals.specs.Packets.{straight, signal};
 ghost use Rattle.mip_rules_correspondent.specs.Turns.{Turn};
 ghost use Rattle.mip_rules_correspondent.specs.Rules.{home_test, careof_test, answers_home_init, answers_careof_init};
 ghost use Rattle.mip_correspondent.specs.Showing.{Shows};
@@ -10,65 +9,42 @@ ghost use Rattle.mip_correspondent.specs.Showing.{Shows};
 use crate::answering::{index_of, send};
 use crate::receipt::Receipt;
 use mip_entries::Answers;
-use mip_mobhdr::Plain;
 use mip_nonce::current;
-use mip_options::OptionSet;
 use mip_rules_correspondent::Identity;
-use mip_signals::{straight, write_signal};
+use mip_signals::{write_careof_test, write_home_test};
 use mip_tokens::{careof_token, home_token};
 use mip_words::{Address, Bytes, Cookie, Memory, Moment};
 use std::alloc::Global;
 
-const NO_OPTIONS: OptionSet = OptionSet {
-    advice: None,
-    alternate: None,
-    nonces: None,
-    authorization: None,
-};
-
-const MOBILITY: u8 = 135;
-
 /// The Home Test to the source of a Home Test Init: its cookie, and the home keygen token of the source under the
 /// newest nonce.
-fn write_home_test(
+fn home_test(
     alloc: Global,
     me: &Identity,
     now: Moment,
     source: Address,
     cookie: Cookie,
 ) -> Result<Bytes, Memory>
-    ensures { IfOk result (λ b. b ≡ signal (straight me.now.own source 135) (home_test me.now now.0 source cookie.0)) }
+    ensures { IfOk result (λ b. b ≡ home_test me.now now.0 source cookie.0) }
 {
     let number = current(now);
     let token = home_token(me.secrets.kcn(), source, &me.secrets.nonce(number));
-    let test = Plain::HomeTest {
-        index: index_of(number),
-        cookie,
-        token,
-        options: NO_OPTIONS,
-    };
-    write_signal(alloc, &straight(me.own, source, MOBILITY), &test)
+    write_home_test(alloc, me.own, source, index_of(number), cookie, token)
 }
 
 /// The Care-of Test to the source of a Care-of Test Init.
-fn write_careof_test(
+fn careof_test(
     alloc: Global,
     me: &Identity,
     now: Moment,
     source: Address,
     cookie: Cookie,
 ) -> Result<Bytes, Memory>
-    ensures { IfOk result (λ b. b ≡ signal (straight me.now.own source 135) (careof_test me.now now.0 source cookie.0)) }
+    ensures { IfOk result (λ b. b ≡ careof_test me.now now.0 source cookie.0) }
 {
     let number = current(now);
     let token = careof_token(me.secrets.kcn(), source, &me.secrets.nonce(number));
-    let test = Plain::CareofTest {
-        index: index_of(number),
-        cookie,
-        token,
-        options: NO_OPTIONS,
-    };
-    write_signal(alloc, &straight(me.own, source, MOBILITY), &test)
+    write_careof_test(alloc, me.own, source, index_of(number), cookie, token)
 }
 
 /// A Home Test Init is answered by a Home Test.
@@ -82,7 +58,7 @@ pub fn answer_home_init(
 ) -> Result<(), Memory>
     ensures { (cache : CacheSeen) (t : Turn) → Shows receipt.now.moment.0 cache answers.old t → OnOk result (Shows receipt.now.moment.0 cache answers.new (answers_home_init receipt.now.identity.now source cookie.0 t)) }
 {
-    let test = write_home_test(alloc, receipt.identity, receipt.moment, source, cookie)?;
+    let test = home_test(alloc, receipt.identity, receipt.moment, source, cookie)?;
     send(answers, test)
 }
 
@@ -97,6 +73,6 @@ pub fn answer_careof_init(
 ) -> Result<(), Memory>
     ensures { (cache : CacheSeen) (t : Turn) → Shows receipt.now.moment.0 cache answers.old t → OnOk result (Shows receipt.now.moment.0 cache answers.new (answers_careof_init receipt.now.identity.now source cookie.0 t)) }
 {
-    let test = write_careof_test(alloc, receipt.identity, receipt.moment, source, cookie)?;
+    let test = careof_test(alloc, receipt.identity, receipt.moment, source, cookie)?;
     send(answers, test)
 }

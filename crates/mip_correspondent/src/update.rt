@@ -4,7 +4,7 @@ ghost use Rattle.std.specs.Prelude.{◌≡◌, ◌≤◌, ◌<◌, ◌^◌, Some
 ghost use Rattle.mip_ipv6.specs.Packet.{is_routable_if_any};
 ghost use Rattle.mip_bcache.specs.Seen.{CacheSeen, row_for, with_row};
 ghost use Rattle.mip_rules_correspondent.specs.Turns.{Turn};
-ghost use Rattle.mip_rules_correspondent.specs.Requests.{request_in};
+ghost use Rattle.mip_updates.specs.Registrations.{registration_in};
 ghost use Rattle.mip_rules_correspondent.specs.Rules.{denies, acknowledges, accepts, judged, takes_update};
 ghost use Rattle.mip_correspondent.specs.Showing.{Shows, with_kept, kept_of, Fits};
 
@@ -12,9 +12,10 @@ use crate::answering::{drop_packet, note_acceptance, note_denial, send};
 use crate::kept::Kept;
 use crate::receipt::Receipt;
 use mip_entries::Answers;
-use mip_rules_correspondent::{Request, Verdict};
+use mip_rules_correspondent::Verdict;
 use mip_tokens::Kbm;
-use mip_verdict::{verdict, write_ack};
+use mip_updates::{Registration, status, write_ack};
+use mip_verdict::verdict;
 use mip_words::Memory;
 use std::alloc::Global;
 
@@ -24,17 +25,17 @@ fn deny(
     alloc: Global,
     answers: &mut Answers,
     receipt: &Receipt<'_>,
-    request: &Request,
+    registration: &Registration,
     status: u8,
     last: u16,
     kbm: Option<Kbm>,
 ) -> Result<(), Memory>
-    requires { IsTrue (is_routable_if_any request.now.home_option) }
-    ensures { (cache : CacheSeen) (t : Turn) → Shows receipt.now.moment.0 cache answers.old t → OnOk result (Shows receipt.now.moment.0 cache answers.new (denies receipt.now.identity.now receipt.now.number request.now status last kbm t)) }
+    requires { IsTrue (is_routable_if_any registration.now.home_option) }
+    ensures { (cache : CacheSeen) (t : Turn) → Shows receipt.now.moment.0 cache answers.old t → OnOk result (Shows receipt.now.moment.0 cache answers.new (denies receipt.now.identity.now receipt.now.number registration.now status last kbm t)) }
 {
     let own = receipt.identity.own;
     note_denial(answers, receipt.number, status)?;
-    let ack = write_ack(alloc, own, request, status, last, 0, kbm.as_ref())?;
+    let ack = write_ack(alloc, own, registration, status, last, 0, kbm.as_ref())?;
     send(answers, ack)
 }
 
@@ -43,23 +44,23 @@ fn acknowledge(
     alloc: Global,
     answers: &mut Answers,
     receipt: &Receipt<'_>,
-    request: &Request,
+    registration: &Registration,
     granted: u16,
     kbm: Kbm,
 ) -> Result<(), Memory>
-    requires { IsTrue (is_routable_if_any request.now.home_option) }
-    ensures { (cache : CacheSeen) (t : Turn) → Shows receipt.now.moment.0 cache answers.old t → OnOk result (Shows receipt.now.moment.0 cache answers.new (acknowledges receipt.now.identity.now request.now granted kbm t)) }
+    requires { IsTrue (is_routable_if_any registration.now.home_option) }
+    ensures { (cache : CacheSeen) (t : Turn) → Shows receipt.now.moment.0 cache answers.old t → OnOk result (Shows receipt.now.moment.0 cache answers.new (acknowledges receipt.now.identity.now registration.now granted kbm t)) }
 {
-    if !request.ack {
+    if !registration.ack {
         return Ok(());
     }
     let own = receipt.identity.own;
     let ack = write_ack(
         alloc,
         own,
-        request,
-        0,
-        request.sequence,
+        registration,
+        status::ACCEPTED,
+        registration.sequence,
         granted,
         Some(&kbm),
     )?;
@@ -72,16 +73,16 @@ fn accept(
     alloc: Global,
     answers: &mut Answers,
     receipt: &Receipt<'_>,
-    request: &Request,
+    registration: &Registration,
     kept: &Kept,
     granted: u16,
     kbm: Kbm,
 ) -> Result<(), Memory>
-    requires { IsTrue (is_routable_if_any request.now.home_option) }
-    ensures { (cache : CacheSeen) (t : Turn) → Shows receipt.now.moment.0 cache answers.old t → OnOk result (Shows receipt.now.moment.0 (with_row receipt.now.moment.0 (row_for receipt.now.moment.0 kept.now.home 0 kept.now.accepted) cache) answers.new (accepts receipt.now.identity.now receipt.now.number request.now kept.now.home kept.now.accepted granted kbm t)) }
+    requires { IsTrue (is_routable_if_any registration.now.home_option) }
+    ensures { (cache : CacheSeen) (t : Turn) → Shows receipt.now.moment.0 cache answers.old t → OnOk result (Shows receipt.now.moment.0 (with_row receipt.now.moment.0 (row_for receipt.now.moment.0 kept.now.home 0 kept.now.accepted) cache) answers.new (accepts receipt.now.identity.now receipt.now.number registration.now kept.now.home kept.now.accepted granted kbm t)) }
 {
     note_acceptance(answers, receipt.number, kept)?;
-    acknowledge(alloc, answers, receipt, request, granted, kbm)
+    acknowledge(alloc, answers, receipt, registration, granted, kbm)
 }
 
 /// What follows from a verdict.
@@ -89,12 +90,12 @@ fn carry_out(
     alloc: Global,
     answers: &mut Answers,
     receipt: &Receipt<'_>,
-    request: &Request,
+    registration: &Registration,
     verdict: Verdict,
 ) -> Result<Option<Kept>, Memory>
-    requires { IsTrue (is_routable_if_any request.now.home_option) }
+    requires { IsTrue (is_routable_if_any registration.now.home_option) }
     ensures kept { IfOk result (λ kept. kept ≡ kept_of verdict) }
-    ensures shows { (cache : CacheSeen) (t : Turn) → Shows receipt.now.moment.0 cache answers.old t → IfOk result (λ kept. Shows receipt.now.moment.0 (with_kept receipt.now.moment.0 kept cache) answers.new (judged receipt.now.identity.now receipt.now.number request.now verdict t)) }
+    ensures shows { (cache : CacheSeen) (t : Turn) → Shows receipt.now.moment.0 cache answers.old t → IfOk result (λ kept. Shows receipt.now.moment.0 (with_kept receipt.now.moment.0 kept cache) answers.new (judged receipt.now.identity.now receipt.now.number registration.now verdict t)) }
 {
     match verdict {
         Verdict::Refuse(why) => {
@@ -102,7 +103,7 @@ fn carry_out(
             Ok(None)
         }
         Verdict::Deny { status, last, kbm } => {
-            deny(alloc, answers, receipt, request, status, last, kbm)?;
+            deny(alloc, answers, receipt, registration, status, last, kbm)?;
             Ok(None)
         }
         Verdict::Accept {
@@ -112,7 +113,7 @@ fn carry_out(
             kbm,
         } => {
             let kept = Kept { home, accepted };
-            accept(alloc, answers, receipt, request, &kept, granted, kbm)?;
+            accept(alloc, answers, receipt, registration, &kept, granted, kbm)?;
             Ok(Some(kept))
         }
     }
@@ -124,15 +125,15 @@ pub fn take_update(
     alloc: Global,
     answers: &mut Answers,
     receipt: &Receipt<'_>,
-    request: &Request,
+    registration: &Registration,
     message: &[u8],
 ) -> Result<Option<Kept>, Memory>
     requires early { receipt.now.moment.0 < 2 ^ 62 }
     requires later { receipt.now.cache.now.last ≤ receipt.now.moment.0 }
-    requires plain { IsTrue (is_routable_if_any request.now.home_option) }
-    requires read { request_in request.now.source request.now.home_option message.now ≡ Some request.now }
+    requires plain { IsTrue (is_routable_if_any registration.now.home_option) }
+    requires read { registration_in registration.now.source registration.now.home_option message.now ≡ Some registration.now }
     ensures fits { IfOk result (Fits receipt.now.moment.0 receipt.now.cache.now) }
-    ensures shows { (t : Turn) → Shows receipt.now.moment.0 receipt.now.cache.now answers.old t → IfOk result (λ kept. Shows receipt.now.moment.0 (with_kept receipt.now.moment.0 kept receipt.now.cache.now) answers.new (takes_update receipt.now.identity.now receipt.now.number request.now message.now t)) }
+    ensures shows { (t : Turn) → Shows receipt.now.moment.0 receipt.now.cache.now answers.old t → IfOk result (λ kept. Shows receipt.now.moment.0 (with_kept receipt.now.moment.0 kept receipt.now.cache.now) answers.new (takes_update receipt.now.identity.now receipt.now.number registration.now message.now t)) }
 {
     let identity = receipt.identity;
     let verdict = verdict(
@@ -140,8 +141,8 @@ pub fn take_update(
         &identity.secrets,
         receipt.cache,
         identity.own,
-        request,
+        registration,
         message,
     );
-    carry_out(alloc, answers, receipt, request, verdict)
+    carry_out(alloc, answers, receipt, registration, verdict)
 }

@@ -5,7 +5,8 @@ use Rattle.mip_words.specs.Addresses.{address_bytes}
 use Rattle.mip_words.specs.declared.address.Address.{Address}
 use Rattle.mip_icmp.specs.Said.{DiscoverReply}
 use Rattle.mip_icmp.specs.Spelling.{icmp_bytes}
-use Rattle.mip_signals.specs.Packets.{parcel, straight}
+use Rattle.mip_constants.specs.Protocols.{icmpv6}
+use Rattle.mip_signals.specs.Packets.{data_packet, straight}
 use Rattle.mip_discovery.specs.declared.agent.Agent.{Agent}
 use Rattle.mip_discovery.specs.Heard.{is_of}
 
@@ -25,4 +26,4 @@ named own preference xs =
 -- the packet that names these agents
 unfoldable pub discovery_reply : Address → ℕ → Address → ℕ → List Agent → List ℕ
 discovery_reply own preference to identifier xs =
-    parcel (straight own to 58) (icmp_bytes own to (DiscoverReply identifier (flat_map address_bytes (named own preference xs))))
+    data_packet (straight own to icmpv6) (icmp_bytes own to (DiscoverReply identifier (flat_map address_bytes (named own preference xs))))

@@ -1,5 +1,6 @@
 -- A mobile's discovery of home agents. RFC 6275 section 11.4.1
 use Rattle.std.specs.Prelude.{ℕ, ◌+◌, ◌*◌, ◌^◌, ◌==◌, Option, Some, None, if◌then◌else◌}
+use Rattle.mip_constants.specs.Constants.{initial_dhaad_timeout, dhaad_retries}
 
 -- the request's identifier, how many retries were sent, and when the next one is due
 pub record DiscoverySeen : Type 0 where
@@ -9,7 +10,7 @@ pub record DiscoverySeen : Type 0 where
 
 -- after the request 3 s, and after each retry twice as long
 abbrev pub due_after : ℕ → ℕ → ℕ
-due_after now retries = now + 3000 * 2 ^ retries
+due_after now retries = now + initial_dhaad_timeout * 2 ^ retries
 
 abbrev pub started : ℕ → ℕ → DiscoverySeen
 started now identifier = record { identifier = identifier; retries = 0; due = due_after now 0 }
@@ -17,4 +18,4 @@ started now identifier = record { identifier = identifier; retries = 0; due = du
 -- the next retry; there are four
 abbrev pub retried : ℕ → DiscoverySeen → Option DiscoverySeen
 retried now d =
-    if d.retries == 4 then None else Some (record { identifier = d.identifier; retries = d.retries + 1; due = due_after now (d.retries + 1) })
+    if d.retries == dhaad_retries then None else Some (record { identifier = d.identifier; retries = d.retries + 1; due = due_after now (d.retries + 1) })

@@ -1,14 +1,10 @@
 ghost use Rattle.std.specs.Prelude.{◌≡◌, ◌<◌, ◌≤◌, ◌*◌, ◌^◌, ◌==◌, ◌↔◌, None};
+ghost use Rattle.mip_constants.specs.Constants.{initial_dhaad_timeout};
 ghost use Rattle.mip_discovery.specs.Retries.{started, retried};
 
+use mip_constants::{DHAAD_RETRIES, INITIAL_DHAAD_TIMEOUT};
 use mip_words::Moment;
 use std::marker::Model;
-
-/// How many milliseconds after a request the first retry is due.
-const FIRST: u64 = 3000;
-
-/// How many retries there are.
-const RETRIES: u8 = 4;
 
 /// A discovery of home agents that is under way (RFC 6275 section 11.4.1): one request, and at most four retries, which
 /// have its identifier. The first is due after 3 s, and each later one after twice as long as the one before it.
@@ -21,6 +17,7 @@ pub struct Discovery {
 
 impl Model for Discovery {
     ghost use Rattle.std.specs.Prelude.{◌≤◌};
+    ghost use Rattle.mip_constants.specs.Constants.{initial_dhaad_timeout};
     ghost use Rattle.mip_discovery.specs.Retries.{DiscoverySeen};
 
     ghost Value = { DiscoverySeen };
@@ -39,7 +36,7 @@ impl Discovery {
         Discovery {
             identifier,
             retries: 0,
-            due: Moment(now.0 + FIRST),
+            due: Moment(now.0 + INITIAL_DHAAD_TIMEOUT),
         }
     }
 
@@ -56,7 +53,7 @@ impl Discovery {
         ensures exact { result ≡ retried now.0 self }
         ensures none { result ≡ None ↔ self.retries ≡ 4 }
     {
-        if self.retries == RETRIES {
+        if self.retries == DHAAD_RETRIES {
             return None;
         }
         let retries = self.retries + 1;
@@ -78,14 +75,14 @@ impl Discovery {
 /// How long after a retry the next one is due.
 fn wait(retries: u8) -> u64
     requires { retries ≤ 4 }
-    ensures value { result ≡ 3000 * 2 ^ retries }
+    ensures value { result ≡ initial_dhaad_timeout * 2 ^ retries }
     ensures small { result < 2 ^ 32 }
 {
     match retries {
-        0 => FIRST,
-        1 => 2 * FIRST,
-        2 => 4 * FIRST,
-        3 => 8 * FIRST,
-        _ => 16 * FIRST,
+        0 => INITIAL_DHAAD_TIMEOUT,
+        1 => 2 * INITIAL_DHAAD_TIMEOUT,
+        2 => 4 * INITIAL_DHAAD_TIMEOUT,
+        3 => 8 * INITIAL_DHAAD_TIMEOUT,
+        _ => 16 * INITIAL_DHAAD_TIMEOUT,
     }
 }

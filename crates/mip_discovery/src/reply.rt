@@ -9,8 +9,9 @@ ghost use Rattle.mip_discovery.specs.Heard.{live};
 ghost use Rattle.mip_discovery.specs.Reply.{is_above, is_behind, named, discovery_reply};
 
 use crate::agent::Agent;
+use mip_constants::protocol::ICMPV6;
 use mip_icmp::{PlainIcmp, write_icmp};
-use mip_signals::{straight, write_parcel};
+use mip_signals::{straight, write_data_packet};
 use mip_words::{Address, Bytes, Memory, Moment};
 use std::alloc::Global;
 
@@ -138,5 +139,5 @@ pub fn write_reply(
 {
     let addresses = name(alloc, agents, now, own, preference)?;
     let body = message(alloc, own, to, identifier, &addresses)?;
-    write_parcel(alloc, &straight(own, to, 58), body.as_slice())
+    write_data_packet(alloc, &straight(own, to, ICMPV6), body.as_slice())
 }

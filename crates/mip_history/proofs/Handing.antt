@@ -15,10 +15,10 @@ use Rattle.mip_entries.specs.declared.entry.Entry.TheVariants as entries
 use Rattle.mip_entries.specs.Completed.{node_id}
 use Rattle.mip_nonce.specs.Secrets.{Life}
 use Rattle.mip_rules_correspondent.specs.declared.identity.Identity.{Identity}
-use Rattle.mip_rules_correspondent.specs.declared.request.Request.{Request}
+use Rattle.mip_updates.specs.declared.registration.Registration.{Registration}
 use Rattle.mip_rules_correspondent.specs.Steps.{Step, is_acceptance}
 use Rattle.mip_rules_correspondent.specs.Turns.{Turn}
-use Rattle.mip_rules_correspondent.specs.Requests.{request_in, home_of}
+use Rattle.mip_updates.specs.Registrations.{registration_in, home_of}
 use Rattle.mip_rules_correspondent.specs.declared.verdict.Verdict.TheVariants.{Accept}
 use Rattle.mip_rules_correspondent.specs.Verdicts.{Bench, verdict}
 use Rattle.mip_rules_correspondent.specs.Rules.{bench}
@@ -98,7 +98,7 @@ module _ (s : Setup) (k n : ℕ) (post : Post) (link : Option ℕ) (before : Run
   me = identity_in s run n own room
 
   -- the judge of the turn is the one of the history
-  same_judge : (r : Request) (home : Address) → home ≡ home_of r → bench me (known_in run n room) (now_in s run) r ≡ judge_in s run.past n own room home.0
+  same_judge : (r : Registration) (home : Address) → home ≡ home_of r → bench me (known_in run n room) (now_in s run) r ≡ judge_in s run.past n own room home.0
   same_judge r home same = let p = run_is.pasts n inside in
       bench_same own me.secrets (now_in s run)
       (floor-answers room (past_at run n) p.rises (now_in s run) (home_of r) p.early
@@ -115,9 +115,9 @@ module _ (s : Setup) (k n : ℕ) (post : Post) (link : Option ℕ) (before : Run
   stands : (u : IsUpdateTaken me (known_in run n room) (now_in s run) k post.shield (handed_over post.packet link) steps) → IsAccepted s run.past n k u.home u.accepted
   stands u =
       let as_posted = reads_as post.packet link u.packet u.read in
-      let accepts : verdict (judge_in s run.past n own room u.home.0) u.request as_posted.packet.body ≡ Accept u.home u.accepted u.granted u.kbm =
-      ap (λ (b : Bench). verdict b u.request as_posted.packet.body) (sym (same_judge u.request u.home (accepted_home _ u.request u.packet.body u.home u.accepted u.granted u.kbm u.verdict_is)))
-      ∙ ap (λ (l : List ℕ). verdict (bench me (known_in run n room) (now_in s run) u.request) u.request l) (sym as_posted.body)
+      let accepts : verdict (judge_in s run.past n own room u.home.0) u.registration as_posted.packet.body ≡ Accept u.home u.accepted u.granted u.kbm =
+      ap (λ (b : Bench). verdict b u.registration as_posted.packet.body) (sym (same_judge u.registration u.home (accepted_home _ u.registration u.packet.body u.home u.accepted u.granted u.kbm u.verdict_is)))
+      ∙ ap (λ (l : List ℕ). verdict (bench me (known_in run n room) (now_in s run) u.registration) u.registration l) (sym as_posted.body)
       ∙ u.verdict_is in
       record {
         own = own;
@@ -130,15 +130,15 @@ module _ (s : Setup) (k n : ℕ) (post : Post) (link : Option ℕ) (before : Run
         packet = as_posted.packet;
         read = as_posted.read;
         mobility = sym as_posted.proto ∙ u.mobility;
-        request = u.request;
+        registration = u.registration;
         asks = same as_posted.source as_posted.home as_posted.body ∙ u.asks;
         granted = u.granted;
         kbm = u.kbm;
         verdict_is = accepts;
-        sound = sound (judge_in s run.past n own room u.home.0) u.request as_posted.packet.body u.home u.accepted u.granted u.kbm accepts;
+        sound = sound (judge_in s run.past n own room u.home.0) u.registration as_posted.packet.body u.home u.accepted u.granted u.kbm accepts;
       }
     where
-      same : {a b : Address} {x y : Option Address} {l m : List ℕ} → b ≡ a → y ≡ x → m ≡ l → request_in a x l ≡ request_in b y m
+      same : {a b : Address} {x y : Option Address} {l m : List ℕ} → b ≡ a → y ≡ x → m ≡ l → registration_in a x l ≡ registration_in b y m
       same p q r = cc
 
   pub handed_to : Goes s before (turned s n own (turn_of me (known_in run n room) (now_in s run) (Take k post.shield (handed_over post.packet link))) run)

@@ -51,7 +51,7 @@ named_index now index n fits =
     (λ far e. absurd cc)
 
 -- two numbers that are near the newest ones of their moments, and have the same end
-one_number : (t u i j : ℕ) → i ≤ t → t ≤ i + 7 → j ≤ u → u ≤ j + 7 → t ≤ u → u ≤ t + 1201 → i % 65536 ≡ j % 65536 → i ≡ j
+one_number : (t u i j : ℕ) → i ≤ t → t < i + 8 → j ≤ u → u < j + 8 → t ≤ u → u ≤ t + 1201 → i % 65536 ≡ j % 65536 → i ≡ j
 one_number t u i j a b c d up near same = omega arith
 
 -- so an index names the same nonce at two moments, and they are less than 240 s apart
@@ -62,5 +62,5 @@ same_nonce t u index i j fits first second up far =
     let one : i ≡ j = one_number (t / 30000) (u / 30000) i j first.0.0 first.0.1 second.0.0 second.0.1 (omega arith) (omega arith) (omega arith) in
     near t u i first.0.0 (omega (arith, second.0.1, one))
   where
-    near : (t u i : ℕ) → i ≤ t / 30000 → u / 30000 ≤ i + 7 → u < t + 240000
+    near : (t u i : ℕ) → i ≤ t / 30000 → u / 30000 < i + 8 → u < t + 240000
     near t u i a b = omega arith

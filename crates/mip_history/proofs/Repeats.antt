@@ -119,14 +119,14 @@ module _ (c : Content) (short : sum_by waited_by c.events ≤ 36000000) (before 
   carries_second = subst (λ (p : List Entry). CarriesUpdate p l again.key) whole again.second
 
   -- both ask the same
-  same : AsksSame first.stands.request second.stands.request
+  same : AsksSame first.stands.registration second.stands.registration
   same =
       asks_same first.stands.packet second.stands.packet again.key
       (accepted_bytes s before (accepted_entry n k home a ∷ since) n k home first.accepted again.key first.stands carries_first)
       (accepted_bytes s middle later n l home second.accepted again.key second.stands carries_second)
       (accepted_says s before (accepted_entry n k home a ∷ since) n k home first.accepted again.key first.stands carries_first)
       (accepted_says s middle later n l home second.accepted again.key second.stands carries_second)
-      first.stands.request first.stands.asks second.stands.request second.stands.asks
+      first.stands.registration first.stands.asks second.stands.registration second.stands.asks
 
   -- the moments rise from the start to the end
   each : EachAfter (Meets s) [] (middle ++ later)
@@ -163,7 +163,7 @@ module _ (c : Content) (short : sum_by waited_by c.events ≤ 36000000) (before 
   kept : floor (accepted_by s.start middle n) home.0 (moment_in s.start middle) ≡ Some (last_in n home.0 a.sequence between)
   kept = last_stands s.start n k home before between a (moment_in s.start middle) near alive rises.0.1
 
-  sequence_is : second.stands.request.sequence ≡ b.sequence
+  sequence_is : second.stands.registration.sequence ≡ b.sequence
   sequence_is = sym second.stands.sound.of_sequence ∙ second.of_sequence
 
   pub permitted_repeats : (rounds : ℕ) × (0 < rounds) × (advanced n home.0 a.sequence (between ++ accepted_entry n l home b ∷ []) ≡ rounds * 65536)

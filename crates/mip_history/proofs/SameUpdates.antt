@@ -25,8 +25,8 @@ use Rattle.mip_mobhdr.proofs.Messages.{message_spelled}
 use Rattle.mip_tokens.specs.Token.{authenticated}
 use Rattle.mip_says.specs.Says.{Key, update_said, said_by, says}
 use Rattle.mip_says.specs.Says.Carried.{Update, Other}
-use Rattle.mip_rules_correspondent.specs.declared.request.Request.{Request}
-use Rattle.mip_rules_correspondent.specs.Requests.{request, request_said, request_in}
+use Rattle.mip_updates.specs.declared.registration.Registration.{Registration}
+use Rattle.mip_updates.specs.Registrations.{registration, registration_said, registration_in}
 use Rattle.mip_rules_correspondent.proofs.Taken.{update_read}
 
 -- bytes end with the 12 of an authenticator
@@ -181,26 +181,26 @@ module _ (p : Packet) (key : Key) (bytes : IsBytes p.body) (t : Told p key) wher
   index_fits : Fits t.options
   index_fits = let o = spelled.fields.6 in run_fits o.0 nothing t.options o.1 (λ i is. absurd cc)
 
-  asked : (r : Request) → request_in p.head.source p.head.home p.body ≡ Some r → request p.head.source p.head.home t.sequence t.a t.h t.lifetime t.options ≡ r
+  asked : (r : Registration) → registration_in p.head.source p.head.home p.body ≡ Some r → registration p.head.source p.head.home t.sequence t.a t.h t.lifetime t.options ≡ r
   asked r asks =
       let read = update_read p.body t.sequence t.a t.h t.l t.k t.lifetime t.options (source_of p.head) (destination_of p.head) t.is in
-      let e : Some (request p.head.source p.head.home t.sequence t.a t.h t.lifetime t.options) ≡ Some r = ap (λ (x : Result Said Fault). request_said p.head.source p.head.home x) (sym read) ∙ asks in
+      let e : Some (registration p.head.source p.head.home t.sequence t.a t.h t.lifetime t.options) ≡ Some r = ap (λ (x : Result Said Fault). registration_said p.head.source p.head.home x) (sym read) ∙ asks in
       cc
 
 -- the same sequence and the same indices, and the index of the home token is a number of 16 bits
-pub record AsksSame (r q : Request) : Type 0 where
+pub record AsksSame (r q : Registration) : Type 0 where
   pub sequence : r.sequence ≡ q.sequence
   pub nonces : r.nonces ≡ q.nonces
   pub fits : (i : Indices) → r.nonces ≡ Some i → i.home < 65536
 
 pub asks_same : (p q : Packet) (key : Key) → IsBytes p.body → IsBytes q.body → says p ≡ Update key → says q ≡ Update key
-    → (r : Request) → request_in p.head.source p.head.home p.body ≡ Some r → (s : Request) → request_in q.head.source q.head.home q.body ≡ Some s → AsksSame r s
+    → (r : Registration) → registration_in p.head.source p.head.home p.body ≡ Some r → (s : Registration) → registration_in q.head.source q.head.home q.body ≡ Some s → AsksSame r s
 unfolding options_of
 asks_same p q key first second is_first is_second r asks s repeats =
     record {
-      sequence = ap (λ (x : Request). x.sequence) (sym mine) ∙ sequences ∙ ap (λ (x : Request). x.sequence) other;
-      nonces = ap (λ (x : Request). x.nonces) (sym mine) ∙ ap nonces_of same_options ∙ ap (λ (x : Request). x.nonces) other;
-      fits = λ i is. index_fits p key first t i (ap (λ (x : Request). x.nonces) mine ∙ is);
+      sequence = ap (λ (x : Registration). x.sequence) (sym mine) ∙ sequences ∙ ap (λ (x : Registration). x.sequence) other;
+      nonces = ap (λ (x : Registration). x.nonces) (sym mine) ∙ ap nonces_of same_options ∙ ap (λ (x : Registration). x.nonces) other;
+      fits = λ i is. index_fits p key first t i (ap (λ (x : Registration). x.nonces) mine ∙ is);
     }
   where
     t : Told p key
@@ -209,10 +209,10 @@ asks_same p q key first second is_first is_second r asks s repeats =
     u : Told q key
     u = told q key is_second
 
-    mine : request p.head.source p.head.home t.sequence t.a t.h t.lifetime t.options ≡ r
+    mine : registration p.head.source p.head.home t.sequence t.a t.h t.lifetime t.options ≡ r
     mine = asked p key first t r asks
 
-    other : request q.head.source q.head.home u.sequence u.a u.h u.lifetime u.options ≡ s
+    other : registration q.head.source q.head.home u.sequence u.a u.h u.lifetime u.options ≡ s
     other = asked q key second u s repeats
 
     rest : drop 6 p.body ≡ drop 6 q.body

@@ -14,9 +14,9 @@ use Rattle.mip_tokens.specs.declared.kbm.Kbm.{Kbm}
 use Rattle.mip_entries.specs.declared.entry.Entry.{Entry}
 use Rattle.mip_entries.specs.declared.entry.Entry.TheVariants as entries
 use Rattle.mip_entries.specs.Completed.{node_id}
-use Rattle.mip_rules_correspondent.specs.declared.request.Request.{Request}
+use Rattle.mip_updates.specs.declared.registration.Registration.{Registration}
 use Rattle.mip_rules_correspondent.specs.declared.verdict.Verdict.TheVariants.{Accept}
-use Rattle.mip_rules_correspondent.specs.Requests.{request_in}
+use Rattle.mip_updates.specs.Registrations.{registration_in}
 use Rattle.mip_rules_correspondent.specs.Soundness.{IsSound}
 use Rattle.mip_rules_correspondent.specs.Verdicts.{Bench, verdict}
 use Rattle.mip_history.specs.Setup.{Setup}
@@ -85,13 +85,13 @@ pub record IsAccepted (s : Setup) (past : List Entry) (n k : ℕ) (home : Addres
   pub packet : Packet
   pub read : packet_of bytes ≡ Ok packet
   pub mobility : packet.head.proto ≡ 135
-  pub request : Request
-  pub asks : request_in packet.head.source packet.head.home packet.body ≡ Some request
+  pub registration : Registration
+  pub asks : registration_in packet.head.source packet.head.home packet.body ≡ Some registration
   pub granted : ℕ
   pub kbm : Kbm
-  pub verdict_is : verdict (judge_in s past n own room home.0) request packet.body ≡ Accept home accepted granted kbm
+  pub verdict_is : verdict (judge_in s past n own room home.0) registration packet.body ≡ Accept home accepted granted kbm
   -- its authenticator is that of the tokens under nonces valid then, and its sequence comes after the one that was kept
-  pub sound : IsSound (judge_in s past n own room home.0) request packet.body home accepted granted kbm
+  pub sound : IsSound (judge_in s past n own room home.0) registration packet.body home accepted granted kbm
 
 -- the entry of what was accepted
 abbrev pub accepted_entry : ℕ → ℕ → Address → Accepted → Entry

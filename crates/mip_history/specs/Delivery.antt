@@ -1,11 +1,11 @@
 -- What becomes of a packet that is delivered, and of those that are carried.
-use Rattle.std.specs.Prelude.{ℕ, zero, suc, ◌-◌, List, Bool, false, not, ◌==◌, if◌then◌else◌, Option, Some, None}
+use Rattle.std.specs.Prelude.{ℕ, zero, suc, List, Bool, false, not, ◌==◌, if◌then◌else◌, Option, Some, None}
 use Rattle.mip_words.specs.declared.why.Why.{Why}
 use Rattle.mip_words.specs.declared.why.Why.TheVariants as whys
 use Rattle.mip_entries.specs.declared.entry.Entry.TheVariants.{Handed, Heard, Gone as Goes, Idle as Stays}
 use Rattle.mip_entries.specs.Completed.{node_id}
 use Rattle.mip_tunnel.specs.Tunnel.{lowered}
-use Rattle.mip_links.specs.Table.{Post, link_of, destination_in, delivery, in_pool}
+use Rattle.mip_links.specs.Table.{Post, link_of, destination_in, delivery, in_pool, outsider_of}
 use Rattle.mip_links.specs.Nets.{lowest_of}
 use Rattle.mip_links.specs.declared.delivery.Delivery.{Delivery}
 use Rattle.mip_links.specs.declared.delivery.Delivery.TheVariants.{Idle, Gone, Outsider, Node}
@@ -54,7 +54,7 @@ is_no_holder _ = false
 abbrev pub became : Setup → ℕ → Post → Option ℕ → Run → Delivery → Run
 became s k post link run Idle = note Stays run
 became s k post link run (Gone why) = note (Goes k why) (if is_no_holder why then overheard_at s post k link run else run)
-became s k post link run (Outsider by) = held_by_outsider (overheard_at s post k link run) k (by - 32) link
+became s k post link run (Outsider by) = held_by_outsider (overheard_at s post k link run) k (outsider_of by) link
 became s k post link run (Node by) = handed s k post by link (overheard_at s post k link run)
 
 abbrev pub arrived : Setup → ℕ → Run → Option Post → Run

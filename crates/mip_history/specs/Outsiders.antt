@@ -1,20 +1,21 @@
 -- What outsiders do: they post packets, listen, and take addresses.
 use Rattle.std.specs.Prelude.{ℕ, ◌+◌, List, length, Bool, true, false, ◌==◌, if◌then◌else◌, Option, Some, None, option_and_then, slice_get}
+use Rattle.mip_constants.specs.Protocols.{mobility_header}
 use Rattle.mip_words.specs.Addresses.{address_at}
 use Rattle.mip_words.specs.declared.address.Address.{Address}
 use Rattle.mip_words.specs.declared.ids.LinkId.{LinkId}
 use Rattle.mip_ipv6.specs.declared.head.Head.{Head}
-use Rattle.mip_options.specs.Values.{nothing}
 use Rattle.mip_mobhdr.specs.Said.{Said}
-use Rattle.mip_mobhdr.specs.Said.Said.{HomeInit, CareofInit, HomeTest, CareofTest, Update}
+use Rattle.mip_mobhdr.specs.Said.Said.{HomeInit, CareofInit, Update}
 use Rattle.mip_tokens.specs.Token.{kbm_both_of, kbm_home_of}
 use Rattle.mip_says.specs.Says.{Carried, innermost, message_in, carried as says}
 use Rattle.mip_says.specs.Says.Carried.{Test}
-use Rattle.mip_signals.specs.Packets.{node_head, straight, signal}
-use Rattle.mip_signals.specs.Sealed.{sealed}
+use Rattle.mip_signals.specs.Packets.{node_head}
+use Rattle.mip_signals.specs.Messages.{home_init_packet, careof_init_packet, home_test_packet, careof_test_packet}
+use Rattle.mip_signals.specs.Authenticated.{authenticated_packet}
 use Rattle.mip_entries.specs.declared.entry.Entry.{Entry}
 use Rattle.mip_entries.specs.declared.entry.Entry.TheVariants.{Injected, Listening, Deafened, Claimed, Released, Taken, Idle}
-use Rattle.mip_links.specs.Table.{Post, link_of}
+use Rattle.mip_links.specs.Table.{Post, link_of, holder_outside}
 use Rattle.mip_links.specs.Nets.{is_held_by}
 use Rattle.mip_history.specs.Setup.{Setup}
 use Rattle.mip_history.specs.Runs.{Run, note}
@@ -35,11 +36,8 @@ injected_if s run o link None = note Idle run
 injected_if s run o link (Some packet) = injected s run o link packet
 
 -- the init of a test. RFC 6275 sections 6.1.3 and 6.1.4
-abbrev pub test_init : Bool → ℕ → Said
-test_init careof cookie = if careof then CareofInit cookie nothing else HomeInit cookie nothing
-
 abbrev pub probe_packet : Bool → Address → Address → ℕ → List ℕ
-probe_packet careof source peer cookie = signal (straight source peer 135) (test_init careof cookie)
+probe_packet careof source peer cookie = if careof then careof_init_packet source peer cookie else home_init_packet source peer cookie
 
 -- what a packet says of a test: its index and its token
 pub record Told : Type 0 where
@@ -74,7 +72,7 @@ unless_same address source = if address.0 == source.0 then None else Some addres
 
 -- a Home Address option where the home address is not the source
 abbrev pub bind_head : Binding → Head
-bind_head b = node_head b.source b.peer None (unless_same b.home b.source) 135
+bind_head b = node_head b.source b.peer None (unless_same b.home b.source) mobility_header
 
 -- an Alternate Care-of Address where the care-of address is not the source; flag A is set. RFC 6275 section 6.1.7
 abbrev pub bind_message : Binding → (home careof : ℕ) → Said
@@ -88,8 +86,8 @@ bind_message b i j = Update b.sequence true false false false b.lifetime (record
 -- an update with the tokens that were told. One that ends a binding has the care-of index 0, and the home address
 -- stands for the care-of address
 abbrev pub bind_packet : Binding → Told → Option Told → List ℕ
-bind_packet b h None = sealed (bind_head b) (kbm_home_of h.token) b.home b.peer (bind_message b h.index 0)
-bind_packet b h (Some c) = sealed (bind_head b) (kbm_both_of h.token c.token) b.careof b.peer (bind_message b h.index c.index)
+bind_packet b h None = authenticated_packet (bind_head b) (kbm_home_of h.token) b.home b.peer (bind_message b h.index 0)
+bind_packet b h (Some c) = authenticated_packet (bind_head b) (kbm_both_of h.token c.token) b.careof b.peer (bind_message b h.index c.index)
 
 abbrev pub bind_with : Binding → Option Told → Option (Option Told) → Option (List ℕ)
 bind_with b None c = None
@@ -114,12 +112,15 @@ asking_said _ = None
 unfoldable pub asking_in : List ℕ → Option Asking
 asking_in packet = option_and_then (λ p. asking_said (message_in p)) (innermost packet)
 
-abbrev pub test_message : Asking → Told → Said
-test_message a t = if a.kind == 0 then HomeTest t.index a.cookie t.token nothing else CareofTest t.index a.cookie t.token nothing
+-- the test with this token, from one address to another
+abbrev pub told_packet : Address → Address → Asking → Told → List ℕ
+told_packet source destination a t =
+    if a.kind == 0 then home_test_packet source destination t.index a.cookie t.token
+    else careof_test_packet source destination t.index a.cookie t.token
 
 abbrev pub tell_with : List ℕ → Asking → Option Told → Option (List ℕ)
 tell_with probe a None = None
-tell_with probe a (Some t) = Some (signal (straight (address_at 24 probe) (address_at 8 probe) 135) (test_message a t))
+tell_with probe a (Some t) = Some (told_packet (address_at 24 probe) (address_at 8 probe) a t)
 
 abbrev pub tell_of : List Post → ℕ → List ℕ → Option Asking → Option (List ℕ)
 tell_of posts kt probe None = None
@@ -140,7 +141,7 @@ listens run o link = note (if hears_in run.past o link then Idle else Listening 
 abbrev pub deafens : Run → ℕ → ℕ → Run
 deafens run o link = note (if hears_in run.past o link then Deafened o (link_id link) else Idle) run
 
--- outsiders are counted from 32 among those that hold addresses
+-- the claim of a holder that asks for an address, by who holds it
 abbrev pub claim_entry : ℕ → Address → ℕ → Option ℕ → Entry
 claim_entry who address link None = Claimed who (link_id link) address
 claim_entry who address link (Some other) =
@@ -152,7 +153,7 @@ squatted who address run (Some link) = note (claim_entry who address link (holde
 
 -- an outsider takes an address, if nobody else has it
 abbrev pub squats : Setup → Run → ℕ → Address → Run
-squats s run o address = squatted (o + 32) address run (link_of s.links address.0)
+squats s run o address = squatted (holder_outside o) address run (link_of s.links address.0)
 
 abbrev pub yielded : ℕ → Address → Run → Option ℕ → Run
 yielded who address run None = note Idle run
@@ -161,4 +162,4 @@ yielded who address run (Some link) =
 
 -- and gives it up
 abbrev pub yields : Setup → Run → ℕ → Address → Run
-yields s run o address = yielded (o + 32) address run (link_of s.links address.0)
+yields s run o address = yielded (holder_outside o) address run (link_of s.links address.0)

@@ -1,5 +1,5 @@
 -- What becomes of a packet that is delivered, as one function of the answers to what a delivery asks.
-use Rattle.std.specs.Prelude.{ℕ, suc, List, [], ◌∷◌, Bool, false, not, ◌&&◌, ◌==◌, nat_lt, if◌then◌else◌, Option, Some, None, slice_get, slice_index_or}
+use Rattle.std.specs.Prelude.{ℕ, suc, ◌+◌, ◌-◌, List, [], ◌∷◌, Bool, false, not, ◌&&◌, ◌==◌, nat_lt, if◌then◌else◌, Option, Some, None, slice_get, slice_index_or}
 use Rattle.mip_words.specs.Addresses.{prefix_of}
 use Rattle.mip_words.specs.Numbers.{number_at}
 use Rattle.mip_words.specs.declared.address.Address.{Address}
@@ -34,9 +34,19 @@ link_from n (p ∷ ps) prefix = if p == prefix then Some n else link_from (suc n
 abbrev pub link_of : List ℕ → ℕ → Option ℕ
 link_of links address = link_from 0 links (prefix_of address)
 
--- holders below 32 are nodes, and outsiders are counted from 32 on
+-- who holds an address: a node by its number, or an outsider, which are counted from here on
+abbrev pub first_outsider : ℕ
+first_outsider = 32
+
 abbrev pub is_node : ℕ → Bool
-is_node by = nat_lt by 32
+is_node by = nat_lt by first_outsider
+
+-- an outsider as a holder, and the outsider that is this holder
+abbrev pub holder_outside : ℕ → ℕ
+holder_outside o = o + first_outsider
+
+abbrev pub outsider_of : ℕ → ℕ
+outsider_of by = by - first_outsider
 
 abbrev pub is_address : Option Address → Address → Bool
 is_address None address = false

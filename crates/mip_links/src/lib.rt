@@ -13,7 +13,7 @@ mod rows;
 pub use claim_fault::ClaimFault;
 pub use delivery::Delivery;
 pub use flight::Flight;
-pub use net::Net;
+pub use net::{FIRST_OUTSIDER, Net};
 
 #[cfg(test)]
 mod tests;

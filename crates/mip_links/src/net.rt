@@ -13,16 +13,17 @@ use mip_words::{Address, Bytes, LinkId, Memory, Prefix, Shield, Why};
 use std::alloc::Global;
 use std::marker::Model;
 
+/// Who holds an address is a node by its number, or an outsider, which are counted from here on.
+pub const FIRST_OUTSIDER: u8 = 32;
+
 /// How many holders there may be: 32 nodes, then 8 outsiders.
 const HOLDERS: usize = 40;
-
-const NODES: u8 = 32;
 
 const LINKS: usize = 32;
 
 const EARS: usize = 256;
 
-/// A network. A holder is a node by its number, or an outsider by 32 and its number.
+/// A network. A holder is a node by its number, or an outsider by `FIRST_OUTSIDER` and its number.
 #[derive(Drop)]
 pub struct Net {
     links: Vec<Prefix>,
@@ -314,14 +315,14 @@ fn held(shield: Option<Shield>, by: u8, first: Option<Address>) -> Delivery
 {
     match shield {
         Some(shield) => {
-            if by < NODES && is_address(first, shield.to) {
+            if by < FIRST_OUTSIDER && is_address(first, shield.to) {
                 Delivery::Node { by }
             } else {
                 Delivery::Gone(Why::Shield)
             }
         }
         None => {
-            if by < NODES {
+            if by < FIRST_OUTSIDER {
                 Delivery::Node { by }
             } else {
                 Delivery::Outsider { by }

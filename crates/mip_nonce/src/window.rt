@@ -1,16 +1,14 @@
 ghost use Rattle.std.specs.Prelude.{◌≡◌, ℕ, MatchOption};
 ghost use Rattle.mip_nonce.specs.Window.{current_of, IsNamed, number_named};
 
+use mip_constants::{NONCE_PERIOD, VALID_NONCES};
 use mip_words::Moment;
-
-/// How long a nonce is the newest one, in milliseconds.
-const PERIOD: u64 = 30_000;
 
 /// The number of the newest nonce.
 pub fn current(now: Moment) -> u64
     ensures { result ≡ current_of now.0 }
 {
-    now.0 / PERIOD
+    now.0 / NONCE_PERIOD
 }
 
 /// The number of the valid nonce that an index names. A nonce is valid from the moment at which it
@@ -23,7 +21,7 @@ pub fn by_index(now: Moment, index: u16) -> Option<u64>
 {
     let newest = current(now);
     let behind = ((newest % 0x1_0000) as u16).wrapping_sub(index) as u64;
-    if behind < 8 && behind <= newest {
+    if behind < VALID_NONCES && behind <= newest {
         Some(newest - behind)
     } else {
         None

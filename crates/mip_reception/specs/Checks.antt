@@ -1,5 +1,6 @@
 -- What every node checks of a packet before its role looks at it. RFC 6275 sections 6.1.3, 6.4, 9.2, 9.3.1 and 9.3.3
 use Rattle.std.specs.Prelude.{ℕ, ◌+◌, Bool, true, false, not, ◌&&◌, ◌||◌, ◌==◌, if◌then◌else◌, Option, Some, None, is_some, unwrap_or, Result, Ok, Err}
+use Rattle.mip_constants.specs.Protocols.{mobility_header}
 use Rattle.mip_words.specs.declared.address.Address.{Address}
 use Rattle.mip_words.specs.declared.why.Why.{Why}
 use Rattle.mip_words.specs.declared.why.Why.TheVariants as whys
@@ -39,7 +40,7 @@ message_or_refusal place home (Err fault) = Err (record { why = message_why faul
 -- the mobility message of a packet whose body begins at this place, none in a packet of another kind
 unfoldable pub message_at : ℕ → Packet → Result (Option Said) Refusal
 message_at place p =
-    if p.head.proto == 135 then message_or_refusal place p.head.home (message_of (source_of p.head) (destination_of p.head) p.body)
+    if p.head.proto == mobility_header then message_or_refusal place p.head.home (message_of (source_of p.head) (destination_of p.head) p.body)
     else Ok None
 
 abbrev pub is_probe : Option Said → Bool

@@ -2,6 +2,7 @@
 //! 9.3.3).
 
 ghost use Rattle.std.specs.Prelude.{◌≡◌, ◌<◌, ◌-◌, ◌^◌, ◌==◌, IfOk, option_map, is_some};
+ghost use Rattle.mip_constants.specs.Protocols.{mobility_header};
 ghost use Rattle.mip_words.specs.Steps.{Gives};
 ghost use Rattle.mip_ipv6.specs.Packet.{packet as tree};
 ghost use Rattle.mip_mobhdr.specs.Said.{said};
@@ -12,11 +13,10 @@ use crate::refusal::Refusal;
 use crate::reply::Reply;
 use crate::standing::Standing;
 use crate::wording::message_why;
+use mip_constants::protocol::MOBILITY_HEADER;
 use mip_ipv6::PacketRef;
 use mip_mobhdr::{Fault, Message, read_message};
 use mip_words::{Address, Why};
-
-const MOBILITY: u8 = 135;
 
 fn silent(why: Why) -> Refusal
     ensures { result ≡ silent why }
@@ -48,10 +48,10 @@ fn fault_reply(place: u32, home: Option<Address>, fault: Fault) -> Reply
 fn message_at<'a>(packet: &PacketRef<'a>) -> Result<Option<Message<'a>>, Refusal>
     requires { packet.now.place < 2 ^ 32 - 1 }
     ensures exact { Gives (option_map said) result (message_at packet.now.place (tree packet.now)) }
-    ensures kind { IfOk result (λ m. is_some m ≡ (packet.now.head.proto == 135)) }
+    ensures kind { IfOk result (λ m. is_some m ≡ (packet.now.head.proto == mobility_header)) }
     ensures update { IfOk result (λ m. IsReadUpdate (option_map said m) packet.now.body.now) }
 {
-    if packet.head.proto != MOBILITY {
+    if packet.head.proto != MOBILITY_HEADER {
         return Ok(None);
     }
     match read_message(packet.head.sender(), packet.head.receiver(), packet.body) {
@@ -109,7 +109,7 @@ pub fn check<'a>(packet: &PacketRef<'a>, standing: Standing) -> Result<Option<Me
     requires { packet.now.place < 2 ^ 32 - 1 }
     ensures exact { Gives (option_map said) result (checked standing packet.now.place (tree packet.now)) }
     // There is a message exactly where the packet has a Mobility Header.
-    ensures kind { IfOk result (λ m. is_some m ≡ (packet.now.head.proto == 135)) }
+    ensures kind { IfOk result (λ m. is_some m ≡ (packet.now.head.proto == mobility_header)) }
     // An update is what its fields say, which has nothing to do with its checksum.
     ensures update { IfOk result (λ m. IsReadUpdate (option_map said m) packet.now.body.now) }
 {

@@ -2,14 +2,10 @@
 use Rattle.std.proofs.Common.{◌≡◌, Bool, true, false, sym, subst, rules}
 use Rattle.std.specs.Prelude.{None, Some, IsTrue, if◌then◌else◌, ◌==◌}
 use Rattle.mip_words.specs.Addresses.{is_routable}
-use Rattle.mip_words.specs.declared.address.Address.{Address}
 use Rattle.mip_ipv6.specs.declared.head.Head.{Head}
 use Rattle.mip_ipv6.specs.Packet.{is_plain}
-use Rattle.mip_signals.specs.Packets.{node_head, straight}
+use Rattle.mip_signals.specs.Packets.{node_head}
 use Rattle.mip_history.specs.Outsiders.{Binding, bind_head}
-
-pub straight_plain : (head : Head) (source destination : Address) → head ≡ straight source destination 135 → IsTrue (is_plain head)
-straight_plain head source destination is = subst (λ (h : Head). IsTrue (is_plain h)) (sym is) (search rules)
 
 pub bind_plain : (head : Head) (b : Binding) → is_routable b.home.0 ≡ true → head ≡ bind_head b → IsTrue (is_plain head)
 bind_plain head b routable is = subst (λ (h : Head). IsTrue (is_plain h)) (sym is) (by (b.home.0 == b.source.0))

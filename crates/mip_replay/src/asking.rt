@@ -1,11 +1,8 @@
 ghost use Rattle.std.specs.Prelude.{◌≡◌, option_map};
-ghost use Rattle.mip_mobhdr.specs.Said.{said_plain};
-ghost use Rattle.mip_history.specs.Outsiders.{asking_in, test_message};
+ghost use Rattle.mip_history.specs.Outsiders.{asking_in};
 ghost use Rattle.mip_replay.specs.Forged as seen;
 
-use crate::forging::no_options;
-use crate::told::Told;
-use mip_mobhdr::{Message, Plain};
+use mip_mobhdr::Message;
 use mip_says::{TestKind, innermost, message_in};
 use mip_words::Cookie;
 
@@ -32,25 +29,5 @@ pub(crate) fn asking_in(packet: &[u8]) -> Option<Asking>
             cookie,
         }),
         _ => None,
-    }
-}
-
-/// The test that answers, with what another one told.
-pub(crate) fn test_message(asking: Asking, told: Told) -> Plain
-    ensures { said_plain result ≡ test_message (seen.asking asking) (seen.told told) }
-{
-    match asking.kind {
-        TestKind::Home => Plain::HomeTest {
-            index: told.index,
-            cookie: asking.cookie,
-            token: told.token,
-            options: no_options(),
-        },
-        TestKind::Careof => Plain::CareofTest {
-            index: told.index,
-            cookie: asking.cookie,
-            token: told.token,
-            options: no_options(),
-        },
     }
 }

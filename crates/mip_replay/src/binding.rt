@@ -2,16 +2,16 @@ ghost use Rattle.std.specs.Prelude.{◌≡◌, ◌≤◌, length, true, IfOk, op
 ghost use Rattle.mip_words.specs.Addresses.{is_routable};
 ghost use Rattle.mip_options.specs.declared.indices.Indices.{Indices as IndicesSeen};
 ghost use Rattle.mip_mobhdr.specs.Said.{said_plain};
-ghost use Rattle.mip_signals.specs.Sealed.{sealed};
+ghost use Rattle.mip_signals.specs.Authenticated.{authenticated_packet};
 ghost use Rattle.mip_history.specs.Outsiders.{bind_head, bind_message, bind_packet, unless_same};
 ghost use Rattle.mip_replay.specs.Forged as seen;
 
-use crate::limits::MOBILITY;
 use crate::told::Told;
+use mip_constants::protocol::MOBILITY_HEADER;
 use mip_ipv6::Head;
 use mip_mobhdr::Plain;
 use mip_options::{Indices, OptionSet};
-use mip_signals::{node_head, write_sealed};
+use mip_signals::{node_head, write_authenticated_packet};
 use mip_tokens::Kbm;
 use mip_words::{Address, Bytes, Memory};
 use std::alloc::Global;
@@ -42,7 +42,7 @@ fn head(binding: Binding) -> Head
     ensures { result ≡ bind_head (seen.binding binding) }
 {
     let home = unless_same(binding.home, binding.source);
-    node_head(binding.source, binding.peer, None, home, MOBILITY)
+    node_head(binding.source, binding.peer, None, home, MOBILITY_HEADER)
 }
 
 /// The update (RFC 6275 section 6.1.7), with an Alternate Care-of Address where the care-of address is not the source.
@@ -67,7 +67,7 @@ fn message(binding: Binding, indices: Indices) -> Plain
 
 /// The update under a key.
 #[tactic(auto, using(crate::proofs::ForgingLaws::bind_plain))]
-fn sealed(
+fn authenticated_packet(
     alloc: Global,
     binding: Binding,
     indices: Indices,
@@ -75,12 +75,12 @@ fn sealed(
     careof: Address,
 ) -> Result<Bytes, Memory>
     requires { is_routable binding.home.0 ≡ true }
-    ensures is { IfOk result (λ b. b ≡ sealed (bind_head (seen.binding binding)) kbm.0 careof binding.peer (bind_message (seen.binding binding) indices.home indices.careof)) }
+    ensures is { IfOk result (λ b. b ≡ authenticated_packet (bind_head (seen.binding binding)) kbm.0 careof binding.peer (bind_message (seen.binding binding) indices.home indices.careof)) }
     ensures long { IfOk result (λ b. 40 ≤ length b) }
 {
     let head = head(binding);
     let message = message(binding, indices);
-    write_sealed(alloc, &head, &message, &kbm, careof, binding.peer)
+    write_authenticated_packet(alloc, &head, &message, &kbm, careof, binding.peer)
 }
 
 /// The update with the tokens that were told: with a home token alone it ends a binding.
@@ -101,7 +101,7 @@ pub(crate) fn bind_packet(
                 careof: 0,
             };
             let kbm = Kbm::home(home.token);
-            sealed(alloc, binding, indices, kbm, binding.home)
+            authenticated_packet(alloc, binding, indices, kbm, binding.home)
         }
         Some(careof) => {
             let indices = Indices {
@@ -109,7 +109,7 @@ pub(crate) fn bind_packet(
                 careof: careof.index,
             };
             let kbm = Kbm::both(home.token, careof.token);
-            sealed(alloc, binding, indices, kbm, binding.careof)
+            authenticated_packet(alloc, binding, indices, kbm, binding.careof)
         }
     }
 }

@@ -13,9 +13,8 @@ ghost use Rattle.mip_replay.specs.Standing.{IsAt};
 use crate::arrival::Arrival;
 use crate::call::Call;
 use crate::engine::Engine;
-use crate::limits::FIRST_OUTSIDER;
 use mip_entries::Entry;
-use mip_links::Delivery;
+use mip_links::{Delivery, FIRST_OUTSIDER};
 use mip_words::{LinkId, Memory, NodeId, Shield, Why};
 use std::alloc::Global;
 

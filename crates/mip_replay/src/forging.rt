@@ -2,51 +2,25 @@
 
 ghost use Rattle.std.specs.Prelude.{◌≡◌, ◌≤◌, length, true, IfOk, IfSome, OnOk, option_map, Option, Some, ℕ};
 ghost use Rattle.mip_words.specs.Addresses.{is_routable};
-ghost use Rattle.mip_options.specs.Values.{nothing, set_values};
-ghost use Rattle.mip_mobhdr.specs.Said.{said_plain};
 ghost use Rattle.mip_says.specs.Says.{kind_of};
 ghost use Rattle.mip_history.specs.Setup.{Setup};
 ghost use Rattle.mip_history.specs.Runs.{Run};
-ghost use Rattle.mip_history.specs.Outsiders.{asking_in, injected, injected_if, probe_packet, tell_of, tell_with, test_in, test_init, test_packet, update_packet};
+ghost use Rattle.mip_history.specs.Outsiders.{asking_in, injected, injected_if, probe_packet, tell_of, tell_with, test_in, test_packet, update_packet};
 ghost use Rattle.mip_replay.specs.Forged as seen;
 ghost use Rattle.mip_replay.specs.Standing.{IsAt};
 
-use crate::asking::{Asking, asking_in, test_message};
+use crate::asking::{Asking, asking_in};
 use crate::binding::{Binding, bind_packet};
 use crate::engine::Engine;
-use crate::limits::{DESTINATION, MOBILITY, SOURCE};
+use crate::limits::{DESTINATION, SOURCE};
 use crate::told::{Told, told_in};
 use mip_entries::Entry;
-use mip_mobhdr::Plain;
-use mip_options::OptionSet;
 use mip_says::TestKind;
-use mip_signals::{straight, write_signal};
+use mip_signals::{write_careof_init, write_careof_test, write_home_init, write_home_test};
 use mip_words::{Address, Bytes, Cookie, LinkId, Memory};
 use std::alloc::Global;
 
-pub(crate) fn no_options() -> OptionSet
-    ensures { set_values result ≡ nothing }
-{
-    OptionSet {
-        advice: None,
-        alternate: None,
-        nonces: None,
-        authorization: None,
-    }
-}
-
-fn test_init(careof: bool, cookie: Cookie) -> Plain
-    ensures { said_plain result ≡ test_init careof cookie.0 }
-{
-    let options = no_options();
-    if careof {
-        Plain::CareofInit { cookie, options }
-    } else {
-        Plain::HomeInit { cookie, options }
-    }
-}
-
-#[tactic(auto, using(crate::proofs::ForgingLaws::straight_plain))]
+/// The init of a test.
 fn probe_packet(
     alloc: Global,
     careof: bool,
@@ -57,13 +31,14 @@ fn probe_packet(
     ensures is { IfOk result (λ b. b ≡ probe_packet careof source peer cookie.0) }
     ensures long { IfOk result (λ b. 40 ≤ length b) }
 {
-    let head = straight(source, peer, MOBILITY);
-    let message = test_init(careof, cookie);
-    write_signal(alloc, &head, &message)
+    if careof {
+        write_careof_init(alloc, source, peer, cookie)
+    } else {
+        write_home_init(alloc, source, peer, cookie)
+    }
 }
 
 /// The test that answers an init, from where that went to where it came from.
-#[tactic(auto, using(crate::proofs::ForgingLaws::straight_plain))]
 fn tell_packet(alloc: Global, init: &[u8], asking: Asking, told: Told) -> Result<Bytes, Memory>
     requires { 40 ≤ length init.now }
     ensures is { IfOk result (λ b. Some b ≡ tell_with init.now (seen.asking asking) (Some (seen.told told))) }
@@ -71,9 +46,11 @@ fn tell_packet(alloc: Global, init: &[u8], asking: Asking, told: Told) -> Result
 {
     let source = Address::at(init, DESTINATION);
     let peer = Address::at(init, SOURCE);
-    let head = straight(source, peer, MOBILITY);
-    let message = test_message(asking, told);
-    write_signal(alloc, &head, &message)
+    let (index, cookie, token) = (told.index, asking.cookie, told.token);
+    match asking.kind {
+        TestKind::Home => write_home_test(alloc, source, peer, index, cookie, token),
+        TestKind::Careof => write_careof_test(alloc, source, peer, index, cookie, token),
+    }
 }
 
 impl Engine {

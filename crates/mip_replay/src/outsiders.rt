@@ -3,7 +3,7 @@
 ghost use Rattle.std.specs.Prelude.{◌≡◌, ◌+◌, ◌<◌, length, if◌then◌else◌, Some, OnOk};
 ghost use Rattle.mip_entries.specs.declared.entry.Entry.TheVariants.{Idle, Released};
 ghost use Rattle.mip_links.specs.Nets.{is_held_by};
-ghost use Rattle.mip_links.specs.Table.{link_of};
+ghost use Rattle.mip_links.specs.Table.{link_of, holder_outside};
 ghost use Rattle.mip_history.specs.Setup.{Setup};
 ghost use Rattle.mip_history.specs.Runs.{Run, note};
 ghost use Rattle.mip_history.specs.Questions.{holder_in};
@@ -11,14 +11,14 @@ ghost use Rattle.mip_history.specs.Outsiders.{claim_entry, deafens, listens, squ
 ghost use Rattle.mip_replay.specs.Standing.{IsAt};
 
 use crate::engine::Engine;
-use crate::limits::FIRST_OUTSIDER;
 use mip_entries::Entry;
+use mip_links::FIRST_OUTSIDER;
 use mip_words::{Address, LinkId, Memory};
 
 /// An outsider among those that hold addresses.
 fn holder(outsider: u8) -> u8
     requires { outsider < 8 }
-    ensures is { result ≡ outsider + 32 }
+    ensures is { result ≡ holder_outside outsider }
     ensures small { result < 40 }
 {
     outsider + FIRST_OUTSIDER

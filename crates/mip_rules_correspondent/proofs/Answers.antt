@@ -22,23 +22,23 @@ whole-append : (xs ys : List Answer) → AreWhole xs → AreWhole ys → AreWhol
 whole-append [] ys first second = second
 whole-append (x ∷ xs) ys first second = (first.0, whole-append xs ys first.1 second)
 
-whole-step : (me : Identity) (now : ℕ) (step : Step) → SendsOwn me now step → AreWhole (answer_of step)
-whole-step me now (Called call) own = tt
-whole-step me now (Sends packet) own = (sending-long me now own.0 packet own.1, tt)
-whole-step me now (Accepts number home accepted) own = (refl, tt)
-whole-step me now (Denies number status) own = (refl, tt)
-whole-step me now (Drops number why) own = (refl, tt)
-whole-step me now (HandsUp number source destination proto payload) own = (refl, tt)
-whole-step me now Idles own = (refl, tt)
+whole-step : (me : Identity) (call : Call) (now : ℕ) (step : Step) → SendsOwn me call now step → AreWhole (answer_of step)
+whole-step me c now (Called call) own = tt
+whole-step me c now (Sends packet) own = (sending-long me c now own.0 packet own.1, tt)
+whole-step me c now (Accepts number home accepted) own = (refl, tt)
+whole-step me c now (Denies number status) own = (refl, tt)
+whole-step me c now (Drops number why) own = (refl, tt)
+whole-step me c now (HandsUp number source destination proto payload) own = (refl, tt)
+whole-step me c now Idles own = (refl, tt)
 
 -- the answers so far are whole
 abbrev GivesWhole : Turn → Type 0
 GivesWhole t = AreWhole (answers_of t.steps)
 
-whole-noted : (me : Identity) (step : Step) (t : Turn) → SendsOwn me t.now step → GivesWhole t → GivesWhole (noted step t)
-whole-noted me step t own whole =
-    subst AreWhole (sym (answers-noted answer_of after step t)) (whole-append (answers_of t.steps) (answer_of step) whole (whole-step me t.now step own))
+whole-noted : (me : Identity) (c : Call) (step : Step) (t : Turn) → SendsOwn me c t.now step → GivesWhole t → GivesWhole (noted step t)
+whole-noted me c step t own whole =
+    subst AreWhole (sym (answers-noted answer_of after step t)) (whole-append (answers_of t.steps) (answer_of step) whole (whole-step me c t.now step own))
 
 pub call-whole : (me : Identity) (k : Known) (now : ℕ) (c : Call) → GivesWhole (turn_of me k now c)
 call-whole me k now c =
-    every-call me GivesWhole (λ step t silent own whole. whole-noted me step t own whole) (λ call t whole. whole-noted me (Called call) t tt whole) c (begun now k) tt
+    every-call me c GivesWhole (λ step t silent own whole. whole-noted me c step t own whole) (λ t whole. whole-noted me c (Called c) t tt whole) (begun now k) tt

@@ -14,7 +14,7 @@ use Rattle.mip_rules_correspondent.proofs.Walks.{every-call}
 pub call-stands : (room : ℕ) (past : List (Stamped Step)) (k : Known) (now : ℕ) (me : Identity) (c : Call) → Stands room past k
     → Stands room (with_turn past (turn_of me k now c)) (turn_of me k now c).known
 call-stands room past k now me c stands =
-    every-call me (λ (t : Turn). Stands room (with_turn past t) t.known)
+    every-call me c (λ (t : Turn). Stands room (with_turn past t) t.known)
     (λ step t silent own s. stands-noted after (fresh room) past step t s)
-    (λ call t s. stands-noted after (fresh room) past (Called call) t s)
-    c (begun now k) (stands-begun after (fresh room) past now k stands)
+    (λ t s. stands-noted after (fresh room) past (Called c) t s)
+    (begun now k) (stands-begun after (fresh room) past now k stands)

@@ -1,5 +1,5 @@
 -- The last moment that a call leaves known is its own.
-use Rattle.std.proofs.Common.{◌≡◌, ℕ, false, ap, ◌∙◌}
+use Rattle.std.proofs.Common.{◌≡◌, ℕ, false, refl, ap, ◌∙◌}
 use Rattle.std.specs.Prelude.{if◌then◌else◌, Bool}
 use Rattle.mip_words.specs.declared.moment.Moment.{Moment}
 use Rattle.mip_turns.proofs.TurnLaws.{noted-now, noted-known}
@@ -30,5 +30,5 @@ pub call-last : (me : Identity) (k : Known) (now : ℕ) (c : Call) → (turn_of 
 unfolding does
 call-last me k now c =
     let first = noted (Called c) (begun now k) in
-    let is = every-handles me (IsAt now) (λ step t silent own is. at-noted now step t silent is) c first
+    let is = every-handles me c (IsAt now) (λ step t silent own is. at-noted now step t silent is) c refl first
     (noted-now after (Called c) (begun now k), ap (λ (m : Moment). m.0) (last-noted (Called c) (begun now k))) in is.1

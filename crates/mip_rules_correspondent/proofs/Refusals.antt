@@ -53,5 +53,5 @@ keeps-noted t step u same keeps none =
 pub keeps-call : (me : Identity) (c : Call) (t : Turn) → is_tick c ≡ false → Keeps t (does me c t)
 unfolding does
 keeps-call me c t other =
-    every-handles me (Keeps t) (λ step u silent own keeps. keeps-noted t step u (λ none. same-cache step u.known.cache u.now silent none) keeps) c (noted (Called c) t)
+    every-handles me c (Keeps t) (λ step u silent own keeps. keeps-noted t step u (λ none. same-cache step u.known.cache u.now silent none) keeps) c refl (noted (Called c) t)
     (keeps-noted t (Called c) t (λ none. ap (λ (b : Bool). if b then expired t.now t.known.cache else t.known.cache) other) (λ none. refl))

@@ -12,21 +12,21 @@ use Rattle.mip_rules_correspondent.specs.Doing.{turn_of}
 use Rattle.mip_rules_correspondent.specs.Sendings.{SendsOwn}
 use Rattle.mip_rules_correspondent.proofs.Walks.{every-call}
 
-module _ (me : Identity) (now : ℕ) where
-  own-push : (steps : List Step) (step : Step) → AllByRecursion (SendsOwn me now) steps → SendsOwn me now step → AllByRecursion (SendsOwn me now) (steps ++ step ∷ [])
+module _ (me : Identity) (c : Call) (now : ℕ) where
+  own-push : (steps : List Step) (step : Step) → AllByRecursion (SendsOwn me c now) steps → SendsOwn me c now step → AllByRecursion (SendsOwn me c now) (steps ++ step ∷ [])
   own-push [] step all own = (own, tt)
   own-push (s ∷ steps) step all own = (all.0, own-push steps step all.1 own)
 
   -- the turn is at this moment, and what it sent so far is its own
   abbrev IsOwn : Turn → Type 0
-  IsOwn t = (t.now ≡ now) × AllByRecursion (SendsOwn me now) t.steps
+  IsOwn t = (t.now ≡ now) × AllByRecursion (SendsOwn me c now) t.steps
 
-  own-noted : (step : Step) (t : Turn) → SendsOwn me t.now step → IsOwn t → IsOwn (noted step t)
+  own-noted : (step : Step) (t : Turn) → SendsOwn me c t.now step → IsOwn t → IsOwn (noted step t)
   own-noted step t own is = (
     noted-now after step t ∙ is.0,
-    subst (AllByRecursion (SendsOwn me now)) (sym (noted-steps after step t)) (own-push t.steps step is.1 (subst (λ (n : ℕ). SendsOwn me n step) is.0 own)),
+    subst (AllByRecursion (SendsOwn me c now)) (sym (noted-steps after step t)) (own-push t.steps step is.1 (subst (λ (n : ℕ). SendsOwn me c n step) is.0 own)),
   )
 
-pub call-own : (me : Identity) (k : Known) (now : ℕ) (c : Call) → AllByRecursion (SendsOwn me now) (turn_of me k now c).steps
+pub call-own : (me : Identity) (k : Known) (now : ℕ) (c : Call) → AllByRecursion (SendsOwn me c now) (turn_of me k now c).steps
 call-own me k now c =
-    let own = every-call me (IsOwn me now) (λ step t silent sends is. own-noted me now step t sends is) (λ call t is. own-noted me now (Called call) t tt is) c (begun now k) (refl, tt) in own.1
+    let own = every-call me c (IsOwn me c now) (λ step t silent sends is. own-noted me c now step t sends is) (λ t is. own-noted me c now (Called c) t tt is) (begun now k) (refl, tt) in own.1

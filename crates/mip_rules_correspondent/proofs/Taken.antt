@@ -30,16 +30,16 @@ use Rattle.mip_reception.specs.Checks.{message_or_refusal, message_at, then_home
 use Rattle.mip_reception.specs.Replies.{reply_packet}
 use Rattle.mip_rules_correspondent.specs.declared.identity.Identity.{Identity}
 use Rattle.mip_rules_correspondent.specs.declared.known.Known.{Known}
-use Rattle.mip_rules_correspondent.specs.declared.request.Request.{Request}
+use Rattle.mip_updates.specs.declared.registration.Registration.{Registration}
 use Rattle.mip_rules_correspondent.specs.declared.verdict.Verdict.{Verdict}
 use Rattle.mip_rules_correspondent.specs.declared.verdict.Verdict.TheVariants.{Refuse, Deny, Accept}
 use Rattle.mip_rules_correspondent.specs.Calls as calls
 use Rattle.mip_rules_correspondent.specs.Steps.{Called, Sends, Accepts, Drops, is_acceptance}
 use Rattle.mip_rules_correspondent.specs.Questions.{held_of, after}
 use Rattle.mip_rules_correspondent.specs.Turns.{Turn, begun, noted}
-use Rattle.mip_rules_correspondent.specs.Requests.{request, request_said, request_in, home_of, careof_of, registered_of}
+use Rattle.mip_updates.specs.Registrations.{registration, registration_said, registration_in, home_of, careof_of, registered_of}
 use Rattle.mip_rules_correspondent.specs.Verdicts.{Bench, by_room, by_sequence, by_key, kbm_of, by_numbers, careof_number, by_indices, verdict}
-use Rattle.mip_rules_correspondent.specs.Acks.{ack_packet}
+use Rattle.mip_updates.specs.Acks.{ack_packet}
 use Rattle.mip_rules_correspondent.specs.Rules.{answers_home_init, answers_careof_init, bench, denies, accepts, judged, takes_update, hands_up, by_message, is_for_part, other_why, by_role, replies, refuses, standing_of, after_checks, place_in, receives}
 use Rattle.mip_rules_correspondent.specs.Doing.{takes, request_refresh, refreshes, transmits, does, turn_of}
 use Rattle.mip_rules_correspondent.specs.Taken.{IsUpdateTaken}
@@ -50,7 +50,7 @@ either u true x y first second e = first e
 either u false x y first second e = second e
 
 -- only an accepted update has the verdict Accept, and it is for the home of the update
-module _ (b : Bench) (r : Request) (message : List ℕ) (home : Address) (a : Accepted) (granted : ℕ) (kbm : Kbm) where
+module _ (b : Bench) (r : Registration) (message : List ℕ) (home : Address) (a : Accepted) (granted : ℕ) (kbm : Kbm) where
   room_home : (i : ℕ) (j : Option ℕ) (key : Kbm) → by_room b r i j key ≡ Accept home a granted kbm → home ≡ home_of r
   room_home i j key = either (Accept home a granted kbm) b.full _ _ (λ e. absurd cc) (λ e. cc)
 
@@ -143,7 +143,7 @@ module _ (me : Identity) (k : Known) (now number : ℕ) (shield : Option Shield)
   abbrev given : Turn
   given = noted (Called (calls.Take number shield bytes)) (begun now k)
 
-  of_verdict : (p : Packet) (r : Request) → packet_of bytes ≡ Ok p → p.head.proto ≡ 135 → request_in p.head.source p.head.home p.body ≡ Some r
+  of_verdict : (p : Packet) (r : Registration) → packet_of bytes ≡ Ok p → p.head.proto ≡ 135 → registration_in p.head.source p.head.home p.body ≡ Some r
       → (v : Verdict) → verdict (bench me k now r) r p.body ≡ v → Is (judged me number r v given)
   unfolding noted_by denies accepts
   of_verdict p r read mobility asks (Refuse why) is = (refl, inl refl)
@@ -160,7 +160,7 @@ module _ (me : Identity) (k : Known) (now number : ℕ) (shield : Option Shield)
           packet = p;
           read = read;
           mobility = mobility;
-          request = r;
+          registration = r;
           asks = asks;
           home = home;
           accepted = a;
@@ -178,7 +178,7 @@ module _ (me : Identity) (k : Known) (now number : ℕ) (shield : Option Shield)
           packet = p;
           read = read;
           mobility = mobility;
-          request = r;
+          registration = r;
           asks = asks;
           home = home;
           accepted = a;
@@ -191,7 +191,7 @@ module _ (me : Identity) (k : Known) (now number : ℕ) (shield : Option Shield)
         }),
       )
 
-  of_update : (p : Packet) (r : Request) → packet_of bytes ≡ Ok p → p.head.proto ≡ 135 → request_in p.head.source p.head.home p.body ≡ Some r → Is (takes_update me number r p.body given)
+  of_update : (p : Packet) (r : Registration) → packet_of bytes ≡ Ok p → p.head.proto ≡ 135 → registration_in p.head.source p.head.home p.body ≡ Some r → Is (takes_update me number r p.body given)
   unfolding takes_update noted_by after
   of_update p r read mobility asks = of_verdict p r read mobility asks (verdict (bench me k now r) r p.body) refl
 
@@ -201,8 +201,8 @@ module _ (me : Identity) (k : Known) (now number : ℕ) (shield : Option Shield)
   of_message p place (Some (HomeInit cookie options)) read is = (refl, inl refl)
   of_message p place (Some (CareofInit cookie options)) read is = (refl, inl refl)
   of_message p place (Some (Update s a h l key t o)) read is =
-      of_update p (request p.head.source p.head.home s a h t o) read (message_proto place p (Update s a h l key t o) is)
-      (ap (request_said p.head.source p.head.home)
+      of_update p (registration p.head.source p.head.home s a h t o) read (message_proto place p (Update s a h l key t o) is)
+      (ap (registration_said p.head.source p.head.home)
       (update_read p.body s a h l key t o (source_of p.head) (destination_of p.head) (message_read place p (Update s a h l key t o) is)))
   of_message p place (Some (Refresh options)) read is = (refl, inl refl)
   of_message p place (Some (HomeTest index cookie token options)) read is = (refl, inl refl)

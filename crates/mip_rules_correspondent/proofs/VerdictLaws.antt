@@ -2,7 +2,9 @@
 use Rattle.std.proofs.Common.{◌≡◌, ℕ, ◌+◌, ◌-◌, ◌≤◌, ◌<◌, List, length, drop, ltb, leb, refl, sym, ap, ◌∙◌, subst, true, false, not, ◌&&◌, arith}
 use Rattle.std.proofs.lemmas.Bool.{cond_both, not-true, not-false, and_parts, ltb-true, leb-true}
 use Rattle.std.proofs.lemmas.Slice.Eq.{bytes_eq-Decides}
-use Rattle.std.specs.Prelude.{◌≢◌, Option, Some, None, option_map}
+use Rattle.std.proofs.Math.Nat.{le-max_right}
+use Rattle.std.specs.Prelude.{◌/◌, Option, Some, None, option_map, is_some}
+use Rattle.mip_constants.specs.Constants.{max_nonce_lifetime}
 use Rattle.mip_words.specs.Addresses.{is_routable}
 use Rattle.mip_words.specs.Sequence.{is_after}
 use Rattle.mip_words.specs.declared.address.Address.{Address}
@@ -12,18 +14,20 @@ use Rattle.mip_options.specs.declared.indices.Indices.{Indices}
 use Rattle.mip_nonce.specs.Window.{current_of, behind, number_named, IsValidAt}
 use Rattle.mip_tokens.specs.Token.{authenticator_of, is_authentic}
 use Rattle.mip_tokens.specs.declared.kbm.Kbm.{Kbm}
+use Rattle.mip_binding.specs.Acceptance.{Acceptance, kept_until_of}
 use Rattle.mip_bcache.specs.declared.accepted.Accepted.{Accepted}
-use Rattle.mip_rules_correspondent.specs.declared.request.Request.{Request}
+use Rattle.mip_updates.specs.Statuses.{insufficient_resources, home_registration_not_supported, sequence_out_of_window, expired_home_nonce, expired_careof_nonce, expired_nonces, is_authorized}
+use Rattle.mip_updates.specs.declared.registration.Registration.{Registration}
 use Rattle.mip_rules_correspondent.specs.declared.verdict.Verdict.{Verdict}
 use Rattle.mip_rules_correspondent.specs.declared.verdict.Verdict.TheVariants.{Refuse, Deny, Accept}
-use Rattle.mip_rules_correspondent.specs.Requests.{home_of, careof_of, deletes, registered_of}
+use Rattle.mip_updates.specs.Registrations.{home_of, careof_of, deletes, registered_of}
 use Rattle.mip_rules_correspondent.specs.Verdicts.{Bench, granted_of, accepted_of, by_room, by_sequence, kbm_of, by_numbers, careof_number, by_indices, verdict}
 use Rattle.mip_rules_correspondent.specs.Soundness.{IsNonce, IsCareofNonce, IsGenuine, IsSound, IsBehind}
 
 number_is : (x y : ℕ) → Some x ≡ Some y → x ≡ y
 number_is x y e = cc
 
-near_one : (newest back n : ℕ) → back < 8 → back ≤ newest → newest - back ≡ n → (n ≤ newest) × (newest ≤ n + 7)
+near_one : (newest back n : ℕ) → back < 8 → back ≤ newest → newest - back ≡ n → (n ≤ newest) × (newest < n + 8)
 near_one newest back n few inside is = (omega arith, omega arith)
 
 -- an index names a valid nonce
@@ -42,10 +46,10 @@ named_nonce now index n e = (valid e, e)
 inner_is : (x y : Option ℕ) → Some x ≡ Some y → x ≡ y
 inner_is x y e = cc
 
-abbrev CareofNonce : Bench → Request → Indices → Option ℕ → Option (Option ℕ) → Type 0
+abbrev CareofNonce : Bench → Registration → Indices → Option ℕ → Option (Option ℕ) → Type 0
 CareofNonce b r indices j o = o ≡ Some j → IsCareofNonce b.now r indices j
 
-careof_nonce_is : (b : Bench) (r : Request) (indices : Indices) (j : Option ℕ) → careof_number b r indices ≡ Some j → IsCareofNonce b.now r indices j
+careof_nonce_is : (b : Bench) (r : Registration) (indices : Indices) (j : Option ℕ) → careof_number b r indices ≡ Some j → IsCareofNonce b.now r indices j
 careof_nonce_is b r indices j e = cond_both (deletes r) _ _ (CareofNonce b r indices j) (λ ends e. subst (IsCareofNonce b.now r indices) (inner_is None j e) ends) (λ binds e. by (number_named b.now indices.careof) refl binds e) e
   where
     by : (o : Option ℕ) → number_named b.now indices.careof ≡ o → deletes r ≡ false → option_map Some o ≡ Some j → IsCareofNonce b.now r indices j
@@ -53,14 +57,14 @@ careof_nonce_is b r indices j e = cond_both (deletes r) _ _ (CareofNonce b r ind
     by (Some n) is binds e = subst (IsCareofNonce b.now r indices) (inner_is (Some n) j e) (binds, named_nonce b.now indices.careof n is)
 
 -- a verdict is silence, a denial without a key, or comes from the rows behind the authenticator
-walk : (b : Bench) (r : Request) (message : List ℕ) (P : Verdict → Type 0)
+walk : (b : Bench) (r : Registration) (message : List ℕ) (P : Verdict → Type 0)
     → ((why : Why) → P (Refuse why))
-    → ((status : ℕ) → status ≢ 135 → P (Deny status r.sequence None))
+    → ((status : ℕ) → is_authorized status ≡ false → P (Deny status r.sequence None))
     → ((i : ℕ) (j : Option ℕ) (kbm : Kbm) → IsGenuine b r message i j kbm → P (by_sequence b r i j kbm b.floor))
     → P (verdict b r message)
 unfolding verdict
 walk b r message P silent unkeyed genuine =
-    cond_both r.for_agent _ _ P (λ _. unkeyed 131 (λ e. omega arith)) (λ correspondent.
+    cond_both r.for_agent _ _ P (λ _. unkeyed home_registration_not_supported refl) (λ correspondent.
     cond_both (not (is_routable (home_of r).0 && is_routable (careof_of r).0)) _ _ P (λ _. silent whys.Unroutable) (λ routable.
     cond_both (not r.authorized) _ _ P (λ _. silent whys.Options) (λ _.
     by_nonces correspondent (and_parts _ _ (not-false _ routable)) r.nonces refl)))
@@ -70,9 +74,9 @@ walk b r message P silent unkeyed genuine =
     by_nonces correspondent routable (Some indices) is = by_each (number_named b.now indices.home) (careof_number b r indices) refl refl
       where
         by_each : (i : Option ℕ) (j : Option (Option ℕ)) → number_named b.now indices.home ≡ i → careof_number b r indices ≡ j → P (by_numbers b r message i j)
-        by_each None None _ _ = unkeyed 138 (λ e. omega arith)
-        by_each None (Some j) _ _ = unkeyed 136 (λ e. omega arith)
-        by_each (Some i) None _ _ = unkeyed 137 (λ e. omega arith)
+        by_each None None _ _ = unkeyed expired_nonces refl
+        by_each None (Some j) _ _ = unkeyed expired_home_nonce refl
+        by_each (Some i) None _ _ = unkeyed expired_careof_nonce refl
         by_each (Some i) (Some j) home careof =
             cond_both (not (is_authentic (kbm_of b r i j).0 (registered_of r) b.own message)) _ _ P (λ _. silent whys.Authenticator) (λ passed.
             genuine i j (kbm_of b r i j) (record {
@@ -110,10 +114,10 @@ module _ (home home' : Address) (accepted accepted' : Accepted) (granted granted
   kbm_is : kbm ≡ kbm'
   kbm_is = cc
 
-granted_short : (r : Request) → (granted_of r ≤ 105) × (granted_of r ≤ r.lifetime)
+granted_short : (r : Registration) → (granted_of r ≤ 105) × (granted_of r ≤ r.lifetime)
 granted_short r = cond_both (deletes r) _ _ (λ (g : ℕ). (g ≤ 105) × (g ≤ r.lifetime)) (λ _. (omega arith, omega arith)) (λ _. (omega arith, omega arith))
 
-module _ (b : Bench) (r : Request) (message : List ℕ) (home : Address) (accepted : Accepted) (granted : ℕ) (kbm : Kbm) where
+module _ (b : Bench) (r : Registration) (message : List ℕ) (home : Address) (accepted : Accepted) (granted : ℕ) (kbm : Kbm) where
   abbrev Sound : Verdict → Type 0
   Sound v = v ≡ Accept home accepted granted kbm → IsSound b r message home accepted granted kbm
 
@@ -153,9 +157,9 @@ module _ (b : Bench) (r : Request) (message : List ℕ) (home : Address) (accept
       subst (λ (n : ℕ). is_after r.sequence n ≡ true) (number_is last other (sym is ∙ kept)) (not-false _ after)))
 
   pub sound : verdict b r message ≡ Accept home accepted granted kbm → IsSound b r message home accepted granted kbm
-  sound = walk b r message Sound (λ why e. absurd cc) (λ status other e. absurd cc) (λ i j k genuine. by_sequence_sound i j k genuine b.floor refl)
+  sound = walk b r message Sound (λ why e. absurd cc) (λ status bare e. absurd cc) (λ i j k genuine. by_sequence_sound i j k genuine b.floor refl)
 
-module _ (b : Bench) (r : Request) (message : List ℕ) (last : ℕ) (kbm : Option Kbm) where
+module _ (b : Bench) (r : Registration) (message : List ℕ) (last : ℕ) (kbm : Option Kbm) where
   abbrev Behind : Verdict → Type 0
   Behind v = v ≡ Deny 135 last kbm → IsBehind b r last
 
@@ -173,9 +177,9 @@ module _ (b : Bench) (r : Request) (message : List ℕ) (last : ℕ) (kbm : Opti
       }) (λ after. by_room_behind i j k)
 
   pub behind_kept : verdict b r message ≡ Deny 135 last kbm → IsBehind b r last
-  behind_kept = walk b r message Behind (λ why e. absurd cc) (λ status other e. absurd (other (status_is status 135 r.sequence last None kbm e))) (λ i j k genuine. by_sequence_behind i j k b.floor refl)
+  behind_kept = walk b r message Behind (λ why e. absurd cc) (λ status bare e. absurd (let both = sym bare ∙ ap is_authorized (status_is status 135 r.sequence last None kbm e) in cc)) (λ i j k genuine. by_sequence_behind i j k b.floor refl)
 
-module _ (b : Bench) (r : Request) (message : List ℕ) (status last : ℕ) (kbm : Kbm) where
+module _ (b : Bench) (r : Registration) (message : List ℕ) (status last : ℕ) (kbm : Kbm) where
   abbrev Keyed : Verdict → Type 0
   Keyed v = v ≡ Deny status last (Some kbm) → (i : ℕ) × (j : Option ℕ) × IsGenuine b r message i j kbm
 
@@ -193,4 +197,33 @@ module _ (b : Bench) (r : Request) (message : List ℕ) (status last : ℕ) (kbm
       (i, j, subst (λ (q : Kbm). IsGenuine b r message i j q) (key_same 135 n k e) genuine)) (λ after. by_room_keyed i j k genuine)
 
   pub keyed : verdict b r message ≡ Deny status last (Some kbm) → (i : ℕ) × (j : Option ℕ) × IsGenuine b r message i j kbm
-  keyed = walk b r message Keyed (λ why e. absurd cc) (λ s other e. absurd (let keys = key_is s status r.sequence last None (Some kbm) e in cc)) (λ i j k genuine. by_sequence_keyed i j k genuine b.floor)
+  keyed = walk b r message Keyed (λ why e. absurd cc) (λ s bare e. absurd (let keys = key_is s status r.sequence last None (Some kbm) e in cc)) (λ i j k genuine. by_sequence_keyed i j k genuine b.floor)
+
+-- a denial goes out under a key exactly where its status is one that does
+module _ (b : Bench) (r : Registration) (message : List ℕ) (status last : ℕ) (kbm : Option Kbm) where
+  abbrev Authorized : Verdict → Type 0
+  Authorized v = v ≡ Deny status last kbm → is_some kbm ≡ is_authorized status
+
+  under : (s m : ℕ) (k : Option Kbm) → Deny s m k ≡ Deny status last kbm → is_some k ≡ is_authorized s → is_some kbm ≡ is_authorized status
+  under s m k e is = sym (ap (λ (o : Option Kbm). is_some o) (key_is s status m last k kbm e)) ∙ is ∙ ap is_authorized (status_is s status m last k kbm e)
+
+  by_room_authorized : (i : ℕ) (j : Option ℕ) (k : Kbm) → Authorized (by_room b r i j k)
+  by_room_authorized i j k = cond_both b.full _ _ Authorized (λ full e. under insufficient_resources r.sequence (Some k) e refl) (λ room e. absurd cc)
+
+  by_sequence_authorized : (i : ℕ) (j : Option ℕ) (k : Kbm) → (o : Option ℕ) → Authorized (by_sequence b r i j k o)
+  by_sequence_authorized i j k None = by_room_authorized i j k
+  by_sequence_authorized i j k (Some n) =
+      cond_both (not (is_after r.sequence n)) _ _ Authorized (λ behind e. under sequence_out_of_window n (Some k) e refl) (λ after. by_room_authorized i j k)
+
+  pub authorized_by_status : verdict b r message ≡ Deny status last kbm → is_some kbm ≡ is_authorized status
+  authorized_by_status =
+      walk b r message Authorized (λ why e. absurd cc) (λ s bare e. under s r.sequence None e (sym bare)) (λ i j k genuine. by_sequence_authorized i j k b.floor)
+
+-- a sequence is kept for as long as any nonce lives under which its update can be accepted
+pub outlives : (a : Acceptance) (n now : ℕ) → IsValidAt a.at n → IsValidAt now n → now < kept_until_of a
+outlives a n now first second =
+    let near : now < a.at + max_nonce_lifetime = nearby a.at now n first.0 second.1 in
+    omega (arith, near, le-max_right a.end (a.at + max_nonce_lifetime))
+  where
+    nearby : (t u i : ℕ) → i ≤ t / 30000 → u / 30000 < i + 8 → u < t + 240000
+    nearby t u i a b = omega arith

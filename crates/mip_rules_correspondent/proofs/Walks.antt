@@ -15,7 +15,7 @@ use Rattle.mip_reception.specs.Checks.{checked}
 use Rattle.mip_reception.specs.Replies.{reply_packet}
 use Rattle.mip_reception.specs.Words.{packet_why}
 use Rattle.mip_rules_correspondent.specs.declared.identity.Identity.{Identity}
-use Rattle.mip_rules_correspondent.specs.declared.request.Request.{Request}
+use Rattle.mip_updates.specs.declared.registration.Registration.{Registration}
 use Rattle.mip_rules_correspondent.specs.declared.verdict.Verdict.{Verdict}
 use Rattle.mip_rules_correspondent.specs.declared.verdict.Verdict.TheVariants.{Refuse, Deny, Accept}
 use Rattle.mip_rules_correspondent.specs.Calls as calls
@@ -23,15 +23,15 @@ use Rattle.mip_rules_correspondent.specs.Calls.{Call}
 use Rattle.mip_rules_correspondent.specs.Steps.{Step, Called, Sends, Accepts, Denies, Drops, Idles, is_call}
 use Rattle.mip_rules_correspondent.specs.Questions.{held_of}
 use Rattle.mip_rules_correspondent.specs.Turns.{Turn, noted}
-use Rattle.mip_rules_correspondent.specs.Requests.{request}
+use Rattle.mip_updates.specs.Registrations.{registration}
 use Rattle.mip_rules_correspondent.specs.Verdicts.{verdict}
-use Rattle.mip_rules_correspondent.specs.Acks.{ack_packet}
+use Rattle.mip_updates.specs.Acks.{ack_packet}
 use Rattle.mip_rules_correspondent.specs.Rules.{answers_home_init, answers_careof_init, bench, denies, accepts, judged, takes_update, hands_up, by_message, is_for_part, other_why, by_role, replies, refuses, standing_of, after_checks, place_in, receives}
 use Rattle.mip_rules_correspondent.specs.Doing.{takes, parts, request_refresh, refreshes, transmits, handles, does}
 use Rattle.mip_rules_correspondent.specs.Sendings.{SendsHomeTest, SendsCareofTest, SendsAck, SendsReply, SendsRefresh, SendsData, SendsOwn}
 
-module _ (me : Identity) (P : Turn → Type 0) (more : (step : Step) (t : Turn) → is_call step ≡ false → SendsOwn me t.now step → P t → P (noted step t)) where
-  every-judged : (number : ℕ) (r : Request) (v : Verdict) (t : Turn) → P t → P (judged me number r v t)
+module _ (me : Identity) (c : Call) (P : Turn → Type 0) (more : (step : Step) (t : Turn) → is_call step ≡ false → SendsOwn me c t.now step → P t → P (noted step t)) where
+  every-judged : (number : ℕ) (r : Registration) (v : Verdict) (t : Turn) → P t → P (judged me number r v t)
   unfolding denies accepts
   every-judged number r (Refuse why) t p = more (Drops number why) t refl tt p
   every-judged number r (Deny status last kbm) t p = more (Sends (ack_packet me.own r status last 0 kbm)) (noted (Denies number status) t) refl (SendsAck r status last 0 kbm, refl) (more (Denies number status) t refl tt p)
@@ -47,7 +47,7 @@ module _ (me : Identity) (P : Turn → Type 0) (more : (step : Step) (t : Turn) 
   every-message number packet (Some (HomeInit cookie options)) t p = more _ t refl (SendsHomeTest packet.head.source cookie, refl) p
   every-message number packet (Some (CareofInit cookie options)) t p = more _ t refl (SendsCareofTest packet.head.source cookie, refl) p
   every-message number packet (Some (Update s a h l k t' o)) t p =
-      let r = request packet.head.source packet.head.home s a h t' o in
+      let r = registration packet.head.source packet.head.home s a h t' o in
       every-judged number r (verdict (bench me t.known t.now r) r packet.body) t p
   every-message number packet (Some (Refresh options)) t p = p
   every-message number packet (Some (HomeTest index cookie token options)) t p = p
@@ -83,15 +83,15 @@ module _ (me : Identity) (P : Turn → Type 0) (more : (step : Step) (t : Turn) 
   every-refresh home None t p = more Idles t refl tt p
   every-refresh home (Some careof) t p = more _ t refl (SendsRefresh home careof, refl) p
 
-  pub every-handles : (c : Call) (t : Turn) → P t → P (handles me c t)
+  pub every-handles : (call : Call) → c ≡ call → (t : Turn) → P t → P (handles me call t)
   unfolding takes parts refreshes transmits
-  every-handles (calls.Take number shield bytes) t p = every-receives number bytes (packet_of bytes) t p
-  every-handles (calls.Part number packet) t p = every-message number packet (message_in packet) t p
-  every-handles calls.Tick t p = p
-  every-handles (calls.Refresh home) t p = every-refresh home (held_of t.known t.now home) t p
-  every-handles (calls.Send to proto payload) t p = more _ t refl (SendsData to proto payload (held_of t.known t.now to), refl) p
+  every-handles (calls.Take number shield bytes) is t p = every-receives number bytes (packet_of bytes) t p
+  every-handles (calls.Part number packet) is t p = every-message number packet (message_in packet) t p
+  every-handles calls.Tick is t p = p
+  every-handles (calls.Refresh home) is t p = every-refresh home (held_of t.known t.now home) t p
+  every-handles (calls.Send to proto payload) is t p = more _ t refl (SendsData to proto payload (held_of t.known t.now to), (is, refl)) p
 
-  module _ (called : (c : Call) (t : Turn) → P t → P (noted (Called c) t)) where
-    pub every-call : (c : Call) (t : Turn) → P t → P (does me c t)
+  module _ (called : (t : Turn) → P t → P (noted (Called c) t)) where
+    pub every-call : (t : Turn) → P t → P (does me c t)
     unfolding does
-    every-call c t p = every-handles c (noted (Called c) t) (called c t p)
+    every-call t p = every-handles c refl (noted (Called c) t) (called t p)

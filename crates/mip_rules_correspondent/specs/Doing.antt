@@ -4,10 +4,9 @@ use Rattle.mip_words.specs.declared.address.Address.{Address}
 use Rattle.mip_ipv6.specs.declared.head.Head.{Head}
 use Rattle.mip_ipv6.specs.Packet.{Packet}
 use Rattle.mip_ipv6.specs.Reading.{packet_of}
-use Rattle.mip_options.specs.Values.{nothing}
-use Rattle.mip_mobhdr.specs.Said.Said.{Refresh}
 use Rattle.mip_says.specs.Says.{message_in}
-use Rattle.mip_signals.specs.Packets.{node_head, straight, signal, parcel}
+use Rattle.mip_signals.specs.Packets.{node_head, straight, data_packet}
+use Rattle.mip_signals.specs.Messages.{refresh_packet}
 use Rattle.mip_rules_correspondent.specs.declared.identity.Identity.{Identity}
 use Rattle.mip_rules_correspondent.specs.declared.known.Known.{Known}
 use Rattle.mip_rules_correspondent.specs.Calls as calls
@@ -30,7 +29,7 @@ parts me number p t = by_message me number p (message_in p) t
 abbrev pub request_refresh : Identity → Address → Option Address → Turn → Turn
 request_refresh me home None t = noted Idles t
 request_refresh me home (Some careof) t =
-    noted (Sends (signal (node_head me.own careof (Some home) None 135) (Refresh nothing))) t
+    noted (Sends (refresh_packet me.own careof home)) t
 
 unfoldable pub refreshes : Identity → Address → Turn → Turn
 refreshes me home t = request_refresh me home (held_of t.known t.now home) t
@@ -41,11 +40,11 @@ abbrev pub data_head : (own to : Address) (proto : ℕ) → Option Address → H
 data_head own to proto None = straight own to proto
 data_head own to proto (Some careof) = node_head own careof (Some to) None proto
 
-abbrev pub data_packet : Identity → Address → ℕ → List ℕ → Option Address → List ℕ
-data_packet me to proto payload held = parcel (data_head me.own to proto held) payload
+abbrev pub data_sent : Identity → Address → ℕ → List ℕ → Option Address → List ℕ
+data_sent me to proto payload held = data_packet (data_head me.own to proto held) payload
 
 unfoldable pub transmits : Identity → Address → ℕ → List ℕ → Turn → Turn
-transmits me to proto payload t = noted (Sends (data_packet me to proto payload (held_of t.known t.now to))) t
+transmits me to proto payload t = noted (Sends (data_sent me to proto payload (held_of t.known t.now to))) t
 
 -- what it does about a call that it has got
 abbrev pub handles : Identity → Call → Turn → Turn

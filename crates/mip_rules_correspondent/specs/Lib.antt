@@ -2,10 +2,8 @@ pub mod Calls
 pub mod Steps
 pub mod Questions
 pub mod Turns
-pub mod Requests
 pub mod Verdicts
 pub mod Soundness
-pub mod Acks
 pub mod Rules
 pub mod Doing
 pub mod Seen

@@ -1,21 +1,21 @@
 -- What a correspondent does about a packet: one rule a paragraph. RFC 6275 section 9
 use Rattle.std.specs.Prelude.{ℕ, ◌-◌, List, length, Bool, true, false, not, ◌&&◌, ◌==◌, if◌then◌else◌, Option, Some, None, Result, Ok, Err}
 use Rattle.std.specs.Option.{option_map_or}
+use Rattle.mip_constants.specs.Protocols.{ipv6, icmpv6, no_next_header, mobility_header}
 use Rattle.mip_words.specs.declared.address.Address.{Address}
 use Rattle.mip_words.specs.declared.why.Why.{Why}
 use Rattle.mip_words.specs.declared.why.Why.TheVariants as whys
 use Rattle.mip_ipv6.specs.declared.head.Head.{Head}
 use Rattle.mip_ipv6.specs.declared.not_packet.NotPacket.{NotPacket}
 use Rattle.mip_ipv6.specs.Packet.{Packet, source_of, destination_of}
-use Rattle.mip_options.specs.Values.{nothing}
 use Rattle.mip_mobhdr.specs.Said.{Said}
-use Rattle.mip_mobhdr.specs.Said.Said.{HomeInit, CareofInit, HomeTest, CareofTest, Update}
+use Rattle.mip_mobhdr.specs.Said.Said.{HomeInit, CareofInit, Update}
 use Rattle.mip_nonce.specs.Secrets.{kcn_of, nonce_of}
 use Rattle.mip_nonce.specs.Window.{current_of, index_of}
 use Rattle.mip_tokens.specs.Token.{home_token_of, careof_token_of}
 use Rattle.mip_tokens.specs.declared.kbm.Kbm.{Kbm}
 use Rattle.mip_bcache.specs.declared.accepted.Accepted.{Accepted}
-use Rattle.mip_signals.specs.Packets.{straight, signal}
+use Rattle.mip_signals.specs.Messages.{home_test_packet, careof_test_packet}
 use Rattle.mip_reception.specs.declared.refusal.Refusal.{Refusal}
 use Rattle.mip_reception.specs.declared.standing.Standing.{Standing}
 use Rattle.mip_reception.specs.Words.{packet_why}
@@ -23,59 +23,59 @@ use Rattle.mip_reception.specs.Checks.{checked}
 use Rattle.mip_reception.specs.Replies.{reply_packet}
 use Rattle.mip_rules_correspondent.specs.declared.identity.Identity.{Identity}
 use Rattle.mip_rules_correspondent.specs.declared.known.Known.{Known}
-use Rattle.mip_rules_correspondent.specs.declared.request.Request.{Request}
+use Rattle.mip_updates.specs.declared.registration.Registration.{Registration}
 use Rattle.mip_rules_correspondent.specs.declared.verdict.Verdict.{Verdict}
 use Rattle.mip_rules_correspondent.specs.declared.verdict.Verdict.TheVariants.{Refuse, Deny, Accept}
 use Rattle.mip_rules_correspondent.specs.Steps.{Sends, Accepts, Denies, Drops, HandsUp}
 use Rattle.mip_rules_correspondent.specs.Questions.{held_of, floor_of, is_full_for}
 use Rattle.mip_rules_correspondent.specs.Turns.{Turn, noted}
-use Rattle.mip_rules_correspondent.specs.Requests.{request, home_of}
+use Rattle.mip_updates.specs.Registrations.{registration, home_of}
 use Rattle.mip_rules_correspondent.specs.Verdicts.{Bench, verdict}
-use Rattle.mip_rules_correspondent.specs.Acks.{ack_packet}
+use Rattle.mip_updates.specs.Acks.{ack_packet}
+use Rattle.mip_updates.specs.Statuses as statuses
 
--- the Home Test: the cookie comes back, with the index of the newest nonce and the home keygen token
--- of the source under it. RFC 6275 sections 5.2.5, 6.1.5 and 9.4.3
-abbrev pub home_test : Identity → ℕ → Address → ℕ → Said
+-- the Home Test: the cookie comes back, with the index of the newest nonce and the home keygen token of the source under
+-- it. RFC 6275 sections 5.2.5, 6.1.5 and 9.4.3
+abbrev pub home_test : Identity → ℕ → Address → ℕ → List ℕ
 home_test me now source cookie =
-    HomeTest (index_of (current_of now)) cookie (home_token_of (kcn_of me.secrets) source (nonce_of me.secrets (current_of now))) nothing
+    home_test_packet me.own source (index_of (current_of now)) cookie (home_token_of (kcn_of me.secrets) source (nonce_of me.secrets (current_of now)))
 
--- a Home Test Init is answered by a Home Test, from the correspondent's address to the source.
--- RFC 6275 section 9.4.1
+-- a Home Test Init is answered by a Home Test, from the correspondent's address to the source. RFC 6275 section 9.4.1
 unfoldable pub answers_home_init : Identity → Address → ℕ → Turn → Turn
-answers_home_init me source cookie t = noted (Sends (signal (straight me.own source 135) (home_test me t.now source cookie))) t
+answers_home_init me source cookie t = noted (Sends (home_test me t.now source cookie)) t
 
 -- the Care-of Test, with the care-of keygen token. RFC 6275 sections 5.2.5, 6.1.6 and 9.4.4
-abbrev pub careof_test : Identity → ℕ → Address → ℕ → Said
+abbrev pub careof_test : Identity → ℕ → Address → ℕ → List ℕ
 careof_test me now source cookie =
-    CareofTest (index_of (current_of now)) cookie (careof_token_of (kcn_of me.secrets) source (nonce_of me.secrets (current_of now))) nothing
+    careof_test_packet me.own source (index_of (current_of now)) cookie (careof_token_of (kcn_of me.secrets) source (nonce_of me.secrets (current_of now)))
 
 -- a Care-of Test Init is answered by a Care-of Test. RFC 6275 section 9.4.2
 unfoldable pub answers_careof_init : Identity → Address → ℕ → Turn → Turn
-answers_careof_init me source cookie t = noted (Sends (signal (straight me.own source 135) (careof_test me t.now source cookie))) t
+answers_careof_init me source cookie t = noted (Sends (careof_test me t.now source cookie)) t
 
 -- an update is judged by what is kept of its home
-abbrev pub bench : Identity → Known → ℕ → Request → Bench
+abbrev pub bench : Identity → Known → ℕ → Registration → Bench
 bench me k now r = record { own = me.own; secrets = me.secrets; now = now; floor = floor_of k now (home_of r); full = is_full_for k now (home_of r) }
 
 -- an update that was denied is always answered
-unfoldable pub denies : Identity → ℕ → Request → (status last : ℕ) → Option Kbm → Turn → Turn
+unfoldable pub denies : Identity → ℕ → Registration → (status last : ℕ) → Option Kbm → Turn → Turn
 denies me number r status last kbm t = noted (Sends (ack_packet me.own r status last 0 kbm)) (noted (Denies number status) t)
 
 -- one that was accepted is answered where flag A asks for it. RFC 6275 section 9.5.4
-abbrev pub acknowledges : Identity → Request → ℕ → Kbm → Turn → Turn
+abbrev pub acknowledges : Identity → Registration → ℕ → Kbm → Turn → Turn
 acknowledges me r granted kbm t =
-    if r.ack then noted (Sends (ack_packet me.own r 0 r.sequence granted (Some kbm))) t else t
+    if r.ack then noted (Sends (ack_packet me.own r statuses.accepted r.sequence granted (Some kbm))) t else t
 
-unfoldable pub accepts : Identity → ℕ → Request → Address → Accepted → ℕ → Kbm → Turn → Turn
+unfoldable pub accepts : Identity → ℕ → Registration → Address → Accepted → ℕ → Kbm → Turn → Turn
 accepts me number r home accepted granted kbm t = acknowledges me r granted kbm (noted (Accepts number home accepted) t)
 
-abbrev pub judged : Identity → ℕ → Request → Verdict → Turn → Turn
+abbrev pub judged : Identity → ℕ → Registration → Verdict → Turn → Turn
 judged me number r (Refuse why) t = noted (Drops number why) t
 judged me number r (Deny status last kbm) t = denies me number r status last kbm t
 judged me number r (Accept home accepted granted kbm) t = accepts me number r home accepted granted kbm t
 
 -- a Binding Update. RFC 6275 section 9.5.1
-unfoldable pub takes_update : Identity → ℕ → Request → List ℕ → Turn → Turn
+unfoldable pub takes_update : Identity → ℕ → Registration → List ℕ → Turn → Turn
 takes_update me number r message t = judged me number r (verdict (bench me t.known t.now r) r message) t
 
 -- data is handed up from and to home addresses. RFC 6275 sections 9.3.1 and 6.4
@@ -84,14 +84,14 @@ hands_up number p t = noted (HandsUp number (source_of p.head) (destination_of p
 
 -- data is what is neither a tunnel, nor ICMPv6, nor nothing, nor a mobility message
 abbrev pub is_data : ℕ → Bool
-is_data proto = not (proto == 41) && not (proto == 58) && not (proto == 59) && not (proto == 135)
+is_data proto = not (proto == ipv6) && not (proto == icmpv6) && not (proto == no_next_header) && not (proto == mobility_header)
 
 -- the correspondent part: test inits, updates and data
 abbrev pub by_message : Identity → ℕ → Packet → Option Said → Turn → Turn
 by_message me number p None t = hands_up number p t
 by_message me number p (Some (HomeInit cookie options)) t = answers_home_init me p.head.source cookie t
 by_message me number p (Some (CareofInit cookie options)) t = answers_careof_init me p.head.source cookie t
-by_message me number p (Some (Update s a h l k t' o)) t = takes_update me number (request p.head.source p.head.home s a h t' o) p.body t
+by_message me number p (Some (Update s a h l k t' o)) t = takes_update me number (registration p.head.source p.head.home s a h t' o) p.body t
 by_message me number p (Some other) t = t
 
 -- what is for the correspondent part
@@ -104,7 +104,7 @@ is_for_part proto (Some other) = false
 
 -- what is not: a tunnel packet, other messages, ICMPv6, nothing
 abbrev pub other_why : ℕ → Why
-other_why proto = if proto == 58 then whys.Icmp else if proto == 59 then whys.NoNext else whys.Role
+other_why proto = if proto == icmpv6 then whys.Icmp else if proto == no_next_header then whys.NoNext else whys.Role
 
 unfoldable pub by_role : Identity → ℕ → Packet → Option Said → Turn → Turn
 by_role me number p message t =

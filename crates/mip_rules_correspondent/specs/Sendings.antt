@@ -1,25 +1,25 @@
 -- The packets that a correspondent sends, one kind a line. RFC 6275 sections 9.3 to 9.5
-use Rattle.std.specs.Prelude.{◌≡◌, ℕ, List, Option, Some, None}
+use Rattle.std.specs.Prelude.{◌≡◌, ℕ, List, Option, Some}
 use Rattle.mip_words.specs.declared.address.Address.{Address}
-use Rattle.mip_options.specs.Values.{nothing}
-use Rattle.mip_mobhdr.specs.Said.Said.{Refresh}
 use Rattle.mip_tokens.specs.declared.kbm.Kbm.{Kbm}
-use Rattle.mip_signals.specs.Packets.{node_head, straight, signal}
+use Rattle.mip_signals.specs.Messages.{refresh_packet}
 use Rattle.mip_reception.specs.declared.reply.Reply.{Reply}
 use Rattle.mip_reception.specs.Replies.{reply_packet}
 use Rattle.mip_rules_correspondent.specs.declared.identity.Identity.{Identity}
-use Rattle.mip_rules_correspondent.specs.declared.request.Request.{Request}
+use Rattle.mip_updates.specs.declared.registration.Registration.{Registration}
+use Rattle.mip_rules_correspondent.specs.Calls as calls
+use Rattle.mip_rules_correspondent.specs.Calls.{Call}
 use Rattle.mip_rules_correspondent.specs.Steps.{Step, Sends}
-use Rattle.mip_rules_correspondent.specs.Acks.{ack_packet}
+use Rattle.mip_updates.specs.Acks.{ack_packet}
 use Rattle.mip_rules_correspondent.specs.Rules.{home_test, careof_test}
-use Rattle.mip_rules_correspondent.specs.Doing.{data_packet}
+use Rattle.mip_rules_correspondent.specs.Doing.{data_sent}
 
 pub data Sending : Type 0 where
   -- a test, to where its init came from
   SendsHomeTest : (source : Address) (cookie : ℕ) → Sending
   SendsCareofTest : (source : Address) (cookie : ℕ) → Sending
   -- the acknowledgement of an update
-  SendsAck : (update : Request) (status sequence lifetime : ℕ) (kbm : Option Kbm) → Sending
+  SendsAck : (update : Registration) (status sequence lifetime : ℕ) (kbm : Option Kbm) → Sending
   -- what goes back to the source of a packet that was refused
   SendsReply : (source : Address) (packet : List ℕ) (reply : Reply) → Sending
   -- a Binding Refresh Request, to the care-of address of a home
@@ -27,16 +27,16 @@ pub data Sending : Type 0 where
   -- data, to the care-of address of its destination if one is held
   SendsData : (to : Address) (proto : ℕ) (payload : List ℕ) (held : Option Address) → Sending
 
--- this is the packet, at a moment
-abbrev pub IsPacketOf : Identity → ℕ → Sending → List ℕ → Type 0
-IsPacketOf me now (SendsHomeTest source cookie) packet = packet ≡ signal (straight me.own source 135) (home_test me now source cookie)
-IsPacketOf me now (SendsCareofTest source cookie) packet = packet ≡ signal (straight me.own source 135) (careof_test me now source cookie)
-IsPacketOf me now (SendsAck update status sequence lifetime kbm) packet = packet ≡ ack_packet me.own update status sequence lifetime kbm
-IsPacketOf me now (SendsReply source bytes reply) packet = reply_packet me.own source bytes reply ≡ Some packet
-IsPacketOf me now (SendsRefresh home careof) packet = packet ≡ signal (node_head me.own careof (Some home) None 135) (Refresh nothing)
-IsPacketOf me now (SendsData to proto payload held) packet = packet ≡ data_packet me to proto payload held
+-- this is the packet, in this call at a moment; data is sent where the call asks for it
+abbrev pub IsPacketOf : Identity → Call → ℕ → Sending → List ℕ → Type 0
+IsPacketOf me c now (SendsHomeTest source cookie) packet = packet ≡ home_test me now source cookie
+IsPacketOf me c now (SendsCareofTest source cookie) packet = packet ≡ careof_test me now source cookie
+IsPacketOf me c now (SendsAck update status sequence lifetime kbm) packet = packet ≡ ack_packet me.own update status sequence lifetime kbm
+IsPacketOf me c now (SendsReply source bytes reply) packet = reply_packet me.own source bytes reply ≡ Some packet
+IsPacketOf me c now (SendsRefresh home careof) packet = packet ≡ refresh_packet me.own careof home
+IsPacketOf me c now (SendsData to proto payload held) packet = (c ≡ calls.Send to proto payload) × (packet ≡ data_sent me to proto payload held)
 
 -- a packet that the step sends is one of these
-abbrev pub SendsOwn : Identity → ℕ → Step → Type 0
-SendsOwn me now (Sends packet) = (x : Sending) × IsPacketOf me now x packet
-SendsOwn me now _ = Unit {0}
+abbrev pub SendsOwn : Identity → Call → ℕ → Step → Type 0
+SendsOwn me c now (Sends packet) = (x : Sending) × IsPacketOf me c now x packet
+SendsOwn me c now _ = Unit {0}

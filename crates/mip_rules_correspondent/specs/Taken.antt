@@ -9,11 +9,11 @@ use Rattle.mip_tokens.specs.declared.kbm.Kbm.{Kbm}
 use Rattle.mip_bcache.specs.declared.accepted.Accepted.{Accepted}
 use Rattle.mip_rules_correspondent.specs.declared.identity.Identity.{Identity}
 use Rattle.mip_rules_correspondent.specs.declared.known.Known.{Known}
-use Rattle.mip_rules_correspondent.specs.declared.request.Request.{Request}
+use Rattle.mip_updates.specs.declared.registration.Registration.{Registration}
 use Rattle.mip_rules_correspondent.specs.declared.verdict.Verdict.TheVariants.{Accept}
 use Rattle.mip_rules_correspondent.specs.Calls.{Take}
 use Rattle.mip_rules_correspondent.specs.Steps.{Step, Called, Accepts, is_acceptance}
-use Rattle.mip_rules_correspondent.specs.Requests.{request_in}
+use Rattle.mip_updates.specs.Registrations.{registration_in}
 use Rattle.mip_rules_correspondent.specs.Verdicts.{verdict}
 use Rattle.mip_rules_correspondent.specs.Rules.{bench}
 
@@ -22,13 +22,13 @@ pub record IsUpdateTaken (me : Identity) (k : Known) (now number : ℕ) (shield 
   pub packet : Packet
   pub read : packet_of bytes ≡ Ok packet
   pub mobility : packet.head.proto ≡ 135
-  pub request : Request
-  pub asks : request_in packet.head.source packet.head.home packet.body ≡ Some request
+  pub registration : Registration
+  pub asks : registration_in packet.head.source packet.head.home packet.body ≡ Some registration
   pub home : Address
   pub accepted : Accepted
   pub granted : ℕ
   pub kbm : Kbm
-  pub verdict_is : verdict (bench me k now request) request packet.body ≡ Accept home accepted granted kbm
+  pub verdict_is : verdict (bench me k now registration) registration packet.body ≡ Accept home accepted granted kbm
   pub rest : List Step
   pub steps_are : steps ≡ Called (Take number shield bytes) ∷ Accepts number home accepted ∷ rest
   pub none : list_any is_acceptance rest ≡ false

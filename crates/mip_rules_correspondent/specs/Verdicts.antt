@@ -5,16 +5,18 @@ use Rattle.mip_words.specs.Addresses.{is_routable}
 use Rattle.mip_words.specs.Sequence.{is_after}
 use Rattle.mip_words.specs.declared.address.Address.{Address}
 use Rattle.mip_words.specs.declared.why.Why.TheVariants as whys
+use Rattle.mip_constants.specs.Constants.{lifetime_unit, max_rr_binding_lifetime}
 use Rattle.mip_options.specs.declared.indices.Indices.{Indices}
 use Rattle.mip_nonce.specs.Secrets.{Life, kcn_of, nonce_of}
 use Rattle.mip_nonce.specs.Window.{number_named}
 use Rattle.mip_tokens.specs.Token.{home_token_of, careof_token_of, kbm_both_of, kbm_home_of, is_authentic}
 use Rattle.mip_tokens.specs.declared.kbm.Kbm.{Kbm}
 use Rattle.mip_bcache.specs.declared.accepted.Accepted.{Accepted}
-use Rattle.mip_rules_correspondent.specs.declared.request.Request.{Request}
+use Rattle.mip_updates.specs.declared.registration.Registration.{Registration}
 use Rattle.mip_rules_correspondent.specs.declared.verdict.Verdict.{Verdict}
 use Rattle.mip_rules_correspondent.specs.declared.verdict.Verdict.TheVariants.{Refuse, Deny, Accept}
-use Rattle.mip_rules_correspondent.specs.Requests.{home_of, careof_of, deletes, registered_of}
+use Rattle.mip_updates.specs.Statuses.{insufficient_resources, home_registration_not_supported, sequence_out_of_window, expired_home_nonce, expired_careof_nonce, expired_nonces}
+use Rattle.mip_updates.specs.Registrations.{home_of, careof_of, deletes, registered_of}
 
 -- who judges, when, and what it keeps of the home of the update
 pub record Bench : Type 0 where
@@ -27,40 +29,40 @@ pub record Bench : Type 0 where
   -- there is no room for the home
   pub full : Bool
 
--- the lifetime granted, in units of 4 s: 420 s at most, and none where the binding ends. RFC 6275 section 9.5.1
-abbrev pub granted_of : Request → ℕ
-granted_of r = if deletes r then 0 else min r.lifetime 105
+-- the lifetime granted, in units of 4 s: none where the binding ends. RFC 6275 section 9.5.1
+abbrev pub granted_of : Registration → ℕ
+granted_of r = if deletes r then 0 else min r.lifetime max_rr_binding_lifetime
 
 -- the binding, under the nonces with these numbers
-abbrev pub accepted_of : ℕ → Request → ℕ → Option ℕ → Accepted
+abbrev pub accepted_of : ℕ → Registration → ℕ → Option ℕ → Accepted
 accepted_of now r i j = record {
   careof = registered_of r;
   sequence = r.sequence;
-  end = record { 0 = now + 4000 * granted_of r };
+  end = record { 0 = now + lifetime_unit * granted_of r };
   home_nonce = i;
   careof_nonce = j;
 }
 
 -- 130 where there is no room; else the update is accepted
-abbrev pub by_room : Bench → Request → ℕ → Option ℕ → Kbm → Verdict
+abbrev pub by_room : Bench → Registration → ℕ → Option ℕ → Kbm → Verdict
 by_room b r i j kbm =
-    if b.full then Deny 130 r.sequence (Some kbm)
+    if b.full then Deny insufficient_resources r.sequence (Some kbm)
     else Accept (home_of r) (accepted_of b.now r i j) (granted_of r) kbm
 
 -- 135, with the sequence that is kept, where the update does not come after it
-abbrev pub by_sequence : Bench → Request → ℕ → Option ℕ → Kbm → Option ℕ → Verdict
+abbrev pub by_sequence : Bench → Registration → ℕ → Option ℕ → Kbm → Option ℕ → Verdict
 by_sequence b r i j kbm None = by_room b r i j kbm
 by_sequence b r i j kbm (Some last) =
-    if not (is_after r.sequence last) then Deny 135 last (Some kbm) else by_room b r i j kbm
+    if not (is_after r.sequence last) then Deny sequence_out_of_window last (Some kbm) else by_room b r i j kbm
 
 -- the authenticator must be that of the key
-abbrev pub by_key : Bench → Request → List ℕ → ℕ → Option ℕ → Kbm → Verdict
+abbrev pub by_key : Bench → Registration → List ℕ → ℕ → Option ℕ → Kbm → Verdict
 by_key b r message i j kbm =
     if not (is_authentic kbm.0 (registered_of r) b.own message) then Refuse whys.Authenticator
     else by_sequence b r i j kbm b.floor
 
 -- the key: of the home token alone where the binding ends, else of both tokens
-abbrev pub kbm_of : Bench → Request → ℕ → Option ℕ → Kbm
+abbrev pub kbm_of : Bench → Registration → ℕ → Option ℕ → Kbm
 kbm_of b r i None = record { 0 = kbm_home_of (home_token_of (kcn_of b.secrets) (home_of r) (nonce_of b.secrets i)) }
 kbm_of b r i (Some j) =
     record {
@@ -70,24 +72,24 @@ kbm_of b r i (Some j) =
 
 -- the numbers of the nonces: the first for home, the second for care-of, which is none where the binding ends.
 -- 136, 137 or 138 where an index names no valid nonce
-abbrev pub by_numbers : Bench → Request → List ℕ → Option ℕ → Option (Option ℕ) → Verdict
-by_numbers b r message None None = Deny 138 r.sequence None
-by_numbers b r message None (Some j) = Deny 136 r.sequence None
-by_numbers b r message (Some i) None = Deny 137 r.sequence None
+abbrev pub by_numbers : Bench → Registration → List ℕ → Option ℕ → Option (Option ℕ) → Verdict
+by_numbers b r message None None = Deny expired_nonces r.sequence None
+by_numbers b r message None (Some j) = Deny expired_home_nonce r.sequence None
+by_numbers b r message (Some i) None = Deny expired_careof_nonce r.sequence None
 by_numbers b r message (Some i) (Some j) = by_key b r message i j (kbm_of b r i j)
 
 -- where the binding ends the care-of index is ignored
-abbrev pub careof_number : Bench → Request → Indices → Option (Option ℕ)
+abbrev pub careof_number : Bench → Registration → Indices → Option (Option ℕ)
 careof_number b r indices = if deletes r then Some None else option_map Some (number_named b.now indices.careof)
 
-abbrev pub by_indices : Bench → Request → List ℕ → Option Indices → Verdict
+abbrev pub by_indices : Bench → Registration → List ℕ → Option Indices → Verdict
 by_indices b r message None = Refuse whys.Options
 by_indices b r message (Some indices) = by_numbers b r message (number_named b.now indices.home) (careof_number b r indices)
 
 -- 131 where the update is for a home agent; silence where an address is not routable, or an option is missing
-unfoldable pub verdict : Bench → Request → List ℕ → Verdict
+unfoldable pub verdict : Bench → Registration → List ℕ → Verdict
 verdict b r message =
-    if r.for_agent then Deny 131 r.sequence None
+    if r.for_agent then Deny home_registration_not_supported r.sequence None
     else if not (is_routable (home_of r).0 && is_routable (careof_of r).0) then Refuse whys.Unroutable
     else if not r.authorized then Refuse whys.Options
     else by_indices b r message r.nonces

@@ -1,18 +1,21 @@
 //! The laws by which a role stands for a past, and its cache for the updates accepted in it; and those of verdicts.
 
-ghost use Rattle.std.specs.Prelude.{◌≡◌, ℕ, ◌≤◌, List, [], Option, Some, true, false, unwrap_or, option_map};
+ghost use Rattle.std.specs.Prelude.{◌≡◌, ℕ, ◌≤◌, List, [], ◌<◌, Option, Some, true, false, unwrap_or, option_map, is_some};
 ghost use Rattle.std.specs.List.{list_any, AllByRecursion};
 ghost use Rattle.mip_words.specs.declared.address.Address.{Address};
 ghost use Rattle.mip_words.specs.declared.shield.Shield.{Shield};
 ghost use Rattle.mip_tokens.specs.declared.kbm.Kbm.{Kbm};
 ghost use Rattle.mip_lists.specs.Last.{last_where};
+ghost use Rattle.mip_nonce.specs.Window.{IsValidAt};
+ghost use Rattle.mip_binding.specs.Acceptance.{Acceptance, kept_until_of};
 ghost use Rattle.mip_binding.specs.Held.{held, floor, is_full};
 ghost use Rattle.mip_bcache.specs.Seen.{StandsFor};
 ghost use Rattle.mip_bcache.specs.declared.accepted.Accepted.{Accepted};
 ghost use Rattle.mip_entries.specs.Stamped.{Stamped};
 ghost use Rattle.mip_rules_correspondent.specs.declared.identity.Identity.{Identity};
 ghost use Rattle.mip_rules_correspondent.specs.declared.known.Known.{Known};
-ghost use Rattle.mip_rules_correspondent.specs.declared.request.Request.{Request};
+ghost use Rattle.mip_updates.specs.Statuses.{sequence_out_of_window, is_authorized};
+ghost use Rattle.mip_updates.specs.declared.registration.Registration.{Registration};
 ghost use Rattle.mip_rules_correspondent.specs.declared.verdict.Verdict.TheVariants.{Deny, Accept};
 ghost use Rattle.mip_rules_correspondent.specs.Soundness.{IsGenuine, IsSound, IsBehind};
 ghost use Rattle.mip_rules_correspondent.specs.Verdicts.{Bench, verdict};
@@ -63,9 +66,9 @@ pub fn answers_are_whole()
 {}
 
 /// Whatever a call sends is a packet that a correspondent sends at its moment: a test of its own, an acknowledgement, what
-/// goes back to the source of a refused packet, a refresh request, or data.
+/// goes back to the source of a refused packet, a refresh request, or the data that the call asks for.
 pub fn each_packet_is_its_own()
-    ensures { (me : Identity) (k : Known) (now : ℕ) (c : Call) → AllByRecursion (SendsOwn me now) (turn_of me k now c).steps }
+    ensures { (me : Identity) (k : Known) (now : ℕ) (c : Call) → AllByRecursion (SendsOwn me c now) (turn_of me k now c).steps }
 {}
 
 /// A packet that is handed over leads to no acceptance, or at once to that of the update in it, with the verdict Accept on
@@ -88,17 +91,29 @@ pub fn refused_changes_no_row()
 /// after the sequence that is kept, and where there is room.
 #[tactic(auto, using(crate::proofs::VerdictLaws::sound))]
 pub fn accepted_is_sound()
-    ensures { (b : Bench) (r : Request) (message : List ℕ) (home : Address) (accepted : Accepted) (granted : ℕ) (kbm : Kbm) → verdict b r message ≡ Accept home accepted granted kbm → IsSound b r message home accepted granted kbm }
+    ensures { (b : Bench) (r : Registration) (message : List ℕ) (home : Address) (accepted : Accepted) (granted : ℕ) (kbm : Kbm) → verdict b r message ≡ Accept home accepted granted kbm → IsSound b r message home accepted granted kbm }
 {}
 
 /// Status 135 carries the sequence that is kept, and the update does not come after it.
 #[tactic(auto, using(crate::proofs::VerdictLaws::behind_kept))]
 pub fn out_of_window_tells_the_floor()
-    ensures { (b : Bench) (r : Request) (message : List ℕ) (last : ℕ) (kbm : Option Kbm) → verdict b r message ≡ Deny 135 last kbm → IsBehind b r last }
+    ensures { (b : Bench) (r : Registration) (message : List ℕ) (last : ℕ) (kbm : Option Kbm) → verdict b r message ≡ Deny sequence_out_of_window last kbm → IsBehind b r last }
+{}
+
+/// A denial goes out with an authenticator exactly where its status is one that does (RFC 6275 section 9.5.4).
+#[tactic(auto, using(crate::proofs::VerdictLaws::authorized_by_status))]
+pub fn denials_are_authorized_by_status()
+    ensures { (b : Bench) (r : Registration) (message : List ℕ) (status last : ℕ) (kbm : Option Kbm) → verdict b r message ≡ Deny status last kbm → is_some kbm ≡ is_authorized status }
+{}
+
+/// The sequence of an update is kept for as long as any nonce lives under which the update can be accepted.
+#[tactic(auto, using(crate::proofs::VerdictLaws::outlives))]
+pub fn a_sequence_outlives_a_nonce()
+    ensures { (a : Acceptance) (n now : ℕ) → IsValidAt a.at n → IsValidAt now n → now < kept_until_of a }
 {}
 
 /// A denial goes out under a key only where the update came with its authenticator.
 #[tactic(auto, using(crate::proofs::VerdictLaws::keyed))]
 pub fn keyed_denial_is_genuine()
-    ensures { (b : Bench) (r : Request) (message : List ℕ) (status last : ℕ) (kbm : Kbm) → verdict b r message ≡ Deny status last (Some kbm) → (i : ℕ) × (j : Option ℕ) × IsGenuine b r message i j kbm }
+    ensures { (b : Bench) (r : Registration) (message : List ℕ) (status last : ℕ) (kbm : Kbm) → verdict b r message ≡ Deny status last (Some kbm) → (i : ℕ) × (j : Option ℕ) × IsGenuine b r message i j kbm }
 {}

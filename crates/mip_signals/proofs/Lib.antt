@@ -1,2 +1,3 @@
 pub mod Sizes
 pub mod Seals
+pub mod Longs

@@ -9,7 +9,7 @@ use Rattle.mip_mobhdr.specs.Said.{Said}
 use Rattle.mip_mobhdr.specs.Said.Said.{Refresh, HomeInit, CareofInit, HomeTest, CareofTest, Update, Acknowledgement, Error}
 use Rattle.mip_words.specs.declared.address.Address.{Address}
 use Rattle.mip_mobhdr.specs.Spelling.{IsMessage}
-use Rattle.mip_signals.specs.Sealed.{with_authenticator, authorized, has_authenticator}
+use Rattle.mip_signals.specs.Authenticated.{with_authenticator, authorized, has_authenticator}
 
 pub unauthorized : (bytes : List ℕ) (m : Said) → has_authenticator m ≡ false → authorized bytes m ≡ m
 unauthorized bytes (Update s a h l k t o) none = absurd cc
@@ -61,6 +61,6 @@ room_long_of s d a (HomeTest i c t o) body has is = absurd cc
 room_long_of s d a (CareofTest i c t o) body has is = absurd cc
 room_long_of s d a (Error u h o) body has is = absurd cc
 
-pub room_long : {E : Type 0} (r : Result (List ℕ) E) (s d : Address) (a : List ℕ) (m sealed : Said) → IsTrue (has_authenticator m) → sealed ≡ authorized a m → IfOk r (IsMessage s d sealed) → IfOk r (λ b. 18 ≤ length b)
-room_long (Ok b) s d a m sealed has same is = room_long_of s d a m b has (subst (λ (x : Said). IsMessage s d x b) same is)
-room_long (Err e) s d a m sealed has same is = tt
+pub room_long : {E : Type 0} (r : Result (List ℕ) E) (s d : Address) (a : List ℕ) (m authenticated_packet : Said) → IsTrue (has_authenticator m) → authenticated_packet ≡ authorized a m → IfOk r (IsMessage s d authenticated_packet) → IfOk r (λ b. 18 ≤ length b)
+room_long (Ok b) s d a m authenticated_packet has same is = room_long_of s d a m b has (subst (λ (x : Said). IsMessage s d x b) same is)
+room_long (Err e) s d a m authenticated_packet has same is = tt

@@ -1,2 +1,3 @@
 pub mod Packets
-pub mod Sealed
+pub mod Messages
+pub mod Authenticated

@@ -1,5 +1,6 @@
 -- The packets that nodes and outsiders make: hop limit 64, traffic class 0, flow label 0.
 use Rattle.std.specs.Prelude.{ℕ, List, take, Option, None}
+use Rattle.mip_constants.specs.Protocols.{icmpv6}
 use Rattle.mip_words.specs.declared.address.Address.{Address}
 use Rattle.mip_ipv6.specs.declared.head.Head.{Head}
 use Rattle.mip_ipv6.specs.Spelling.{packet_bytes}
@@ -20,15 +21,15 @@ abbrev pub straight : Address → Address → ℕ → Head
 straight source destination proto = node_head source destination None None proto
 
 -- a packet with this body
-unfoldable pub parcel : Head → List ℕ → List ℕ
-parcel head body = packet_bytes (record { head = head; body = body })
+unfoldable pub data_packet : Head → List ℕ → List ℕ
+data_packet head body = packet_bytes (record { head = head; body = body })
 
 -- a packet with a mobility message, whose checksum counts home addresses where there are any. RFC 6275 section 6.1.1
-unfoldable pub signal : Head → Said → List ℕ
-signal head message = packet_bytes (record { head = head; body = message_bytes (source_of head) (destination_of head) message })
+unfoldable pub message_packet : Head → Said → List ℕ
+message_packet head message = packet_bytes (record { head = head; body = message_bytes (source_of head) (destination_of head) message })
 
 -- the Parameter Problem that points at a byte of this packet, of which it quotes no more than fits
 -- into 1,280 bytes. RFC 4443 section 3.4
-unfoldable pub problem : (source destination : Address) → ℕ → List ℕ → List ℕ
-problem source destination pointer packet =
-    packet_bytes (record { head = straight source destination 58; body = icmp_bytes source destination (icmp.Parameter pointer (take 1232 packet)) })
+unfoldable pub problem_packet : (source destination : Address) → ℕ → List ℕ → List ℕ
+problem_packet source destination pointer packet =
+    packet_bytes (record { head = straight source destination icmpv6; body = icmp_bytes source destination (icmp.Parameter pointer (take 1232 packet)) })

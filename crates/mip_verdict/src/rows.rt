@@ -4,20 +4,14 @@ ghost use Rattle.std.specs.Prelude.{◌≡◌, ◌≤◌, ◌<◌, ◌^◌, leng
 ghost use Rattle.mip_rules_correspondent.specs.Verdicts.{granted_of, accepted_of, by_room, by_sequence, by_key, kbm_of, by_numbers, careof_number, by_indices};
 ghost use Rattle.mip_verdict.specs.Benches.{bench_of};
 
-use crate::request::{careof_of, deletes, home_of, registered_of};
-use crate::status;
 use mip_bcache::{Accepted, Cache};
+use mip_constants::{LIFETIME_UNIT, MAX_RR_BINDING_LIFETIME};
 use mip_nonce::{Secrets, by_index};
 use mip_options::Indices;
-use mip_rules_correspondent::{Request, Verdict};
+use mip_rules_correspondent::Verdict;
 use mip_tokens::{Kbm, authentic, careof_token, home_token};
+use mip_updates::{Registration, careof_of, deletes, home_of, registered_of, status};
 use mip_words::{Address, Moment, Why, after};
-
-/// The longest lifetime granted, in units of 4 s (420 s, MAX_RR_BINDING_LIFETIME).
-const LONGEST: u16 = 105;
-
-/// A unit of a lifetime, in milliseconds.
-const UNIT: u64 = 4_000;
 
 /// Who judges an update, when, and over which binding cache.
 #[derive(Clone, Copy)]
@@ -29,26 +23,26 @@ pub struct Judge<'a> {
 }
 
 /// The lifetime granted, in units of 4 s.
-fn granted_of(request: &Request) -> u16
-    ensures value { result ≡ granted_of request.now }
+fn granted_of(registration: &Registration) -> u16
+    ensures value { result ≡ granted_of registration.now }
     ensures short { result ≤ 105 }
 {
-    if deletes(request) {
+    if deletes(registration) {
         0
     } else {
-        request.lifetime.min(LONGEST)
+        registration.lifetime.min(MAX_RR_BINDING_LIFETIME)
     }
 }
 
 /// The binding, under the nonces with these numbers.
-fn accepted_of(now: Moment, request: &Request, home: u64, careof: Option<u64>) -> Accepted
+fn accepted_of(now: Moment, registration: &Registration, home: u64, careof: Option<u64>) -> Accepted
     requires { now.0 < 2 ^ 62 }
-    ensures { result ≡ accepted_of now.0 request.now home careof }
+    ensures { result ≡ accepted_of now.0 registration.now home careof }
 {
     Accepted {
-        careof: registered_of(request),
-        sequence: request.sequence,
-        end: Moment(now.0 + UNIT * granted_of(request) as u64),
+        careof: registered_of(registration),
+        sequence: registration.sequence,
+        end: Moment(now.0 + LIFETIME_UNIT * granted_of(registration) as u64),
         home_nonce: home,
         careof_nonce: careof,
     }
@@ -57,22 +51,26 @@ fn accepted_of(now: Moment, request: &Request, home: u64, careof: Option<u64>) -
 /// 130 where there is no room for the home.
 fn by_room(
     judge: &Judge<'_>,
-    request: &Request,
+    registration: &Registration,
     home: u64,
     careof: Option<u64>,
     kbm: Kbm,
 ) -> Verdict
     requires early { judge.now.moment.0 < 2 ^ 62 }
     requires later { judge.now.cache.now.last ≤ judge.now.moment.0 }
-    ensures { result ≡ by_room (bench_of judge.now request.now) request.now home careof kbm }
+    ensures { result ≡ by_room (bench_of judge.now registration.now) registration.now home careof kbm }
 {
-    if !judge.cache.has_room(judge.moment, home_of(request)) {
-        return deny(status::NO_ROOM, request.sequence, Some(kbm));
+    if !judge.cache.has_room(judge.moment, home_of(registration)) {
+        return deny(
+            status::INSUFFICIENT_RESOURCES,
+            registration.sequence,
+            Some(kbm),
+        );
     }
     Verdict::Accept {
-        home: home_of(request),
-        accepted: accepted_of(judge.moment, request, home, careof),
-        granted: granted_of(request),
+        home: home_of(registration),
+        accepted: accepted_of(judge.moment, registration, home, careof),
+        granted: granted_of(registration),
         kbm,
     }
 }
@@ -80,27 +78,27 @@ fn by_room(
 /// 135 where the update does not come after the sequence that is kept.
 fn by_sequence(
     judge: &Judge<'_>,
-    request: &Request,
+    registration: &Registration,
     home: u64,
     careof: Option<u64>,
     kbm: Kbm,
 ) -> Verdict
     requires early { judge.now.moment.0 < 2 ^ 62 }
     requires later { judge.now.cache.now.last ≤ judge.now.moment.0 }
-    ensures { let b = bench_of judge.now request.now in result ≡ by_sequence b request.now home careof kbm b.floor }
+    ensures { let b = bench_of judge.now registration.now in result ≡ by_sequence b registration.now home careof kbm b.floor }
 {
-    match judge.cache.floor(judge.moment, home_of(request)) {
-        Some(last) if !after(request.sequence, last) => {
-            deny(status::OUT_OF_WINDOW, last, Some(kbm))
+    match judge.cache.floor(judge.moment, home_of(registration)) {
+        Some(last) if !after(registration.sequence, last) => {
+            deny(status::SEQUENCE_OUT_OF_WINDOW, last, Some(kbm))
         }
-        _ => by_room(judge, request, home, careof, kbm),
+        _ => by_room(judge, registration, home, careof, kbm),
     }
 }
 
 /// Silence where the authenticator is not that of the key.
 fn by_key(
     judge: &Judge<'_>,
-    request: &Request,
+    registration: &Registration,
     message: &[u8],
     home: u64,
     careof: Option<u64>,
@@ -109,25 +107,28 @@ fn by_key(
     requires early { judge.now.moment.0 < 2 ^ 62 }
     requires later { judge.now.cache.now.last ≤ judge.now.moment.0 }
     requires long { 18 ≤ length message.now }
-    ensures { result ≡ by_key (bench_of judge.now request.now) request.now message.now home careof kbm }
+    ensures { result ≡ by_key (bench_of judge.now registration.now) registration.now message.now home careof kbm }
 {
-    if !authentic(&kbm, registered_of(request), judge.own, message) {
+    if !authentic(&kbm, registered_of(registration), judge.own, message) {
         return Verdict::Refuse(Why::Authenticator);
     }
-    by_sequence(judge, request, home, careof, kbm)
+    by_sequence(judge, registration, home, careof, kbm)
 }
 
 /// The key: of the home token alone where the binding ends, else of both tokens.
-fn kbm_of(judge: &Judge<'_>, request: &Request, home: u64, careof: Option<u64>) -> Kbm
-    ensures { result ≡ kbm_of (bench_of judge.now request.now) request.now home careof }
+fn kbm_of(judge: &Judge<'_>, registration: &Registration, home: u64, careof: Option<u64>) -> Kbm
+    ensures { result ≡ kbm_of (bench_of judge.now registration.now) registration.now home careof }
 {
     let kcn = judge.secrets.kcn();
-    let home_token = home_token(kcn, home_of(request), &judge.secrets.nonce(home));
+    let home_token = home_token(kcn, home_of(registration), &judge.secrets.nonce(home));
     match careof {
         None => Kbm::home(home_token),
         Some(careof) => {
             let nonce = judge.secrets.nonce(careof);
-            Kbm::both(home_token, careof_token(kcn, careof_of(request), &nonce))
+            Kbm::both(
+                home_token,
+                careof_token(kcn, careof_of(registration), &nonce),
+            )
         }
     }
 }
@@ -135,7 +136,7 @@ fn kbm_of(judge: &Judge<'_>, request: &Request, home: u64, careof: Option<u64>) 
 /// 136, 137 or 138 where an index names no valid nonce.
 fn by_numbers(
     judge: &Judge<'_>,
-    request: &Request,
+    registration: &Registration,
     message: &[u8],
     home: Option<u64>,
     careof: Option<Option<u64>>,
@@ -143,24 +144,28 @@ fn by_numbers(
     requires early { judge.now.moment.0 < 2 ^ 62 }
     requires later { judge.now.cache.now.last ≤ judge.now.moment.0 }
     requires long { 18 ≤ length message.now }
-    ensures { result ≡ by_numbers (bench_of judge.now request.now) request.now message.now home careof }
+    ensures { result ≡ by_numbers (bench_of judge.now registration.now) registration.now message.now home careof }
 {
     match (home, careof) {
-        (None, None) => deny(status::NONCES_EXPIRED, request.sequence, None),
-        (None, Some(_)) => deny(status::HOME_NONCE_EXPIRED, request.sequence, None),
-        (Some(_), None) => deny(status::CAREOF_NONCE_EXPIRED, request.sequence, None),
+        (None, None) => deny(status::EXPIRED_NONCES, registration.sequence, None),
+        (None, Some(_)) => deny(status::EXPIRED_HOME_NONCE, registration.sequence, None),
+        (Some(_), None) => deny(status::EXPIRED_CAREOF_NONCE, registration.sequence, None),
         (Some(home), Some(careof)) => {
-            let kbm = kbm_of(judge, request, home, careof);
-            by_key(judge, request, message, home, careof, kbm)
+            let kbm = kbm_of(judge, registration, home, careof);
+            by_key(judge, registration, message, home, careof, kbm)
         }
     }
 }
 
 /// The number of the care-of nonce; where the binding ends its index is ignored.
-fn careof_number(judge: &Judge<'_>, request: &Request, indices: Indices) -> Option<Option<u64>>
-    ensures { result ≡ careof_number (bench_of judge.now request.now) request.now indices }
+fn careof_number(
+    judge: &Judge<'_>,
+    registration: &Registration,
+    indices: Indices,
+) -> Option<Option<u64>>
+    ensures { result ≡ careof_number (bench_of judge.now registration.now) registration.now indices }
 {
-    if deletes(request) {
+    if deletes(registration) {
         return Some(None);
     }
     let number = by_index(judge.moment, indices.careof)?;
@@ -168,18 +173,18 @@ fn careof_number(judge: &Judge<'_>, request: &Request, indices: Indices) -> Opti
 }
 
 /// Silence where the Nonce Indices are missing.
-pub fn by_indices(judge: &Judge<'_>, request: &Request, message: &[u8]) -> Verdict
+pub fn by_indices(judge: &Judge<'_>, registration: &Registration, message: &[u8]) -> Verdict
     requires early { judge.now.moment.0 < 2 ^ 62 }
     requires later { judge.now.cache.now.last ≤ judge.now.moment.0 }
     requires long { 18 ≤ length message.now }
-    ensures { result ≡ by_indices (bench_of judge.now request.now) request.now message.now request.now.nonces }
+    ensures { result ≡ by_indices (bench_of judge.now registration.now) registration.now message.now registration.now.nonces }
 {
-    match request.nonces {
+    match registration.nonces {
         None => Verdict::Refuse(Why::Options),
         Some(indices) => {
             let home = by_index(judge.moment, indices.home);
-            let careof = careof_number(judge, request, indices);
-            by_numbers(judge, request, message, home, careof)
+            let careof = careof_number(judge, registration, indices);
+            by_numbers(judge, registration, message, home, careof)
         }
     }
 }

@@ -3,18 +3,16 @@
 ghost use Rattle.std.specs.Prelude.{◌≡◌, ◌≤◌, ◌<◌, ◌^◌, List, Some, IsSomeAnd};
 ghost use Rattle.mip_binding.specs.Acceptance.{Acceptance};
 ghost use Rattle.mip_bcache.specs.Seen.{StandsFor};
-ghost use Rattle.mip_rules_correspondent.specs.Requests.{request_in};
+ghost use Rattle.mip_updates.specs.Registrations.{IsUpdate, registration_in};
 ghost use Rattle.mip_rules_correspondent.specs.Verdicts.{verdict};
-ghost use Rattle.mip_verdict.specs.Benches.{IsUpdate, bench_at, bench_of, bench_after};
+ghost use Rattle.mip_verdict.specs.Benches.{bench_at, bench_of, bench_after};
 
-use crate::request::{careof_of, home_of, request_of};
 use crate::rows::{Judge, by_indices, deny};
-use crate::status;
 use mip_bcache::Cache;
 use mip_entries::UpdateSeen;
-use mip_mobhdr::read_update;
 use mip_nonce::Secrets;
-use mip_rules_correspondent::{Request, Verdict};
+use mip_rules_correspondent::Verdict;
+use mip_updates::{Registration, careof_of, home_of, registration_in, status};
 use mip_words::{Address, Moment, Why};
 
 /// What becomes of a Binding Update at a correspondent: the first row that applies (RFC 6275 sections
@@ -29,25 +27,11 @@ pub fn judge(
     requires early { now.0 < 2 ^ 62 }
     requires later { cache.now.last ≤ now.0 }
     requires update { IsUpdate update.now.message.now }
-    ensures found { IsSomeAnd (request_in update.now.source update.now.home update.now.message.now) (λ r. result ≡ verdict (bench_at own secrets.now now.0 cache.now r) r update.now.message.now) }
-    ensures answers { (past : List Acceptance) → StandsFor cache.now past → IsSomeAnd (request_in update.now.source update.now.home update.now.message.now) (λ r. result ≡ verdict (bench_after own secrets.now now.0 cache.now.limit past r) r update.now.message.now) }
+    ensures found { IsSomeAnd (registration_in update.now.source update.now.home update.now.message.now) (λ r. result ≡ verdict (bench_at own secrets.now now.0 cache.now r) r update.now.message.now) }
+    ensures answers { (past : List Acceptance) → StandsFor cache.now past → IsSomeAnd (registration_in update.now.source update.now.home update.now.message.now) (λ r. result ≡ verdict (bench_after own secrets.now now.0 cache.now.limit past r) r update.now.message.now) }
 {
-    let request = request_in(update);
-    verdict(now, secrets, cache, own, &request, update.message)
-}
-
-/// What an update asks.
-fn request_in(update: &UpdateSeen<'_>) -> Request
-    requires { IsUpdate update.now.message.now }
-    ensures { request_in update.now.source update.now.home update.now.message.now ≡ Some result }
-{
-    match read_update(update.message) {
-        Ok(message) => match request_of(update.source, update.home, &message) {
-            Some(request) => request,
-            None => unreachable!(),
-        },
-        Err(_) => unreachable!(),
-    }
+    let registration = registration_in(update);
+    verdict(now, secrets, cache, own, &registration, update.message)
 }
 
 /// The same of an update that was read.
@@ -56,14 +40,14 @@ pub fn verdict(
     secrets: &Secrets,
     cache: &Cache,
     own: Address,
-    request: &Request,
+    registration: &Registration,
     message: &[u8],
 ) -> Verdict
     requires early { now.0 < 2 ^ 62 }
     requires later { cache.now.last ≤ now.0 }
-    requires read { request_in request.now.source request.now.home_option message.now ≡ Some request.now }
-    ensures found { result ≡ verdict (bench_at own secrets.now now.0 cache.now request.now) request.now message.now }
-    ensures answers { (past : List Acceptance) → StandsFor cache.now past → result ≡ verdict (bench_after own secrets.now now.0 cache.now.limit past request.now) request.now message.now }
+    requires read { registration_in registration.now.source registration.now.home_option message.now ≡ Some registration.now }
+    ensures found { result ≡ verdict (bench_at own secrets.now now.0 cache.now registration.now) registration.now message.now }
+    ensures answers { (past : List Acceptance) → StandsFor cache.now past → result ≡ verdict (bench_after own secrets.now now.0 cache.now.limit past registration.now) registration.now message.now }
 {
     let judge = Judge {
         own,
@@ -71,26 +55,30 @@ pub fn verdict(
         moment: now,
         cache,
     };
-    from_the_first(&judge, request, message)
+    from_the_first(&judge, registration, message)
 }
 
 /// Before the nonces: 131 where it is for a home agent, silence where an address is not routable or there is
 /// no authenticator.
-#[tactic(auto, unfolding(mip_rules_correspondent::specs::Verdicts::verdict), using(crate::proofs::Lengths::authorized_is_long))]
-fn from_the_first(judge: &Judge<'_>, request: &Request, message: &[u8]) -> Verdict
+#[tactic(auto, unfolding(mip_rules_correspondent::specs::Verdicts::verdict), using(mip_updates::proofs::Updates::authorized_is_long))]
+fn from_the_first(judge: &Judge<'_>, registration: &Registration, message: &[u8]) -> Verdict
     requires early { judge.now.moment.0 < 2 ^ 62 }
     requires later { judge.now.cache.now.last ≤ judge.now.moment.0 }
-    requires read { request_in request.now.source request.now.home_option message.now ≡ Some request.now }
-    ensures { result ≡ verdict (bench_of judge.now request.now) request.now message.now }
+    requires read { registration_in registration.now.source registration.now.home_option message.now ≡ Some registration.now }
+    ensures { result ≡ verdict (bench_of judge.now registration.now) registration.now message.now }
 {
-    if request.for_agent {
-        return deny(status::NO_HOME_AGENT, request.sequence, None);
+    if registration.for_agent {
+        return deny(
+            status::HOME_REGISTRATION_NOT_SUPPORTED,
+            registration.sequence,
+            None,
+        );
     }
-    if !(home_of(request).routable() && careof_of(request).routable()) {
+    if !(home_of(registration).routable() && careof_of(registration).routable()) {
         return Verdict::Refuse(Why::Unroutable);
     }
-    if !request.authorized {
+    if !registration.authorized {
         return Verdict::Refuse(Why::Options);
     }
-    by_indices(judge, request, message)
+    by_indices(judge, registration, message)
 }

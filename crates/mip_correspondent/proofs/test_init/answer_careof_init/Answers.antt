@@ -1,6 +1,5 @@
 use Rattle.std.proofs.Common.{ap, sym, subst, ◌∙◌}
 use Rattle.std.specs.Prelude.{List, ℕ, OnOk}
-use Rattle.mip_signals.specs.Packets.{straight, signal}
 use Rattle.mip_rules_correspondent.specs.Steps.{Sends}
 use Rattle.mip_rules_correspondent.specs.Turns.{noted}
 use Rattle.mip_rules_correspondent.specs.Rules.{careof_test, answers_careof_init}
@@ -13,7 +12,7 @@ unfolding answers_careof_init
 returns c = λ cache t shows.
     let me = c.args.receipt.now.identity.now in
     let now = c.args.receipt.now.moment.0 in
-    let test = λ (at : ℕ). signal (straight me.own c.args.source 135) (careof_test me at c.args.source c.args.cookie.0) in
+    let test = λ (at : ℕ). careof_test me at c.args.source c.args.cookie.0 in
     subst (λ (packet : List ℕ). OnOk c.send.result (Shows now cache c.send.new.answers (noted (Sends packet) t)))
     (c.in_ok-test.ensures ∙ ap test (sym (shows-now now cache c.args.answers.now t shows)))
     (c.send.ensures now cache t shows)

@@ -5,7 +5,7 @@ use Rattle.mip_bcache.specs.Seen.{CacheSeen}
 use Rattle.mip_rules_correspondent.specs.Steps.{Sends}
 use Rattle.mip_rules_correspondent.specs.Turns.{noted}
 use Rattle.mip_rules_correspondent.specs.Questions.{held_of}
-use Rattle.mip_rules_correspondent.specs.Doing.{data_packet}
+use Rattle.mip_rules_correspondent.specs.Doing.{data_sent}
 use Rattle.mip_rules_correspondent.specs.Calls as calls
 use Rattle.mip_rules_correspondent.specs.declared.known.Known.{Known}
 use Rattle.mip_rules_correspondent.specs.Turns.{Turn, Stands, with_turn}
@@ -21,7 +21,7 @@ ended c =
     let inside : CorrespondentSeen = record { identity = c.self.inside.identity; known = c.self.inside.known } in
     let now = c.args.now.0 in
     let shown = Shows now inside.known.cache c.send_data.new.answers in
-    let packet = data_packet inside.identity c.args.to c.args.proto c.args.payload.now in
+    let packet = data_sent inside.identity c.args.to c.args.proto c.args.payload.now in
     ends c.args.self.now inside c.settle.new.self now (calls.Send c.args.to c.args.proto c.args.payload.now) c.in_ok-answers.answers
     (λ (cache : CacheSeen). cache) c.send_data.new.answers refl c.in_ok-answers.ensures c.self.view_is
     (λ t begins. subst shown (sym (transmits-shown inside.identity c.args.to c.args.proto c.args.payload.now now inside.known.cache c.in_ok-answers.answers t begins))

@@ -1,0 +1,4 @@
+pub mod Own
+pub mod Histories
+pub mod Lawful
+pub mod Origins

@@ -1,0 +1,3 @@
+pub mod OwnTests
+pub mod OwnHistories
+pub mod Origins

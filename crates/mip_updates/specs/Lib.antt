@@ -1,0 +1,3 @@
+pub mod Registrations
+pub mod Statuses
+pub mod Acks
