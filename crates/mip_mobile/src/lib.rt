@@ -3,8 +3,10 @@
 
 mod agents;
 mod desk;
+mod home;
 mod kept;
 mod numberings;
+mod packets;
 
 pub use desk::Desk;
 pub use kept::Kept;
