@@ -1,6 +1,6 @@
 -- Rules of home registration, by what the desk knows.
 use Rattle.std.proofs.Common.{◌≡◌, ℕ, ◌≤◌, List, length, refl, sym, ap, ◌∙◌, arith}
-use Rattle.std.specs.Prelude.{Option, Some, None}
+use Rattle.std.specs.Prelude.{Option, Some, None, if◌then◌else◌}
 use Rattle.mip_words.specs.declared.address.Address.{Address}
 use Rattle.mip_ipv6.specs.Sum.{checksum_of}
 use Rattle.mip_ipv6.proofs.Sums.{length-with_number_at}
@@ -11,9 +11,13 @@ use Rattle.mip_rules_mobile.specs.declared.standing.Standing.{Standing}
 use Rattle.mip_rules_mobile.specs.declared.standing.Standing.TheVariants.{Detached, AtHome, Away}
 use Rattle.mip_rules_mobile.specs.declared.home_update.HomeUpdate.{HomeUpdate}
 use Rattle.mip_rules_mobile.specs.Known.{Known}
-use Rattle.mip_rules_mobile.specs.HomeQuestions.{target_of}
-use Rattle.mip_rules_mobile.specs.Turns.{Turn}
-use Rattle.mip_rules_mobile.specs.HomeRules.{seeks, registers_with, wait_behind, registers_at, registers, resends_as, resends_home}
+use Rattle.mip_rules_mobile.specs.HomeQuestions.{home_of, target_of, agent_of}
+use Rattle.mip_rules_mobile.specs.Turns.{Turn, noted}
+use Rattle.mip_rules_mobile.specs.HomeRules.{seeks, registers_with, wait_behind, registers_at, registers, resends_as, resends_home, turns_to, is_refused, deregisters_at}
+use Rattle.mip_rules_mobile.specs.MovingRules.{settles_at, settles, address_under, arrives_by, arrives}
+use Rattle.mip_rules_mobile.specs.DiscoveryQuestions.{next_found}
+use Rattle.mip_rules_mobile.specs.Steps.{IsRefused}
+use Rattle.mip_outside.specs.declared.claim.Claim.{Claim}
 
 pub registers-some : (careof agent : Address) (wait : ℕ) (t : Turn) (k : Known) → t.known ≡ k → target_of k ≡ Some agent → wait ≡ wait_behind k.latest → registers_with careof agent wait t ≡ registers careof t
 unfolding registers
@@ -46,3 +50,23 @@ pub ask-short : (source destination : Address) (identifier : ℕ) → length (ic
 unfolding icmp_bytes
 ask-short source destination identifier =
     omega (arith, length-with_number_at 2 (checksum_of source destination 58 (unsummed (DiscoverAsk identifier)) 2) (unsummed (DiscoverAsk identifier)) (omega (arith, ask-size identifier)), ask-size identifier)
+
+pub refused-by : (status : ℕ) (t : Turn) (k : Known) (s : Standing) (o : Option Address) → t.known ≡ k → k.standing ≡ s → next_found k ≡ o → turns_to s o (noted (IsRefused status) t) ≡ is_refused status t
+unfolding is_refused
+refused-by status t k s o known standing next =
+    ap (λ (x : Standing). turns_to x o (noted (IsRefused status) t)) (sym standing ∙ ap (λ (l : Known). l.standing) (sym known))
+    ∙ ap (λ (x : Option Address). turns_to t.known.standing x (noted (IsRefused status) t)) (sym next ∙ ap (λ (l : Known). next_found l) (sym known))
+
+pub settles-by : (t : Turn) (k : Known) (s : Standing) → t.known ≡ k → k.standing ≡ s → settles_at s t ≡ settles t
+unfolding settles
+settles-by t k s known standing = ap (λ (x : Standing). settles_at x t) (sym standing ∙ ap (λ (l : Known). l.standing) (sym known))
+
+pub undoes-by : (t : Turn) (k : Known) (now : ℕ) → t.known ≡ k → t.now ≡ now → (let u : Turn = (if k.owes then deregisters_at (agent_of k now) t else t) in u) ≡ settles_at AtHome t
+undoes-by t k now known moment =
+    ap (λ (l : Known). (let u : Turn = (if l.owes then deregisters_at (agent_of l now) t else t) in u)) (sym known)
+    ∙ ap (λ (n : ℕ). (let u : Turn = (if t.known.owes then deregisters_at (agent_of t.known n) t else t) in u)) (sym moment)
+
+pub arrives-by : (prefix : ℕ) (claim : Claim) (t : Turn) (k : Known) (address : Address) → t.known ≡ k → address ≡ address_under (home_of k) prefix → arrives_by claim address t ≡ arrives prefix claim t
+unfolding arrives
+arrives-by prefix claim t k address known is =
+    ap (λ (a : Address). arrives_by claim a t) (is ∙ ap (λ (l : Known). address_under (home_of l) prefix) (sym known))

@@ -1,6 +1,9 @@
-ghost use Rattle.std.specs.Prelude.{◌≡◌, ◌==◌, if◌then◌else◌, option_and_then, ◌+◌, ◌<◌, ◌≤◌, ◌^◌, true, OnOk, IsTrue};
+ghost use Rattle.std.specs.Prelude.{◌≡◌, ◌==◌, if◌then◌else◌, option_and_then, option_map, IfSome, ◌+◌, ◌<◌, ◌≤◌, ◌^◌, true, OnOk, IsTrue};
 ghost use Rattle.mip_words.specs.Addresses.{is_routable};
-ghost use Rattle.mip_rules_mobile.specs.HomeQuestions.{home_of, next_to, standing_at, target_of};
+ghost use Rattle.mip_rules_mobile.specs.HomeQuestions.{home_of, next_to, standing_at, target_of, agent_of, standing_registration};
+ghost use Rattle.mip_rules_mobile.specs.DiscoveryQuestions.{next_found};
+ghost use Rattle.mip_rules_mobile.specs.IcmpRules.{is_matched};
+ghost use Rattle.std.specs.Option.{option_or};
 ghost use Rattle.mip_rules_mobile.specs.Steps.{Arrives, Chooses, Claims, Drops, Finds, FindsTaken, GivesUp, IsRefused, Learns, Meets, Notes, Registers, Releases, Resequences, Seeks, Sends, SeeksAgain, Stops, Unregisters, Unsends, Waits};
 ghost use Rattle.mip_discovery.specs.Retries.{retried};
 ghost use Rattle.mip_bulist.specs.Rows.{given_row};
@@ -77,7 +80,8 @@ impl Desk {
 
     /// Its agent refuses.
     pub fn refused(&mut self, status: u8) -> Result<(), Memory>
-        ensures { (t : Turn) → Shows self.old t → OnOk result (Shows self.new (noted (IsRefused status) t)) }
+        ensures shows { (t : Turn) → Shows self.old t → OnOk result (Shows self.new (noted (IsRefused status) t)) }
+        ensures same { OnOk result (self.new.known ≡ self.old.known) }
     {
         self.answers.push(Answer::Note(Entry::Refused {
             node: MYSELF,
@@ -357,6 +361,52 @@ impl Desk {
         }
     }
 
+    /// Whether a home registration was sent that nothing has undone.
+    pub fn owes(&self) -> bool
+        ensures { result ≡ self.now.known.owes }
+    {
+        self.known.owes
+    }
+
+    /// The home registration that was acknowledged.
+    pub fn registered(&self) -> Option<Registered>
+        ensures { result ≡ self.now.known.registered }
+    {
+        self.known.registered
+    }
+
+    /// The agent for tunnels, deregistrations and prefix messages.
+    pub fn agent(&self) -> Option<Address>
+        ensures { result ≡ agent_of self.now.known self.now.moment }
+    {
+        agent_of(self.known.registered, self.known.agent, self.moment)
+    }
+
+    /// How many milliseconds the resending of a home registration waits.
+    pub fn wait(&self) -> u64
+        ensures { result ≡ self.now.known.wait }
+    {
+        self.known.wait
+    }
+
+    /// The next agent of those that were found.
+    pub fn next_found(&self) -> Option<Address>
+        ensures found { result ≡ next_found self.now.known }
+        ensures within { IfSome result (λ _. self.now.known.tried + 1 < 2 ^ 64) }
+    {
+        self.known.found.at(self.known.tried)
+    }
+
+    /// Whether a reply with this identifier answers the discovery under way.
+    pub fn is_matched(&self, identifier: u16) -> bool
+        ensures { result ≡ is_matched self.now.known.discovery identifier }
+    {
+        match &self.known.discovery {
+            Some(discovery) => discovery.matches(identifier),
+            None => false,
+        }
+    }
+
     /// The home address.
     pub fn home(&self) -> Address
         ensures value { result ≡ home_of self.now.known }
@@ -410,4 +460,18 @@ fn shield_to(home: Address, agent: Address) -> Option<Shield>
         from: home,
         to: agent,
     })
+}
+
+/// The agent of a registration that stands, else the one to which the last registration went.
+fn agent_of(
+    registered: Option<Registered>,
+    agent: Option<Address>,
+    now: Moment,
+) -> Option<Address>
+    ensures { result ≡ option_or (option_map (λ r. r.agent) (standing_registration now.0 registered)) agent }
+{
+    match registered {
+        Some(registered) if now.0 < registered.end.0 => Some(registered.agent),
+        _ => agent,
+    }
 }

@@ -1,13 +1,16 @@
 //! Home registration (RFC 6275 sections 11.5.5, 11.7.1 and 11.8).
 
-ghost use Rattle.std.specs.Prelude.{◌≡◌, ◌<◌, ◌^◌, OnOk, Some};
+ghost use Rattle.std.specs.Prelude.{◌≡◌, ◌<◌, ◌+◌, ◌^◌, OnOk, Some, IfSome, if◌then◌else◌};
 ghost use Rattle.mip_rules_mobile.specs.declared.standing.Standing.TheVariants.{AtHome, Away};
 ghost use Rattle.mip_rules_mobile.specs.Turns.{Turn};
-ghost use Rattle.mip_rules_mobile.specs.HomeRules.{seeks, registers_with, deregisters_with, deregisters_at, wait_behind, registers, resends_as, resends_home, is_behind};
+ghost use Rattle.mip_rules_mobile.specs.HomeRules.{seeks, registers_with, deregisters_with, deregisters_at, wait_behind, registers, resends_as, resends_home, is_behind, turns_to, is_refused};
+ghost use Rattle.mip_rules_mobile.specs.HomeQuestions.{agent_of};
+ghost use Rattle.mip_rules_mobile.specs.MovingRules.{settles};
 ghost use Rattle.mip_mobile.specs.Seen.{Shows};
 
-use crate::desk::{Desk, RESENDING, SEEKING};
+use crate::desk::{Desk, RENEWING, RESENDING, SEEKING};
 use crate::packets::{write_deregistration, write_discovery, write_registration};
+use mip_bulist::Work;
 use mip_constants::{
     INITIAL_BINDACK_TIMEOUT, INITIAL_BINDACK_TIMEOUT_FIRST_REG, INITIAL_DHAAD_TIMEOUT,
 };
@@ -166,4 +169,59 @@ pub fn catch_up(
 {
     desk.resequence(update.agent, sequence)?;
     resend_home(alloc, desk, INITIAL_BINDACK_TIMEOUT)
+}
+
+/// An agent refuses: the next one that was found is tried; without one, nothing more is sent.
+pub fn turn_away(alloc: Global, desk: &mut Desk, status: u8) -> Result<(), Memory>
+    ensures { (t : Turn) → Shows desk.old t → OnOk result (Shows desk.new (is_refused status t)) }
+{
+    let standing = desk.standing();
+    let next = desk.next_found();
+    desk.refused(status)?;
+    turn_to(alloc, desk, standing, next)
+}
+
+fn turn_to(
+    alloc: Global,
+    desk: &mut Desk,
+    standing: Standing,
+    next: Option<Address>,
+) -> Result<(), Memory>
+    requires { IfSome next (λ _. desk.old.known.tried + 1 < 2 ^ 64) }
+    ensures { (t : Turn) → Shows desk.old t → OnOk result (Shows desk.new (turns_to standing next t)) }
+{
+    match (standing, next) {
+        (Standing::Away { careof }, Some(agent)) => {
+            desk.choose(agent)?;
+            register_with(alloc, desk, careof, agent, INITIAL_BINDACK_TIMEOUT)
+        }
+        _ => {
+            desk.stop(Work::Own(RESENDING));
+            desk.stop(Work::Own(RENEWING));
+            Ok(())
+        }
+    }
+}
+
+/// At home a registration is undone, if there was one; away it is made.
+pub fn settle(alloc: Global, desk: &mut Desk) -> Result<(), Memory>
+    ensures { (t : Turn) → Shows desk.old t → OnOk result (Shows desk.new (settles t)) }
+{
+    match desk.standing() {
+        Standing::Detached => Ok(()),
+        Standing::AtHome => undo(alloc, desk),
+        Standing::Away { careof } => register(alloc, desk, careof),
+    }
+}
+
+/// A registration is undone, if there was one.
+fn undo(alloc: Global, desk: &mut Desk) -> Result<(), Memory>
+    ensures { (t : Turn) → Shows desk.old t → OnOk result (Shows desk.new (if desk.old.known.owes then deregisters_at (agent_of desk.old.known desk.old.moment) t else t)) }
+{
+    if desk.owes() {
+        let agent = desk.agent();
+        deregister(alloc, desk, agent)
+    } else {
+        Ok(())
+    }
 }

@@ -5,6 +5,7 @@ mod agents;
 mod desk;
 mod home;
 mod kept;
+mod moving;
 mod numberings;
 mod packets;
 
