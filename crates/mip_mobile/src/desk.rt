@@ -1,6 +1,6 @@
 ghost use Rattle.std.specs.Prelude.{◌≡◌, ◌==◌, if◌then◌else◌, option_and_then, option_map, IfSome, ◌+◌, ◌<◌, ◌≤◌, ◌^◌, true, OnOk, IsTrue};
 ghost use Rattle.mip_words.specs.Addresses.{is_routable};
-ghost use Rattle.mip_rules_mobile.specs.HomeQuestions.{home_of, next_to, standing_at, target_of, agent_of, standing_registration};
+ghost use Rattle.mip_rules_mobile.specs.HomeQuestions.{home_of, next_to, standing_at, target_of, agent_of, registered_agent, standing_registration};
 ghost use Rattle.mip_rules_mobile.specs.DiscoveryQuestions.{next_found};
 ghost use Rattle.mip_rules_mobile.specs.IcmpRules.{is_matched};
 ghost use Rattle.std.specs.Option.{option_or};
@@ -9,7 +9,7 @@ ghost use Rattle.mip_discovery.specs.Retries.{retried};
 ghost use Rattle.mip_bulist.specs.Rows.{given_row};
 ghost use Rattle.mip_bulist.specs.declared.work.Work.TheVariants.{Own};
 ghost use Rattle.mip_rules_mobile.specs.Turns.{Turn, noted};
-ghost use Rattle.mip_rules_mobile.specs.Sendings.{Sending, RegistersHome, DeregistersHome, packet_of_sending, shield_of, shield_to, registration_packet, deregistration_packet};
+ghost use Rattle.mip_rules_mobile.specs.Sendings.{Sending, RegistersHome, DeregistersHome, packet_of_sending, shield_of, shield_to, Solicits, registration_packet, deregistration_packet, solicitation_packet};
 ghost use Rattle.mip_mobile.specs.Seen.{Shows, IsNeutral};
 
 use crate::agents::Agents;
@@ -106,10 +106,8 @@ impl Desk {
     pub fn unsend(&mut self, why: Why) -> Result<(), Memory>
         ensures { (t : Turn) → Shows self.old t → OnOk result (Shows self.new (noted (Unsends why) t)) }
     {
-        self.answers.push(Answer::Note(Entry::Unsent {
-            node: MYSELF,
-            why,
-        }))?;
+        self.answers
+            .push(Answer::Note(Entry::Unsent { node: MYSELF, why }))?;
         Ok(())
     }
 
@@ -292,9 +290,7 @@ impl Desk {
     {
         let shield = shield_to(self.known.home, agent);
         self.answers.push(Answer::Send { shield, packet })?;
-        self.known
-            .numberings
-            .set(agent, sequence.wrapping_add(1))?;
+        self.known.numberings.set(agent, sequence.wrapping_add(1))?;
         self.known.latest = Some(HomeUpdate {
             agent,
             sequence,
@@ -318,9 +314,7 @@ impl Desk {
     {
         let shield = shield_to(self.known.home, agent);
         self.answers.push(Answer::Send { shield, packet })?;
-        self.known
-            .numberings
-            .set(agent, sequence.wrapping_add(1))?;
+        self.known.numberings.set(agent, sequence.wrapping_add(1))?;
         self.known.latest = Some(HomeUpdate {
             agent,
             sequence,
@@ -407,6 +401,37 @@ impl Desk {
         }
     }
 
+    /// It hands a Mobile Prefix Solicitation to the wire.
+    pub fn put_solicitation(
+        &mut self,
+        careof: Address,
+        agent: Address,
+        identifier: u16,
+        packet: Bytes,
+    ) -> Result<(), Memory>
+        ensures { (t : Turn) → packet ≡ solicitation_packet (home_of self.old.known) careof agent identifier → Shows self.old t
+            → OnOk result (Shows self.new (noted (Sends (Solicits (home_of self.old.known) careof agent identifier)) t)) }
+    {
+        let shield = shield_to(self.known.home, agent);
+        self.answers.push(Answer::Send { shield, packet })?;
+        self.known.solicitations = self.known.solicitations.wrapping_add(1);
+        Ok(())
+    }
+
+    /// The identifier of the next Mobile Prefix Solicitation.
+    pub fn next_solicitation(&self) -> u16
+        ensures { result ≡ self.now.known.solicitations }
+    {
+        self.known.solicitations
+    }
+
+    /// The agent of the registration that stands.
+    pub fn registered_agent(&self) -> Option<Address>
+        ensures { result ≡ registered_agent self.now.known self.now.moment }
+    {
+        agent_of(self.known.registered, None, self.moment)
+    }
+
     /// The home address.
     pub fn home(&self) -> Address
         ensures value { result ≡ home_of self.now.known }
@@ -463,11 +488,7 @@ fn shield_to(home: Address, agent: Address) -> Option<Shield>
 }
 
 /// The agent of a registration that stands, else the one to which the last registration went.
-fn agent_of(
-    registered: Option<Registered>,
-    agent: Option<Address>,
-    now: Moment,
-) -> Option<Address>
+fn agent_of(registered: Option<Registered>, agent: Option<Address>, now: Moment) -> Option<Address>
     ensures { result ≡ option_or (option_map (λ r. r.agent) (standing_registration now.0 registered)) agent }
 {
     match registered {

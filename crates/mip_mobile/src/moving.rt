@@ -19,24 +19,14 @@ pub fn address_under(home: Address, prefix: Prefix) -> Address
 }
 
 /// The address that it has under a prefix is used, unless somebody else holds it.
-pub fn arrive(
-    alloc: Global,
-    desk: &mut Desk,
-    prefix: Prefix,
-    claim: Claim,
-) -> Result<(), Memory>
+pub fn arrive(alloc: Global, desk: &mut Desk, prefix: Prefix, claim: Claim) -> Result<(), Memory>
     ensures { (t : Turn) → Shows desk.old t → OnOk result (Shows desk.new (arrives prefix.0 claim t)) }
 {
     let address = address_under(desk.home(), prefix);
     arrive_at(alloc, desk, address, claim)
 }
 
-fn arrive_at(
-    alloc: Global,
-    desk: &mut Desk,
-    address: Address,
-    claim: Claim,
-) -> Result<(), Memory>
+fn arrive_at(alloc: Global, desk: &mut Desk, address: Address, claim: Claim) -> Result<(), Memory>
     ensures { (t : Turn) → Shows desk.old t → OnOk result (Shows desk.new (arrives_by claim address t)) }
 {
     match claim {

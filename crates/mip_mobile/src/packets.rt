@@ -2,7 +2,7 @@
 
 ghost use Rattle.std.specs.Prelude.{◌≡◌, IsTrue, IfOk};
 ghost use Rattle.mip_words.specs.Addresses.{is_routable};
-ghost use Rattle.mip_rules_mobile.specs.Sendings.{agents_of, registration_packet, deregistration_packet, discovery_packet};
+ghost use Rattle.mip_rules_mobile.specs.Sendings.{agents_of, registration_packet, deregistration_packet, discovery_packet, solicitation_packet};
 
 use mip_constants::MAX_HOME_LIFETIME;
 use mip_constants::protocol::{ICMPV6, MOBILITY_HEADER};
@@ -86,4 +86,22 @@ pub fn write_discovery(
     let message = PlainIcmp::DiscoverAsk { identifier };
     let body = write_icmp(alloc, careof, agents, &message)?;
     write_data_packet(alloc, &straight(careof, agents, ICMPV6), body.as_slice())
+}
+
+/// A Mobile Prefix Solicitation.
+#[tactic(auto, unfolding(mip_rules_mobile::specs::Sendings::solicitation_packet))]
+pub fn write_solicitation(
+    alloc: Global,
+    home: Address,
+    careof: Address,
+    agent: Address,
+    identifier: u16,
+) -> Result<Bytes, Memory>
+    requires { IsTrue (is_routable home.0) }
+    ensures { IfOk result (λ b. b ≡ solicitation_packet home careof agent identifier) }
+{
+    let message = PlainIcmp::PrefixAsk { identifier };
+    let body = write_icmp(alloc, home, agent, &message)?;
+    let head = node_head(careof, agent, None, Some(home), ICMPV6);
+    write_data_packet(alloc, &head, body.as_slice())
 }

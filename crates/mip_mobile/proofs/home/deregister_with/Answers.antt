@@ -1,4 +1,4 @@
-use Rattle.std.proofs.Common.{sym, ap, ◌∙◌, ℕ, List, ◌≡◌, subst}
+use Rattle.std.proofs.Common.{sym, ap, ◌∙◌, ℕ, subst}
 use Rattle.mip_words.specs.declared.address.Address.{Address}
 use Rattle.mip_bulist.specs.declared.work.Work.TheVariants.{Own}
 use Rattle.mip_rules_mobile.specs.Sendings.{DeregistersHome, deregistration_packet}

@@ -1,11 +1,9 @@
-use Rattle.std.proofs.Common.{sym, ap, ◌∙◌, ℕ, List, ◌≡◌, subst, OnOk, refl}
-use Rattle.std.specs.Prelude.{Option, Some, None}
-use Rattle.mip_words.specs.declared.address.Address.{Address}
-use Rattle.mip_rules_mobile.specs.Known.{Known}
-use Rattle.mip_rules_mobile.specs.Turns.{Turn, noted}
+use Rattle.std.proofs.Common.{sym, ap, ◌∙◌, subst, OnOk}
+use Rattle.std.specs.Prelude.{Option}
+use Rattle.mip_rules_mobile.specs.Turns.{Turn}
 use Rattle.mip_mobile.specs.Seen.{Shows}
 use Rattle.mip_mobile.proofs.Noted.{shows-known}
-use Rattle.mip_mobile.proofs.HomeShows.{registers-some, registers-none, resends-by, resends-nothing, ask-short}
+use Rattle.mip_mobile.proofs.HomeShows.{registers-some, registers-none}
 use Rattle.mip_rules_mobile.specs.declared.home_update.HomeUpdate.{HomeUpdate}
 use Rattle.mip_rules_mobile.specs.HomeRules.{wait_behind}
 use Rattle.mip_mobile.proofs.home.register.Goals as goal

@@ -1,11 +1,9 @@
-use Rattle.std.proofs.Common.{sym, ap, ◌∙◌, ℕ, List, ◌≡◌, subst, OnOk, refl}
-use Rattle.std.specs.Prelude.{Option, Some, None}
-use Rattle.mip_words.specs.declared.address.Address.{Address}
-use Rattle.mip_rules_mobile.specs.Known.{Known}
-use Rattle.mip_rules_mobile.specs.Turns.{Turn, noted}
+use Rattle.std.proofs.Common.{sym, ◌∙◌, subst, OnOk, refl}
+use Rattle.std.specs.Prelude.{Some, None}
+use Rattle.mip_rules_mobile.specs.Turns.{Turn}
 use Rattle.mip_mobile.specs.Seen.{Shows}
 use Rattle.mip_mobile.proofs.Noted.{shows-known}
-use Rattle.mip_mobile.proofs.HomeShows.{registers-some, registers-none, resends-by, resends-nothing, ask-short}
+use Rattle.mip_mobile.proofs.HomeShows.{resends-by, resends-nothing}
 use Rattle.mip_mobile.proofs.home.resend_home.Goals as goal
 
 pub returns-in-Some : goal.returns-in-Some

@@ -1,11 +1,9 @@
-use Rattle.std.proofs.Common.{sym, ap, ◌∙◌, ℕ, List, ◌≡◌, subst, OnOk, refl}
-use Rattle.std.specs.Prelude.{Option, Some, None}
+use Rattle.std.proofs.Common.{sym, ap, ◌∙◌, ℕ, subst, refl}
 use Rattle.mip_words.specs.declared.address.Address.{Address}
 use Rattle.mip_rules_mobile.specs.Known.{Known}
-use Rattle.mip_rules_mobile.specs.Turns.{Turn, noted}
+use Rattle.mip_rules_mobile.specs.Turns.{noted}
 use Rattle.mip_mobile.specs.Seen.{Shows}
 use Rattle.mip_mobile.proofs.Noted.{shows-known}
-use Rattle.mip_mobile.proofs.HomeShows.{registers-some, registers-none, resends-by, resends-nothing, ask-short}
 use Rattle.mip_bulist.specs.declared.work.Work.TheVariants.{Own}
 use Rattle.mip_rules_mobile.specs.Sendings.{Discovers, discovery_packet}
 use Rattle.mip_rules_mobile.specs.HomeQuestions.{home_of}

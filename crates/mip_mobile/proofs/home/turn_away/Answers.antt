@@ -1,12 +1,10 @@
-use Rattle.std.proofs.Common.{sym, ap, ◌∙◌, ℕ, List, ◌≡◌, ◌+◌, ◌<◌, subst, OnOk, refl}
-use Rattle.std.specs.Prelude.{Option, Some, None, IfSome, ◌^◌}
-use Rattle.mip_words.specs.declared.address.Address.{Address}
-use Rattle.mip_rules_mobile.specs.declared.standing.Standing.TheVariants.{Detached, AtHome, Away}
+use Rattle.std.proofs.Common.{sym, ◌+◌, ◌<◌, subst, OnOk}
+use Rattle.std.specs.Prelude.{IfSome, ◌^◌}
 use Rattle.mip_rules_mobile.specs.Known.{Known}
 use Rattle.mip_rules_mobile.specs.Turns.{Turn, noted}
-use Rattle.mip_mobile.specs.Seen.{DeskSeen, Shows}
-use Rattle.mip_mobile.proofs.Noted.{shows-known, shows-moment}
-use Rattle.mip_mobile.proofs.HomeShows.{refused-by, settles-by, undoes-by, arrives-by}
+use Rattle.mip_mobile.specs.Seen.{Shows}
+use Rattle.mip_mobile.proofs.Noted.{shows-known}
+use Rattle.mip_mobile.proofs.HomeShows.{refused-by}
 use Rattle.mip_rules_mobile.specs.Steps.{IsRefused}
 use Rattle.mip_mobile.proofs.home.turn_away.Goals as goal
 

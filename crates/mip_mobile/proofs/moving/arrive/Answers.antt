@@ -1,12 +1,9 @@
-use Rattle.std.proofs.Common.{sym, ap, ◌∙◌, ℕ, List, ◌≡◌, ◌+◌, ◌<◌, subst, OnOk, refl}
-use Rattle.std.specs.Prelude.{Option, Some, None, IfSome, ◌^◌}
+use Rattle.std.proofs.Common.{ap, ◌∙◌, subst, OnOk}
 use Rattle.mip_words.specs.declared.address.Address.{Address}
-use Rattle.mip_rules_mobile.specs.declared.standing.Standing.TheVariants.{Detached, AtHome, Away}
-use Rattle.mip_rules_mobile.specs.Known.{Known}
-use Rattle.mip_rules_mobile.specs.Turns.{Turn, noted}
-use Rattle.mip_mobile.specs.Seen.{DeskSeen, Shows}
-use Rattle.mip_mobile.proofs.Noted.{shows-known, shows-moment}
-use Rattle.mip_mobile.proofs.HomeShows.{refused-by, settles-by, undoes-by, arrives-by}
+use Rattle.mip_rules_mobile.specs.Turns.{Turn}
+use Rattle.mip_mobile.specs.Seen.{Shows}
+use Rattle.mip_mobile.proofs.Noted.{shows-known}
+use Rattle.mip_mobile.proofs.HomeShows.{arrives-by}
 use Rattle.mip_rules_mobile.specs.MovingRules.{address_under}
 use Rattle.mip_mobile.proofs.moving.arrive.Goals as goal
 

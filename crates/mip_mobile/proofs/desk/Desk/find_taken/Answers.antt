@@ -1,9 +1,6 @@
-use Rattle.std.proofs.Common.{refl, sym, ap, ◌∙◌, ℕ, List, ◌≡◌}
-use Rattle.std.proofs.lemmas.List.{append-nil}
-use Rattle.mip_bulist.specs.Lists.{ListSeen}
+use Rattle.std.proofs.Common.{refl}
 use Rattle.mip_rules_mobile.specs.Questions.{after}
 use Rattle.mip_rules_mobile.specs.Steps.{FindsTaken}
-use Rattle.mip_rules_mobile.specs.Known.{Known}
 use Rattle.mip_mobile.specs.Seen.{seen}
 use Rattle.mip_mobile.proofs.Noted.{shown}
 use Rattle.mip_mobile.proofs.desk.Desk.find_taken.Goals as goal

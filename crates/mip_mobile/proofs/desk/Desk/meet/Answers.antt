@@ -1,9 +1,8 @@
-use Rattle.std.proofs.Common.{refl, sym, ap, ◌∙◌, ℕ, List, ◌≡◌}
+use Rattle.std.proofs.Common.{sym, ap}
 use Rattle.std.proofs.lemmas.List.{append-nil}
 use Rattle.mip_bulist.specs.Lists.{ListSeen}
 use Rattle.mip_rules_mobile.specs.Questions.{after}
 use Rattle.mip_rules_mobile.specs.Steps.{Meets}
-use Rattle.mip_rules_mobile.specs.Known.{Known}
 use Rattle.mip_mobile.specs.Seen.{seen}
 use Rattle.mip_mobile.proofs.Noted.{shown}
 use Rattle.mip_mobile.proofs.desk.Desk.meet.Goals as goal
