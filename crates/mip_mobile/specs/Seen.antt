@@ -8,6 +8,7 @@ use Rattle.mip_rules_mobile.specs.Known.{Known}
 use Rattle.mip_rules_mobile.specs.HomeQuestions.{home_of}
 use Rattle.mip_rules_mobile.specs.Turns.{Turn, ShowsAt}
 use Rattle.mip_mobile.specs.declared.kept.Kept.{Kept}
+use Rattle.mip_mobile.specs.Mine.{AreMine}
 
 -- what is kept, as the rules know it
 abbrev pub seen : Kept → Known
@@ -40,12 +41,13 @@ pub record DeskSeen : Type 0 where
   pub answers : List Answer
 
 -- the moment is no later than a clock says, the correspondent part's last call no later than that, and the home address
--- may stand in an option
+-- may stand in an option, and each trial is with its row's peer
 pub record IsSound (d : DeskSeen) (address : Address) : Type 0 where
   pub own : address ≡ home_of d.known
   pub early : d.moment < 2 ^ 62
   pub later : d.known.part.known.last.0 ≤ d.moment
   pub home : is_routable (home_of d.known).0 ≡ true
+  pub mine : AreMine d.known.list.rows
 
 -- the desk shows a turn
 abbrev pub Shows : DeskSeen → Turn → Type 0

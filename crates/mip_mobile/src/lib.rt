@@ -4,12 +4,14 @@
 mod agents;
 mod asking;
 mod desk;
+mod heard;
 mod home;
 mod kept;
 mod moving;
 mod numberings;
 mod packets;
 mod ringing;
+mod trial;
 
 pub use desk::Desk;
 pub use kept::Kept;
