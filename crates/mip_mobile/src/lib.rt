@@ -10,8 +10,10 @@ mod kept;
 mod moving;
 mod numberings;
 mod packets;
+mod peers;
 mod ringing;
 mod trial;
+mod trials;
 
 pub use desk::Desk;
 pub use kept::Kept;
