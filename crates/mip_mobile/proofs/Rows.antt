@@ -1,11 +1,10 @@
 -- A row whose trial is changed.
 use Rattle.std.proofs.Common.{◌≡◌, ℕ, zero, suc, List, [], ◌∷◌, ◌++◌, length, nat_lt, Bool, true, false, refl, sym, ap, ◌∙◌, subst}
-use Rattle.std.specs.Prelude.{Option, Some, None, IfSome, Result, Ok, Err, not, ◌==◌, ◌&&◌, if◌then◌else◌, slice_get}
+use Rattle.std.specs.Prelude.{Option, Some, None, IfSome, Ok, Err, not, ◌==◌, if◌then◌else◌, slice_get}
 use Rattle.std.proofs.lemmas.Bool.{eq-eqb, eqb-true, eqb-false}
 use Rattle.mip_words.specs.declared.address.Address.{Address}
 use Rattle.mip_words.specs.declared.moment.Moment.{Moment}
-use Rattle.mip_bulist.specs.declared.aim.Aim.{Aim}
-use Rattle.mip_bulist.specs.declared.aim.Aim.TheVariants.{Bind, Delete}
+use Rattle.mip_bulist.specs.declared.aim.Aim.TheVariants.{Bind}
 use Rattle.mip_bulist.specs.declared.any.Any.{Any}
 use Rattle.mip_bulist.specs.declared.any.Any.TheVariants.{Idle, Probing, Proved, Pending, Bound}
 use Rattle.mip_bulist.specs.declared.row.Row.{Row}
@@ -13,7 +12,6 @@ use Rattle.mip_bulist.specs.Lists.{ListSeen}
 use Rattle.mip_bulist.specs.Rows.{lifted, peer_at, peer_of_any, with_trial, set_trial, takes_at, with_row, rows_given, row_place, new_row}
 use Rattle.mip_bulist.specs.declared.refused.Refused.TheVariants as refused
 use Rattle.mip_bulist.specs.declared.state.Probing as probing
-use Rattle.mip_bulist.specs.declared.tested.Test.{Test}
 use Rattle.mip_bulist.specs.declared.tested.Tested.{Tested}
 use Rattle.mip_bulist.specs.declared.tested.Tested.TheVariants.{Both, Home}
 use Rattle.mip_bulist.specs.declared.trial.Ended.TheVariants as ends

@@ -1,10 +1,13 @@
 //! The steps of a call that change a row: its trial, and what else is kept of its peer.
 
-ghost use Rattle.std.specs.Prelude.{◌≡◌, ◌+◌, ◌%◌, ◌<◌, ◌^◌, OnOk};
+ghost use Rattle.std.specs.Prelude.{◌≡◌, ◌+◌, ◌%◌, ◌<◌, ◌^◌, OnOk, Some};
+ghost use Rattle.mip_bulist.specs.declared.work.Work.{Work};
 ghost use Rattle.mip_bulist.specs.declared.work.Work.TheVariants.{Resend};
 ghost use Rattle.mip_rules_mobile.specs.Trials.{Start, HomeTest, CareofTest, Resequence, Acknowledge, Rest};
+ghost use Rattle.mip_bulist.specs.Timers.{due_work};
+ghost use Rattle.mip_rules_mobile.specs.TimerQuestions.{moment};
 ghost use Rattle.mip_rules_mobile.specs.RowQuestions.{drawn_for};
-ghost use Rattle.mip_rules_mobile.specs.Steps.{Tries, Forgets, Binds, Unbinds, Waits};
+ghost use Rattle.mip_rules_mobile.specs.Steps.{Tries, Forgets, Binds, Unbinds, Waits, Rings};
 ghost use Rattle.mip_rules_mobile.specs.Turns.{Turn, noted};
 ghost use Rattle.mip_mobile.specs.Seen.{Shows};
 
@@ -48,6 +51,28 @@ impl Desk {
         self.known.cookies = self.known.cookies.wrapping_add(drawn_for(aim));
     }
 
+    /// The trial of a row is given a Home Test.
+    pub fn keep_home(&mut self, row: u8, test: &Heard)
+        ensures { (t : Turn) → Shows self.old t → Shows self.new (noted (Tries row (HomeTest test.now.peer test.now.cookie (record { index = test.now.index; token = test.now.token; at = record { 0 = self.old.moment } }))) t) }
+    {
+        trial::keep_home_test(&mut self.known.list, row, self.moment, test);
+    }
+
+    /// The trial of a row is given a Care-of Test.
+    pub fn keep_careof(&mut self, row: u8, test: &Heard)
+        ensures { (t : Turn) → Shows self.old t → Shows self.new (noted (Tries row (CareofTest test.now.peer test.now.cookie (record { index = test.now.index; token = test.now.token; at = record { 0 = self.old.moment } }))) t) }
+    {
+        trial::keep_careof_test(&mut self.known.list, row, self.moment, test);
+    }
+
+    /// Takes the first work, where it is due.
+    pub fn ring(&mut self) -> Option<Work>
+        ensures work { result ≡ due_work (moment self.old.moment) self.old.known.list.timers }
+        ensures shows { (work : Work) (t : Turn) → result ≡ Some work → Shows self.old t → Shows self.new (noted (Rings work) t) }
+    {
+        self.known.list.pop(self.moment)
+    }
+
     /// A deletion of a row's binding was acknowledged.
     pub fn forget(&mut self, row: u8)
         ensures { (t : Turn) → Shows self.old t → Shows self.new (noted (Forgets row) t) }
@@ -71,10 +96,8 @@ impl Desk {
     pub fn unbind(&mut self, row: u8, peer: Address) -> Result<(), Memory>
         ensures { (t : Turn) → Shows self.old t → OnOk result (Shows self.new (noted (Unbinds row peer) t)) }
     {
-        self.answers.push(Answer::Note(Entry::Unbound {
-            node: MYSELF,
-            peer,
-        }))?;
+        self.answers
+            .push(Answer::Note(Entry::Unbound { node: MYSELF, peer }))?;
         peers::unbind(&mut self.known.peers, row as usize);
         let _renewing = self.known.list.stop(Work::Renew(row));
         let _ending = self.known.list.stop(Work::End(row));
@@ -82,13 +105,7 @@ impl Desk {
     }
 
     /// A row's binding is acknowledged, until an end, to be renewed at a moment.
-    pub fn bind(
-        &mut self,
-        row: u8,
-        peer: Address,
-        end: Moment,
-        renew: Moment,
-    ) -> Result<(), Memory>
+    pub fn bind(&mut self, row: u8, peer: Address, end: Moment, renew: Moment) -> Result<(), Memory>
         requires { row < 16 }
         ensures { (t : Turn) → Shows self.old t → OnOk result (Shows self.new (noted (Binds row peer end renew) t)) }
     {

@@ -1,16 +1,10 @@
-use Rattle.std.proofs.Common.{refl, sym, ap, ◌∙◌, ℕ, List, ◌≡◌, ◌+◌, ◌%◌, subst}
-use Rattle.std.specs.Prelude.{Option, Some, None, ◌^◌}
+use Rattle.std.proofs.Common.{sym, ap, subst}
 use Rattle.std.proofs.lemmas.List.{append-nil}
 use Rattle.mip_bulist.specs.Lists.{ListSeen}
-use Rattle.mip_bulist.specs.Timers.{with_timer, without_timer}
-use Rattle.mip_bulist.specs.declared.work.Work.TheVariants as works
-use Rattle.mip_rules_mobile.specs.declared.peer.Peer.{Peer}
-use Rattle.mip_rules_mobile.specs.Trials.{Start, HomeTest, CareofTest, Make, Resequence, Acknowledge, Rest}
-use Rattle.mip_rules_mobile.specs.RowQuestions.{drawn_for, with_peer, forgotten, bound_until, unbound, waiting}
-use Rattle.mip_rules_mobile.specs.TimerQuestions.{later}
+use Rattle.mip_rules_mobile.specs.Trials.{Acknowledge}
 use Rattle.mip_rules_mobile.specs.Questions.{after}
-use Rattle.mip_rules_mobile.specs.Steps.{Tries, Updates, Forgets, Binds, Unbinds, Waits, Rings}
-use Rattle.mip_mobile.specs.Seen.{DeskSeen, seen}
+use Rattle.mip_rules_mobile.specs.Steps.{Tries}
+use Rattle.mip_mobile.specs.Seen.{seen}
 use Rattle.mip_mobile.specs.Mine.{AreMine}
 use Rattle.mip_mobile.proofs.Noted.{shown}
 use Rattle.mip_mobile.proofs.Rows.{mine-changed}
