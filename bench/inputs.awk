@@ -9,6 +9,9 @@ BEGIN {
         for (i = 0; i < 9000; i++) print "inject o n2 " packet("3b", "")
         for (i = 0; i < 200; i++) print "carry 1000"
     }
+    else if (what == "listeners") listeners(events)
+    else if (what == "data") { head(); for (i = 0; i < events / 2; i++) { print "data c " home(i) " 253 " bytes_of("5a", 500); print "deliver " i } }
+    else if (what == "lost") { head(); for (i = 0; i < events / 2; i++) { print "data c " home(i) " 253 68656c6c6f"; print "lose " i } }
     else if (what == "spaces") printf "mip 1\nseed %s\n", bytes_of(" ", 16777200)
     else if (what == "options") print packet("3c", "3bff" bytes_of("00", 2046))
     else if (what == "message") print packet("87", with_sum(135, "3bff0000" "0000" "0000" bytes_of("00", 2040), 4))
@@ -48,31 +51,43 @@ function with_sum(proto, body, at,    text, sum, i) {
     return substr(body, 1, 2 * at) hex(65535 - sum, 4) substr(body, 2 * at + 5)
 }
 
-function head() {
+function home(i) { return "20010db80001000000000000000001" hex(i % 64, 2) }
+
+# Three links, or more, and an outsider, or more.
+function head(links, outsiders,    i) {
     print "mip 1"
     print "seed 000102030405060708090a0b0c0d0e0f101112131415161718191a1b1c1d1e1f"
     print "start 0"
-    print "link n1 20010db800010000"
-    print "link n2 20010db800020000"
-    print "link n3 20010db800030000"
+    for (i = 1; i <= 3 || i <= links; i++) print "link n" i " 20010db8000" i "0000"
     print "correspondent c n2 " peer " 64"
     print "outsider o"
+    for (i = 1; i < outsiders; i++) print "outsider o" i
     print "run"
 }
 
+# Eight outsiders listen on eight links each, and hear test inits and their tests.
+function listeners(events,    i, j) {
+    head(8, 8)
+    for (i = 0; i < 8; i++) for (j = 1; j <= 8; j++) print "listen o" (i ? i : "") " n" j
+    for (i = 0; i < (events - 64) / 2; i++) {
+        print "probe o n1 home " home(i) " " peer " 0102030405060708"
+        print "deliver " 2 * i
+    }
+}
+
 # Rounds of ten events: two test inits and their tests, an update that is accepted, data, a loss, deliveries, a wait.
-function mixed(events,    round, k, home) {
+function mixed(events,    round, k, own) {
     head()
     for (round = 0; round < events / 10; round++) {
         k = 7 * round
-        home = "20010db80001000000000000000001" hex(round % 64, 2)
-        print "probe o n1 home " home " " peer " 0102030405060708"
+        own = home(round)
+        print "probe o n1 home " own " " peer " 0102030405060708"
         print "probe o n3 careof " careof " " peer " 1112131415161718"
         print "deliver " k
         print "deliver " k + 1
-        print "bind o n3 " careof " " peer " " home " " careof " " int(round / 64) + 1 " 105 " k + 2 " " k + 3
+        print "bind o n3 " careof " " peer " " own " " careof " " int(round / 64) + 1 " 105 " k + 2 " " k + 3
         print "deliver " k + 4
-        print "data c " home " 253 68656c6c6f"
+        print "data c " own " 253 68656c6c6f"
         print "lose " k + 2
         print "carry 3"
         print "wait 4000"

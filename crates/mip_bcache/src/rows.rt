@@ -1,6 +1,6 @@
 //! Rows in order of home.
 
-ghost use Rattle.std.specs.Prelude.{◌≡◌, ◌+◌, ◌≤◌, ◌++◌, length, option_copied, option_map, IfOk, IfErr, IfSome, OnOk, OnErr, slice_get};
+ghost use Rattle.std.specs.Prelude.{◌≡◌, ◌+◌, ◌≤◌, ◌++◌, ◌==◌, length, option_copied, option_map, IfOk, IfErr, IfSome, OnOk, OnErr, slice_get};
 ghost use Rattle.mip_binding.specs.Rows.{RisesBy, find_by, put_by, kept_by};
 ghost use Rattle.mip_bcache.specs.Seen.{home_of, until_of, if_standing, no_room, IsPlace, IsGap};
 
@@ -47,7 +47,17 @@ pub fn are_full(rows: &[Row], limit: u32, now: Moment, home: Address) -> bool
     requires { RisesBy home_of rows.now }
     ensures { result ≡ no_room limit home.0 (kept_by until_of now.0 rows.now) }
 {
-    kept_row(rows, now, home).is_none() && kept_count(rows, now) == limit as usize
+    kept_row(rows, now, home).is_none() && are_so_many(rows, now, limit)
+}
+
+/// Whether so many rows are kept. They are counted only where there are so many rows.
+fn are_so_many(rows: &[Row], now: Moment, limit: u32) -> bool
+    ensures { result ≡ (length (kept_by until_of now.0 rows.now) == limit) }
+{
+    if rows.len() < limit as usize {
+        return false;
+    }
+    kept_count(rows, now) == limit as usize
 }
 
 /// How many rows are kept.

@@ -13,6 +13,7 @@ mod recent;
 mod refused;
 mod row;
 mod rows;
+mod run_laws;
 mod state;
 mod tested;
 mod timer;
@@ -31,6 +32,7 @@ pub use list_laws::{
 };
 pub use made::Made;
 pub use refused::Refused;
+pub use run_laws::each_update_of_a_trial_is_right;
 pub use state::{Bound, Idle, Pending, Probing, Proved, State};
 pub use trial::{Ended, Probe, Trial};
 pub use work::Work;

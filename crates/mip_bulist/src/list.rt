@@ -1,6 +1,6 @@
 ghost use Rattle.std.specs.Prelude.{◌≡◌, [], IfOk};
 ghost use Rattle.mip_bulist.specs.Timers.{AreInOrder, IsInRange, is_set, without_timer, with_timer, due_work, without_due, first_due};
-ghost use Rattle.mip_bulist.specs.Rows.{given_row, with_row, peer_at, lifted, with_trial, laid, rows_laid};
+ghost use Rattle.mip_bulist.specs.Rows.{AreOfDifferentPeers, given_row, with_row, peer_at, lifted, with_trial, laid, rows_laid};
 
 use crate::any::Any;
 use crate::list_full::ListFull;
@@ -52,7 +52,8 @@ impl List {
 
     /// The peer of a row. `None` exactly where the row is not made.
     pub fn peer(&self, row: u8) -> Option<Address>
-        ensures { result ≡ peer_at row self.now.rows }
+        ensures different { AreOfDifferentPeers self.now.rows }
+        ensures peer { result ≡ peer_at row self.now.rows }
     {
         rows::peer_at(&self.rows, row as usize)
     }

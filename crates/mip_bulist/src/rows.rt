@@ -1,7 +1,7 @@
 //! Rows in the order in which they were made.
 
 ghost use Rattle.std.specs.Prelude.{◌≡◌, ◌≤◌, ◌<◌, ◌++◌, ◌∷◌, [], length, vec_capacity, IfSome, IsTrue};
-ghost use Rattle.mip_bulist.specs.Rows.{new_row, row_place, takes_at, peer_at, given_row, with_row, lifted, with_trial, laid, rows_laid};
+ghost use Rattle.mip_bulist.specs.Rows.{AreOfDifferentPeers, new_row, row_place, takes_at, peer_at, given_row, with_row, lifted, with_trial, laid, rows_laid};
 
 use crate::any::Any;
 use crate::list_full::ListFull;
@@ -23,9 +23,23 @@ fn find(rows: &[Row], peer: Address) -> Option<usize>
 /// The row of a peer, made where new. It takes no memory.
 pub fn give(rows: &mut Vec<Row>, peer: Address) -> Result<u8, ListFull>
     requires few { length rows.old.items ≤ 16 }
+    requires peers { AreOfDifferentPeers rows.old.items }
     requires room { 16 ≤ vec_capacity rows.old }
     ensures given { result ≡ given_row peer rows.old.items }
     ensures rows { rows.new.items ≡ with_row peer rows.old.items }
+    ensures few { length rows.new.items ≤ 16 }
+    ensures peers { AreOfDifferentPeers rows.new.items }
+    ensures room { 16 ≤ vec_capacity rows.new }
+{
+    find_or_make(rows, peer)
+}
+
+fn find_or_make(rows: &mut Vec<Row>, peer: Address) -> Result<u8, ListFull>
+    requires few { length rows.old.items ≤ 16 }
+    requires room { 16 ≤ vec_capacity rows.old }
+    ensures given { result ≡ given_row peer rows.old.items }
+    ensures rows { rows.new.items ≡ with_row peer rows.old.items }
+    ensures few { length rows.new.items ≤ 16 }
     ensures room { vec_capacity rows.old ≤ vec_capacity rows.new }
 {
     if let Some(at) = find(rows, peer) {
@@ -61,7 +75,19 @@ pub fn peer_at(rows: &[Row], row: usize) -> Option<Address>
 }
 
 /// Takes a row's trial out.
-pub fn lift(rows: &mut [Row], row: usize) -> Option<Any>
+pub fn lift(rows: &mut Vec<Row>, row: usize) -> Option<Any>
+    requires few { length rows.old.items ≤ 16 }
+    requires peers { AreOfDifferentPeers rows.old.items }
+    ensures trial { result ≡ lifted row rows.old.items }
+    ensures rows { rows.new.items ≡ with_trial row None rows.old.items }
+    ensures few { length rows.new.items ≤ 16 }
+    ensures peers { AreOfDifferentPeers rows.new.items }
+    ensures room { vec_capacity rows.new ≡ vec_capacity rows.old }
+{
+    take_out(rows, row)
+}
+
+fn take_out(rows: &mut [Row], row: usize) -> Option<Any>
     ensures trial { result ≡ lifted row rows.old }
     ensures rows { rows.new ≡ with_trial row None rows.old }
 {
@@ -73,7 +99,19 @@ pub fn lift(rows: &mut [Row], row: usize) -> Option<Any>
 }
 
 /// Puts a trial back.
-pub fn lay(rows: &mut [Row], row: usize, trial: Any) -> Result<(), Any>
+pub fn lay(rows: &mut Vec<Row>, row: usize, trial: Any) -> Result<(), Any>
+    requires few { length rows.old.items ≤ 16 }
+    requires peers { AreOfDifferentPeers rows.old.items }
+    ensures answer { result ≡ laid row trial rows.old.items }
+    ensures rows { rows.new.items ≡ rows_laid row trial rows.old.items }
+    ensures few { length rows.new.items ≤ 16 }
+    ensures peers { AreOfDifferentPeers rows.new.items }
+    ensures room { vec_capacity rows.new ≡ vec_capacity rows.old }
+{
+    put_in(rows, row, trial)
+}
+
+fn put_in(rows: &mut [Row], row: usize, trial: Any) -> Result<(), Any>
     ensures answer { result ≡ laid row trial rows.old }
     ensures rows { rows.new ≡ rows_laid row trial rows.old }
 {

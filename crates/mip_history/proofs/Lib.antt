@@ -1,17 +1,17 @@
 mod Quiet
-mod Runs
-mod Posts
+pub mod Runs
+pub mod Posts
 mod Turns
-mod Numbered
+pub mod Numbered
 mod Handing
 mod Deliveries
 mod Events
 mod Places
 mod LastOnes
-mod Bindings
-mod Histories
+pub mod Bindings
+pub mod Histories
 mod Rounds
-mod Moments
+pub mod Moments
 mod Kept
 mod SameUpdates
 mod Repeats

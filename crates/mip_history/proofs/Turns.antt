@@ -1,8 +1,8 @@
 -- A turn of a node keeps a run, whether an update is accepted in it or not.
 use Rattle.std.proofs.Common.{◌≡◌, ◌≢◌, ℕ, ◌<◌, ◌≤◌, List, [], ◌∷◌, ◌++◌, Bool, true, false, length, inl, inr, refl, sym, ap, ◌∙◌, subst, arith, length-set}
-use Rattle.std.specs.Prelude.{fold, unwrap_or, ◌==◌, if◌then◌else◌}
+use Rattle.std.specs.Prelude.{fold, unwrap_or, option_map, ◌||◌, ◌==◌, if◌then◌else◌}
 use Rattle.std.specs.List.{list_any, AllByRecursion}
-use Rattle.std.proofs.lemmas.List.{append-nil, get_or-set_same, get_or-set_other}
+use Rattle.std.proofs.lemmas.List.{append-nil, append_assoc, get_or-set_same, get_or-set_other}
 use Rattle.std.proofs.lemmas.List.Concat.{flat_map-append}
 use Rattle.std.proofs.lemmas.List.Sums.{fold-append}
 use Rattle.std.proofs.lemmas.List.Elements.{filter_map-append}
@@ -19,12 +19,19 @@ use Rattle.mip_turns.proofs.PastLaws.{rises_turn}
 use Rattle.mip_rules_correspondent.specs.Calls.{Call}
 use Rattle.mip_rules_correspondent.specs.Steps.{Step, Called, Accepts, answers_of, is_acceptance}
 use Rattle.mip_rules_correspondent.specs.Pasts.{acceptance_in, accepted_in}
+use Rattle.mip_nonce.specs.Window.{index_of}
+use Rattle.mip_entries.specs.Completed.{node_id}
+use Rattle.mip_marks.specs.declared.accepted_update.AcceptedUpdate.{AcceptedUpdate}
+use Rattle.mip_marks.specs.declared.mark.Mark.{Mark}
+use Rattle.mip_marks.specs.declared.mark.Mark.TheVariants.{Origin, Forged}
+use Rattle.mip_marks.specs.Entries.{mark_entry}
+use Rattle.mip_marks.specs.Marks.{mark_in}
 use Rattle.mip_history.specs.Setup.{Setup}
 use Rattle.mip_history.specs.Runs.{Run, with_past}
 use Rattle.mip_history.specs.Questions.{moment_says, moment_in, restarts, life_in}
 use Rattle.mip_history.specs.Nodes.{answered, past_at}
 use Rattle.mip_history.specs.Bound.{Lived, lived, accepted_by, packet_posted, packets_of, IsAccepted, accepted_entry}
-use Rattle.mip_history.proofs.Runs.{Meets, IsKept, IsPast, IsRun, IsQuiet, Goes, goes_quietly, goes_then}
+use Rattle.mip_history.proofs.Runs.{Meets, IsKept, IsPast, IsRun, IsQuiet, Goes, goes_quietly, goes_then, quiet_then, quiet_notes, is_met}
 use Rattle.mip_history.proofs.Posts.{quiet_steps}
 
 -- the moment that goes along with the acceptances is the moment
@@ -89,6 +96,11 @@ accepted_other start m n k past home a other =
     by : (l : Lived) (b : Bool) → b ≡ false → (let x : Lived = (if b then record { at = l.at; accepted = l.accepted ++ acceptance l.at home 0 a ∷ [] } else l) in x.accepted) ≡ l.accepted
     by l true is = absurd cc
     by l false is = refl
+
+-- a mark says nothing of all this
+mark_quiet : (m : Mark) → is_met (mark_entry m) ≡ false
+mark_quiet (Origin hot cot update) = refl
+mark_quiet (Forged cause) = refl
 
 -- what a node does in a turn, from the history before it
 abbrev pub done : Setup → ℕ → ℕ → ℕ → List Step → Run → Run
@@ -165,11 +177,14 @@ module _ (s : Setup) (n from : ℕ) (run : Run) (is : IsRun s run) (inside : n <
       → Goes s run (done s n from (moment_in s.start run.past) (Called call ∷ Accepts number home a ∷ rest) run)
   unfolding answered accepted_in
   accepting_turn call number home a rest none stands =
-      quietly middle (answered s n from middle (answers_of rest))
+      quietly middle (answered s n from left (answers_of rest))
       (goes_on steps past same (λ m other. accepted_other s.start m n number run.past home a other) moment kept)
       moment
       (λ m. fold-append (restarts m) 0 run.past (accepted_entry n number home a ∷ []))
-      (quiet_steps s n from middle rest none)
+      (quiet_then s middle left (answered s n from left (answers_of rest))
+      (subst (λ (l : List Entry). IsQuiet s middle (at_past l middle)) (append_assoc run.past (accepted_entry n number home a ∷ []) (mark ∷ []))
+      (quiet_notes s (mark ∷ []) middle (ap (λ (b : Bool). b || false) (mark_quiet (mark_in run.past update)))))
+      (quiet_steps s n from left rest none))
     where
       steps : List Step
       steps = Called call ∷ Accepts number home a ∷ rest
@@ -179,6 +194,16 @@ module _ (s : Setup) (n from : ℕ) (run : Run) (is : IsRun s run) (inside : n <
 
       middle : Run
       middle = at_past past (with_past n (past_at run n ++ stamped (moment_in s.start run.past) steps) run)
+
+      -- the mark that stands behind it
+      update : AcceptedUpdate
+      update = record { node = node_id n; number = number; home = home; careof = a.careof; home_index = index_of a.home_nonce; careof_index = option_map index_of a.careof_nonce }
+
+      mark : Entry
+      mark = mark_entry (mark_in run.past update)
+
+      left : Run
+      left = at_past (run.past ++ accepted_entry n number home a ∷ mark ∷ []) middle
 
       moment : moment_in s.start past ≡ moment_in s.start run.past
       moment = fold-append (λ (at : ℕ) (x : Entry). unwrap_or (moment_says x) at) s.start run.past (accepted_entry n number home a ∷ [])

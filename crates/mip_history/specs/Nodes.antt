@@ -1,5 +1,5 @@
 -- What a node does in a turn, and what becomes of it in the run.
-use Rattle.std.specs.Prelude.{ℕ, List, [], length, fold, map, Option, Some, None, is_some, unwrap_or, slice_get, slice_index_or}
+use Rattle.std.specs.Prelude.{ℕ, List, [], ◌∷◌, length, fold, map, Option, Some, None, is_some, unwrap_or, slice_get, slice_index_or}
 use Rattle.mip_bcache.specs.Seen.{kept_at}
 use Rattle.mip_bcache.specs.declared.row.Row.{Row}
 use Rattle.mip_entries.specs.declared.answer.Answer.{Answer}
@@ -15,6 +15,9 @@ use Rattle.mip_rules_correspondent.specs.Questions.{known}
 use Rattle.mip_rules_correspondent.specs.Turns.{Turn, with_turn}
 use Rattle.mip_rules_correspondent.specs.Calls.{Call}
 use Rattle.mip_rules_correspondent.specs.Doing.{turn_of}
+use Rattle.mip_marks.specs.declared.accepted_update.AcceptedUpdate.{AcceptedUpdate}
+use Rattle.mip_marks.specs.Entries.{update_accepted, mark_entry}
+use Rattle.mip_marks.specs.Marks.{mark_in}
 use Rattle.mip_links.specs.Table.{link_of}
 use Rattle.mip_words.specs.declared.address.Address.{Address}
 use Rattle.mip_history.specs.Setup.{Setup, Host, Kind}
@@ -41,12 +44,19 @@ known_in run n room = known room (past_at run n)
 abbrev pub now_in : Setup → Run → ℕ
 now_in s run = moment_in s.start run.past
 
--- one thing that node n does: a packet is posted with its `sent`, or an entry is left with its node. After an
--- `accepted` a mark of its origin will stand here
+-- after an `accepted` stands the mark of its origin
+abbrev pub marks_of : List Entry → Option AcceptedUpdate → List Entry
+marks_of past None = []
+marks_of past (Some a) = mark_entry (mark_in past a) ∷ []
+
+abbrev pub marked : Entry → Run → Run
+marked entry run = notes (entry ∷ marks_of run.past (update_accepted entry)) run
+
+-- one thing that node n does: a packet is posted with its `sent`, or an entry is left with its node
 abbrev pub answered_one : Setup → ℕ → ℕ → Run → Answer → Run
 answered_one s n from run (Send shield packet) =
     posted s (record { from = from; shield = shield; packet = packet }) None (Sent (length run.posts) (node_id n) (is_some shield) packet) run
-answered_one s n from run (Note entry) = note (named n (link_for (λ address. link_or_first s address) entry) (length run.posts) entry) run
+answered_one s n from run (Note entry) = marked (named n (link_for (λ address. link_or_first s address) entry) (length run.posts) entry) run
 
 -- what node n does, in order
 unfoldable pub answered : Setup → ℕ → ℕ → Run → List Answer → Run

@@ -1,8 +1,8 @@
 -- Bytes that may be untold, taken from the front or put to the end a piece at a time, and counts of
 -- faults over several calls.
-use Rattle.std.proofs.Common.{◌≡◌, ℕ, ◌+◌, ◌-◌, ◌≤◌, inl, inr, List, [], ◌++◌, take, drop, sym, ap, ◌∙◌, None, Some, append_assoc, append-nil, arith}
-use Rattle.std.proofs.Math.Seq.{take-add}
-use Rattle.std.proofs.lemmas.List.{take-take}
+use Rattle.std.proofs.Common.{◌≡◌, ℕ, ◌+◌, ◌-◌, ◌≤◌, inl, inr, List, [], ◌++◌, take, drop, sym, ap, ◌∙◌, None, Some, append_assoc, append-nil, refl, arith}
+use Rattle.std.proofs.Math.Seq.{take-add, drop-drop}
+use Rattle.std.proofs.lemmas.List.{take-take, take-append-drop}
 use Rattle.std.specs.Io.KnownBytes.{prepend_known, append_known}
 use Rattle.std.specs.declared.option.Option.{Option}
 use Rattle.mip_outside.specs.Cause.{Rose}
@@ -49,3 +49,17 @@ append_piece a b c l at end first next within =
 pub Rose_since : (a b c : ℕ) → a ≤ b → Rose b c → Rose a c
 Rose_since a b c before (inl rose) = inl (omega arith)
 Rose_since a b c before (inr end) = inr end
+
+-- what a sink holds and what is still to come is the same after a piece of that was put
+pub held_on : (a b c : Option (List ℕ)) (whole l : List ℕ) (at m k : ℕ) → append_known b (drop at l) ≡ append_known a whole
+    → c ≡ append_known b (take k (take m (drop at l))) → k ≤ m → append_known c (drop (at + k) l) ≡ append_known a whole
+held_on a b c whole l at m k before next within =
+    let cut : take k (take m (drop at l)) ≡ take k (drop at l) = take-take k m (drop at l) within in
+    let piece : c ≡ append_known b (take k (drop at l)) = next ∙ ap (append_known b) cut in
+    let joined : take k (drop at l) ++ drop (at + k) l ≡ drop at l = ap (λ (r : List ℕ). take k (drop at l) ++ r) (sym (drop-drop k at l)) ∙ take-append-drop k (drop at l) in
+    append_more b c (append_known c (drop (at + k) l)) (take k (drop at l)) (drop (at + k) l) piece refl ∙ ap (append_known b) joined ∙ before
+
+-- where nothing waits, a piece that goes through is the last that is held
+pub put_through : (a b : Option (List ℕ)) (w piece : List ℕ) → w ≡ [] → b ≡ append_known a piece → append_known b w ≡ append_known (append_known a w) piece
+put_through a b w piece none put =
+    ap (append_known b) none ∙ sym (append_none b b refl) ∙ put ∙ ap (λ (o : Option (List ℕ)). append_known o piece) (append_none a a refl) ∙ ap (λ (l : List ℕ). append_known (append_known a l) piece) (sym none)

@@ -3,4 +3,5 @@ pub mod Moments
 pub mod Datagrams
 pub mod Failing
 pub mod Places
+pub mod Waiting
 pub mod Wires

@@ -2,6 +2,7 @@
 //! with forms in memory and real ones.
 #![tactic(auto)]
 
+mod buffered;
 mod claim;
 mod clock;
 mod failed;
@@ -16,8 +17,11 @@ mod sink;
 mod source;
 #[cfg(test)]
 mod tests;
+#[cfg(test)]
+mod turns;
 mod wire;
 
+pub use buffered::Buffered;
 pub use claim::Claim;
 pub use clock::Clock;
 pub use failed::Failed;

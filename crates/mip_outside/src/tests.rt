@@ -1,4 +1,5 @@
 use super::*;
+use crate::turns::{Turn, Turns};
 use std::test::Fail;
 
 #[test]
@@ -35,4 +36,43 @@ fn moments_and_datagrams_come_in_order(rt: HostRuntime) -> Result<(), Fail> {
     assert_eq!(rt; link.send(7, b"de"), Ok(()));
     assert_eq!(rt; link.sent_at(0), Some((7, b"de".as_slice())));
     Ok(())
+}
+
+// The second call of the inner sink fails: what it did not take waits, and goes with what follows.
+#[test]
+fn bytes_that_wait_are_put_on_together(rt: HostRuntime) -> Result<(), Fail> {
+    let inner = TextSink::new(rt.alloc(), &[2])?;
+    let mut sink = Buffered::new(rt.alloc(), inner, 4)?;
+    assert_eq!(rt; sink.give(b"ab"), Ok(2));
+    assert_eq!(rt; sink.give(b"c"), Ok(1));
+    assert_eq!(rt; sink.inner().bytes(), b"".as_slice());
+    assert_eq!(rt; sink.give(b"de"), Ok(2));
+    assert_eq!(rt; sink.inner().bytes(), b"abc".as_slice());
+    assert_eq!(rt; sink.flush(), Err(PutFault::Failed));
+    assert_eq!(rt; sink.flush(), Ok(()));
+    assert_eq!(rt; sink.give(b"fghij"), Ok(5));
+    assert_eq!(rt; sink.inner().bytes(), b"abcdefghij".as_slice());
+    Ok(())
+}
+
+#[test]
+fn a_reader_that_fails_is_no_end(rt: HostRuntime) {
+    let turns = [Turn::Moves(2), Turn::Fails, Turn::Moves(9), Turn::Moves(0)];
+    let mut source = StdSource::new(Turns::new(turns));
+    let mut into = [0; 4];
+    assert_eq!(rt; source.take(&mut into), Ok(2));
+    assert_eq!(rt; source.take(&mut into), Err(Failed));
+    assert_eq!(rt; source.take(&mut into), Ok(4));
+    assert_eq!(rt; source.take(&mut into), Ok(0));
+}
+
+#[test]
+fn a_writer_that_takes_nothing_has_failed(rt: HostRuntime) {
+    let turns = [Turn::Moves(2), Turn::Moves(0), Turn::Fails, Turn::Moves(9)];
+    let mut sink = StdSink::new(Turns::new(turns));
+    assert_eq!(rt; sink.give(b"abc"), Ok(2));
+    assert_eq!(rt; sink.give(b"c"), Err(PutFault::Failed));
+    assert_eq!(rt; sink.give(b"c"), Err(PutFault::Failed));
+    assert_eq!(rt; sink.give(b"c"), Ok(1));
+    assert_eq!(rt; sink.give(b""), Ok(0));
 }

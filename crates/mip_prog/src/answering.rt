@@ -17,8 +17,8 @@ use std::alloc::Global;
 
 /// The answer of a command to its input.
 #[tactic(auto, unfolding(crate::specs::Answers::input_answer))]
-pub fn answer(alloc: Global, command: Command, input: &[u8]) -> Result<Reply, Memory>
-    ensures answers { IfOk result (λ reply. reply ≡ command_answer command input.now) }
+pub fn answer(alloc: Global, command: Command, input: Bytes) -> Result<Reply, Memory>
+    ensures answers { IfOk result (λ reply. reply ≡ command_answer command input) }
     ensures settled { IfOk result (λ reply. IsSettled reply.status) }
     ensures statuses { IfOk result (λ reply. IsStatus reply.status × (reply.status ≢ 1)) }
 {
@@ -27,7 +27,7 @@ pub fn answer(alloc: Global, command: Command, input: &[u8]) -> Result<Reply, Me
     }
     match command {
         Command::Replay => replay(alloc, input),
-        Command::Decode => decode(alloc, input),
+        Command::Decode => decode(alloc, input.as_slice()),
     }
 }
 
@@ -36,10 +36,7 @@ fn decode(alloc: Global, input: &[u8]) -> Result<Reply, Memory>
     ensures settled { IfOk result (λ reply. IsSettled reply.status) }
 {
     match explain(alloc, input) {
-        Ok(text) => Ok(Reply {
-            status: Status::OK,
-            text,
-        }),
+        Ok(text) => Ok(Reply::whole(Status::OK, text)),
         Err(ExplainFault::NotPacket(refusal)) => dropped(alloc, refusal),
         Err(ExplainFault::Memory) => Err(Memory),
     }
@@ -53,8 +50,5 @@ fn dropped(alloc: Global, refusal: NotPacket) -> Result<Reply, Memory>
     let mut text = Bytes::copy(alloc, b"drop ")?;
     text.extend(refusal_word(refusal))?;
     text.extend(b"\n")?;
-    Ok(Reply {
-        status: Status::NOT_A_PACKET,
-        text,
-    })
+    Ok(Reply::whole(Status::NOT_A_PACKET, text))
 }

@@ -1,16 +1,16 @@
 ghost use Rattle.std.specs.Prelude.{◌≡◌, IfOk, map, string_bytes};
 ghost use Rattle.mip_prog.specs.Answers.{answer_of};
 
-use crate::reply::Reply;
+use crate::output::Output;
 use crate::status::Status;
 use crate::top::mip;
 use mip_outside::{SetClock, SureLink, SureSink, SureSource};
-use mip_words::Memory;
+use mip_words::{Bytes, Memory};
 use std::alloc::Global;
 
 /// The program over an outside that never fails: it gives the whole answer unless memory runs out.
-pub fn mip_in_memory(alloc: Global, words: &[String], input: &[u8]) -> Result<Reply, Memory>
-    ensures { IfOk result (λ reply. reply ≡ answer_of (map string_bytes words.now) input.now) }
+pub fn mip_in_memory(alloc: Global, words: &[String], input: &[u8]) -> Result<Output, Memory>
+    ensures { IfOk result (λ output. output ≡ answer_of (map string_bytes words.now) input.now) }
 {
     let mut source = SureSource::new(alloc, input)?;
     let mut sink = SureSink::new(alloc)?;
@@ -20,5 +20,6 @@ pub fn mip_in_memory(alloc: Global, words: &[String], input: &[u8]) -> Result<Re
     if status == Status::MEMORY {
         return Err(Memory);
     }
-    Reply::copy(alloc, status, sink.bytes())
+    let text = Bytes::copy(alloc, sink.bytes())?;
+    Ok(Output { status, text })
 }

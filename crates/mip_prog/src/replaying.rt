@@ -10,53 +10,55 @@ ghost use Rattle.mip_prog.specs.Told.{IsSettled};
 use crate::lengths::event_lines;
 use crate::reply::Reply;
 use crate::status::Status;
+use crate::text::Text;
 use itoa::Buffer;
 use mip_replay::unbuilt;
 use mip_schedule::{Reason, Schedule, ScheduleFault, read_schedule};
-use mip_trace::write_trace;
 use mip_words::{Bytes, Memory};
 use std::alloc::Global;
 
 /// The greatest number of events.
 const EVENTS: usize = 20_000;
 
-/// The trace of a schedule, or its first bad line and why.
-pub fn replay(alloc: Global, input: &[u8]) -> Result<Reply, Memory>
-    requires { length input.now ≤ 16777216 }
-    ensures answers { IfOk result (λ reply. reply ≡ replay_answer input.now) }
+/// The trace of a schedule, or its first bad line and why. The input is given up before the schedule runs.
+pub fn replay(alloc: Global, input: Bytes) -> Result<Reply, Memory>
+    requires { length input ≤ 16777216 }
+    ensures answers { IfOk result (λ reply. reply ≡ replay_answer input) }
     ensures settled { IfOk result (λ reply. IsSettled reply.status) }
 {
-    if event_lines(input) > EVENTS {
+    if event_lines(input.as_slice()) > EVENTS {
         return Reply::copy(alloc, Status::TOO_LONG, b"long\n");
     }
-    match read_schedule(alloc, input) {
-        Ok(schedule) => run(alloc, &schedule),
+    let read = read_schedule(alloc, input.as_slice());
+    drop(input);
+    match read {
+        Ok(schedule) => run(alloc, schedule),
         Err(ScheduleFault::Bad { line, why }) => bad(alloc, line, why),
         Err(ScheduleFault::Memory) => Err(Memory),
     }
 }
 
 /// The trace of a schedule that was read, unless a line of it does not run yet.
-fn run(alloc: Global, schedule: &Schedule) -> Result<Reply, Memory>
-    ensures answers { IfOk result (λ reply. reply ≡ run_answer (content schedule.now) (unbuilt_line (content schedule.now))) }
+fn run(alloc: Global, schedule: Schedule) -> Result<Reply, Memory>
+    ensures answers { IfOk result (λ reply. reply ≡ run_answer (content schedule) (unbuilt_line (content schedule))) }
     ensures settled { IfOk result (λ reply. IsSettled reply.status) }
 {
-    match unbuilt(schedule) {
+    match unbuilt(&schedule) {
         Some(line) => bad(alloc, line, Reason::Form),
         None => trace(alloc, schedule),
     }
 }
 
-fn trace(alloc: Global, schedule: &Schedule) -> Result<Reply, Memory>
-    requires { unbuilt_line (content schedule.now) ≡ None }
-    ensures answers { IfOk result (λ reply. reply ≡ run_answer (content schedule.now) None) }
+/// The trace of a schedule that runs. It is spelled only as it is written.
+fn trace(alloc: Global, schedule: Schedule) -> Result<Reply, Memory>
+    requires { unbuilt_line (content schedule) ≡ None }
+    ensures answers { IfOk result (λ reply. reply ≡ run_answer (content schedule) None) }
     ensures settled { IfOk result (λ reply. IsSettled reply.status) }
 {
-    let history = mip_replay::replay(alloc, schedule)?;
-    let text = write_trace(alloc, schedule, &history)?;
+    let history = mip_replay::replay(alloc, &schedule)?;
     Ok(Reply {
         status: Status::OK,
-        text,
+        text: Text::Trace { schedule, history },
     })
 }
 
@@ -72,10 +74,7 @@ fn bad(alloc: Global, line: u32, why: Reason) -> Result<Reply, Memory>
     text.extend(b" ")?;
     text.extend(reason_word(why))?;
     text.extend(b"\n")?;
-    Ok(Reply {
-        status: Status::BAD,
-        text,
-    })
+    Ok(Reply::whole(Status::BAD, text))
 }
 
 fn reason_word(why: Reason) -> &'static [u8]

@@ -1,7 +1,7 @@
 ghost use Rattle.std.specs.Prelude.{◌≡◌, IfOk};
-ghost use Rattle.mip_prog.specs.Answers.{Answer};
 
 use crate::status::Status;
+use crate::text::Text;
 use mip_words::{Bytes, Memory};
 use std::alloc::Global;
 use std::marker::Model;
@@ -10,20 +10,32 @@ use std::marker::Model;
 #[derive(Drop)]
 pub struct Reply {
     pub status: Status,
-    pub text: Bytes,
+    pub text: Text,
 }
 
 impl Model for Reply {
+    ghost use Rattle.mip_prog.specs.Answers.{Answer};
+    ghost use Rattle.mip_prog.specs.Texts.{text_of};
+
     ghost Value = { Answer };
 
-    ghost view = { λ r. record { status = r.status.0; text = r.text } };
+    ghost view = { λ r. record { status = r.status.0; text = text_of r.text } };
 }
 
 impl Reply {
+    pub fn whole(status: Status, text: Bytes) -> Reply
+        ensures { result ≡ record { status = status.0; text = text } }
+    {
+        Reply {
+            status,
+            text: Text::Whole(text),
+        }
+    }
+
     pub fn copy(alloc: Global, status: Status, text: &[u8]) -> Result<Reply, Memory>
         ensures { IfOk result (λ reply. reply ≡ record { status = status.0; text = text.now }) }
     {
         let text = Bytes::copy(alloc, text)?;
-        Ok(Reply { status, text })
+        Ok(Reply::whole(status, text))
     }
 }

@@ -1,3 +1,7 @@
+ghost use Rattle.std.specs.Prelude.{◌≡◌, IfOk, OnErr};
+
+use mip_words::Memory;
+
 /// How the program ends.
 #[derive(Clone, Copy, Debug, PartialEq, Eq)]
 pub struct Status(pub u8);
@@ -19,4 +23,15 @@ impl Status {
     pub const TOO_LONG: Status = Status(6);
     /// The input is no packet.
     pub const NOT_A_PACKET: Status = Status(8);
+
+    /// How the process ends: as the run did, or because memory ran out before it began.
+    pub fn of(outcome: Result<Status, Memory>) -> Status
+        ensures ok { IfOk outcome (λ status. result ≡ status) }
+        ensures memory { OnErr outcome (result.0 ≡ 5) }
+    {
+        match outcome {
+            Ok(status) => status,
+            Err(Memory) => Status::MEMORY,
+        }
+    }
 }

@@ -1,3 +1,4 @@
+use crate::ending::mip_flushed;
 use crate::in_memory::mip_in_memory;
 use crate::nonce_cases::NONCES;
 use crate::packet_cases::PACKETS;
@@ -6,7 +7,7 @@ use crate::sequence_cases::SEQUENCES;
 use crate::status::Status;
 use crate::token_cases::TOKENS;
 use crate::top::mip;
-use mip_outside::{SetClock, Sink, Source, SureLink, SureSource, TextSink, TextSource};
+use mip_outside::{Buffered, SetClock, Sink, Source, SureLink, SureSource, TextSink, TextSource};
 use mip_words::{Bytes, Memory, hex_exact};
 use std::alloc::Global;
 use std::test::Fail;
@@ -242,4 +243,24 @@ fn one_event_more_than_20000_is_too_many(rt: HostRuntime) -> Result<(), Fail> {
     let reply = mip_in_memory(rt.alloc(), &words, text.as_slice())?;
     assert_eq!(rt; reply.text.as_slice(), b"bad 1 form\n".as_slice());
     Ok(())
+}
+
+// The whole text waits in the buffer, and goes to the inner sink by one call.
+#[test]
+fn a_fault_of_the_last_call_is_a_write_fault(rt: HostRuntime) -> Result<(), Fail> {
+    assert_eq!(rt; help_through_a_buffer(rt.alloc(), &[])?, Status::USAGE);
+    assert_eq!(rt;
+        help_through_a_buffer(rt.alloc(), &[1])?,
+        Status::WRITE_FAULT
+    );
+    Ok(())
+}
+
+fn help_through_a_buffer(alloc: Global, fails: &[u64]) -> Result<Status, Memory> {
+    let words = owned(alloc, &["help"])?;
+    let mut source = SureSource::new(alloc, b"")?;
+    let mut sink = Buffered::new(alloc, TextSink::new(alloc, fails)?, 64)?;
+    let mut clock = SetClock::new(alloc, &[0])?;
+    let mut link = SureLink::new(alloc)?;
+    Ok(mip_flushed(alloc, &words, &mut source, &mut sink, &mut clock, &mut link))
 }

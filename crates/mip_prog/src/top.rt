@@ -6,6 +6,7 @@ ghost use Rattle.mip_outside.specs.Cause.{Rose};
 ghost use Rattle.mip_schedule.specs.Reading.{reading};
 ghost use Rattle.mip_history.specs.Setup.{setup_of};
 ghost use Rattle.mip_history.specs.Permitted.{permitted};
+ghost use Rattle.mip_origin.specs.Marked.{EachIsMarked};
 ghost use Rattle.mip_replay.specs.Bindings.{EachIsBound, EachRepeatIsLate};
 ghost use Rattle.mip_prog.specs.Commands.{command_of};
 ghost use Rattle.mip_prog.specs.Answers.{answer_of, command_answer};
@@ -15,9 +16,10 @@ use crate::answering::answer;
 use crate::command::{Command, parse};
 use crate::reading::{ReadFault, read_input};
 use crate::status::Status;
+use crate::telling::tell_reply;
 use crate::writing::tell;
 use mip_outside::{Clock, Link, Sink, Source};
-use mip_replay::{each_is_bound, each_repeat_is_late};
+use mip_replay::{each_acceptance_is_marked, each_is_bound, each_repeat_is_late};
 use mip_words::Memory;
 use std::alloc::Global;
 
@@ -41,6 +43,9 @@ pub fn mip<S: Source, K: Sink, C: Clock, L: Link>(
     ensures bound { IfSome (S.left source.old) (λ bytes. IfOk (reading bytes) (λ c. EachIsBound (setup_of c) (permitted c))) }
     // In it the same update is accepted again in one life only where its sequences have gone round.
     ensures repeats { IfSome (S.left source.old) (λ bytes. IfOk (reading bytes) (λ c. EachRepeatIsLate (permitted c))) }
+    // In it each accepted update is followed by its mark. Where that is an origin, both tokens had reached whoever made
+    // the update before its first packet was posted.
+    ensures marked { IfSome (S.left source.old) (λ bytes. IfOk (reading bytes) (λ c. EachIsMarked (setup_of c) (permitted c))) }
 
     ensures statuses { IsStatus result.0 }
     ensures usage { result.0 ≡ 1 → command_of (map string_bytes words.now) ≡ None }
@@ -60,6 +65,7 @@ pub fn mip<S: Source, K: Sink, C: Clock, L: Link>(
     let _ = link;
     each_is_bound();
     each_repeat_is_late();
+    each_acceptance_is_marked();
     match parse(words) {
         None => tell(sink, b"usage: mip COMMAND\n", Status::USAGE),
         Some(command) => answer_input(alloc, command, source, sink),
@@ -87,8 +93,8 @@ fn answer_input<S: Source, K: Sink>(
         Err(ReadFault::Failed) => return Status::READ_FAULT,
         Err(ReadFault::Memory) => return Status::MEMORY,
     };
-    match answer(alloc, command, bytes.as_slice()) {
-        Ok(reply) => tell(sink, reply.text.as_slice(), reply.status),
+    match answer(alloc, command, bytes) {
+        Ok(reply) => tell_reply(alloc, sink, &reply),
         Err(Memory) => Status::MEMORY,
     }
 }

@@ -52,8 +52,9 @@ fn line_end(text: &[u8], at: usize) -> usize
     }
 }
 
+/// Writes a line, or what of it the sink takes.
 #[tactic(auto, using(mip_outside::proofs::Known::append_front, mip_outside::proofs::Known::Rose_since))]
-fn write_line<K: Sink>(sink: &mut K, line: &[u8]) -> Result<(), PutFault>
+pub fn write_line<K: Sink>(sink: &mut K, line: &[u8]) -> Result<(), PutFault>
     ensures ok { OnOk result (K.held sink.new ≡ append_known (K.held sink.old) line.now) }
     ensures err { OnErr result ((count : ℕ) × (count < length line.now) × (K.held sink.new ≡ append_known (K.held sink.old) (take count line.now))) }
     ensures no_fewer { K.faults sink.old ≤ K.faults sink.new }

@@ -11,3 +11,5 @@ pub mod ReadyLaws
 pub mod JoinLaws
 pub mod ForgingLaws
 pub mod WholeLaws
+pub mod MarkLaws
+pub mod PlainLaws

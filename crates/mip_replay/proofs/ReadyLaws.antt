@@ -23,6 +23,8 @@ use Rattle.mip_history.specs.Questions.{moment_in, life_in}
 use Rattle.mip_history.specs.Permitted.{permitted, run_of}
 use Rattle.mip_history.specs.Passing.{waited_by, restarted_by}
 use Rattle.mip_replay.specs.Engines.{NodeSeen, EngineSeen}
+use Rattle.mip_words.specs.declared.ids.NodeId.{NodeId}
+use Rattle.mip_words.specs.declared.address.Address.{Address}
 use Rattle.mip_replay.specs.Payloads.{is_payload}
 use Rattle.mip_replay.specs.Ready.{IsReady, IsEar}
 use Rattle.mip_replay.specs.Standing.{IsAt}
@@ -125,6 +127,12 @@ moment_is waits c events = waits (so_far c events) ∙ ap (λ (n : ℕ). c.start
 life_is : AreRestarts → (c : Content) (events : List Event) (n : ℕ) → life_in (run_of (setup_of c) events).past n ≤ length events
 unfolding permitted
 life_is lives c events n = omega (arith, lives (so_far c events) n, restarts_few n events)
+
+-- what an event sends as data may be sent
+pub payload_fits : (ds : List Declaration) (before : List Event) (node : NodeId) (to : Address) (proto : ℕ) (payload : List ℕ) → IsEvent ds before (Payload node to proto payload) → is_payload proto ≡ true
+unfolding misfit
+payload_fits ds before node to proto payload is =
+    data_fits proto (passed (is_reserved proto) reasons.Number None (timely ds (length before) (waited before) (carried before) (Payload node to proto payload) is.fits).1).0
 
 module _ (waits : AreWaits) (lives : AreRestarts) (c : Content) (lawful : IsLawful c) (few : AreFew c.declarations)
     (before : List Event) (e : EngineSeen) (at : IsAt e (setup_of c) (run_of (setup_of c) before)) where

@@ -20,7 +20,7 @@ impl Engine {
         requires { is_own entry ≡ true }
         ensures { (s : Setup) (run : Run) → IsAt self.old s run → OnOk result (IsAt self.new s (answered_one s node.0 0 run (Note entry))) }
     {
-        self.note(entry.named(node, LinkId(0), 0))
+        self.note_marked(entry.named(node, LinkId(0), 0))
     }
 
     fn answer_one(

@@ -1,14 +1,17 @@
-ghost use Rattle.std.specs.Prelude.{◌≡◌, ◌+◌, ◌<◌, ◌≤◌, ◌^◌, ℕ, Bool, not, true, false, if◌then◌else◌, length, map, IfOk, IfSome, OnOk, Option, None, Some, is_some, option_copied, option_map, slice_get, slice_index_or};
+ghost use Rattle.std.specs.Prelude.{◌≡◌, ◌+◌, ◌<◌, ◌≤◌, ◌^◌, ◌∷◌, ℕ, Bool, not, true, false, if◌then◌else◌, length, map, IfOk, IfSome, OnOk, Option, None, Some, is_some, option_copied, option_map, slice_get, slice_index_or};
 ghost use Rattle.std.specs.Option.{option_map_or};
 ghost use Rattle.mip_entries.specs.declared.entry.Entry.TheVariants.{At};
 ghost use Rattle.mip_links.specs.Table.{Post, link_of, destination_in, in_pool};
 ghost use Rattle.mip_links.specs.Nets.{hears_of, holder_of, is_held_by, left, lowest_of, posted, with_hearing};
 ghost use Rattle.mip_history.specs.Delivery.{handed_over, other_link};
 ghost use Rattle.mip_history.specs.Outsiders.{claim_entry};
+ghost use Rattle.mip_history.specs.Nodes.{marks_of};
+ghost use Rattle.mip_marks.specs.Entries.{update_accepted};
+ghost use Rattle.mip_marks.specs.Marks.{mark_in};
 ghost use Rattle.mip_replay.specs.Arrivals.{arrival_of, arrival_seen};
 ghost use Rattle.mip_replay.specs.Calls.{asked, IsAskable};
 ghost use Rattle.mip_replay.specs.Roles.{is_correspondent, answers_to, rows_of};
-ghost use Rattle.mip_replay.specs.Engines.{NodeSeen, new_engine, with_entry, with_net, at_moment, acted, reborn, joined, station_of, claim_tried, released};
+ghost use Rattle.mip_replay.specs.Engines.{NodeSeen, new_engine, with_entry, with_entries, with_net, at_moment, acted, reborn, joined, station_of, claim_tried, released};
 
 use crate::arrival::{Arrival, arrival_of};
 use crate::call::Call;
@@ -16,8 +19,10 @@ use crate::claims::{claim_own, try_claim};
 use crate::host::Host;
 use crate::node::Node;
 use mip_bcache::Row;
+use mip_chronicle::Chronicle;
 use mip_entries::{Answers, Entry, History};
 use mip_links::{Delivery, Net};
+use mip_marks::{AcceptedUpdate, Mark};
 use mip_tunnel::lower;
 use mip_words::{Address, Bytes, LinkId, Memory, Moment, NodeId, Prefix, Shield};
 use std::alloc::Global;
@@ -31,7 +36,7 @@ pub(crate) struct Engine {
     nodes: Vec<Node>,
     outsiders: u8,
     moment: Moment,
-    history: History,
+    chronicle: Chronicle,
 }
 
 impl Model for Engine {
@@ -45,7 +50,7 @@ impl Model for Engine {
       nodes = e.nodes.items;
       outsiders = e.outsiders;
       moment = e.moment.0;
-      past = e.history;
+      past = e.chronicle;
     } };
 
     ghost invariant = { λ e. IsCalm e.nodes.items e.moment.0 };
@@ -70,21 +75,44 @@ impl Engine {
             nodes: Vec::new(alloc),
             outsiders,
             moment: start,
-            history: History::new(alloc)?,
+            chronicle: Chronicle::new(alloc)?,
         })
     }
 
     pub(crate) fn into_history(self) -> History
         ensures { result ≡ self.past }
     {
-        self.history
+        self.chronicle.into_history()
     }
 
     /// An entry is left.
     pub(crate) fn note(&mut self, entry: Entry) -> Result<(), Memory>
         ensures { OnOk result (self.new ≡ with_entry entry self.old) }
     {
-        self.history.push(entry)
+        self.chronicle.push(entry)
+    }
+
+    /// The mark of the update that an entry accepts, if it accepts one.
+    fn mark_of(&self, entry: &Entry) -> Option<Mark>
+        ensures { result ≡ option_map (mark_in self.now.past) (update_accepted entry.now) }
+    {
+        match AcceptedUpdate::of(entry) {
+            Some(accepted) => Some(self.chronicle.mark(&accepted)),
+            None => None,
+        }
+    }
+
+    /// An entry is left, and behind an `accepted` the mark of its origin.
+    #[tactic(auto, using(crate::proofs::MarkLaws::marks_none, crate::proofs::MarkLaws::marks_one))]
+    pub(crate) fn note_marked(&mut self, entry: Entry) -> Result<(), Memory>
+        ensures { OnOk result (self.new ≡ with_entries (entry ∷ marks_of self.old.past (update_accepted entry)) self.old) }
+    {
+        let mark = self.mark_of(&entry);
+        self.note(entry)?;
+        match mark {
+            Some(mark) => self.note(mark.entry()),
+            None => Ok(()),
+        }
     }
 
     pub(crate) fn outsiders(&self) -> u8
@@ -134,7 +162,7 @@ impl Engine {
         ensures { OnOk result (self.new ≡ with_entry (At (record { 0 = self.old.moment + ms })) (at_moment (self.old.moment + ms) self.old)) }
     {
         let now = self.moment.0 + u64::from(ms);
-        self.history.push(Entry::At {
+        self.chronicle.push(Entry::At {
             moment: Moment(now),
         })?;
         self.moment = Moment(now);
@@ -314,7 +342,7 @@ impl Engine {
         };
         let node = Node::new(alloc, &self.seed, NodeId(number), 0, host)?;
         self.nodes.push(node)?;
-        self.history.push(Entry::Claimed {
+        self.chronicle.push(Entry::Claimed {
             who: number,
             link,
             address,

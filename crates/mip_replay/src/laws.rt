@@ -5,9 +5,11 @@ ghost use Rattle.mip_schedule.specs.Contents.{Content};
 ghost use Rattle.mip_schedule.specs.Reading.{reading};
 ghost use Rattle.mip_history.specs.Setup.{setup_of};
 ghost use Rattle.mip_history.specs.Permitted.{permitted};
+ghost use Rattle.mip_origin.specs.Marked.{EachIsMarked};
 ghost use Rattle.mip_replay.specs.Bindings.{EachIsBound, EachRepeatIsLate};
 
 use mip_history::{held_was_accepted, repeats_come_after_rounds};
+use mip_origin::acceptances_are_marked;
 use mip_schedule::waits_are_short;
 
 /// In the permitted history of every schedule each care-of address that is held has its accepted update.
@@ -24,5 +26,14 @@ pub fn each_repeat_is_late()
     ensures { (text : List ℕ) (c : Content) → reading text ≡ Ok c → EachRepeatIsLate (permitted c) }
 {
     repeats_come_after_rounds();
+    waits_are_short();
+}
+
+/// In the permitted history of every schedule that is read each accepted update is followed by the mark of its origin, and
+/// where that is not `forged`, both tokens had reached whoever made the update.
+pub fn each_acceptance_is_marked()
+    ensures { (text : List ℕ) (c : Content) → reading text ≡ Ok c → EachIsMarked (setup_of c) (permitted c) }
+{
+    acceptances_are_marked();
     waits_are_short();
 }

@@ -6,12 +6,14 @@ ghost use Rattle.mip_history.specs.Permitted.{permitted, run_of};
 ghost use Rattle.mip_schedule.specs.Lawful.{IsLawful};
 ghost use Rattle.mip_schedule.specs.Places.{AreFew};
 ghost use Rattle.mip_schedule.specs.Schedules.{content};
+ghost use Rattle.mip_origin.specs.Marked.{EachIsMarked};
 ghost use Rattle.mip_replay.specs.Bindings.{EachIsBound, EachRepeatIsLate};
 ghost use Rattle.mip_replay.specs.Standing.{IsAt};
 
 use crate::engine::Engine;
 use mip_entries::History;
 use mip_history::{held_was_accepted, lives_are_restarts, moments_rise, repeats_come_after_rounds};
+use mip_origin::acceptances_are_marked;
 use mip_schedule::{Schedule, few, lawful, spelling_read, waits_are_short};
 use mip_words::Memory;
 use std::alloc::Global;
@@ -47,13 +49,18 @@ fn run_whole(alloc: Global, schedule: &Schedule) -> Result<History, Memory>
 /// In it a care-of address is held only by an update that was accepted in this life of the node, the last of its
 /// home, with the verdict Accept on its bytes under nonces that were valid then, and in sequence after what stood.
 /// The same update is accepted again in one life only where the sequences of its home have gone round since then.
+///
+/// Each accepted update is followed by the mark of its origin. Where that is not `forged`, both tokens had reached
+/// whoever made the update, before its first packet was posted.
 pub fn replay(alloc: Global, schedule: &Schedule) -> Result<History, Memory>
     ensures permitted { IfOk result (λ h. h ≡ permitted (content schedule.now)) }
     ensures bound { IfOk result (λ h. EachIsBound (setup_of (content schedule.now)) h) }
     ensures repeats { IfOk result (λ h. EachRepeatIsLate h) }
+    ensures marked { IfOk result (λ h. EachIsMarked (setup_of (content schedule.now)) h) }
 {
     held_was_accepted();
     repeats_come_after_rounds();
+    acceptances_are_marked();
     waits_are_short();
     spelling_read(schedule);
     run_whole(alloc, schedule)

@@ -27,7 +27,7 @@ use Rattle.mip_schedule.proofs.TextLaws.{at_line_ok, start_within}
 use Rattle.mip_schedule.proofs.WithinLaws.{event-within}
 
 -- each item stands after those before it
-abbrev Each : {X : Type 0} → (List X → X → Type 0) → List X → Type 0
+abbrev pub Each : {X : Type 0} → (List X → X → Type 0) → List X → Type 0
 Each {X} P xs = (before : List X) (x : X) (after : List X) → xs ≡ before ++ x ∷ after → P before x
 
 none_each : {X : Type 0} (P : List X → X → Type 0) → Each P []
@@ -109,12 +109,12 @@ events_stand ds (row ∷ next ∷ rows) es n out e each =
     (each_more (IsEvent ds) es p.0 each (event_stands ds es row p.0 (at_line_ok n (event_line ds es row) p.0 p.1)))
 
 -- what a text that is read says
-record IsReadSo (c : Content) : Type 0 where
-  start : c.start.0 ≤ 2 ^ 40
-  declarations : Each IsDeclaration c.declarations
-  events : Each (IsEvent c.declarations) c.events
+pub record IsReadSo (c : Content) : Type 0 where
+  pub start : c.start.0 ≤ 2 ^ 40
+  pub declarations : Each IsDeclaration c.declarations
+  pub events : Each (IsEvent c.declarations) c.events
 
-read_so : (text : List ℕ) (s : Content) → reading text ≡ Ok s → IsReadSo s
+pub read_so : (text : List ℕ) (s : Content) → reading text ≡ Ok s → IsReadSo s
 unfolding reading
 read_so text s e =
     let h = bind_ok (head_of (rows_of text)) (λ head. declarations_of [] 4 head.rows >>= (λ declared. events_of declared.declarations [] declared.line declared.rows >>= (λ events. Ok (record { seed = head.seed; start = head.start; declarations = declared.declarations; events = events })))) s e in

@@ -1,4 +1,4 @@
-ghost use Rattle.std.specs.Prelude.{◌≡◌, ◌≤◌, length, IsTrue, ◌↔◌};
+ghost use Rattle.std.specs.Prelude.{◌≡◌, ◌≤◌, ◌-◌, length, take, slice_range, IsTrue, ◌↔◌};
 ghost use Rattle.mip_tokens.specs.Token.{authenticator_of, is_authentic, IsAuthentic};
 
 use crate::kbm::Kbm;
@@ -8,23 +8,29 @@ use mip_words::Address;
 /// The bytes of an authenticator.
 const AUTHENTICATOR: usize = 12;
 
+/// What an authenticator covers of a message whose last 12 bytes are its place: what stands before the checksum, which
+/// counts as zero, and what stands behind it.
+pub fn covered(message: &[u8]) -> (&[u8], &[u8])
+    ensures front { result.0.now ≡ take 4 message.now }
+    ensures back { result.1.now ≡ slice_range message.now 6 (length message.now - 12) }
+{
+    let end = message.len().saturating_sub(AUTHENTICATOR);
+    (
+        message.get(..4).unwrap_or(message),
+        message.get(6..end).unwrap_or(&[]),
+    )
+}
+
 /// The authenticator of a message whose last 12 bytes are its place (RFC 6275 section 6.2.7). The
 /// care-of address is the one that the update binds; where it deletes, the home address stands for it.
 #[tactic(auto, unfolding(crate::specs::Token::authenticator_of, crate::specs::Token::authenticated))]
 pub fn authenticator(kbm: &Kbm, careof: Address, peer: Address, message: &[u8]) -> [u8; 12]
-    requires { 18 ≤ length message.now }
     ensures { result ≡ authenticator_of kbm.now.0 careof peer message.now }
 {
-    let end = message.len() - AUTHENTICATOR;
+    let (front, back) = covered(message);
     let hash = hmac_of_parts(
         &kbm.0,
-        &[
-            &careof.bytes(),
-            &peer.bytes(),
-            &message[..4],
-            &[0, 0],
-            &message[6..end],
-        ],
+        &[&careof.bytes(), &peer.bytes(), front, &[0, 0], back],
     );
     let mut authenticator = [0; AUTHENTICATOR];
     authenticator.copy_from_slice(&hash[..AUTHENTICATOR]);

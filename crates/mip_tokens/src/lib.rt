@@ -8,6 +8,6 @@ mod keygen;
 #[cfg(test)]
 mod tests;
 
-pub use authorization::{authentic, authenticator};
+pub use authorization::{authentic, authenticator, covered};
 pub use kbm::Kbm;
 pub use keygen::{careof_token, home_token};

@@ -11,3 +11,4 @@ pub mod WhyLaws
 pub mod AcceptedParts
 pub mod WrittenLaws
 pub mod ManyFields
+pub mod NameTableLaws

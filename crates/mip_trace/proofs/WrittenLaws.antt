@@ -24,3 +24,15 @@ text_more names (e ∷ history) entry =
 pub text_none : (names : Names) → trace_text names [] ≡ []
 unfolding trace_text
 text_none names = refl
+
+-- of entries one after another
+pub text_append : (names : Names) (xs ys : List Entry) → trace_text names (xs ++ ys) ≡ trace_text names xs ++ trace_text names ys
+unfolding trace_text
+text_append names [] ys = refl
+text_append names (e ∷ xs) ys =
+    ap (λ (t : List ℕ). line_text (entry_row names e) ++ t) (text_append names xs ys)
+    ∙ sym (append_assoc (line_text (entry_row names e)) (trace_text names xs) (trace_text names ys))
+
+pub text_one : (names : Names) (entry : Entry) → trace_text names (entry ∷ []) ≡ line_text (entry_row names entry)
+unfolding trace_text
+text_one names entry = append-nil (line_text (entry_row names entry))

@@ -1,6 +1,7 @@
 pub mod Whys
 pub mod PacketKinds
 pub mod Names
+pub mod NameTables
 pub mod Lines
 pub mod Faults
 pub mod Fields

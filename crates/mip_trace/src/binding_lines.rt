@@ -4,14 +4,12 @@ ghost use Rattle.std.specs.Prelude.{◌≡◌, [], ◌∷◌, ◌++◌, OnOk, co
 ghost use Rattle.mip_lines.specs.HexFields.{address_hex};
 ghost use Rattle.mip_lines.specs.Lines.{line_text};
 ghost use Rattle.mip_trace.specs.Lines.{binding_row};
-ghost use Rattle.mip_trace.specs.Names.{names_of};
 
 use crate::data_lines::put_data_entry;
-use crate::names::node_name;
+use crate::name_table::NameTable;
 use itoa::Buffer;
 use mip_entries::Entry;
 use mip_lines::put_line;
-use mip_schedule::Schedule;
 use mip_words::{Address, Bytes, Memory, Moment};
 
 fn put_home(
@@ -67,10 +65,10 @@ fn put_row(
 /// Appends the line of a binding, or of another entry.
 pub fn put_binding_entry(
     out: &mut Bytes,
-    names: Option<&Schedule>,
+    names: &NameTable<'_>,
     entry: &Entry,
 ) -> Result<(), Memory>
-    ensures { OnOk result (out.new ≡ out.old ++ line_text (binding_row (names_of names.entry) entry.now)) }
+    ensures { OnOk result (out.new ≡ out.old ++ line_text (binding_row names.now entry.now)) }
 {
     match entry {
         Entry::Home {
@@ -79,14 +77,7 @@ pub fn put_binding_entry(
             careof,
             sequence,
             end,
-        } => put_home(
-            out,
-            node_name(names, *node),
-            *home,
-            *careof,
-            *sequence,
-            *end,
-        ),
+        } => put_home(out, names.node_name(*node), *home, *careof, *sequence, *end),
         Entry::Row {
             node,
             home,
@@ -97,7 +88,7 @@ pub fn put_binding_entry(
             kept_until,
         } => put_row(
             out,
-            node_name(names, *node),
+            names.node_name(*node),
             *home,
             *binding,
             *careof,

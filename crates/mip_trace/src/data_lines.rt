@@ -4,15 +4,13 @@ ghost use Rattle.std.specs.Prelude.{◌≡◌, [], ◌∷◌, ◌++◌, OnOk, co
 ghost use Rattle.mip_lines.specs.HexFields.{address_hex, hex_text};
 ghost use Rattle.mip_lines.specs.Lines.{line_text};
 ghost use Rattle.mip_trace.specs.Lines.{data_row};
-ghost use Rattle.mip_trace.specs.Names.{names_of};
 ghost use Rattle.mip_trace.specs.Whys.{why_word};
 
-use crate::names::node_name;
+use crate::name_table::NameTable;
 use crate::why_words::why_word;
 use itoa::Buffer;
 use mip_entries::Entry;
 use mip_lines::{put_line, put_line_hex};
-use mip_schedule::Schedule;
 use mip_words::{Address, Bytes, Memory, Why};
 
 fn put_dropped(out: &mut Bytes, node: &[u8], number: u64, why: Why) -> Result<(), Memory>
@@ -55,17 +53,13 @@ fn put_up<'a>(
 }
 
 /// Appends the line of what a node does with a packet that is no update.
-pub fn put_data_entry(
-    out: &mut Bytes,
-    names: Option<&Schedule>,
-    entry: &Entry,
-) -> Result<(), Memory>
-    ensures { OnOk result (out.new ≡ out.old ++ line_text (data_row (names_of names.entry) entry.now)) }
+pub fn put_data_entry(out: &mut Bytes, names: &NameTable<'_>, entry: &Entry) -> Result<(), Memory>
+    ensures { OnOk result (out.new ≡ out.old ++ line_text (data_row names.now entry.now)) }
 {
     match entry {
         Entry::Dropped { node, number, why } => put_dropped(
             out,
-            node_name(names, *node),
+            names.node_name(*node),
             *number,
             *why,
         ),
@@ -78,7 +72,7 @@ pub fn put_data_entry(
             payload,
         } => put_up(
             out,
-            node_name(names, *node),
+            names.node_name(*node),
             *number,
             *source,
             *destination,

@@ -10,7 +10,8 @@ mod fields;
 mod kinds;
 mod mobile_lines;
 mod mobile_rows;
-mod names;
+mod name_table;
+mod numbered;
 mod packet_kind;
 mod packet_lines;
 mod packet_rows;
@@ -22,9 +23,10 @@ mod why_words;
 mod writing;
 
 pub use fault::TraceFault;
+pub use name_table::NameTable;
 pub use packet_kind::kind;
 pub use reading::read_trace;
-pub use writing::{write_entry, write_trace};
+pub use writing::{entry_line, write_entry, write_trace};
 
 #[cfg(test)]
 mod tests;

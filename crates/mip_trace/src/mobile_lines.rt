@@ -4,34 +4,33 @@ ghost use Rattle.std.specs.Prelude.{◌≡◌, [], ◌∷◌, ◌++◌, OnOk, co
 ghost use Rattle.mip_lines.specs.HexFields.{address_hex};
 ghost use Rattle.mip_lines.specs.Lines.{line_text};
 ghost use Rattle.mip_trace.specs.Lines.{or_dash, token_hex, mobile_row};
-ghost use Rattle.mip_trace.specs.Names.{names_of, node_name};
+ghost use Rattle.mip_trace.specs.Names.{node_name};
 
 use crate::fields::{some_token, token_digits};
-use crate::names::node_name;
+use crate::name_table::NameTable;
 use crate::place_lines::put_node_address;
 use crate::update_lines::put_update_entry;
 use itoa::Buffer;
 use mip_entries::Entry;
 use mip_lines::put_line;
-use mip_schedule::Schedule;
 use mip_words::{Address, Bytes, Memory, Moment, NodeId, Token};
 
 /// The line of a node, an address and a moment.
 fn put_until<'a>(
     out: &mut Bytes,
-    names: Option<&'a Schedule>,
+    names: &NameTable<'_>,
     word: &'a [u8],
     node: NodeId,
     address: Address,
     end: Moment,
 ) -> Result<(), Memory>
-    ensures { OnOk result (out.new ≡ out.old ++ line_text (word.now ∷ node_name (names_of names.entry) node ∷ address_hex address ∷ decimal end.0 ∷ [])) }
+    ensures { OnOk result (out.new ≡ out.old ++ line_text (word.now ∷ node_name names.now node ∷ address_hex address ∷ decimal end.0 ∷ [])) }
 {
     put_line(
         out,
         &[
             word,
-            node_name(names, node),
+            names.node_name(node),
             &address.digits(),
             Buffer::new().format(end.0).as_bytes(),
         ],
@@ -40,17 +39,17 @@ fn put_until<'a>(
 
 fn put_refused(
     out: &mut Bytes,
-    names: Option<&Schedule>,
+    names: &NameTable<'_>,
     node: NodeId,
     status: u8,
 ) -> Result<(), Memory>
-    ensures { OnOk result (out.new ≡ out.old ++ line_text (codes "refused" ∷ node_name (names_of names.entry) node ∷ decimal status ∷ [])) }
+    ensures { OnOk result (out.new ≡ out.old ++ line_text (codes "refused" ∷ node_name names.now node ∷ decimal status ∷ [])) }
 {
     put_line(
         out,
         &[
             b"refused",
-            node_name(names, node),
+            names.node_name(node),
             Buffer::new().format(status).as_bytes(),
         ],
     )
@@ -58,18 +57,18 @@ fn put_refused(
 
 fn put_prefixes(
     out: &mut Bytes,
-    names: Option<&Schedule>,
+    names: &NameTable<'_>,
     node: NodeId,
     valid: u32,
     preferred: u32,
 ) -> Result<(), Memory>
-    ensures { OnOk result (out.new ≡ out.old ++ line_text (codes "prefixes" ∷ node_name (names_of names.entry) node ∷ decimal valid ∷ decimal preferred ∷ [])) }
+    ensures { OnOk result (out.new ≡ out.old ++ line_text (codes "prefixes" ∷ node_name names.now node ∷ decimal valid ∷ decimal preferred ∷ [])) }
 {
     put_line(
         out,
         &[
             b"prefixes",
-            node_name(names, node),
+            names.node_name(node),
             Buffer::new().format(valid).as_bytes(),
             Buffer::new().format(preferred).as_bytes(),
         ],
@@ -101,12 +100,8 @@ fn put_made(
 }
 
 /// Appends the line of an entry of a mobile, or of what nodes answer.
-pub fn put_mobile_entry(
-    out: &mut Bytes,
-    names: Option<&Schedule>,
-    entry: &Entry,
-) -> Result<(), Memory>
-    ensures { OnOk result (out.new ≡ out.old ++ line_text (mobile_row (names_of names.entry) entry.now)) }
+pub fn put_mobile_entry(out: &mut Bytes, names: &NameTable<'_>, entry: &Entry) -> Result<(), Memory>
+    ensures { OnOk result (out.new ≡ out.old ++ line_text (mobile_row names.now entry.now)) }
 {
     match entry {
         Entry::Registered { node, agent, end } => put_until(
@@ -137,7 +132,7 @@ pub fn put_mobile_entry(
             number,
             home,
             careof,
-        } => put_made(out, node_name(names, *node), *peer, *number, *home, *careof),
+        } => put_made(out, names.node_name(*node), *peer, *number, *home, *careof),
         Entry::Bound { node, peer, end } => put_until(out, names, b"bound", *node, *peer, *end),
         Entry::Unbound { node, peer } => put_node_address(out, names, b"unbound", *node, *peer),
         _ => put_update_entry(out, names, entry),

@@ -4,37 +4,36 @@ ghost use Rattle.std.specs.Prelude.{◌≡◌, [], ◌∷◌, ◌++◌, OnOk, co
 ghost use Rattle.mip_lines.specs.HexFields.{hex_text};
 ghost use Rattle.mip_lines.specs.Lines.{line_text};
 ghost use Rattle.mip_trace.specs.Lines.{shield_mark, packet_row};
-ghost use Rattle.mip_trace.specs.Names.{names_of, node_name, link_name, outsider_name};
+ghost use Rattle.mip_trace.specs.Names.{node_name, link_name, outsider_name};
 ghost use Rattle.mip_trace.specs.PacketKinds.{kind_of};
 ghost use Rattle.mip_trace.specs.Whys.{why_word};
 
 use crate::fields::shield_mark;
 use crate::mobile_lines::put_mobile_entry;
-use crate::names::{link_name, node_name, outsider_name};
+use crate::name_table::NameTable;
 use crate::packet_kind::kind_word;
 use crate::why_words::why_word;
 use itoa::Buffer;
 use mip_entries::Entry;
 use mip_lines::{put_line, put_line_hex};
-use mip_schedule::Schedule;
 use mip_words::{Bytes, LinkId, Memory, NodeId, Why};
 
 fn put_sent(
     out: &mut Bytes,
-    names: Option<&Schedule>,
+    names: &NameTable<'_>,
     number: u64,
     node: NodeId,
     shielded: bool,
     packet: &[u8],
 ) -> Result<(), Memory>
-    ensures { OnOk result (out.new ≡ out.old ++ line_text (codes "sent" ∷ decimal number ∷ node_name (names_of names.entry) node ∷ shield_mark shielded ∷ kind_of packet.now ∷ hex_text packet.now ∷ [])) }
+    ensures { OnOk result (out.new ≡ out.old ++ line_text (codes "sent" ∷ decimal number ∷ node_name names.now node ∷ shield_mark shielded ∷ kind_of packet.now ∷ hex_text packet.now ∷ [])) }
 {
     put_line_hex(
         out,
         b"sent",
         &[
             Buffer::new().format(number).as_bytes(),
-            node_name(names, node),
+            names.node_name(node),
             shield_mark(shielded),
             kind_word(packet),
         ],
@@ -44,21 +43,21 @@ fn put_sent(
 
 fn put_injected(
     out: &mut Bytes,
-    names: Option<&Schedule>,
+    names: &NameTable<'_>,
     number: u64,
     outsider: u8,
     link: LinkId,
     packet: &[u8],
 ) -> Result<(), Memory>
-    ensures { OnOk result (out.new ≡ out.old ++ line_text (codes "injected" ∷ decimal number ∷ outsider_name (names_of names.entry) outsider ∷ link_name (names_of names.entry) link ∷ kind_of packet.now ∷ hex_text packet.now ∷ [])) }
+    ensures { OnOk result (out.new ≡ out.old ++ line_text (codes "injected" ∷ decimal number ∷ outsider_name names.now outsider ∷ link_name names.now link ∷ kind_of packet.now ∷ hex_text packet.now ∷ [])) }
 {
     put_line_hex(
         out,
         b"injected",
         &[
             Buffer::new().format(number).as_bytes(),
-            outsider_name(names, outsider),
-            link_name(names, link),
+            names.outsider_name(outsider),
+            names.link_name(link),
             kind_word(packet),
         ],
         packet,
@@ -79,24 +78,15 @@ fn put_numbered(out: &mut Bytes, word: &[u8], number: u64, field: &[u8]) -> Resu
     put_line(out, &[word, Buffer::new().format(number).as_bytes(), field])
 }
 
-fn put_unsent(
-    out: &mut Bytes,
-    names: Option<&Schedule>,
-    node: NodeId,
-    why: Why,
-) -> Result<(), Memory>
-    ensures { OnOk result (out.new ≡ out.old ++ line_text (codes "unsent" ∷ node_name (names_of names.entry) node ∷ why_word why ∷ [])) }
+fn put_unsent(out: &mut Bytes, names: &NameTable<'_>, node: NodeId, why: Why) -> Result<(), Memory>
+    ensures { OnOk result (out.new ≡ out.old ++ line_text (codes "unsent" ∷ node_name names.now node ∷ why_word why ∷ [])) }
 {
-    put_line(out, &[b"unsent", node_name(names, node), why_word(why)])
+    put_line(out, &[b"unsent", names.node_name(node), why_word(why)])
 }
 
 /// Appends the line of an entry that is not of time, place and claims.
-pub fn put_packet_entry(
-    out: &mut Bytes,
-    names: Option<&Schedule>,
-    entry: &Entry,
-) -> Result<(), Memory>
-    ensures { OnOk result (out.new ≡ out.old ++ line_text (packet_row (names_of names.entry) entry.now)) }
+pub fn put_packet_entry(out: &mut Bytes, names: &NameTable<'_>, entry: &Entry) -> Result<(), Memory>
+    ensures { OnOk result (out.new ≡ out.old ++ line_text (packet_row names.now entry.now)) }
 {
     match entry {
         Entry::Sent {
@@ -112,11 +102,11 @@ pub fn put_packet_entry(
             packet,
         } => put_injected(out, names, *number, *outsider, *link, packet.as_slice()),
         Entry::Heard { number, outsider } => {
-            let outsider = outsider_name(names, *outsider);
+            let outsider = names.outsider_name(*outsider);
             put_numbered(out, b"heard", *number, outsider)
         }
         Entry::Handed { number, node } => {
-            let node = node_name(names, *node);
+            let node = names.node_name(*node);
             put_numbered(out, b"handed", *number, node)
         }
         Entry::Gone { number, why } => {

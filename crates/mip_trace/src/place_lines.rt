@@ -4,15 +4,14 @@ ghost use Rattle.std.specs.Prelude.{◌≡◌, [], ◌∷◌, ◌++◌, OnOk, co
 ghost use Rattle.mip_lines.specs.HexFields.{address_hex};
 ghost use Rattle.mip_lines.specs.Lines.{line_text};
 ghost use Rattle.mip_trace.specs.Lines.{or_dash, yes_or_no, claim_row, place_row};
-ghost use Rattle.mip_trace.specs.Names.{names_of, node_name, link_name, outsider_name, who_name};
+ghost use Rattle.mip_trace.specs.Names.{node_name, link_name, outsider_name, who_name};
 
 use crate::fields::{some_address, yes_or_no};
-use crate::names::{link_name, node_name, outsider_name, some_link_name, who_name};
+use crate::name_table::NameTable;
 use crate::packet_lines::put_packet_entry;
 use itoa::Buffer;
 use mip_entries::Entry;
 use mip_lines::put_line;
-use mip_schedule::Schedule;
 use mip_words::{Address, Bytes, LinkId, Memory, Moment, NodeId};
 
 fn put_at(out: &mut Bytes, moment: Moment) -> Result<(), Memory>
@@ -23,19 +22,15 @@ fn put_at(out: &mut Bytes, moment: Moment) -> Result<(), Memory>
 
 fn put_moved(
     out: &mut Bytes,
-    names: Option<&Schedule>,
+    names: &NameTable<'_>,
     node: NodeId,
     link: Option<LinkId>,
 ) -> Result<(), Memory>
-    ensures { OnOk result (out.new ≡ out.old ++ line_text (codes "moved" ∷ node_name (names_of names.entry) node ∷ or_dash (link_name (names_of names.entry)) link ∷ [])) }
+    ensures { OnOk result (out.new ≡ out.old ++ line_text (codes "moved" ∷ node_name names.now node ∷ or_dash (link_name names.now) link ∷ [])) }
 {
     put_line(
         out,
-        &[
-            b"moved",
-            node_name(names, node),
-            some_link_name(names, link),
-        ],
+        &[b"moved", names.node_name(node), names.some_link_name(link)],
     )
 }
 
@@ -57,53 +52,53 @@ fn put_advertised<'a>(
 /// The line of an outsider on a link.
 fn put_listener<'a>(
     out: &mut Bytes,
-    names: Option<&'a Schedule>,
+    names: &NameTable<'_>,
     word: &'a [u8],
     outsider: u8,
     link: LinkId,
 ) -> Result<(), Memory>
-    ensures { OnOk result (out.new ≡ out.old ++ line_text (word.now ∷ outsider_name (names_of names.entry) outsider ∷ link_name (names_of names.entry) link ∷ [])) }
+    ensures { OnOk result (out.new ≡ out.old ++ line_text (word.now ∷ outsider_name names.now outsider ∷ link_name names.now link ∷ [])) }
 {
     put_line(
         out,
-        &[word, outsider_name(names, outsider), link_name(names, link)],
+        &[word, names.outsider_name(outsider), names.link_name(link)],
     )
 }
 
 /// The line of a node and an address.
 pub fn put_node_address<'a>(
     out: &mut Bytes,
-    names: Option<&'a Schedule>,
+    names: &NameTable<'_>,
     word: &'a [u8],
     node: NodeId,
     address: Address,
 ) -> Result<(), Memory>
-    ensures { OnOk result (out.new ≡ out.old ++ line_text (word.now ∷ node_name (names_of names.entry) node ∷ address_hex address ∷ [])) }
+    ensures { OnOk result (out.new ≡ out.old ++ line_text (word.now ∷ node_name names.now node ∷ address_hex address ∷ [])) }
 {
-    put_line(out, &[word, node_name(names, node), &address.digits()])
+    put_line(out, &[word, names.node_name(node), &address.digits()])
 }
 
-fn put_restarted(out: &mut Bytes, names: Option<&Schedule>, node: NodeId) -> Result<(), Memory>
-    ensures { OnOk result (out.new ≡ out.old ++ line_text (codes "restarted" ∷ node_name (names_of names.entry) node ∷ [])) }
+fn put_restarted(out: &mut Bytes, names: &NameTable<'_>, node: NodeId) -> Result<(), Memory>
+    ensures { OnOk result (out.new ≡ out.old ++ line_text (codes "restarted" ∷ node_name names.now node ∷ [])) }
 {
-    put_line(out, &[b"restarted", node_name(names, node)])
+    put_line(out, &[b"restarted", names.node_name(node)])
 }
 
 fn put_settled(
     out: &mut Bytes,
-    names: Option<&Schedule>,
+    names: &NameTable<'_>,
     a: NodeId,
     b: NodeId,
     yes: bool,
 ) -> Result<(), Memory>
-    ensures { OnOk result (out.new ≡ out.old ++ line_text (codes "settled" ∷ node_name (names_of names.entry) a ∷ node_name (names_of names.entry) b ∷ yes_or_no yes ∷ [])) }
+    ensures { OnOk result (out.new ≡ out.old ++ line_text (codes "settled" ∷ node_name names.now a ∷ node_name names.now b ∷ yes_or_no yes ∷ [])) }
 {
     put_line(
         out,
         &[
             b"settled",
-            node_name(names, a),
-            node_name(names, b),
+            names.node_name(a),
+            names.node_name(b),
             yes_or_no(yes),
         ],
     )
@@ -112,20 +107,20 @@ fn put_settled(
 /// The line of a claim that was made or given up.
 fn put_claim<'a>(
     out: &mut Bytes,
-    names: Option<&'a Schedule>,
+    names: &NameTable<'_>,
     word: &'a [u8],
     who: u8,
     link: LinkId,
     address: Address,
 ) -> Result<(), Memory>
-    ensures { OnOk result (out.new ≡ out.old ++ line_text (word.now ∷ who_name (names_of names.entry) who ∷ link_name (names_of names.entry) link ∷ address_hex address ∷ [])) }
+    ensures { OnOk result (out.new ≡ out.old ++ line_text (word.now ∷ who_name names.now who ∷ link_name names.now link ∷ address_hex address ∷ [])) }
 {
     put_line(
         out,
         &[
             word,
-            who_name(names, who),
-            link_name(names, link),
+            names.who_name(who),
+            names.link_name(link),
             &address.digits(),
         ],
     )
@@ -133,28 +128,28 @@ fn put_claim<'a>(
 
 fn put_taken(
     out: &mut Bytes,
-    names: Option<&Schedule>,
+    names: &NameTable<'_>,
     who: u8,
     link: LinkId,
     address: Address,
     holder: u8,
 ) -> Result<(), Memory>
-    ensures { OnOk result (out.new ≡ out.old ++ line_text (codes "taken" ∷ who_name (names_of names.entry) who ∷ link_name (names_of names.entry) link ∷ address_hex address ∷ who_name (names_of names.entry) holder ∷ [])) }
+    ensures { OnOk result (out.new ≡ out.old ++ line_text (codes "taken" ∷ who_name names.now who ∷ link_name names.now link ∷ address_hex address ∷ who_name names.now holder ∷ [])) }
 {
     put_line(
         out,
         &[
             b"taken",
-            who_name(names, who),
-            link_name(names, link),
+            names.who_name(who),
+            names.link_name(link),
             &address.digits(),
-            who_name(names, holder),
+            names.who_name(holder),
         ],
     )
 }
 
-fn put_claim_entry(out: &mut Bytes, names: Option<&Schedule>, entry: &Entry) -> Result<(), Memory>
-    ensures { OnOk result (out.new ≡ out.old ++ line_text (claim_row (names_of names.entry) entry.now)) }
+fn put_claim_entry(out: &mut Bytes, names: &NameTable<'_>, entry: &Entry) -> Result<(), Memory>
+    ensures { OnOk result (out.new ≡ out.old ++ line_text (claim_row names.now entry.now)) }
 {
     match entry {
         Entry::Claimed { who, link, address } => put_claim(
@@ -179,16 +174,16 @@ fn put_claim_entry(out: &mut Bytes, names: Option<&Schedule>, entry: &Entry) -> 
 }
 
 /// Appends the line of an entry.
-pub fn put_entry(out: &mut Bytes, names: Option<&Schedule>, entry: &Entry) -> Result<(), Memory>
-    ensures { OnOk result (out.new ≡ out.old ++ line_text (place_row (names_of names.entry) entry.now)) }
+pub fn put_entry(out: &mut Bytes, names: &NameTable<'_>, entry: &Entry) -> Result<(), Memory>
+    ensures { OnOk result (out.new ≡ out.old ++ line_text (place_row names.now entry.now)) }
 {
     match entry {
         Entry::At { moment } => put_at(out, *moment),
         Entry::Moved { node, link } => put_moved(out, names, *node, *link),
         Entry::Advertised { node, link, agent } => put_advertised(
             out,
-            node_name(names, *node),
-            link_name(names, *link),
+            names.node_name(*node),
+            names.link_name(*link),
             *agent,
         ),
         Entry::Listening { outsider, link } => put_listener(

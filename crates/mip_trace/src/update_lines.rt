@@ -4,16 +4,14 @@ ghost use Rattle.std.specs.Prelude.{◌≡◌, [], ◌∷◌, ◌++◌, OnOk, co
 ghost use Rattle.mip_lines.specs.HexFields.{address_hex};
 ghost use Rattle.mip_lines.specs.Lines.{line_text};
 ghost use Rattle.mip_trace.specs.Lines.{or_dash, update_row};
-ghost use Rattle.mip_trace.specs.Names.{names_of};
 
 use crate::binding_lines::put_binding_entry;
 use crate::fields::{some_index, some_number};
-use crate::names::node_name;
+use crate::name_table::NameTable;
 use crate::packet_lines::put_number;
 use itoa::Buffer;
 use mip_entries::Entry;
 use mip_lines::put_line;
-use mip_schedule::Schedule;
 use mip_words::{Address, Bytes, Memory, Moment};
 
 fn put_accepted(
@@ -76,12 +74,8 @@ fn put_denied(out: &mut Bytes, node: &[u8], number: u64, status: u8) -> Result<(
 }
 
 /// Appends the line of what becomes of an update, or of another entry.
-pub fn put_update_entry(
-    out: &mut Bytes,
-    names: Option<&Schedule>,
-    entry: &Entry,
-) -> Result<(), Memory>
-    ensures { OnOk result (out.new ≡ out.old ++ line_text (update_row (names_of names.entry) entry.now)) }
+pub fn put_update_entry(out: &mut Bytes, names: &NameTable<'_>, entry: &Entry) -> Result<(), Memory>
+    ensures { OnOk result (out.new ≡ out.old ++ line_text (update_row names.now entry.now)) }
 {
     match entry {
         Entry::Accepted {
@@ -96,7 +90,7 @@ pub fn put_update_entry(
             careof_index,
         } => put_accepted(
             out,
-            node_name(names, *node),
+            names.node_name(*node),
             *number,
             *home,
             *binding,
@@ -112,7 +106,7 @@ pub fn put_update_entry(
             node,
             number,
             status,
-        } => put_denied(out, node_name(names, *node), *number, *status),
+        } => put_denied(out, names.node_name(*node), *number, *status),
         _ => put_binding_entry(out, names, entry),
     }
 }

@@ -6,6 +6,7 @@ ghost use Rattle.mip_lines.specs.Lines.{line_text};
 ghost use Rattle.mip_trace.specs.Lines.{entry_row, trace_text};
 ghost use Rattle.mip_trace.specs.Names.{names_of};
 
+use crate::name_table::NameTable;
 use crate::place_lines::put_entry;
 use mip_entries::{Entry, History};
 use mip_schedule::Schedule;
@@ -26,17 +27,27 @@ pub fn write_entry(
     ensures err { OnErr result (out.new ≡ out.old) }
 {
     let mut line = Bytes::new(alloc);
-    put_entry(&mut line, names, entry)?;
+    put_entry(&mut line, &NameTable::untabled(alloc, names), entry)?;
     out.extend(line.as_slice())
+}
+
+/// Puts the line of an entry in the place of what stands in `line`, and takes memory only past the room of that. After
+/// want of memory a part of the line may stand there.
+pub fn entry_line(line: &mut Bytes, names: &NameTable<'_>, entry: &Entry) -> Result<(), Memory>
+    ensures { OnOk result (line.new ≡ line_text (entry_row names.now entry.now)) }
+{
+    line.clear();
+    put_entry(line, names, entry)
 }
 
 /// The trace of a history: a line for each entry, in order.
 pub fn write_trace(alloc: Global, schedule: &Schedule, history: &History) -> Result<Bytes, Memory>
     ensures { IfOk result (λ text. text ≡ trace_text (Some schedule.now.declarations) history.now) }
 {
+    let names = NameTable::of(alloc, schedule)?;
     let mut out = Bytes::new(alloc);
     for entry in history.as_slice() {
-        put_entry(&mut out, Some(schedule), entry)?;
+        put_entry(&mut out, &names, entry)?;
     }
     Ok(out)
 }

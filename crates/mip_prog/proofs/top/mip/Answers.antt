@@ -15,8 +15,14 @@ returns-in-None-clause-bound g c = if_told _ (λ text x read. c.each_is_bound.en
 pub returns-in-None-clause-repeats : goal.returns-in-None-clause-repeats
 returns-in-None-clause-repeats g c = if_told _ c.each_repeat_is_late.ensures (g.S.Source.left c.args.source.now)
 
+pub returns-in-None-clause-marked : goal.returns-in-None-clause-marked
+returns-in-None-clause-marked g c = if_told _ c.each_acceptance_is_marked.ensures (g.S.Source.left c.args.source.now)
+
 pub returns-in-Some-clause-bound : goal.returns-in-Some-clause-bound
 returns-in-Some-clause-bound g c = if_told _ (λ text x read. c.each_is_bound.ensures x) (g.S.Source.left c.args.source.now)
 
 pub returns-in-Some-clause-repeats : goal.returns-in-Some-clause-repeats
 returns-in-Some-clause-repeats g c = if_told _ c.each_repeat_is_late.ensures (g.S.Source.left c.args.source.now)
+
+pub returns-in-Some-clause-marked : goal.returns-in-Some-clause-marked
+returns-in-Some-clause-marked g c = if_told _ c.each_acceptance_is_marked.ensures (g.S.Source.left c.args.source.now)

@@ -1,0 +1,31 @@
+-- The packets of a history by their places.
+use Rattle.std.specs.Prelude.{ℕ, List, Bool, true, ◌==◌, nat_lt, ◌&&◌, Option, Some, None, slice_get}
+use Rattle.std.specs.Option.{option_and_then, option_map_or}
+use Rattle.mip_entries.specs.declared.entry.Entry.{Entry}
+use Rattle.mip_entries.specs.declared.entry.Entry.TheVariants as entries
+use Rattle.mip_watch.specs.Stands.{number_posted}
+
+-- the bytes that an entry posts
+abbrev pub bytes_posted : Entry → Option (List ℕ)
+bytes_posted (entries.Sent number node shielded packet) = Some packet
+bytes_posted (entries.Injected number outsider link packet) = Some packet
+bytes_posted _ = None
+
+-- the number of the packet that an entry says was heard or handed over
+abbrev pub number_reached : Entry → Option ℕ
+number_reached (entries.Heard number outsider) = Some number
+number_reached (entries.Handed number node) = Some number
+number_reached _ = None
+
+-- the bytes of packet k, whose entry stands at the place that the list has for it
+abbrev pub bytes_at : List Entry → List ℕ → ℕ → Option (List ℕ)
+bytes_at past places k = option_and_then (λ place. option_and_then bytes_posted (slice_get past place)) (slice_get places k)
+
+-- an entry comes next: a packet takes the next number, and is heard and handed over when it was posted
+abbrev pub comes_next : ℕ → Entry → Bool
+comes_next count e =
+    option_map_or (λ number. number == count) (number_posted e) true && option_map_or (λ number. nat_lt number count) (number_reached e) true
+
+-- the packet that an entry says was heard or handed over
+abbrev pub reached_at : List Entry → List ℕ → Entry → Option (List ℕ)
+reached_at past places e = option_and_then (bytes_at past places) (number_reached e)

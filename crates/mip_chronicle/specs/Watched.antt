@@ -1,0 +1,19 @@
+-- A history that is watched: the watch and the places of the packets go along with it.
+use Rattle.std.specs.Prelude.{◌≡◌, ◌≢◌, ◌<◌, ℕ, List, Some, None, length, slice_get}
+use Rattle.std.specs.List.{filter_map}
+use Rattle.mip_entries.specs.declared.entry.Entry.{Entry}
+use Rattle.mip_marks.specs.Entries.{packet_in}
+use Rattle.mip_watch.specs.declared.watch.Watch.{Watch}
+use Rattle.mip_watch.specs.Stands.{StandsFor, number_posted}
+use Rattle.mip_watch.specs.Told.{AreTold}
+use Rattle.mip_chronicle.specs.Packets.{bytes_at}
+
+pub record IsWatched (watch : Watch) (past : List Entry) (places : List ℕ) : Type 0 where
+  pub stands : StandsFor watch past
+  -- packets are heard and handed over once they were posted
+  pub told : AreTold past
+  -- the entry of each packet stands at its place
+  pub placed : (k : ℕ) → bytes_at past places k ≡ packet_in past k
+  pub inside : (k place : ℕ) → slice_get places k ≡ Some place → place < length past
+  pub posted : (k : ℕ) → k < length places → packet_in past k ≢ None
+  pub count : length places ≡ length (filter_map number_posted past)

@@ -1,0 +1,8 @@
+pub mod ListLaws
+pub mod Tokens
+pub mod Pairing
+pub mod Tracing
+pub mod Plain
+pub mod Standing
+pub mod Originating
+pub mod Covered

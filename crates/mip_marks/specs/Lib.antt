@@ -1,0 +1,14 @@
+pub mod Lists
+pub mod Entries
+pub mod Keys
+pub mod Sights
+pub mod Reached
+pub mod Names
+pub mod Firsts
+pub mod Pairs
+pub mod Causes
+pub mod Marks
+pub mod Seen
+pub mod Traces
+pub mod Laws
+pub mod Origins

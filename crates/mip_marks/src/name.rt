@@ -1,0 +1,43 @@
+ghost use Rattle.std.specs.Prelude.{◌≡◌, ◌==◌};
+ghost use Rattle.mip_says.specs.Says.{kind_of};
+ghost use Rattle.mip_marks.specs.Names.{same_name};
+ghost use Rattle.mip_marks.specs.Seen.{name_of};
+
+use mip_says::TestKind;
+use mip_words::{Address, NodeId};
+
+/// The name of a keygen token.
+#[derive(Clone, Copy)]
+pub struct Name {
+    /// Who sends it.
+    pub node: NodeId,
+    /// In which of its lives.
+    pub life: usize,
+    pub kind: TestKind,
+    /// To which address.
+    pub address: Address,
+    /// With which nonce index.
+    pub index: u16,
+}
+
+fn same_kind(a: TestKind, b: TestKind) -> bool
+    ensures { result ≡ (kind_of a == kind_of b) }
+{
+    match (a, b) {
+        (TestKind::Home, TestKind::Home) | (TestKind::Careof, TestKind::Careof) => true,
+        _ => false,
+    }
+}
+
+impl Name {
+    /// The same name.
+    pub fn is(&self, other: &Name) -> bool
+        ensures { result ≡ same_name (name_of self.now) (name_of other.now) }
+    {
+        self.node == other.node
+            && self.life == other.life
+            && same_kind(self.kind, other.kind)
+            && self.address == other.address
+            && self.index == other.index
+    }
+}

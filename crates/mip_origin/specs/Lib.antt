@@ -1,0 +1,4 @@
+pub mod OwnTests
+pub mod OwnHistories
+pub mod Origins
+pub mod Marked

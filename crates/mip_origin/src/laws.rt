@@ -1,0 +1,41 @@
+//! The laws, each the contract of a function that does nothing.
+
+ghost use Rattle.std.specs.Prelude.{◌≡◌, ◌≤◌, ℕ, List, ◌∷◌, ◌++◌, Option, Some};
+ghost use Rattle.std.specs.List.{AllByRecursion, sum_by};
+ghost use Rattle.mip_entries.specs.declared.entry.Entry.{Entry};
+ghost use Rattle.mip_schedule.specs.Contents.{Content};
+ghost use Rattle.mip_rules_correspondent.specs.declared.identity.Identity.{Identity};
+ghost use Rattle.mip_rules_correspondent.specs.declared.known.Known.{Known};
+ghost use Rattle.mip_rules_correspondent.specs.Calls.{Call};
+ghost use Rattle.mip_rules_correspondent.specs.Doing.{turn_of};
+ghost use Rattle.mip_marks.specs.declared.accepted_update.AcceptedUpdate.{AcceptedUpdate};
+ghost use Rattle.mip_marks.specs.declared.mark.Mark.TheVariants.{Origin};
+ghost use Rattle.mip_marks.specs.Entries.{update_accepted};
+ghost use Rattle.mip_marks.specs.Marks.{mark_in};
+ghost use Rattle.mip_history.specs.Setup.{setup_of};
+ghost use Rattle.mip_history.specs.Passing.{waited_by};
+ghost use Rattle.mip_history.specs.Permitted.{permitted};
+ghost use Rattle.mip_origin.specs.OwnTests.{SendsOwnTests, SendsPlainData};
+ghost use Rattle.mip_origin.specs.OwnHistories.{ArePlain};
+ghost use Rattle.mip_origin.specs.Origins.{IsOriginOf};
+ghost use Rattle.mip_origin.specs.Marked.{EachIsMarked};
+
+/// Each test that a correspondent sends is its own: it has the index of the newest nonce of this life, and the token for the
+/// address that it goes to (RFC 6275 sections 9.4.3 and 9.4.4).
+pub fn tests_are_own()
+    ensures { (me : Identity) (k : Known) (now : ℕ) (c : Call) → SendsPlainData c → AllByRecursion (SendsOwnTests me now) (turn_of me k now c).steps }
+{}
+
+/// In the permitted history of a schedule of plain data and at most 36,000 s, an accepted update that is not forged has its
+/// origin: the node sent both tokens in its present life, to that home and that care-of address, under the nonces that were
+/// valid at the acceptance, and both had reached the maker of the update before its first packet was posted.
+pub fn unforged_acceptances_have_their_origin()
+    ensures { (c : Content) → ArePlain c → sum_by waited_by c.events ≤ 36000000 → (before : List Entry) (e : Entry) (after : List Entry) → permitted c ≡ before ++ e ∷ after
+        → (a : AcceptedUpdate) → update_accepted e ≡ Some a → (hot : ℕ) (cot : Option ℕ) (update : ℕ) → mark_in before a ≡ Origin hot cot update
+        → IsOriginOf (setup_of c) before e a hot cot update }
+{}
+
+/// Each accepted update of such a history is followed by its mark.
+pub fn acceptances_are_marked()
+    ensures { (c : Content) → ArePlain c → sum_by waited_by c.events ≤ 36000000 → EachIsMarked (setup_of c) (permitted c) }
+{}

@@ -1,0 +1,6 @@
+//! What stands behind a binding: laws on the tests that nodes send.
+#![tactic(auto)]
+
+mod laws;
+
+pub use laws::{acceptances_are_marked, tests_are_own, unforged_acceptances_have_their_origin};

@@ -1,0 +1,57 @@
+//! The end of a run: what the sink keeps back is put on.
+
+ghost use Rattle.std.specs.Prelude.{◌≡◌, ℕ, ◌≤◌, ◌⊎◌, List, [], map, string_bytes, IfSome};
+ghost use Rattle.std.specs.Io.KnownBytes.{prepend_known};
+ghost use Rattle.mip_outside.specs.Cause.{Rose};
+ghost use Rattle.mip_outside.specs.Waiting.{held_by};
+ghost use Rattle.mip_prog.specs.Answers.{answer_of};
+ghost use Rattle.mip_prog.specs.Told.{IsSettled, IsStatus, Says};
+
+use crate::status::Status;
+use crate::top::mip;
+use mip_outside::{Buffered, Clock, Link, PutFault, Sink, Source};
+use std::alloc::Global;
+
+/// The program over a sink that keeps bytes back. At its end it puts them on, and a fault there is a write fault.
+pub fn mip_flushed<S: Source, K: Sink + Drop, C: Clock, L: Link>(
+    alloc: Global,
+    words: &[String],
+    source: &mut S,
+    sink: &mut Buffered<K>,
+    clock: &mut C,
+    link: &mut L,
+) -> Status
+    requires { sink.old.waiting ≡ [] }
+    // Unless a call failed or memory ran out, the whole answer was put on.
+    ensures whole { IfSome (S.left source.old) (λ bytes. IsSettled result.0
+        → Says (answer_of (map string_bytes words.now) bytes) result.0 sink.old.put_on sink.new.put_on) }
+    ensures whole_of_some { IsSettled result.0 → ((bytes : List ℕ)
+        × (S.left source.old ≡ prepend_known bytes (S.left source.new))
+        × Says (answer_of (map string_bytes words.now) bytes) result.0 sink.old.put_on sink.new.put_on) }
+    ensures statuses { IsStatus result.0 }
+    ensures read_fault { result.0 ≡ 3 → Rose (S.faults source.old) (S.faults source.new) }
+    ensures write_fault { result.0 ≡ 4 → Rose sink.old.faults sink.new.faults }
+{
+    let status = mip(alloc, words, source, sink, clock, link);
+    finish(sink, status)
+}
+
+/// Puts on what waits, and says how the run ended. After a write fault nothing more is put on.
+fn finish<K: Sink + Drop>(sink: &mut Buffered<K>, status: Status) -> Status
+    requires { IsStatus status.0 }
+    ensures held { held_by sink.new ≡ held_by sink.old }
+    ensures settled { IsSettled result.0 → (result.0 ≡ status.0) × (sink.new.waiting ≡ []) }
+    ensures statuses { (result.0 ≡ status.0) ⊎ ((result.0 ≡ 4) ⊎ (result.0 ≡ 5)) }
+    ensures no_fewer { sink.old.faults ≤ sink.new.faults }
+    ensures cause { result.0 ≡ 4 → (status.0 ≡ 4) ⊎ Rose sink.old.faults sink.new.faults }
+{
+    if status == Status::WRITE_FAULT {
+        return status;
+    }
+    match sink.flush() {
+        Ok(()) => status,
+        Err(_) if status == Status::READ_FAULT || status == Status::MEMORY => status,
+        Err(PutFault::Failed) => Status::WRITE_FAULT,
+        Err(PutFault::Memory) => Status::MEMORY,
+    }
+}

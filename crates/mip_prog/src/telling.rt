@@ -1,0 +1,119 @@
+//! Writing a reply.
+
+ghost use Rattle.std.specs.Prelude.{◌≡◌, ℕ, ◌<◌, ◌≤◌, ◌⊎◌, List, length, take, Some, map, OnOk, OnErr, IsErrOf};
+ghost use Rattle.std.specs.Io.KnownBytes.{append_known};
+ghost use Rattle.mip_lines.specs.Lines.{line_text};
+ghost use Rattle.mip_outside.specs.Cause.{Rose};
+ghost use Rattle.mip_trace.specs.Lines.{entry_row, trace_text};
+ghost use Rattle.mip_prog.specs.Told.{IsSettled, Told};
+
+use crate::reply::Reply;
+use crate::status::Status;
+use crate::text::Text;
+use crate::writing::{tell, write_line};
+use mip_entries::{Entry, History};
+use mip_outside::{PutFault, Sink};
+use mip_schedule::Schedule;
+use mip_trace::{NameTable, entry_line};
+use mip_words::Bytes;
+use std::alloc::Global;
+
+/// The room for a line of a trace that is taken at once.
+const LINE: usize = 512;
+
+/// Writes a reply, and gives its status where all of it was taken.
+pub fn tell_reply<K: Sink>(alloc: Global, sink: &mut K, reply: &Reply) -> Status
+    requires { IsSettled reply.now.status }
+    ensures told { Told reply.now result.0 (K.held sink.old) (K.held sink.new) }
+    ensures status { (result.0 ≡ reply.now.status) ⊎ ((result.0 ≡ 4) ⊎ (result.0 ≡ 5)) }
+    ensures no_fewer { K.faults sink.old ≤ K.faults sink.new }
+    ensures cause { result.0 ≡ 4 → Rose (K.faults sink.old) (K.faults sink.new) }
+{
+    match &reply.text {
+        Text::Whole(text) => tell(sink, text.as_slice(), reply.status),
+        Text::Trace { schedule, history } => tell_trace(
+            alloc,
+            sink,
+            schedule,
+            history,
+            reply.status,
+        ),
+    }
+}
+
+/// Writes the trace of a history, and gives this status where all of it was taken.
+fn tell_trace<K: Sink>(
+    alloc: Global,
+    sink: &mut K,
+    schedule: &Schedule,
+    history: &History,
+    status: Status,
+) -> Status
+    requires { IsSettled status.0 }
+    ensures told { Told record { status = status.0; text = trace_text (Some schedule.now.declarations) history.now } result.0 (K.held sink.old) (K.held sink.new) }
+    ensures status { (result.0 ≡ status.0) ⊎ ((result.0 ≡ 4) ⊎ (result.0 ≡ 5)) }
+    ensures no_fewer { K.faults sink.old ≤ K.faults sink.new }
+    ensures cause { result.0 ≡ 4 → Rose (K.faults sink.old) (K.faults sink.new) }
+{
+    match write_trace(alloc, sink, schedule, history) {
+        Ok(()) => status,
+        Err(PutFault::Failed) => Status::WRITE_FAULT,
+        Err(PutFault::Memory) => Status::MEMORY,
+    }
+}
+
+/// Writes the trace of a history line by line. It keeps one line at a time.
+fn write_trace<K: Sink>(
+    alloc: Global,
+    sink: &mut K,
+    schedule: &Schedule,
+    history: &History,
+) -> Result<(), PutFault>
+    ensures ok { OnOk result (K.held sink.new ≡ append_known (K.held sink.old) (trace_text (Some schedule.now.declarations) history.now)) }
+    ensures front { OnErr result ((count : ℕ) × (K.held sink.new ≡ append_known (K.held sink.old) (take count (trace_text (Some schedule.now.declarations) history.now)))) }
+    ensures part { IsErrOf result PutFault.Failed → ((count : ℕ) × (count < length (trace_text (Some schedule.now.declarations) history.now))
+        × (K.held sink.new ≡ append_known (K.held sink.old) (take count (trace_text (Some schedule.now.declarations) history.now)))) }
+    ensures no_fewer { K.faults sink.old ≤ K.faults sink.new }
+    ensures cause { IsErrOf result PutFault.Failed → Rose (K.faults sink.old) (K.faults sink.new) }
+{
+    let names = NameTable::of(alloc, schedule)?;
+    let mut line = Bytes::with_capacity(alloc, LINE)?;
+    write_entries(sink, &names, &mut line, history.as_slice())
+}
+
+/// Writes the lines of entries, each in the place of the one before.
+#[tactic(auto, using(mip_outside::proofs::Known::Rose_since))]
+fn write_entries<K: Sink>(
+    sink: &mut K,
+    names: &NameTable<'_>,
+    line: &mut Bytes,
+    entries: &[Entry],
+) -> Result<(), PutFault>
+    ensures ok { OnOk result (K.held sink.new ≡ append_known (K.held sink.old) (trace_text names.now entries.now)) }
+    ensures err { OnErr result ((count : ℕ) × (count < length (trace_text names.now entries.now))
+        × (K.held sink.new ≡ append_known (K.held sink.old) (take count (trace_text names.now entries.now)))) }
+    ensures no_fewer { K.faults sink.old ≤ K.faults sink.new }
+    ensures cause { IsErrOf result PutFault.Failed → Rose (K.faults sink.old) (K.faults sink.new) }
+{
+    for entry in entries {
+        write_entry(sink, names, line, entry)?;
+    }
+    Ok(())
+}
+
+/// Writes the line of an entry.
+fn write_entry<K: Sink>(
+    sink: &mut K,
+    names: &NameTable<'_>,
+    line: &mut Bytes,
+    entry: &Entry,
+) -> Result<(), PutFault>
+    ensures ok { OnOk result (K.held sink.new ≡ append_known (K.held sink.old) (line_text (entry_row names.now entry.now))) }
+    ensures err { OnErr result ((count : ℕ) × (count < length (line_text (entry_row names.now entry.now)))
+        × (K.held sink.new ≡ append_known (K.held sink.old) (take count (line_text (entry_row names.now entry.now))))) }
+    ensures no_fewer { K.faults sink.old ≤ K.faults sink.new }
+    ensures cause { IsErrOf result PutFault.Failed → Rose (K.faults sink.old) (K.faults sink.new) }
+{
+    entry_line(line, names, entry)?;
+    write_line(sink, line.as_slice())
+}

@@ -1,0 +1,13 @@
+pub mod Walks
+pub mod Calls
+pub mod Moments
+pub mod Sendings
+pub mod Wholes
+pub mod Answers
+pub mod VerdictLaws
+pub mod Homes
+pub mod EndLaws
+pub mod Pasts
+pub mod Taken
+pub mod HomeLaws
+pub mod Refusals

@@ -1,0 +1,84 @@
+-- A packet that leads to no registration changes nothing that the agent knows but the moment.
+use Rattle.std.proofs.Common.{◌≡◌, ℕ, List, true, false, inl, inr, refl, sym, ap, ◌∙◌}
+use Rattle.std.specs.Prelude.{Option}
+use Rattle.std.specs.List.{list_any}
+use Rattle.mip_words.specs.declared.shield.Shield.{Shield}
+use Rattle.mip_outside.specs.declared.claim.Claim.{Claim}
+use Rattle.mip_discovery.specs.declared.plan.PrefixPlan.{PrefixPlan}
+use Rattle.mip_discovery.specs.Listed.{AgentsSeen}
+use Rattle.mip_turns.proofs.TurnLaws.{noted-known}
+use Rattle.mip_rules_agent.specs.declared.identity.Identity.{Identity}
+use Rattle.mip_rules_agent.specs.Known.{Known}
+use Rattle.mip_rules_agent.specs.Calls as calls
+use Rattle.mip_rules_agent.specs.Calls.{Call}
+use Rattle.mip_rules_agent.specs.Steps.{Step, Called, Sends, Registers, Claims, Releases, Denies, Drops, Rang, is_call, is_registration}
+use Rattle.mip_rules_agent.specs.Questions.{agents_called, agents_after, plan_called, plan_after, after}
+use Rattle.mip_rules_agent.specs.Turns.{Turn, begun, noted}
+use Rattle.mip_rules_agent.specs.Doing.{does, turn_of}
+use Rattle.mip_rules_agent.specs.Taken.{IsUpdateTaken}
+use Rattle.mip_rules_agent.proofs.Taken.{taken_is}
+use Rattle.mip_rules_agent.proofs.Walks.{every-handles}
+
+agents-noted : (step : Step) (t : Turn) → (noted step t).known.agents ≡ agents_after t.known.agents t.now step
+unfolding after
+agents-noted step t = ap (λ (k : Known). k.agents) (noted-known after step t)
+
+plan-noted : (step : Step) (t : Turn) → (noted step t).known.plan ≡ plan_after t.known.plan t.now step
+unfolding after
+plan-noted step t = ap (λ (k : Known). k.plan) (noted-known after step t)
+
+agents-quiet : (step : Step) (agents : AgentsSeen) (at : ℕ) → is_call step ≡ false → agents_after agents at step ≡ agents
+agents-quiet (Called call) agents at silent = absurd cc
+agents-quiet (Sends shield packet) agents at silent = refl
+agents-quiet (Registers number home b) agents at silent = refl
+agents-quiet (Claims home) agents at silent = refl
+agents-quiet (Releases home) agents at silent = refl
+agents-quiet (Denies number status) agents at silent = refl
+agents-quiet (Drops number why) agents at silent = refl
+agents-quiet Rang agents at silent = refl
+
+plan-quiet : (step : Step) (plan : PrefixPlan) (at : ℕ) → is_call step ≡ false → plan_after plan at step ≡ plan
+plan-quiet (Called call) plan at silent = absurd cc
+plan-quiet (Sends shield packet) plan at silent = refl
+plan-quiet (Registers number home b) plan at silent = refl
+plan-quiet (Claims home) plan at silent = refl
+plan-quiet (Releases home) plan at silent = refl
+plan-quiet (Denies number status) plan at silent = refl
+plan-quiet (Drops number why) plan at silent = refl
+plan-quiet Rang plan at silent = refl
+
+-- the other agents and the plan are those that the call leaves
+pub call-agents : (me : Identity) (k : Known) (now : ℕ) (c : Call) → (turn_of me k now c).known.agents ≡ agents_called k.agents now c
+unfolding does
+call-agents me k now c =
+    every-handles me (λ (t : Turn). t.known.agents ≡ agents_called k.agents now c) c
+    (λ step t silent own is. agents-noted step t ∙ agents-quiet step t.known.agents t.now silent ∙ is)
+    (noted (Called c) (begun now k)) (agents-noted (Called c) (begun now k))
+
+pub call-plan : (me : Identity) (k : Known) (now : ℕ) (c : Call) → (turn_of me k now c).known.plan ≡ plan_called k.plan now c
+unfolding does
+call-plan me k now c =
+    every-handles me (λ (t : Turn). t.known.plan ≡ plan_called k.plan now c) c
+    (λ step t silent own is. plan-noted step t ∙ plan-quiet step t.known.plan t.now silent ∙ is)
+    (noted (Called c) (begun now k)) (plan-noted (Called c) (begun now k))
+
+module _ (me : Identity) (k : Known) (now number : ℕ) (shield : Option Shield) (bytes : List ℕ) (claim : Claim) where
+  abbrev turn : Turn
+  turn = turn_of me k now (calls.Take number shield bytes claim)
+
+  some-taken : IsUpdateTaken me k now number shield bytes claim turn.steps → list_any is_registration turn.steps ≡ true
+  some-taken is = ap (list_any is_registration) is.steps_are
+
+  pub quiet-homes : list_any is_registration turn.steps ≡ false → (turn.known.homes ≡ k.homes) × (turn.known.ends ≡ k.ends)
+  quiet-homes none =
+      elim (taken_is me k now number shield bytes claim) as (λ _. (turn.known.homes ≡ k.homes) × (turn.known.ends ≡ k.ends)) [
+        | inl quiet ↦ (quiet.1, quiet.2)
+        | inr is ↦ absurd (let both : true ≡ false = sym (some-taken is) ∙ none in cc)
+      ]
+
+  pub some-update : list_any is_registration turn.steps ≡ true → IsUpdateTaken me k now number shield bytes claim turn.steps
+  some-update some =
+      elim (taken_is me k now number shield bytes claim) as (λ _. IsUpdateTaken me k now number shield bytes claim turn.steps) [
+        | inl quiet ↦ absurd (let both : true ≡ false = sym some ∙ quiet.0 in cc)
+        | inr is ↦ is
+      ]

@@ -1,0 +1,257 @@
+-- What a home agent does about a packet that it is handed: it registers nothing, or at once the update in the packet, with
+-- the verdict Accept; where it registers nothing, its homes and their ends stay.
+use Rattle.std.proofs.Common.{◌≡◌, ℕ, List, ◌∷◌, Bool, true, false, ◌⊎◌, inl, inr, refl, ap, length}
+use Rattle.std.specs.Prelude.{Option, Some, None, Result, Ok, Err, not, ◌==◌, ◌||◌, ◌&&◌, nat_lt, if◌then◌else◌, is_some}
+use Rattle.std.specs.List.{list_any}
+use Rattle.std.proofs.lemmas.Bool.{cond_both, eqb-true}
+use Rattle.mip_words.specs.Steps.{◌>>=◌}
+use Rattle.mip_words.specs.declared.address.Address.{Address}
+use Rattle.mip_words.specs.declared.shield.Shield.{Shield}
+use Rattle.mip_words.specs.declared.why.Why.{Why}
+use Rattle.mip_ipv6.specs.declared.not_packet.NotPacket.{NotPacket}
+use Rattle.mip_ipv6.specs.Packet.{Packet, source_of, destination_of}
+use Rattle.mip_ipv6.specs.Reading.{packet_of}
+use Rattle.mip_icmp.specs.declared.fault.IcmpFault.{IcmpFault}
+use Rattle.mip_icmp.specs.Said as icmp
+use Rattle.mip_icmp.specs.Reading.{icmp_of}
+use Rattle.mip_options.specs.Values.{Values}
+use Rattle.mip_mobhdr.specs.declared.fault.Fault.{Fault}
+use Rattle.mip_mobhdr.specs.Said.{Said}
+use Rattle.mip_mobhdr.specs.Said.Said.{Refresh, HomeInit, CareofInit, HomeTest, CareofTest, Update, Acknowledgement, Error}
+use Rattle.mip_mobhdr.specs.Reading.{type_in, options_in, refresh_of, home_init_of, careof_init_of, home_test_of, careof_test_of, update_of, acknowledgement_of, error_of, fields_of, message_of}
+use Rattle.mip_tunnel.specs.Tunnel.{hop_of}
+use Rattle.mip_outside.specs.declared.claim.Claim.{Claim}
+use Rattle.mip_turns.specs.Turns.{noted_by}
+use Rattle.mip_reception.specs.declared.refusal.Refusal.{Refusal}
+use Rattle.mip_reception.specs.declared.standing.Standing.{Standing}
+use Rattle.mip_reception.specs.Checks.{message_or_refusal, message_at, then_home, is_probe, is_update, checked}
+use Rattle.mip_reception.specs.Replies.{reply_packet}
+use Rattle.mip_updates.specs.declared.registration.Registration.{Registration}
+use Rattle.mip_updates.specs.Registrations.{registration, registration_said, home_of, deletes}
+use Rattle.mip_rules_agent.specs.declared.identity.Identity.{Identity}
+use Rattle.mip_rules_agent.specs.declared.home_verdict.HomeVerdict.{HomeVerdict}
+use Rattle.mip_rules_agent.specs.declared.home_verdict.HomeVerdict.TheVariants.{Refuse, Deny, Accept}
+use Rattle.mip_rules_agent.specs.Known.{Known}
+use Rattle.mip_rules_agent.specs.Calls as calls
+use Rattle.mip_rules_agent.specs.Steps.{Step, Called, Sends, Registers, Drops, is_registration}
+use Rattle.mip_rules_agent.specs.Questions.{careof_at, holds, after}
+use Rattle.mip_rules_agent.specs.Turns.{Turn, begun, noted}
+use Rattle.mip_rules_agent.specs.Verdicts.{is_from, verdict, binding_for}
+use Rattle.mip_rules_agent.specs.Rules.{Handing, intercepts, is_careof, opens, takes_tunnel, bench, claim_with, acknowledges, denies, claims_if, answers_if, accepts, judged, takes_update, names_agents, advertises, answers_solicitation, takes_icmp, by_proto, by_role, replies, refuses, standing_of, after_checks, place_in, by_destination, receives}
+use Rattle.mip_rules_agent.specs.Doing.{takes, handing, does, turn_of}
+use Rattle.mip_rules_agent.specs.Taken.{IsUpdateIn, IsUpdateTaken}
+
+-- whichever way a choice goes
+either : {X Q : Type 0} (u : X) (b : Bool) (x y : X) → (x ≡ u → Q) → (y ≡ u → Q) → (if b then x else y) ≡ u → Q
+either u true x y first second e = first e
+either u false x y first second e = second e
+
+-- a message that is an update was read as one
+module _ (body : List ℕ) (s : ℕ) (a h l k : Bool) (t : ℕ) (o : Values) where
+  another : (r : Result Values Fault) (f : Values → Said) → ((v : Values) → f v ≡ Update s a h l k t o → ⊥) → (r >>= (λ v. Ok (f v))) ≡ Ok (Update s a h l k t o) → ⊥
+  another (Ok v) f never e = never v cc
+  another (Err fault) f never e = absurd cc
+
+  update_fields : (type : ℕ) → fields_of type body ≡ Ok (Update s a h l k t o) → update_of body ≡ Ok (Update s a h l k t o)
+  unfolding fields_of refresh_of home_init_of careof_init_of home_test_of careof_test_of acknowledgement_of error_of
+  update_fields type =
+      either u (type == 0) _ _ (λ e. absurd (another (options_in 8 body) _ (λ v e. absurd cc) e))
+      (either u (type == 1) _ _ (λ e. absurd (another (options_in 16 body) _ (λ v e. absurd cc) e))
+      (either u (type == 2) _ _ (λ e. absurd (another (options_in 16 body) _ (λ v e. absurd cc) e))
+      (either u (type == 3) _ _ (λ e. absurd (another (options_in 24 body) _ (λ v e. absurd cc) e))
+      (either u (type == 4) _ _ (λ e. absurd (another (options_in 24 body) _ (λ v e. absurd cc) e))
+      (either u (type == 5) _ _ (λ e. e)
+      (either u (type == 6) _ _ (λ e. absurd (another (options_in 12 body) _ (λ v e. absurd cc) e))
+      (λ e. absurd (another (options_in 24 body) _ (λ v e. absurd cc) e))))))))
+    where
+      u : Result Said Fault
+      u = Ok (Update s a h l k t o)
+
+  pub update_read : (source destination : Address) → message_of source destination body ≡ Ok (Update s a h l k t o) → update_of body ≡ Ok (Update s a h l k t o)
+  unfolding message_of
+  update_read source destination e = by (type_in source destination body) e
+    where
+      by : (r : Result ℕ Fault) → (r >>= (λ type. fields_of type body)) ≡ Ok (Update s a h l k t o) → update_of body ≡ Ok (Update s a h l k t o)
+      by (Ok type) e = update_fields type e
+      by (Err fault) e = absurd cc
+
+-- what passes the checks is the message of the packet
+passes_home : (holds : Bool) (home : Option Address) (r : Result (Option Said) Refusal) (m : Option Said) → then_home holds home r ≡ Ok m → r ≡ Ok m
+passes_home holds home (Err refusal) m e = absurd cc
+passes_home holds None (Ok message) m e = e
+passes_home holds (Some home) (Ok message) m e =
+    either (Ok m) (is_probe message) _ _ (λ e. absurd cc) (either (Ok m) (is_update message || holds) _ _ (λ e. e) (λ e. absurd cc)) e
+
+checked_message : (standing : Standing) (place : ℕ) (p : Packet) (m : Option Said) → checked standing place p ≡ Ok m → message_at place p ≡ Ok m
+unfolding checked
+checked_message standing place p m =
+    either (Ok m) (not standing.is_mine) _ _ (λ e. absurd cc)
+    (either (Ok m) (is_some p.head.route && not standing.takes_route) _ _ (λ e. absurd cc)
+    (passes_home standing.holds p.head.home (message_at place p) m))
+
+message_read : (place : ℕ) (p : Packet) (m : Said) → message_at place p ≡ Ok (Some m) → message_of (source_of p.head) (destination_of p.head) p.body ≡ Ok m
+unfolding message_at
+message_read place p m = either (Ok (Some m)) (p.head.proto == 135) _ _ (by (message_of (source_of p.head) (destination_of p.head) p.body)) (λ e. absurd cc)
+  where
+    by : (r : Result Said Fault) → message_or_refusal place p.head.home r ≡ Ok (Some m) → r ≡ Ok m
+    by (Ok message) e = cc
+    by (Err fault) e = absurd cc
+
+-- only a packet with a mobility header has a message
+message_proto : (place : ℕ) (p : Packet) (m : Said) → message_at place p ≡ Ok (Some m) → p.head.proto ≡ 135
+unfolding message_at
+message_proto place p m =
+    cond_both (p.head.proto == 135) _ _ (λ (r : Result (Option Said) Refusal). r ≡ Ok (Some m) → p.head.proto ≡ 135) (λ is e. eqb-true p.head.proto 135 is) (λ other e. absurd cc)
+
+module _ (me : Identity) (k : Known) (now number : ℕ) (shield : Option Shield) (bytes : List ℕ) (claim : Claim) where
+  -- nothing is registered, and the homes and their ends are as they were
+  abbrev pub IsQuiet : Turn → Type 0
+  IsQuiet t = (list_any is_registration t.steps ≡ false) × (t.known.homes ≡ k.homes) × (t.known.ends ≡ k.ends)
+
+  abbrev pub Is : Turn → Type 0
+  Is t = IsQuiet t ⊎ IsUpdateTaken me k now number shield bytes claim t.steps
+
+  abbrev given : Turn
+  given = noted (Called (calls.Take number shield bytes claim)) (begun now k)
+
+  abbrev h : Handing
+  h = handing me given.now given.known number shield bytes claim
+
+  quiet : (b : Bool) (x y : Turn) → Is x → Is y → Is (if b then x else y)
+  quiet true x y first second = first
+  quiet false x y first second = second
+
+  dropped : (why : Why) → Is (noted (Drops number why) given)
+  unfolding noted_by after
+  dropped why = inl (refl, refl, refl)
+
+  sent : (under : Option Shield) (packet : List ℕ) → Is (noted (Sends under packet) given)
+  unfolding noted_by after
+  sent under packet = inl (refl, refl, refl)
+
+  -- the update is accepted
+  module _ (update : Registration) (is_in : IsUpdateIn bytes update) (home careof : Address) (sequence granted : ℕ)
+      (is : verdict (bench me k now update) shield (claim_with (holds k (home_of update)) claim) update ≡ Accept home careof sequence granted) where
+    abbrev first : Turn
+    first = noted (Registers number home (binding_for now careof sequence granted)) given
+
+    taken : (t : Turn) (rest : List Step)
+        → t.steps ≡ Called (calls.Take number shield bytes claim) ∷ Registers number home (binding_for now careof sequence granted) ∷ rest
+        → list_any is_registration rest ≡ false → Is t
+    taken t rest same none = inr (record {
+      update = update;
+      is_in = is_in;
+      home = home;
+      careof = careof;
+      sequence = sequence;
+      granted = granted;
+      verdict_is = is;
+      rest = rest;
+      steps_are = same;
+      none = none;
+    })
+
+    abbrev behind : (held ends ack : Bool) → Turn
+    behind held ends ack = answers_if ack me update granted (claims_if held ends home first)
+
+    answered : (held ends ack : Bool) → Is (behind held ends ack)
+    unfolding noted_by after acknowledges
+    answered true true true = taken (behind true true true) _ refl refl
+    answered true true false = taken (behind true true false) _ refl refl
+    answered true false true = taken (behind true false true) _ refl refl
+    answered true false false = taken (behind true false false) _ refl refl
+    answered false true true = taken (behind false true true) _ refl refl
+    answered false true false = taken (behind false true false) _ refl refl
+    answered false false true = taken (behind false false true) _ refl refl
+    answered false false false = taken (behind false false false) _ refl refl
+
+  of_verdict : (r : Registration) → IsUpdateIn bytes r → (v : HomeVerdict)
+      → verdict (bench me k now r) shield (claim_with (holds k (home_of r)) claim) r ≡ v → Is (judged h r (holds k (home_of r)) v given)
+  unfolding noted_by after denies accepts acknowledges
+  of_verdict r is_in (Refuse why) is = inl (refl, refl, refl)
+  of_verdict r is_in (Deny status last) is = inl (refl, refl, refl)
+  of_verdict r is_in (Accept home careof sequence granted) is =
+      answered r is_in home careof sequence granted is (holds k (home_of r)) (deletes r) r.ack
+
+  of_update : (r : Registration) → IsUpdateIn bytes r → Is (takes_update h r given)
+  unfolding takes_update noted_by after
+  of_update r is_in = of_verdict r is_in (verdict (bench me k now r) shield (claim_with (holds k (home_of r)) claim) r) refl
+
+  of_interception : (home careof : Address) (proto : ℕ) → Is (intercepts h home careof proto given)
+  unfolding intercepts
+  of_interception home careof proto =
+      quiet (nat_lt (hop_of bytes) 2) _ _ (dropped _) (quiet (nat_lt 65535 (length bytes)) _ _ (dropped _) (sent _ _))
+
+  of_tunnel : (outer : Packet) → Is (takes_tunnel h outer given)
+  unfolding takes_tunnel
+  of_tunnel outer = by (packet_of outer.body)
+    where
+      by : (r : Result Packet NotPacket) → Is (opens h outer r given)
+      by (Err fault) = dropped _
+      by (Ok q) =
+          quiet (not (is_careof given.known given.now q.head.source outer.head.source)) _ _ (dropped _)
+          (quiet (q.head.destination.0 == me.own.0) _ _ (dropped _)
+          (quiet ((q.head.proto == 135) && not (is_from q.head.source shield)) _ _ (dropped _) (sent _ _)))
+
+  of_solicitation : (home : Address) (identifier : ℕ) (careof : Option Address) → Is (answers_solicitation h home identifier careof given)
+  unfolding advertises
+  of_solicitation home identifier None = dropped _
+  of_solicitation home identifier (Some careof) = quiet (is_from home shield) _ _ (sent _ _) (dropped _)
+
+  of_icmp : (p : Packet) (r : Result icmp.Said IcmpFault) → Is (takes_icmp h p r given)
+  unfolding names_agents
+  of_icmp p (Ok (icmp.DiscoverAsk identifier)) = sent _ _
+  of_icmp p (Ok (icmp.PrefixAsk identifier)) = of_solicitation (source_of p.head) identifier (careof_at given.known given.now (source_of p.head))
+  of_icmp p (Ok (icmp.Parameter pointer quoted)) = dropped _
+  of_icmp p (Ok (icmp.Advertisement hop agent life options)) = dropped _
+  of_icmp p (Ok (icmp.DiscoverReply identifier agents)) = dropped _
+  of_icmp p (Ok (icmp.PrefixReply identifier options)) = dropped _
+  of_icmp p (Err fault) = dropped _
+
+  of_proto : (p : Packet) → Is (by_proto h p given)
+  of_proto p =
+      quiet ((p.head.proto == 41) && (p.head.destination.0 == me.own.0)) _ _ (of_tunnel p)
+      (quiet (p.head.proto == 58) _ _ (of_icmp p (icmp_of (source_of p.head) (destination_of p.head) p.body)) (dropped _))
+
+  of_role : (p : Packet) (place : ℕ) (m : Option Said) → packet_of bytes ≡ Ok p → message_at place p ≡ Ok m → Is (by_role h p m given)
+  of_role p place None read is = of_proto p
+  of_role p place (Some (Update s a f l key t o)) read is =
+      of_update (registration p.head.source p.head.home s a f t o) (record {
+        packet = p;
+        read = read;
+        mobility = message_proto place p (Update s a f l key t o) is;
+        asks = ap (registration_said p.head.source p.head.home)
+            (update_read p.body s a f l key t o (source_of p.head) (destination_of p.head) (message_read place p (Update s a f l key t o) is));
+      })
+  of_role p place (Some (Refresh options)) read is = dropped _
+  of_role p place (Some (HomeInit cookie options)) read is = dropped _
+  of_role p place (Some (CareofInit cookie options)) read is = dropped _
+  of_role p place (Some (HomeTest index cookie token options)) read is = dropped _
+  of_role p place (Some (CareofTest index cookie token options)) read is = dropped _
+  of_role p place (Some (Acknowledgement s key q t o)) read is = dropped _
+  of_role p place (Some (Error s home options)) read is = dropped _
+
+  of_reply : (reply : Option (List ℕ)) (why : Why) → Is (replies reply (noted (Drops number why) given))
+  unfolding noted_by after
+  of_reply None why = inl (refl, refl, refl)
+  of_reply (Some packet) why = inl (refl, refl, refl)
+
+  of_checks : (p : Packet) (place : ℕ) (r : Result (Option Said) Refusal) → packet_of bytes ≡ Ok p → ((m : Option Said) → r ≡ Ok m → message_at place p ≡ Ok m) → Is (after_checks h p r given)
+  unfolding refuses
+  of_checks p place (Err refusal) read is = of_reply (reply_packet me.own p.head.source bytes refusal.reply) refusal.why
+  of_checks p place (Ok m) read is = of_role p place m read (is m refl)
+
+  of_destination : (p : Packet) (careof : Option Address) → packet_of bytes ≡ Ok p → Is (by_destination h p careof given)
+  of_destination p (Some careof) read = of_interception p.head.destination careof p.head.proto
+  of_destination p None read =
+      let standing = standing_of me given.known given.now p.head in
+      let place = place_in bytes p in
+      of_checks p place (checked standing place p) read (checked_message standing place p)
+
+  of_packet : (r : Result Packet NotPacket) → packet_of bytes ≡ r → Is (receives h r given)
+  of_packet (Err fault) read = dropped _
+  of_packet (Ok p) read = of_destination p (careof_at given.known given.now p.head.destination) read
+
+  pub taken_is : Is (turn_of me k now (calls.Take number shield bytes claim))
+  unfolding does takes
+  taken_is = of_packet (packet_of bytes) refl

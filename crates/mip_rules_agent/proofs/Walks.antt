@@ -1,0 +1,197 @@
+-- One walk over the calls of a home agent: what each step keeps, each call keeps.
+use Rattle.std.proofs.Common.{◌≡◌, ℕ, List, [], ◌∷◌, length, refl, arith}
+use Rattle.std.specs.Prelude.{Bool, true, false, not, ◌&&◌, ◌==◌, nat_lt, if◌then◌else◌, Option, Some, None, Result, Ok, Err}
+use Rattle.std.proofs.lemmas.Bool.{cond_both, eqb-true}
+use Rattle.std.proofs.lemmas.Bool.Decides.{nat_tests}
+use Rattle.mip_words.specs.declared.address.Address.{Address}
+use Rattle.mip_words.specs.declared.why.Why.{Why}
+use Rattle.mip_words.specs.declared.why.Why.TheVariants as whys
+use Rattle.mip_ipv6.specs.declared.not_packet.NotPacket.{NotPacket}
+use Rattle.mip_ipv6.specs.Packet.{Packet, source_of, destination_of}
+use Rattle.mip_ipv6.specs.Reading.{packet_of}
+use Rattle.mip_icmp.specs.declared.fault.IcmpFault.{IcmpFault}
+use Rattle.mip_icmp.specs.Said as icmp
+use Rattle.mip_icmp.specs.Reading.{icmp_of}
+use Rattle.mip_mobhdr.specs.Said.{Said}
+use Rattle.mip_mobhdr.specs.Said.Said.{Refresh, HomeInit, CareofInit, HomeTest, CareofTest, Update, Acknowledgement, Error}
+use Rattle.mip_tunnel.specs.Tunnel.{hop_of}
+use Rattle.mip_discovery.specs.Heard.{live}
+use Rattle.mip_reception.specs.declared.refusal.Refusal.{Refusal}
+use Rattle.mip_reception.specs.Checks.{checked}
+use Rattle.mip_reception.specs.Replies.{reply_packet}
+use Rattle.mip_reception.specs.Words.{packet_why}
+use Rattle.mip_updates.specs.declared.registration.Registration.{Registration}
+use Rattle.mip_updates.specs.Registrations.{registration, home_of, deletes}
+use Rattle.mip_rules_agent.specs.declared.identity.Identity.{Identity}
+use Rattle.mip_rules_agent.specs.declared.home_row.HomeRow.{HomeRow}
+use Rattle.mip_rules_agent.specs.declared.home_verdict.HomeVerdict.{HomeVerdict}
+use Rattle.mip_rules_agent.specs.declared.home_verdict.HomeVerdict.TheVariants.{Refuse, Deny, Accept}
+use Rattle.mip_rules_agent.specs.declared.ending.Ending.{Ending}
+use Rattle.mip_rules_agent.specs.Known.{Known}
+use Rattle.mip_rules_agent.specs.Calls as calls
+use Rattle.mip_rules_agent.specs.Calls.{Call, bytes_of}
+use Rattle.mip_rules_agent.specs.Steps.{Step, Called, Sends, Registers, Claims, Releases, Denies, Drops, Rang, is_call}
+use Rattle.mip_rules_agent.specs.Questions.{careof_at, holds, valid_at, preferred_at, rows_at, due_ends}
+use Rattle.mip_rules_agent.specs.Turns.{Turn, noted}
+use Rattle.mip_rules_agent.specs.Verdicts.{is_from, verdict, binding_for}
+use Rattle.mip_rules_agent.specs.Rules.{Handing, intercepts, is_careof, opens, takes_tunnel, bench, claim_with, acknowledges, denies, claims_if, answers_if, accepts, judged, takes_update, names_agents, advertises, answers_solicitation, takes_icmp, by_proto, by_role, replies, refuses, standing_of, after_checks, place_in, by_destination, receives}
+use Rattle.mip_rules_agent.specs.Doing.{takes, releases_all, ticks, advertises_all, plans, handing, handles, does}
+use Rattle.mip_rules_agent.specs.Sendings.{SendsInto, SendsOut, SendsAck, SendsReply, SendsAgents, SendsPrefix, SendsOwn}
+
+-- whichever way a choice goes
+either : (P : Turn → Type 0) (b : Bool) (x y : Turn) → P x → P y → P (if b then x else y)
+either P true x y p q = p
+either P false x y p q = q
+
+first_of : (a b : Bool) → (a && b) ≡ true → a ≡ true
+first_of true b e = refl
+first_of false b e = e
+
+-- over a packet that is handed over
+module _ (h : Handing) (P : Turn → Type 0) (more : (step : Step) (t : Turn) → is_call step ≡ false → SendsOwn h.me h.bytes step → P t → P (noted step t)) where
+  every-drop : (why : Why) (t : Turn) → P t → P (noted (Drops h.number why) t)
+  every-drop why t p = more (Drops h.number why) t refl tt p
+
+  every-interception : (home careof : Address) (proto : ℕ) (t : Turn) → P t → P (intercepts h home careof proto t)
+  unfolding intercepts
+  every-interception home careof proto t p =
+      either P (nat_lt (hop_of h.bytes) 2) _ _ (every-drop whys.Hop t p)
+      (cond_both (nat_lt 65535 (length h.bytes)) _ _ P (λ big. every-drop whys.Size t p)
+      (λ fits. more _ t refl (SendsInto home careof proto, (refl, refl, (let f : nat_lt 65535 (length h.bytes) ≡ false = fits in grind (arith, nat_tests, f)))) p))
+
+  every-opening : (outer : Packet) → packet_of h.bytes ≡ Ok outer → outer.head.proto ≡ 41 → (r : Result Packet NotPacket) → packet_of outer.body ≡ r → (t : Turn) → P t → P (opens h outer r t)
+  every-opening outer read tunnel (Err fault) is t p = every-drop (packet_why fault) t p
+  every-opening outer read tunnel (Ok q) is t p =
+      either P (not (is_careof h.known h.now q.head.source outer.head.source)) _ _ (every-drop whys.Entry t p)
+      (either P (q.head.destination.0 == h.me.own.0) _ _ (every-drop whys.Nested t p)
+      (either P ((q.head.proto == 135) && not (is_from q.head.source h.shield)) _ _ (every-drop whys.Unshielded t p)
+      (more (Sends None outer.body) t refl (SendsOut outer q, (refl, refl, read, tunnel, is)) p)))
+
+  every-tunnel : (outer : Packet) → packet_of h.bytes ≡ Ok outer → outer.head.proto ≡ 41 → (t : Turn) → P t → P (takes_tunnel h outer t)
+  unfolding takes_tunnel
+  every-tunnel outer read tunnel t p = every-opening outer read tunnel (packet_of outer.body) refl t p
+
+  every-acknowledgement : (r : Registration) (status sequence lifetime : ℕ) (t : Turn) → P t → P (acknowledges h.me r status sequence lifetime t)
+  unfolding acknowledges
+  every-acknowledgement r status sequence lifetime t p = more _ t refl (SendsAck r status sequence lifetime, (refl, refl)) p
+
+  every-claim : (held ends : Bool) (home : Address) (t : Turn) → P t → P (claims_if held ends home t)
+  every-claim true true home t p = more (Releases home) t refl tt p
+  every-claim true false home t p = p
+  every-claim false true home t p = p
+  every-claim false false home t p = more (Claims home) t refl tt p
+
+  every-answer : (ack : Bool) (r : Registration) (granted : ℕ) (t : Turn) → P t → P (answers_if ack h.me r granted t)
+  every-answer true r granted t p = every-acknowledgement r 0 r.sequence granted t p
+  every-answer false r granted t p = p
+
+  every-judged : (r : Registration) (held : Bool) (v : HomeVerdict) (t : Turn) → P t → P (judged h r held v t)
+  unfolding denies accepts
+  every-judged r held (Refuse why) t p = every-drop why t p
+  every-judged r held (Deny status last) t p =
+      every-acknowledgement r status last 0 (noted (Denies h.number status) t) (more (Denies h.number status) t refl tt p)
+  every-judged r held (Accept home careof sequence granted) t p =
+      let step : Step = Registers h.number home (binding_for h.now careof sequence granted) in
+      every-answer r.ack r granted (claims_if held (deletes r) home (noted step t)) (every-claim held (deletes r) home (noted step t) (more step t refl tt p))
+
+  every-update : (r : Registration) (t : Turn) → P t → P (takes_update h r t)
+  unfolding takes_update
+  every-update r t p =
+      let held : Bool = holds h.known (home_of r) in
+      every-judged r held (verdict (bench h.me h.known h.now r) h.shield (claim_with held h.claim) r) t p
+
+  every-solicitation : (home : Address) (identifier : ℕ) (careof : Option Address) (t : Turn) → P t → P (answers_solicitation h home identifier careof t)
+  unfolding advertises
+  every-solicitation home identifier None t p = every-drop whys.Role t p
+  every-solicitation home identifier (Some careof) t p =
+      either P (is_from home h.shield) _ _
+      (more _ t refl (SendsPrefix home careof identifier (valid_at h.known h.now) (preferred_at h.known h.now), (refl, refl)) p)
+      (every-drop whys.Role t p)
+
+  every-icmp : (packet : Packet) (r : Result icmp.Said IcmpFault) (t : Turn) → P t → P (takes_icmp h packet r t)
+  unfolding names_agents
+  every-icmp packet (Ok (icmp.DiscoverAsk identifier)) t p =
+      more _ t refl (SendsAgents packet.head.source identifier (live h.now h.known.agents.agents), (refl, refl)) p
+  every-icmp packet (Ok (icmp.PrefixAsk identifier)) t p =
+      every-solicitation (source_of packet.head) identifier (careof_at h.known h.now (source_of packet.head)) t p
+  every-icmp packet (Ok (icmp.Parameter pointer quoted)) t p = every-drop whys.Role t p
+  every-icmp packet (Ok (icmp.Advertisement hop agent life options)) t p = every-drop whys.Role t p
+  every-icmp packet (Ok (icmp.DiscoverReply identifier agents)) t p = every-drop whys.Role t p
+  every-icmp packet (Ok (icmp.PrefixReply identifier options)) t p = every-drop whys.Role t p
+  every-icmp packet (Err fault) t p = every-drop whys.Role t p
+
+  every-proto : (packet : Packet) → packet_of h.bytes ≡ Ok packet → (t : Turn) → P t → P (by_proto h packet t)
+  every-proto packet read t p =
+      cond_both ((packet.head.proto == 41) && (packet.head.destination.0 == h.me.own.0)) _ _ P
+      (λ both. every-tunnel packet read (eqb-true packet.head.proto 41 (first_of (packet.head.proto == 41) (packet.head.destination.0 == h.me.own.0) both)) t p)
+      (λ other. either P (packet.head.proto == 58) _ _
+      (every-icmp packet (icmp_of (source_of packet.head) (destination_of packet.head) packet.body) t p)
+      (every-drop whys.Role t p))
+
+  every-role : (packet : Packet) → packet_of h.bytes ≡ Ok packet → (message : Option Said) (t : Turn) → P t → P (by_role h packet message t)
+  every-role packet read None t p = every-proto packet read t p
+  every-role packet read (Some (Update s a f l k t' o)) t p = every-update (registration packet.head.source packet.head.home s a f t' o) t p
+  every-role packet read (Some (Refresh options)) t p = every-drop whys.Role t p
+  every-role packet read (Some (HomeInit cookie options)) t p = every-drop whys.Role t p
+  every-role packet read (Some (CareofInit cookie options)) t p = every-drop whys.Role t p
+  every-role packet read (Some (HomeTest index cookie token options)) t p = every-drop whys.Role t p
+  every-role packet read (Some (CareofTest index cookie token options)) t p = every-drop whys.Role t p
+  every-role packet read (Some (Acknowledgement s k q t' o)) t p = every-drop whys.Role t p
+  every-role packet read (Some (Error status home options)) t p = every-drop whys.Role t p
+
+  every-reply : (source : Address) (refusal : Refusal) (reply : Option (List ℕ)) → reply_packet h.me.own source h.bytes refusal.reply ≡ reply → (t : Turn) → P t → P (replies reply t)
+  every-reply source refusal None is t p = p
+  every-reply source refusal (Some packet) is t p = more (Sends None packet) t refl (SendsReply source refusal.reply, (refl, is)) p
+
+  every-check : (packet : Packet) → packet_of h.bytes ≡ Ok packet → (r : Result (Option Said) Refusal) (t : Turn) → P t → P (after_checks h packet r t)
+  unfolding refuses
+  every-check packet read (Err refusal) t p =
+      every-reply packet.head.source refusal (reply_packet h.me.own packet.head.source h.bytes refusal.reply) refl
+      (noted (Drops h.number refusal.why) t) (every-drop refusal.why t p)
+  every-check packet read (Ok message) t p = every-role packet read message t p
+
+  every-destination : (packet : Packet) → packet_of h.bytes ≡ Ok packet → (careof : Option Address) (t : Turn) → P t → P (by_destination h packet careof t)
+  every-destination packet read (Some careof) t p = every-interception packet.head.destination careof packet.head.proto t p
+  every-destination packet read None t p =
+      every-check packet read (checked (standing_of h.me h.known h.now packet.head) (place_in h.bytes packet) packet) t p
+
+  every-receipt : (r : Result Packet NotPacket) → packet_of h.bytes ≡ r → (t : Turn) → P t → P (receives h r t)
+  every-receipt (Err fault) read t p = every-drop (packet_why fault) t p
+  every-receipt (Ok packet) read t p = every-destination packet read (careof_at h.known h.now packet.head.destination) t p
+
+  every-take : (t : Turn) → P t → P (takes h t)
+  unfolding takes
+  every-take t p = every-receipt (packet_of h.bytes) refl t p
+
+-- over the other calls
+module _ (me : Identity) (P : Turn → Type 0) (more : (step : Step) (t : Turn) → is_call step ≡ false → SendsOwn me [] step → P t → P (noted step t)) where
+  every-release : (es : List Ending) (t : Turn) → P t → P (releases_all es t)
+  every-release [] t p = p
+  every-release (e ∷ es) t p = every-release es (noted (Releases e.home) t) (more (Releases e.home) t refl tt p)
+
+  every-tick : (t : Turn) → P t → P (ticks t)
+  unfolding ticks
+  every-tick t p =
+      let rung : Turn = releases_all (due_ends t.now t.known.ends) t in
+      more Rang rung refl tt (every-release (due_ends t.now t.known.ends) t p)
+
+  every-advertisement : (k : Known) (now : ℕ) (rows : List HomeRow) (t : Turn) → P t → P (advertises_all me.own k now rows t)
+  unfolding advertises
+  every-advertisement k now [] t p = p
+  every-advertisement k now (r ∷ rows) t p =
+      every-advertisement k now rows _ (more _ t refl (SendsPrefix r.home r.careof 0 (valid_at k now) (preferred_at k now), (refl, refl)) p)
+
+  every-plan : (t : Turn) → P t → P (plans me t)
+  unfolding plans
+  every-plan t p = every-advertisement t.known t.now (rows_at t.now t.known.homes) t p
+
+module _ (me : Identity) (P : Turn → Type 0) where
+  pub every-handles : (c : Call) → ((step : Step) (t : Turn) → is_call step ≡ false → SendsOwn me (bytes_of c) step → P t → P (noted step t)) → (t : Turn) → P t → P (handles me c t)
+  every-handles (calls.Take number shield packet claim) more t p = every-take (handing me t.now t.known number shield packet claim) P more t p
+  every-handles calls.Tick more t p = every-tick me P more t p
+  every-handles (calls.Plan valid preferred) more t p = every-plan me P more t p
+  every-handles (calls.Hear agent preference life) more t p = p
+
+  pub every-call : (c : Call) → ((step : Step) (t : Turn) → is_call step ≡ false → SendsOwn me (bytes_of c) step → P t → P (noted step t)) → ((t : Turn) → P t → P (noted (Called c) t)) → (t : Turn) → P t → P (does me c t)
+  unfolding does
+  every-call c more called t p = every-handles c more (noted (Called c) t) (called t p)

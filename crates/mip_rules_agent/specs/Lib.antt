@@ -1,0 +1,16 @@
+pub mod Calls
+pub mod Steps
+pub mod Known
+pub mod Questions
+pub mod Turns
+pub mod Verdicts
+pub mod Messages
+pub mod Rules
+pub mod Doing
+pub mod Seen
+pub mod Sendings
+pub mod Wholes
+pub mod Soundness
+pub mod Taken
+pub mod Pasts
+pub mod Ends

@@ -1,0 +1,19 @@
+-- A home agent as contracts see it: what it was made with, and what it knows.
+use Rattle.std.specs.Prelude.{ℕ}
+use Rattle.mip_rules_agent.specs.declared.identity.Identity.{Identity}
+use Rattle.mip_rules_agent.specs.Known.{Known}
+use Rattle.mip_rules_agent.specs.Calls.{Call}
+use Rattle.mip_rules_agent.specs.Turns.{Turn}
+use Rattle.mip_rules_agent.specs.Doing.{turn_of}
+
+pub record AgentSeen : Type 0 where
+  pub identity : Identity
+  pub known : Known
+
+-- the turn that a call is to it
+abbrev pub turn_at : AgentSeen → ℕ → Call → Turn
+turn_at a now call = turn_of a.identity a.known now call
+
+-- and what the call makes of it
+abbrev pub called : AgentSeen → ℕ → Call → AgentSeen
+called a now call = record { identity = a.identity; known = (turn_at a now call).known }

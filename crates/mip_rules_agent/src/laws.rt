@@ -1,0 +1,120 @@
+//! The laws by which a home agent stands for a past, those of its registrations, and those of verdicts.
+
+ghost use Rattle.std.specs.Prelude.{◌≡◌, ◌⊎◌, ℕ, ◌≤◌, List, [], Option, Some, None, true, false, unwrap_or, option_map};
+ghost use Rattle.std.specs.List.{list_any, AllByRecursion};
+ghost use Rattle.mip_words.specs.declared.address.Address.{Address};
+ghost use Rattle.mip_words.specs.declared.shield.Shield.{Shield};
+ghost use Rattle.mip_lists.specs.Last.{last_where};
+ghost use Rattle.mip_outside.specs.declared.claim.Claim.{Claim};
+ghost use Rattle.mip_discovery.specs.Listed.{StandsFor};
+ghost use Rattle.mip_entries.specs.Stamped.{Stamped};
+ghost use Rattle.mip_updates.specs.declared.registration.Registration.{Registration};
+ghost use Rattle.mip_rules_agent.specs.declared.bench.Bench.{Bench};
+ghost use Rattle.mip_rules_agent.specs.declared.identity.Identity.{Identity};
+ghost use Rattle.mip_rules_agent.specs.declared.home_verdict.HomeVerdict.TheVariants.{Deny, Accept};
+ghost use Rattle.mip_rules_agent.specs.Known.{Known};
+ghost use Rattle.mip_rules_agent.specs.Calls.{Call, Take, Tick, Plan, Hear, bytes_of};
+ghost use Rattle.mip_rules_agent.specs.Steps.{Step, answers_of, is_call, is_registration};
+ghost use Rattle.mip_rules_agent.specs.Questions.{known, is_served, binding_of, holds, careof_at, agents_called, plan_called};
+ghost use Rattle.mip_rules_agent.specs.Turns.{Stands, with_turn};
+ghost use Rattle.mip_rules_agent.specs.Doing.{turn_of};
+ghost use Rattle.mip_rules_agent.specs.Verdicts.{verdict};
+ghost use Rattle.mip_rules_agent.specs.Soundness.{IsSound, IsBehind};
+ghost use Rattle.mip_rules_agent.specs.Sendings.{SendsOwn};
+ghost use Rattle.mip_rules_agent.specs.Wholes.{IsWhole};
+ghost use Rattle.mip_rules_agent.specs.Taken.{IsUpdateTaken, IsRegisteredBy};
+ghost use Rattle.mip_rules_agent.specs.Pasts.{is_one_of, last_binding, is_claimed, last_plan, all_heard};
+ghost use Rattle.mip_rules_agent.specs.Ends.{AreInOrder};
+
+/// The last moment known is that of the last call.
+pub fn last_is_of_the_last_call()
+    ensures { (serves : List Address) (past : List (Stamped Step)) → (known serves past).last ≡ unwrap_or (option_map (λ s. s.at) (last_where (λ s. is_call s.step) past)) 0 }
+{}
+
+/// The last moment that a call leaves known is its own.
+pub fn each_call_is_the_last()
+    ensures { (me : Identity) (k : Known) (now : ℕ) (c : Call) → (turn_of me k now c).known.last ≡ now }
+{}
+
+/// Whoever stands for a past knows what it leaves known.
+pub fn stands_for_what_is_known()
+    ensures { (serves : List Address) (past : List (Stamped Step)) (k : Known) → Stands serves past k → k ≡ known serves past }
+{}
+
+/// Whoever stands for a past stands, after any call, for the past with the call's turn.
+pub fn stands_after_each_call()
+    ensures { (serves : List Address) (past : List (Stamped Step)) (k : Known) (now : ℕ) (me : Identity) (c : Call) → Stands serves past k → Stands serves (with_turn past (turn_of me k now c)) (turn_of me k now c).known }
+{}
+
+/// A home is served from the beginning or never. Of one that is served, what is kept is the last registration or
+/// deregistration that was accepted for it, and its address is held where it was claimed and not given up since.
+pub fn homes_are_as_registered()
+    ensures served { (serves : List Address) (past : List (Stamped Step)) (home : Address) → is_served (known serves past) home ≡ is_one_of serves home }
+    ensures binding { (serves : List Address) (past : List (Stamped Step)) (home : Address) → is_one_of serves home ≡ true → binding_of (known serves past) home ≡ last_binding home past }
+    ensures other { (serves : List Address) (past : List (Stamped Step)) (home : Address) → is_one_of serves home ≡ false → binding_of (known serves past) home ≡ None }
+    ensures held { (serves : List Address) (past : List (Stamped Step)) (home : Address) → is_one_of serves home ≡ true → holds (known serves past) home ≡ is_claimed home past }
+{}
+
+/// The ends of registrations never fall.
+pub fn ends_are_in_order()
+    ensures { (serves : List Address) (past : List (Stamped Step)) → AreInOrder (known serves past).ends }
+{}
+
+/// The lifetimes of the prefix are those of the last plan, without end before the first.
+pub fn plan_is_the_last()
+    ensures { (serves : List Address) (past : List (Stamped Step)) → (known serves past).plan ≡ last_plan past }
+{}
+
+/// The other home agents are those that their advertisements leave.
+pub fn agents_are_as_heard()
+    ensures { (serves : List Address) (past : List (Stamped Step)) → StandsFor (known serves past).agents (all_heard past) }
+{}
+
+/// Whatever a call gives out is whole.
+pub fn answers_are_whole()
+    ensures { (me : Identity) (k : Known) (now : ℕ) (c : Call) → AllByRecursion IsWhole (answers_of (turn_of me k now c).steps) }
+{}
+
+/// Whatever a call sends is the packet that it hands over, in a tunnel or out of one, or a message of the agent's own: an
+/// acknowledgement, what goes back to the source of a refused packet, the list of home agents, or its prefix.
+pub fn each_packet_is_its_own()
+    ensures { (me : Identity) (k : Known) (now : ℕ) (c : Call) → AllByRecursion (SendsOwn me (bytes_of c)) (turn_of me k now c).steps }
+{}
+
+/// A packet that is handed over leads to no registration, or at once to that of the update in it, with the verdict Accept
+/// on it by what is kept of its home; no other call leads to one.
+pub fn what_is_registered_was_taken()
+    ensures taken { (me : Identity) (k : Known) (now number : ℕ) (shield : Option Shield) (bytes : List ℕ) (claim : Claim) → list_any is_registration (turn_of me k now (Take number shield bytes claim)).steps ≡ true
+        → IsUpdateTaken me k now number shield bytes claim (turn_of me k now (Take number shield bytes claim)).steps }
+    ensures ticked { (me : Identity) (k : Known) (now : ℕ) → list_any is_registration (turn_of me k now Tick).steps ≡ false }
+    ensures planned { (me : Identity) (k : Known) (now valid preferred : ℕ) → list_any is_registration (turn_of me k now (Plan valid preferred)).steps ≡ false }
+    ensures heard { (me : Identity) (k : Known) (now : ℕ) (agent : Address) (preference life : ℕ) → list_any is_registration (turn_of me k now (Hear agent preference life)).steps ≡ false }
+{}
+
+/// The registered care-of address of a home changes only by a call that hands over an update for that home, which came
+/// under its shield and comes after the sequence that is kept; or by the end of its time.
+pub fn registrations_change_by_updates_alone()
+    ensures call { (me : Identity) (k : Known) (now : ℕ) (home : Address) (c : Call) (later : ℕ) → (careof_at (turn_of me k now c).known later home ≡ careof_at k later home) ⊎ IsRegisteredBy me k now c home }
+    ensures time { (k : Known) (home careof : Address) (earlier later : ℕ) → earlier ≤ later → careof_at k later home ≡ Some careof → careof_at k earlier home ≡ Some careof }
+{}
+
+/// A packet that leads to no registration, and so each that is dropped or denied, changes no registration, no claim, no end
+/// and no list. Only a plan changes the lifetimes of the prefix, and only an advertisement the list of agents.
+pub fn refused_changes_nothing()
+    ensures homes { (me : Identity) (k : Known) (now number : ℕ) (shield : Option Shield) (bytes : List ℕ) (claim : Claim) → list_any is_registration (turn_of me k now (Take number shield bytes claim)).steps ≡ false
+        → ((turn_of me k now (Take number shield bytes claim)).known.homes ≡ k.homes) × ((turn_of me k now (Take number shield bytes claim)).known.ends ≡ k.ends) }
+    ensures agents { (me : Identity) (k : Known) (now : ℕ) (c : Call) → (turn_of me k now c).known.agents ≡ agents_called k.agents now c }
+    ensures plan { (me : Identity) (k : Known) (now : ℕ) (c : Call) → (turn_of me k now c).known.plan ≡ plan_called k.plan now c }
+{}
+
+/// An update is accepted only for a home agent, under the shield of its home address, which is served and of the agent's
+/// prefix, after the sequence that is kept; a registration only from another link, where there is room and nobody else
+/// holds the address.
+pub fn accepted_is_sound()
+    ensures { (b : Bench) (shield : Option Shield) (claim : Claim) (r : Registration) (home careof : Address) (sequence granted : ℕ) → verdict b shield claim r ≡ Accept home careof sequence granted → IsSound b shield claim r home careof sequence granted }
+{}
+
+/// Status 135 carries the sequence that is kept, and the update does not come after it.
+pub fn out_of_window_tells_the_kept()
+    ensures { (b : Bench) (shield : Option Shield) (claim : Claim) (r : Registration) (last : ℕ) → verdict b shield claim r ≡ Deny 135 last → IsBehind b r last }
+{}

@@ -1,0 +1,27 @@
+//! The rules of a home agent: what it knows of its past, and what it answers (RFC 6275 section 10). Nothing runs here
+//! but the laws that join the rules to a past.
+#![tactic(auto)]
+
+mod bench;
+mod ending;
+mod home_binding;
+mod home_row;
+mod home_verdict;
+mod identity;
+mod laws;
+mod served;
+
+pub use bench::Bench;
+pub use ending::Ending;
+pub use home_binding::HomeBinding;
+pub use home_row::HomeRow;
+pub use home_verdict::HomeVerdict;
+pub use identity::Identity;
+pub use laws::{
+    accepted_is_sound, agents_are_as_heard, answers_are_whole, each_call_is_the_last,
+    each_packet_is_its_own, ends_are_in_order, homes_are_as_registered, last_is_of_the_last_call,
+    out_of_window_tells_the_kept, plan_is_the_last, refused_changes_nothing,
+    registrations_change_by_updates_alone, stands_after_each_call, stands_for_what_is_known,
+    what_is_registered_was_taken,
+};
+pub use served::Served;

@@ -1,0 +1,11 @@
+pub mod Maps
+pub mod Keeping
+pub mod Making
+pub mod Steps
+pub mod Kept
+pub mod Numbers
+pub mod FirstSteps
+pub mod Updating
+pub mod Marking
+pub mod Noting
+pub mod Telling

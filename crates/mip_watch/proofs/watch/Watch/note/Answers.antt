@@ -1,0 +1,33 @@
+use Rattle.std.proofs.Common.{◌≡◌, ℕ, subst}
+use Rattle.mip_watch.specs.declared.watch.Watch.{Watch}
+use Rattle.mip_watch.specs.Sights.{sight_of}
+use Rattle.mip_watch.specs.Updates.{AreOf, update_at, update_posted, look_step, at_step}
+use Rattle.mip_watch.proofs.Noting.{Noted, stands_more}
+use Rattle.mip_watch.proofs.watch.Watch.note.Goals as goal
+
+pub returns : goal.returns
+returns c = λ past stands next bytes.
+    let v : Watch = record {
+      addresses = c.note-7.new.self;
+      nodes = c.note-6.new.self;
+      names = c.note.new.self;
+      heard = c.note-5.new.self;
+      early = c.note-2.new.self;
+      made = c.note-4.new.self;
+      updates = c.note-3.new.self;
+    } in
+    let is : Noted c.args.self.now v c.sight-sight.result c.args.entry.now = record {
+      names = c.in_ok-note.ensures;
+      early = c.in_ok-note-2.ensures;
+      keys = λ look are.
+          subst (λ (n : ℕ). AreOf c.note-3.new.self (look_step n (update_posted (sight_of c.sight-sight.result)) look)) c.len.ensures (c.in_ok-note-3.ensures.keys look are);
+      numbers = λ look are k.
+          subst (λ (n : ℕ). update_at c.note-3.new.self k ≡ at_step n (update_posted (sight_of c.sight-sight.result)) look (update_at c.args.self.now.updates) k) c.len.ensures
+          (c.in_ok-note-3.ensures.numbers look are k);
+      made = c.in_ok-note-4.ensures;
+      heard = c.in_ok-note-5.ensures.known;
+      list = c.in_ok-note-5.ensures.list;
+      nodes = c.in_ok-note-6.ensures;
+      addresses = c.in_ok-note-7.ensures;
+    } in
+    stands_more c.args.self.now v past c.args.entry.now c.sight-sight.result _ stands next bytes c.sight-sight.ensures is

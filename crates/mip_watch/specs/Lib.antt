@@ -1,0 +1,12 @@
+pub mod Sights
+pub mod Nodes
+pub mod Names
+pub mod Heard
+pub mod Early
+pub mod Made
+pub mod Firsts
+pub mod Updates
+pub mod Addresses
+pub mod Answers
+pub mod Stands
+pub mod Told

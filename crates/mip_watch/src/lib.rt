@@ -1,0 +1,22 @@
+//! A history as it goes on, with indexes from which the mark of an acceptance is looked up.
+#![tactic(auto)]
+
+mod addresses;
+mod arrival;
+mod early;
+mod first;
+mod firsts;
+mod heard;
+mod known;
+mod made;
+mod named;
+mod names;
+mod nodes;
+mod posting;
+mod seeing;
+mod sight;
+mod update_key;
+mod updates;
+mod watch;
+
+pub use watch::Watch;
