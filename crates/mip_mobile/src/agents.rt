@@ -1,4 +1,4 @@
-ghost use Rattle.std.specs.Prelude.{◌≡◌, [], length, slice_get, IfSome, ◌<◌, OnOk, OnErr, ◌++◌, ◌∷◌};
+ghost use Rattle.std.specs.Prelude.{◌≡◌, [], slice_get, IfSome, ◌+◌, ◌<◌, ◌^◌, OnOk, OnErr, ◌++◌, ◌∷◌};
 
 use mip_words::{Address, Memory};
 use std::alloc::Global;
@@ -39,9 +39,14 @@ impl Agents {
     /// The agent at a place, from 0.
     pub fn at(&self, place: usize) -> Option<Address>
         ensures found { result ≡ slice_get self.now place }
-        ensures within { IfSome result (λ _. place < length self.now) }
+        ensures small { IfSome result (λ _. place + 1 < 2 ^ 64) }
     {
-        self.list.get(place).copied()
+        let count = self.list.len();
+        if place < count {
+            Some(self.list[place])
+        } else {
+            None
+        }
     }
 
     pub fn clear(&mut self)

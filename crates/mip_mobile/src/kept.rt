@@ -9,6 +9,8 @@ use mip_words::{Address, Moment};
 /// What a mobile keeps of its past, one question a field.
 #[derive(Drop)]
 pub struct Kept {
+    /// The home address, which is its correspondent part's own.
+    pub home: Address,
     pub last: Moment,
     pub part: Correspondent,
     pub declared: Option<Address>,

@@ -2,9 +2,18 @@
 #![tactic(auto)]
 
 mod agents;
+mod asking;
 mod desk;
+mod heard;
+mod home;
 mod kept;
+mod moving;
 mod numberings;
+mod packets;
+mod peers;
+mod ringing;
+mod trial;
+mod trials;
 
 pub use desk::Desk;
 pub use kept::Kept;

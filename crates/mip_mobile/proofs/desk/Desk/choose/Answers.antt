@@ -8,4 +8,4 @@ use Rattle.mip_mobile.proofs.desk.Desk.choose.Goals as goal
 pub returns : goal.returns
 unfolding after
 returns c = λ t shows.
-    shown (Chooses c.args.agent) c.args.self.now c.self.inside.now.0 (seen c.self.inside.known) _ c.self.inside.answers c.push.new.self t c.self.view_is c.in_ok-push.ensures.ok refl shows
+    shown (Chooses c.args.agent) c.args.self.now c.self.inside.moment.0 (seen c.self.inside.known) _ c.self.inside.answers c.push.new.self t c.self.view_is c.in_ok-push.ensures.ok refl shows

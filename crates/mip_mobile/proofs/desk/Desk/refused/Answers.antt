@@ -5,7 +5,7 @@ use Rattle.mip_mobile.specs.Seen.{seen}
 use Rattle.mip_mobile.proofs.Noted.{shown}
 use Rattle.mip_mobile.proofs.desk.Desk.refused.Goals as goal
 
-pub returns : goal.returns
+pub returns-clause-shows : goal.returns-clause-shows
 unfolding after
-returns c = λ t shows.
-    shown (IsRefused c.args.status) c.args.self.now c.self.inside.now.0 (seen c.self.inside.known) (seen c.self.inside.known) c.self.inside.answers c.push.new.self t c.self.view_is c.in_ok-push.ensures.ok refl shows
+returns-clause-shows c = λ t shows.
+    shown (IsRefused c.args.status) c.args.self.now c.self.inside.moment.0 (seen c.self.inside.known) (seen c.self.inside.known) c.self.inside.answers c.push.new.self t c.self.view_is c.in_ok-push.ensures.ok refl shows

@@ -8,4 +8,4 @@ use Rattle.mip_mobile.proofs.desk.Desk.release.Goals as goal
 pub returns : goal.returns
 unfolding after
 returns c = λ t shows.
-    shown (Releases c.args.address) c.args.self.now c.self.inside.now.0 (seen c.self.inside.known) (seen c.self.inside.known) c.self.inside.answers c.push.new.self t c.self.view_is c.in_ok-push.ensures.ok refl shows
+    shown (Releases c.args.address) c.args.self.now c.self.inside.moment.0 (seen c.self.inside.known) (seen c.self.inside.known) c.self.inside.answers c.push.new.self t c.self.view_is c.in_ok-push.ensures.ok refl shows
