@@ -1,0 +1,5 @@
+pub mod Places
+pub mod Soundness
+pub mod Changes
+pub mod Showing
+pub mod Desks

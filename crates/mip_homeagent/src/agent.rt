@@ -1,0 +1,106 @@
+ghost use Rattle.std.specs.Prelude.{◌≡◌, ◌≤◌, ◌<◌, ◌^◌, ℕ, List, IfOk, OnOk, OnErr, IsSomeAnd, slice_get};
+ghost use Rattle.std.specs.Option.{option_map};
+ghost use Rattle.mip_words.specs.declared.address.Address.{Address};
+ghost use Rattle.mip_entries.specs.Stamped.{Stamped};
+ghost use Rattle.mip_updates.specs.Registrations.{IsUpdate, registration_in};
+ghost use Rattle.mip_rules_agent.specs.Calls as calls;
+ghost use Rattle.mip_rules_agent.specs.Calls.{claim_for};
+ghost use Rattle.mip_rules_agent.specs.Steps.{Step, answers_of};
+ghost use Rattle.mip_rules_agent.specs.Claims.{claims_by};
+ghost use Rattle.mip_rules_agent.specs.Questions.{rows_at};
+ghost use Rattle.mip_rules_agent.specs.Turns.{Stands, with_turn};
+ghost use Rattle.mip_rules_agent.specs.Verdicts.{verdict};
+ghost use Rattle.mip_rules_agent.specs.Rules.{bench};
+ghost use Rattle.mip_rules_agent.specs.Seen.{turn_at, called};
+ghost use Rattle.mip_homeagent.specs.Soundness.{HasRoom};
+
+use crate::desk::Desk;
+use crate::kept::Kept;
+use crate::receiving::receive;
+use crate::verdicts::verdict;
+use mip_entries::{Answers, UpdateSeen};
+use mip_outside::{Claim, Place};
+use mip_rules_agent::{HomeRow, HomeVerdict, Identity};
+use mip_updates::registration_in;
+use mip_words::{Memory, Moment, Shield};
+use std::alloc::Global;
+use std::marker::Model;
+
+/// A home agent (RFC 6275 section 10). Moments that it is given do not fall.
+#[derive(Drop)]
+pub struct HomeAgent {
+    identity: Identity,
+    known: Kept,
+}
+
+impl Model for HomeAgent {
+    ghost use Rattle.mip_rules_agent.specs.Seen.{AgentSeen};
+
+    ghost Value = { AgentSeen };
+
+    ghost view = { λ a. record { identity = a.identity; known = a.known } };
+}
+
+impl HomeAgent {
+    /// The home at a place among those that are registered, in order of address.
+    pub fn row(&self, now: Moment, place: u32) -> Option<HomeRow>
+        ensures { result ≡ slice_get (rows_at now.0 self.now.known.homes) place }
+    {
+        self.known.row(now, place)
+    }
+
+    /// What becomes of a home registration, where its place answers so to a claim of its home address: the first row that
+    /// applies (RFC 6275 sections 10.3.1 and 10.3.2). It changes nothing.
+    pub fn judge_home(
+        &self,
+        now: Moment,
+        shield: Option<Shield>,
+        claim: Claim,
+        update: &UpdateSeen<'_>,
+    ) -> HomeVerdict
+        requires later { self.now.known.last ≤ now.0 }
+        requires update { IsUpdate update.now.message.now }
+        ensures { IsSomeAnd (registration_in update.now.source update.now.home update.now.message.now) (λ r. result ≡ verdict (bench self.now.identity self.now.known now.0 r) shield claim r) }
+    {
+        let registration = registration_in(update);
+        let bench = self.known.bench(&self.identity, now, &registration);
+        verdict(&bench, shield, claim, &registration)
+    }
+
+    /// Takes a packet that was handed to the agent, by its number and shield, and gives what it does about it, in order.
+    /// After want of memory it is as it was.
+    pub fn take<P: Place>(
+        &mut self,
+        alloc: Global,
+        place: &mut P,
+        now: Moment,
+        number: u64,
+        shield: Option<Shield>,
+        packet: &[u8],
+    ) -> Result<Answers, Memory>
+        requires later { self.old.known.last ≤ now.0 }
+        requires early { now.0 < 2 ^ 62 }
+        requires room { HasRoom (P.around place.old) self.old.known }
+        ensures answers { IfOk result (λ a. a ≡ answers_of (turn_at self.old now.0 (calls.Take number shield packet.now (claim_for (P.around place.old) packet.now))).steps) }
+        ensures after { OnOk result (self.new ≡ called self.old now.0 (calls.Take number shield packet.now (claim_for (P.around place.old) packet.now))) }
+        ensures stands { (serves : List Address) (past : List (Stamped Step)) → Stands serves past self.old.known →
+            OnOk result (Stands serves (with_turn past (turn_at self.old now.0 (calls.Take number shield packet.now (claim_for (P.around place.old) packet.now)))) self.new.known) }
+        ensures claims { OnOk result (P.claims place.new ≡ option_map (claims_by (turn_at self.old now.0 (calls.Take number shield packet.now (claim_for (P.around place.old) packet.now))).steps) (P.claims place.old)) }
+        ensures around { P.around place.new ≡ P.around place.old }
+        ensures same { P.is_same place.old place.new }
+        ensures err { OnErr result (self.new ≡ self.old) }
+    {
+        let mut answers = Answers::new(alloc)?;
+        let desk = Desk {
+            identity: &self.identity,
+            known: &self.known,
+            moment: now,
+            number,
+            shield,
+            bytes: packet,
+        };
+        let change = receive(alloc, &mut answers, &desk, place)?;
+        self.known.settle(now, change);
+        Ok(answers)
+    }
+}
