@@ -3,3 +3,4 @@ pub mod Soundness
 pub mod Changes
 pub mod Showing
 pub mod Desks
+pub mod Endings

@@ -1,13 +1,15 @@
 //! The steps that show: each leaves one answer.
 
-ghost use Rattle.std.specs.Prelude.{◌≡◌, ◌++◌, ◌∷◌, [], OnOk};
+ghost use Rattle.std.specs.Prelude.{◌≡◌, ◌++◌, OnOk, IfOk};
 ghost use Rattle.mip_rules_agent.specs.Steps.{answer_of, Sends, Registers, Claims, Releases, Denies, Drops};
 ghost use Rattle.mip_rules_agent.specs.Turns.{noted};
 ghost use Rattle.mip_homeagent.specs.Showing.{Goes};
+ghost use Rattle.mip_homeagent.specs.Endings.{answers_released};
 
 use mip_entries::{Answer, Answers, Entry};
-use mip_rules_agent::HomeBinding;
+use mip_rules_agent::{Ending, HomeBinding};
 use mip_words::{Address, Bytes, LinkId, Memory, NodeId, Shield, Why};
+use std::alloc::Global;
 
 /// A role writes 0 for its own number, and for a link.
 const MYSELF: NodeId = NodeId(0);
@@ -86,4 +88,15 @@ pub fn note_release(answers: &mut Answers, home: Address) -> Result<(), Memory>
         address: home,
     }))?;
     Ok(())
+}
+
+/// The home addresses that are given up at the end of their registrations.
+pub fn note_ends(alloc: Global, ends: &[Ending]) -> Result<Answers, Memory>
+    ensures { IfOk result (λ a. a ≡ answers_released ends.now) }
+{
+    let mut answers = Answers::new(alloc)?;
+    for end in ends {
+        note_release(&mut answers, end.home)?;
+    }
+    Ok(answers)
 }

@@ -1,15 +1,21 @@
-ghost use Rattle.std.specs.Prelude.{◌≡◌, ◌≤◌, true, IfSome, IfOk, option_copied, slice_get};
+ghost use Rattle.std.specs.Prelude.{◌≡◌, ◌≤◌, ◌<◌, ◌^◌, true, IfSome, IfOk, OnOk, OnErr, option_copied, slice_get};
 ghost use Rattle.mip_words.specs.Addresses.{is_routable};
 ghost use Rattle.mip_discovery.specs.Heard.{live};
 ghost use Rattle.mip_discovery.specs.Reply.{discovery_reply};
-ghost use Rattle.mip_rules_agent.specs.Questions.{served_at, is_served, binding_of, kept_of, holds, careof_at, rows_at, is_full, ends_with, valid_at, preferred_at};
+ghost use Rattle.mip_rules_agent.specs.Questions.{served_at, is_served, binding_of, kept_of, holds, careof_at, rows_at, is_full, fresh, due_ends, ends_with, valid_at, preferred_at};
 ghost use Rattle.mip_rules_agent.specs.Rules.{bench};
 ghost use Rattle.mip_homeagent.specs.Changes.{with_change};
 ghost use Rattle.mip_homeagent.specs.Showing.{opened};
+ghost use Rattle.mip_homeagent.specs.Endings.{answers_told, heard_at, planned_at, given_up};
+ghost use Rattle.mip_discovery.specs.Plan.{left_of};
+ghost use Rattle.mip_rules_agent.specs.Calls as calls;
+ghost use Rattle.std.specs.List.{AllByRecursion};
+ghost use Rattle.std.specs.Option.{option_map};
 
 use crate::change::Change;
-use crate::{ends, homes};
+use crate::{ends, homes, prefixes};
 use mip_discovery::{Agents, PrefixPlan};
+use mip_entries::Answers;
 use mip_rules_agent::{Bench, Ending, HomeBinding, HomeRow, Identity, Served};
 use mip_updates::{Registration, home_of};
 use mip_words::{Address, Bytes, Memory, Moment};
@@ -181,5 +187,95 @@ impl Kept {
             }
             None => (),
         }
+    }
+
+    /// An agent that was never asked anything, and serves these homes.
+    pub fn new(alloc: Global, serves: &[Address]) -> Result<Kept, Memory>
+        requires { AllByRecursion (λ a. is_routable a.0 ≡ true) serves.now }
+        ensures { IfOk result (λ k. k ≡ fresh serves.now) }
+    {
+        let homes = homes::serve(alloc, serves)?;
+        let agents = Agents::new(alloc)?;
+        Ok(Kept {
+            last: Moment(0),
+            homes,
+            ends: Vec::new(alloc),
+            agents,
+            plan: PrefixPlan {
+                valid: u32::MAX,
+                preferred: u32::MAX,
+                since: Moment(0),
+            },
+        })
+    }
+
+    /// Another home agent advertised itself.
+    pub fn hear(
+        &mut self,
+        now: Moment,
+        agent: Address,
+        preference: u16,
+        life: u16,
+    ) -> Result<(), Memory>
+        requires later { self.old.last ≤ now.0 }
+        requires early { now.0 < 2 ^ 62 }
+        ensures ok { OnOk result (self.new ≡ heard_at now.0 (calls.Hear agent preference life) self.old) }
+        ensures err { OnErr result (self.new ≡ self.old) }
+    {
+        self.agents.heard(now, agent, preference, life)?;
+        self.last = now;
+        Ok(())
+    }
+
+    /// The prefix has these lifetimes from now on.
+    pub fn set_plan(&mut self, now: Moment, plan: PrefixPlan)
+        requires later { self.old.last ≤ now.0 }
+        requires since { plan.since.0 ≤ now.0 }
+        ensures { self.new ≡ planned_at now.0 plan self.old }
+    {
+        self.last = now;
+        self.plan = plan;
+    }
+
+    /// The packets that tell each registered home of the prefix.
+    pub fn tell_all(
+        &self,
+        alloc: Global,
+        own: Address,
+        now: Moment,
+        plan: &PrefixPlan,
+    ) -> Result<Answers, Memory>
+        requires { plan.now.since.0 ≤ now.0 }
+        ensures { IfOk result (λ a. a ≡ answers_told own (left_of plan.now.valid plan.now.since.0 now.0) (left_of plan.now.preferred plan.now.since.0 now.0) (rows_at now.0 self.now.homes)) }
+    {
+        let (valid, preferred) = plan.left(now);
+        prefixes::tell_all(alloc, own, &self.homes, now, valid, preferred)
+    }
+
+    /// The ends that are due.
+    pub fn due(&self, alloc: Global, now: Moment) -> Result<Vec<Ending>, Memory>
+        ensures { IfOk result (λ v. v.items ≡ due_ends now.0 self.now.ends) }
+    {
+        ends::due(alloc, &self.ends, now)
+    }
+
+    /// The moment of the first end.
+    pub fn first_end(&self) -> Option<Moment>
+        ensures { result ≡ option_map (λ e. e.end) (slice_get self.now.ends 0) }
+    {
+        match self.ends.first() {
+            Some(first) => Some(first.end),
+            None => None,
+        }
+    }
+
+    /// The ends that are due are done.
+    pub fn give_up(&mut self, now: Moment, due: &[Ending])
+        requires { self.old.last ≤ now.0 }
+        ensures { self.new ≡ given_up now.0 due.now self.old }
+    {
+        homes::give_up(&mut self.homes, due);
+        ends::keep_later(&mut self.ends, now);
+        self.last = now;
     }
 }

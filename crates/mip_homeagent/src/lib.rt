@@ -6,6 +6,7 @@ mod agent;
 mod answering;
 mod change;
 mod desk;
+mod ending;
 mod ends;
 mod homes;
 mod judging;

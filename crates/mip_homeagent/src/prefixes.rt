@@ -1,6 +1,6 @@
 //! Prefix advertisements, and the list of home agents (RFC 6275 sections 10.5 and 10.6).
 
-ghost use Rattle.std.specs.Prelude.{◌≡◌, ◌≤◌, length, true, Option, IfSome, OnOk, IfOk};
+ghost use Rattle.std.specs.Prelude.{◌≡◌, ◌≤◌, ◌++◌, ◌∷◌, [], length, true, Option, IfSome, OnOk, IfOk};
 ghost use Rattle.mip_words.specs.Addresses.{is_routable};
 ghost use Rattle.mip_outside.specs.declared.claim.Claim.{Claim};
 ghost use Rattle.mip_ipv6.specs.Packet.{packet as tree};
@@ -14,17 +14,23 @@ ghost use Rattle.mip_rules_agent.specs.Messages.{shield_to, prefix_said, prefix_
 ghost use Rattle.mip_rules_agent.specs.Rules.{names_agents, answers_solicitation, takes_icmp};
 ghost use Rattle.mip_homeagent.specs.Showing.{Goes};
 ghost use Rattle.mip_homeagent.specs.Desks.{handing_at};
+ghost use Rattle.std.specs.List.{AllByRecursion};
+ghost use Rattle.mip_rules_agent.specs.Questions.{rows_at};
+ghost use Rattle.mip_homeagent.specs.Endings.{answers_told};
+ghost use Rattle.mip_homeagent.specs.Soundness.{IsRoutable};
 
 use crate::answering::{drop_packet, send};
 use crate::desk::Desk;
+use crate::homes::row_of;
 use crate::tunnel::shield_to;
 use crate::verdicts::is_from;
 use mip_constants::protocol::ICMPV6;
-use mip_entries::Answers;
+use mip_entries::{Answer, Answers};
 use mip_icmp::{Icmp, IcmpSet, PlainIcmp, PrefixInfo, read_icmp, write_icmp};
 use mip_ipv6::PacketRef;
+use mip_rules_agent::{HomeRow, Served};
 use mip_signals::{node_head, write_data_packet};
-use mip_words::{Address, Bytes, Memory, Why};
+use mip_words::{Address, Bytes, Memory, Moment, Why};
 use std::alloc::Global;
 
 /// A Mobile Prefix Advertisement with the agent's prefix, which is a router address (RFC 6275 section 6.8).
@@ -172,4 +178,46 @@ pub fn take_icmp(
         }
         _ => drop_packet(answers, desk.number, Why::Role),
     }
+}
+
+/// A registered home is told of the prefix, unasked.
+fn tell(
+    alloc: Global,
+    answers: &mut Answers,
+    own: Address,
+    row: &HomeRow,
+    valid: u32,
+    preferred: u32,
+) -> Result<(), Memory>
+    requires { is_routable row.now.home.0 ≡ true }
+    ensures { OnOk result (answers.new ≡ answers.old ++ answers_told own valid preferred (row.now ∷ [])) }
+{
+    let packet = write_prefix(alloc, own, row.home, row.careof, 0, valid, preferred)?;
+    answers.push(Answer::Send {
+        shield: shield_to(own, row.home),
+        packet,
+    })?;
+    Ok(())
+}
+
+/// Each registered home is told of the prefix, in order of address.
+pub fn tell_all(
+    alloc: Global,
+    own: Address,
+    homes: &[Served],
+    now: Moment,
+    valid: u32,
+    preferred: u32,
+) -> Result<Answers, Memory>
+    requires { AllByRecursion IsRoutable homes.now }
+    ensures { IfOk result (λ a. a ≡ answers_told own valid preferred (rows_at now.0 homes.now)) }
+{
+    let mut answers = Answers::new(alloc)?;
+    for served in homes {
+        match row_of(served, now) {
+            Some(row) => tell(alloc, &mut answers, own, &row, valid, preferred)?,
+            None => (),
+        }
+    }
+    Ok(answers)
 }
