@@ -8,7 +8,7 @@ ghost use Rattle.mip_rules_agent.specs.Verdicts.{before_claim, by_claim, verdict
 ghost use Rattle.mip_rules_agent.specs.Rules.{claim_with};
 ghost use Rattle.mip_homeagent.specs.Changes.{claims_held, holding_of, holding_by, claim_part, IsOfHome};
 
-use crate::verdicts::{before_claim, by_claim};
+use mip_home_verdict::{before_claim, by_claim};
 use mip_outside::{Claim, Place};
 use mip_rules_agent::{Bench, HomeVerdict};
 use mip_updates::{Registration, deletes, home_of};

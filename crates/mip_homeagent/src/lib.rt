@@ -15,7 +15,6 @@ mod prefixes;
 mod receiving;
 mod tunnel;
 mod update;
-mod verdicts;
 
 pub use agent::HomeAgent;
 pub use mip_rules_agent::{HomeRow, HomeVerdict};
