@@ -14,3 +14,4 @@ pub mod Soundness
 pub mod Taken
 pub mod Pasts
 pub mod Ends
+pub mod Claims

@@ -1,5 +1,5 @@
 -- What a home agent knows of its past: one question a field, and what each step makes of the answer.
-use Rattle.std.specs.Prelude.{ℕ, List, [], ◌∷◌, Bool, true, false, not, ◌&&◌, ◌==◌, nat_lt, if◌then◌else◌, Option, Some, None, is_some, unwrap_or, option_map, length, map, fold, take, drop, insert, position}
+use Rattle.std.specs.Prelude.{ℕ, List, [], ◌∷◌, Bool, true, false, not, ◌&&◌, ◌==◌, nat_lt, if◌then◌else◌, Option, Some, None, is_some, unwrap_or, option_map, length, map, fold, insert, position}
 use Rattle.std.specs.List.{filter, flat_map}
 use Rattle.std.specs.Option.{option_map_or, option_and_then}
 use Rattle.mip_words.specs.declared.address.Address.{Address}
@@ -64,10 +64,10 @@ ends_with home b es =
 
 -- those that are due, and the others
 abbrev pub due_ends : ℕ → List Ending → List Ending
-due_ends now es = take (place_of now es) es
+due_ends now es = filter (λ e. not (nat_lt now e.end.0)) es
 
 abbrev pub later_ends : ℕ → List Ending → List Ending
-later_ends now es = drop (place_of now es) es
+later_ends now es = filter (λ e. nat_lt now e.end.0) es
 
 abbrev pub ends_after : List Ending → ℕ → Step → List Ending
 ends_after es at (Registers number home b) = ends_with home b es

@@ -1,0 +1,9 @@
+pub mod Places
+pub mod ShowingLaws
+pub mod Routables
+pub mod Sizes
+pub mod Befores
+pub mod Roles
+pub mod Headings
+pub mod Sounds
+pub mod Turning

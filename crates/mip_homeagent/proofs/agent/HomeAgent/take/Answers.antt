@@ -1,0 +1,47 @@
+use Rattle.std.proofs.Common.{List, ap, sym, subst, ◌∙◌}
+use Rattle.mip_entries.specs.declared.answer.Answer.{Answer}
+use Rattle.mip_ipv6.specs.Reading.{packet_of}
+use Rattle.mip_rules_agent.specs.Known.{Known}
+use Rattle.mip_rules_agent.specs.Calls as calls
+use Rattle.mip_rules_agent.specs.Calls.{Call, claim_for}
+use Rattle.mip_rules_agent.specs.Turns.{Stands, with_turn}
+use Rattle.mip_rules_agent.specs.Rules.{receives}
+use Rattle.mip_rules_agent.specs.Doing.{handing}
+use Rattle.mip_rules_agent.specs.Seen.{AgentSeen, turn_at}
+use Rattle.mip_rules_agent.proofs.Calls.{call-stands}
+use Rattle.mip_homeagent.specs.Changes.{with_change, claims_with}
+use Rattle.mip_homeagent.specs.Showing.{Shows, Leads, opened}
+use Rattle.mip_homeagent.proofs.Befores.{claims_told}
+use Rattle.mip_homeagent.proofs.Turning.{Ends, ends_shown, take_shown}
+use Rattle.mip_homeagent.proofs.agent.HomeAgent.take.Given.{Over}
+use Rattle.mip_homeagent.proofs.agent.HomeAgent.take.Goals as goal
+
+abbrev call : (g : Over) → goal.After-settle g → Call
+call g c = calls.Take c.args.number c.args.shield c.args.packet.now (claim_for (g.P.Place.around c.args.place.now) c.args.packet.now)
+
+ended : (g : Over) (c : goal.After-settle g) → Ends c.args.self.now (record { identity = c.self.inside.identity; known = c.settle.new.self }) c.receive.new.answers c.args.now.0 (call g c) (claims_with c.in_ok-change.change)
+ended g c =
+    let now = c.args.now.0 in
+    let inside : AgentSeen = record { identity = c.self.inside.identity; known = c.self.inside.known } in
+    let change = c.in_ok-change.change in
+    let leads = subst (λ (begins : List Answer). Leads (receives (handing inside.identity now (opened now inside.known) c.args.number c.args.shield c.args.packet.now (claim_for (g.P.Place.around c.args.place.now) c.args.packet.now)) (packet_of c.args.packet.now)) now (opened now inside.known) begins c.receive.new.answers change)
+    c.in_ok-answers.ensures c.in_ok-change.ensures.shows in
+    let shows = subst (λ (s : AgentSeen). Shows now (with_change change (opened now s.known)) (claims_with change) c.receive.new.answers (turn_at s now (call g c))) c.self.view_is
+    (take_shown inside now c.args.number c.args.shield c.args.packet.now (claim_for (g.P.Place.around c.args.place.now) c.args.packet.now) change c.receive.new.answers leads) in
+    ends_shown c.args.self.now (record { identity = c.self.inside.identity; known = c.settle.new.self }) now (call g c) (with_change change (opened now c.args.self.now.known)) (claims_with change) c.receive.new.answers shows
+    (ap (λ (k : Known). record { identity = inside.identity; known = k }) c.settle.ensures ∙ ap (λ (s : AgentSeen). record { identity = s.identity; known = with_change change (opened now s.known) }) c.self.view_is)
+
+pub returns-clause-answers : goal.returns-clause-answers
+returns-clause-answers g c = (ended g c).answered
+
+pub returns-clause-after : goal.returns-clause-after
+returns-clause-after g c = (ended g c).after
+
+pub returns-clause-stands : goal.returns-clause-stands
+returns-clause-stands g c = λ serves past stands.
+    let s = c.args.self.now in
+    subst (λ (k : Known). Stands serves (with_turn past (turn_at s c.args.now.0 (call g c))) k) (sym (ap (λ (s : AgentSeen). s.known) (ended g c).after))
+    (call-stands serves past s.known c.args.now.0 s.identity (call g c) stands)
+
+pub returns-clause-claims : goal.returns-clause-claims
+returns-clause-claims g c = c.in_ok-change.ensures.claims ∙ claims_told (g.P.Place.claims c.args.place.now) _ _ (ended g c).claimed

@@ -1,0 +1,24 @@
+use Rattle.std.proofs.Common.{sym, subst}
+use Rattle.std.specs.Prelude.{Option, option_map}
+use Rattle.mip_ipv6.specs.Packet.{packet as tree}
+use Rattle.mip_mobhdr.specs.declared.message.Message.{Message}
+use Rattle.mip_mobhdr.specs.Said.{said}
+use Rattle.mip_rules_agent.specs.Rules.{by_role}
+use Rattle.mip_homeagent.specs.Changes.{unclaimed}
+use Rattle.mip_homeagent.specs.Showing.{Shows, opened}
+use Rattle.mip_homeagent.specs.Desks.{handing_at, claim_of}
+use Rattle.mip_homeagent.proofs.Befores.{unchanged}
+use Rattle.mip_homeagent.proofs.receiving.answer_role.Goals as goal
+
+pub returns-in_ok-take_other-in-None-clause-claims : goal.returns-in_ok-take_other-in-None-clause-claims
+returns-in_ok-take_other-in-None-clause-claims g c = unchanged (g.P.Place.claims c.args.place.now)
+
+pub returns-in_ok-take_other-in-None-clause-shows : goal.returns-in_ok-take_other-in-None-clause-shows
+returns-in_ok-take_other-in-None-clause-shows g c = λ t shows.
+    let d = c.args.desk.now in
+    let now = d.moment.0 in
+    let k = opened now d.known.now in
+    let p = tree c.args.packet.now in
+    let claim = claim_of (g.P.Place.around c.args.place.now) p.head in
+    subst (λ (m : Option Message). Shows now k unclaimed c.take_other.new.answers (by_role (handing_at d claim) p (option_map said m) t))
+    (sym c.in-None.is) (c.in_ok-take_other-in-None.ensures claim now k unclaimed t shows)

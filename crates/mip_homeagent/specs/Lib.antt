@@ -1,0 +1,6 @@
+pub mod Places
+pub mod Soundness
+pub mod Changes
+pub mod Showing
+pub mod Desks
+pub mod Endings

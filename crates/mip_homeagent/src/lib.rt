@@ -1,0 +1,20 @@
+//! A home agent (RFC 6275 section 10): it registers mobile nodes, claims their home addresses while they are away, tunnels
+//! what is sent to them, and tells mobile nodes of the home agents and the prefix of its link.
+#![tactic(auto)]
+
+mod agent;
+mod answering;
+mod change;
+mod desk;
+mod ending;
+mod ends;
+mod homes;
+mod judging;
+mod kept;
+mod prefixes;
+mod receiving;
+mod tunnel;
+mod update;
+
+pub use agent::HomeAgent;
+pub use mip_rules_agent::{HomeRow, HomeVerdict};

@@ -1,0 +1,232 @@
+//! What a home agent does about a Binding Update (RFC 6275 sections 10.3.1 and 10.3.2).
+
+ghost use Rattle.std.specs.Prelude.{◌≡◌, ◌≤◌, ◌<◌, ◌^◌, ◌++◌, IfOk, OnOk, IsTrue, Bool, true, false, Some, None};
+ghost use Rattle.std.specs.Option.{option_map};
+ghost use Rattle.mip_ipv6.specs.Packet.{is_routable_if_any};
+ghost use Rattle.mip_outside.specs.Places.{claim_in};
+ghost use Rattle.mip_outside.specs.declared.claim.Claim.{Claim};
+ghost use Rattle.mip_updates.specs.Registrations.{home_of, deletes};
+ghost use Rattle.mip_rules_agent.specs.Questions.{is_served};
+ghost use Rattle.mip_rules_agent.specs.Verdicts.{binding_for};
+ghost use Rattle.mip_rules_agent.specs.Rules.{acknowledges, denies, answers_if, accepts, judged, takes_update};
+ghost use Rattle.mip_homeagent.specs.Showing.{Goes, Leads, opened};
+ghost use Rattle.mip_homeagent.specs.Changes.{claims_held, claims_with, holding_of, holding_by, release_part, IsOfHome, answers_change};
+ghost use Rattle.mip_homeagent.specs.Desks.{handing_at};
+
+use crate::answering::{
+    drop_packet, note_claim, note_denial, note_registration, note_release, send,
+};
+use crate::change::Change;
+use crate::desk::Desk;
+use crate::judging::{holding_by, judge};
+use crate::tunnel::shield_to;
+use mip_constants::LIFETIME_UNIT;
+use mip_entries::Answers;
+use mip_outside::Place;
+use mip_rules_agent::{HomeBinding, HomeVerdict, Identity};
+use mip_updates::{Registration, home_of, status, write_ack};
+use mip_words::{Address, Memory, Moment};
+use std::alloc::Global;
+
+/// The acknowledgement goes under the shield of agent and home.
+#[tactic(auto, unfolding(mip_rules_agent::specs::Rules::acknowledges))]
+fn acknowledge(
+    alloc: Global,
+    answers: &mut Answers,
+    identity: &Identity,
+    registration: &Registration,
+    status: u8,
+    sequence: u16,
+    lifetime: u16,
+) -> Result<(), Memory>
+    requires { IsTrue (is_routable_if_any registration.now.home_option) }
+    ensures { Goes result (acknowledges identity.now registration.now status sequence lifetime) answers.old answers.new }
+{
+    let own = identity.own;
+    let ack = write_ack(alloc, own, registration, status, sequence, lifetime, None)?;
+    send(answers, shield_to(own, home_of(registration)), ack)
+}
+
+/// An update that was denied is always answered.
+#[tactic(auto, unfolding(mip_rules_agent::specs::Rules::denies))]
+fn deny(
+    alloc: Global,
+    answers: &mut Answers,
+    desk: &Desk<'_>,
+    registration: &Registration,
+    status: u8,
+    last: u16,
+) -> Result<(), Memory>
+    requires { IsTrue (is_routable_if_any registration.now.home_option) }
+    ensures { (claim : Claim) → Goes result (denies (handing_at desk.now claim) registration.now status last) answers.old answers.new }
+{
+    note_denial(answers, desk.number, status)?;
+    acknowledge(alloc, answers, desk.identity, registration, status, last, 0)
+}
+
+/// One that was accepted is answered where flag A asks for it.
+fn answer_if(
+    alloc: Global,
+    answers: &mut Answers,
+    identity: &Identity,
+    registration: &Registration,
+    granted: u16,
+) -> Result<(), Memory>
+    requires { IsTrue (is_routable_if_any registration.now.home_option) }
+    ensures { Goes result (answers_if registration.now.ack identity.now registration.now granted) answers.old answers.new }
+{
+    if !registration.ack {
+        return Ok(());
+    }
+    let sequence = registration.sequence;
+    acknowledge(
+        alloc,
+        answers,
+        identity,
+        registration,
+        status::ACCEPTED,
+        sequence,
+        granted,
+    )
+}
+
+/// The entries of an accepted update: the registration, and what becomes of the claim of its home address.
+fn note_change(
+    answers: &mut Answers,
+    home: Address,
+    binding: &HomeBinding,
+    holding: Option<bool>,
+) -> Result<(), Memory>
+    ensures { OnOk result (answers.new ≡ answers.old ++ answers_change home binding.now holding) }
+{
+    note_registration(answers, home, binding)?;
+    match holding {
+        Some(true) => note_claim(answers, home),
+        Some(false) => note_release(answers, home),
+        None => Ok(()),
+    }
+}
+
+/// The binding of an accepted update.
+fn binding_for(now: Moment, careof: Address, sequence: u16, granted: u16) -> HomeBinding
+    requires { now.0 < 2 ^ 62 }
+    ensures { result ≡ binding_for now.0 careof sequence granted }
+{
+    HomeBinding {
+        careof,
+        sequence,
+        end: Moment(now.0 + LIFETIME_UNIT * u64::from(granted)),
+    }
+}
+
+/// An update is accepted.
+fn accept(
+    alloc: Global,
+    answers: &mut Answers,
+    desk: &Desk<'_>,
+    registration: &Registration,
+    holding: Option<bool>,
+    home: Address,
+    binding: HomeBinding,
+    granted: u16,
+) -> Result<Change, Memory>
+    requires { IsTrue (is_routable_if_any registration.now.home_option) }
+    ensures claims { IfOk result (λ change. claims_with (Some change) ≡ claims_held holding home) }
+    ensures shows { (claim : Claim) (held : Bool) → holding ≡ holding_of held (deletes registration.now) → IfOk result (λ change. Leads (accepts (handing_at desk.now claim) registration.now held home binding granted) desk.now.moment.0 (opened desk.now.moment.0 desk.now.known.now) answers.old answers.new (Some change)) }
+{
+    note_change(answers, home, &binding, holding)?;
+    answer_if(alloc, answers, desk.identity, registration, granted)?;
+    let ends = desk.known.ends_after(alloc, home, &binding)?;
+    Ok(Change {
+        home,
+        binding,
+        holding,
+        ends,
+    })
+}
+
+/// What follows from a verdict.
+fn carry_out(
+    alloc: Global,
+    answers: &mut Answers,
+    desk: &Desk<'_>,
+    registration: &Registration,
+    held: bool,
+    verdict: HomeVerdict,
+) -> Result<Option<Change>, Memory>
+    requires early { desk.now.moment.0 < 2 ^ 62 }
+    requires plain { IsTrue (is_routable_if_any registration.now.home_option) }
+    requires home { IsOfHome registration.now verdict }
+    ensures claims { IfOk result (λ change. claims_with change ≡ claims_held (holding_by held registration.now verdict) (home_of registration.now)) }
+    ensures shows { (claim : Claim) → IfOk result (λ change. Leads (judged (handing_at desk.now claim) registration.now held verdict) desk.now.moment.0 (opened desk.now.moment.0 desk.now.known.now) answers.old answers.new change) }
+{
+    match verdict {
+        HomeVerdict::Refuse(why) => {
+            drop_packet(answers, desk.number, why)?;
+            Ok(None)
+        }
+        HomeVerdict::Deny { status, last } => {
+            deny(alloc, answers, desk, registration, status, last)?;
+            Ok(None)
+        }
+        HomeVerdict::Accept {
+            home,
+            careof,
+            sequence,
+            granted,
+        } => {
+            let holding = holding_by(held, registration, &verdict);
+            let binding = binding_for(desk.moment, careof, sequence, granted);
+            let change = accept(
+                alloc,
+                answers,
+                desk,
+                registration,
+                holding,
+                home,
+                binding,
+                granted,
+            )?;
+            Ok(Some(change))
+        }
+    }
+}
+
+/// An address that is held no more is given up.
+fn release<P: Place>(place: &mut P, holding: Option<bool>, home: Address)
+    ensures claims { P.claims place.new ≡ option_map (claims_held (release_part holding) home) (P.claims place.old) }
+    ensures around { P.around place.new ≡ P.around place.old }
+    ensures same { P.is_same place.old place.new }
+{
+    match holding {
+        Some(false) => place.release(home),
+        _ => (),
+    }
+}
+
+/// A Binding Update is judged, and answered.
+#[tactic(auto, unfolding(mip_rules_agent::specs::Rules::takes_update))]
+pub fn take_update<P: Place>(
+    alloc: Global,
+    answers: &mut Answers,
+    desk: &Desk<'_>,
+    place: &mut P,
+    registration: &Registration,
+) -> Result<Option<Change>, Memory>
+    requires early { desk.now.moment.0 < 2 ^ 62 }
+    requires later { desk.now.known.now.last ≤ desk.now.moment.0 }
+    requires plain { IsTrue (is_routable_if_any registration.now.home_option) }
+    requires room { is_served desk.now.known.now (home_of registration.now) ≡ true → (P.around place.old).room (home_of registration.now).0 ≡ true }
+    ensures claims { IfOk result (λ change. P.claims place.new ≡ option_map (claims_with change) (P.claims place.old)) }
+    ensures around { P.around place.new ≡ P.around place.old }
+    ensures same { P.is_same place.old place.new }
+    ensures shows { IfOk result (λ change. Leads (takes_update (handing_at desk.now (claim_in (P.around place.old) (home_of registration.now).0)) registration.now) desk.now.moment.0 (opened desk.now.moment.0 desk.now.known.now) answers.old answers.new change) }
+{
+    let held = desk.known.holds(home_of(registration));
+    let bench = desk.known.bench(desk.identity, desk.moment, registration);
+    let verdict = judge(place, &bench, desk.shield, held, registration);
+    let holding = holding_by(held, registration, &verdict);
+    let change = carry_out(alloc, answers, desk, registration, held, verdict)?;
+    release(place, holding, home_of(registration));
+    Ok(change)
+}
