@@ -1,12 +1,13 @@
 -- A message as the registration that it is, where it is an update.
-use Rattle.std.proofs.Common.{◌≡◌, ℕ, refl, sym, subst, true}
+use Rattle.std.proofs.Common.{◌≡◌, ℕ, List, [], ◌∷◌, refl, sym, subst, true}
 use Rattle.std.specs.Prelude.{Option, Some, None, Ok, unwrap_or, is_some}
+use Rattle.std.specs.List.{AllByRecursion}
 use Rattle.mip_words.specs.declared.address.Address.{Address}
 use Rattle.mip_words.specs.declared.why.Why.TheVariants as whys
 use Rattle.mip_ipv6.specs.Packet.{Packet}
 use Rattle.mip_mobhdr.specs.Said.{Said}
 use Rattle.mip_mobhdr.specs.Said.Said.{Refresh, HomeInit, CareofInit, HomeTest, CareofTest, Update, Acknowledgement, Error}
-use Rattle.mip_outside.specs.Places.{Around}
+use Rattle.mip_outside.specs.Places.{Around, free}
 use Rattle.mip_binding.proofs.RowLaws.{all-find}
 use Rattle.mip_updates.specs.declared.registration.Registration.{Registration}
 use Rattle.mip_updates.specs.Registrations.{registration, registration_said, home_of}
@@ -61,3 +62,11 @@ room_served around k home all served = by (served_at k home) refl served
     by : (o : Option Served) → served_at k home ≡ o → is_some o ≡ true → around.room home.0 ≡ true
     by None is e = absurd cc
     by (Some s) is e = subst (λ (n : ℕ). around.room n ≡ true) (find_key home.0 k.homes s is) (all-find (λ (s : Served). around.room s.home.0 ≡ true) key_of home.0 k.homes s all is)
+
+-- a free place has room for each home
+pub free_room : (k : Known) → HasRoom free k
+free_room k = by k.homes
+  where
+    by : (homes : List Served) → AllByRecursion (λ s. free.room s.home.0 ≡ true) homes
+    by [] = tt
+    by (s ∷ homes) = (refl, by homes)

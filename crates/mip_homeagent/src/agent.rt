@@ -92,6 +92,7 @@ impl HomeAgent {
         ensures after { OnOk result (self.new ≡ called self.old now.0 (calls.Hear agent preference life)) }
         ensures stands { (serves : List Address) (past : List (Stamped Step)) → Stands serves past self.old.known →
             OnOk result (Stands serves (with_turn past (turn_at self.old now.0 (calls.Hear agent preference life))) self.new.known) }
+        ensures last { OnOk result (self.new.known.last ≡ now.0) }
         ensures err { OnErr result (self.new ≡ self.old) }
     {
         self.known.hear(now, agent, preference, life)?;
@@ -112,6 +113,7 @@ impl HomeAgent {
         ensures after { OnOk result (self.new ≡ called self.old now.0 (calls.Plan valid preferred)) }
         ensures stands { (serves : List Address) (past : List (Stamped Step)) → Stands serves past self.old.known →
             OnOk result (Stands serves (with_turn past (turn_at self.old now.0 (calls.Plan valid preferred))) self.new.known) }
+        ensures last { OnOk result (self.new.known.last ≡ now.0) }
         ensures err { OnErr result (self.new ≡ self.old) }
     {
         let plan = PrefixPlan {
@@ -139,6 +141,7 @@ impl HomeAgent {
         ensures claims { OnOk result (P.claims place.new ≡ option_map (claims_by (turn_at self.old now.0 calls.Tick).steps) (P.claims place.old)) }
         ensures around { P.around place.new ≡ P.around place.old }
         ensures same { P.is_same place.old place.new }
+        ensures last { OnOk result (self.new.known.last ≡ now.0) }
         ensures err { OnErr result (self.new ≡ self.old) }
     {
         let due = self.known.due(alloc, now)?;
@@ -194,6 +197,7 @@ impl HomeAgent {
         ensures claims { OnOk result (P.claims place.new ≡ option_map (claims_by (turn_at self.old now.0 (calls.Take number shield packet.now (claim_for (P.around place.old) packet.now))).steps) (P.claims place.old)) }
         ensures around { P.around place.new ≡ P.around place.old }
         ensures same { P.is_same place.old place.new }
+        ensures last { OnOk result (self.new.known.last ≡ now.0) }
         ensures err { OnErr result (self.new ≡ self.old) }
     {
         let mut answers = Answers::new(alloc)?;

@@ -5,6 +5,7 @@ use Rattle.mip_rules_agent.specs.Calls.{Call}
 use Rattle.mip_rules_agent.specs.Turns.{Stands, with_turn}
 use Rattle.mip_rules_agent.specs.Seen.{AgentSeen, turn_at}
 use Rattle.mip_rules_agent.proofs.Calls.{call-stands}
+use Rattle.mip_rules_agent.proofs.Moments.{call-last}
 use Rattle.mip_homeagent.specs.Changes.{unclaimed}
 use Rattle.mip_homeagent.specs.Endings.{heard_at}
 use Rattle.mip_homeagent.proofs.Turning.{Ends, ends_shown, hear_shown}
@@ -26,3 +27,8 @@ returns-clause-stands c = λ serves past stands.
     let s = c.args.self.now in
     subst (λ (k : Known). Stands serves (with_turn past (turn_at s c.args.now.0 (calls.Hear c.args.agent c.args.preference c.args.life))) k) (sym (ap (λ (s : AgentSeen). s.known) (ended c).after))
     (call-stands serves past s.known c.args.now.0 s.identity (calls.Hear c.args.agent c.args.preference c.args.life) stands)
+
+pub returns-clause-last : goal.returns-clause-last
+returns-clause-last c =
+    let s = c.args.self.now in
+    ap (λ (s : AgentSeen). s.known.last) (ended c).after ∙ call-last s.identity s.known c.args.now.0 (calls.Hear c.args.agent c.args.preference c.args.life)

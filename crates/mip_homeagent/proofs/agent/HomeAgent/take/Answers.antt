@@ -9,6 +9,7 @@ use Rattle.mip_rules_agent.specs.Rules.{receives}
 use Rattle.mip_rules_agent.specs.Doing.{handing}
 use Rattle.mip_rules_agent.specs.Seen.{AgentSeen, turn_at}
 use Rattle.mip_rules_agent.proofs.Calls.{call-stands}
+use Rattle.mip_rules_agent.proofs.Moments.{call-last}
 use Rattle.mip_homeagent.specs.Changes.{with_change, claims_with}
 use Rattle.mip_homeagent.specs.Showing.{Shows, Leads, opened}
 use Rattle.mip_homeagent.proofs.Befores.{claims_told}
@@ -45,3 +46,8 @@ returns-clause-stands g c = λ serves past stands.
 
 pub returns-clause-claims : goal.returns-clause-claims
 returns-clause-claims g c = c.in_ok-change.ensures.claims ∙ claims_told (g.P.Place.claims c.args.place.now) _ _ (ended g c).claimed
+
+pub returns-clause-last : goal.returns-clause-last
+returns-clause-last g c =
+    let s = c.args.self.now in
+    ap (λ (s : AgentSeen). s.known.last) (ended g c).after ∙ call-last s.identity s.known c.args.now.0 (call g c)

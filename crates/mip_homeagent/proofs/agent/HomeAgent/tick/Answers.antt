@@ -5,6 +5,7 @@ use Rattle.mip_rules_agent.specs.Calls.{Call}
 use Rattle.mip_rules_agent.specs.Turns.{Stands, with_turn}
 use Rattle.mip_rules_agent.specs.Seen.{AgentSeen, turn_at}
 use Rattle.mip_rules_agent.proofs.Calls.{call-stands}
+use Rattle.mip_rules_agent.proofs.Moments.{call-last}
 use Rattle.std.specs.Option.{option_map}
 use Rattle.mip_entries.specs.declared.answer.Answer.{Answer}
 use Rattle.mip_rules_agent.specs.declared.ending.Ending.{Ending}
@@ -39,3 +40,8 @@ returns-clause-stands g c = λ serves past stands.
     let s = c.args.self.now in
     subst (λ (k : Known). Stands serves (with_turn past (turn_at s c.args.now.0 (calls.Tick))) k) (sym (ap (λ (s : AgentSeen). s.known) (ended g c).after))
     (call-stands serves past s.known c.args.now.0 s.identity (calls.Tick) stands)
+
+pub returns-clause-last : goal.returns-clause-last
+returns-clause-last g c =
+    let s = c.args.self.now in
+    ap (λ (s : AgentSeen). s.known.last) (ended g c).after ∙ call-last s.identity s.known c.args.now.0 (calls.Tick)
