@@ -6,9 +6,9 @@ use Rattle.std.proofs.lemmas.Bool.Decides.{nat_tests}
 use Rattle.mip_words.specs.declared.address.Address.{Address}
 use Rattle.mip_bulist.specs.declared.any.Any.{Any}
 use Rattle.mip_bulist.specs.declared.row.Row.{Row}
-use Rattle.mip_bulist.specs.Rows.{peer_at, peer_of_any, row_place, rows_given, new_row, with_row, set_trial, with_trial, takes_at, laid, rows_laid, lifted, IsNew, AreOfDifferentPeers}
+use Rattle.mip_bulist.specs.Rows.{peer_at, peer_of_any, row_place, rows_given, new_row, with_row, set_trial, with_trial, takes_at, laid, rows_laid, lifted, all_rested, IsNew, AreOfDifferentPeers}
 
-with_step : (r : Row) (rs : List Row) (i : ℕ) (trial : Option Any) → with_trial (suc i) trial (r ∷ rs) ≡ r ∷ with_trial i trial rs
+pub with_step : (r : Row) (rs : List Row) (i : ℕ) (trial : Option Any) → with_trial (suc i) trial (r ∷ rs) ≡ r ∷ with_trial i trial rs
 with_step r rs i trial =
     elim (slice_get rs i) as (λ o. set_trial o (suc i) trial (r ∷ rs) ≡ r ∷ set_trial o i trial rs) [ None ↦ refl | Some q ↦ refl ]
 
@@ -62,6 +62,14 @@ pub peers_kept : (rows : List Row) (at : ℕ) (trial : Option Any) → AreOfDiff
 peers_kept [] at trial d = tt
 peers_kept (r ∷ rs) zero trial d = d
 peers_kept (r ∷ rs) (suc i) trial d = subst AreOfDifferentPeers (sym (with_step r rs i trial)) (new_kept rs r.peer.0 i trial d.0, peers_kept rs i trial d.1)
+
+new_rested : (rows : List Row) (peer : ℕ) → IsNew peer rows → IsNew peer (all_rested rows)
+new_rested [] peer n = tt
+new_rested (r ∷ rs) peer n = (n.0, new_rested rs peer n.1)
+
+pub peers_rested : (rows : List Row) → AreOfDifferentPeers rows → AreOfDifferentPeers (all_rested rows)
+peers_rested [] d = tt
+peers_rested (r ∷ rs) d = (new_rested rs r.peer.0 d.0, peers_rested rs d.1)
 
 pub peers_laid : (rows : List Row) (at : ℕ) (trial : Any) → AreOfDifferentPeers rows → AreOfDifferentPeers (rows_laid at trial rows)
 peers_laid rows at trial d =

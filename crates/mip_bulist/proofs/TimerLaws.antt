@@ -84,17 +84,17 @@ few : (ts : List Timer) → AreApart ts → length ts ≤ 64
 few ts s = subst (λ n. n ≤ 64) (length-map ts (λ t. number_of t.work)) (length-le_from_distinct_below (map (λ t. number_of t.work) ts) 64 (distinct ts s) (all_below ts s))
 
 -- what a filter leaves is in order
-filter_from : (p : Timer → Bool) (at : ℕ) (ts : List Timer) → AreDueFrom at ts → AreDueFrom at (filter p ts)
+pub filter_from : (p : Timer → Bool) (at : ℕ) (ts : List Timer) → AreDueFrom at ts → AreDueFrom at (filter p ts)
 filter_from p at [] d = tt
 filter_from p at (t ∷ ts) d =
     elim (p t) as (λ b. AreDueFrom at (cond b (t ∷ filter p ts) (filter p ts))) [ true ↦ (d.0, filter_from p at ts d.1) | false ↦ filter_from p at ts d.1 ]
 
-filter_order : (p : Timer → Bool) (ts : List Timer) → AreInOrder ts → AreInOrder (filter p ts)
+pub filter_order : (p : Timer → Bool) (ts : List Timer) → AreInOrder ts → AreInOrder (filter p ts)
 filter_order p [] o = tt
 filter_order p (t ∷ ts) o =
     elim (p t) as (λ b. AreInOrder (cond b (t ∷ filter p ts) (filter p ts))) [ true ↦ (filter_from p t.due.0 ts o.0, filter_order p ts o.1) | false ↦ filter_order p ts o.1 ]
 
-from_earlier : (a b : ℕ) (ts : List Timer) → a ≤ b → AreDueFrom b ts → AreDueFrom a ts
+pub from_earlier : (a b : ℕ) (ts : List Timer) → a ≤ b → AreDueFrom b ts → AreDueFrom a ts
 from_earlier a b [] le d = tt
 from_earlier a b (t ∷ ts) le d = let h : b ≤ t.due.0 = d.0 in (omega arith, from_earlier a b ts le d.1)
 
@@ -129,10 +129,10 @@ place_is due ts =
     let P : Bool → Type 0 = λ v. nat_lt a b ≡ v → unwrap_or (cond v (Some a) None) b ≡ a in
     (elim (nat_lt a b) as P [ true ↦ λ _. refl | false ↦ λ e. grind (arith, nat_tests) ]) refl
 
-put_order : (t : Timer) (ts : List Timer) → AreInOrder ts → AreInOrder (put_timer t ts)
+pub put_order : (t : Timer) (ts : List Timer) → AreInOrder ts → AreInOrder (put_timer t ts)
 put_order t ts o = subst (λ n. AreInOrder (insert ts n t)) (sym (place_is t.due ts)) (order_at t ts o)
 
-due_order : (now : Moment) (ts : List Timer) → AreInOrder ts → AreInOrder (without_due now ts)
+pub due_order : (now : Moment) (ts : List Timer) → AreInOrder ts → AreInOrder (without_due now ts)
 due_order now [] o = tt
 due_order now (t ∷ ts) o = elim (nat_lt now.0 t.due.0) as (λ b. AreInOrder (cond b (t ∷ ts) ts)) [ true ↦ o | false ↦ o.1 ]
 

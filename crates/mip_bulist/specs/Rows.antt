@@ -1,12 +1,14 @@
 -- The rows of a mobile: one for each peer, in the order in which they were made, with the peer's trial
 -- where that is in.
-use Rattle.std.specs.Prelude.{◌≢◌, ℕ, Bool, false, ◌&&◌, ◌==◌, nat_lt, if◌then◌else◌, Option, Some, None, Result, Ok, Err, is_none, option_and_then, List, [], ◌∷◌, ◌++◌, length, position, slice_get, slice_set}
+use Rattle.std.specs.Prelude.{◌≢◌, ℕ, Bool, false, ◌&&◌, ◌==◌, nat_lt, if◌then◌else◌, Option, Some, None, Result, Ok, Err, is_none, option_and_then, option_map, map, List, [], ◌∷◌, ◌++◌, length, position, slice_get, slice_set}
 use Rattle.mip_words.specs.declared.address.Address.{Address}
 use Rattle.mip_bulist.specs.declared.any.Any.{Any}
 use Rattle.mip_bulist.specs.declared.any.Any.TheVariants as any
 use Rattle.mip_bulist.specs.declared.row.Row.{Row}
 use Rattle.mip_bulist.specs.declared.list_full.ListFull.{ListFull}
-use Rattle.mip_bulist.specs.Trials.{peer_of, fresh_trial}
+use Rattle.mip_bulist.specs.declared.state.Idle.{Idle}
+use Rattle.mip_bulist.specs.declared.trial.Trial.{Trial}
+use Rattle.mip_bulist.specs.Trials.{peer_of, fresh_trial, at_rest}
 
 abbrev pub peer_of_any : Any → Address
 peer_of_any (any.Idle t) = peer_of t
@@ -68,6 +70,21 @@ laid row trial rows = if takes_at row (peer_of_any trial) rows then Ok tt else E
 
 abbrev pub rows_laid : ℕ → Any → List Row → List Row
 rows_laid row trial rows = if takes_at row (peer_of_any trial) rows then with_trial row (Some trial) rows else rows
+
+-- whatever was under way is given up
+abbrev pub resting : Any → Trial Idle
+resting (any.Idle t) = at_rest t
+resting (any.Probing t) = at_rest t
+resting (any.Proved t) = at_rest t
+resting (any.Pending t) = at_rest t
+resting (any.Bound t) = at_rest t
+
+abbrev pub rested_row : Row → Row
+rested_row r = record { peer = r.peer; trial = option_map (λ a. any.Idle (resting a)) r.trial }
+
+-- every trial is given up
+abbrev pub all_rested : List Row → List Row
+all_rested rows = map rested_row rows
 
 -- no row is of this peer
 abbrev pub IsNew : ℕ → List Row → Type 0

@@ -119,6 +119,11 @@ made_of sequence (Home home) = record {
   careof = None;
 }
 
+-- the care-of address that an update of these tests binds; none where it deletes
+abbrev pub bound_to : Tested → Option Address
+bound_to (Both to home careof) = Some to
+bound_to (Home home) = None
+
 -- the next update of these tests is made now
 abbrev pub made_now : {S : Type 0} → Moment → Tested → Trial S → Trial Pending × Made
 made_now now tested t =
@@ -129,6 +134,11 @@ making now tested t =
     if has_old now tested then Err (t, refused.Old)
     else if is_too_soon now t.recent then Err (t, refused.TooSoon)
     else Ok (made_now now tested t)
+
+-- what comes of making an update
+abbrev pub making_of : {S : Type 0} → Result (Trial Pending × Made) (Trial S × Refused) → Result Made Refused
+making_of (Ok r) = Ok r.1
+making_of (Err e) = Err e.1
 
 abbrev pub updated : Moment → Trial Proved → Result (Trial Pending × Made) (Trial Proved × Refused)
 updated now t = making now t.state.tested t

@@ -1,5 +1,5 @@
 ghost use Rattle.std.specs.Prelude.{◌≡◌};
-ghost use Rattle.mip_bulist.specs.Rows.{peer_of_any};
+ghost use Rattle.mip_bulist.specs.Rows.{peer_of_any, resting};
 
 use crate::state::{Bound, Idle, Pending, Probing, Proved};
 use crate::trial::Trial;
@@ -26,6 +26,19 @@ impl Any {
             Any::Proved(trial) => trial.peer(),
             Any::Pending(trial) => trial.peer(),
             Any::Bound(trial) => trial.peer(),
+        }
+    }
+
+    /// Gives up what is under way.
+    pub fn idle(self) -> Trial<Idle>
+        ensures { result ≡ resting self }
+    {
+        match self {
+            Any::Idle(trial) => trial.idle(),
+            Any::Probing(trial) => trial.idle(),
+            Any::Proved(trial) => trial.idle(),
+            Any::Pending(trial) => trial.idle(),
+            Any::Bound(trial) => trial.idle(),
         }
     }
 }

@@ -1,6 +1,6 @@
-ghost use Rattle.std.specs.Prelude.{◌≡◌, [], IfOk};
+ghost use Rattle.std.specs.Prelude.{◌≡◌, ◌<◌, [], IfOk, IfSome, option_copied};
 ghost use Rattle.mip_bulist.specs.Timers.{AreInOrder, IsInRange, is_set, without_timer, with_timer, due_work, without_due, first_due};
-ghost use Rattle.mip_bulist.specs.Rows.{AreOfDifferentPeers, given_row, with_row, peer_at, lifted, with_trial, laid, rows_laid};
+ghost use Rattle.mip_bulist.specs.Rows.{AreOfDifferentPeers, given_row, with_row, row_place, peer_at, lifted, with_trial, laid, rows_laid, all_rested};
 
 use crate::any::Any;
 use crate::list_full::ListFull;
@@ -50,10 +50,42 @@ impl List {
         rows::give(&mut self.rows, peer)
     }
 
+    /// The row of a peer. `None` exactly where it has none.
+    pub fn find(&self, peer: Address) -> Option<u8>
+        ensures row { result ≡ row_place peer self.now.rows }
+        ensures within { IfSome result (λ at. at < 16) }
+    {
+        rows::find_row(&self.rows, peer)
+    }
+
+    /// The trial of a row. `None` exactly where the row is not made or its trial is out.
+    pub fn trial(&self, row: u8) -> Option<&Any>
+        ensures { option_copied result ≡ lifted row self.now.rows }
+    {
+        rows::trial_at(&self.rows, row as usize)
+    }
+
+    /// Gives up every trial, and stops every timer.
+    pub fn rest_all(&mut self)
+        ensures { self.new ≡ record { rows = all_rested self.old.rows; timers = [] } }
+    {
+        rows::rest_all(&mut self.rows);
+        self.timers.clear();
+    }
+
+    /// Forgets every row, and stops every timer.
+    pub fn clear(&mut self)
+        ensures { self.new ≡ record { rows = []; timers = [] } }
+    {
+        self.rows.clear();
+        self.timers.clear();
+    }
+
     /// The peer of a row. `None` exactly where the row is not made.
     pub fn peer(&self, row: u8) -> Option<Address>
         ensures different { AreOfDifferentPeers self.now.rows }
         ensures peer { result ≡ peer_at row self.now.rows }
+        ensures within { IfSome result (λ _. row < 16) }
     {
         rows::peer_at(&self.rows, row as usize)
     }

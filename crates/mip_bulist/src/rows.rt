@@ -1,7 +1,7 @@
 //! Rows in the order in which they were made.
 
-ghost use Rattle.std.specs.Prelude.{◌≡◌, ◌≤◌, ◌<◌, ◌++◌, ◌∷◌, [], length, vec_capacity, IfSome, IsTrue};
-ghost use Rattle.mip_bulist.specs.Rows.{AreOfDifferentPeers, new_row, row_place, takes_at, peer_at, given_row, with_row, lifted, with_trial, laid, rows_laid};
+ghost use Rattle.std.specs.Prelude.{◌≡◌, ◌≤◌, ◌<◌, ◌++◌, ◌∷◌, [], length, vec_capacity, IfSome, IsTrue, option_copied};
+ghost use Rattle.mip_bulist.specs.Rows.{AreOfDifferentPeers, new_row, row_place, takes_at, peer_at, given_row, with_row, lifted, with_trial, laid, rows_laid, all_rested};
 
 use crate::any::Any;
 use crate::list_full::ListFull;
@@ -18,6 +18,45 @@ fn find(rows: &[Row], peer: Address) -> Option<usize>
     ensures within { IfSome result (λ at. at < length rows.now) }
 {
     rows.iter().position(|row| row.peer.0 == peer.0)
+}
+
+/// The row of a peer, as a number.
+pub fn find_row(rows: &[Row], peer: Address) -> Option<u8>
+    requires { length rows.now ≤ 16 }
+    ensures value { result ≡ row_place peer rows.now }
+    ensures within { IfSome result (λ at. at < 16) }
+{
+    match find(rows, peer) {
+        Some(at) => Some(at as u8),
+        None => None,
+    }
+}
+
+/// The trial of a row.
+pub fn trial_at(rows: &[Row], row: usize) -> Option<&Any>
+    ensures { option_copied result ≡ lifted row rows.now }
+{
+    rows.get(row)?.trial.as_ref()
+}
+
+/// Every trial is given up.
+pub fn rest_all(rows: &mut Vec<Row>)
+    requires few { length rows.old.items ≤ 16 }
+    requires peers { AreOfDifferentPeers rows.old.items }
+    ensures rows { rows.new.items ≡ all_rested rows.old.items }
+    ensures few { length rows.new.items ≤ 16 }
+    ensures peers { AreOfDifferentPeers rows.new.items }
+    ensures room { vec_capacity rows.new ≡ vec_capacity rows.old }
+{
+    rest_each(rows)
+}
+
+fn rest_each(rows: &mut [Row])
+    ensures { rows.new ≡ all_rested rows.old }
+{
+    for row in rows {
+        row.rest();
+    }
 }
 
 /// The row of a peer, made where new. It takes no memory.
@@ -68,7 +107,8 @@ fn make(rows: &mut Vec<Row>, peer: Address)
 
 /// The peer of a row that is made.
 pub fn peer_at(rows: &[Row], row: usize) -> Option<Address>
-    ensures { result ≡ peer_at row rows.now }
+    ensures peer { result ≡ peer_at row rows.now }
+    ensures within { IfSome result (λ _. row < length rows.now) }
 {
     let row = rows.get(row)?;
     Some(row.peer)

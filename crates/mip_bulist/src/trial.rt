@@ -1,5 +1,7 @@
-ghost use Rattle.std.specs.Prelude.{◌≡◌};
-ghost use Rattle.mip_bulist.specs.Trials.{peer_of, next_of, in_state, fresh_trial, probed, weighed, home_tested, careof_tested, made_now, updated, made_again, ended_with, acknowledged_as, resequenced, at_rest};
+ghost use Rattle.std.specs.Prelude.{◌≡◌, is_none};
+ghost use Rattle.std.specs.Result.{is_ok};
+ghost use Rattle.mip_bulist.specs.declared.tested.Test.{Test};
+ghost use Rattle.mip_bulist.specs.Trials.{peer_of, next_of, in_state, fresh_trial, made_of, bound_to, probed, weighed, home_tested, careof_tested, made_now, making_of, updated, made_again, ended_with, acknowledged_as, resequenced, at_rest};
 
 use crate::aim::Aim;
 use crate::made::Made;
@@ -115,6 +117,50 @@ impl Trial<Idle> {
 }
 
 impl Trial<Probing> {
+    /// The cookie of its Home Test Init.
+    pub fn home_cookie(&self) -> Cookie
+        ensures { result ≡ self.now.state.home_cookie }
+    {
+        self.state.home_cookie
+    }
+
+    /// The cookie of its Care-of Test Init.
+    pub fn careof_cookie(&self) -> Cookie
+        ensures { result ≡ self.now.state.careof_cookie }
+    {
+        self.state.careof_cookie
+    }
+
+    /// Whether its Home Test is missing.
+    pub fn lacks_home(&self) -> bool
+        ensures { result ≡ is_none self.now.state.home }
+    {
+        self.state.home.is_none()
+    }
+
+    /// Whether its Care-of Test is missing.
+    pub fn lacks_careof(&self) -> bool
+        ensures { result ≡ is_none self.now.state.careof }
+    {
+        self.state.careof.is_none()
+    }
+
+    /// Whether `home_test` keeps a Home Test from this peer with this cookie.
+    pub fn keeps_home_test(&self, peer: Address, cookie: Cookie) -> bool
+        ensures { (test : Test) → result ≡ is_ok (home_tested peer cookie test self.now) }
+    {
+        peer.0 == self.peer.0 && cookie.0 == self.state.home_cookie.0
+    }
+
+    /// Whether `careof_test` keeps a Care-of Test from this peer with this cookie.
+    pub fn keeps_careof_test(&self, peer: Address, cookie: Cookie) -> bool
+        ensures { (test : Test) → result ≡ is_ok (careof_tested peer cookie test self.now) }
+    {
+        peer.0 == self.peer.0
+            && !matches!(self.state.aim, Aim::Delete)
+            && cookie.0 == self.state.careof_cookie.0
+    }
+
     /// Keeps a Home Test (RFC 6275 section 11.6.2). A later one replaces it.
     pub fn home_test(
         self,
@@ -188,6 +234,19 @@ impl Trial<Probing> {
 }
 
 impl Trial<Proved> {
+    /// What `update` would make at this moment.
+    pub fn outlook(&self, now: Moment) -> Result<Made, Refused>
+        ensures { result ≡ making_of (updated now self.now) }
+    {
+        if self.state.tested.is_old(now) {
+            return Err(Refused::Old);
+        }
+        if self.recent.is_full(now) {
+            return Err(Refused::TooSoon);
+        }
+        Ok(self.state.tested.made(self.next))
+    }
+
     /// Makes the first update of these tests (RFC 6275 section 11.7.2).
     pub fn update(self, now: Moment) -> Result<(Trial<Pending>, Made), (Trial<Proved>, Refused)>
         ensures { result ≡ updated now self }
@@ -204,6 +263,43 @@ impl Trial<Proved> {
 }
 
 impl Trial<Pending> {
+    /// What `again` would make at this moment.
+    pub fn outlook(&self, now: Moment) -> Result<Made, Refused>
+        ensures { result ≡ making_of (made_again now self.now) }
+    {
+        if self.state.tested.is_old(now) {
+            return Err(Refused::Old);
+        }
+        if self.recent.is_full(now) {
+            return Err(Refused::TooSoon);
+        }
+        Ok(self.state.tested.made(self.next))
+    }
+
+    /// The last update that it made.
+    pub fn last_made(&self) -> Made
+        ensures { result ≡ made_of self.now.state.last self.now.state.tested }
+    {
+        self.state.tested.made(self.state.last)
+    }
+
+    /// The care-of address that the update is to bind; `None` where it deletes.
+    pub fn binds_to(&self) -> Option<Address>
+        ensures { result ≡ bound_to self.now.state.tested }
+    {
+        match self.state.tested {
+            Tested::Both { to, .. } => Some(to),
+            Tested::Home { .. } => None,
+        }
+    }
+
+    /// When the last update was made.
+    pub fn sent_at(&self) -> Option<Moment>
+        ensures { result ≡ self.now.recent.newest }
+    {
+        self.recent.newest
+    }
+
     /// Makes the update anew, under the next sequence (RFC 6275 section 11.8).
     pub fn again(self, now: Moment) -> Result<(Trial<Pending>, Made), (Trial<Pending>, Refused)>
         ensures { result ≡ made_again now self }

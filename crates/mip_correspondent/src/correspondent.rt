@@ -2,6 +2,7 @@ ghost use Rattle.std.specs.Prelude.{◌≡◌, ◌==◌, ◌↔◌, ℕ, ◌<◌
 ghost use Rattle.std.specs.Option.{option_map_or};
 ghost use Rattle.mip_words.specs.Addresses.{is_routable};
 ghost use Rattle.mip_ipv6.specs.Packet.{packet as tree, is_routable_if_any, names_no_body};
+ghost use Rattle.mip_nonce.specs.Secrets.{cookie_of};
 ghost use Rattle.mip_says.specs.Says.{message_in};
 ghost use Rattle.mip_binding.specs.Acceptance.{Acceptance};
 ghost use Rattle.mip_binding.specs.Rows.{kept_rows, table};
@@ -27,7 +28,7 @@ use mip_ipv6::PacketRef;
 use mip_nonce::Secrets;
 use mip_rules_correspondent::{Identity, Known};
 use mip_says::message_in;
-use mip_words::{Address, Memory, Moment, Shield};
+use mip_words::{Address, Cookie, Memory, Moment, Shield};
 use std::alloc::Global;
 use std::marker::Model;
 
@@ -66,6 +67,13 @@ impl Correspondent {
             cache,
         };
         Ok(Correspondent { identity, known })
+    }
+
+    /// The cookie that its present life draws after so many others.
+    pub fn cookie(&self, number: u64) -> Cookie
+        ensures { result.0 ≡ cookie_of self.now.identity.secrets number }
+    {
+        self.identity.secrets.cookie(number)
     }
 
     /// The care-of address that is held for a home.

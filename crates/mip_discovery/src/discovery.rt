@@ -40,6 +40,21 @@ impl Discovery {
         }
     }
 
+    /// The identifier of its requests.
+    pub fn identifier(&self) -> u16
+        ensures { result ≡ self.now.identifier }
+    {
+        self.identifier
+    }
+
+    /// How many milliseconds after its last request the next retry is due.
+    pub fn wait(&self) -> u64
+        ensures value { result ≡ initial_dhaad_timeout * 2 ^ self.now.retries }
+        ensures small { result < 2 ^ 32 }
+    {
+        wait(self.retries)
+    }
+
     /// When the next retry is due, or after the fourth one when the mobile gives up.
     pub fn due(&self) -> Moment
         ensures { result.0 ≡ self.now.due }

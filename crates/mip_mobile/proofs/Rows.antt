@@ -18,12 +18,8 @@ use Rattle.mip_bulist.specs.declared.trial.Ended.TheVariants as ends
 use Rattle.mip_bulist.specs.declared.trial.Trial.{Trial}
 use Rattle.mip_bulist.specs.Trials.{needed, proved_where, weighed, with_home, with_careof, is_deletion, has_old, is_too_soon, made_now, ended_with, in_state}
 use Rattle.mip_rules_mobile.specs.Trials.{Change, Start, HomeTest, CareofTest, Make, Resequence, Acknowledge, Rest, after_probe, after_update, after_again, after_end, changed, changed_at, with_change}
-use Rattle.mip_bulist.proofs.RowLaws.{peer_kept}
+use Rattle.mip_bulist.proofs.RowLaws.{peer_kept, with_step}
 use Rattle.mip_mobile.specs.Mine.{IsMine, AreMine}
-
-with_step : (r : Row) (rs : List Row) (i : ℕ) (trial : Option Any) → with_trial (suc i) trial (r ∷ rs) ≡ r ∷ with_trial i trial rs
-with_step r rs i trial =
-    elim (slice_get rs i) as (λ o. set_trial o (suc i) trial (r ∷ rs) ≡ r ∷ set_trial o i trial rs) [ None ↦ refl | Some q ↦ refl ]
 
 -- a row whose trial is out takes it back
 pub takes-back : (rows : List Row) (row : ℕ) (any : Any) (peer : Address) → lifted row rows ≡ Some any → IsMine rows row → peer ≡ peer_of_any any → takes_at row peer (with_trial row None rows) ≡ true

@@ -2,14 +2,14 @@
 
 ghost use Rattle.std.specs.Prelude.{◌≡◌, true, Some};
 ghost use Rattle.mip_bulist.specs.Rows.{lifted, with_trial, takes_at, peer_of_any};
-ghost use Rattle.mip_bulist.specs.Trials.{updated, made_again};
+ghost use Rattle.mip_bulist.specs.Trials.{updated, made_again, making_of};
 ghost use Rattle.mip_words.specs.declared.moment.Moment.{Moment};
-ghost use Rattle.mip_rules_mobile.specs.Trials.{Start, HomeTest, CareofTest, Make, Resequence, Acknowledge, Rest, resting, changed, with_change, after_probe, after_update, after_again, after_end, making_of, makes};
+ghost use Rattle.mip_rules_mobile.specs.Trials.{Start, HomeTest, CareofTest, Make, Resequence, Acknowledge, Rest, changed, with_change, after_probe, after_update, after_again, after_end, makes};
 ghost use Rattle.mip_mobile.specs.Mine.{IsMine};
 
 use crate::heard::Heard;
 use mip_bulist::{
-    Aim, Any, Ended, Idle, List, Made, Pending, Probe, Probing, Proved, Refused, Trial,
+    Aim, Any, Ended, List, Made, Pending, Probe, Probing, Proved, Refused, Trial,
 };
 use mip_words::{Cookie, Moment};
 
@@ -24,25 +24,12 @@ fn lay(list: &mut List, row: u8, any: Any)
     }
 }
 
-/// Whatever was under way is given up.
-fn resting(any: Any) -> Trial<Idle>
-    ensures { result ≡ resting any }
-{
-    match any {
-        Any::Idle(trial) => trial.idle(),
-        Any::Probing(trial) => trial.idle(),
-        Any::Proved(trial) => trial.idle(),
-        Any::Pending(trial) => trial.idle(),
-        Any::Bound(trial) => trial.idle(),
-    }
-}
-
 /// The trial is given up.
 #[tactic(auto, unfolding(mip_rules_mobile::specs::Trials::changed))]
 fn rested(any: Any) -> Any
     ensures { (now : Moment) → result ≡ changed now Rest any }
 {
-    Any::Idle(resting(any))
+    Any::Idle(any.idle())
 }
 
 /// The trial starts anew, with these cookies.
@@ -50,7 +37,7 @@ fn rested(any: Any) -> Any
 fn started(any: Any, now: Moment, aim: Aim, home: Cookie, careof: Cookie) -> Any
     ensures { result ≡ changed now (Start aim home careof) any }
 {
-    Any::Probing(resting(any).probe(now, aim, home, careof))
+    Any::Probing(any.idle().probe(now, aim, home, careof))
 }
 
 /// The peer's last accepted sequence was this one.

@@ -21,10 +21,11 @@ use Rattle.mip_bulist.specs.declared.tested.Tested.{Tested}
 use Rattle.mip_bulist.specs.declared.tested.Tested.TheVariants.{Both, Home}
 use Rattle.mip_bulist.specs.declared.trial.Ended.TheVariants as ends
 use Rattle.mip_bulist.specs.declared.trial.Trial.{Trial}
-use Rattle.mip_bulist.specs.Rows.{lifted, with_trial, set_trial, with_row, rows_given, row_place, new_row}
-use Rattle.mip_bulist.specs.Trials.{fresh_trial, needed, proved_where, weighed, with_home, with_careof, is_deletion, has_old, is_too_soon, made_of, made_now, in_state, making, ended_with}
+use Rattle.mip_bulist.specs.Rows.{lifted, with_trial, with_row, rows_given, row_place, new_row, all_rested, resting}
+use Rattle.mip_bulist.proofs.RowLaws.{with_step}
+use Rattle.mip_bulist.specs.Trials.{fresh_trial, needed, proved_where, weighed, with_home, with_careof, is_deletion, has_old, is_too_soon, made_of, made_now, in_state, making, making_of, ended_with}
 use Rattle.mip_entries.specs.Stamped.{Stamped}
-use Rattle.mip_rules_mobile.specs.Trials.{Change, Start, HomeTest, CareofTest, Make, Resequence, Acknowledge, Rest, after_probe, after_update, after_again, with_update, after_end, changed, changed_at, with_change, all_rested, making_of, makes, resting}
+use Rattle.mip_rules_mobile.specs.Trials.{Change, Start, HomeTest, CareofTest, Make, Resequence, Acknowledge, Rest, after_probe, after_update, after_again, with_update, after_end, changed, changed_at, with_change, makes}
 use Rattle.mip_rules_mobile.specs.Steps.{Step, Called, Parts, Notes, Sends, Unsends, Drops, Claims, Releases, FindsTaken, Arrives, Detaches, Restarts, Registers, Unregisters, IsRefused, Resequences, Seeks, SeeksAgain, GivesUp, Finds, Chooses, Learns, Meets, Tries, Updates, Forgets, Binds, Unbinds, Waits, Stops, Rings}
 use Rattle.mip_rules_mobile.specs.Sendings.{PeerUpdate}
 use Rattle.mip_rules_mobile.specs.Known.{Known}
@@ -190,10 +191,6 @@ module _ (past : List (Stamped Step)) (at row : ℕ) where
   changed-given Rest any w = tt
 
 -- rows with one changed
-with_step : (r : Row) (rs : List Row) (i : ℕ) (trial : Option Any) → with_trial (suc i) trial (r ∷ rs) ≡ r ∷ with_trial i trial rs
-with_step r rs i trial =
-    elim (slice_get rs i) as (λ o. set_trial o (suc i) trial (r ∷ rs) ≡ r ∷ set_trial o i trial rs) [ None ↦ refl | Some q ↦ refl ]
-
 with-other : (rows : List Row) (row at : ℕ) (any : Any) → (row ≡ at → ⊥) → lifted row (with_trial at (Some any) rows) ≡ lifted row rows
 with-other [] row at any other = refl
 with-other (r ∷ rs) zero zero any other = absurd (other refl)

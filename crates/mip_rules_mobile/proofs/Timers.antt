@@ -11,7 +11,7 @@ use Rattle.mip_bulist.specs.declared.work.Work.{Work}
 use Rattle.mip_bulist.specs.declared.work.Work.TheVariants as works
 use Rattle.mip_bulist.specs.declared.timer.Timer.{Timer}
 use Rattle.mip_bulist.specs.Timers.{is_of, without_timer, place_of, with_timer, without_due, due_work, AreDueFrom, AreInOrder}
-use Rattle.mip_bulist.proofs.TimerLaws.{none_due}
+use Rattle.mip_bulist.proofs.TimerLaws.{none_due, filter_from, filter_order, from_earlier, put_order, due_order}
 use Rattle.mip_entries.specs.Stamped.{Stamped}
 use Rattle.mip_turns.proofs.TurnLaws.{noted-now, noted-known}
 use Rattle.mip_rules_mobile.specs.Calls as calls
@@ -27,63 +27,12 @@ use Rattle.mip_rules_mobile.specs.Fitting.{Fits, Steady, kind_of}
 use Rattle.mip_rules_mobile.proofs.Steady.{Goes}
 use Rattle.mip_rules_mobile.proofs.RingWalks.{every-work}
 
--- what a filter leaves is in order
-filter_from : (p : Timer → Bool) (at : ℕ) (ts : List Timer) → AreDueFrom at ts → AreDueFrom at (filter p ts)
-filter_from p at [] d = tt
-filter_from p at (t ∷ ts) d =
-    elim (p t) as (λ b. AreDueFrom at (cond b (t ∷ filter p ts) (filter p ts))) [ true ↦ (d.0, filter_from p at ts d.1) | false ↦ filter_from p at ts d.1 ]
-
-filter_order : (p : Timer → Bool) (ts : List Timer) → AreInOrder ts → AreInOrder (filter p ts)
-filter_order p [] o = tt
-filter_order p (t ∷ ts) o =
-    elim (p t) as (λ b. AreInOrder (cond b (t ∷ filter p ts) (filter p ts))) [ true ↦ (filter_from p t.due.0 ts o.0, filter_order p ts o.1) | false ↦ filter_order p ts o.1 ]
-
-from_earlier : (a b : ℕ) (ts : List Timer) → a ≤ b → AreDueFrom b ts → AreDueFrom a ts
-from_earlier a b [] le d = tt
-from_earlier a b (t ∷ ts) le d = let h : b ≤ t.due.0 = d.0 in (omega arith, from_earlier a b ts le d.1)
-
--- a timer behind one more
-at_more : (n : ℕ) (t x : Timer) (xs : List Timer) → insert (x ∷ xs) (1 + n) t ≡ x ∷ insert xs n t
-at_more n t x xs = let e : suc n ≡ 1 + n = omega arith in subst (λ m. insert (x ∷ xs) m t ≡ x ∷ insert xs n t) e refl
-
-insert_from : (at : ℕ) (t : Timer) (xs ys : List Timer) → at ≤ t.due.0 → AreDueFrom at (xs ++ ys) → AreDueFrom at (xs ++ t ∷ ys)
-insert_from at t [] ys le d = (le, d)
-insert_from at t (x ∷ xs) ys le d = (d.0, insert_from at t xs ys le d.1)
-
-at_from : (at n : ℕ) (t : Timer) (ts : List Timer) → at ≤ t.due.0 → AreDueFrom at ts → AreDueFrom at (insert ts n t)
-at_from at n t ts le d =
-    let whole : ts ≡ take n ts ++ drop n ts = sym (take-append-drop n ts) in
-    insert_from at t (take n ts) (drop n ts) le (subst (AreDueFrom at) whole d)
-
-order_at : (t : Timer) (ts : List Timer) → AreInOrder ts → AreInOrder (insert ts (position_or_len (λ u. nat_lt t.due.0 u.due.0) ts) t)
-order_at t [] o = (tt, tt)
-order_at t (x ∷ xs) o =
-    let n = position_or_len (λ u. nat_lt t.due.0 u.due.0) xs in
-    let P : Bool → Type 0 = λ b. nat_lt t.due.0 x.due.0 ≡ b → AreInOrder (insert (x ∷ xs) (cond (not b) (1 + n) 0) t) in
-    (elim (nat_lt t.due.0 x.due.0) as P [
-      | true ↦ λ e. let le : t.due.0 ≤ x.due.0 = grind (arith, nat_tests) in ((le, from_earlier t.due.0 x.due.0 xs le o.0), o)
-      | false ↦ λ e. let le : x.due.0 ≤ t.due.0 = grind (arith, nat_tests) in subst AreInOrder (sym (at_more n t x xs)) (at_from x.due.0 n t xs le o.0, order_at t xs o.1)
-    ]) refl
-
-place_is : (due : Moment) (ts : List Timer) → place_of due ts ≡ position_or_len (λ t. nat_lt due.0 t.due.0) ts
-place_is due ts =
-    let a = position_or_len (λ t. nat_lt due.0 t.due.0) ts in
-    let b = length ts in
-    let le : a ≤ b = prefix_len-le-length (λ t. not (nat_lt due.0 t.due.0)) ts in
-    let P : Bool → Type 0 = λ v. nat_lt a b ≡ v → unwrap_or (cond v (Some a) None) b ≡ a in
-    (elim (nat_lt a b) as P [ true ↦ λ _. refl | false ↦ λ e. grind (arith, nat_tests) ]) refl
-
 without_order : (work : Work) (ts : List Timer) → AreInOrder ts → AreInOrder (without_timer work ts)
 without_order work ts o = filter_order (λ t. not (is_of work t)) ts o
 
 with_order : (due : Moment) (work : Work) (ts : List Timer) → AreInOrder ts → AreInOrder (with_timer due work ts)
 with_order due work ts o =
-    let t : Timer = record { due = due; work = work } in
-    subst (λ n. AreInOrder (insert (without_timer work ts) n t)) (sym (place_is due (without_timer work ts))) (order_at t (without_timer work ts) (without_order work ts o))
-
-due_order : (now : Moment) (ts : List Timer) → AreInOrder ts → AreInOrder (without_due now ts)
-due_order now [] o = tt
-due_order now (t ∷ ts) o = elim (nat_lt now.0 t.due.0) as (λ b. AreInOrder (cond b (t ∷ ts) ts)) [ true ↦ o | false ↦ o.1 ]
+    put_order (record { due = due; work = work }) (without_timer work ts) (without_order work ts o)
 
 -- each step leaves them in order
 pub order-kept : (ts : List Timer) (at : ℕ) (step : Step) → AreInOrder ts → AreInOrder (timers_after ts at step)

@@ -11,9 +11,9 @@ use Rattle.mip_bulist.specs.declared.aim.Aim.TheVariants.{Bind, Delete}
 use Rattle.mip_bulist.specs.declared.any.Any.{Any}
 use Rattle.mip_bulist.specs.declared.row.Row.{Row}
 use Rattle.mip_bulist.specs.declared.work.Work.TheVariants.{Resend}
-use Rattle.mip_bulist.specs.Rows.{with_row, row_place, peer_at, lifted}
+use Rattle.mip_bulist.specs.Rows.{with_row, row_place, peer_at, lifted, all_rested}
 use Rattle.mip_rules_mobile.specs.declared.peer.Peer.{Peer}
-use Rattle.mip_rules_mobile.specs.Trials.{Start, Make, with_change, all_rested}
+use Rattle.mip_rules_mobile.specs.Trials.{Start, Make, with_change}
 use Rattle.mip_rules_mobile.specs.Steps.{Step, Detaches, Restarts, Meets, Tries, Updates, Forgets, Binds, Unbinds, Waits}
 use Rattle.mip_rules_mobile.specs.Known.{Known}
 

@@ -1,5 +1,6 @@
 -- A trial as the rules read and change it, whatever its state. RFC 6275 sections 5.2, 11.6 and 11.7.2
-use Rattle.std.specs.Prelude.{ℕ, Bool, true, false, Option, Some, None, is_none, Result, Ok, Err, option_map, List, map}
+use Rattle.std.specs.Prelude.{ℕ, Bool, true, false, Option, Some, None, is_none, Result, Ok, Err, List}
+use Rattle.std.specs.Result.{is_ok}
 use Rattle.mip_words.specs.declared.address.Address.{Address}
 use Rattle.mip_words.specs.declared.moment.Moment.{Moment}
 use Rattle.mip_words.specs.declared.token.Cookie.{Cookie}
@@ -9,20 +10,17 @@ use Rattle.mip_bulist.specs.declared.any.Any.TheVariants.{Idle, Probing, Proved,
 use Rattle.mip_bulist.specs.declared.made.Made.{Made}
 use Rattle.mip_bulist.specs.declared.refused.Refused.{Refused}
 use Rattle.mip_bulist.specs.declared.row.Row.{Row}
-use Rattle.mip_bulist.specs.declared.state.Idle as idle
 use Rattle.mip_bulist.specs.declared.state.Probing as probing
 use Rattle.mip_bulist.specs.declared.state.Proved as proved
 use Rattle.mip_bulist.specs.declared.state.Pending as pending
 use Rattle.mip_bulist.specs.declared.tested.Test.{Test}
-use Rattle.mip_bulist.specs.declared.tested.Tested.{Tested}
-use Rattle.mip_bulist.specs.declared.tested.Tested.TheVariants.{Both, Home}
 use Rattle.mip_bulist.specs.declared.trial.Ended.{Ended}
 use Rattle.mip_bulist.specs.declared.trial.Ended.TheVariants as ended
 use Rattle.mip_bulist.specs.declared.trial.Probe.{Probe}
 use Rattle.mip_bulist.specs.declared.trial.Probe.TheVariants.{More, Done}
 use Rattle.mip_bulist.specs.declared.trial.Trial.{Trial}
-use Rattle.mip_bulist.specs.Rows.{lifted, with_trial}
-use Rattle.mip_bulist.specs.Trials.{probed, home_tested, careof_tested, made_of, updated, made_again, acknowledged_as, resequenced, at_rest}
+use Rattle.mip_bulist.specs.Rows.{lifted, with_trial, resting}
+use Rattle.mip_bulist.specs.Trials.{probed, home_tested, careof_tested, made_of, updated, made_again, acknowledged_as, resequenced, bound_to, making_of}
 
 -- what is done to a trial
 pub data Change : Type 0 where
@@ -39,14 +37,6 @@ pub data Change : Type 0 where
   Acknowledge : (sequence granted : ℕ) → Change
   -- it is given up
   Rest : Change
-
--- whatever was under way is given up
-abbrev pub resting : Any → Trial idle.Idle
-resting (Idle t) = at_rest t
-resting (Probing t) = at_rest t
-resting (Proved t) = at_rest t
-resting (Pending t) = at_rest t
-resting (Bound t) = at_rest t
 
 -- what a test leaves
 abbrev pub after_probe : Result Probe (Trial probing.Probing × Refused) → Any
@@ -108,13 +98,6 @@ changed_at (Some any) row now change rows = with_trial row (Some (changed now ch
 unfoldable pub with_change : ℕ → Moment → Change → List Row → List Row
 with_change row now change rows = changed_at (lifted row rows) row now change rows
 
--- every trial is given up
-abbrev pub rested_row : Row → Row
-rested_row r = record { peer = r.peer; trial = option_map (λ any. Idle (resting any)) r.trial }
-
-abbrev pub all_rested : List Row → List Row
-all_rested rows = map rested_row rows
-
 -- the trial is in this state
 abbrev pub is_idle : Option Any → Bool
 is_idle (Some (Idle t)) = true
@@ -123,11 +106,6 @@ is_idle _ = false
 abbrev pub is_bound : Option Any → Bool
 is_bound (Some (Bound t)) = true
 is_bound _ = false
-
--- the peer holds it where its test is kept
-abbrev pub is_ok : {X E : Type 0} → Result X E → Bool
-is_ok (Ok x) = true
-is_ok (Err e) = false
 
 -- whether the trial keeps a Home Test from this peer with this cookie
 abbrev pub keeps_home_test : Address → Cookie → Test → Option Any → Bool
@@ -139,10 +117,6 @@ keeps_careof_test peer cookie test (Some (Probing t)) = is_ok (careof_tested pee
 keeps_careof_test peer cookie test _ = false
 
 -- what comes of making an update now; none where the trial makes none
-abbrev pub making_of : {S : Type 0} → Result (Trial pending.Pending × Made) (Trial S × Refused) → Result Made Refused
-making_of (Ok r) = Ok r.1
-making_of (Err e) = Err e.1
-
 abbrev pub makes : Moment → Option Any → Option (Result Made Refused)
 makes now (Some (Proved t)) = Some (making_of (updated now t))
 makes now (Some (Pending t)) = Some (making_of (made_again now t))
@@ -151,10 +125,6 @@ makes now _ = None
 -- the last update that a pending trial made, and the care-of address that it is to bind; none where it deletes
 abbrev pub last_made : Trial pending.Pending → Made
 last_made t = made_of t.state.last t.state.tested
-
-abbrev pub bound_to : Tested → Option Address
-bound_to (Both to home careof) = Some to
-bound_to (Home home) = None
 
 abbrev pub binds_to : Trial pending.Pending → Option Address
 binds_to t = bound_to t.state.tested
