@@ -1,0 +1,63 @@
+-- A mobile as contracts see it.
+use Rattle.std.specs.Prelude.{◌≡◌, ℕ, ◌^◌, ◌<◌, ◌≤◌, List, true}
+use Rattle.mip_words.specs.Addresses.{is_routable}
+use Rattle.mip_words.specs.declared.address.Address.{Address}
+use Rattle.mip_entries.specs.declared.answer.Answer.{Answer}
+use Rattle.mip_rules_mobile.specs.Sendings.{Sending, FromHome, ByTunnel, AsksCareof, SendsData, Discovers}
+use Rattle.mip_rules_mobile.specs.Known.{Known}
+use Rattle.mip_rules_mobile.specs.HomeQuestions.{home_of}
+use Rattle.mip_rules_mobile.specs.Turns.{Turn, ShowsAt}
+use Rattle.mip_desk.specs.declared.kept.Kept.{Kept}
+use Rattle.mip_desk.specs.Mine.{AreMine}
+
+-- what is kept, as the rules know it
+abbrev pub seen : Kept → Known
+seen k = record {
+  last = k.last;
+  part = k.part;
+  declared = k.declared;
+  standing = k.standing;
+  registered = k.registered;
+  latest = k.latest;
+  agent = k.agent;
+  owes = k.owes;
+  numberings = k.numberings;
+  wait = k.wait;
+  discovery = k.discovery;
+  discoveries = k.discoveries;
+  found = k.found;
+  tried = k.tried;
+  chosen = k.chosen;
+  solicitations = k.solicitations;
+  cookies = k.cookies;
+  list = k.list;
+  peers = k.peers;
+}
+
+-- a call under way: its moment, what is known, and the answers so far
+pub record DeskSeen : Type 0 where
+  pub moment : ℕ
+  pub known : Known
+  pub answers : List Answer
+
+-- the moment is no later than a clock says, the correspondent part's last call no later than that, and the home address
+-- may stand in an option, and each trial is with its row's peer
+pub record IsSound (d : DeskSeen) (address : Address) : Type 0 where
+  pub own : address ≡ home_of d.known
+  pub early : d.moment < 2 ^ 62
+  pub later : d.known.part.known.last.0 ≤ d.moment
+  pub home : is_routable (home_of d.known).0 ≡ true
+  pub mine : AreMine d.known.list.rows
+
+-- the desk shows a turn
+abbrev pub Shows : DeskSeen → Turn → Type 0
+Shows d t = ShowsAt d.moment d.known d.answers t
+
+-- a packet whose sending changes nothing of what is known
+abbrev pub IsNeutral : Sending → Type 0
+IsNeutral (FromHome home inner) = Unit {0}
+IsNeutral (ByTunnel home careof agent inner) = Unit {0}
+IsNeutral (AsksCareof careof peer cookie) = Unit {0}
+IsNeutral (SendsData home careof to held proto payload) = Unit {0}
+IsNeutral (Discovers home careof identifier) = Unit {0}
+IsNeutral _ = ⊥

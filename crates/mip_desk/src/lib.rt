@@ -1,0 +1,25 @@
+//! The desk of a mobile's call (RFC 6275 section 11): what a mobile keeps, and its steps.
+#![tactic(auto)]
+
+mod agents;
+mod desk;
+mod heard;
+mod kept;
+mod moving;
+mod numberings;
+mod out;
+mod part;
+mod peers;
+mod reading;
+mod registering;
+mod telling;
+mod trial;
+mod trials;
+mod updating;
+
+pub use agents::Agents;
+pub use desk::{Desk, ENDING, RENEWING, RESENDING, SEEKING};
+pub use heard::Heard;
+pub use kept::Kept;
+pub use out::{ask_home, go_out};
+pub use part::{ask_data, ask_part, ask_refresh, reply};

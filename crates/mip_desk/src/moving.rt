@@ -1,0 +1,36 @@
+//! The steps of a call that leave a link, and that begin a new life.
+
+ghost use Rattle.std.specs.Prelude.{◌≡◌, OnOk};
+ghost use Rattle.mip_rules_mobile.specs.Steps.{Detaches, Restarts};
+ghost use Rattle.mip_rules_mobile.specs.Turns.{Turn, noted};
+ghost use Rattle.mip_desk.specs.Seen.{Shows};
+
+use crate::desk::{Desk, MYSELF};
+use crate::kept::{FRESH_PEER, HOMES};
+use crate::peers;
+use mip_correspondent::Correspondent;
+use mip_entries::{Answer, Entry};
+use mip_nonce::Secrets;
+use mip_rules_mobile::Standing;
+use mip_words::Memory;
+use std::alloc::Global;
+
+impl Desk {
+    /// It uses no address any more: every trial is given up, and every timer stops.
+    pub fn detach(&mut self)
+        ensures { (t : Turn) → Shows self.old t → Shows self.new (noted (Detaches) t) }
+    {
+        self.known.standing = Standing::Detached;
+        self.known.registered = None;
+        self.known.discovery = None;
+        self.known.list.rest_all();
+        peers::unbind_all(&mut self.known.peers);
+    }
+
+    /// It loses all that it keeps, and goes on with these secrets.
+    pub fn restart(&mut self, alloc: Global, secrets: Secrets) -> Result<(), Memory>
+        ensures { (t : Turn) → Shows self.old t → OnOk result (Shows self.new (noted (Restarts secrets) t)) }
+    {
+        Err(Memory)
+    }
+}

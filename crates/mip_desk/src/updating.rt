@@ -1,0 +1,31 @@
+//! The step of a call that hands an update of a trial to the wire.
+
+ghost use Rattle.std.specs.Prelude.{◌≡◌, OnOk};
+ghost use Rattle.mip_rules_mobile.specs.HomeQuestions.{home_of};
+ghost use Rattle.mip_rules_mobile.specs.Sendings.{update_packet};
+ghost use Rattle.mip_rules_mobile.specs.Steps.{Updates};
+ghost use Rattle.mip_rules_mobile.specs.Turns.{Turn, noted};
+ghost use Rattle.mip_desk.specs.Seen.{Shows};
+
+use crate::desk::{Desk, MYSELF};
+use crate::{peers, trial};
+use mip_bulist::Made;
+use mip_entries::{Answer, Entry};
+use mip_words::{Address, Bytes, Memory};
+
+impl Desk {
+    /// The trial of a row makes an update, and it is handed to the wire.
+    pub fn put_update(
+        &mut self,
+        row: u8,
+        source: Address,
+        peer: Address,
+        made: &Made,
+        packet: Bytes,
+    ) -> Result<(), Memory>
+        ensures { (t : Turn) → packet ≡ update_packet (record { home = home_of self.old.known; source = source; peer = peer; made = made.now }) → Shows self.old t
+            → OnOk result (Shows self.new (noted (Updates row (record { home = home_of self.old.known; source = source; peer = peer; made = made.now })) t)) }
+    {
+        Err(Memory)
+    }
+}

@@ -1,0 +1,6 @@
+//! What a mobile node does about each call (RFC 6275 section 11), as rules over the desk of the call.
+#![tactic(auto)]
+
+mod calls;
+
+pub use calls::{ask, attach, leave, refresh, restart, send, take, tick, tunnel};

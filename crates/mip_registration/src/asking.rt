@@ -1,0 +1,77 @@
+//! Mobile Prefix Solicitations, and what answers them (RFC 6275 sections 11.4.2 and 11.4.3).
+
+ghost use Rattle.std.specs.Prelude.{◌≡◌, OnOk, Some};
+ghost use Rattle.mip_rules_mobile.specs.declared.standing.Standing.TheVariants.{Away};
+ghost use Rattle.mip_rules_mobile.specs.Turns.{Turn};
+ghost use Rattle.mip_rules_mobile.specs.Doing.{solicits_from, solicits};
+ghost use Rattle.mip_rules_mobile.specs.IcmpRules.{is_from_agent, learns, takes_prefix_reply};
+ghost use Rattle.mip_icmp.specs.Options.{set_of};
+ghost use Rattle.mip_desk.specs.Seen.{Shows};
+
+use crate::packets::write_solicitation;
+use mip_desk::Desk;
+use mip_icmp::PrefixInfo;
+use mip_rules_mobile::Standing;
+use mip_words::{Address, Memory, Shield, Why};
+use std::alloc::Global;
+
+/// A solicitation goes to the agent of the registration.
+pub fn solicit(alloc: Global, desk: &mut Desk) -> Result<(), Memory>
+    ensures { (t : Turn) → Shows desk.old t → OnOk result (Shows desk.new (solicits t)) }
+{
+    let standing = desk.standing();
+    let agent = desk.registered_agent();
+    solicit_from(alloc, desk, standing, agent)
+}
+
+fn solicit_from(
+    alloc: Global,
+    desk: &mut Desk,
+    standing: Standing,
+    agent: Option<Address>,
+) -> Result<(), Memory>
+    ensures { (t : Turn) → Shows desk.old t → OnOk result (Shows desk.new (solicits_from standing agent t)) }
+{
+    match (standing, agent) {
+        (Standing::Away { careof }, Some(agent)) => send_solicitation(alloc, desk, careof, agent),
+        _ => desk.unsend(Why::Unregistered),
+    }
+}
+
+fn send_solicitation(
+    alloc: Global,
+    desk: &mut Desk,
+    careof: Address,
+    agent: Address,
+) -> Result<(), Memory>
+    ensures { (t : Turn) → Shows desk.old t → OnOk result (Shows desk.new (solicits_from (Away careof) (Some agent) t)) }
+{
+    let identifier = desk.next_solicitation();
+    let packet = write_solicitation(alloc, desk.home(), careof, agent, identifier)?;
+    desk.put_solicitation(careof, agent, identifier, packet)
+}
+
+/// Whether a packet is protected by the agent.
+fn is_from_agent(shield: Option<Shield>, agent: Option<Address>) -> bool
+    ensures { result ≡ is_from_agent shield agent }
+{
+    match (shield, agent) {
+        (Some(shield), Some(agent)) => shield.from.0 == agent.0,
+        _ => false,
+    }
+}
+
+/// A prefix is learnt from the agent alone.
+pub fn learn(
+    desk: &mut Desk,
+    number: u64,
+    right: bool,
+    prefix: Option<PrefixInfo>,
+) -> Result<(), Memory>
+    ensures { (t : Turn) → Shows desk.old t → OnOk result (Shows desk.new (learns number right prefix t)) }
+{
+    match prefix {
+        Some(prefix) if right => desk.learn(prefix.valid, prefix.preferred),
+        _ => desk.drop_packet(number, Why::Icmp),
+    }
+}

@@ -1,0 +1,15 @@
+//! Home registration of a mobile node (RFC 6275 sections 11.4, 11.5 and 11.7.1), as rules over the desk of a call.
+#![tactic(auto)]
+
+mod asking;
+mod home;
+mod moving;
+mod packets;
+mod ringing;
+
+pub use asking::{learn, solicit};
+pub use home::{
+    catch_up, deregister, register, register_with, resend_home, seek, settle, turn_away,
+};
+pub use moving::{address_under, arrive};
+pub use ringing::{doubled, end_home, renew_home};
