@@ -1,14 +1,12 @@
 -- A discovery that goes on, by what the desk knows.
-use Rattle.std.proofs.Common.{◌≡◌, ℕ, List, ◌++◌, refl, sym, ap, ◌∙◌}
+use Rattle.std.proofs.Common.{◌≡◌, ℕ, refl, sym, ap, ◌∙◌}
 use Rattle.std.specs.Prelude.{◌*◌, ◌^◌, Option, Some, None, option_map, option_and_then}
 use Rattle.std.proofs.lemmas.List.{append-nil}
 use Rattle.mip_constants.specs.Constants.{initial_dhaad_timeout}
 use Rattle.mip_words.specs.declared.address.Address.{Address}
-use Rattle.mip_entries.specs.declared.answer.Answer.{Answer}
 use Rattle.mip_turns.specs.Turns.{noted_by}
 use Rattle.mip_turns.specs.Shows.{ShowsBy}
 use Rattle.mip_turns.proofs.ShowLaws.{answers-noted}
-use Rattle.mip_turns.proofs.TurnLaws.{noted-known}
 use Rattle.mip_discovery.specs.Retries.{DiscoverySeen, retried}
 use Rattle.mip_rules_mobile.specs.declared.standing.Standing.{Standing}
 use Rattle.mip_rules_mobile.specs.declared.standing.Standing.TheVariants.{Away}
@@ -65,7 +63,7 @@ given-up d t s = (
   s.0,
   s.1,
   answers-noted answer_of after GivesUp t ∙ sym (answers-noted answer_of after SeeksAgain t)
-  ∙ sym (append-nil _) ∙ sym (answers-noted answer_of after GivesUp (noted SeeksAgain t)) ∙ s.2,
+      ∙ sym (append-nil _) ∙ sym (answers-noted answer_of after GivesUp (noted SeeksAgain t)) ∙ s.2,
 )
 
 -- a discovery that is under way has an identifier
@@ -76,7 +74,7 @@ under-way careof (Some d) identifier now t moment is = (
   d,
   refl,
   ap (λ (n : ℕ). seeks_again_from careof (retried n d) identifier t) (sym moment)
-  ∙ ap (λ (i : ℕ). seeks_again_from careof (retried t.now d) i t) cc,
+      ∙ ap (λ (i : ℕ). seeks_again_from careof (retried t.now d) i t) cc,
 )
 
 pub none-under-way : (careof : Address) (o : Option DiscoverySeen) (t : Turn) → None ≡ option_map (λ d. d.identifier) o → t ≡ seeks_again_at (Away careof) o t

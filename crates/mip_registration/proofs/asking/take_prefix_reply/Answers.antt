@@ -1,9 +1,7 @@
 use Rattle.std.proofs.Common.{sym, ap, ◌∙◌, subst, OnOk}
-use Rattle.std.specs.Prelude.{Bool, Option}
-use Rattle.mip_words.specs.declared.address.Address.{Address}
+use Rattle.std.specs.Prelude.{Bool}
 use Rattle.mip_icmp.specs.Options.{set_of}
-use Rattle.mip_rules_mobile.specs.HomeQuestions.{agent_of}
-use Rattle.mip_rules_mobile.specs.IcmpRules.{is_from_agent, learns}
+use Rattle.mip_rules_mobile.specs.IcmpRules.{learns}
 use Rattle.mip_rules_mobile.specs.Turns.{Turn}
 use Rattle.mip_desk.specs.Seen.{Shows}
 use Rattle.mip_desk.proofs.Noted.{shows-known, shows-moment}
