@@ -1,0 +1,7 @@
+//! A mobile node over any clock, wire and place (RFC 6275 section 11).
+#![tactic(auto)]
+
+mod fault;
+mod settling;
+
+pub use fault::StationFault;
