@@ -13,6 +13,10 @@ use Rattle.mip_rules_mobile.specs.Turns.{Stands, with_turn}
 use Rattle.mip_rules_mobile.specs.Doing.{turn_of}
 use Rattle.mip_mobile.specs.Settling.{SettlesAll, sends_of}
 
+-- the moment of a call: what the clock says, or the moment of the last call where that is later
+abbrev pub moment_of : (clock last : ℕ) → ℕ
+moment_of clock last = max clock last
+
 -- the packets that a wire sent, each with its shield, where they are told
 abbrev pub Told : Type 0
 Told = Option (List (Option Shield × List ℕ))
@@ -23,5 +27,5 @@ pub record Handles (gives : Put → Bool) (before : Known) (now : ℕ) (call : C
   pub taken : SettlesAll gives (answers_of (turn_of before now call).steps) answers
   pub known : after ≡ (turn_of before now call).known
   pub stands : (home : Address) (declared : Option Address) (secrets : Life) (past : List (Stamped Step)) → Stands home declared secrets past before
-    → Stands home declared secrets (with_turn past (turn_of before now call)) after
+      → Stands home declared secrets (with_turn past (turn_of before now call)) after
   pub sent : left ≡ option_map (λ items. items ++ sends_of answers) out

@@ -2,6 +2,8 @@
 #![tactic(auto)]
 
 mod fault;
+mod machine;
 mod settling;
 
 pub use fault::StationFault;
+pub use machine::Machine;

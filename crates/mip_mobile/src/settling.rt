@@ -51,11 +51,7 @@ pub fn settle_one<W: Wire>(wire: &mut W, answer: Answer) -> Result<Answer, Stati
 }
 
 /// All answers in order. After a fault the packets before it were sent.
-pub fn settle<W: Wire>(
-    alloc: Global,
-    wire: &mut W,
-    asked: Answers,
-) -> Result<Answers, StationFault>
+pub fn settle<W: Wire>(alloc: Global, wire: &mut W, asked: Answers) -> Result<Answers, StationFault>
     ensures settles { IfOk result (λ answers. SettlesAll W.gives asked answers) }
     ensures out { IfOk result (λ answers. W.out wire.new ≡ option_map (λ items. items ++ sends_of answers) (W.out wire.old)) }
     ensures no_fewer { W.faults wire.old ≤ W.faults wire.new }
