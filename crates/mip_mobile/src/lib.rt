@@ -3,6 +3,7 @@
 
 mod fault;
 mod machine;
+mod placing;
 mod settling;
 
 pub use fault::StationFault;

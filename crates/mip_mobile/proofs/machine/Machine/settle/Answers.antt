@@ -18,5 +18,5 @@ returns-clause-handles g c = λ k now call shown.
     if-both (λ answers. SettlesAll gives c.in_ok-asked.asked answers) (λ answers. told ≡ option_map (λ items. items ++ sends_of answers) out)
     (λ answers. Handles gives k now call out answers c.take_answers.new.self.known told) c.settle.result
     (λ answers settles sent.
-        handled gives k now call desk c.in_ok-asked.asked c.take_answers.new.self.known out told answers shows c.in_ok-asked.ensures.answers (ap (λ (d : DeskSeen). d.known) c.in_ok-asked.ensures.desk) settles sent)
+    handled gives k now call desk c.in_ok-asked.asked c.take_answers.new.self.known out told answers shows c.in_ok-asked.ensures.answers (ap (λ (d : DeskSeen). d.known) c.in_ok-asked.ensures.desk) settles sent)
     c.settle.ensures.settles c.settle.ensures.out
