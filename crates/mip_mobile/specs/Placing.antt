@@ -1,11 +1,13 @@
 -- What a mobile asks of its place as it comes to a link and leaves one. RFC 6275 sections 11.5.1 to 11.5.5
-use Rattle.std.specs.Prelude.{ℕ, Bool, true, false, if◌then◌else◌}
+use Rattle.std.specs.Prelude.{◌≡◌, ℕ, Bool, true, false, if◌then◌else◌}
 use Rattle.mip_words.specs.declared.address.Address.{Address}
 use Rattle.mip_outside.specs.declared.claim.Claim.{Claim}
 use Rattle.mip_outside.specs.Places.{Around, claim_in, is_held, with_claim, without_claim}
 use Rattle.mip_rules_mobile.specs.declared.standing.Standing.{Standing}
 use Rattle.mip_rules_mobile.specs.declared.standing.Standing.TheVariants.{Detached, AtHome, Away}
 use Rattle.mip_rules_mobile.specs.Calls.{Call, Attach, Leave}
+use Rattle.mip_rules_mobile.specs.Known.{Known}
+use Rattle.mip_rules_mobile.specs.HomeQuestions.{home_of}
 use Rattle.mip_rules_mobile.specs.MovingRules.{address_under, uses_prefix}
 
 -- a router advertises a prefix: the claims are what the place answers
@@ -36,3 +38,9 @@ claims_attached around standing home prefix claims =
 
 abbrev pub claims_after_leaving : Around → Standing → (home : Address) → Claims → Claims
 claims_after_leaving around standing home claims = claims_left standing home (is_held (claim_in around home.0)) claims
+
+-- these are the place's answers, as far as a call needs them: none where it uses the prefix already, and the one of the home
+-- address only where it stood at home
+abbrev pub AreAnswered : Around → Known → (prefix : ℕ) → (of_home of_address : Claim) → Type 0
+AreAnswered around k prefix of_home of_address =
+    uses_prefix k.standing (home_of k) prefix ≡ false → (k.standing ≡ AtHome → of_home ≡ claim_in around (home_of k).0) × (of_address ≡ claim_in around (address_under (home_of k) prefix).0)

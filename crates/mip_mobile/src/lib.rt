@@ -3,6 +3,7 @@
 
 mod fault;
 mod machine;
+mod moving;
 mod placing;
 mod settling;
 
