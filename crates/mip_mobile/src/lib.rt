@@ -3,9 +3,14 @@
 
 mod fault;
 mod machine;
+mod mobile;
 mod moving;
 mod placing;
 mod settling;
+mod state;
+mod station;
 
 pub use fault::StationFault;
-pub use machine::Machine;
+pub use mobile::{Mobile, Turned};
+pub use state::{AtHome, Away, Detached, State};
+pub use station::Station;

@@ -4,6 +4,7 @@ ghost use Rattle.std.specs.Prelude.{◌≡◌, ℕ, ◌≤◌, ◌<◌, ◌^◌,
 ghost use Rattle.mip_words.specs.Addresses.{is_routable};
 ghost use Rattle.mip_ipv6.specs.Packet.{names_no_body};
 ghost use Rattle.mip_rules_correspondent.specs.Rules.{is_data};
+ghost use Rattle.mip_bulist.specs.Timers.{first_due};
 ghost use Rattle.mip_outside.specs.Cause.{Rose};
 ghost use Rattle.mip_rules_mobile.specs.Calls as calls;
 ghost use Rattle.mip_rules_mobile.specs.Calls.{Call};
@@ -21,6 +22,7 @@ use mip_desk::Desk;
 use mip_entries::Answers;
 use mip_nonce::Secrets;
 use mip_outside::{Clock, Wire};
+use mip_rules_mobile::Standing;
 use mip_words::{Address, Memory, Moment, Shield};
 use std::alloc::Global;
 
@@ -54,6 +56,20 @@ impl<C: Clock + Drop, W: Wire + Drop> Machine<C, W> {
             wire,
             fault: None,
         })
+    }
+
+    /// Where it stands.
+    pub fn standing(&self) -> Standing
+        ensures { result ≡ self.now.desk.known.standing }
+    {
+        self.desk.standing()
+    }
+
+    /// The earliest moment at which work is due.
+    pub fn due(&self) -> Option<Moment>
+        ensures { result ≡ first_due self.now.desk.known.list.timers }
+    {
+        self.desk.due()
     }
 
     /// A call begins: its moment is what the clock says, or that of the last call where this is later.
