@@ -1,6 +1,7 @@
 -- Rules that are done again and again.
 use Rattle.std.proofs.Common.{◌≡◌, ℕ, zero, suc, ◌+◌, refl, sym, ap, ◌∙◌, arith}
-use Rattle.std.specs.Prelude.{Bool, true, false, not, nat_lt, if◌then◌else◌, Option, Some, None, is_some, List, [], ◌∷◌}
+use Rattle.std.specs.Prelude.{Bool, true, false, not, nat_lt, nat_le, if◌then◌else◌, Option, Some, None, is_some, List, [], ◌∷◌}
+use Rattle.std.proofs.lemmas.Bool.Decides.{nat_tests}
 use Rattle.mip_words.specs.declared.moment.Moment.{Moment}
 use Rattle.mip_bulist.specs.declared.timer.Timer.{Timer}
 use Rattle.mip_bulist.specs.declared.work.Work.{Work}
@@ -41,6 +42,15 @@ tick-more (suc n) t = by (due_work (moment t.now) t.known.list.timers) refl
 pub tick-next : (n : ℕ) (t : Turn) → ticks (n + 1) t ≡ rings_once (ticks n t)
 tick-next n t = let more : n + 1 ≡ suc n = omega arith in ap (λ (k : ℕ). ticks k t) more ∙ tick-more n t
 
+pub same-work : (a b : Work) → Some a ≡ Some b → a ≡ b
+same-work a b is = cc
+
+pub not-none : (a : Work) (P : Type 0) → None ≡ Some a → P
+not-none a P is = absurd cc
+
+pub le-not-lt : (a b : ℕ) → nat_le a b ≡ not (nat_lt b a)
+le-not-lt a b = grind (arith, nat_tests)
+
 -- the first timer's moment tells whether its work is due
 pub due-some : (now : ℕ) (ts : List Timer) (due : Moment) → first_due ts ≡ Some due → is_some (due_work (moment now) ts) ≡ not (nat_lt now due.0)
 due-some now [] due is = absurd cc
@@ -54,9 +64,9 @@ pub due-none : (now : ℕ) (ts : List Timer) → first_due ts ≡ None → is_so
 due-none now [] is = refl
 due-none now (t ∷ ts) is = absurd cc
 
-pub no-work : (o : Option Work) → is_some o ≡ true → (work : Work) × (o ≡ Some work)
-no-work None is = absurd cc
-no-work (Some work) is = (work, refl)
+pub some-work : (o : Option Work) → is_some o ≡ true → (work : Work) × (o ≡ Some work)
+some-work None is = absurd cc
+some-work (Some work) is = (work, refl)
 
 pub is-none : (o : Option Work) → is_some o ≡ false → o ≡ None
 is-none None is = refl

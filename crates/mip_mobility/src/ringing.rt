@@ -129,7 +129,6 @@ fn is_due(desk: &Desk) -> bool
 }
 
 /// The first work is done, which is due.
-#[tactic(auto, unfolding(mip_rules_mobile::specs::RingingRules::rings))]
 fn ring_first(alloc: Global, desk: &mut Desk) -> Result<(), Memory>
     ensures { (work : Work) (t : Turn) → due_work (moment desk.old.moment) desk.old.known.list.timers ≡ Some work → Shows desk.old t → OnOk result (Shows desk.new (rings work t)) }
 {
