@@ -1,3 +1,5 @@
+pub mod Entering
+pub mod Lengths
 pub mod Noted
 pub mod Outs
 pub mod Rows
