@@ -2,6 +2,7 @@
 #![tactic(auto)]
 
 mod agents;
+mod calling;
 mod desk;
 mod heard;
 mod kept;
