@@ -3,3 +3,4 @@ pub mod Lengths
 pub mod Noted
 pub mod Outs
 pub mod Rows
+pub mod Early

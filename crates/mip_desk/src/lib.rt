@@ -4,6 +4,7 @@
 mod agents;
 mod calling;
 mod desk;
+mod doubling;
 mod heard;
 mod kept;
 mod moving;
@@ -20,6 +21,7 @@ mod updating;
 
 pub use agents::Agents;
 pub use desk::{Desk, ENDING, RENEWING, RESENDING, SEEKING};
+pub use doubling::doubled;
 pub use heard::Heard;
 pub use kept::Kept;
 pub use out::{ask_home, go_out};

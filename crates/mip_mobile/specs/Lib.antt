@@ -1,0 +1,4 @@
+pub mod Settling
+pub mod Handling
+pub mod Placing
+pub mod Stations

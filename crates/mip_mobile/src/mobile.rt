@@ -1,0 +1,237 @@
+ghost use Rattle.std.specs.Prelude.{◌≡◌, ◌≤◌, [], true, None, Some, Err, IfOk, IfSome, IfErr, OnOk, IsErrOf, IsTrue, IsFalse, length, option_copied, slice_get};
+ghost use Rattle.std.specs.Option.{option_map};
+ghost use Rattle.mip_words.specs.Addresses.{is_routable};
+ghost use Rattle.mip_ipv6.specs.Packet.{names_no_body};
+ghost use Rattle.mip_outside.specs.Cause.{Rose};
+ghost use Rattle.mip_bulist.specs.Timers.{first_due};
+ghost use Rattle.mip_rules_correspondent.specs.Rules.{is_data};
+ghost use Rattle.mip_rules_mobile.specs.Calls as calls;
+ghost use Rattle.mip_rules_mobile.specs.HomeQuestions.{home_of};
+ghost use Rattle.mip_rules_mobile.specs.Questions.{fresh};
+ghost use Rattle.mip_rules_mobile.specs.MovingRules.{address_under};
+ghost use Rattle.mip_mobile.specs.Handling.{Handles, moment_of};
+ghost use Rattle.mip_mobile.specs.Placing.{attach_at, leave_at, claims_attached, claims_after_leaving};
+ghost use Rattle.mip_mobile.specs.Stations.{machine_of, IsTyped};
+
+use crate::fault::StationFault;
+use crate::machine::Machine;
+use crate::state::{AtHome, Away, Detached};
+use crate::station::Station;
+use mip_entries::Answers;
+use mip_nonce::Secrets;
+use mip_outside::{Clock, Place, Wire};
+use mip_rules_mobile::Standing;
+use mip_words::{Address, Memory, Moment, Prefix, Shield};
+use std::alloc::Global;
+
+/// A mobile node over its clock and its wire, wherever it stands (RFC 6275 section 11).
+#[must_use]
+#[derive(Drop)]
+pub enum Mobile<C: Clock, W: Wire> {
+    Detached(Station<Detached, C, W>),
+    AtHome(Station<AtHome, C, W>),
+    Away(Station<Away, C, W>),
+}
+
+/// What a call leaves: the mobile, and its answers. Each call reads the clock once. After a fault it answers that fault from then
+/// on, and puts nothing on its wire.
+pub type Turned<C, W> = (Mobile<C, W>, Result<Answers, StationFault>);
+
+impl<C: Clock + Drop, W: Wire + Drop> Mobile<C, W> {
+    /// A new mobile, at home: its home address, the agent that it is declared with, and the secrets of its first life.
+    pub fn new(
+        alloc: Global,
+        home: Address,
+        declared: Option<Address>,
+        secrets: Secrets,
+        clock: C,
+        wire: W,
+    ) -> Result<Mobile<C, W>, Memory>
+        requires { IsTrue (is_routable home.0) }
+        ensures known { IfOk result (λ m. (machine_of m).desk ≡ record { moment = 0; known = fresh home declared secrets; answers = [] }) }
+        ensures parts { IfOk result (λ m. ((machine_of m).clock ≡ clock) × ((machine_of m).wire ≡ wire) × ((machine_of m).fault ≡ None)) }
+        ensures typed { IfOk result (λ m. IsTyped m) }
+    {
+        let machine = Machine::new(alloc, home, declared, secrets, clock, wire)?;
+        Ok(Mobile::of(machine))
+    }
+
+    /// The type says where it stands.
+    pub(crate) fn of(machine: Machine<C, W>) -> Mobile<C, W>
+        ensures machine { machine_of result ≡ machine }
+        ensures typed { IsTyped result }
+    {
+        match machine.standing() {
+            Standing::Detached => Mobile::Detached(Station {
+                machine,
+                state: Detached,
+            }),
+            Standing::AtHome => Mobile::AtHome(Station {
+                machine,
+                state: AtHome,
+            }),
+            Standing::Away { careof } => Mobile::Away(Station {
+                machine,
+                state: Away { careof },
+            }),
+        }
+    }
+
+    fn into_machine(self) -> Machine<C, W>
+        ensures { result ≡ machine_of self }
+    {
+        match self {
+            Mobile::Detached(station) => station.machine,
+            Mobile::AtHome(station) => station.machine,
+            Mobile::Away(station) => station.machine,
+        }
+    }
+
+    /// The earliest moment at which work is due.
+    pub fn due(&self) -> Option<Moment>
+        ensures { result ≡ first_due (machine_of self.now).desk.known.list.timers }
+    {
+        match self {
+            Mobile::Detached(station) => station.machine.due(),
+            Mobile::AtHome(station) => station.machine.due(),
+            Mobile::Away(station) => station.machine.due(),
+        }
+    }
+
+    /// A router advertises a prefix (RFC 6275 section 11.5.1).
+    pub fn attach<P: Place>(self, alloc: Global, place: &mut P, prefix: Prefix) -> Turned<C, W>
+        requires home { (P.around place.old).room (home_of (machine_of self).desk.known).0 ≡ true }
+        requires address { (P.around place.old).room (address_under (home_of (machine_of self).desk.known) prefix.0).0 ≡ true }
+        ensures faulted { IfSome (machine_of self).fault (λ fault. (result.1 ≡ Err fault) × (machine_of result.0 ≡ machine_of self) × (P.claims place.new ≡ P.claims place.old)) }
+        ensures handles { IfOk result.1 (λ answers. Handles W.gives (machine_of self).desk.known (moment_of (C.last (machine_of result.0).clock) (machine_of self).desk.moment) (attach_at (P.around place.old) (home_of (machine_of self).desk.known) prefix.0) (W.out (machine_of self).wire) answers (machine_of result.0).desk.known (W.out (machine_of result.0).wire)) }
+        ensures typed { IsTyped result.0 }
+        ensures well { OnOk result.1 ((machine_of result.0).fault ≡ None) }
+        ensures kept { IfErr result.1 (λ fault. (machine_of result.0).fault ≡ Some fault) }
+        ensures failed { (machine_of self).fault ≡ None → IsErrOf result.1 StationFault.Failed → Rose (W.faults (machine_of self).wire) (W.faults (machine_of result.0).wire) }
+        ensures wire { (W.faults (machine_of self).wire ≤ W.faults (machine_of result.0).wire) × W.is_same (machine_of self).wire (machine_of result.0).wire }
+        ensures claims { (machine_of self).fault ≡ None → P.claims place.new ≡ option_map (claims_attached (P.around place.old) (machine_of self).desk.known.standing (home_of (machine_of self).desk.known) prefix.0) (P.claims place.old) }
+        ensures place { (P.around place.new ≡ P.around place.old) × P.is_same place.old place.new }
+    {
+        let mut machine = self.into_machine();
+        let answers = machine.attach(alloc, place, prefix);
+        (Mobile::of(machine), answers)
+    }
+
+    /// It leaves its link.
+    pub fn leave<P: Place>(self, alloc: Global, place: &mut P) -> Turned<C, W>
+        requires home { (P.around place.old).room (home_of (machine_of self).desk.known).0 ≡ true }
+        ensures faulted { IfSome (machine_of self).fault (λ fault. (result.1 ≡ Err fault) × (machine_of result.0 ≡ machine_of self) × (P.claims place.new ≡ P.claims place.old)) }
+        ensures handles { IfOk result.1 (λ answers. Handles W.gives (machine_of self).desk.known (moment_of (C.last (machine_of result.0).clock) (machine_of self).desk.moment) (leave_at (P.around place.old) (home_of (machine_of self).desk.known)) (W.out (machine_of self).wire) answers (machine_of result.0).desk.known (W.out (machine_of result.0).wire)) }
+        ensures typed { IsTyped result.0 }
+        ensures well { OnOk result.1 ((machine_of result.0).fault ≡ None) }
+        ensures kept { IfErr result.1 (λ fault. (machine_of result.0).fault ≡ Some fault) }
+        ensures failed { (machine_of self).fault ≡ None → IsErrOf result.1 StationFault.Failed → Rose (W.faults (machine_of self).wire) (W.faults (machine_of result.0).wire) }
+        ensures wire { (W.faults (machine_of self).wire ≤ W.faults (machine_of result.0).wire) × W.is_same (machine_of self).wire (machine_of result.0).wire }
+        ensures claims { (machine_of self).fault ≡ None → P.claims place.new ≡ option_map (claims_after_leaving (P.around place.old) (machine_of self).desk.known.standing (home_of (machine_of self).desk.known)) (P.claims place.old) }
+        ensures place { (P.around place.new ≡ P.around place.old) × P.is_same place.old place.new }
+    {
+        let mut machine = self.into_machine();
+        let answers = machine.leave(alloc, place);
+        (Mobile::of(machine), answers)
+    }
+
+    /// Takes a packet that was handed to it, by its number and shield.
+    pub fn take(
+        self,
+        alloc: Global,
+        number: u64,
+        shield: Option<Shield>,
+        packet: &[u8],
+    ) -> Turned<C, W>
+        ensures faulted { IfSome (machine_of self).fault (λ fault. (result.1 ≡ Err fault) × (machine_of result.0 ≡ machine_of self)) }
+        ensures handles { IfOk result.1 (λ answers. Handles W.gives (machine_of self).desk.known (moment_of (C.last (machine_of result.0).clock) (machine_of self).desk.moment) (calls.Take number shield packet.now) (W.out (machine_of self).wire) answers (machine_of result.0).desk.known (W.out (machine_of result.0).wire)) }
+        ensures typed { IsTyped result.0 }
+        ensures well { OnOk result.1 ((machine_of result.0).fault ≡ None) }
+        ensures kept { IfErr result.1 (λ fault. (machine_of result.0).fault ≡ Some fault) }
+        ensures failed { (machine_of self).fault ≡ None → IsErrOf result.1 StationFault.Failed → Rose (W.faults (machine_of self).wire) (W.faults (machine_of result.0).wire) }
+        ensures wire { (W.faults (machine_of self).wire ≤ W.faults (machine_of result.0).wire) × W.is_same (machine_of self).wire (machine_of result.0).wire }
+    {
+        let mut machine = self.into_machine();
+        let answers = machine.take(alloc, number, shield, packet);
+        (Mobile::of(machine), answers)
+    }
+
+    /// Time goes on, and due work is done.
+    pub fn tick(self, alloc: Global) -> Turned<C, W>
+        ensures faulted { IfSome (machine_of self).fault (λ fault. (result.1 ≡ Err fault) × (machine_of result.0 ≡ machine_of self)) }
+        ensures handles { IfOk result.1 (λ answers. Handles W.gives (machine_of self).desk.known (moment_of (C.last (machine_of result.0).clock) (machine_of self).desk.moment) calls.Tick (W.out (machine_of self).wire) answers (machine_of result.0).desk.known (W.out (machine_of result.0).wire)) }
+        ensures typed { IsTyped result.0 }
+        ensures well { OnOk result.1 ((machine_of result.0).fault ≡ None) }
+        ensures kept { IfErr result.1 (λ fault. (machine_of result.0).fault ≡ Some fault) }
+        ensures failed { (machine_of self).fault ≡ None → IsErrOf result.1 StationFault.Failed → Rose (W.faults (machine_of self).wire) (W.faults (machine_of result.0).wire) }
+        ensures wire { (W.faults (machine_of self).wire ≤ W.faults (machine_of result.0).wire) × W.is_same (machine_of self).wire (machine_of result.0).wire }
+    {
+        let mut machine = self.into_machine();
+        let answers = machine.tick(alloc);
+        (Mobile::of(machine), answers)
+    }
+
+    /// Sends data of a protocol that is neither a tunnel, nor ICMPv6, nor nothing, nor a mobility message, nor a header of its own;
+    /// 512 bytes at most.
+    pub fn send(self, alloc: Global, to: Address, proto: u8, payload: &[u8]) -> Turned<C, W>
+        requires data { IsTrue (is_data proto) }
+        requires proto { IsFalse (names_no_body proto) }
+        requires short { length payload.now ≤ 512 }
+        ensures faulted { IfSome (machine_of self).fault (λ fault. (result.1 ≡ Err fault) × (machine_of result.0 ≡ machine_of self)) }
+        ensures handles { IfOk result.1 (λ answers. Handles W.gives (machine_of self).desk.known (moment_of (C.last (machine_of result.0).clock) (machine_of self).desk.moment) (calls.Send to proto payload.now) (W.out (machine_of self).wire) answers (machine_of result.0).desk.known (W.out (machine_of result.0).wire)) }
+        ensures typed { IsTyped result.0 }
+        ensures well { OnOk result.1 ((machine_of result.0).fault ≡ None) }
+        ensures kept { IfErr result.1 (λ fault. (machine_of result.0).fault ≡ Some fault) }
+        ensures failed { (machine_of self).fault ≡ None → IsErrOf result.1 StationFault.Failed → Rose (W.faults (machine_of self).wire) (W.faults (machine_of result.0).wire) }
+        ensures wire { (W.faults (machine_of self).wire ≤ W.faults (machine_of result.0).wire) × W.is_same (machine_of self).wire (machine_of result.0).wire }
+    {
+        let mut machine = self.into_machine();
+        let answers = machine.send(alloc, to, proto, payload);
+        (Mobile::of(machine), answers)
+    }
+
+    /// Asks the care-of address that is held for a home for a Binding Update; `idle` where none is held.
+    pub fn refresh(self, alloc: Global, home: Address) -> Turned<C, W>
+        ensures faulted { IfSome (machine_of self).fault (λ fault. (result.1 ≡ Err fault) × (machine_of result.0 ≡ machine_of self)) }
+        ensures handles { IfOk result.1 (λ answers. Handles W.gives (machine_of self).desk.known (moment_of (C.last (machine_of result.0).clock) (machine_of self).desk.moment) (calls.Refresh home) (W.out (machine_of self).wire) answers (machine_of result.0).desk.known (W.out (machine_of result.0).wire)) }
+        ensures typed { IsTyped result.0 }
+        ensures well { OnOk result.1 ((machine_of result.0).fault ≡ None) }
+        ensures kept { IfErr result.1 (λ fault. (machine_of result.0).fault ≡ Some fault) }
+        ensures failed { (machine_of self).fault ≡ None → IsErrOf result.1 StationFault.Failed → Rose (W.faults (machine_of self).wire) (W.faults (machine_of result.0).wire) }
+        ensures wire { (W.faults (machine_of self).wire ≤ W.faults (machine_of result.0).wire) × W.is_same (machine_of self).wire (machine_of result.0).wire }
+    {
+        let mut machine = self.into_machine();
+        let answers = machine.refresh(alloc, home);
+        (Mobile::of(machine), answers)
+    }
+
+    /// Solicits the prefixes of its home link (RFC 6275 section 11.4.2).
+    pub fn ask(self, alloc: Global) -> Turned<C, W>
+        ensures faulted { IfSome (machine_of self).fault (λ fault. (result.1 ≡ Err fault) × (machine_of result.0 ≡ machine_of self)) }
+        ensures handles { IfOk result.1 (λ answers. Handles W.gives (machine_of self).desk.known (moment_of (C.last (machine_of result.0).clock) (machine_of self).desk.moment) calls.Ask (W.out (machine_of self).wire) answers (machine_of result.0).desk.known (W.out (machine_of result.0).wire)) }
+        ensures typed { IsTyped result.0 }
+        ensures well { OnOk result.1 ((machine_of result.0).fault ≡ None) }
+        ensures kept { IfErr result.1 (λ fault. (machine_of result.0).fault ≡ Some fault) }
+        ensures failed { (machine_of self).fault ≡ None → IsErrOf result.1 StationFault.Failed → Rose (W.faults (machine_of self).wire) (W.faults (machine_of result.0).wire) }
+        ensures wire { (W.faults (machine_of self).wire ≤ W.faults (machine_of result.0).wire) × W.is_same (machine_of self).wire (machine_of result.0).wire }
+    {
+        let mut machine = self.into_machine();
+        let answers = machine.ask(alloc);
+        (Mobile::of(machine), answers)
+    }
+
+    /// Loses all that it keeps, and goes on with these secrets.
+    pub fn restart(self, alloc: Global, secrets: Secrets) -> Turned<C, W>
+        ensures faulted { IfSome (machine_of self).fault (λ fault. (result.1 ≡ Err fault) × (machine_of result.0 ≡ machine_of self)) }
+        ensures handles { IfOk result.1 (λ answers. Handles W.gives (machine_of self).desk.known (moment_of (C.last (machine_of result.0).clock) (machine_of self).desk.moment) (calls.Restart secrets) (W.out (machine_of self).wire) answers (machine_of result.0).desk.known (W.out (machine_of result.0).wire)) }
+        ensures typed { IsTyped result.0 }
+        ensures well { OnOk result.1 ((machine_of result.0).fault ≡ None) }
+        ensures kept { IfErr result.1 (λ fault. (machine_of result.0).fault ≡ Some fault) }
+        ensures failed { (machine_of self).fault ≡ None → IsErrOf result.1 StationFault.Failed → Rose (W.faults (machine_of self).wire) (W.faults (machine_of result.0).wire) }
+        ensures wire { (W.faults (machine_of self).wire ≤ W.faults (machine_of result.0).wire) × W.is_same (machine_of self).wire (machine_of result.0).wire }
+    {
+        let mut machine = self.into_machine();
+        let answers = machine.restart(alloc, secrets);
+        (Mobile::of(machine), answers)
+    }
+}

@@ -1,0 +1,110 @@
+//! How a mobile comes to a link and leaves one, over its place (RFC 6275 sections 11.5.1 to 11.5.5).
+
+ghost use Rattle.std.specs.Prelude.{◌≡◌, ◌≤◌, true, false, None, Some, Err, IfOk, IfSome, IfErr, OnOk, IsErrOf, if◌then◌else◌};
+ghost use Rattle.std.specs.Option.{option_map};
+ghost use Rattle.mip_outside.specs.Cause.{Rose};
+ghost use Rattle.mip_outside.specs.Places.{Around, claim_in, is_held};
+ghost use Rattle.mip_rules_mobile.specs.declared.standing.Standing.TheVariants.{AtHome};
+ghost use Rattle.mip_rules_mobile.specs.HomeQuestions.{home_of};
+ghost use Rattle.mip_rules_mobile.specs.MovingRules.{address_under, uses_prefix};
+ghost use Rattle.mip_rules_mobile.specs.Doing.{turn_of};
+ghost use Rattle.mip_desk.specs.Seen.{Shows};
+ghost use Rattle.mip_mobile.specs.Placing.{attach_at, leave_at, claims_attached, claims_after_leaving, AreAnswered};
+ghost use Rattle.mip_mobile.specs.Handling.{Handles, moment_of};
+
+use crate::fault::StationFault;
+use crate::machine::Machine;
+use crate::placing::{come, release_held, uses_prefix};
+use mip_entries::Answers;
+use mip_outside::{Claim, Clock, Place, Wire};
+use mip_words::{Memory, Prefix};
+use std::alloc::Global;
+
+impl<C: Clock + Drop, W: Wire + Drop> Machine<C, W> {
+    /// A router advertises a prefix.
+    pub fn attach<P: Place>(
+        &mut self,
+        alloc: Global,
+        place: &mut P,
+        prefix: Prefix,
+    ) -> Result<Answers, StationFault>
+        requires home { (P.around place.old).room (home_of self.old.desk.known).0 ≡ true }
+        requires address { (P.around place.old).room (address_under (home_of self.old.desk.known) prefix.0).0 ≡ true }
+        ensures faulted { IfSome self.old.fault (λ fault. (result ≡ Err fault) × (self.new ≡ self.old) × (P.claims place.new ≡ P.claims place.old)) }
+        ensures handles { IfOk result (λ answers. Handles W.gives self.old.desk.known (moment_of (C.last self.new.clock) self.old.desk.moment) (attach_at (P.around place.old) (home_of self.old.desk.known) prefix.0) (W.out self.old.wire) answers self.new.desk.known (W.out self.new.wire)) }
+        ensures claims { self.old.fault ≡ None → P.claims place.new ≡ option_map (claims_attached (P.around place.old) self.old.desk.known.standing (home_of self.old.desk.known) prefix.0) (P.claims place.old) }
+        ensures place { (P.around place.new ≡ P.around place.old) × P.is_same place.old place.new }
+        ensures well { OnOk result (self.new.fault ≡ None) }
+        ensures kept { IfErr result (λ fault. self.new.fault ≡ Some fault) }
+        ensures failed { self.old.fault ≡ None → IsErrOf result StationFault.Failed → Rose (W.faults self.old.wire) (W.faults self.new.wire) }
+        ensures wire { (W.faults self.old.wire ≤ W.faults self.new.wire) × W.is_same self.old.wire self.new.wire }
+    {
+        if let Some(fault) = self.fault {
+            return Err(fault);
+        }
+        let (of_home, of_address) = self.ask_place(place, prefix);
+        let done = self.attach_desk(alloc, prefix, of_home, of_address);
+        self.finish(alloc, done)
+    }
+
+    /// What the place answers to the claims of a call; where it uses the prefix already, none is made.
+    fn ask_place<P: Place>(&self, place: &mut P, prefix: Prefix) -> (Claim, Claim)
+        requires home { (P.around place.old).room (home_of self.now.desk.known).0 ≡ true }
+        requires address { (P.around place.old).room (address_under (home_of self.now.desk.known) prefix.0).0 ≡ true }
+        ensures answered { AreAnswered (P.around place.old) self.now.desk.known prefix.0 result.0 result.1 }
+        ensures claims { P.claims place.new ≡ option_map (claims_attached (P.around place.old) self.now.desk.known.standing (home_of self.now.desk.known) prefix.0) (P.claims place.old) }
+        ensures place { (P.around place.new ≡ P.around place.old) × P.is_same place.old place.new }
+    {
+        let standing = self.desk.standing();
+        let home = self.desk.home();
+        if uses_prefix(standing, home, prefix) {
+            (Claim::Held, Claim::Held)
+        } else {
+            come(place, standing, home, prefix)
+        }
+    }
+
+    fn attach_desk(
+        &mut self,
+        alloc: Global,
+        prefix: Prefix,
+        of_home: Claim,
+        of_address: Claim,
+    ) -> Result<(), Memory>
+        ensures shows { (around : Around) → AreAnswered around self.old.desk.known prefix.0 of_home of_address
+            → OnOk result (Shows self.new.desk (turn_of self.old.desk.known (moment_of (C.last self.new.clock) self.old.desk.moment) (attach_at around (home_of self.old.desk.known) prefix.0))) }
+        ensures rest { (self.new.wire ≡ self.old.wire) × (self.new.fault ≡ self.old.fault) }
+    {
+        self.begin(alloc)?;
+        mip_mobility::attach(alloc, &mut self.desk, prefix, of_home, of_address)
+    }
+
+    /// It leaves its link.
+    pub fn leave<P: Place>(&mut self, alloc: Global, place: &mut P) -> Result<Answers, StationFault>
+        requires home { (P.around place.old).room (home_of self.old.desk.known).0 ≡ true }
+        ensures faulted { IfSome self.old.fault (λ fault. (result ≡ Err fault) × (self.new ≡ self.old) × (P.claims place.new ≡ P.claims place.old)) }
+        ensures handles { IfOk result (λ answers. Handles W.gives self.old.desk.known (moment_of (C.last self.new.clock) self.old.desk.moment) (leave_at (P.around place.old) (home_of self.old.desk.known)) (W.out self.old.wire) answers self.new.desk.known (W.out self.new.wire)) }
+        ensures claims { self.old.fault ≡ None → P.claims place.new ≡ option_map (claims_after_leaving (P.around place.old) self.old.desk.known.standing (home_of self.old.desk.known)) (P.claims place.old) }
+        ensures place { (P.around place.new ≡ P.around place.old) × P.is_same place.old place.new }
+        ensures well { OnOk result (self.new.fault ≡ None) }
+        ensures kept { IfErr result (λ fault. self.new.fault ≡ Some fault) }
+        ensures failed { self.old.fault ≡ None → IsErrOf result StationFault.Failed → Rose (W.faults self.old.wire) (W.faults self.new.wire) }
+        ensures wire { (W.faults self.old.wire ≤ W.faults self.new.wire) × W.is_same self.old.wire self.new.wire }
+    {
+        if let Some(fault) = self.fault {
+            return Err(fault);
+        }
+        let of_home = release_held(place, self.desk.standing(), self.desk.home());
+        let done = self.leave_desk(alloc, of_home);
+        self.finish(alloc, done)
+    }
+
+    fn leave_desk(&mut self, alloc: Global, of_home: Claim) -> Result<(), Memory>
+        ensures shows { (around : Around) → (self.old.desk.known.standing ≡ AtHome → of_home ≡ claim_in around (home_of self.old.desk.known).0)
+            → OnOk result (Shows self.new.desk (turn_of self.old.desk.known (moment_of (C.last self.new.clock) self.old.desk.moment) (leave_at around (home_of self.old.desk.known)))) }
+        ensures rest { (self.new.wire ≡ self.old.wire) × (self.new.fault ≡ self.old.fault) }
+    {
+        self.begin(alloc)?;
+        mip_mobility::leave(&mut self.desk, of_home)
+    }
+}

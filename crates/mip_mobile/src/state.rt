@@ -1,0 +1,34 @@
+use mip_words::Address;
+
+mod sealed {
+    pub trait Sealed {}
+}
+
+/// Where a mobile stands.
+pub trait State: sealed::Sealed + Copy {}
+
+/// It uses no address.
+#[derive(Clone, Copy, Debug, PartialEq, Eq)]
+pub struct Detached;
+
+/// It uses its home address.
+#[derive(Clone, Copy, Debug, PartialEq, Eq)]
+pub struct AtHome;
+
+/// It uses a care-of address.
+#[derive(Clone, Copy, Debug, PartialEq, Eq)]
+pub struct Away {
+    pub careof: Address,
+}
+
+impl sealed::Sealed for Detached {}
+
+impl sealed::Sealed for AtHome {}
+
+impl sealed::Sealed for Away {}
+
+impl State for Detached {}
+
+impl State for AtHome {}
+
+impl State for Away {}

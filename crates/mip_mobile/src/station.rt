@@ -1,0 +1,35 @@
+ghost use Rattle.std.specs.Prelude.{◌≡◌, ◌≤◌, None, Some, Err, IfOk, IfSome, IfErr, OnOk, IsErrOf, length};
+ghost use Rattle.mip_outside.specs.Cause.{Rose};
+ghost use Rattle.mip_rules_mobile.specs.Calls as calls;
+ghost use Rattle.mip_mobile.specs.Handling.{Handles, moment_of};
+
+use crate::fault::StationFault;
+use crate::machine::Machine;
+use crate::state::{Away, State};
+use mip_entries::Answers;
+use mip_outside::{Clock, Wire};
+use std::alloc::Global;
+
+/// A mobile that stands as `S` says, over its clock and its wire.
+#[must_use]
+#[derive(Drop)]
+pub struct Station<S: State, C: Clock, W: Wire> {
+    pub(crate) machine: Machine<C, W>,
+    pub(crate) state: S,
+}
+
+impl<C: Clock + Drop, W: Wire + Drop> Station<Away, C, W> {
+    /// Sends a packet from its home address, through the tunnel to its agent (RFC 6275 section 11.3.1).
+    pub fn tunnel(&mut self, alloc: Global, inner: &[u8]) -> Result<Answers, StationFault>
+        requires { 40 ≤ length inner.now }
+        ensures faulted { IfSome self.old.machine.fault (λ fault. (result ≡ Err fault) × (self.new ≡ self.old)) }
+        ensures handles { IfOk result (λ answers. Handles W.gives self.old.machine.desk.known (moment_of (C.last self.new.machine.clock) self.old.machine.desk.moment) (calls.Tunnel inner.now) (W.out self.old.machine.wire) answers self.new.machine.desk.known (W.out self.new.machine.wire)) }
+        ensures well { OnOk result (self.new.machine.fault ≡ None) }
+        ensures kept { IfErr result (λ fault. self.new.machine.fault ≡ Some fault) }
+        ensures failed { self.old.machine.fault ≡ None → IsErrOf result StationFault.Failed → Rose (W.faults self.old.machine.wire) (W.faults self.new.machine.wire) }
+        ensures wire { (W.faults self.old.machine.wire ≤ W.faults self.new.machine.wire) × W.is_same self.old.machine.wire self.new.machine.wire }
+        ensures state { self.new.state ≡ self.old.state }
+    {
+        self.machine.tunnel(alloc, inner)
+    }
+}
