@@ -33,7 +33,8 @@ impl Desk {
         ensures answers { IfOk result (λ a. a ≡ answers_of (turn_at self.old.known.part self.old.moment (parts.Part number (tree packet.now))).steps) }
         ensures pass { IfOk result (λ a. AllByRecursion CanPass a) }
     {
-        self.known.part.part(alloc, self.moment, number, packet)
+        let answers = self.known.part.part(alloc, self.moment, number, packet)?;
+        Ok(answers)
     }
 
     /// The correspondent part is asked for a Binding Refresh Request to a home.
@@ -42,7 +43,8 @@ impl Desk {
         ensures answers { IfOk result (λ a. a ≡ answers_of (turn_at self.old.known.part self.old.moment (parts.Refresh home)).steps) }
         ensures pass { IfOk result (λ a. AllByRecursion CanPass a) }
     {
-        self.known.part.refresh(alloc, self.moment, home)
+        let answers = self.known.part.refresh(alloc, self.moment, home)?;
+        Ok(answers)
     }
 
     /// The correspondent part is asked to send data.
@@ -60,6 +62,7 @@ impl Desk {
         ensures answers { IfOk result (λ a. a ≡ answers_of (turn_at self.old.known.part self.old.moment (parts.Send to proto payload.now)).steps) }
         ensures pass { IfOk result (λ a. AllByRecursion CanPass a) }
     {
-        self.known.part.send(alloc, self.moment, to, proto, payload)
+        let answers = self.known.part.send(alloc, self.moment, to, proto, payload)?;
+        Ok(answers)
     }
 }

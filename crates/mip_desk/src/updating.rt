@@ -26,6 +26,19 @@ impl Desk {
         ensures { (t : Turn) → packet ≡ update_packet (record { home = home_of self.old.known; source = source; peer = peer; made = made.now }) → Shows self.old t
             → OnOk result (Shows self.new (noted (Updates row (record { home = home_of self.old.known; source = source; peer = peer; made = made.now })) t)) }
     {
-        Err(Memory)
+        self.answers.push(Answer::Note(Entry::Made {
+            node: MYSELF,
+            peer,
+            number: 0,
+            home: made.home,
+            careof: made.careof,
+        }))?;
+        self.answers.push(Answer::Send {
+            shield: None,
+            packet,
+        })?;
+        let _made = trial::make(&mut self.known.list, row, self.moment);
+        peers::touch(&mut self.known.peers, row as usize);
+        Ok(())
     }
 }
