@@ -1,6 +1,7 @@
 //! What a call reads of what is kept.
 
-ghost use Rattle.std.specs.Prelude.{◌≡◌, Some, length, option_map, option_copied, IfSome, ◌+◌, ◌*◌, ◌<◌, ◌^◌, IsTrue};
+ghost use Rattle.std.specs.Prelude.{◌≡◌, Some, length, option_map, option_copied, IfSome, ◌+◌, ◌*◌, ◌<◌, ◌≤◌, ◌^◌, IsTrue, slice_get};
+ghost use Rattle.mip_bcache.specs.Seen.{kept_at};
 ghost use Rattle.mip_constants.specs.Constants.{initial_dhaad_timeout};
 ghost use Rattle.mip_bulist.specs.declared.any.Any.TheVariants.{Pending};
 ghost use Rattle.mip_bulist.specs.declared.state.Pending as pending;
@@ -20,6 +21,7 @@ ghost use Rattle.std.specs.Option.{option_or, option_map_or};
 
 use crate::desk::Desk;
 use crate::peers;
+use mip_bcache::Row;
 use mip_bulist::{Any, Made, Refused};
 use mip_rules_mobile::{HomeUpdate, Registered, Standing};
 use mip_words::{Address, Cookie, Moment};
@@ -152,9 +154,18 @@ impl Desk {
 
     /// The care-of address that is held for a peer.
     pub fn held_of(&self, peer: Address) -> Option<Address>
-        ensures { result ≡ held_of self.now.known.part.known self.now.moment peer }
+        ensures value { result ≡ held_of self.now.known.part.known self.now.moment peer }
+        ensures routable { IfSome result (λ _. IsTrue (is_routable peer.0)) }
     {
         self.known.part.route(self.moment, peer)
+    }
+
+    /// The row at a place among those that the correspondent part keeps, in order of home address.
+    pub fn kept_row(&self, now: Moment, place: u32) -> Option<&Row>
+        requires { self.now.moment ≤ now.0 }
+        ensures { option_copied result ≡ slice_get (kept_at self.now.known.part.known.cache now.0) place }
+    {
+        self.known.part.row(now, place)
     }
 
     /// Whether a binding stands for the home address that a packet from a source names.

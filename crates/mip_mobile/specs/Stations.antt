@@ -20,3 +20,20 @@ state_of (Away s) = standings.Away s.state.careof
 -- its type says where it stands
 abbrev pub IsTyped : {C W : Type 0} → Mobile C W → Type 0
 IsTyped m = state_of m ≡ (machine_of m).desk.known.standing
+
+-- with another clock, or another wire
+abbrev pub with_clock : {C W : Type 0} → Machine C W → C → Machine C W
+with_clock m clock = record m { clock = clock }
+
+abbrev pub with_wire : {C W : Type 0} → Machine C W → W → Machine C W
+with_wire m wire = record m { wire = wire }
+
+abbrev pub with_clock_in : {C W : Type 0} → Mobile C W → C → Mobile C W
+with_clock_in (Detached s) clock = Detached (record s { machine = with_clock s.machine clock })
+with_clock_in (AtHome s) clock = AtHome (record s { machine = with_clock s.machine clock })
+with_clock_in (Away s) clock = Away (record s { machine = with_clock s.machine clock })
+
+abbrev pub with_wire_in : {C W : Type 0} → Mobile C W → W → Mobile C W
+with_wire_in (Detached s) wire = Detached (record s { machine = with_wire s.machine wire })
+with_wire_in (AtHome s) wire = AtHome (record s { machine = with_wire s.machine wire })
+with_wire_in (Away s) wire = Away (record s { machine = with_wire s.machine wire })

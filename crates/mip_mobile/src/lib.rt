@@ -9,6 +9,8 @@ mod placing;
 mod settling;
 mod state;
 mod station;
+#[cfg(test)]
+mod tests;
 
 pub use fault::StationFault;
 pub use mobile::{Mobile, Turned};

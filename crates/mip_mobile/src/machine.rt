@@ -15,6 +15,9 @@ ghost use Rattle.mip_rules_mobile.specs.Turns.{begun, noted};
 ghost use Rattle.mip_rules_mobile.specs.Doing.{turn_of};
 ghost use Rattle.mip_desk.specs.Seen.{Shows};
 ghost use Rattle.mip_mobile.specs.Handling.{Handles, moment_of};
+ghost use Rattle.mip_mobile.specs.Stations.{with_clock, with_wire};
+ghost use Rattle.mip_mobile.specs.contracts.machine.Machine.{the_row};
+ghost use Rattle.std.specs.Borrow.{Lends, sem};
 
 use crate::fault::StationFault;
 use crate::settling::settle;
@@ -56,6 +59,20 @@ impl<C: Clock + Drop, W: Wire + Drop> Machine<C, W> {
             wire,
             fault: None,
         })
+    }
+
+    pub fn clock(&mut self) -> &mut C
+        ensures* lent { sem 𝓛 (Lends (the_row C.row W.row) C.row self.entry result (with_clock self.entry.now)) }
+        ensures clock { result.now ≡ self.old.clock }
+    {
+        &mut self.clock
+    }
+
+    pub fn wire(&mut self) -> &mut W
+        ensures* lent { sem 𝓛 (Lends (the_row C.row W.row) W.row self.entry result (with_wire self.entry.now)) }
+        ensures wire { result.now ≡ self.old.wire }
+    {
+        &mut self.wire
     }
 
     /// Where it stands.

@@ -1,5 +1,6 @@
 ghost use Rattle.std.specs.Prelude.{◌≡◌, ◌≤◌, [], true, None, Some, Err, IfOk, IfSome, IfErr, OnOk, IsErrOf, IsTrue, IsFalse, length, option_copied, slice_get};
 ghost use Rattle.std.specs.Option.{option_map};
+ghost use Rattle.std.specs.Borrow.{Lends, sem};
 ghost use Rattle.mip_words.specs.Addresses.{is_routable};
 ghost use Rattle.mip_ipv6.specs.Packet.{names_no_body};
 ghost use Rattle.mip_outside.specs.Cause.{Rose};
@@ -11,7 +12,8 @@ ghost use Rattle.mip_rules_mobile.specs.Questions.{fresh};
 ghost use Rattle.mip_rules_mobile.specs.MovingRules.{address_under};
 ghost use Rattle.mip_mobile.specs.Handling.{Handles, moment_of};
 ghost use Rattle.mip_mobile.specs.Placing.{attach_at, leave_at, claims_attached, claims_after_leaving};
-ghost use Rattle.mip_mobile.specs.Stations.{machine_of, IsTyped};
+ghost use Rattle.mip_mobile.specs.Stations.{machine_of, IsTyped, with_clock_in, with_wire_in};
+ghost use Rattle.mip_mobile.specs.contracts.mobile.Mobile.{the_row};
 
 use crate::fault::StationFault;
 use crate::machine::Machine;
@@ -84,6 +86,30 @@ impl<C: Clock + Drop, W: Wire + Drop> Mobile<C, W> {
             Mobile::Detached(station) => station.machine,
             Mobile::AtHome(station) => station.machine,
             Mobile::Away(station) => station.machine,
+        }
+    }
+
+    /// Its clock. What is written there is in the mobile once the borrow ends.
+    pub fn clock(&mut self) -> &mut C
+        ensures* lent { sem 𝓛 (Lends (the_row C.row W.row) C.row self.entry result (with_clock_in self.entry.now)) }
+        ensures clock { result.now ≡ (machine_of self.old).clock }
+    {
+        match self {
+            Mobile::Detached(station) => station.machine.clock(),
+            Mobile::AtHome(station) => station.machine.clock(),
+            Mobile::Away(station) => station.machine.clock(),
+        }
+    }
+
+    /// Its wire. What is written there is in the mobile once the borrow ends.
+    pub fn wire(&mut self) -> &mut W
+        ensures* lent { sem 𝓛 (Lends (the_row C.row W.row) W.row self.entry result (with_wire_in self.entry.now)) }
+        ensures wire { result.now ≡ (machine_of self.old).wire }
+    {
+        match self {
+            Mobile::Detached(station) => station.machine.wire(),
+            Mobile::AtHome(station) => station.machine.wire(),
+            Mobile::Away(station) => station.machine.wire(),
         }
     }
 

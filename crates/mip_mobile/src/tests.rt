@@ -1,0 +1,275 @@
+//! What a mobile does, against runs of another implementation.
+
+mod agents;
+mod handover;
+mod home;
+mod outside;
+mod refresh;
+mod restart;
+
+use crate::{Mobile, Turned};
+use mip_entries::{Answer, Answers, Entry};
+use mip_nonce::Secrets;
+use mip_outside::Outbox;
+use mip_words::{Address, NodeId, Prefix, Shield};
+use outside::{Hand, Neighbourhood};
+use std::alloc::Global;
+use std::test::Fail;
+
+const AGENT: Address = Address(0x2001_0db8_0001_0000_0000_0000_0000_0001);
+
+const SECOND: Address = Address(0x2001_0db8_0001_0000_0000_0000_0000_0003);
+
+const HOME: Address = Address(0x2001_0db8_0001_0000_0000_0000_0000_0077);
+
+const CAREOF: Address = Address(0x2001_0db8_0003_0000_0000_0000_0000_0077);
+
+const PEER: Address = Address(0x2001_0db8_0002_0000_0000_0000_0000_0002);
+
+/// The seed of the runs: the bytes 0 to 31.
+const SEED: [u8; 32] = [
+    0, 1, 2, 3, 4, 5, 6, 7, 8, 9, 10, 11, 12, 13, 14, 15, 16, 17, 18, 19, 20, 21, 22, 23, 24, 25,
+    26, 27, 28, 29, 30, 31,
+];
+
+/// A call of a mobile, and what it does about it.
+#[derive(Clone, Copy)]
+struct Row {
+    at: u64,
+    call: Call,
+    told: [Told; 4],
+}
+
+/// Packets are in hexadecimal digits.
+#[derive(Clone, Copy)]
+enum Call {
+    Attach {
+        prefix: Prefix,
+        /// The home address, where the agent still holds it.
+        held: Option<Address>,
+    },
+    Leave,
+    Take {
+        number: u64,
+        /// The agent under whose shield it came.
+        from: Option<Address>,
+        packet: &'static [u8],
+    },
+    Tick,
+    /// Data of protocol 17, one byte.
+    Send {
+        to: Address,
+        byte: u8,
+    },
+    Refresh(Address),
+    Ask,
+    Restart,
+}
+
+#[derive(Clone, Copy)]
+enum Told {
+    Nothing,
+    Sent(&'static [u8]),
+    /// Sent under the shield of the home and this agent.
+    Shielded(Address, &'static [u8]),
+    Claimed(Address),
+    Released(Address),
+    Careof(Address),
+    Registered {
+        agent: Address,
+        end: u64,
+    },
+    Unregistered(Address),
+    Refused(u8),
+    Chosen(Address),
+    Prefixes(u32, u32),
+    Made {
+        home: [u8; 8],
+        careof: Option<[u8; 8]>,
+    },
+    Bound {
+        peer: Address,
+        end: u64,
+    },
+    Restarted,
+    Idle,
+    Up {
+        from: Address,
+        payload: &'static [u8],
+    },
+}
+
+fn digit(byte: u8) -> u8 {
+    match byte {
+        b'0'..=b'9' => byte - b'0',
+        b'a'..=b'f' => byte - b'a' + 10,
+        _ => 0,
+    }
+}
+
+/// The bytes that hexadecimal digits name.
+fn bytes(alloc: Global, digits: &[u8]) -> Result<Vec<u8>, Fail> {
+    let mut bytes = Vec::new(alloc);
+    let mut high = None;
+    for byte in digits {
+        match high {
+            None => high = Some(digit(*byte)),
+            Some(first) => {
+                bytes.push(first << 4 | digit(*byte))?;
+                high = None;
+            }
+        }
+    }
+    Ok(bytes)
+}
+
+/// Whether a mobile gives this answer to a call.
+fn is_told(alloc: Global, answer: Option<&Answer>, told: &Told) -> Result<bool, Fail> {
+    let same = match (answer, told) {
+        (None, Told::Nothing) => true,
+        (Some(Answer::Send { shield, packet }), Told::Sent(digits)) => {
+            shield.is_none() && packet.as_slice() == bytes(alloc, digits)?.as_slice()
+        }
+        (Some(Answer::Send { shield, packet }), Told::Shielded(agent, digits)) => {
+            let under = Shield {
+                from: HOME,
+                to: *agent,
+            };
+            *shield == Some(under) && packet.as_slice() == bytes(alloc, digits)?.as_slice()
+        }
+        (
+            Some(
+                Answer::Note(
+                    Entry::Up {
+                        source,
+                        payload,
+                        ..
+                    },
+                ),
+            ),
+            Told::Up {
+                from: f,
+                payload: p,
+            },
+        ) => { source == f && payload.as_slice() == bytes(alloc, p)?.as_slice() }
+        (Some(Answer::Note(entry)), told) => is_entry(entry, told),
+        _ => false,
+    };
+    Ok(same)
+}
+
+fn is_entry(entry: &Entry, told: &Told) -> bool {
+    match (entry, told) {
+        (Entry::Claimed { address, .. }, Told::Claimed(a)) => address == a,
+        (Entry::Released { address, .. }, Told::Released(a)) => address == a,
+        (Entry::Careof { address, .. }, Told::Careof(a)) => address == a,
+        (Entry::Registered { agent, end, .. }, Told::Registered { agent: a, end: e }) => {
+            (agent, end.0) == (a, *e)
+        }
+        (Entry::Unregistered { agent, .. }, Told::Unregistered(a)) => agent == a,
+        (Entry::Refused { status, .. }, Told::Refused(s)) => status == s,
+        (Entry::Chosen { agent, .. }, Told::Chosen(a)) => agent == a,
+        (
+            Entry::Prefixes {
+                valid,
+                preferred,
+                ..
+            },
+            Told::Prefixes(v, p),
+        ) => { (valid, preferred) == (v, p) }
+        (Entry::Made { home, careof, .. }, Told::Made { home: h, careof: c }) => {
+            home.0 == *h && careof.map(|token| token.0) == *c
+        }
+        (Entry::Bound { peer, end, .. }, Told::Bound { peer: p, end: e }) => {
+            (peer, end.0) == (p, *e)
+        }
+        (Entry::Restarted { .. }, Told::Restarted) => true,
+        (Entry::Idle, Told::Idle) => true,
+        _ => false,
+    }
+}
+
+/// Whether these are all answers.
+fn are_told(alloc: Global, answers: &Answers, told: &[Told; 4]) -> Result<bool, Fail> {
+    let [first, second, third, fourth] = told;
+    Ok(
+        answers.len() <= 4
+            && is_told(alloc, answers.at(0), first)?
+            && is_told(alloc, answers.at(1), second)?
+            && is_told(alloc, answers.at(2), third)?
+            && is_told(alloc, answers.at(3), fourth)?,
+    )
+}
+
+type Runner = Mobile<Hand, Outbox>;
+
+/// What a mobile does about a call.
+fn answer(alloc: Global, mobile: Runner, call: &Call) -> Result<Turned<Hand, Outbox>, Fail> {
+    let turned = match call {
+        Call::Attach { prefix, held } => {
+            mobile.attach(alloc, &mut Neighbourhood(*held), *prefix)
+        }
+        Call::Leave => mobile.leave(alloc, &mut Neighbourhood(None)),
+        Call::Take {
+            number,
+            from,
+            packet,
+        } => {
+            let shield = from.map(|agent| Shield {
+                from: agent,
+                to: HOME,
+            });
+            let packet = bytes(alloc, packet)?;
+            mobile.take(alloc, *number, shield, packet.as_slice())
+        }
+        Call::Tick => mobile.tick(alloc),
+        Call::Send { to, byte } => mobile.send(alloc, *to, 17, &[*byte]),
+        Call::Refresh(home) => mobile.refresh(alloc, *home),
+        Call::Ask => mobile.ask(alloc),
+        Call::Restart => mobile.restart(alloc, Secrets::new(&SEED, NodeId(2), 1)),
+    };
+    Ok(turned)
+}
+
+/// The place of the first row whose answers are others.
+fn first_other(
+    alloc: Global,
+    declared: Option<Address>,
+    rows: &[Row],
+) -> Result<Option<usize>, Fail> {
+    let secrets = Secrets::new(&SEED, NodeId(2), 0);
+    let mut mobile = Mobile::new(
+        alloc,
+        HOME,
+        declared,
+        secrets,
+        Hand { moment: 0 },
+        Outbox::new(alloc)?,
+    )?;
+    for (at, row) in rows.iter().enumerate() {
+        mobile.clock().moment = row.at;
+        mobile.wire().clear();
+        let (next, answers) = answer(alloc, mobile, &row.call)?;
+        mobile = next;
+        if !are_told(alloc, &answers?, &row.told)? {
+            return Ok(Some(at));
+        }
+    }
+    Ok(None)
+}
+
+#[test]
+fn stored_runs_are_answered(rt: HostRuntime) -> Result<(), Fail> {
+    let alloc = rt.alloc();
+    let agent = Some(AGENT);
+    assert_eq!(rt; first_other(alloc, agent, &handover::HANDOVER)?, None);
+    assert_eq!(rt; first_other(alloc, agent, &handover::RELAYED)?, None);
+    assert_eq!(rt; first_other(alloc, agent, &refresh::REFRESHED)?, None);
+    assert_eq!(rt; first_other(alloc, agent, &home::RETURN_HOME)?, None);
+    assert_eq!(rt; first_other(alloc, agent, &home::RESENT)?, None);
+    assert_eq!(rt; first_other(alloc, agent, &restart::RESTARTED)?, None);
+    assert_eq!(rt; first_other(alloc, None, &agents::DISCOVERY)?, None);
+    assert_eq!(rt; first_other(alloc, None, &agents::GIVEN_UP)?, None);
+    assert_eq!(rt; first_other(alloc, None, &agents::REFUSED)?, None);
+    Ok(())
+}
