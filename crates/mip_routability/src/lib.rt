@@ -1,6 +1,9 @@
 //! Return routability of a mobile node (RFC 6275 sections 11.3.5, 11.3.6, 11.6 and 11.7), as rules over the desk of a call.
 #![tactic(auto)]
 
+mod doubling;
+mod missing;
+mod packets;
 mod peer_ack;
 mod peers;
 mod rows;
