@@ -101,13 +101,7 @@ pub fn update(alloc: Global, desk: &mut Desk, row: u8, wait: u64) -> Result<(), 
 }
 
 /// With tokens too old the trial starts anew; too soon after three others, nothing is sent at this time.
-fn make(
-    alloc: Global,
-    desk: &mut Desk,
-    row: u8,
-    peer: Address,
-    wait: u64,
-) -> Result<(), Memory>
+fn make(alloc: Global, desk: &mut Desk, row: u8, peer: Address, wait: u64) -> Result<(), Memory>
     requires range { row < 16 }
     requires early { wait < 2 ^ 32 }
     ensures { (t : Turn) → Shows desk.old t → OnOk result (Shows desk.new (makes_with (makes (record { 0 = desk.old.moment }) (trial_of desk.old.known row)) row peer wait t)) }
@@ -195,13 +189,7 @@ fn resend_to(alloc: Global, desk: &mut Desk, row: u8, peer: Address) -> Result<(
 }
 
 /// Once it has its tests it makes the update again; until then the inits whose tests are missing are sent again.
-fn go_on(
-    alloc: Global,
-    desk: &mut Desk,
-    row: u8,
-    peer: Address,
-    wait: u64,
-) -> Result<(), Memory>
+fn go_on(alloc: Global, desk: &mut Desk, row: u8, peer: Address, wait: u64) -> Result<(), Memory>
     requires range { row < 16 }
     requires early { wait < 2 ^ 32 }
     ensures { (t : Turn) → Shows desk.old t → OnOk result (Shows desk.new (goes_on (trial_of desk.old.known row) row peer wait t)) }
@@ -219,18 +207,20 @@ fn go_on(
 }
 
 /// The inits whose tests are missing are sent again, with the cookies of the start.
-fn ask_again(
-    alloc: Global,
-    desk: &mut Desk,
-    peer: Address,
-    missing: Missing,
-) -> Result<(), Memory>
+fn ask_again(alloc: Global, desk: &mut Desk, peer: Address, missing: Missing) -> Result<(), Memory>
     ensures { (t : Turn) → Shows desk.old t
         → OnOk result (Shows desk.new (asks_careof missing.careof desk.old.known.standing peer missing.careof_cookie.0 (asks_home missing.home peer missing.home_cookie.0 t))) }
 {
     let standing = desk.standing();
     ask_home_again(alloc, desk, missing.home, peer, missing.home_cookie)?;
-    ask_careof_again(alloc, desk, missing.careof, standing, peer, missing.careof_cookie)
+    ask_careof_again(
+        alloc,
+        desk,
+        missing.careof,
+        standing,
+        peer,
+        missing.careof_cookie,
+    )
 }
 
 fn ask_home_again(
