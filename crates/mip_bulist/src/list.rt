@@ -1,4 +1,4 @@
-ghost use Rattle.std.specs.Prelude.{◌≡◌, ◌<◌, [], IfOk, IfSome, option_copied};
+ghost use Rattle.std.specs.Prelude.{◌≡◌, ◌<◌, [], IfOk, IfSome, length, option_copied};
 ghost use Rattle.mip_bulist.specs.Timers.{AreInOrder, IsInRange, is_set, without_timer, with_timer, due_work, without_due, first_due};
 ghost use Rattle.mip_bulist.specs.Rows.{AreOfDifferentPeers, given_row, with_row, row_place, peer_at, lifted, with_trial, laid, rows_laid, all_rested};
 
@@ -131,6 +131,13 @@ impl List {
         ensures list { self.new ≡ record self.old { timers = without_due now self.old.timers } }
     {
         timers::pop(&mut self.timers, now)
+    }
+
+    /// How many timers are set.
+    pub fn timers(&self) -> usize
+        ensures { result ≡ length self.now.timers }
+    {
+        self.timers.len()
     }
 
     /// The earliest due moment.

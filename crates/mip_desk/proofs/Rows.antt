@@ -151,14 +151,14 @@ list-changed old new last row any trial now change is lifts same lays =
 pub list-same : (old new : ListSeen) (row : ℕ) (now : Moment) (change : Change) → lifted row old.rows ≡ None → new ≡ record { rows = with_trial row None old.rows; timers = old.timers } → new ≡ record { rows = with_change row now change old.rows; timers = old.timers }
 list-same old new row now change is lifts = lifts ∙ ap (λ (rs : List Row). record { rows = rs; timers = old.timers }) (changes-none old.rows row now change is)
 
-with-other : (rows : List Row) (row at : ℕ) (any : Any) → (row ≡ at → ⊥) → lifted row (with_trial at (Some any) rows) ≡ lifted row rows
+pub with-other : (rows : List Row) (row at : ℕ) (any : Any) → (row ≡ at → ⊥) → lifted row (with_trial at (Some any) rows) ≡ lifted row rows
 with-other [] row at any other = refl
 with-other (r ∷ rs) zero zero any other = absurd (other refl)
 with-other (r ∷ rs) (suc k) zero any other = refl
 with-other (r ∷ rs) zero (suc i) any other = ap (lifted zero) (with_step r rs i (Some any))
 with-other (r ∷ rs) (suc k) (suc i) any other = ap (lifted (suc k)) (with_step r rs i (Some any)) ∙ with-other rs k i any (λ e. other (ap suc e))
 
-with-same : (P : Any → Type 0) (rows : List Row) (at : ℕ) (any : Any) → P any → IfSome (lifted at (with_trial at (Some any) rows)) P
+pub with-same : (P : Any → Type 0) (rows : List Row) (at : ℕ) (any : Any) → P any → IfSome (lifted at (with_trial at (Some any) rows)) P
 with-same P [] at any is = tt
 with-same P (r ∷ rs) zero any is = is
 with-same P (r ∷ rs) (suc i) any is = subst (λ (rows : List Row). IfSome (lifted (suc i) rows) P) (sym (with_step r rs i (Some any))) (with-same P rs i any is)

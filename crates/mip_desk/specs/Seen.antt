@@ -1,5 +1,5 @@
 -- A mobile as contracts see it.
-use Rattle.std.specs.Prelude.{◌≡◌, ℕ, ◌^◌, ◌<◌, ◌≤◌, List, true}
+use Rattle.std.specs.Prelude.{◌≡◌, ℕ, ◌^◌, ◌<◌, ◌≤◌, List, true, IfSome}
 use Rattle.mip_words.specs.Addresses.{is_routable}
 use Rattle.mip_words.specs.declared.address.Address.{Address}
 use Rattle.mip_entries.specs.declared.answer.Answer.{Answer}
@@ -9,6 +9,7 @@ use Rattle.mip_rules_mobile.specs.HomeQuestions.{home_of}
 use Rattle.mip_rules_mobile.specs.Turns.{Turn, ShowsAt}
 use Rattle.mip_desk.specs.declared.kept.Kept.{Kept}
 use Rattle.mip_desk.specs.Mine.{AreMine}
+use Rattle.mip_desk.specs.Early.{AreEarly}
 
 -- what is kept, as the rules know it
 abbrev pub seen : Kept → Known
@@ -41,13 +42,15 @@ pub record DeskSeen : Type 0 where
   pub answers : List Answer
 
 -- the moment is no later than a clock says, the correspondent part's last call no later than that, and the home address
--- may stand in an option, and each trial is with its row's peer
+-- may stand in an option, each trial is with its row's peer, and no update was sent later than a clock says
 pub record IsSound (d : DeskSeen) (address : Address) : Type 0 where
   pub own : address ≡ home_of d.known
   pub early : d.moment < 2 ^ 62
   pub later : d.known.part.known.last.0 ≤ d.moment
   pub home : is_routable (home_of d.known).0 ≡ true
   pub mine : AreMine d.known.list.rows
+  pub sent : AreEarly d.known.list.rows
+  pub registered : IfSome d.known.latest (λ u. u.at.0 < 2 ^ 62)
 
 -- the desk shows a turn
 abbrev pub Shows : DeskSeen → Turn → Type 0

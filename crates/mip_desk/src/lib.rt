@@ -3,6 +3,7 @@
 
 mod agents;
 mod desk;
+mod doubling;
 mod heard;
 mod kept;
 mod moving;
@@ -19,6 +20,7 @@ mod updating;
 
 pub use agents::Agents;
 pub use desk::{Desk, ENDING, RENEWING, RESENDING, SEEKING};
+pub use doubling::doubled;
 pub use heard::Heard;
 pub use kept::Kept;
 pub use out::{ask_home, go_out};

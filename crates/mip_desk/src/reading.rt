@@ -1,19 +1,22 @@
 //! What a call reads of what is kept.
 
-ghost use Rattle.std.specs.Prelude.{◌≡◌, option_map, option_copied, IfSome, ◌+◌, ◌*◌, ◌<◌, ◌^◌, IsTrue};
+ghost use Rattle.std.specs.Prelude.{◌≡◌, Some, length, option_map, option_copied, IfSome, ◌+◌, ◌*◌, ◌<◌, ◌^◌, IsTrue};
 ghost use Rattle.mip_constants.specs.Constants.{initial_dhaad_timeout};
+ghost use Rattle.mip_bulist.specs.declared.any.Any.TheVariants.{Pending};
+ghost use Rattle.mip_bulist.specs.declared.state.Pending as pending;
 ghost use Rattle.mip_bulist.specs.declared.tested.Test.{Test};
+ghost use Rattle.mip_bulist.specs.declared.trial.Trial.{Trial};
 ghost use Rattle.mip_bulist.specs.Timers.{first_due};
 ghost use Rattle.mip_rules_correspondent.specs.Questions.{held_of};
 ghost use Rattle.mip_rules_correspondent.specs.Rules.{holds_option};
 ghost use Rattle.mip_rules_mobile.specs.RowQuestions.{first_cookie, second_cookie, row_of, peer_of_row, trial_of, is_bound_row, is_touched_row, wait_of_row, bound_row_of};
-ghost use Rattle.mip_rules_mobile.specs.Trials.{makes};
+ghost use Rattle.mip_rules_mobile.specs.Trials.{makes, sent_at};
 ghost use Rattle.mip_rules_mobile.specs.PeerRules.{home_row, careof_row};
 ghost use Rattle.mip_words.specs.Addresses.{is_routable};
 ghost use Rattle.mip_rules_mobile.specs.HomeQuestions.{home_of, next_to, target_of, agent_of, registered_agent, standing_registration};
 ghost use Rattle.mip_rules_mobile.specs.DiscoveryQuestions.{next_found};
 ghost use Rattle.mip_rules_mobile.specs.IcmpRules.{is_matched};
-ghost use Rattle.std.specs.Option.{option_or};
+ghost use Rattle.std.specs.Option.{option_or, option_map_or};
 
 use crate::desk::Desk;
 use crate::peers;
@@ -57,6 +60,27 @@ impl Desk {
         ensures { option_copied result ≡ trial_of self.now.known row }
     {
         self.known.list.trial(row)
+    }
+
+    /// When the last update of a row was made, where its trial waits for an acknowledgement; else this moment.
+    pub fn sent_at(&self, row: u8) -> Moment
+        ensures value { (u : Trial pending.Pending) → trial_of self.now.known row ≡ Some (Pending u) → result.0 ≡ option_map_or (λ m. m.0) (sent_at u) self.now.moment }
+        ensures early { result.0 < 2 ^ 62 }
+    {
+        match self.trial(row) {
+            Some(Any::Pending(trial)) => match trial.sent_at() {
+                Some(at) => at,
+                None => self.moment,
+            },
+            _ => self.moment,
+        }
+    }
+
+    /// How many timers are set.
+    pub fn timers(&self) -> usize
+        ensures { result ≡ length self.now.known.list.timers }
+    {
+        self.known.list.timers()
     }
 
     /// Whether a row has a binding whose end lies ahead.
@@ -173,7 +197,8 @@ impl Desk {
 
     /// The moment of the call, or of the last one.
     pub fn moment(&self) -> Moment
-        ensures { result.0 ≡ self.now.moment }
+        ensures value { result.0 ≡ self.now.moment }
+        ensures early { result.0 < 2 ^ 62 }
     {
         self.moment
     }
@@ -194,7 +219,8 @@ impl Desk {
 
     /// The last home registration or deregistration of this life.
     pub fn latest(&self) -> Option<HomeUpdate>
-        ensures { result ≡ self.now.known.latest }
+        ensures value { result ≡ self.now.known.latest }
+        ensures early { IfSome result (λ u. u.at.0 < 2 ^ 62) }
     {
         self.known.latest
     }

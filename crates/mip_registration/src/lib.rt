@@ -12,4 +12,4 @@ pub use home::{
     catch_up, deregister, register, register_with, resend_home, seek, settle, turn_away,
 };
 pub use moving::{address_under, arrive};
-pub use ringing::{doubled, end_home, renew_home};
+pub use ringing::{end_home, renew_home};

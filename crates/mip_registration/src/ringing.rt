@@ -1,31 +1,15 @@
 //! The station's own timers (RFC 6275 sections 11.7.1 and 11.8).
 
-ghost use Rattle.std.specs.Prelude.{◌≡◌, ◌<◌, ◌^◌, OnOk};
-ghost use Rattle.mip_rules_mobile.specs.Timing.{doubled};
+ghost use Rattle.std.specs.Prelude.{◌≡◌, OnOk};
 ghost use Rattle.mip_rules_mobile.specs.Turns.{Turn};
 ghost use Rattle.mip_rules_mobile.specs.RingingRules.{renews_home, ends_home};
 ghost use Rattle.mip_desk.specs.Seen.{Shows};
 
 use crate::home::register;
-use mip_constants::{INITIAL_BINDACK_TIMEOUT, MAX_BINDACK_TIMEOUT};
 use mip_desk::Desk;
 use mip_rules_mobile::{Registered, Standing};
 use mip_words::Memory;
 use std::alloc::Global;
-
-/// The time after this one: twice as long, from the first one to the longest.
-pub fn doubled(wait: u64) -> u64
-    ensures value { result ≡ doubled wait }
-    ensures small { result < 2 ^ 32 }
-{
-    if wait >= MAX_BINDACK_TIMEOUT {
-        MAX_BINDACK_TIMEOUT
-    } else {
-        (2 * wait)
-            .min(MAX_BINDACK_TIMEOUT)
-            .max(INITIAL_BINDACK_TIMEOUT)
-    }
-}
 
 /// The registration is renewed, before it ends.
 pub fn renew_home(alloc: Global, desk: &mut Desk, standing: Standing) -> Result<(), Memory>

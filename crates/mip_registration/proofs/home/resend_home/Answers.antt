@@ -10,7 +10,7 @@ pub returns-in-Some : goal.returns-in-Some
 returns-in-Some c = λ t shows.
     let known = shows-known c.args.desk.now t shows in
     subst (λ (u : Turn). OnOk c.resend_update.result (Shows c.resend_update.new.desk u))
-    (resends-by c.args.wait t c.args.desk.now.known c.args.desk.now.known.standing (Some c.in-Some.update) known refl (sym c.latest.ensures ∙ c.in-Some.is))
+    (resends-by c.args.wait t c.args.desk.now.known c.args.desk.now.known.standing (Some c.in-Some.update) known refl (sym c.latest.ensures.value ∙ c.in-Some.is))
     (c.resend_update.ensures t shows)
 
 pub returns-in-None : goal.returns-in-None
@@ -18,5 +18,5 @@ returns-in-None c = λ t shows.
     let known = shows-known c.args.desk.now t shows in
     subst (λ (u : Turn). Shows c.args.desk.now u)
     (sym (resends-nothing c.args.wait t c.args.desk.now.known.standing)
-    ∙ resends-by c.args.wait t c.args.desk.now.known c.args.desk.now.known.standing None known refl (sym c.latest.ensures ∙ c.in-None.is))
+    ∙ resends-by c.args.wait t c.args.desk.now.known c.args.desk.now.known.standing None known refl (sym c.latest.ensures.value ∙ c.in-None.is))
     shows

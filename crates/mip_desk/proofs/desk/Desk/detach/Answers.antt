@@ -10,8 +10,10 @@ use Rattle.mip_rules_mobile.specs.Questions.{after}
 use Rattle.mip_rules_mobile.specs.Steps.{Detaches}
 use Rattle.mip_desk.specs.Seen.{seen}
 use Rattle.mip_desk.specs.Mine.{AreMine}
+use Rattle.mip_desk.specs.Early.{AreEarly}
 use Rattle.mip_desk.proofs.Noted.{shown}
 use Rattle.mip_desk.proofs.Rows.{mine-rested}
+use Rattle.mip_desk.proofs.Early.{early-rested}
 use Rattle.mip_desk.proofs.desk.Desk.detach.Goals as goal
 
 pub invariant_of-self : goal.invariant_of-self
@@ -21,6 +23,8 @@ invariant_of-self c = record {
   later = c.self.invariant.later;
   home = c.self.invariant.home;
   mine = subst (λ (l : ListSeen). AreMine l.rows) (sym c.rest_all.ensures) (mine-rested c.self.inside.known.list.rows c.self.invariant.mine);
+  sent = subst (λ (l : ListSeen). AreEarly l.rows) (sym c.rest_all.ensures) (early-rested c.self.inside.known.list.rows c.self.invariant.sent);
+  registered = c.self.invariant.registered;
 }
 
 pub returns : goal.returns

@@ -6,8 +6,10 @@ use Rattle.mip_rules_mobile.specs.Questions.{after}
 use Rattle.mip_rules_mobile.specs.Steps.{Tries}
 use Rattle.mip_desk.specs.Seen.{DeskSeen, seen}
 use Rattle.mip_desk.specs.Mine.{AreMine}
+use Rattle.mip_desk.specs.Early.{AreEarly}
 use Rattle.mip_desk.proofs.Noted.{shown}
 use Rattle.mip_desk.proofs.Rows.{mine-changed}
+use Rattle.mip_desk.proofs.Early.{early-changed}
 use Rattle.mip_rules_mobile.specs.Turns.{noted, ShowsAt}
 use Rattle.mip_desk.proofs.desk.Desk.keep_careof.Goals as goal
 
@@ -18,6 +20,8 @@ invariant_of-self c = record {
   later = c.self.invariant.later;
   home = c.self.invariant.home;
   mine = subst (λ (l : ListSeen). AreMine l.rows) (sym c.keep_careof_test.ensures) (mine-changed c.self.inside.known.list.rows c.args.row c.self.inside.moment (CareofTest c.args.test.now.peer c.args.test.now.cookie (record { index = c.args.test.now.index; token = c.args.test.now.token; at = c.self.inside.moment })) c.self.invariant.mine);
+  sent = subst (λ (l : ListSeen). AreEarly l.rows) (sym c.keep_careof_test.ensures) (early-changed c.self.inside.known.list.rows c.args.row c.self.inside.moment (CareofTest c.args.test.now.peer c.args.test.now.cookie (record { index = c.args.test.now.index; token = c.args.test.now.token; at = c.self.inside.moment })) c.self.invariant.early c.self.invariant.sent);
+  registered = c.self.invariant.registered;
 }
 
 pub returns : goal.returns

@@ -1,11 +1,26 @@
-use Rattle.std.proofs.Common.{sym, ap}
+use Rattle.std.proofs.Common.{sym, ap, subst}
 use Rattle.std.proofs.lemmas.List.{append-nil}
 use Rattle.mip_bulist.specs.Lists.{ListSeen}
 use Rattle.mip_rules_mobile.specs.Questions.{after}
 use Rattle.mip_rules_mobile.specs.Steps.{Meets}
 use Rattle.mip_desk.specs.Seen.{seen}
+use Rattle.mip_desk.specs.Mine.{AreMine}
+use Rattle.mip_desk.specs.Early.{AreEarly}
+use Rattle.mip_desk.proofs.Rows.{mine-met}
+use Rattle.mip_desk.proofs.Early.{early-met}
 use Rattle.mip_desk.proofs.Noted.{shown}
 use Rattle.mip_desk.proofs.desk.Desk.meet.Goals as goal
+
+pub invariant_of-self : goal.invariant_of-self
+invariant_of-self c = record {
+  own = c.self.invariant.own;
+  early = c.self.invariant.early;
+  later = c.self.invariant.later;
+  home = c.self.invariant.home;
+  mine = subst (λ (l : ListSeen). AreMine l.rows) (sym c.row.ensures.list) (mine-met c.self.inside.known.list.rows c.args.peer c.self.invariant.mine);
+  sent = subst (λ (l : ListSeen). AreEarly l.rows) (sym c.row.ensures.list) (early-met c.self.inside.known.list.rows c.args.peer c.self.invariant.sent);
+  registered = c.self.invariant.registered;
+}
 
 pub returns-clause-shows : goal.returns-clause-shows
 unfolding after

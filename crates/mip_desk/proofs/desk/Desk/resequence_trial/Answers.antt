@@ -6,8 +6,10 @@ use Rattle.mip_rules_mobile.specs.Questions.{after}
 use Rattle.mip_rules_mobile.specs.Steps.{Tries}
 use Rattle.mip_desk.specs.Seen.{seen}
 use Rattle.mip_desk.specs.Mine.{AreMine}
+use Rattle.mip_desk.specs.Early.{AreEarly}
 use Rattle.mip_desk.proofs.Noted.{shown}
 use Rattle.mip_desk.proofs.Rows.{mine-changed}
+use Rattle.mip_desk.proofs.Early.{early-changed}
 use Rattle.mip_desk.proofs.desk.Desk.resequence_trial.Goals as goal
 
 pub invariant_of-self : goal.invariant_of-self
@@ -17,6 +19,8 @@ invariant_of-self c = record {
   later = c.self.invariant.later;
   home = c.self.invariant.home;
   mine = subst (λ (l : ListSeen). AreMine l.rows) (sym (c.resequence.ensures (record { 0 = c.self.inside.moment.0 }))) (mine-changed c.self.inside.known.list.rows c.args.row (record { 0 = c.self.inside.moment.0 }) (Resequence c.args.last) c.self.invariant.mine);
+  sent = subst (λ (l : ListSeen). AreEarly l.rows) (sym (c.resequence.ensures (record { 0 = c.self.inside.moment.0 }))) (early-changed c.self.inside.known.list.rows c.args.row (record { 0 = c.self.inside.moment.0 }) (Resequence c.args.last) c.self.invariant.early c.self.invariant.sent);
+  registered = c.self.invariant.registered;
 }
 
 pub returns : goal.returns

@@ -1,0 +1,22 @@
+use Rattle.std.proofs.Common.{◌≡◌, List, ◌++◌, subst, ap}
+use Rattle.std.specs.Prelude.{Result, OnOk, option_map}
+use Rattle.mip_entries.specs.declared.answer.Answer.{Answer}
+use Rattle.mip_rules_mobile.specs.Doing.{turn_of}
+use Rattle.mip_desk.specs.Seen.{DeskSeen, Shows}
+use Rattle.mip_mobile.specs.Settling.{SettlesAll, sends_of}
+use Rattle.mip_mobile.specs.Handling.{Handles}
+use Rattle.mip_mobile.proofs.Handled.{if-both, handled}
+use Rattle.mip_mobile.proofs.machine.Machine.settle.Goals as goal
+
+pub returns-clause-handles : goal.returns-clause-handles
+returns-clause-handles g c = λ k now call shown.
+    let desk : DeskSeen = c.args.self.now.desk in
+    let gives = g.W.Wire.gives in
+    let out = g.W.Wire.out c.args.self.now.wire in
+    let told = g.W.Wire.out c.settle.new.wire in
+    let shows : Shows desk (turn_of k now call) = subst (λ r. OnOk r (Shows desk (turn_of k now call))) c.in_ok-done.was shown in
+    if-both (λ answers. SettlesAll gives c.in_ok-asked.asked answers) (λ answers. told ≡ option_map (λ items. items ++ sends_of answers) out)
+    (λ answers. Handles gives k now call out answers c.take_answers.new.self.known told) c.settle.result
+    (λ answers settles sent.
+    handled gives k now call desk c.in_ok-asked.asked c.take_answers.new.self.known out told answers shows c.in_ok-asked.ensures.answers (ap (λ (d : DeskSeen). d.known) c.in_ok-asked.ensures.desk) settles sent)
+    c.settle.ensures.settles c.settle.ensures.out

@@ -1,0 +1,31 @@
+-- What a call of a station answers, and what it leaves.
+use Rattle.std.specs.Prelude.{◌≡◌, ℕ, Bool, max, List, ◌++◌, Option, option_map}
+use Rattle.mip_words.specs.declared.address.Address.{Address}
+use Rattle.mip_words.specs.declared.shield.Shield.{Shield}
+use Rattle.mip_nonce.specs.Secrets.{Life}
+use Rattle.mip_outside.specs.declared.put.Put.{Put}
+use Rattle.mip_entries.specs.Stamped.{Stamped}
+use Rattle.mip_entries.specs.declared.answer.Answer.{Answer}
+use Rattle.mip_rules_mobile.specs.Calls.{Call}
+use Rattle.mip_rules_mobile.specs.Steps.{Step, answers_of}
+use Rattle.mip_rules_mobile.specs.Known.{Known}
+use Rattle.mip_rules_mobile.specs.Turns.{Stands, with_turn}
+use Rattle.mip_rules_mobile.specs.Doing.{turn_of}
+use Rattle.mip_mobile.specs.Settling.{SettlesAll, sends_of}
+
+-- the moment of a call: what the clock says, or the moment of the last call where that is later
+abbrev pub moment_of : (clock last : ℕ) → ℕ
+moment_of clock last = max clock last
+
+-- the packets that a wire sent, each with its shield, where they are told
+abbrev pub Told : Type 0
+Told = Option (List (Option Shield × List ℕ))
+
+-- a station that knew this was called at a moment: its answers are those of the definition's turn, as its wire took them;
+-- it stands for each past for which it stood before, with the turn behind it; and its wire sent the packets of its answers
+pub record Handles (gives : Put → Bool) (before : Known) (now : ℕ) (call : Call) (out : Told) (answers : List Answer) (after : Known) (left : Told) : Type 0 where
+  pub taken : SettlesAll gives (answers_of (turn_of before now call).steps) answers
+  pub known : after ≡ (turn_of before now call).known
+  pub stands : (home : Address) (declared : Option Address) (secrets : Life) (past : List (Stamped Step)) → Stands home declared secrets past before
+      → Stands home declared secrets (with_turn past (turn_of before now call)) after
+  pub sent : left ≡ option_map (λ items. items ++ sends_of answers) out

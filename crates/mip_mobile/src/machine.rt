@@ -1,0 +1,308 @@
+//! A mobile with its clock and its wire, wherever it stands.
+
+ghost use Rattle.std.specs.Prelude.{◌≡◌, ℕ, ◌≤◌, ◌<◌, ◌^◌, [], None, Some, Err, IfOk, IfSome, IfErr, OnOk, OnErr, IsErrOf, IsTrue, IsFalse, length};
+ghost use Rattle.mip_words.specs.Addresses.{is_routable};
+ghost use Rattle.mip_ipv6.specs.Packet.{names_no_body};
+ghost use Rattle.mip_rules_correspondent.specs.Rules.{is_data};
+ghost use Rattle.mip_outside.specs.Cause.{Rose};
+ghost use Rattle.mip_rules_mobile.specs.Calls as calls;
+ghost use Rattle.mip_rules_mobile.specs.Calls.{Call};
+ghost use Rattle.mip_rules_mobile.specs.Steps.{Called};
+ghost use Rattle.mip_rules_mobile.specs.Known.{Known};
+ghost use Rattle.mip_rules_mobile.specs.Questions.{fresh};
+ghost use Rattle.mip_rules_mobile.specs.Turns.{begun, noted};
+ghost use Rattle.mip_rules_mobile.specs.Doing.{turn_of};
+ghost use Rattle.mip_desk.specs.Seen.{Shows};
+ghost use Rattle.mip_mobile.specs.Handling.{Handles, moment_of};
+
+use crate::fault::StationFault;
+use crate::settling::settle;
+use mip_desk::Desk;
+use mip_entries::Answers;
+use mip_nonce::Secrets;
+use mip_outside::{Clock, Wire};
+use mip_words::{Address, Memory, Moment, Shield};
+use std::alloc::Global;
+
+/// A mobile with its clock and its wire.
+#[derive(Drop)]
+pub struct Machine<C: Clock, W: Wire> {
+    pub(crate) desk: Desk,
+    pub(crate) clock: C,
+    pub(crate) wire: W,
+    pub(crate) fault: Option<StationFault>,
+}
+
+impl<C: Clock + Drop, W: Wire + Drop> Machine<C, W> {
+    /// A new mobile, at home.
+    pub fn new(
+        alloc: Global,
+        home: Address,
+        declared: Option<Address>,
+        secrets: Secrets,
+        clock: C,
+        wire: W,
+    ) -> Result<Machine<C, W>, Memory>
+        requires { IsTrue (is_routable home.0) }
+        ensures known { IfOk result (λ m. m.desk ≡ record { moment = 0; known = fresh home declared secrets; answers = [] }) }
+        ensures parts { IfOk result (λ m. (m.clock ≡ clock) × (m.wire ≡ wire) × (m.fault ≡ None)) }
+    {
+        let desk = Desk::open(alloc, home, declared, secrets)?;
+        Ok(Machine {
+            desk,
+            clock,
+            wire,
+            fault: None,
+        })
+    }
+
+    /// A call begins: its moment is what the clock says, or that of the last call where this is later.
+    pub fn begin(&mut self, alloc: Global) -> Result<(), Memory>
+        ensures shows { (call : Call) → OnOk result (Shows self.new.desk (noted (Called call) (begun (moment_of (C.last self.new.clock) self.old.desk.moment) self.old.desk.known))) }
+        ensures rest { (self.new.wire ≡ self.old.wire) × (self.new.fault ≡ self.old.fault) }
+    {
+        let now = self.clock.now().max(self.desk.moment().0);
+        self.desk.call(alloc, Moment(now))
+    }
+
+    /// A call ends: its packets are handed to the wire, or its fault is kept.
+    pub fn finish(
+        &mut self,
+        alloc: Global,
+        done: Result<(), Memory>,
+    ) -> Result<Answers, StationFault>
+        requires { self.old.fault ≡ None }
+        ensures handles { (k : Known) (now : ℕ) (call : Call) → OnOk done (Shows self.old.desk (turn_of k now call))
+            → IfOk result (λ answers. Handles W.gives k now call (W.out self.old.wire) answers self.new.desk.known (W.out self.new.wire)) }
+        ensures clock { self.new.clock ≡ self.old.clock }
+        ensures well { OnOk result (self.new.fault ≡ None) }
+        ensures kept { IfErr result (λ fault. self.new.fault ≡ Some fault) }
+        ensures failed { IsErrOf result StationFault.Failed → Rose (W.faults self.old.wire) (W.faults self.new.wire) }
+        ensures wire { (W.faults self.old.wire ≤ W.faults self.new.wire) × W.is_same self.old.wire self.new.wire }
+    {
+        let result = self.settle(alloc, done);
+        if let Err(fault) = result {
+            self.fault = Some(fault);
+        }
+        result
+    }
+
+    fn settle(&mut self, alloc: Global, done: Result<(), Memory>) -> Result<Answers, StationFault>
+        ensures handles { (k : Known) (now : ℕ) (call : Call) → OnOk done (Shows self.old.desk (turn_of k now call))
+            → IfOk result (λ answers. Handles W.gives k now call (W.out self.old.wire) answers self.new.desk.known (W.out self.new.wire)) }
+        ensures rest { (self.new.clock ≡ self.old.clock) × (self.new.fault ≡ self.old.fault) }
+        ensures failed { IsErrOf result StationFault.Failed → Rose (W.faults self.old.wire) (W.faults self.new.wire) }
+        ensures wire { (W.faults self.old.wire ≤ W.faults self.new.wire) × W.is_same self.old.wire self.new.wire }
+    {
+        done?;
+        let asked = self.desk.take_answers(alloc)?;
+        settle(alloc, &mut self.wire, asked)
+    }
+
+    /// Takes a packet that was handed to it, by its number and shield.
+    pub fn take(
+        &mut self,
+        alloc: Global,
+        number: u64,
+        shield: Option<Shield>,
+        packet: &[u8],
+    ) -> Result<Answers, StationFault>
+        ensures faulted { IfSome self.old.fault (λ fault. (result ≡ Err fault) × (self.new ≡ self.old)) }
+        ensures handles { IfOk result (λ answers. Handles W.gives self.old.desk.known (moment_of (C.last self.new.clock) self.old.desk.moment) (calls.Take number shield packet.now) (W.out self.old.wire) answers self.new.desk.known (W.out self.new.wire)) }
+        ensures well { OnOk result (self.new.fault ≡ None) }
+        ensures kept { IfErr result (λ fault. self.new.fault ≡ Some fault) }
+        ensures failed { self.old.fault ≡ None → IsErrOf result StationFault.Failed → Rose (W.faults self.old.wire) (W.faults self.new.wire) }
+        ensures wire { (W.faults self.old.wire ≤ W.faults self.new.wire) × W.is_same self.old.wire self.new.wire }
+    {
+        if let Some(fault) = self.fault {
+            return Err(fault);
+        }
+        let done = self.take_desk(alloc, number, shield, packet);
+        self.finish(alloc, done)
+    }
+
+    #[tactic(auto, unfolding(mip_rules_mobile::specs::Doing::does))]
+    fn take_desk(
+        &mut self,
+        alloc: Global,
+        number: u64,
+        shield: Option<Shield>,
+        packet: &[u8],
+    ) -> Result<(), Memory>
+        ensures shows { OnOk result (Shows self.new.desk (turn_of self.old.desk.known (moment_of (C.last self.new.clock) self.old.desk.moment) (calls.Take number shield packet.now))) }
+        ensures rest { (self.new.wire ≡ self.old.wire) × (self.new.fault ≡ self.old.fault) }
+    {
+        self.begin(alloc)?;
+        mip_mobility::take(alloc, &mut self.desk, number, shield, packet)
+    }
+
+    /// Time goes on, and due work is done.
+    pub fn tick(&mut self, alloc: Global) -> Result<Answers, StationFault>
+        ensures faulted { IfSome self.old.fault (λ fault. (result ≡ Err fault) × (self.new ≡ self.old)) }
+        ensures handles { IfOk result (λ answers. Handles W.gives self.old.desk.known (moment_of (C.last self.new.clock) self.old.desk.moment) calls.Tick (W.out self.old.wire) answers self.new.desk.known (W.out self.new.wire)) }
+        ensures well { OnOk result (self.new.fault ≡ None) }
+        ensures kept { IfErr result (λ fault. self.new.fault ≡ Some fault) }
+        ensures failed { self.old.fault ≡ None → IsErrOf result StationFault.Failed → Rose (W.faults self.old.wire) (W.faults self.new.wire) }
+        ensures wire { (W.faults self.old.wire ≤ W.faults self.new.wire) × W.is_same self.old.wire self.new.wire }
+    {
+        if let Some(fault) = self.fault {
+            return Err(fault);
+        }
+        let done = self.tick_desk(alloc);
+        self.finish(alloc, done)
+    }
+
+    #[tactic(auto, unfolding(mip_rules_mobile::specs::Doing::does))]
+    fn tick_desk(&mut self, alloc: Global) -> Result<(), Memory>
+        ensures shows { OnOk result (Shows self.new.desk (turn_of self.old.desk.known (moment_of (C.last self.new.clock) self.old.desk.moment) calls.Tick)) }
+        ensures rest { (self.new.wire ≡ self.old.wire) × (self.new.fault ≡ self.old.fault) }
+    {
+        self.begin(alloc)?;
+        mip_mobility::tick(alloc, &mut self.desk)
+    }
+
+    /// Sends data.
+    pub fn send(
+        &mut self,
+        alloc: Global,
+        to: Address,
+        proto: u8,
+        payload: &[u8],
+    ) -> Result<Answers, StationFault>
+        requires data { IsTrue (is_data proto) }
+        requires proto { IsFalse (names_no_body proto) }
+        requires short { length payload.now ≤ 512 }
+        ensures faulted { IfSome self.old.fault (λ fault. (result ≡ Err fault) × (self.new ≡ self.old)) }
+        ensures handles { IfOk result (λ answers. Handles W.gives self.old.desk.known (moment_of (C.last self.new.clock) self.old.desk.moment) (calls.Send to proto payload.now) (W.out self.old.wire) answers self.new.desk.known (W.out self.new.wire)) }
+        ensures well { OnOk result (self.new.fault ≡ None) }
+        ensures kept { IfErr result (λ fault. self.new.fault ≡ Some fault) }
+        ensures failed { self.old.fault ≡ None → IsErrOf result StationFault.Failed → Rose (W.faults self.old.wire) (W.faults self.new.wire) }
+        ensures wire { (W.faults self.old.wire ≤ W.faults self.new.wire) × W.is_same self.old.wire self.new.wire }
+    {
+        if let Some(fault) = self.fault {
+            return Err(fault);
+        }
+        let done = self.send_desk(alloc, to, proto, payload);
+        self.finish(alloc, done)
+    }
+
+    #[tactic(auto, unfolding(mip_rules_mobile::specs::Doing::does))]
+    fn send_desk(
+        &mut self,
+        alloc: Global,
+        to: Address,
+        proto: u8,
+        payload: &[u8],
+    ) -> Result<(), Memory>
+        requires data { IsTrue (is_data proto) }
+        requires proto { IsFalse (names_no_body proto) }
+        requires short { length payload.now ≤ 512 }
+        ensures shows { OnOk result (Shows self.new.desk (turn_of self.old.desk.known (moment_of (C.last self.new.clock) self.old.desk.moment) (calls.Send to proto payload.now))) }
+        ensures rest { (self.new.wire ≡ self.old.wire) × (self.new.fault ≡ self.old.fault) }
+    {
+        self.begin(alloc)?;
+        mip_mobility::send(alloc, &mut self.desk, to, proto, payload)
+    }
+
+    /// Asks for a Binding Refresh Request to a home.
+    pub fn refresh(&mut self, alloc: Global, home: Address) -> Result<Answers, StationFault>
+        ensures faulted { IfSome self.old.fault (λ fault. (result ≡ Err fault) × (self.new ≡ self.old)) }
+        ensures handles { IfOk result (λ answers. Handles W.gives self.old.desk.known (moment_of (C.last self.new.clock) self.old.desk.moment) (calls.Refresh home) (W.out self.old.wire) answers self.new.desk.known (W.out self.new.wire)) }
+        ensures well { OnOk result (self.new.fault ≡ None) }
+        ensures kept { IfErr result (λ fault. self.new.fault ≡ Some fault) }
+        ensures failed { self.old.fault ≡ None → IsErrOf result StationFault.Failed → Rose (W.faults self.old.wire) (W.faults self.new.wire) }
+        ensures wire { (W.faults self.old.wire ≤ W.faults self.new.wire) × W.is_same self.old.wire self.new.wire }
+    {
+        if let Some(fault) = self.fault {
+            return Err(fault);
+        }
+        let done = self.refresh_desk(alloc, home);
+        self.finish(alloc, done)
+    }
+
+    #[tactic(auto, unfolding(mip_rules_mobile::specs::Doing::does))]
+    fn refresh_desk(&mut self, alloc: Global, home: Address) -> Result<(), Memory>
+        ensures shows { OnOk result (Shows self.new.desk (turn_of self.old.desk.known (moment_of (C.last self.new.clock) self.old.desk.moment) (calls.Refresh home))) }
+        ensures rest { (self.new.wire ≡ self.old.wire) × (self.new.fault ≡ self.old.fault) }
+    {
+        self.begin(alloc)?;
+        mip_mobility::refresh(alloc, &mut self.desk, home)
+    }
+
+    /// Solicits the prefixes of its home link.
+    pub fn ask(&mut self, alloc: Global) -> Result<Answers, StationFault>
+        ensures faulted { IfSome self.old.fault (λ fault. (result ≡ Err fault) × (self.new ≡ self.old)) }
+        ensures handles { IfOk result (λ answers. Handles W.gives self.old.desk.known (moment_of (C.last self.new.clock) self.old.desk.moment) calls.Ask (W.out self.old.wire) answers self.new.desk.known (W.out self.new.wire)) }
+        ensures well { OnOk result (self.new.fault ≡ None) }
+        ensures kept { IfErr result (λ fault. self.new.fault ≡ Some fault) }
+        ensures failed { self.old.fault ≡ None → IsErrOf result StationFault.Failed → Rose (W.faults self.old.wire) (W.faults self.new.wire) }
+        ensures wire { (W.faults self.old.wire ≤ W.faults self.new.wire) × W.is_same self.old.wire self.new.wire }
+    {
+        if let Some(fault) = self.fault {
+            return Err(fault);
+        }
+        let done = self.ask_desk(alloc);
+        self.finish(alloc, done)
+    }
+
+    #[tactic(auto, unfolding(mip_rules_mobile::specs::Doing::does))]
+    fn ask_desk(&mut self, alloc: Global) -> Result<(), Memory>
+        ensures shows { OnOk result (Shows self.new.desk (turn_of self.old.desk.known (moment_of (C.last self.new.clock) self.old.desk.moment) calls.Ask)) }
+        ensures rest { (self.new.wire ≡ self.old.wire) × (self.new.fault ≡ self.old.fault) }
+    {
+        self.begin(alloc)?;
+        mip_mobility::ask(alloc, &mut self.desk)
+    }
+
+    /// Loses all that it keeps, and goes on with these secrets.
+    pub fn restart(&mut self, alloc: Global, secrets: Secrets) -> Result<Answers, StationFault>
+        ensures faulted { IfSome self.old.fault (λ fault. (result ≡ Err fault) × (self.new ≡ self.old)) }
+        ensures handles { IfOk result (λ answers. Handles W.gives self.old.desk.known (moment_of (C.last self.new.clock) self.old.desk.moment) (calls.Restart secrets) (W.out self.old.wire) answers self.new.desk.known (W.out self.new.wire)) }
+        ensures well { OnOk result (self.new.fault ≡ None) }
+        ensures kept { IfErr result (λ fault. self.new.fault ≡ Some fault) }
+        ensures failed { self.old.fault ≡ None → IsErrOf result StationFault.Failed → Rose (W.faults self.old.wire) (W.faults self.new.wire) }
+        ensures wire { (W.faults self.old.wire ≤ W.faults self.new.wire) × W.is_same self.old.wire self.new.wire }
+    {
+        if let Some(fault) = self.fault {
+            return Err(fault);
+        }
+        let done = self.restart_desk(alloc, secrets);
+        self.finish(alloc, done)
+    }
+
+    #[tactic(auto, unfolding(mip_rules_mobile::specs::Doing::does))]
+    fn restart_desk(&mut self, alloc: Global, secrets: Secrets) -> Result<(), Memory>
+        ensures shows { OnOk result (Shows self.new.desk (turn_of self.old.desk.known (moment_of (C.last self.new.clock) self.old.desk.moment) (calls.Restart secrets))) }
+        ensures rest { (self.new.wire ≡ self.old.wire) × (self.new.fault ≡ self.old.fault) }
+    {
+        self.begin(alloc)?;
+        mip_mobility::restart(alloc, &mut self.desk, secrets)
+    }
+
+    /// Sends a packet from its home address.
+    pub fn tunnel(&mut self, alloc: Global, inner: &[u8]) -> Result<Answers, StationFault>
+        requires { 40 ≤ length inner.now }
+        ensures faulted { IfSome self.old.fault (λ fault. (result ≡ Err fault) × (self.new ≡ self.old)) }
+        ensures handles { IfOk result (λ answers. Handles W.gives self.old.desk.known (moment_of (C.last self.new.clock) self.old.desk.moment) (calls.Tunnel inner.now) (W.out self.old.wire) answers self.new.desk.known (W.out self.new.wire)) }
+        ensures well { OnOk result (self.new.fault ≡ None) }
+        ensures kept { IfErr result (λ fault. self.new.fault ≡ Some fault) }
+        ensures failed { self.old.fault ≡ None → IsErrOf result StationFault.Failed → Rose (W.faults self.old.wire) (W.faults self.new.wire) }
+        ensures wire { (W.faults self.old.wire ≤ W.faults self.new.wire) × W.is_same self.old.wire self.new.wire }
+    {
+        if let Some(fault) = self.fault {
+            return Err(fault);
+        }
+        let done = self.tunnel_desk(alloc, inner);
+        self.finish(alloc, done)
+    }
+
+    #[tactic(auto, unfolding(mip_rules_mobile::specs::Doing::does))]
+    fn tunnel_desk(&mut self, alloc: Global, inner: &[u8]) -> Result<(), Memory>
+        requires { 40 ≤ length inner.now }
+        ensures shows { OnOk result (Shows self.new.desk (turn_of self.old.desk.known (moment_of (C.last self.new.clock) self.old.desk.moment) (calls.Tunnel inner.now))) }
+        ensures rest { (self.new.wire ≡ self.old.wire) × (self.new.fault ≡ self.old.fault) }
+    {
+        self.begin(alloc)?;
+        mip_mobility::tunnel(alloc, &mut self.desk, inner)
+    }
+}
