@@ -1,6 +1,6 @@
 -- Rules about the messages of a peer, by what the desk knows.
-use Rattle.std.proofs.Common.{◌≡◌, ℕ, suc, ◌+◌, ◌-◌, ◌<◌, List, refl, sym, ap, ◌∙◌, arith}
-use Rattle.std.specs.Prelude.{Option, Some, None, Result, Ok, Bool, ◌&&◌, ◌==◌, not, is_some, if◌then◌else◌}
+use Rattle.std.proofs.Common.{◌≡◌, ℕ, suc, ◌+◌, ◌-◌, ◌<◌, ◌≤◌, zero, List, refl, sym, ap, ◌∙◌, arith}
+use Rattle.std.specs.Prelude.{Option, Some, None, Result, Ok, Err, Bool, ◌&&◌, ◌==◌, not, is_some, if◌then◌else◌}
 use Rattle.mip_words.specs.declared.address.Address.{Address}
 use Rattle.mip_words.specs.declared.why.Why.TheVariants as whys
 use Rattle.mip_bulist.specs.declared.list_full.ListFull.{ListFull}
@@ -19,6 +19,11 @@ pub meets-by : (peer : Address) (t : Turn) (k : Known) (o : Result ℕ ListFull)
 unfolding meets
 meets-by peer t k o known is =
     ap (λ (r : Result ℕ ListFull). begins_at r (noted (Meets peer) t)) (is ∙ ap (λ (l : Known). given_row peer l.list.rows) (sym known))
+
+pub meets-nobody : (peer : Address) (t : Turn) (k : Known) (full : ListFull) → t.known ≡ k → given_row peer k.list.rows ≡ Err full → noted (Meets peer) t ≡ meets peer t
+unfolding meets
+meets-nobody peer t k full known is =
+    ap (λ (r : Result ℕ ListFull). begins_at r (noted (Meets peer) t)) (sym is ∙ ap (λ (l : Known). given_row peer l.list.rows) (sym known))
 
 abbrev pub may_begin : Known → ℕ → ℕ → Bool
 may_begin k now row = is_idle (trial_of k row) && (not (is_bound_row k now row) && is_some (registration_of k now))
@@ -94,3 +99,8 @@ pub each-step : (rule : ℕ → Turn → Turn) (row : ℕ) (t : Turn) → row < 
 each-step rule row t below =
     let more : 16 - row ≡ suc (16 - (row + 1)) = omega (arith, below) in
     ap (λ (n : ℕ). each_from rule n row t) more
+
+pub each-done : (rule : ℕ → Turn → Turn) (row : ℕ) (t : Turn) → 16 ≤ row → each_from rule (16 - row) row t ≡ t
+each-done rule row t done =
+    let none : 16 - row ≡ zero = omega (arith, done) in
+    ap (λ (n : ℕ). each_from rule n row t) none

@@ -57,10 +57,10 @@ fn ack_row(
         → OnOk result (Shows desk.new (acks_trial number row (home_of desk.old.known) ack.now.status ack.now.sequence ack.now.lifetime ack.now.authenticator ack.now.message.now (trial_of desk.old.known row) t)) }
 {
     let home = desk.home();
-    let now = desk.moment();
+    let sent = desk.sent_at(row);
     match desk.trial(row) {
         Some(Any::Pending(trial)) if acknowledges(home, ack, trial) => {
-            let waiting = Waiting::of(trial, now);
+            let waiting = Waiting::of(trial, sent);
             take_peer_ack(alloc, desk, row, &waiting, ack)
         }
         _ => desk.drop_packet(number, Why::Ack),

@@ -2,7 +2,6 @@
 #![tactic(auto)]
 
 mod acks;
-mod doubling;
 mod missing;
 mod packets;
 mod peer_ack;

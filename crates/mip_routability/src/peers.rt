@@ -1,6 +1,6 @@
 //! What a mobile does about the messages of a peer (RFC 6275 sections 11.3.5, 11.6.2 and 11.7.4).
 
-ghost use Rattle.std.specs.Prelude.{◌≡◌, ◌==◌, ◌&&◌, not, is_some, Ok, OnOk, option_copied};
+ghost use Rattle.std.specs.Prelude.{◌≡◌, ◌==◌, ◌&&◌, not, is_some, Ok, OnOk};
 ghost use Rattle.mip_rules_mobile.specs.HomeQuestions.{home_of, registration_of};
 ghost use Rattle.mip_rules_mobile.specs.RowQuestions.{trial_of, is_bound_row};
 ghost use Rattle.mip_rules_mobile.specs.Trials.{is_idle};
@@ -43,14 +43,14 @@ fn may_begin(desk: &Desk, row: u8) -> bool
         && (not (is_bound_row desk.now.known desk.now.moment row) && is_some (registration_of desk.now.known desk.now.moment))) }
 {
     let is_registered = desk.registered_agent().is_some();
-    is_idle(desk.trial(row)) && !desk.is_bound_row(row) && is_registered
+    is_idle(desk, row) && !desk.is_bound_row(row) && is_registered
 }
 
-/// Whether no test of a trial is under way and no update of it waits or stands.
-pub fn is_idle(trial: Option<&Any>) -> bool
-    ensures { result ≡ is_idle (option_copied trial) }
+/// Whether the trial of a row is idle.
+pub fn is_idle(desk: &Desk, row: u8) -> bool
+    ensures { result ≡ is_idle (trial_of desk.now.known row) }
 {
-    matches!(trial, Some(Any::Idle(_)))
+    matches!(desk.trial(row), Some(Any::Idle(_)))
 }
 
 /// Away, a Home Test comes through the tunnel, and a Care-of Test does not.

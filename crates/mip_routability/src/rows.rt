@@ -38,7 +38,7 @@ fn start_if_unbound(alloc: Global, desk: &mut Desk, row: u8) -> Result<(), Memor
 fn is_due(desk: &Desk, row: u8) -> bool
     ensures { result ≡ (is_touched_row desk.now.known row && (is_idle (trial_of desk.now.known row) && not (is_bound_row desk.now.known desk.now.moment row))) }
 {
-    desk.is_touched_row(row) && is_idle(desk.trial(row)) && !desk.is_bound_row(row)
+    desk.is_touched_row(row) && is_idle(desk, row) && !desk.is_bound_row(row)
 }
 
 /// Each touched row starts a trial to delete its binding.

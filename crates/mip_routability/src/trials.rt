@@ -11,12 +11,11 @@ ghost use Rattle.mip_rules_mobile.specs.Steps.{Sends};
 ghost use Rattle.mip_rules_mobile.specs.Turns.{Turn, noted};
 ghost use Rattle.mip_desk.specs.Seen.{Shows};
 
-use crate::doubling::doubled;
 use crate::missing::Missing;
 use crate::packets::write_update;
 use mip_bulist::{Aim, Any, Made, Refused};
 use mip_constants::{INITIAL_BINDACK_TIMEOUT, MAX_BINDACK_TIMEOUT};
-use mip_desk::{Desk, ask_home};
+use mip_desk::{Desk, ask_home, doubled};
 use mip_rules_mobile::Standing;
 use mip_signals::write_careof_init;
 use mip_words::{Address, Cookie, Memory};

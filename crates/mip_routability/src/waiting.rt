@@ -1,3 +1,6 @@
+ghost use Rattle.std.specs.Prelude.{◌≡◌, ℕ};
+ghost use Rattle.std.specs.Option.{option_map_or};
+ghost use Rattle.mip_rules_mobile.specs.Trials.{sent_at};
 ghost use Rattle.mip_routability.specs.Waits.{IsOf};
 
 use mip_bulist::{Pending, Trial};
@@ -14,13 +17,14 @@ pub struct Waiting {
 }
 
 impl Waiting {
-    pub fn of(trial: &Trial<Pending>, now: Moment) -> Waiting
-        ensures { IsOf result now.0 trial.now }
+    pub fn of(trial: &Trial<Pending>, sent: Moment) -> Waiting
+        ensures trial { (now : ℕ) → sent.0 ≡ option_map_or (λ m. m.0) (sent_at trial.now) now → IsOf result now trial.now }
+        ensures sent { result.sent ≡ sent }
     {
         Waiting {
             peer: trial.peer(),
             binds_to: trial.binds_to(),
-            sent: trial.sent_at().unwrap_or(now),
+            sent,
         }
     }
 }
