@@ -3,99 +3,126 @@
 ghost use Rattle.std.specs.Prelude.{◌≡◌, ◌≤◌, OnOk, IsTrue, IsFalse, length};
 ghost use Rattle.mip_ipv6.specs.Packet.{names_no_body};
 ghost use Rattle.mip_rules_correspondent.specs.Rules.{is_data};
+ghost use Rattle.mip_ipv6.specs.Reading.{packet_of};
 ghost use Rattle.mip_rules_mobile.specs.Calls as calls;
+ghost use Rattle.mip_rules_mobile.specs.Sendings.{is_mobility};
 ghost use Rattle.mip_rules_mobile.specs.Doing.{handles};
 ghost use Rattle.mip_rules_mobile.specs.Turns.{Turn};
 ghost use Rattle.mip_desk.specs.Seen.{Shows};
 
-use mip_desk::Desk;
+use crate::handed::Handed;
+use crate::moving::{self, detach};
+use crate::receiving::take_bytes;
+use crate::ringing::ring_all;
+use crate::sending::transmit;
+use mip_constants::protocol::MOBILITY_HEADER;
+use mip_desk::{Desk, ask_refresh, go_out};
+use mip_ipv6::read_packet;
 use mip_nonce::Secrets;
 use mip_outside::Claim;
-use mip_words::{Address, Memory, Prefix, Shield};
+use mip_registration::solicit;
+use mip_words::{Address, Bytes, Memory, Prefix, Shield};
 use std::alloc::Global;
 
 /// A router advertises a prefix. The claims are what its place would answer: to a claim of the home address, and to one of the
 /// address that the mobile has under this prefix.
 pub fn attach(
-    _alloc: Global,
-    _desk: &mut Desk,
-    _prefix: Prefix,
-    _of_home: Claim,
-    _of_address: Claim,
+    alloc: Global,
+    desk: &mut Desk,
+    prefix: Prefix,
+    of_home: Claim,
+    of_address: Claim,
 ) -> Result<(), Memory>
-    ensures { (t : Turn) → Shows _desk.old t → OnOk result (Shows _desk.new (handles (calls.Attach _prefix.0 _of_home _of_address) t)) }
+    ensures { (t : Turn) → Shows desk.old t → OnOk result (Shows desk.new (handles (calls.Attach prefix.0 of_home of_address) t)) }
 {
-    Err(Memory)
+    moving::attach(alloc, desk, prefix, of_home, of_address)
 }
 
 /// It leaves its link.
-pub fn leave(_desk: &mut Desk, _of_home: Claim) -> Result<(), Memory>
-    ensures { (t : Turn) → Shows _desk.old t → OnOk result (Shows _desk.new (handles (calls.Leave _of_home) t)) }
+pub fn leave(desk: &mut Desk, of_home: Claim) -> Result<(), Memory>
+    ensures { (t : Turn) → Shows desk.old t → OnOk result (Shows desk.new (handles (calls.Leave of_home) t)) }
 {
-    Err(Memory)
+    detach(desk, of_home)
 }
 
 /// A packet is handed to it, by its number, its shield and its bytes.
 pub fn take(
-    _alloc: Global,
-    _desk: &mut Desk,
-    _number: u64,
-    _shield: Option<Shield>,
-    _packet: &[u8],
+    alloc: Global,
+    desk: &mut Desk,
+    number: u64,
+    shield: Option<Shield>,
+    packet: &[u8],
 ) -> Result<(), Memory>
-    ensures { (t : Turn) → Shows _desk.old t → OnOk result (Shows _desk.new (handles (calls.Take _number _shield _packet.now) t)) }
+    ensures { (t : Turn) → Shows desk.old t → OnOk result (Shows desk.new (handles (calls.Take number shield packet.now) t)) }
 {
-    Err(Memory)
+    let handed = Handed {
+        number,
+        shield,
+        tunnelled: false,
+    };
+    take_bytes(alloc, desk, &handed, packet)
 }
 
 /// Time goes on, and due work is done.
-pub fn tick(_alloc: Global, _desk: &mut Desk) -> Result<(), Memory>
-    ensures { (t : Turn) → Shows _desk.old t → OnOk result (Shows _desk.new (handles calls.Tick t)) }
+pub fn tick(alloc: Global, desk: &mut Desk) -> Result<(), Memory>
+    ensures { (t : Turn) → Shows desk.old t → OnOk result (Shows desk.new (handles calls.Tick t)) }
 {
-    Err(Memory)
+    ring_all(alloc, desk)
 }
 
 /// It is asked to send data.
 pub fn send(
-    _alloc: Global,
-    _desk: &mut Desk,
-    _to: Address,
-    _proto: u8,
-    _payload: &[u8],
+    alloc: Global,
+    desk: &mut Desk,
+    to: Address,
+    proto: u8,
+    payload: &[u8],
 ) -> Result<(), Memory>
-    requires data { IsTrue (is_data _proto) }
-    requires proto { IsFalse (names_no_body _proto) }
-    requires short { length _payload.now ≤ 512 }
-    ensures { (t : Turn) → Shows _desk.old t → OnOk result (Shows _desk.new (handles (calls.Send _to _proto _payload.now) t)) }
+    requires data { IsTrue (is_data proto) }
+    requires proto { IsFalse (names_no_body proto) }
+    requires short { length payload.now ≤ 512 }
+    ensures { (t : Turn) → Shows desk.old t → OnOk result (Shows desk.new (handles (calls.Send to proto payload.now) t)) }
 {
-    Err(Memory)
+    transmit(alloc, desk, to, proto, payload)
 }
 
 /// It is asked for a Binding Refresh Request to a home.
-pub fn refresh(_alloc: Global, _desk: &mut Desk, _home: Address) -> Result<(), Memory>
-    ensures { (t : Turn) → Shows _desk.old t → OnOk result (Shows _desk.new (handles (calls.Refresh _home) t)) }
+pub fn refresh(alloc: Global, desk: &mut Desk, home: Address) -> Result<(), Memory>
+    ensures { (t : Turn) → Shows desk.old t → OnOk result (Shows desk.new (handles (calls.Refresh home) t)) }
 {
-    Err(Memory)
+    ask_refresh(alloc, desk, home)
 }
 
 /// It is asked to solicit the prefixes of its home link.
-pub fn ask(_alloc: Global, _desk: &mut Desk) -> Result<(), Memory>
-    ensures { (t : Turn) → Shows _desk.old t → OnOk result (Shows _desk.new (handles calls.Ask t)) }
+pub fn ask(alloc: Global, desk: &mut Desk) -> Result<(), Memory>
+    ensures { (t : Turn) → Shows desk.old t → OnOk result (Shows desk.new (handles calls.Ask t)) }
 {
-    Err(Memory)
+    solicit(alloc, desk)
 }
 
 /// It loses all that it keeps, and goes on with these secrets.
-pub fn restart(_alloc: Global, _desk: &mut Desk, _secrets: Secrets) -> Result<(), Memory>
-    ensures { (t : Turn) → Shows _desk.old t → OnOk result (Shows _desk.new (handles (calls.Restart _secrets) t)) }
+pub fn restart(alloc: Global, desk: &mut Desk, secrets: Secrets) -> Result<(), Memory>
+    ensures { (t : Turn) → Shows desk.old t → OnOk result (Shows desk.new (handles (calls.Restart secrets) t)) }
 {
-    Err(Memory)
+    moving::restart(alloc, desk, secrets)
+}
+
+/// Whether a packet carries a mobility message.
+fn is_signal(packet: &[u8]) -> bool
+    ensures { result ≡ is_mobility (packet_of packet.now) }
+{
+    match read_packet(packet) {
+        Ok(packet) => packet.head.proto == MOBILITY_HEADER,
+        Err(_) => false,
+    }
 }
 
 /// It is asked to send a packet from its home address while it is away.
-pub fn tunnel(_alloc: Global, _desk: &mut Desk, _inner: &[u8]) -> Result<(), Memory>
-    requires { 40 ≤ length _inner.now }
-    ensures { (t : Turn) → Shows _desk.old t → OnOk result (Shows _desk.new (handles (calls.Tunnel _inner.now) t)) }
+pub fn tunnel(alloc: Global, desk: &mut Desk, inner: &[u8]) -> Result<(), Memory>
+    requires { 40 ≤ length inner.now }
+    ensures { (t : Turn) → Shows desk.old t → OnOk result (Shows desk.new (handles (calls.Tunnel inner.now) t)) }
 {
-    Err(Memory)
+    let is_signal = is_signal(inner);
+    let packet = Bytes::copy(alloc, inner)?;
+    go_out(alloc, desk, is_signal, packet)
 }

@@ -1,6 +1,16 @@
 //! What a mobile node does about each call (RFC 6275 section 11), as rules over the desk of the call.
 #![tactic(auto)]
 
+mod ack;
+mod acknowledged;
 mod calls;
+mod handed;
+mod icmp;
+mod moving;
+mod receiving;
+mod ringing;
+mod roles;
+mod sending;
+mod tunnelled;
 
 pub use calls::{ask, attach, leave, refresh, restart, send, take, tick, tunnel};

@@ -1,1 +1,2 @@
 pub mod HomeShows
+pub mod Seeking

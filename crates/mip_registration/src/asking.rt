@@ -10,7 +10,7 @@ ghost use Rattle.mip_desk.specs.Seen.{Shows};
 
 use crate::packets::write_solicitation;
 use mip_desk::Desk;
-use mip_icmp::PrefixInfo;
+use mip_icmp::{IcmpOptions, PrefixInfo};
 use mip_rules_mobile::Standing;
 use mip_words::{Address, Memory, Shield, Why};
 use std::alloc::Global;
@@ -62,7 +62,7 @@ fn is_from_agent(shield: Option<Shield>, agent: Option<Address>) -> bool
 }
 
 /// A prefix is learnt from the agent alone.
-pub fn learn(
+fn learn(
     desk: &mut Desk,
     number: u64,
     right: bool,
@@ -74,4 +74,17 @@ pub fn learn(
         Some(prefix) if right => desk.learn(prefix.valid, prefix.preferred),
         _ => desk.drop_packet(number, Why::Icmp),
     }
+}
+
+/// A Mobile Prefix Advertisement: what it says of the prefix is learnt where it comes from the agent.
+pub fn take_prefix_reply(
+    desk: &mut Desk,
+    number: u64,
+    shield: Option<Shield>,
+    options: &IcmpOptions<'_>,
+) -> Result<(), Memory>
+    ensures { (t : Turn) → Shows desk.old t → OnOk result (Shows desk.new (takes_prefix_reply number shield (set_of options.now) t)) }
+{
+    let right = is_from_agent(shield, desk.agent());
+    learn(desk, number, right, options.prefix)
 }

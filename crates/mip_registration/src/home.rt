@@ -3,10 +3,11 @@
 ghost use Rattle.std.specs.Prelude.{◌≡◌, ◌<◌, ◌+◌, ◌^◌, OnOk, Some, IfSome, if◌then◌else◌};
 ghost use Rattle.mip_rules_mobile.specs.declared.standing.Standing.TheVariants.{AtHome, Away};
 ghost use Rattle.mip_rules_mobile.specs.Turns.{Turn};
-ghost use Rattle.mip_rules_mobile.specs.HomeRules.{seeks, registers_with, deregisters_with, deregisters_at, wait_behind, registers, resends_as, resends_home, is_behind, turns_to, is_refused};
+ghost use Rattle.mip_rules_mobile.specs.HomeRules.{seeks, seeks_again, seeks_again_at, seeks_again_from, registers_with, deregisters_with, deregisters_at, wait_behind, registers, resends_as, resends_home, is_behind, turns_to, is_refused};
 ghost use Rattle.mip_rules_mobile.specs.HomeQuestions.{agent_of};
 ghost use Rattle.mip_rules_mobile.specs.MovingRules.{settles};
 ghost use Rattle.mip_desk.specs.Seen.{Shows};
+ghost use Rattle.mip_discovery.specs.Retries.{DiscoverySeen, retried};
 
 use crate::packets::{write_deregistration, write_discovery, write_registration};
 use mip_bulist::Work;
@@ -224,4 +225,46 @@ fn undo(alloc: Global, desk: &mut Desk) -> Result<(), Memory>
     } else {
         Ok(())
     }
+}
+
+/// A discovery goes on: the request again, or the end of the discovery after the last time.
+pub fn seek_again(alloc: Global, desk: &mut Desk) -> Result<(), Memory>
+    ensures { (t : Turn) → Shows desk.old t → OnOk result (Shows desk.new (seeks_again t)) }
+{
+    match desk.standing() {
+        Standing::Detached => Ok(()),
+        Standing::AtHome => Ok(()),
+        Standing::Away { careof } => seek_again_from(alloc, desk, careof),
+    }
+}
+
+fn seek_again_from(alloc: Global, desk: &mut Desk, careof: Address) -> Result<(), Memory>
+    ensures { (t : Turn) → Shows desk.old t → OnOk result (Shows desk.new (seeks_again_at (Away careof) desk.old.known.discovery t)) }
+{
+    match desk.discovery() {
+        Some(identifier) => seek_once_more(alloc, desk, careof, identifier),
+        None => Ok(()),
+    }
+}
+
+/// The request again, with its identifier, or the end of the discovery after the last time.
+fn seek_once_more(
+    alloc: Global,
+    desk: &mut Desk,
+    careof: Address,
+    identifier: u16,
+) -> Result<(), Memory>
+    ensures { (d : DiscoverySeen) (t : Turn) → desk.old.known.discovery ≡ Some d → Shows desk.old t
+        → OnOk result (Shows desk.new (seeks_again_from careof (retried desk.old.moment d) identifier t)) }
+{
+    let packet = write_discovery(alloc, desk.home(), careof, identifier)?;
+    desk.seek_again();
+    match desk.discovery_wait() {
+        Some(wait) => {
+            desk.put(None, packet)?;
+            desk.wait_own(SEEKING, wait);
+        }
+        None => desk.give_up(),
+    }
+    Ok(())
 }

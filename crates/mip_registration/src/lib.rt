@@ -7,9 +7,9 @@ mod moving;
 mod packets;
 mod ringing;
 
-pub use asking::{learn, solicit};
+pub use asking::{solicit, take_prefix_reply};
 pub use home::{
-    catch_up, deregister, register, register_with, resend_home, seek, settle, turn_away,
+    catch_up, deregister, register, register_with, resend_home, seek, seek_again, settle, turn_away,
 };
 pub use moving::{address_under, arrive};
 pub use ringing::{end_home, renew_home};

@@ -1,0 +1,4 @@
+pub mod Desks
+pub mod Rounds
+pub mod Named
+pub mod Inner

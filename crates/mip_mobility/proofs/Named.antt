@@ -1,0 +1,66 @@
+-- The agents that a reply names.
+use Rattle.std.proofs.Common.{◌≡◌, ℕ, zero, suc, ◌+◌, ◌*◌, List, [], ◌∷◌, ◌++◌, drop, refl, sym, ap, ◌∙◌, arith}
+use Rattle.std.specs.Prelude.{Option, Some, None, slice_get}
+use Rattle.std.proofs.lemmas.List.{drop-drop}
+use Rattle.mip_words.specs.Numbers.{number_at}
+use Rattle.mip_words.specs.Addresses.{address_at}
+use Rattle.mip_words.specs.declared.address.Address.{Address}
+use Rattle.mip_turns.specs.Turns.{noted_by}
+use Rattle.mip_rules_mobile.specs.declared.standing.Standing.{Standing}
+use Rattle.mip_rules_mobile.specs.declared.standing.Standing.TheVariants.{Detached, AtHome, Away}
+use Rattle.mip_rules_mobile.specs.DiscoveryQuestions.{next_found}
+use Rattle.mip_rules_mobile.specs.Known.{Known}
+use Rattle.mip_rules_mobile.specs.Questions.{after}
+use Rattle.mip_rules_mobile.specs.Steps.{Finds, Stops}
+use Rattle.mip_rules_mobile.specs.TimerQuestions.{seeking}
+use Rattle.mip_rules_mobile.specs.IcmpRules.{addresses_of, drops_icmp, finds}
+use Rattle.mip_rules_mobile.specs.Turns.{Turn, noted}
+
+-- the address behind so many bytes
+address-behind : (n : ℕ) (bytes : List ℕ) → address_at 0 (drop n bytes) ≡ address_at n bytes
+unfolding number_at
+address-behind n bytes = refl
+
+address-further : (n m : ℕ) (bytes : List ℕ) → address_at m (drop n bytes) ≡ address_at (n + m) bytes
+address-further n m bytes =
+    sym (address-behind m (drop n bytes)) ∙ ap (λ (b : List ℕ). address_at 0 b) (drop-drop m n bytes) ∙ address-behind (n + m) bytes
+
+addresses-more : (n : ℕ) (bytes : List ℕ) → addresses_of (suc n) bytes ≡ addresses_of n bytes ++ address_at (16 * n) bytes ∷ []
+addresses-more zero bytes = refl
+addresses-more (suc n) bytes =
+    let e : 16 + 16 * n ≡ 16 * suc n = omega arith in
+    ap (λ (l : List Address). address_at 0 bytes ∷ l) (addresses-more n (drop 16 bytes))
+    ∙ ap (λ (a : Address). address_at 0 bytes ∷ (addresses_of n (drop 16 bytes) ++ a ∷ []))
+    (address-further 16 (16 * n) bytes ∙ ap (λ (k : ℕ). address_at k bytes) e)
+
+pub addresses_next : (n : ℕ) (bytes : List ℕ) → addresses_of (n + 1) bytes ≡ addresses_of n bytes ++ address_at (16 * n) bytes ∷ []
+addresses_next n bytes = let more : n + 1 ≡ suc n = omega arith in ap (λ (k : ℕ). addresses_of k bytes) more ∙ addresses-more n bytes
+
+-- the first agent that was named is the next one to be tried
+found-first : (first : Address) (others : List Address) (t : Turn) → next_found (noted (Stops seeking) (noted (Finds (first ∷ others)) t)).known ≡ Some first
+unfolding after noted_by
+found-first first others t = refl
+
+pub first-found : (first : Address) (others agents : List Address) (t : Turn) (k : Known) (o : Option Address) → agents ≡ first ∷ others
+    → (noted (Stops seeking) (noted (Finds agents) t)).known ≡ k → o ≡ next_found k → o ≡ Some first
+first-found first others agents t k o is known found =
+    found ∙ ap (λ (l : Known). next_found l) (sym known)
+    ∙ ap (λ (l : List Address). next_found (noted (Stops seeking) (noted (Finds l) t)).known) is
+    ∙ found-first first others t
+
+pub same_first : (a b : Address) → Some a ≡ Some b → a ≡ b
+same_first a b is = cc
+
+pub not-none : (a : Address) (P : Type 0) → None ≡ Some a → P
+not-none a P is = absurd cc
+
+-- where there is a first one there are some
+pub has-first : (agents : List Address) (first : Address) → slice_get agents 0 ≡ Some first → (others : List Address) × (agents ≡ first ∷ others)
+has-first [] first is = absurd cc
+has-first (a ∷ agents) first is = (agents, cc)
+
+pub finds-none : (number : ℕ) (s : Standing) (agents : List Address) (t : Turn) → slice_get agents 0 ≡ None → finds number s agents t ≡ drops_icmp number t
+finds-none number Detached agents t is = refl
+finds-none number AtHome agents t is = refl
+finds-none number (Away careof) [] t is = refl
+finds-none number (Away careof) (a ∷ agents) t is = absurd cc

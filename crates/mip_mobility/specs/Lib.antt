@@ -1,0 +1,2 @@
+pub mod Inners
+pub mod Rounds

@@ -1,0 +1,149 @@
+//! What a mobile does about an acknowledgement of its agent (RFC 6275 sections 11.7.3 and 11.5.5).
+
+ghost use Rattle.std.specs.Prelude.{◌≡◌, ◌<◌, ◌^◌, IfSome, OnOk};
+ghost use Rattle.mip_updates.specs.Statuses.{accepts_it};
+ghost use Rattle.mip_rules_mobile.specs.HomeRules.{is_answered_at, is_answer_to, answered_by, home_answered, is_registered, is_unregistered, is_accepted, takes_home_ack};
+ghost use Rattle.mip_rules_mobile.specs.Turns.{Turn};
+ghost use Rattle.mip_desk.specs.Seen.{Shows};
+
+use crate::ack::Ack;
+use crate::handed::Handed;
+use mip_bulist::Work;
+use mip_constants::LIFETIME_UNIT;
+use mip_desk::{Desk, RESENDING};
+use mip_registration::{catch_up, turn_away};
+use mip_routability::{start_deletions, start_unbound};
+use mip_rules_mobile::{HomeUpdate, Standing};
+use mip_updates::status::SEQUENCE_OUT_OF_WINDOW;
+use mip_words::{Address, Memory, Moment};
+use std::alloc::Global;
+
+/// For each unit of its lifetime, a registration is renewed so many milliseconds after its sending.
+const REFRESH_UNIT: u64 = 3000;
+
+/// At home only a deregistration is answered.
+fn is_answered_at(standing: Standing, update: &HomeUpdate) -> bool
+    ensures { result ≡ is_answered_at standing update.now }
+{
+    match standing {
+        Standing::Detached => false,
+        Standing::AtHome => update.deletes,
+        Standing::Away { .. } => true,
+    }
+}
+
+/// An acknowledgement of the last home registration or deregistration: in no tunnel, protected, from its agent, with its
+/// sequence or status 135.
+fn is_answer_to(
+    standing: Standing,
+    handed: &Handed,
+    source: Address,
+    ack: &Ack,
+    update: &HomeUpdate,
+) -> bool
+    ensures { result ≡ is_answer_to standing handed.now.tunnelled handed.now.shield source ack.now.status ack.now.sequence update.now }
+{
+    !handed.tunnelled
+        && handed.shield.is_some()
+        && source.0 == update.agent.0
+        && (ack.sequence == update.sequence || ack.status == SEQUENCE_OUT_OF_WINDOW)
+        && is_answered_at(standing, update)
+}
+
+fn answered_by(
+    standing: Standing,
+    handed: &Handed,
+    source: Address,
+    ack: &Ack,
+    latest: Option<HomeUpdate>,
+) -> Option<HomeUpdate>
+    requires { IfSome latest (λ u. u.at.0 < 2 ^ 62) }
+    ensures value { result ≡ answered_by standing handed.now.tunnelled handed.now.shield source ack.now.status ack.now.sequence latest }
+    ensures early { IfSome result (λ u. u.at.0 < 2 ^ 62) }
+{
+    match latest {
+        Some(update) if is_answer_to(standing, handed, source, ack, &update) => Some(update),
+        _ => None,
+    }
+}
+
+/// The home registration or deregistration that an acknowledgement answers.
+pub fn answered(desk: &Desk, handed: &Handed, source: Address, ack: &Ack) -> Option<HomeUpdate>
+    ensures value { result ≡ home_answered desk.now.known handed.now.tunnelled handed.now.shield source ack.now.status ack.now.sequence }
+    ensures early { IfSome result (λ u. u.at.0 < 2 ^ 62) }
+{
+    answered_by(desk.standing(), handed, source, ack, desk.latest())
+}
+
+/// The registration: its end is counted from the sending, and so is its renewal.
+#[tactic(auto, unfolding(mip_rules_mobile::specs::HomeRules::is_registered))]
+fn registered(
+    alloc: Global,
+    desk: &mut Desk,
+    update: &HomeUpdate,
+    lifetime: u16,
+) -> Result<(), Memory>
+    requires { update.now.at.0 < 2 ^ 62 }
+    ensures { (t : Turn) → Shows desk.old t → OnOk result (Shows desk.new (is_registered update.now lifetime t)) }
+{
+    desk.stop(Work::Own(RESENDING));
+    let end = Moment(update.at.0 + LIFETIME_UNIT * lifetime as u64);
+    let renew = Moment(update.at.0 + REFRESH_UNIT * lifetime as u64);
+    desk.register(update.agent, end, renew)?;
+    start_unbound(alloc, desk)
+}
+
+/// Once deregistered, each touched row starts a trial to delete its binding.
+#[tactic(auto, unfolding(mip_rules_mobile::specs::HomeRules::is_unregistered))]
+fn unregistered(alloc: Global, desk: &mut Desk, update: &HomeUpdate) -> Result<(), Memory>
+    ensures { (t : Turn) → Shows desk.old t → OnOk result (Shows desk.new (is_unregistered update.now t)) }
+{
+    desk.stop(Work::Own(RESENDING));
+    desk.unregister(update.agent)?;
+    start_deletions(alloc, desk)
+}
+
+fn accepted(
+    alloc: Global,
+    desk: &mut Desk,
+    update: &HomeUpdate,
+    status: u8,
+    lifetime: u16,
+) -> Result<(), Memory>
+    requires { update.now.at.0 < 2 ^ 62 }
+    ensures { (t : Turn) → Shows desk.old t → OnOk result (Shows desk.new (is_accepted update.now status lifetime t)) }
+{
+    if update.deletes {
+        return unregistered(alloc, desk, update);
+    }
+    if lifetime == 0 {
+        return turn_away(alloc, desk, status);
+    }
+    registered(alloc, desk, update, lifetime)
+}
+
+fn accepts(status: u8) -> bool
+    ensures { result ≡ accepts_it status }
+{
+    status < 128
+}
+
+/// What an agent answers.
+#[tactic(auto, unfolding(mip_rules_mobile::specs::HomeRules::takes_home_ack))]
+pub fn take_home_ack(
+    alloc: Global,
+    desk: &mut Desk,
+    update: &HomeUpdate,
+    ack: &Ack,
+) -> Result<(), Memory>
+    requires { update.now.at.0 < 2 ^ 62 }
+    ensures { (t : Turn) → Shows desk.old t → OnOk result (Shows desk.new (takes_home_ack update.now ack.now.status ack.now.sequence ack.now.lifetime t)) }
+{
+    if accepts(ack.status) {
+        return accepted(alloc, desk, update, ack.status, ack.lifetime);
+    }
+    if ack.status == SEQUENCE_OUT_OF_WINDOW {
+        return catch_up(alloc, desk, *update, ack.sequence);
+    }
+    turn_away(alloc, desk, ack.status)
+}

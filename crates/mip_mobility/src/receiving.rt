@@ -1,0 +1,140 @@
+//! What a mobile does about a packet that it is handed (RFC 6275 sections 9.2, 9.3.1, 11.3.3 and 11.3.4).
+
+ghost use Rattle.std.specs.Prelude.{◌≡◌, ◌≤◌, ◌<◌, ◌-◌, ◌^◌, List, ℕ, length, OnOk, IsTrue, false, Ok, option_map};
+ghost use Rattle.mip_words.specs.Numbers.{number_at};
+ghost use Rattle.mip_ipv6.specs.Packet.{packet as tree, is_routable_if_any};
+ghost use Rattle.mip_mobhdr.specs.Said.{said};
+ghost use Rattle.mip_says.specs.Says.{message_in};
+ghost use Rattle.mip_reception.specs.Checks.{checked};
+ghost use Rattle.mip_rules_correspondent.specs.Rules.{place_in};
+ghost use Rattle.mip_rules_mobile.specs.ReceivingRules.{after_checks, is_address_of, is_routed, takes_route, standing_of, takes};
+ghost use Rattle.mip_rules_mobile.specs.Turns.{Turn};
+ghost use Rattle.mip_desk.specs.Seen.{Shows};
+
+use crate::handed::Handed;
+use crate::roles::take_role;
+use crate::tunnelled::{open, refuse};
+use mip_constants::protocol::IPV6;
+use mip_desk::Desk;
+use mip_ipv6::{Head, PacketRef, read_packet};
+use mip_mobhdr::Message;
+use mip_reception::{Standing as Checked, check, packet_why};
+use mip_rules_mobile::Standing;
+use mip_words::{Address, Memory, u16_at};
+use std::alloc::Global;
+
+/// Its address: the home address at home, the care-of address away.
+fn is_address_of(standing: Standing, home: Address, address: Address) -> bool
+    ensures { result ≡ is_address_of standing home address }
+{
+    match standing {
+        Standing::Detached => false,
+        Standing::AtHome => address.0 == home.0,
+        Standing::Away { careof } => address.0 == careof.0,
+    }
+}
+
+fn is_routed(home: Address, route: Option<Address>) -> bool
+    ensures { result ≡ is_routed home route }
+{
+    match route {
+        Some(route) => route.0 == home.0,
+        None => false,
+    }
+}
+
+/// Away, a routing header may name the home address.
+fn takes_route(standing: Standing, home: Address, route: Option<Address>) -> bool
+    ensures { result ≡ takes_route standing home route }
+{
+    match standing {
+        Standing::Detached => false,
+        Standing::AtHome => false,
+        Standing::Away { .. } => is_routed(home, route),
+    }
+}
+
+/// What a packet's addresses are to the mobile.
+fn standing_of(desk: &Desk, head: &Head) -> Checked
+    ensures { result ≡ standing_of desk.now.known desk.now.moment head.now }
+{
+    let standing = desk.standing();
+    let home = desk.home();
+    Checked {
+        is_mine: is_address_of(standing, home, head.destination),
+        takes_route: takes_route(standing, home, head.route),
+        holds: desk.holds_option(head.source, head.home),
+    }
+}
+
+/// A packet that passed the checks: a tunnel is opened.
+fn take_passed(
+    alloc: Global,
+    desk: &mut Desk,
+    handed: &Handed,
+    packet: &PacketRef<'_>,
+    message: &Option<Message<'_>>,
+) -> Result<(), Memory>
+    requires plain { IsTrue (is_routable_if_any packet.now.head.home) }
+    requires short { length packet.now.body.now ≤ 65535 }
+    requires read { message_in (tree packet.now) ≡ option_map said message.now }
+    requires straight { handed.now.tunnelled ≡ false }
+    ensures { (bytes : List ℕ) (t : Turn) → Shows desk.old t → OnOk result (Shows desk.new (after_checks handed.now.number handed.now.shield bytes (tree packet.now) (Ok (option_map said message.now)) t)) }
+{
+    if packet.head.proto == IPV6 {
+        open(alloc, desk, handed, packet)
+    } else {
+        take_role(alloc, desk, handed, packet, message)
+    }
+}
+
+/// A packet that was read is checked.
+fn take_packet(
+    alloc: Global,
+    desk: &mut Desk,
+    handed: &Handed,
+    bytes: &[u8],
+    packet: &PacketRef<'_>,
+) -> Result<(), Memory>
+    requires plain { IsTrue (is_routable_if_any packet.now.head.home) }
+    requires short { length packet.now.body.now ≤ 65535 }
+    requires placed { packet.now.place ≡ place_in bytes.now (tree packet.now) }
+    requires near { packet.now.place < 2 ^ 32 - 1 }
+    requires straight { handed.now.tunnelled ≡ false }
+    ensures { (t : Turn) → Shows desk.old t → OnOk result (Shows desk.new
+        (after_checks handed.now.number handed.now.shield bytes.now (tree packet.now)
+        (checked (standing_of desk.old.known desk.old.moment packet.now.head) (place_in bytes.now (tree packet.now)) (tree packet.now)) t)) }
+{
+    match check(packet, standing_of(desk, &packet.head)) {
+        Err(refusal) => refuse(alloc, desk, handed.number, bytes, packet.head.source, refusal),
+        Ok(message) => take_passed(alloc, desk, handed, packet, &message),
+    }
+}
+
+/// Payload Length.
+fn payload_length(bytes: &[u8]) -> u16
+    requires { 40 ≤ length bytes.now }
+    ensures { result ≡ number_at 2 4 bytes.now }
+{
+    u16_at(bytes, 4)
+}
+
+/// A packet is handed to it.
+#[tactic(auto, using(mip_correspondent::proofs::Receivings::home_routable, mip_correspondent::proofs::Receivings::place_is))]
+pub fn take_bytes(
+    alloc: Global,
+    desk: &mut Desk,
+    handed: &Handed,
+    bytes: &[u8],
+) -> Result<(), Memory>
+    requires straight { handed.now.tunnelled ≡ false }
+    ensures { (t : Turn) → Shows desk.old t → OnOk result (Shows desk.new (takes handed.now.number handed.now.shield bytes.now t)) }
+{
+    match read_packet(bytes) {
+        Err(fault) => desk.drop_packet(handed.number, packet_why(fault)),
+        Ok(packet) => {
+            let _length = payload_length(bytes);
+            take_packet(alloc, desk, handed, bytes, &packet)
+        }
+    }
+}

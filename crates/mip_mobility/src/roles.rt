@@ -1,0 +1,213 @@
+//! What a mobile does about a packet that passed the checks (RFC 6275 sections 11.3.3 to 11.3.6, 11.6.2 and 11.7.3).
+
+ghost use Rattle.std.specs.Prelude.{◌≡◌, ◌≤◌, length, OnOk, IsTrue, Some, option_map};
+ghost use Rattle.mip_ipv6.specs.Packet.{packet as tree, is_routable_if_any};
+ghost use Rattle.mip_mobhdr.specs.Said.{said};
+ghost use Rattle.mip_options.specs.Values.{values};
+ghost use Rattle.mip_says.specs.Says.{message_in};
+ghost use Rattle.mip_rules_correspondent.specs.Rules.{is_data, is_for_part};
+ghost use Rattle.mip_rules_mobile.specs.ReceivingRules.{then_meets, takes_for_part, takes_ack, by_proto, by_message, by_role};
+ghost use Rattle.mip_rules_mobile.specs.Turns.{Turn};
+ghost use Rattle.mip_desk.specs.Seen.{Shows};
+
+use crate::ack::Ack;
+use crate::acknowledged::{answered, take_home_ack};
+use crate::handed::Handed;
+use crate::icmp::take_icmp;
+use mip_constants::protocol::{ICMPV6, IPV6, MOBILITY_HEADER, NO_NEXT_HEADER};
+use mip_desk::{Desk, Heard, ask_part};
+use mip_ipv6::PacketRef;
+use mip_mobhdr::Message;
+use mip_options::Options;
+use mip_routability::{
+    PeerAck, meet, take_ack_of, take_careof_test, take_error, take_home_test, take_refresh,
+};
+use mip_words::{Memory, Why};
+use std::alloc::Global;
+
+/// Data is what is neither a tunnel, nor ICMPv6, nor nothing, nor a mobility message.
+fn is_data(proto: u8) -> bool
+    ensures { result ≡ is_data proto }
+{
+    proto != IPV6 && proto != ICMPV6 && proto != NO_NEXT_HEADER && proto != MOBILITY_HEADER
+}
+
+/// What is for the correspondent part.
+fn is_for_part(proto: u8, message: &Option<Message<'_>>) -> bool
+    ensures { result ≡ is_for_part proto (option_map said message.now) }
+{
+    match message {
+        None => is_data(proto),
+        Some(Message::HomeInit { .. } | Message::CareofInit { .. } | Message::Update { .. }) =>
+            true,
+        Some(_) => false,
+    }
+}
+
+/// After data from a tunnel its peer is met.
+fn then_meet(
+    alloc: Global,
+    desk: &mut Desk,
+    meets: bool,
+    packet: &PacketRef<'_>,
+) -> Result<(), Memory>
+    ensures { (t : Turn) → Shows desk.old t → OnOk result (Shows desk.new (then_meets meets (tree packet.now) t)) }
+{
+    if meets {
+        meet(alloc, desk, packet.head.sender())
+    } else {
+        Ok(())
+    }
+}
+
+/// The correspondent part is given the packet; after data from a tunnel its peer is met.
+#[tactic(auto, unfolding(mip_rules_mobile::specs::ReceivingRules::takes_for_part))]
+fn take_for_part(
+    alloc: Global,
+    desk: &mut Desk,
+    handed: &Handed,
+    packet: &PacketRef<'_>,
+    message: &Option<Message<'_>>,
+) -> Result<(), Memory>
+    requires kind { IsTrue (is_for_part packet.now.head.proto (message_in (tree packet.now))) }
+    requires plain { IsTrue (is_routable_if_any packet.now.head.home) }
+    ensures { (t : Turn) → Shows desk.old t → OnOk result (Shows desk.new (takes_for_part handed.now.number handed.now.tunnelled (tree packet.now) (option_map said message.now) t)) }
+{
+    ask_part(alloc, desk, handed.number, packet)?;
+    let meets = handed.tunnelled && message.is_none();
+    then_meet(alloc, desk, meets, packet)
+}
+
+/// What is no packet for anybody: ICMPv6 that is not understood, nothing, a tunnel in a tunnel.
+fn take_other(
+    alloc: Global,
+    desk: &mut Desk,
+    handed: &Handed,
+    packet: &PacketRef<'_>,
+) -> Result<(), Memory>
+    requires { length packet.now.body.now ≤ 65535 }
+    ensures { (t : Turn) → Shows desk.old t → OnOk result (Shows desk.new (by_proto handed.now.number handed.now.shield (tree packet.now) t)) }
+{
+    let proto = packet.head.proto;
+    if proto == ICMPV6 {
+        return take_icmp(alloc, desk, handed.number, handed.shield, packet);
+    }
+    if proto == NO_NEXT_HEADER {
+        return desk.drop_packet(handed.number, Why::NoNext);
+    }
+    desk.drop_packet(handed.number, Why::Role)
+}
+
+/// An acknowledgement is first one of the agent, then one of a peer.
+fn take_ack(
+    alloc: Global,
+    desk: &mut Desk,
+    handed: &Handed,
+    packet: &PacketRef<'_>,
+    ack: &Ack,
+    options: &Options<'_>,
+) -> Result<(), Memory>
+    ensures { (t : Turn) → Shows desk.old t → OnOk result (Shows desk.new
+        (takes_ack handed.now.number handed.now.tunnelled handed.now.shield (tree packet.now) ack.now.status ack.now.sequence ack.now.lifetime (values options.now) t)) }
+{
+    let source = packet.head.sender();
+    match answered(desk, handed, source, ack) {
+        Some(update) => take_home_ack(alloc, desk, &update, ack),
+        None => {
+            let of_peer = PeerAck {
+                status: ack.status,
+                sequence: ack.sequence,
+                lifetime: ack.lifetime,
+                authenticator: options.authorization,
+                message: packet.body,
+            };
+            take_ack_of(alloc, desk, handed.number, source, &of_peer)
+        }
+    }
+}
+
+/// A mobility message that is not for the correspondent part.
+fn take_message(
+    alloc: Global,
+    desk: &mut Desk,
+    handed: &Handed,
+    packet: &PacketRef<'_>,
+    message: &Message<'_>,
+) -> Result<(), Memory>
+    ensures { (t : Turn) → Shows desk.old t → OnOk result (Shows desk.new (by_message handed.now.number handed.now.tunnelled handed.now.shield (tree packet.now) (Some (said message.now)) t)) }
+{
+    let number = handed.number;
+    let peer = packet.head.sender();
+    match *message {
+        Message::HomeTest {
+            index,
+            cookie,
+            token,
+            ..
+        } => {
+            let test = Heard {
+                peer,
+                cookie,
+                index,
+                token,
+            };
+            take_home_test(alloc, desk, number, handed.tunnelled, &test)
+        }
+        Message::CareofTest {
+            index,
+            cookie,
+            token,
+            ..
+        } => {
+            let test = Heard {
+                peer,
+                cookie,
+                index,
+                token,
+            };
+            take_careof_test(alloc, desk, number, handed.tunnelled, &test)
+        }
+        Message::Acknowledgement {
+            status,
+            sequence,
+            lifetime,
+            options,
+            ..
+        } => {
+            let ack = Ack {
+                status,
+                sequence,
+                lifetime,
+            };
+            take_ack(alloc, desk, handed, packet, &ack, &options)
+        }
+        Message::Error { status, home, .. } => take_error(desk, number, peer, status, home),
+        Message::Refresh { .. } => take_refresh(alloc, desk, number, peer),
+        Message::HomeInit { .. } | Message::CareofInit { .. } | Message::Update { .. } => {
+            desk.drop_packet(number, Why::Role)
+        }
+    }
+}
+
+/// A packet that has passed the checks, and is no tunnel packet.
+#[tactic(auto, unfolding(mip_rules_mobile::specs::ReceivingRules::by_role))]
+pub fn take_role(
+    alloc: Global,
+    desk: &mut Desk,
+    handed: &Handed,
+    packet: &PacketRef<'_>,
+    message: &Option<Message<'_>>,
+) -> Result<(), Memory>
+    requires plain { IsTrue (is_routable_if_any packet.now.head.home) }
+    requires short { length packet.now.body.now ≤ 65535 }
+    requires read { message_in (tree packet.now) ≡ option_map said message.now }
+    ensures { (t : Turn) → Shows desk.old t → OnOk result (Shows desk.new (by_role handed.now.number handed.now.tunnelled handed.now.shield (tree packet.now) (option_map said message.now) t)) }
+{
+    if is_for_part(packet.head.proto, message) {
+        return take_for_part(alloc, desk, handed, packet, message);
+    }
+    match message {
+        Some(message) => take_message(alloc, desk, handed, packet, message),
+        None => take_other(alloc, desk, handed, packet),
+    }
+}
