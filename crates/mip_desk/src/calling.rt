@@ -62,7 +62,10 @@ impl Desk {
         ensures answers { IfOk result (λ a. a ≡ answers_of (turn_at self.old.known.part self.old.moment (parts.Send to proto payload.now)).steps) }
         ensures pass { IfOk result (λ a. AllByRecursion CanPass a) }
     {
-        let answers = self.known.part.send(alloc, self.moment, to, proto, payload)?;
+        let answers = self
+            .known
+            .part
+            .send(alloc, self.moment, to, proto, payload)?;
         Ok(answers)
     }
 }

@@ -25,4 +25,4 @@ pub use doubling::doubled;
 pub use heard::Heard;
 pub use kept::Kept;
 pub use out::{ask_home, go_out};
-pub use part::{ask_data, ask_part, ask_refresh, reply};
+pub use part::{ask_data, ask_part, ask_refresh, is_mobility, reply};

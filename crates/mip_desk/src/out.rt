@@ -107,12 +107,7 @@ pub fn go_out(
 }
 
 /// A Home Test Init goes out from the home address.
-pub fn ask_home(
-    alloc: Global,
-    desk: &mut Desk,
-    peer: Address,
-    cookie: Cookie,
-) -> Result<(), Memory>
+pub fn ask_home(alloc: Global, desk: &mut Desk, peer: Address, cookie: Cookie) -> Result<(), Memory>
     ensures { (t : Turn) → Shows desk.old t → OnOk result (Shows desk.new (goes_out (AsksHome peer cookie.0) t)) }
 {
     let packet = write_home_init(alloc, desk.home(), peer, cookie)?;

@@ -1,8 +1,7 @@
 //! The correspondent part, and what goes back to the source of a refused packet.
 
-ghost use Rattle.std.specs.Prelude.{◌≡◌, ◌≤◌, ◌==◌, ℕ, length, OnOk, IfOk, IsTrue, IsFalse};
+ghost use Rattle.std.specs.Prelude.{◌≡◌, ◌≤◌, length, OnOk, IsTrue, IsFalse};
 ghost use Rattle.std.specs.List.{AllByRecursion};
-ghost use Rattle.mip_constants.specs.Protocols.{mobility_header};
 ghost use Rattle.mip_tunnel.specs.Tunnel.{hop_of};
 ghost use Rattle.mip_ipv6.specs.Packet.{packet as tree, is_routable_if_any, names_no_body};
 ghost use Rattle.mip_ipv6.specs.Reading.{packet_of};
@@ -10,8 +9,7 @@ ghost use Rattle.mip_says.specs.Says.{message_in};
 ghost use Rattle.mip_rules_correspondent.specs.Calls as parts;
 ghost use Rattle.mip_rules_correspondent.specs.Rules.{is_data, is_for_part};
 ghost use Rattle.mip_rules_mobile.specs.Sendings.{OfPart, is_mobility};
-ghost use Rattle.mip_rules_mobile.specs.OutRules.{passes_on, passes_all, asks_part, goes_back, replies};
-ghost use Rattle.mip_rules_mobile.specs.OutRules.{goes_out};
+ghost use Rattle.mip_rules_mobile.specs.OutRules.{goes_out, passes_on, passes_all, asks_part, replies};
 ghost use Rattle.mip_rules_mobile.specs.Turns.{Turn};
 ghost use Rattle.mip_desk.specs.Seen.{Shows};
 ghost use Rattle.mip_desk.specs.Outgoing.{CanPass};
@@ -26,7 +24,7 @@ use mip_words::{Address, Bytes, Memory};
 use std::alloc::Global;
 
 /// Whether a packet carries a mobility message.
-fn is_mobility(packet: &[u8]) -> bool
+pub fn is_mobility(packet: &[u8]) -> bool
     ensures { result ≡ is_mobility (packet_of packet.now) }
 {
     match read_packet(packet) {

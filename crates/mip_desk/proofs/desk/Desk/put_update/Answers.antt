@@ -3,6 +3,7 @@ use Rattle.std.proofs.lemmas.List.{append_assoc}
 use Rattle.std.specs.Prelude.{None}
 use Rattle.mip_entries.specs.declared.answer.Answer.{Answer}
 use Rattle.mip_entries.specs.declared.answer.Answer.TheVariants.{Send, Note}
+use Rattle.mip_entries.specs.declared.entry.Entry.{Entry}
 use Rattle.mip_entries.specs.declared.entry.Entry.TheVariants as entries
 use Rattle.mip_bulist.specs.Lists.{ListSeen}
 use Rattle.mip_rules_mobile.specs.declared.peer.Peer.{Peer}
@@ -38,7 +39,7 @@ returns c = λ t packet shows.
     let made : Answer = Note (entries.Made myself c.args.peer 0 c.args.made.now.home c.args.made.now.careof) in
     shown (Updates c.args.row u) c.args.self.now c.self.inside.moment.0 (seen c.self.inside.known) _ c.self.inside.answers c.push-2.new.self t c.self.view_is
     (c.in_ok-push-2.ensures.ok
-    ∙ ap (λ (l : List Answer). l ++ Send None c.args.packet ∷ []) c.in_ok-push.ensures.ok
+    ∙ ap (λ (l : List Answer). l ++ Send None c.args.packet ∷ []) (c.in_ok-push.ensures.ok ∙ ap (λ (e : Entry). c.self.inside.answers ++ Note e ∷ []) c.made_entry.ensures)
     ∙ append_assoc c.self.inside.answers (made ∷ []) (Send None c.args.packet ∷ [])
     ∙ ap (λ (p : List ℕ). c.self.inside.answers ++ made ∷ Send None p ∷ []) packet)
     (ap (λ (p : List Peer). record (seen c.self.inside.known) { list = c.make-made.new.list; peers = p }) c.touch.ensures
