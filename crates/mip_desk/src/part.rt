@@ -15,7 +15,7 @@ ghost use Rattle.mip_desk.specs.Seen.{Shows};
 ghost use Rattle.mip_desk.specs.Outgoing.{CanPass};
 
 use crate::desk::Desk;
-use crate::out::go_out;
+use crate::outgoing::go_out;
 use mip_constants::protocol::MOBILITY_HEADER;
 use mip_entries::{Answer, Answers};
 use mip_ipv6::{PacketRef, read_packet};
