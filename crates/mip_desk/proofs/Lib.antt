@@ -1,3 +1,7 @@
-pub mod Noted
-pub mod Rows
 pub mod Early
+pub mod Entering
+pub mod Lengths
+pub mod Noted
+pub mod Outs
+pub mod PartSteps
+pub mod Rows

@@ -1,3 +1,4 @@
 pub mod Seen
 pub mod Mine
+pub mod Outgoing
 pub mod Early

@@ -73,7 +73,10 @@ impl Desk {
         ensures shows { (call : Call) → OnOk result (Shows self.new (noted (Called call) (begun now.0 self.old.known))) }
         ensures home { OnOk result (home_of self.new.known ≡ home_of self.old.known) }
     {
-        Err(Memory)
+        self.answers = Answers::new(alloc)?;
+        self.moment = now;
+        self.known.last = now;
+        Ok(())
     }
 
     /// The answers of a call that has ended.

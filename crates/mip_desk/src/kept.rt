@@ -82,4 +82,15 @@ impl Kept {
             peers: [FRESH_PEER; 16],
         })
     }
+
+    /// What a new life of a mobile begins with: it has its home address, its declared agent and where it stands from the last.
+    pub fn again(&self, alloc: Global, secrets: Secrets) -> Result<Kept, Memory>
+        ensures known { IfOk result (λ k. seen k ≡ record (fresh self.now.home self.now.declared secrets) { last = self.now.last; standing = self.now.standing }) }
+        ensures home { IfOk result (λ k. k.home ≡ self.now.home) }
+    {
+        let mut kept = Kept::new(alloc, self.home, self.declared, secrets)?;
+        kept.last = self.last;
+        kept.standing = self.standing;
+        Ok(kept)
+    }
 }

@@ -2,13 +2,14 @@
 #![tactic(auto)]
 
 mod agents;
+mod calling;
 mod desk;
 mod doubling;
 mod heard;
 mod kept;
 mod moving;
 mod numberings;
-mod out;
+mod outgoing;
 mod part;
 mod peers;
 mod reading;
@@ -23,5 +24,5 @@ pub use desk::{Desk, ENDING, RENEWING, RESENDING, SEEKING};
 pub use doubling::doubled;
 pub use heard::Heard;
 pub use kept::Kept;
-pub use out::{ask_home, go_out};
-pub use part::{ask_data, ask_part, ask_refresh, reply};
+pub use outgoing::{ask_home, go_out};
+pub use part::{ask_data, ask_part, ask_refresh, is_mobility, reply};

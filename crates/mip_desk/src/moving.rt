@@ -6,9 +6,7 @@ ghost use Rattle.mip_rules_mobile.specs.Turns.{Turn, noted};
 ghost use Rattle.mip_desk.specs.Seen.{Shows};
 
 use crate::desk::{Desk, MYSELF};
-use crate::kept::{FRESH_PEER, HOMES};
 use crate::peers;
-use mip_correspondent::Correspondent;
 use mip_entries::{Answer, Entry};
 use mip_nonce::Secrets;
 use mip_rules_mobile::Standing;
@@ -31,6 +29,9 @@ impl Desk {
     pub fn restart(&mut self, alloc: Global, secrets: Secrets) -> Result<(), Memory>
         ensures { (t : Turn) → Shows self.old t → OnOk result (Shows self.new (noted (Restarts secrets) t)) }
     {
-        Err(Memory)
+        self.answers
+            .push(Answer::Note(Entry::Restarted { node: MYSELF }))?;
+        self.known = self.known.again(alloc, secrets)?;
+        Ok(())
     }
 }

@@ -1,66 +1,125 @@
 //! The correspondent part, and what goes back to the source of a refused packet.
 
 ghost use Rattle.std.specs.Prelude.{◌≡◌, ◌≤◌, length, OnOk, IsTrue, IsFalse};
+ghost use Rattle.std.specs.List.{AllByRecursion};
+ghost use Rattle.mip_tunnel.specs.Tunnel.{hop_of};
 ghost use Rattle.mip_ipv6.specs.Packet.{packet as tree, is_routable_if_any, names_no_body};
+ghost use Rattle.mip_ipv6.specs.Reading.{packet_of};
 ghost use Rattle.mip_says.specs.Says.{message_in};
 ghost use Rattle.mip_rules_correspondent.specs.Calls as parts;
 ghost use Rattle.mip_rules_correspondent.specs.Rules.{is_data, is_for_part};
-ghost use Rattle.mip_rules_mobile.specs.OutRules.{asks_part, replies};
+ghost use Rattle.mip_rules_mobile.specs.Sendings.{OfPart, is_mobility};
+ghost use Rattle.mip_rules_mobile.specs.OutRules.{goes_out, passes_on, passes_all, asks_part, replies};
 ghost use Rattle.mip_rules_mobile.specs.Turns.{Turn};
 ghost use Rattle.mip_desk.specs.Seen.{Shows};
+ghost use Rattle.mip_desk.specs.Outgoing.{CanPass};
 
 use crate::desk::Desk;
-use mip_ipv6::PacketRef;
-use mip_reception::Reply;
-use mip_words::{Address, Memory};
+use crate::outgoing::go_out;
+use mip_constants::protocol::MOBILITY_HEADER;
+use mip_entries::{Answer, Answers};
+use mip_ipv6::{PacketRef, read_packet};
+use mip_reception::{Reply, write_reply};
+use mip_words::{Address, Bytes, Memory};
 use std::alloc::Global;
+
+/// Whether a packet carries a mobility message.
+pub fn is_mobility(packet: &[u8]) -> bool
+    ensures { result ≡ is_mobility (packet_of packet.now) }
+{
+    match read_packet(packet) {
+        Ok(read) => read.head.proto == MOBILITY_HEADER,
+        Err(_) => false,
+    }
+}
+
+/// A packet of the correspondent part, or one that goes back, goes out.
+fn go_out_of_part(alloc: Global, desk: &mut Desk, packet: Bytes) -> Result<(), Memory>
+    requires long { 40 ≤ length packet }
+    requires hop { 2 ≤ hop_of packet }
+    requires fits { length packet ≤ 65535 }
+    ensures { (t : Turn) → Shows desk.old t → OnOk result (Shows desk.new (goes_out (OfPart packet) t)) }
+{
+    let signals = is_mobility(packet.as_slice());
+    go_out(alloc, desk, signals, packet)
+}
+
+/// An answer of the correspondent part is passed on: it sends from the home address, and its entries are the mobile's.
+fn pass_on(alloc: Global, desk: &mut Desk, answer: Answer) -> Result<(), Memory>
+    requires { CanPass answer }
+    ensures { (t : Turn) → Shows desk.old t → OnOk result (Shows desk.new (passes_on answer t)) }
+{
+    match answer {
+        Answer::Send { shield: _, packet } => go_out_of_part(alloc, desk, packet),
+        Answer::Note(entry) => desk.note_entry(entry),
+    }
+}
+
+/// The answers of the correspondent part are passed on, in order.
+#[tactic(auto, unfolding(mip_rules_mobile::specs::OutRules::passes_all))]
+fn pass_all(alloc: Global, desk: &mut Desk, answers: Answers) -> Result<(), Memory>
+    requires { AllByRecursion CanPass answers }
+    ensures { (t : Turn) → Shows desk.old t → OnOk result (Shows desk.new (passes_all answers t)) }
+{
+    for answer in answers.into_vec() {
+        pass_on(alloc, desk, answer)?;
+    }
+    Ok(())
+}
 
 /// The correspondent part is given a packet that passed the checks, and what it answers goes out.
 pub fn ask_part(
-    _alloc: Global,
-    _desk: &mut Desk,
-    _number: u64,
-    _packet: &PacketRef<'_>,
+    alloc: Global,
+    desk: &mut Desk,
+    number: u64,
+    packet: &PacketRef<'_>,
 ) -> Result<(), Memory>
-    requires kind { IsTrue (is_for_part _packet.now.head.proto (message_in (tree _packet.now))) }
-    requires plain { IsTrue (is_routable_if_any _packet.now.head.home) }
-    ensures { (t : Turn) → Shows _desk.old t → OnOk result (Shows _desk.new (asks_part (parts.Part _number (tree _packet.now)) t)) }
+    requires kind { IsTrue (is_for_part packet.now.head.proto (message_in (tree packet.now))) }
+    requires plain { IsTrue (is_routable_if_any packet.now.head.home) }
+    ensures { (t : Turn) → Shows desk.old t → OnOk result (Shows desk.new (asks_part (parts.Part number (tree packet.now)) t)) }
 {
-    Err(Memory)
+    let answers = desk.give_part(alloc, number, packet)?;
+    pass_all(alloc, desk, answers)
 }
 
 /// The correspondent part is asked for a Binding Refresh Request to a home.
-pub fn ask_refresh(_alloc: Global, _desk: &mut Desk, _home: Address) -> Result<(), Memory>
-    ensures { (t : Turn) → Shows _desk.old t → OnOk result (Shows _desk.new (asks_part (parts.Refresh _home) t)) }
+pub fn ask_refresh(alloc: Global, desk: &mut Desk, home: Address) -> Result<(), Memory>
+    ensures { (t : Turn) → Shows desk.old t → OnOk result (Shows desk.new (asks_part (parts.Refresh home) t)) }
 {
-    Err(Memory)
+    let answers = desk.refresh_part(alloc, home)?;
+    pass_all(alloc, desk, answers)
 }
 
 /// The correspondent part is asked to send data.
 pub fn ask_data(
-    _alloc: Global,
-    _desk: &mut Desk,
-    _to: Address,
-    _proto: u8,
-    _payload: &[u8],
+    alloc: Global,
+    desk: &mut Desk,
+    to: Address,
+    proto: u8,
+    payload: &[u8],
 ) -> Result<(), Memory>
-    requires data { IsTrue (is_data _proto) }
-    requires proto { IsFalse (names_no_body _proto) }
-    requires short { length _payload.now ≤ 512 }
-    ensures { (t : Turn) → Shows _desk.old t → OnOk result (Shows _desk.new (asks_part (parts.Send _to _proto _payload.now) t)) }
+    requires data { IsTrue (is_data proto) }
+    requires proto { IsFalse (names_no_body proto) }
+    requires short { length payload.now ≤ 512 }
+    ensures { (t : Turn) → Shows desk.old t → OnOk result (Shows desk.new (asks_part (parts.Send to proto payload.now) t)) }
 {
-    Err(Memory)
+    let answers = desk.send_part(alloc, to, proto, payload)?;
+    pass_all(alloc, desk, answers)
 }
 
 /// What goes back to the source of a refused packet.
+#[tactic(auto, unfolding(mip_rules_mobile::specs::OutRules::replies))]
 pub fn reply(
-    _alloc: Global,
-    _desk: &mut Desk,
-    _source: Address,
-    _packet: &[u8],
-    _reply: Reply,
+    alloc: Global,
+    desk: &mut Desk,
+    source: Address,
+    packet: &[u8],
+    reply: Reply,
 ) -> Result<(), Memory>
-    ensures { (t : Turn) → Shows _desk.old t → OnOk result (Shows _desk.new (replies _source _packet.now _reply t)) }
+    ensures { (t : Turn) → Shows desk.old t → OnOk result (Shows desk.new (replies source packet.now reply t)) }
 {
-    Err(Memory)
+    match write_reply(alloc, desk.home(), source, packet, reply)? {
+        Some(packet) => go_out_of_part(alloc, desk, packet),
+        None => Ok(()),
+    }
 }

@@ -3,7 +3,8 @@
 ghost use Rattle.std.specs.Prelude.{◌≡◌, OnOk};
 ghost use Rattle.mip_rules_mobile.specs.HomeQuestions.{home_of};
 ghost use Rattle.mip_rules_mobile.specs.Sendings.{update_packet};
-ghost use Rattle.mip_rules_mobile.specs.Steps.{Updates};
+ghost use Rattle.mip_rules_mobile.specs.Steps.{Updates, myself};
+ghost use Rattle.mip_entries.specs.declared.entry.Entry.TheVariants as entries;
 ghost use Rattle.mip_rules_mobile.specs.Turns.{Turn, noted};
 ghost use Rattle.mip_desk.specs.Seen.{Shows};
 
@@ -26,6 +27,26 @@ impl Desk {
         ensures { (t : Turn) → packet ≡ update_packet (record { home = home_of self.old.known; source = source; peer = peer; made = made.now }) → Shows self.old t
             → OnOk result (Shows self.new (noted (Updates row (record { home = home_of self.old.known; source = source; peer = peer; made = made.now })) t)) }
     {
-        Err(Memory)
+        self.answers.push(Answer::Note(made_entry(peer, made)))?;
+        self.answers.push(Answer::Send {
+            shield: None,
+            packet,
+        })?;
+        let _made = trial::make(&mut self.known.list, row, self.moment);
+        peers::touch(&mut self.known.peers, row as usize);
+        Ok(())
+    }
+}
+
+/// The entry of an update that is made for a peer. A role writes 0 for the number of a packet that it sends next.
+fn made_entry(peer: Address, made: &Made) -> Entry
+    ensures { result ≡ entries.Made myself peer 0 made.now.home made.now.careof }
+{
+    Entry::Made {
+        node: MYSELF,
+        peer,
+        number: 0,
+        home: made.home,
+        careof: made.careof,
     }
 }

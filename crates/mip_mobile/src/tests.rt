@@ -259,15 +259,26 @@ fn first_other(
 }
 
 #[test]
-fn stored_runs_are_answered(rt: HostRuntime) -> Result<(), Fail> {
+fn a_handover_is_as_it_was_run(rt: HostRuntime) -> Result<(), Fail> {
     let alloc = rt.alloc();
-    let agent = Some(AGENT);
-    assert_eq!(rt; first_other(alloc, agent, &handover::HANDOVER)?, None);
-    assert_eq!(rt; first_other(alloc, agent, &handover::RELAYED)?, None);
-    assert_eq!(rt; first_other(alloc, agent, &refresh::REFRESHED)?, None);
-    assert_eq!(rt; first_other(alloc, agent, &home::RETURN_HOME)?, None);
-    assert_eq!(rt; first_other(alloc, agent, &home::RESENT)?, None);
-    assert_eq!(rt; first_other(alloc, agent, &restart::RESTARTED)?, None);
+    assert_eq!(rt; first_other(alloc, Some(AGENT), &handover::HANDOVER)?, None);
+    assert_eq!(rt; first_other(alloc, Some(AGENT), &handover::RELAYED)?, None);
+    assert_eq!(rt; first_other(alloc, Some(AGENT), &refresh::REFRESHED)?, None);
+    Ok(())
+}
+
+#[test]
+fn registrations_are_as_they_were_run(rt: HostRuntime) -> Result<(), Fail> {
+    let alloc = rt.alloc();
+    assert_eq!(rt; first_other(alloc, Some(AGENT), &home::RETURN_HOME)?, None);
+    assert_eq!(rt; first_other(alloc, Some(AGENT), &home::RESENT)?, None);
+    assert_eq!(rt; first_other(alloc, Some(AGENT), &restart::RESTARTED)?, None);
+    Ok(())
+}
+
+#[test]
+fn agents_are_found_as_they_were_in_a_run(rt: HostRuntime) -> Result<(), Fail> {
+    let alloc = rt.alloc();
     assert_eq!(rt; first_other(alloc, None, &agents::DISCOVERY)?, None);
     assert_eq!(rt; first_other(alloc, None, &agents::GIVEN_UP)?, None);
     assert_eq!(rt; first_other(alloc, None, &agents::REFUSED)?, None);

@@ -1,12 +1,17 @@
 //! Return routability of a mobile node (RFC 6275 sections 11.3.5, 11.3.6, 11.6 and 11.7), as rules over the desk of a call.
 #![tactic(auto)]
 
+mod acks;
+mod missing;
+mod packets;
 mod peer_ack;
 mod peers;
 mod rows;
 mod trials;
+mod waiting;
 
+pub use acks::take_ack_of;
 pub use peer_ack::PeerAck;
-pub use peers::{meet, take_ack_of, take_careof_test, take_error, take_home_test, take_refresh};
+pub use peers::{meet, take_careof_test, take_error, take_home_test, take_refresh};
 pub use rows::{start_deletions, start_unbound};
 pub use trials::{resend_row, start, update};

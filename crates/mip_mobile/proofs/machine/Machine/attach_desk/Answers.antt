@@ -16,5 +16,5 @@ returns-clause-shows g c = λ around answered.
     let k : Known = c.args.self.now.desk.known in
     let now : ℕ = moment_of (g.C.Clock.last c.begin.new.self.clock) c.args.self.now.desk.moment in
     let call : calls.Call = attach_at around (home_of k) c.args.prefix.0 in
-    subst (λ (u : Turn). OnOk c.attach.result (Shows c.attach.new._desk u)) (attach-turn around k now c.args.prefix.0 c.args.of_home c.args.of_address answered)
+    subst (λ (u : Turn). OnOk c.attach.result (Shows c.attach.new.desk u)) (attach-turn around k now c.args.prefix.0 c.args.of_home c.args.of_address answered)
     (c.attach.ensures (noted (Called call) (begun now k)) (c.in_ok-begin.ensures.shows call))

@@ -16,5 +16,5 @@ returns-clause-shows g c = λ around answered.
     let k : Known = c.args.self.now.desk.known in
     let now : ℕ = moment_of (g.C.Clock.last c.begin.new.self.clock) c.args.self.now.desk.moment in
     let call : calls.Call = leave_at around (home_of k) in
-    subst (λ (u : Turn). OnOk c.leave.result (Shows c.leave.new._desk u)) (leave-turn around k now c.args.of_home answered)
+    subst (λ (u : Turn). OnOk c.leave.result (Shows c.leave.new.desk u)) (leave-turn around k now c.args.of_home answered)
     (c.leave.ensures (noted (Called call) (begun now k)) (c.in_ok-begin.ensures.shows call))

@@ -1,0 +1,2 @@
+pub mod RowShows
+pub mod PeerShows

@@ -1,0 +1,177 @@
+//! What a mobile does about the acknowledgements of a peer (RFC 6275 section 11.7.3).
+
+ghost use Rattle.std.specs.Prelude.{◌≡◌, ◌<◌, ◌^◌, OnOk, Some};
+ghost use Rattle.mip_bulist.specs.declared.any.Any.TheVariants as any;
+ghost use Rattle.mip_bulist.specs.declared.state.Pending as pending;
+ghost use Rattle.mip_bulist.specs.declared.trial.Trial.{Trial};
+ghost use Rattle.mip_rules_mobile.specs.HomeQuestions.{home_of};
+ghost use Rattle.mip_rules_mobile.specs.RowQuestions.{trial_of};
+ghost use Rattle.mip_rules_mobile.specs.PeerRules.{tells_of_nonces, is_genuine, is_trusted, acknowledges, binds_from, ends_for, is_granted, takes_peer_ack, acks_trial, takes_ack_of};
+ghost use Rattle.mip_rules_mobile.specs.Turns.{Turn};
+ghost use Rattle.mip_desk.specs.Seen.{Shows};
+ghost use Rattle.mip_routability.specs.Waits.{IsOf};
+
+use crate::peer_ack::PeerAck;
+use crate::peers::rest;
+use crate::trials::{start, update};
+use crate::waiting::Waiting;
+use mip_bulist::{Any, Pending, Trial, Work};
+use mip_constants::{INITIAL_BINDACK_TIMEOUT, LIFETIME_UNIT};
+use mip_desk::Desk;
+use mip_tokens::authenticator;
+use mip_updates::status;
+use mip_words::{Address, Memory, Moment, Why};
+use std::alloc::Global;
+
+/// A binding is refreshed when three quarters of its lifetime have passed: for each unit of 4 s, after so many
+/// milliseconds.
+const REFRESH_UNIT: u64 = 3_000;
+
+/// An acknowledgement of a peer.
+pub fn take_ack_of(
+    alloc: Global,
+    desk: &mut Desk,
+    number: u64,
+    peer: Address,
+    ack: &PeerAck<'_>,
+) -> Result<(), Memory>
+    ensures { (t : Turn) → Shows desk.old t
+        → OnOk result (Shows desk.new (takes_ack_of number peer ack.now.status ack.now.sequence ack.now.lifetime ack.now.authenticator ack.now.message.now t)) }
+{
+    match desk.row_of(peer) {
+        Some(row) => ack_row(alloc, desk, number, row, ack),
+        None => desk.drop_packet(number, Why::Ack),
+    }
+}
+
+/// An acknowledgement for a row: of its trial's last update, or nobody's.
+fn ack_row(
+    alloc: Global,
+    desk: &mut Desk,
+    number: u64,
+    row: u8,
+    ack: &PeerAck<'_>,
+) -> Result<(), Memory>
+    requires { row < 16 }
+    ensures { (t : Turn) → Shows desk.old t
+        → OnOk result (Shows desk.new (acks_trial number row (home_of desk.old.known) ack.now.status ack.now.sequence ack.now.lifetime ack.now.authenticator ack.now.message.now (trial_of desk.old.known row) t)) }
+{
+    let home = desk.home();
+    let sent = desk.sent_at(row);
+    match desk.trial(row) {
+        Some(Any::Pending(trial)) if acknowledges(home, ack, trial) => {
+            let waiting = Waiting::of(trial, sent);
+            take_peer_ack(alloc, desk, row, &waiting, ack)
+        }
+        _ => desk.drop_packet(number, Why::Ack),
+    }
+}
+
+/// Expired nonce indices.
+fn tells_of_nonces(status: u8) -> bool
+    ensures { result ≡ tells_of_nonces status }
+{
+    status::EXPIRED_HOME_NONCE <= status && status <= status::EXPIRED_NONCES
+}
+
+/// The authenticator is that of the last update: between the address that it binds, where it deletes the home address,
+/// and the peer.
+fn is_genuine(home: Address, trial: &Trial<Pending>, message: &[u8]) -> bool
+    ensures { result ≡ is_genuine home trial.now message.now }
+{
+    let careof = trial.binds_to().unwrap_or(home);
+    let place = message.len().saturating_sub(12);
+    message[place..] == authenticator(&trial.last_made().kbm, careof, trial.peer(), message)[..]
+}
+
+/// It is authentic, or tells of expired nonces without an authenticator.
+fn is_trusted(home: Address, trial: &Trial<Pending>, ack: &PeerAck<'_>) -> bool
+    ensures { result ≡ is_trusted home trial.now ack.now.status ack.now.authenticator ack.now.message.now }
+{
+    match ack.authenticator {
+        Some(_) => is_genuine(home, trial, ack.message),
+        None => tells_of_nonces(ack.status),
+    }
+}
+
+/// An acknowledgement of the last update: trusted, with its sequence or status 135.
+fn acknowledges(home: Address, ack: &PeerAck<'_>, trial: &Trial<Pending>) -> bool
+    ensures { result ≡ acknowledges home ack.now.status ack.now.sequence ack.now.authenticator ack.now.message.now trial.now }
+{
+    is_trusted(home, trial, ack)
+        && (ack.sequence == trial.last_made().sequence
+            || ack.status == status::SEQUENCE_OUT_OF_WINDOW)
+}
+
+/// Status 135: the next sequence comes after the one received, and the sending follows at once; 136 to 138: the trial
+/// starts anew.
+fn take_peer_ack(
+    alloc: Global,
+    desk: &mut Desk,
+    row: u8,
+    waiting: &Waiting,
+    ack: &PeerAck<'_>,
+) -> Result<(), Memory>
+    requires range { row < 16 }
+    requires early { waiting.now.sent.0 < 2 ^ 62 }
+    ensures { (u : Trial pending.Pending) (t : Turn) → IsOf waiting.now t.now u → Shows desk.old t
+        → OnOk result (Shows desk.new (takes_peer_ack row u ack.now.status ack.now.sequence ack.now.lifetime t)) }
+{
+    if ack.status < 128 {
+        return grant(desk, row, waiting, ack.sequence, ack.lifetime);
+    }
+    if ack.status == status::SEQUENCE_OUT_OF_WINDOW {
+        desk.resequence_trial(row, ack.sequence);
+        return update(alloc, desk, row, INITIAL_BINDACK_TIMEOUT);
+    }
+    if tells_of_nonces(ack.status) {
+        return start(alloc, desk, row);
+    }
+    rest(desk, row);
+    Ok(())
+}
+
+/// The peer accepts: it has the binding, or has none any more.
+#[tactic(auto, unfolding(mip_rules_mobile::specs::PeerRules::is_granted))]
+fn grant(
+    desk: &mut Desk,
+    row: u8,
+    waiting: &Waiting,
+    sequence: u16,
+    lifetime: u16,
+) -> Result<(), Memory>
+    requires range { row < 16 }
+    requires early { waiting.now.sent.0 < 2 ^ 62 }
+    ensures { (u : Trial pending.Pending) (t : Turn) → IsOf waiting.now t.now u → Shows desk.old t → OnOk result (Shows desk.new (is_granted row u sequence lifetime t)) }
+{
+    desk.stop(Work::Resend(row));
+    desk.acknowledge_trial(row, sequence, lifetime);
+    end(desk, row, waiting, lifetime)
+}
+
+fn end(desk: &mut Desk, row: u8, waiting: &Waiting, lifetime: u16) -> Result<(), Memory>
+    requires range { row < 16 }
+    requires early { waiting.now.sent.0 < 2 ^ 62 }
+    ensures { (u : Trial pending.Pending) (t : Turn) → IsOf waiting.now t.now u → Shows desk.old t → OnOk result (Shows desk.new (ends_for waiting.now.binds_to u row lifetime t)) }
+{
+    match waiting.binds_to {
+        Some(_) if lifetime == 0 => Ok(()),
+        Some(_) => bind(desk, row, waiting, lifetime),
+        None => {
+            desk.forget(row);
+            Ok(())
+        }
+    }
+}
+
+/// The binding: its end is counted from the sending, and so is its renewal.
+fn bind(desk: &mut Desk, row: u8, waiting: &Waiting, lifetime: u16) -> Result<(), Memory>
+    requires range { row < 16 }
+    requires early { waiting.now.sent.0 < 2 ^ 62 }
+    ensures { (u : Trial pending.Pending) (t : Turn) → IsOf waiting.now t.now u → Shows desk.old t → OnOk result (Shows desk.new (binds_from u row lifetime t)) }
+{
+    let units = lifetime as u64;
+    let end = Moment(waiting.sent.0 + LIFETIME_UNIT * units);
+    let renew = Moment(waiting.sent.0 + REFRESH_UNIT * units);
+    desk.bind(row, waiting.peer, end, renew)
+}
