@@ -2,3 +2,4 @@ pub mod Desks
 pub mod Rounds
 pub mod Named
 pub mod Inner
+pub mod Fails

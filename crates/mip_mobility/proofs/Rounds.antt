@@ -24,6 +24,10 @@ each-next rule n t =
     let last : n + 0 ≡ n = omega arith in
     ap (λ (k : ℕ). each_from rule k 0 t) more ∙ each-more rule n 0 t ∙ ap (λ (k : ℕ). rule k (each_from rule n 0 t)) last
 
+pub ticks-none : (t : Turn) → ticks 0 t ≡ t
+unfolding ticks
+ticks-none t = refl
+
 -- after as many rounds as may be, one more
 tick-more : (n : ℕ) (t : Turn) → ticks (suc n) t ≡ rings_once (ticks n t)
 unfolding ticks
@@ -31,7 +35,7 @@ tick-more zero t = by (due_work (moment t.now) t.known.list.timers)
   where
     by : (work : Option Work) → rings_on (ticks 0) work t ≡ rings_on (λ u. u) work t
     by None = refl
-    by (Some work) = refl
+    by (Some work) = ticks-none (rings work t)
 tick-more (suc n) t = by (due_work (moment t.now) t.known.list.timers) refl
   where
     by : (work : Option Work) → due_work (moment t.now) t.known.list.timers ≡ work → rings_on (ticks (suc n)) work t ≡ rings_once (rings_on (ticks n) work t)

@@ -2,8 +2,11 @@ use Rattle.std.proofs.Common.{sym, subst}
 use Rattle.mip_rules_mobile.specs.RingingRules.{ticks}
 use Rattle.mip_rules_mobile.specs.Turns.{Turn}
 use Rattle.mip_desk.specs.Seen.{Shows}
-use Rattle.mip_mobility.proofs.Rounds.{tick-next}
+use Rattle.mip_mobility.proofs.Rounds.{ticks-none, tick-next}
 use Rattle.mip_mobility.proofs.ringing.ring_times.Goals as goal
+
+pub loop-round-init : goal.loop-round-init
+loop-round-init c = λ t shows. subst (λ (u : Turn). Shows c.args.desk.now u) (sym (ticks-none t)) shows
 
 pub loop-round-preserved : goal.loop-round-preserved
 loop-round-preserved c = λ t shows.
