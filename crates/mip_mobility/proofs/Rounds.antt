@@ -36,11 +36,12 @@ tick-more zero t = by (due_work (moment t.now) t.known.list.timers)
     by : (work : Option Work) → rings_on (ticks 0) work t ≡ rings_on (λ u. u) work t
     by None = refl
     by (Some work) = ticks-none (rings work t)
-tick-more (suc n) t = by (due_work (moment t.now) t.known.list.timers) refl
+tick-more (suc n) t = by (λ u. tick-more n u) (due_work (moment t.now) t.known.list.timers) refl
   where
-    by : (work : Option Work) → due_work (moment t.now) t.known.list.timers ≡ work → rings_on (ticks (suc n)) work t ≡ rings_once (rings_on (ticks n) work t)
-    by None is = ap (λ (w : Option Work). rings_on (λ u. u) w t) (sym is)
-    by (Some work) is = tick-more n (rings work t)
+    by : ((u : Turn) → ticks (suc n) u ≡ rings_once (ticks n u)) → (work : Option Work) → due_work (moment t.now) t.known.list.timers ≡ work
+        → rings_on (ticks (suc n)) work t ≡ rings_once (rings_on (ticks n) work t)
+    by more None is = ap (λ (w : Option Work). rings_on (λ u. u) w t) (sym is)
+    by more (Some work) is = more (rings work t)
 
 pub tick-next : (n : ℕ) (t : Turn) → ticks (n + 1) t ≡ rings_once (ticks n t)
 tick-next n t = let more : n + 1 ≡ suc n = omega arith in ap (λ (k : ℕ). ticks k t) more ∙ tick-more n t
