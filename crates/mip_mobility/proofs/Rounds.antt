@@ -1,7 +1,6 @@
 -- Rules that are done again and again.
 use Rattle.std.proofs.Common.{◌≡◌, ℕ, zero, suc, ◌+◌, refl, sym, ap, ◌∙◌, arith}
-use Rattle.std.specs.Prelude.{Bool, true, false, not, nat_lt, nat_le, if◌then◌else◌, Option, Some, None, is_some, List, [], ◌∷◌}
-use Rattle.std.proofs.lemmas.Bool.Decides.{nat_tests}
+use Rattle.std.specs.Prelude.{Bool, true, false, not, nat_lt, if◌then◌else◌, Option, Some, None, is_some, List, [], ◌∷◌}
 use Rattle.mip_words.specs.declared.moment.Moment.{Moment}
 use Rattle.mip_bulist.specs.declared.timer.Timer.{Timer}
 use Rattle.mip_bulist.specs.declared.work.Work.{Work}
@@ -47,9 +46,6 @@ same-work a b is = cc
 
 pub not-none : (a : Work) (P : Type 0) → None ≡ Some a → P
 not-none a P is = absurd cc
-
-pub le-not-lt : (a b : ℕ) → nat_le a b ≡ not (nat_lt b a)
-le-not-lt a b = grind (arith, nat_tests)
 
 -- the first timer's moment tells whether its work is due
 pub due-some : (now : ℕ) (ts : List Timer) (due : Moment) → first_due ts ≡ Some due → is_some (due_work (moment now) ts) ≡ not (nat_lt now due.0)

@@ -5,6 +5,7 @@ ghost use Rattle.mip_ipv6.specs.Packet.{names_no_body};
 ghost use Rattle.mip_rules_correspondent.specs.Rules.{is_data};
 ghost use Rattle.mip_ipv6.specs.Reading.{packet_of};
 ghost use Rattle.mip_rules_mobile.specs.Calls as calls;
+ghost use Rattle.mip_tunnel.specs.Tunnel.{hop_of};
 ghost use Rattle.mip_rules_mobile.specs.Sendings.{is_mobility};
 ghost use Rattle.mip_rules_mobile.specs.Doing.{handles};
 ghost use Rattle.mip_rules_mobile.specs.Turns.{Turn};
@@ -117,9 +118,11 @@ fn is_signal(packet: &[u8]) -> bool
     }
 }
 
-/// It is asked to send a packet from its home address while it is away.
+/// It is asked to send a packet from its home address while it is away. It is one that a tunnel takes.
 pub fn tunnel(alloc: Global, desk: &mut Desk, inner: &[u8]) -> Result<(), Memory>
-    requires { 40 ≤ length inner.now }
+    requires long { 40 ≤ length inner.now }
+    requires hop { 2 ≤ hop_of inner.now }
+    requires fits { length inner.now ≤ 65535 }
     ensures { (t : Turn) → Shows desk.old t → OnOk result (Shows desk.new (handles (calls.Tunnel inner.now) t)) }
 {
     let is_signal = is_signal(inner);

@@ -1,14 +1,18 @@
-use Rattle.std.proofs.Common.{ℕ, sym, ap, ◌∙◌}
-use Rattle.std.specs.Prelude.{not, nat_lt}
-use Rattle.mip_mobility.proofs.Rounds.{le-not-lt, due-some, due-none}
+use Rattle.std.proofs.Common.{◌≡◌, sym, ◌∙◌, arith}
+use Rattle.std.specs.Prelude.{not, nat_lt, is_some}
+use Rattle.std.proofs.lemmas.Bool.Decides.{nat_tests}
+use Rattle.mip_bulist.specs.Timers.{due_work}
+use Rattle.mip_rules_mobile.specs.TimerQuestions.{moment}
+use Rattle.mip_mobility.proofs.Rounds.{due-some, due-none}
 use Rattle.mip_mobility.proofs.ringing.is_due.Goals as goal
 
 pub returns-in-Some : goal.returns-in-Some
 returns-in-Some c =
     let d = c.args.desk.now in
-    le-not-lt c.in-Some.due.0 c.moment.result.0
-    ∙ ap (λ (n : ℕ). not (nat_lt n c.in-Some.due.0)) c.moment.ensures.value
-    ∙ sym (due-some d.moment d.known.list.timers c.in-Some.due (sym c.due.ensures ∙ c.in-Some.is))
+    let due : is_some (due_work (moment d.moment) d.known.list.timers) ≡ not (nat_lt d.moment c.in-Some.due.0) =
+    due-some d.moment d.known.list.timers c.in-Some.due (sym c.due.ensures ∙ c.in-Some.is) in
+    let now : c.moment.result.0 ≡ d.moment = c.moment.ensures.value in
+    grind (arith, nat_tests, due, now)
 
 pub returns-in-None : goal.returns-in-None
 returns-in-None c =
