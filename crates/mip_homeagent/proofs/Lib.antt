@@ -7,3 +7,4 @@ pub mod Roles
 pub mod Headings
 pub mod Sounds
 pub mod Turning
+pub mod Left
