@@ -8,3 +8,4 @@ pub mod Headings
 pub mod Sounds
 pub mod Turning
 pub mod TestRooms
+pub mod Left
