@@ -1,6 +1,6 @@
 -- What want of memory leaves of the claims of a place.
 use Rattle.std.proofs.Common.{◌≡◌, ◌⊎◌, inl, inr, ℕ, Bool, true, false, refl, sym, ◌∙◌}
-use Rattle.std.specs.Prelude.{Option, Some, None}
+use Rattle.std.specs.Prelude.{Option, Some, None, Result, Ok, Err, OnErr}
 use Rattle.std.specs.Option.{option_map}
 use Rattle.mip_words.specs.declared.shield.Shield.{Shield}
 use Rattle.mip_outside.specs.declared.claim.Claim.{Claim}
@@ -19,6 +19,11 @@ use Rattle.mip_homeagent.specs.Changes.{claims_held, claim_part, holding_of, hol
 -- a place that was not asked
 pub left_alone : (claim : Claim) (address : ℕ) (claims : Option (ℕ → Bool)) → AreLeft claim address claims claims
 left_alone claim address claims = inl refl
+
+-- what holds in any case holds after an error
+pub in_any_case : {R E : Type 0} (result : Result R E) (P : Type 0) → P → OnErr result P
+in_any_case (Ok x) P is = tt
+in_any_case (Err e) P is = is
 
 held_only : (claim : Claim) → is_held claim ≡ true → claim ≡ Held
 held_only Held is = refl
