@@ -1,19 +1,17 @@
 -- The agents that a reply names.
 use Rattle.std.proofs.Common.{◌≡◌, ℕ, zero, suc, ◌+◌, ◌*◌, List, [], ◌∷◌, ◌++◌, drop, refl, sym, ap, ◌∙◌, arith}
-use Rattle.std.specs.Prelude.{Option, Some, None, slice_get}
+use Rattle.std.specs.Prelude.{Option, Some, None}
 use Rattle.std.proofs.lemmas.List.{drop-drop}
 use Rattle.mip_words.specs.Numbers.{number_at}
 use Rattle.mip_words.specs.Addresses.{address_at}
 use Rattle.mip_words.specs.declared.address.Address.{Address}
 use Rattle.mip_turns.specs.Turns.{noted_by}
-use Rattle.mip_rules_mobile.specs.declared.standing.Standing.{Standing}
-use Rattle.mip_rules_mobile.specs.declared.standing.Standing.TheVariants.{Detached, AtHome, Away}
 use Rattle.mip_rules_mobile.specs.DiscoveryQuestions.{next_found}
 use Rattle.mip_rules_mobile.specs.Known.{Known}
 use Rattle.mip_rules_mobile.specs.Questions.{after}
 use Rattle.mip_rules_mobile.specs.Steps.{Finds, Stops}
 use Rattle.mip_rules_mobile.specs.TimerQuestions.{seeking}
-use Rattle.mip_rules_mobile.specs.IcmpRules.{addresses_of, drops_icmp, finds}
+use Rattle.mip_rules_mobile.specs.IcmpRules.{addresses_of}
 use Rattle.mip_rules_mobile.specs.Turns.{Turn, noted}
 
 -- the address behind so many bytes
@@ -53,14 +51,3 @@ same_first a b is = cc
 
 pub not-none : (a : Address) (P : Type 0) → None ≡ Some a → P
 not-none a P is = absurd cc
-
--- where there is a first one there are some
-pub has-first : (agents : List Address) (first : Address) → slice_get agents 0 ≡ Some first → (others : List Address) × (agents ≡ first ∷ others)
-has-first [] first is = absurd cc
-has-first (a ∷ agents) first is = (agents, cc)
-
-pub finds-none : (number : ℕ) (s : Standing) (agents : List Address) (t : Turn) → slice_get agents 0 ≡ None → finds number s agents t ≡ drops_icmp number t
-finds-none number Detached agents t is = refl
-finds-none number AtHome agents t is = refl
-finds-none number (Away careof) [] t is = refl
-finds-none number (Away careof) (a ∷ agents) t is = absurd cc

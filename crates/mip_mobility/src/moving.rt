@@ -55,12 +55,7 @@ fn release(desk: &mut Desk, standing: Standing, claim: Claim) -> Result<(), Memo
     }
 }
 
-fn unbind_with(
-    desk: &mut Desk,
-    bound: bool,
-    peer: Option<Address>,
-    row: u8,
-) -> Result<(), Memory>
+fn unbind_with(desk: &mut Desk, bound: bool, peer: Option<Address>, row: u8) -> Result<(), Memory>
     ensures { (t : Turn) → Shows desk.old t → OnOk result (Shows desk.new (unbinds_with bound peer row t)) }
 {
     match peer {

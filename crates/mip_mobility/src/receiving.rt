@@ -106,7 +106,14 @@ fn take_packet(
         (checked (standing_of desk.old.known desk.old.moment packet.now.head) (place_in bytes.now (tree packet.now)) (tree packet.now)) t)) }
 {
     match check(packet, standing_of(desk, &packet.head)) {
-        Err(refusal) => refuse(alloc, desk, handed.number, bytes, packet.head.source, refusal),
+        Err(refusal) => refuse(
+            alloc,
+            desk,
+            handed.number,
+            bytes,
+            packet.head.source,
+            refusal,
+        ),
         Ok(message) => take_passed(alloc, desk, handed, packet, &message),
     }
 }

@@ -19,13 +19,7 @@ use std::alloc::Global;
 
 /// The head of data on the direct way: from the care-of address, in the name of the home address, to the care-of address that
 /// is held for the peer if there is one.
-fn data_head(
-    home: Address,
-    careof: Address,
-    to: Address,
-    proto: u8,
-    held: Option<Address>,
-) -> Head
+fn data_head(home: Address, careof: Address, to: Address, proto: u8, held: Option<Address>) -> Head
     requires home { IsTrue (is_routable home.0) }
     requires routable { IfSome held (λ _. IsTrue (is_routable to.0)) }
     requires proto { IsFalse (names_no_body proto) }

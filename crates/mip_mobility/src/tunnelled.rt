@@ -64,7 +64,14 @@ fn take_checked(
         (checked (inner_standing desk.old.known desk.old.moment packet.now.head) (place_in bytes.now (tree packet.now)) (tree packet.now)) t)) }
 {
     match check(packet, inner_standing(desk, &packet.head)) {
-        Err(refusal) => refuse(alloc, desk, handed.number, bytes, packet.head.source, refusal),
+        Err(refusal) => refuse(
+            alloc,
+            desk,
+            handed.number,
+            bytes,
+            packet.head.source,
+            refusal,
+        ),
         Ok(message) => take_role(alloc, desk, handed, packet, &message),
     }
 }
@@ -131,7 +138,10 @@ fn open_from(
 {
     match decapsulate(packet, agent) {
         Ok(inner) => {
-            let handed = Handed { tunnelled: true, ..*handed };
+            let handed = Handed {
+                tunnelled: true,
+                ..*handed
+            };
             take_inner(alloc, desk, &handed, packet.body, &inner)
         }
         Err(fault) => desk.drop_packet(handed.number, entry_why(fault)),

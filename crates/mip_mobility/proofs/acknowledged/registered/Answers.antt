@@ -1,4 +1,3 @@
-
 use Rattle.mip_mobility.proofs.acknowledged.registered.Goals as goal
 
 pub returns-in_err-register : goal.returns-in_err-register

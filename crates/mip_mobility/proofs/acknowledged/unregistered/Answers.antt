@@ -1,4 +1,3 @@
-
 use Rattle.mip_mobility.proofs.acknowledged.unregistered.Goals as goal
 
 pub returns-in_err-unregister : goal.returns-in_err-unregister
