@@ -1,9 +1,10 @@
 //! A mobile with its clock and its wire, wherever it stands.
 
-ghost use Rattle.std.specs.Prelude.{◌≡◌, ℕ, ◌≤◌, ◌<◌, ◌^◌, [], None, Some, Err, IfOk, IfSome, IfErr, OnOk, OnErr, IsErrOf, IsTrue, IsFalse, length};
+ghost use Rattle.std.specs.Prelude.{◌≡◌, ℕ, ◌≤◌, ◌<◌, ◌^◌, [], None, Some, Err, IfOk, IfSome, IfErr, OnOk, OnErr, IsErrOf, IsTrue, IsFalse, length, option_copied, slice_get};
 ghost use Rattle.mip_words.specs.Addresses.{is_routable};
 ghost use Rattle.mip_ipv6.specs.Packet.{names_no_body};
 ghost use Rattle.mip_rules_correspondent.specs.Rules.{is_data};
+ghost use Rattle.mip_bcache.specs.Seen.{kept_at};
 ghost use Rattle.mip_bulist.specs.Timers.{first_due};
 ghost use Rattle.mip_tunnel.specs.Tunnel.{hop_of};
 ghost use Rattle.mip_outside.specs.Cause.{Rose};
@@ -22,6 +23,7 @@ ghost use Rattle.std.specs.Borrow.{Lends, sem};
 
 use crate::fault::StationFault;
 use crate::settling::settle;
+use mip_bcache::Row;
 use mip_desk::Desk;
 use mip_entries::Answers;
 use mip_nonce::Secrets;
@@ -81,6 +83,14 @@ impl<C: Clock + Drop, W: Wire + Drop> Machine<C, W> {
         ensures { result ≡ self.now.desk.known.standing }
     {
         self.desk.standing()
+    }
+
+    /// The row at a place among those that its correspondent part keeps, in order of home address.
+    pub fn row(&self, now: Moment, place: u32) -> Option<&Row>
+        requires { self.now.desk.moment ≤ now.0 }
+        ensures { option_copied result ≡ slice_get (kept_at self.now.desk.known.part.known.cache now.0) place }
+    {
+        self.desk.kept_row(now, place)
     }
 
     /// The earliest moment at which work is due.
