@@ -11,7 +11,7 @@ use Rattle.mip_ipv6.specs.Packet.{Packet, source_of, destination_of}
 use Rattle.mip_ipv6.specs.Spelling.{packet_bytes, behind_bytes, fixed_bytes, first_number, second_number}
 use Rattle.mip_ipv6.proofs.Canonical.{length_fixed}
 use Rattle.mip_mobhdr.specs.Said.{Said}
-use Rattle.mip_mobhdr.specs.Said.Said.{Refresh, HomeInit, CareofInit, HomeTest, CareofTest, Acknowledgement, Error}
+use Rattle.mip_mobhdr.specs.Said.Said.{Refresh, HomeInit, HomeTest, CareofTest, Acknowledgement, Error}
 use Rattle.mip_mobhdr.specs.Spelling.{field_bytes, options_said, message_bytes}
 use Rattle.mip_options.specs.Values.{nothing}
 use Rattle.mip_icmp.specs.Said as icmp

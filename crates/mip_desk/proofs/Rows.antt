@@ -1,6 +1,6 @@
 -- A row whose trial is changed.
 use Rattle.std.proofs.Common.{◌≡◌, ℕ, zero, suc, List, [], ◌∷◌, ◌++◌, length, nat_lt, Bool, true, false, refl, sym, ap, ◌∙◌, subst}
-use Rattle.std.specs.Prelude.{Option, Some, None, IfSome, Ok, Err, option_map, not, ◌==◌, if◌then◌else◌, slice_get}
+use Rattle.std.specs.Prelude.{Option, Some, None, IfSome, Ok, Err, option_map, not, ◌==◌, if◌then◌else◌}
 use Rattle.std.proofs.lemmas.Bool.{eq-eqb, eqb-true, eqb-false}
 use Rattle.mip_words.specs.declared.address.Address.{Address}
 use Rattle.mip_words.specs.declared.moment.Moment.{Moment}
@@ -9,7 +9,7 @@ use Rattle.mip_bulist.specs.declared.any.Any.{Any}
 use Rattle.mip_bulist.specs.declared.any.Any.TheVariants.{Idle, Probing, Proved, Pending, Bound}
 use Rattle.mip_bulist.specs.declared.row.Row.{Row}
 use Rattle.mip_bulist.specs.Lists.{ListSeen}
-use Rattle.mip_bulist.specs.Rows.{lifted, peer_at, peer_of_any, with_trial, set_trial, takes_at, with_row, rows_given, row_place, new_row, resting, all_rested}
+use Rattle.mip_bulist.specs.Rows.{lifted, peer_at, peer_of_any, with_trial, takes_at, with_row, rows_given, row_place, new_row, resting, all_rested}
 use Rattle.mip_bulist.specs.declared.refused.Refused.TheVariants as refused
 use Rattle.mip_bulist.specs.declared.state.Probing as probing
 use Rattle.mip_bulist.specs.declared.tested.Tested.{Tested}

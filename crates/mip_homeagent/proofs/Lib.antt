@@ -7,3 +7,5 @@ pub mod Roles
 pub mod Headings
 pub mod Sounds
 pub mod Turning
+pub mod TestRooms
+pub mod Left

@@ -4,9 +4,10 @@ ghost use Rattle.std.specs.Option.{option_map};
 ghost use Rattle.mip_words.specs.Addresses.{is_routable};
 ghost use Rattle.mip_words.specs.declared.address.Address.{Address};
 ghost use Rattle.mip_entries.specs.Stamped.{Stamped};
+ghost use Rattle.mip_ipv6.specs.Reading.{packet_of};
 ghost use Rattle.mip_updates.specs.Registrations.{IsUpdate, registration_in};
 ghost use Rattle.mip_rules_agent.specs.Calls as calls;
-ghost use Rattle.mip_rules_agent.specs.Calls.{claim_for};
+ghost use Rattle.mip_rules_agent.specs.Calls.{claim_for, home_in};
 ghost use Rattle.mip_rules_agent.specs.Steps.{Step, answers_of};
 ghost use Rattle.mip_rules_agent.specs.Claims.{claims_by};
 ghost use Rattle.mip_rules_agent.specs.Questions.{fresh, rows_at};
@@ -14,6 +15,7 @@ ghost use Rattle.mip_rules_agent.specs.Turns.{Stands, with_turn};
 ghost use Rattle.mip_rules_agent.specs.Verdicts.{verdict};
 ghost use Rattle.mip_rules_agent.specs.Rules.{bench};
 ghost use Rattle.mip_rules_agent.specs.Seen.{turn_at, called};
+ghost use Rattle.mip_homeagent.specs.Changes.{AreLeft};
 ghost use Rattle.mip_homeagent.specs.Soundness.{HasRoom};
 
 use crate::answering::note_ends;
@@ -139,6 +141,7 @@ impl HomeAgent {
         ensures stands { (serves : List Address) (past : List (Stamped Step)) → Stands serves past self.old.known →
             OnOk result (Stands serves (with_turn past (turn_at self.old now.0 calls.Tick)) self.new.known) }
         ensures claims { OnOk result (P.claims place.new ≡ option_map (claims_by (turn_at self.old now.0 calls.Tick).steps) (P.claims place.old)) }
+        ensures left { OnErr result (P.claims place.new ≡ P.claims place.old) }
         ensures around { P.around place.new ≡ P.around place.old }
         ensures same { P.is_same place.old place.new }
         ensures last { OnOk result (self.new.known.last ≡ now.0) }
@@ -177,7 +180,8 @@ impl HomeAgent {
     }
 
     /// Takes a packet that was handed to the agent, by its number and shield, and gives what it does about it, in order.
-    /// After want of memory it is as it was.
+    /// After want of memory it is as it was; the place may have given it the home address of the packet.
+    #[tactic(auto, using(crate::proofs::Left::left_alone))]
     pub fn take<P: Place>(
         &mut self,
         alloc: Global,
@@ -195,6 +199,7 @@ impl HomeAgent {
         ensures stands { (serves : List Address) (past : List (Stamped Step)) → Stands serves past self.old.known →
             OnOk result (Stands serves (with_turn past (turn_at self.old now.0 (calls.Take number shield packet.now (claim_for (P.around place.old) packet.now)))) self.new.known) }
         ensures claims { OnOk result (P.claims place.new ≡ option_map (claims_by (turn_at self.old now.0 (calls.Take number shield packet.now (claim_for (P.around place.old) packet.now))).steps) (P.claims place.old)) }
+        ensures left { OnErr result (AreLeft (claim_for (P.around place.old) packet.now) (home_in (packet_of packet.now)) (P.claims place.old) (P.claims place.new)) }
         ensures around { P.around place.new ≡ P.around place.old }
         ensures same { P.is_same place.old place.new }
         ensures last { OnOk result (self.new.known.last ≡ now.0) }

@@ -13,6 +13,8 @@ mod judging;
 mod kept;
 mod prefixes;
 mod receiving;
+#[cfg(test)]
+mod tests;
 mod tunnel;
 mod update;
 

@@ -1,6 +1,6 @@
 //! What a home agent does about a Binding Update (RFC 6275 sections 10.3.1 and 10.3.2).
 
-ghost use Rattle.std.specs.Prelude.{◌≡◌, ◌≤◌, ◌<◌, ◌^◌, ◌++◌, IfOk, OnOk, IsTrue, Bool, true, false, Some, None};
+ghost use Rattle.std.specs.Prelude.{◌≡◌, ◌≤◌, ◌<◌, ◌^◌, ◌++◌, IfOk, OnOk, OnErr, IsTrue, Bool, true, false, Some, None};
 ghost use Rattle.std.specs.Option.{option_map};
 ghost use Rattle.mip_ipv6.specs.Packet.{is_routable_if_any};
 ghost use Rattle.mip_outside.specs.Places.{claim_in};
@@ -10,7 +10,7 @@ ghost use Rattle.mip_rules_agent.specs.Questions.{is_served};
 ghost use Rattle.mip_rules_agent.specs.Verdicts.{binding_for};
 ghost use Rattle.mip_rules_agent.specs.Rules.{acknowledges, denies, answers_if, accepts, judged, takes_update};
 ghost use Rattle.mip_homeagent.specs.Showing.{Goes, Leads, opened};
-ghost use Rattle.mip_homeagent.specs.Changes.{claims_held, claims_with, holding_of, holding_by, release_part, IsOfHome, answers_change};
+ghost use Rattle.mip_homeagent.specs.Changes.{claims_held, claims_with, holding_of, holding_by, release_part, IsOfHome, AreLeft, answers_change};
 ghost use Rattle.mip_homeagent.specs.Desks.{handing_at};
 
 use crate::answering::{
@@ -218,6 +218,7 @@ pub fn take_update<P: Place>(
     requires plain { IsTrue (is_routable_if_any registration.now.home_option) }
     requires room { is_served desk.now.known.now (home_of registration.now) ≡ true → (P.around place.old).room (home_of registration.now).0 ≡ true }
     ensures claims { IfOk result (λ change. P.claims place.new ≡ option_map (claims_with change) (P.claims place.old)) }
+    ensures left { OnErr result (AreLeft (claim_in (P.around place.old) (home_of registration.now).0) (home_of registration.now).0 (P.claims place.old) (P.claims place.new)) }
     ensures around { P.around place.new ≡ P.around place.old }
     ensures same { P.is_same place.old place.new }
     ensures shows { IfOk result (λ change. Leads (takes_update (handing_at desk.now (claim_in (P.around place.old) (home_of registration.now).0)) registration.now) desk.now.moment.0 (opened desk.now.moment.0 desk.now.known.now) answers.old answers.new change) }

@@ -1,31 +1,56 @@
 -- A call whose desk shows the definition's turn is handled, once its answers are settled.
-use Rattle.std.proofs.Common.{◌≡◌, ℕ, List, ◌++◌, Bool, sym, subst, ◌∙◌}
-use Rattle.std.specs.Prelude.{Result, Ok, Err, IfOk, option_map}
+use Rattle.std.proofs.Common.{◌≡◌, ℕ, List, [], ◌∷◌, ◌++◌, Bool, sym, subst, ◌∙◌}
+use Rattle.std.specs.Prelude.{Option, Result, Ok, Err, IfOk, option_map}
 use Rattle.mip_outside.specs.declared.put.Put.{Put}
+use Rattle.mip_outside.specs.declared.put.Put.TheVariants.{Sent, NoRoute, Oversize}
+use Rattle.mip_words.specs.declared.address.Address.{Address}
+use Rattle.mip_words.specs.declared.shield.Shield.{Shield}
 use Rattle.mip_entries.specs.declared.answer.Answer.{Answer}
+use Rattle.mip_entries.specs.declared.answer.Answer.TheVariants.{Send, Note}
 use Rattle.mip_turns.proofs.ShowLaws.{shows-answers}
 use Rattle.mip_rules_mobile.specs.Calls.{Call}
-use Rattle.mip_rules_mobile.specs.Steps.{answer_of}
+use Rattle.mip_rules_mobile.specs.Steps.{answer_of, answers_of}
 use Rattle.mip_rules_mobile.specs.Known.{Known}
 use Rattle.mip_rules_mobile.specs.Turns.{Stands, with_turn}
 use Rattle.mip_rules_mobile.specs.Doing.{turn_of}
+use Rattle.mip_rules_mobile.specs.Answering.{IsFrom, AreFrom}
+use Rattle.mip_rules_mobile.proofs.Away.{away-call}
 use Rattle.mip_rules_mobile.proofs.Calls.{call-stands}
 use Rattle.mip_desk.specs.Seen.{DeskSeen, Shows}
 use Rattle.mip_desk.proofs.Noted.{shows-known}
-use Rattle.mip_mobile.specs.Settling.{SettlesAll, sends_of}
+use Rattle.mip_mobile.specs.Settling.{settled, Settles, SettlesAll, sends_of}
 use Rattle.mip_mobile.specs.Handling.{Told, Handles}
 
 pub if-both : {A E : Type 0} (P Q R : A → Type 0) (r : Result A E) → ((x : A) → P x → Q x → R x) → IfOk r P → IfOk r Q → IfOk r R
 if-both P Q R (Ok x) f p q = f x p q
 if-both P Q R (Err e) f p q = tt
 
+-- a packet that the wire took leaves from where it left before
+from-settled : (gives : Put → Bool) (careof : Address) (asked bs : List Answer) → SettlesAll gives asked bs → AreFrom careof asked → AreFrom careof bs
+from-settled gives careof [] [] all from = tt
+from-settled gives careof [] (b ∷ bs) all from = absurd all
+from-settled gives careof (a ∷ asked) [] all from = absurd all
+from-settled gives careof (a ∷ asked) (b ∷ bs) all from = (one a all.0 from.0, from-settled gives careof asked bs all.1 from.1)
+  where
+    by : (put : Put) (shield : Option Shield) (packet : List ℕ) → b ≡ settled put shield packet → IsFrom careof (Send shield packet) → IsFrom careof b
+    by Sent shield packet is leaves = subst (IsFrom careof) (sym is) leaves
+    by NoRoute shield packet is leaves = subst (IsFrom careof) (sym is) tt
+    by Oversize shield packet is leaves = subst (IsFrom careof) (sym is) tt
+
+    one : (a : Answer) → Settles gives a b → IsFrom careof a → IsFrom careof b
+    one (Note entry) is leaves = subst (IsFrom careof) (sym is) tt
+    one (Send shield packet) is leaves = by is.0 shield packet is.2 leaves
+
 pub handled : (gives : Put → Bool) (k : Known) (now : ℕ) (call : Call) (desk : DeskSeen) (asked : List Answer) (left : Known) (out told : Told) (answers : List Answer)
     → Shows desk (turn_of k now call) → asked ≡ desk.answers → left ≡ desk.known → SettlesAll gives asked answers → told ≡ option_map (λ items. items ++ sends_of answers) out
     → Handles gives k now call out answers left told
 handled gives k now call desk asked left out told answers shows is known settles sent =
     let same : left ≡ (turn_of k now call).known = known ∙ sym (shows-known desk (turn_of k now call) shows) in
+    let all : SettlesAll gives (answers_of (turn_of k now call).steps) answers =
+    subst (λ (xs : List Answer). SettlesAll gives xs answers) (is ∙ sym (shows-answers answer_of desk.moment desk.known desk.answers (turn_of k now call) shows)) settles in
     record {
-      taken = subst (λ (xs : List Answer). SettlesAll gives xs answers) (is ∙ sym (shows-answers answer_of desk.moment desk.known desk.answers (turn_of k now call) shows)) settles;
+      taken = all;
+      away = λ careof here elsewhere stays. from-settled gives careof (answers_of (turn_of k now call).steps) answers all (away-call k now call careof here elsewhere stays);
       known = same;
       stands = λ home declared secrets past stands.
           subst (λ (l : Known). Stands home declared secrets (with_turn past (turn_of k now call)) l) (sym same) (call-stands home declared secrets past k now call stands);

@@ -1,11 +1,13 @@
 -- What a call of a station answers, and what it leaves.
-use Rattle.std.specs.Prelude.{◌≡◌, ℕ, Bool, max, List, ◌++◌, Option, option_map}
+use Rattle.std.specs.Prelude.{◌≡◌, ℕ, Bool, true, max, List, ◌++◌, Option, option_map}
 use Rattle.mip_words.specs.declared.address.Address.{Address}
 use Rattle.mip_words.specs.declared.shield.Shield.{Shield}
 use Rattle.mip_nonce.specs.Secrets.{Life}
 use Rattle.mip_outside.specs.declared.put.Put.{Put}
 use Rattle.mip_entries.specs.Stamped.{Stamped}
 use Rattle.mip_entries.specs.declared.answer.Answer.{Answer}
+use Rattle.mip_rules_mobile.specs.declared.standing.Standing.TheVariants.{Away}
+use Rattle.mip_rules_mobile.specs.Answering.{IsElsewhere, AreFrom, stays_put}
 use Rattle.mip_rules_mobile.specs.Calls.{Call}
 use Rattle.mip_rules_mobile.specs.Steps.{Step, answers_of}
 use Rattle.mip_rules_mobile.specs.Known.{Known}
@@ -22,10 +24,12 @@ abbrev pub Told : Type 0
 Told = Option (List (Option Shield × List ℕ))
 
 -- a station that knew this was called at a moment: its answers are those of the definition's turn, as its wire took them;
--- it stands for each past for which it stood before, with the turn behind it; and its wire sent the packets of its answers
+-- it stands for each past for which it stood before, with the turn behind it; where it is away, and stays, each packet leaves
+-- from its care-of address; and its wire sent the packets of its answers
 pub record Handles (gives : Put → Bool) (before : Known) (now : ℕ) (call : Call) (out : Told) (answers : List Answer) (after : Known) (left : Told) : Type 0 where
   pub taken : SettlesAll gives (answers_of (turn_of before now call).steps) answers
   pub known : after ≡ (turn_of before now call).known
   pub stands : (home : Address) (declared : Option Address) (secrets : Life) (past : List (Stamped Step)) → Stands home declared secrets past before
       → Stands home declared secrets (with_turn past (turn_of before now call)) after
+  pub away : (careof : Address) → before.standing ≡ Away careof → IsElsewhere before → stays_put call ≡ true → AreFrom careof answers
   pub sent : left ≡ option_map (λ items. items ++ sends_of answers) out

@@ -1,10 +1,12 @@
 //! A mobile with its clock and its wire, wherever it stands.
 
-ghost use Rattle.std.specs.Prelude.{◌≡◌, ℕ, ◌≤◌, ◌<◌, ◌^◌, [], None, Some, Err, IfOk, IfSome, IfErr, OnOk, OnErr, IsErrOf, IsTrue, IsFalse, length};
+ghost use Rattle.std.specs.Prelude.{◌≡◌, ℕ, ◌≤◌, ◌<◌, ◌^◌, [], None, Some, Err, IfOk, IfSome, IfErr, OnOk, OnErr, IsErrOf, IsTrue, IsFalse, length, option_copied, slice_get};
 ghost use Rattle.mip_words.specs.Addresses.{is_routable};
 ghost use Rattle.mip_ipv6.specs.Packet.{names_no_body};
 ghost use Rattle.mip_rules_correspondent.specs.Rules.{is_data};
+ghost use Rattle.mip_bcache.specs.Seen.{kept_at};
 ghost use Rattle.mip_bulist.specs.Timers.{first_due};
+ghost use Rattle.mip_tunnel.specs.Tunnel.{hop_of};
 ghost use Rattle.mip_outside.specs.Cause.{Rose};
 ghost use Rattle.mip_rules_mobile.specs.Calls as calls;
 ghost use Rattle.mip_rules_mobile.specs.Calls.{Call};
@@ -21,6 +23,7 @@ ghost use Rattle.std.specs.Borrow.{Lends, sem};
 
 use crate::fault::StationFault;
 use crate::settling::settle;
+use mip_bcache::Row;
 use mip_desk::Desk;
 use mip_entries::Answers;
 use mip_nonce::Secrets;
@@ -80,6 +83,14 @@ impl<C: Clock + Drop, W: Wire + Drop> Machine<C, W> {
         ensures { result ≡ self.now.desk.known.standing }
     {
         self.desk.standing()
+    }
+
+    /// The row at a place among those that its correspondent part keeps, in order of home address.
+    pub fn row(&self, now: Moment, place: u32) -> Option<&Row>
+        requires { self.now.desk.moment ≤ now.0 }
+        ensures { option_copied result ≡ slice_get (kept_at self.now.desk.known.part.known.cache now.0) place }
+    {
+        self.desk.kept_row(now, place)
     }
 
     /// The earliest moment at which work is due.
@@ -314,7 +325,9 @@ impl<C: Clock + Drop, W: Wire + Drop> Machine<C, W> {
 
     /// Sends a packet from its home address.
     pub fn tunnel(&mut self, alloc: Global, inner: &[u8]) -> Result<Answers, StationFault>
-        requires { 40 ≤ length inner.now }
+        requires long { 40 ≤ length inner.now }
+        requires hop { 2 ≤ hop_of inner.now }
+        requires fits { length inner.now ≤ 65535 }
         ensures faulted { IfSome self.old.fault (λ fault. (result ≡ Err fault) × (self.new ≡ self.old)) }
         ensures handles { IfOk result (λ answers. Handles W.gives self.old.desk.known (moment_of (C.last self.new.clock) self.old.desk.moment) (calls.Tunnel inner.now) (W.out self.old.wire) answers self.new.desk.known (W.out self.new.wire)) }
         ensures well { OnOk result (self.new.fault ≡ None) }
@@ -331,7 +344,9 @@ impl<C: Clock + Drop, W: Wire + Drop> Machine<C, W> {
 
     #[tactic(auto, unfolding(mip_rules_mobile::specs::Doing::does))]
     fn tunnel_desk(&mut self, alloc: Global, inner: &[u8]) -> Result<(), Memory>
-        requires { 40 ≤ length inner.now }
+        requires long { 40 ≤ length inner.now }
+        requires hop { 2 ≤ hop_of inner.now }
+        requires fits { length inner.now ≤ 65535 }
         ensures shows { OnOk result (Shows self.new.desk (turn_of self.old.desk.known (moment_of (C.last self.new.clock) self.old.desk.moment) (calls.Tunnel inner.now))) }
         ensures rest { (self.new.wire ≡ self.old.wire) × (self.new.fault ≡ self.old.fault) }
     {

@@ -4,6 +4,7 @@ ghost use Rattle.std.specs.Borrow.{Lends, sem};
 ghost use Rattle.mip_words.specs.Addresses.{is_routable};
 ghost use Rattle.mip_ipv6.specs.Packet.{names_no_body};
 ghost use Rattle.mip_outside.specs.Cause.{Rose};
+ghost use Rattle.mip_bcache.specs.Seen.{kept_at};
 ghost use Rattle.mip_bulist.specs.Timers.{first_due};
 ghost use Rattle.mip_rules_correspondent.specs.Rules.{is_data};
 ghost use Rattle.mip_rules_mobile.specs.Calls as calls;
@@ -19,6 +20,7 @@ use crate::fault::StationFault;
 use crate::machine::Machine;
 use crate::state::{AtHome, Away, Detached};
 use crate::station::Station;
+use mip_bcache::Row;
 use mip_entries::Answers;
 use mip_nonce::Secrets;
 use mip_outside::{Clock, Place, Wire};
@@ -110,6 +112,18 @@ impl<C: Clock + Drop, W: Wire + Drop> Mobile<C, W> {
             Mobile::Detached(station) => station.machine.wire(),
             Mobile::AtHome(station) => station.machine.wire(),
             Mobile::Away(station) => station.machine.wire(),
+        }
+    }
+
+    /// The row at a place among those that its correspondent part keeps, in order of home address.
+    pub fn row(&self, now: Moment, place: u32) -> Option<&Row>
+        requires { (machine_of self.now).desk.moment ≤ now.0 }
+        ensures { option_copied result ≡ slice_get (kept_at (machine_of self.now).desk.known.part.known.cache now.0) place }
+    {
+        match self {
+            Mobile::Detached(station) => station.machine.row(now, place),
+            Mobile::AtHome(station) => station.machine.row(now, place),
+            Mobile::Away(station) => station.machine.row(now, place),
         }
     }
 

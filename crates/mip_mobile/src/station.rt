@@ -1,4 +1,5 @@
 ghost use Rattle.std.specs.Prelude.{◌≡◌, ◌≤◌, None, Some, Err, IfOk, IfSome, IfErr, OnOk, IsErrOf, length};
+ghost use Rattle.mip_tunnel.specs.Tunnel.{hop_of};
 ghost use Rattle.mip_outside.specs.Cause.{Rose};
 ghost use Rattle.mip_rules_mobile.specs.Calls as calls;
 ghost use Rattle.mip_mobile.specs.Handling.{Handles, moment_of};
@@ -19,9 +20,11 @@ pub struct Station<S: State, C: Clock, W: Wire> {
 }
 
 impl<C: Clock + Drop, W: Wire + Drop> Station<Away, C, W> {
-    /// Sends a packet from its home address, through the tunnel to its agent (RFC 6275 section 11.3.1).
+    /// Sends a packet from its home address, through the tunnel to its agent (RFC 6275 section 11.3.1). It is one that a tunnel takes.
     pub fn tunnel(&mut self, alloc: Global, inner: &[u8]) -> Result<Answers, StationFault>
-        requires { 40 ≤ length inner.now }
+        requires long { 40 ≤ length inner.now }
+        requires hop { 2 ≤ hop_of inner.now }
+        requires fits { length inner.now ≤ 65535 }
         ensures faulted { IfSome self.old.machine.fault (λ fault. (result ≡ Err fault) × (self.new ≡ self.old)) }
         ensures handles { IfOk result (λ answers. Handles W.gives self.old.machine.desk.known (moment_of (C.last self.new.machine.clock) self.old.machine.desk.moment) (calls.Tunnel inner.now) (W.out self.old.machine.wire) answers self.new.machine.desk.known (W.out self.new.machine.wire)) }
         ensures well { OnOk result (self.new.machine.fault ≡ None) }

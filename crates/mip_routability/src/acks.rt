@@ -105,6 +105,7 @@ fn acknowledges(home: Address, ack: &PeerAck<'_>, trial: &Trial<Pending>) -> boo
 
 /// Status 135: the next sequence comes after the one received, and the sending follows at once; 136 to 138: the trial
 /// starts anew.
+#[tactic(auto, unfolding(mip_rules_mobile::specs::PeerRules::takes_peer_ack))]
 fn take_peer_ack(
     alloc: Global,
     desk: &mut Desk,

@@ -127,7 +127,7 @@ fn send_made(
     requires range { row < 16 }
     requires early { wait < 2 ^ 32 }
     ensures { (t : Turn) → Shows desk.old t
-        → OnOk result (Shows desk.new (sends_update (source_for desk.old.known.standing (home_of desk.old.known) made.now) row peer made.now wait t)) }
+        → OnOk result (Shows desk.new (sends_update (source_for t.known.standing (home_of t.known) made.now) row peer made.now wait t)) }
 {
     match source_for(desk.standing(), desk.home(), made) {
         Some(source) => send_update(alloc, desk, row, source, peer, made, wait),

@@ -11,3 +11,5 @@ pub mod Pasts
 pub mod Taken
 pub mod HomeLaws
 pub mod Refusals
+pub mod Sayings
+pub mod Ended

@@ -15,3 +15,4 @@ pub mod Taken
 pub mod Pasts
 pub mod Ends
 pub mod Claims
+pub mod Sayings

@@ -11,20 +11,22 @@ ghost use Rattle.mip_entries.specs.Stamped.{Stamped};
 ghost use Rattle.mip_updates.specs.declared.registration.Registration.{Registration};
 ghost use Rattle.mip_rules_agent.specs.declared.bench.Bench.{Bench};
 ghost use Rattle.mip_rules_agent.specs.declared.identity.Identity.{Identity};
+ghost use Rattle.mip_rules_agent.specs.declared.home_binding.HomeBinding.{HomeBinding};
 ghost use Rattle.mip_rules_agent.specs.declared.home_verdict.HomeVerdict.TheVariants.{Deny, Accept};
 ghost use Rattle.mip_rules_agent.specs.Known.{Known};
 ghost use Rattle.mip_rules_agent.specs.Calls.{Call, Take, Tick, Plan, Hear, bytes_of};
 ghost use Rattle.mip_rules_agent.specs.Steps.{Step, answers_of, is_call, is_registration};
-ghost use Rattle.mip_rules_agent.specs.Questions.{known, is_served, binding_of, holds, careof_at, agents_called, plan_called};
+ghost use Rattle.mip_rules_agent.specs.Questions.{known, is_served, binding_of, holds, is_standing, careof_at, agents_called, plan_called};
 ghost use Rattle.mip_rules_agent.specs.Turns.{Stands, with_turn};
 ghost use Rattle.mip_rules_agent.specs.Doing.{turn_of};
 ghost use Rattle.mip_rules_agent.specs.Verdicts.{verdict};
 ghost use Rattle.mip_rules_agent.specs.Soundness.{IsSound, IsBehind};
 ghost use Rattle.mip_rules_agent.specs.Sendings.{SendsOwn};
+ghost use Rattle.mip_rules_agent.specs.Sayings.{SaysNoOther};
 ghost use Rattle.mip_rules_agent.specs.Wholes.{IsWhole};
 ghost use Rattle.mip_rules_agent.specs.Taken.{IsUpdateTaken, IsRegisteredBy};
 ghost use Rattle.mip_rules_agent.specs.Pasts.{is_one_of, last_binding, is_claimed, last_plan, all_heard};
-ghost use Rattle.mip_rules_agent.specs.Ends.{AreInOrder};
+ghost use Rattle.mip_rules_agent.specs.Ends.{AreInOrder, IsEndOf, has_end, AreUntil};
 
 /// The last moment known is that of the last call.
 pub fn last_is_of_the_last_call()
@@ -60,6 +62,14 @@ pub fn ends_are_in_order()
     ensures { (serves : List Address) (past : List (Stamped Step)) → AreInOrder (known serves past).ends }
 {}
 
+/// The ends in the list are those of registrations: of each home, what was accepted last is a registration, which ends then.
+/// At a moment that no step is later than, each registration that stands has its end in the list.
+pub fn ends_are_those_of_registrations()
+    ensures listed { (serves : List Address) (past : List (Stamped Step)) → AllByRecursion (IsEndOf past) (known serves past).ends }
+    ensures kept { (serves : List Address) (past : List (Stamped Step)) (now : ℕ) (home : Address) (b : HomeBinding) → AreUntil now past → last_binding home past ≡ Some b → is_standing home now b ≡ true
+        → has_end home b.end (known serves past).ends ≡ true }
+{}
+
 /// The lifetimes of the prefix are those of the last plan, without end before the first.
 pub fn plan_is_the_last()
     ensures { (serves : List Address) (past : List (Stamped Step)) → (known serves past).plan ≡ last_plan past }
@@ -79,6 +89,12 @@ pub fn answers_are_whole()
 /// acknowledgement, what goes back to the source of a refused packet, the list of home agents, or its prefix.
 pub fn each_packet_is_its_own()
     ensures { (me : Identity) (k : Known) (now : ℕ) (c : Call) → AllByRecursion (SendsOwn me (bytes_of c)) (turn_of me k now c).steps }
+{}
+
+/// Whatever a call sends says no test, or what the packet says that it hands over: a home agent passes on no other test, and
+/// makes none of its own.
+pub fn each_test_was_handed_over()
+    ensures { (me : Identity) (k : Known) (now : ℕ) (c : Call) → AllByRecursion (SaysNoOther (bytes_of c)) (answers_of (turn_of me k now c).steps) }
 {}
 
 /// A packet that is handed over leads to no registration, or at once to that of the update in it, with the verdict Accept

@@ -19,3 +19,4 @@ pub mod Sources
 pub mod Says
 pub mod Kept
 pub mod Refusals
+pub mod Away

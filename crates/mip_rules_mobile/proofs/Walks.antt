@@ -30,7 +30,7 @@ use Rattle.mip_rules_mobile.proofs.RingWalks.{every-ticks_all}
 use Rattle.mip_rules_mobile.proofs.ReceivingWalks.{every-takes}
 
 module _ (c : Call) (P : Turn → Type 0) (more : Goes c P) (notes : Notings P) where
-  every-transmits : (to : Address) (proto : ℕ) (payload : List ℕ) → c ≡ calls.Send to proto payload → (t : Turn) → P t → P (transmits to proto payload t)
+  pub every-transmits : (to : Address) (proto : ℕ) (payload : List ℕ) → c ≡ calls.Send to proto payload → (t : Turn) → P t → P (transmits to proto payload t)
   unfolding transmits
   every-transmits to proto payload asked t p = by t.known.standing (bound_row_of t.known t.now to) refl
     where
@@ -41,7 +41,7 @@ module _ (c : Call) (P : Turn → Type 0) (more : Goes c P) (notes : Notings P) 
       by Detached row here = every-asks_part c P more notes (parts.Send to proto payload) asked t p
       by AtHome row here = every-asks_part c P more notes (parts.Send to proto payload) asked t p
 
-  every-solicits : (t : Turn) → P t → P (solicits t)
+  pub every-solicits : (t : Turn) → P t → P (solicits t)
   unfolding solicits
   every-solicits t p = by t.known.standing (registered_agent t.known t.now) refl
     where

@@ -89,3 +89,18 @@ pub data SaysOwn (c : Call) (me : Identity) (now : ℕ) (packet : List ℕ) : Ty
 abbrev pub SaysRight : Call → ℕ → Known → Answer → Type 0
 SaysRight c now k (Send shield packet) = SaysOwn c k.part.identity now packet
 SaysRight c now k (Note entry) = Unit {0}
+
+-- a packet leaves from this address
+abbrev pub IsFrom : Address → Answer → Type 0
+IsFrom address (Send shield packet) = source_bytes packet ≡ address_bytes address
+IsFrom address (Note entry) = Unit {0}
+
+-- each of these packets does
+abbrev pub AreFrom : Address → List Answer → Type 0
+AreFrom address answers = AllByRecursion (IsFrom address) answers
+
+-- by this call the mobile stays where it stands
+abbrev pub stays_put : Call → Bool
+stays_put (calls.Attach prefix of_home of_address) = false
+stays_put (calls.Leave of_home) = false
+stays_put _ = true

@@ -8,10 +8,10 @@ ghost use Rattle.mip_nonce.specs.Secrets.{Life};
 ghost use Rattle.mip_lists.specs.Last.{since};
 ghost use Rattle.mip_bulist.specs.Timers.{AreDueFrom, AreInOrder};
 ghost use Rattle.mip_entries.specs.Stamped.{Stamped};
-ghost use Rattle.mip_rules_mobile.specs.declared.standing.Standing.TheVariants.{AtHome};
+ghost use Rattle.mip_rules_mobile.specs.declared.standing.Standing.TheVariants.{AtHome, Away};
 ghost use Rattle.mip_rules_mobile.specs.Calls.{Call, Take, Tick};
 ghost use Rattle.mip_rules_mobile.specs.Sendings.{PeerUpdate};
-ghost use Rattle.mip_rules_mobile.specs.Steps.{Step, is_call};
+ghost use Rattle.mip_rules_mobile.specs.Steps.{Step, is_call, answers_of};
 ghost use Rattle.mip_rules_mobile.specs.Known.{Known};
 ghost use Rattle.mip_rules_mobile.specs.HomeQuestions.{standing_said, registered_said, latest_said, agent_said, owes_said, next_said, next_to};
 ghost use Rattle.mip_rules_mobile.specs.DiscoveryQuestions.{found_said, chosen_said, is_choice};
@@ -21,7 +21,7 @@ ghost use Rattle.mip_rules_mobile.specs.Told.{last_told, next_in};
 ghost use Rattle.mip_rules_mobile.specs.Fitting.{IsUpdateOf, EachFits};
 ghost use Rattle.mip_rules_mobile.specs.Kept.{RowsGiven, IsMadeFrom};
 ghost use Rattle.mip_rules_mobile.specs.Refusing.{is_refusal, tables_of};
-ghost use Rattle.mip_rules_mobile.specs.Answering.{EachAnswer, CanBeAsked, IsWhole, LeavesRight, IsElsewhere, SaysRight};
+ghost use Rattle.mip_rules_mobile.specs.Answering.{EachAnswer, CanBeAsked, IsWhole, LeavesRight, IsElsewhere, AreFrom, stays_put, SaysRight};
 ghost use Rattle.mip_rules_mobile.specs.Doing.{turn_of};
 
 /// Whoever stands for a past knows what it leaves known.
@@ -83,6 +83,11 @@ pub fn answers_are_whole()
 pub fn packets_leave_from_where_it_stands()
     ensures elsewhere { (home : Address) (declared : Option Address) (secrets : Life) (past : List (Stamped Step)) → IsElsewhere (known home declared secrets past) }
     ensures leaves { (k : Known) (now : ℕ) (c : Call) → IsElsewhere k → EachAnswer LeavesRight now k (turn_of k now c).steps }
+{}
+
+/// Away, each packet of a call by which the mobile stays where it stands leaves from its care-of address.
+pub fn away_packets_leave_from_the_careof_address()
+    ensures { (k : Known) (now : ℕ) (c : Call) (careof : Address) → k.standing ≡ Away careof → IsElsewhere k → stays_put c ≡ true → AreFrom careof (answers_of (turn_of k now c).steps) }
 {}
 
 /// Whatever a mobile sends is a test of its own correspondent part, or says no test, or says what the packet said that it was

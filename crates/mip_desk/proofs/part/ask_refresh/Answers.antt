@@ -1,5 +1,4 @@
 use Rattle.std.proofs.Common.{subst, OnOk}
-use Rattle.mip_ipv6.specs.Packet.{packet as tree}
 use Rattle.mip_rules_correspondent.specs.Calls as parts
 use Rattle.mip_rules_mobile.specs.Steps.{Parts}
 use Rattle.mip_rules_mobile.specs.Turns.{Turn, noted}

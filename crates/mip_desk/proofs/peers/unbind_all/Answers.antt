@@ -1,5 +1,4 @@
-use Rattle.std.proofs.Common.{◌≡◌, ℕ, zero, suc, List, [], ◌∷◌, refl, slice_set, slice_index_or, false}
-use Rattle.std.specs.Prelude.{None}
+use Rattle.std.proofs.Common.{◌≡◌, ℕ, zero, suc, List, [], ◌∷◌, refl, slice_index_or}
 use Rattle.std.proofs.lemmas.List.Edits.{map_over_more}
 use Rattle.mip_rules_mobile.specs.declared.peer.Peer.{Peer}
 use Rattle.mip_rules_mobile.specs.RowQuestions.{unbound, fresh_peer}

@@ -13,6 +13,7 @@ use Rattle.mip_homeagent.specs.Changes.{Claiming, with_change, claims_with, clai
 use Rattle.mip_homeagent.specs.Showing.{Shows, opened}
 use Rattle.mip_homeagent.specs.Desks.{handing_at}
 use Rattle.mip_homeagent.proofs.Befores.{claims_joined}
+use Rattle.mip_homeagent.proofs.Left.{in_any_case, left_judged}
 use Rattle.mip_homeagent.proofs.update.take_update.Goals as goal
 
 pub returns-clause-claims : goal.returns-clause-claims
@@ -37,3 +38,10 @@ returns-clause-shows g c = λ t shows.
     (subst (λ (b : Bench). Shows now (with_change change k) (claims_with change) c.carry_out.new.answers (judged h r c.holds-held.result (verdict b d.shield (claim_with c.holds-held.result claim) r) t)) c.bench-bench.ensures
     (subst (λ (v : HomeVerdict). Shows now (with_change change k) (claims_with change) c.carry_out.new.answers (judged h r c.holds-held.result v t)) c.judge-verdict.ensures.verdict
     (c.in_ok-change.ensures.shows claim t shows)))
+
+pub returns-in_err-change-clause-left : goal.returns-in_err-change-clause-left
+returns-in_err-change-clause-left g c =
+    let d = c.args.desk.now in
+    let r = c.args.registration.now in
+    in_any_case c.from_residual.result _ (left_judged c.bench-bench.result d.shield (claim_in (g.P.Place.around c.args.place.now) (home_of r).0) r c.holds-held.result c.judge-verdict.result
+    (g.P.Place.claims c.args.place.now) (g.P.Place.claims c.judge-verdict.new.place) c.judge-verdict.ensures.verdict c.judge-verdict.ensures.claims)

@@ -1,11 +1,10 @@
-use Rattle.std.proofs.Common.{sym, ap, ◌∙◌, subst, List, [], map}
+use Rattle.std.proofs.Common.{sym, ap, ◌∙◌, subst, List, []}
 use Rattle.std.proofs.lemmas.List.{append-nil}
 use Rattle.std.specs.Prelude.{None}
 use Rattle.mip_bulist.specs.Lists.{ListSeen}
 use Rattle.mip_bulist.specs.Rows.{all_rested}
 use Rattle.mip_rules_mobile.specs.declared.peer.Peer.{Peer}
 use Rattle.mip_rules_mobile.specs.declared.standing.Standing.TheVariants.{Detached}
-use Rattle.mip_rules_mobile.specs.RowQuestions.{unbound}
 use Rattle.mip_rules_mobile.specs.Questions.{after}
 use Rattle.mip_rules_mobile.specs.Steps.{Detaches}
 use Rattle.mip_desk.specs.Seen.{seen}
