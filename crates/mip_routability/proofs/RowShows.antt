@@ -1,19 +1,14 @@
 -- Rules of return routability, by what the desk knows.
-use Rattle.std.proofs.Common.{◌≡◌, ℕ, refl, sym, ap, ◌∙◌}
-use Rattle.std.specs.Prelude.{Option, Some, None, Result, Bool}
+use Rattle.std.proofs.Common.{◌≡◌, ℕ, sym, ap, ◌∙◌}
+use Rattle.std.specs.Prelude.{Option, Some, None}
 use Rattle.mip_words.specs.declared.address.Address.{Address}
-use Rattle.mip_words.specs.declared.token.Cookie.{Cookie}
-use Rattle.mip_bulist.specs.declared.any.Any.{Any}
 use Rattle.mip_bulist.specs.declared.made.Made.{Made}
-use Rattle.mip_bulist.specs.declared.refused.Refused.{Refused}
-use Rattle.mip_rules_mobile.specs.declared.standing.Standing.{Standing}
-use Rattle.mip_rules_mobile.specs.declared.standing.Standing.TheVariants.{AtHome, Away}
 use Rattle.mip_rules_mobile.specs.Known.{Known}
 use Rattle.mip_rules_mobile.specs.HomeQuestions.{home_of}
-use Rattle.mip_rules_mobile.specs.RowQuestions.{first_cookie, second_cookie, peer_of_row, trial_of, wait_of_row}
+use Rattle.mip_rules_mobile.specs.RowQuestions.{peer_of_row, trial_of, wait_of_row}
 use Rattle.mip_rules_mobile.specs.Trials.{makes}
 use Rattle.mip_rules_mobile.specs.Turns.{Turn}
-use Rattle.mip_rules_mobile.specs.TrialRules.{starts_with, starts_at, starts, source_for, sends_update, makes_with, makes_at, updates, goes_on, resends_at, resends_row}
+use Rattle.mip_rules_mobile.specs.TrialRules.{starts_with, starts_at, starts, source_for, sends_update, makes_with, makes_at, updates, resends_at, resends_row}
 
 pub starts-to : (row : ℕ) (peer : Address) (t : Turn) (k : Known) → t.known ≡ k → peer_of_row k row ≡ Some peer → starts_with k.standing row peer t ≡ starts row t
 unfolding starts

@@ -1,5 +1,5 @@
 use Rattle.std.proofs.Common.{true, false, sym, ap, ◌∙◌, refl, subst, OnOk}
-use Rattle.std.specs.Prelude.{Option, not}
+use Rattle.std.specs.Prelude.{not}
 use Rattle.mip_rules_mobile.specs.declared.standing.Standing.{Standing}
 use Rattle.mip_rules_mobile.specs.PeerRules.{comes_right, test_at, cookie, careof_row}
 use Rattle.mip_rules_mobile.specs.RowQuestions.{row_of}

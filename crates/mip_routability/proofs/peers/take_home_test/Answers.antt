@@ -1,5 +1,4 @@
 use Rattle.std.proofs.Common.{true, false, sym, ap, ◌∙◌, refl, subst, OnOk}
-use Rattle.std.specs.Prelude.{Option}
 use Rattle.mip_rules_mobile.specs.declared.standing.Standing.{Standing}
 use Rattle.mip_rules_mobile.specs.PeerRules.{comes_right, test_at, cookie, home_row}
 use Rattle.mip_rules_mobile.specs.RowQuestions.{row_of}

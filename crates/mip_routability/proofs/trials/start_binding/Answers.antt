@@ -8,7 +8,7 @@ use Rattle.mip_rules_mobile.specs.Known.{Known}
 use Rattle.mip_rules_mobile.specs.RowQuestions.{first_cookie, second_cookie}
 use Rattle.mip_rules_mobile.specs.OutRules.{goes_out}
 use Rattle.mip_rules_mobile.specs.TrialRules.{waits}
-use Rattle.mip_rules_mobile.specs.Turns.{Turn, noted}
+use Rattle.mip_rules_mobile.specs.Turns.{noted}
 use Rattle.mip_desk.specs.Seen.{Shows}
 use Rattle.mip_desk.proofs.Noted.{shows-known}
 use Rattle.mip_routability.proofs.trials.start_binding.Goals as goal
