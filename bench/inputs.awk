@@ -10,6 +10,7 @@ BEGIN {
         for (i = 0; i < 200; i++) print "carry 1000"
     }
     else if (what == "listeners") listeners(events)
+    else if (what == "roaming") roaming(events)
     else if (what == "data") { head(); for (i = 0; i < events / 2; i++) { print "data c " home(i) " 253 " bytes_of("5a", 500); print "deliver " i } }
     else if (what == "lost") { head(); for (i = 0; i < events / 2; i++) { print "data c " home(i) " 253 68656c6c6f"; print "lose " i } }
     else if (what == "spaces") printf "mip 1\nseed %s\n", bytes_of(" ", 16777200)
@@ -90,6 +91,33 @@ function mixed(events,    round, k, own) {
         print "data c " own " 253 68656c6c6f"
         print "lose " k + 2
         print "carry 3"
+        print "wait 4000"
+    }
+}
+
+# Eight mobiles in turn move to another link, register, get data, and make a binding; then both sides send straight.
+function roaming(events,    round, i, m, link) {
+    print "mip 1"
+    print "seed 000102030405060708090a0b0c0d0e0f101112131415161718191a1b1c1d1e1f"
+    print "start 0"
+    for (i = 1; i <= 4; i++) print "link n" i " 20010db8000" i "0000"
+    print "agent g n1 20010db8000100000000000000000001 10 1800 16"
+    print "correspondent c n2 " peer " 64"
+    for (i = 0; i < 8; i++) print "mobile m" i " n1 " home(i) " g"
+    for (i = 0; i < 8; i++) print "serve g m" i
+    print "run"
+    for (round = 0; round < events / 10; round++) {
+        m = round % 8
+        link = "n" 3 + int(round / 8) % 2
+        print "move m" m " " link
+        print "advertise " link
+        print "carry 4"
+        print "data c " home(m) " 253 68656c6c6f"
+        print "carry 20"
+        print "data m" m " " peer " 253 68656c6c6f"
+        print "carry 4"
+        print "data c " home(m) " 253 68656c6c6f"
+        print "carry 4"
         print "wait 4000"
     }
 }

@@ -1,6 +1,6 @@
 -- One more entry of a watched history.
 use Rattle.std.proofs.Common.{◌≡◌, ◌≢◌, ℕ, zero, suc, ◌+◌, ◌<◌, List, [], ◌∷◌, ◌++◌, Bool, true, length, inl, inr, refl, sym, ap, ◌∙◌, subst, arith, length-append}
-use Rattle.std.specs.Prelude.{Option, Some, None, ◌==◌, nat_lt, if◌then◌else◌, slice_get}
+use Rattle.std.specs.Prelude.{Option, Some, None, ◌==◌, nat_lt, if◌then◌else◌, option_map, slice_get}
 use Rattle.std.specs.List.{filter_map, cons_option}
 use Rattle.std.specs.Option.{option_and_then, option_map_or}
 use Rattle.std.proofs.lemmas.Bool.{and_parts, eqb-true, ltb-true, ne_eqb, eq-eqb, cases_eq, cases_order}
@@ -14,9 +14,11 @@ use Rattle.mip_entries.specs.declared.entry.Entry.{Entry}
 use Rattle.mip_entries.specs.declared.entry.Entry.TheVariants as entries
 use Rattle.mip_marks.specs.Entries.{packet_told, packet_in}
 use Rattle.mip_watch.specs.declared.watch.Watch.{Watch}
-use Rattle.mip_watch.specs.Stands.{StandsFor, IsNumber, number_posted, IsNext, AreBytes}
+use Rattle.mip_watch.specs.Stands.{StandsFor, IsNumber, number_posted, IsNext, IsHeard}
+use Rattle.mip_watch.specs.Sights.{token_of, token_posted}
+use Rattle.mip_words.specs.declared.token.Token.{Token}
 use Rattle.mip_watch.specs.Told.{IsTold}
-use Rattle.mip_chronicle.specs.Packets.{bytes_posted, number_reached, bytes_at, comes_next, reached_at}
+use Rattle.mip_chronicle.specs.Packets.{bytes_posted, number_reached, bytes_at, token_at, comes_next, heard_at}
 use Rattle.mip_chronicle.specs.Watched.{IsWatched}
 
 -- items of a list with one more
@@ -71,7 +73,7 @@ posts_some (entries.Sent number node shielded packet) n is = (packet, refl)
 posts_some (entries.Injected number outsider link packet) n is = (packet, refl)
 posts_some _ n is = absurd cc
 
-module _ (w : Watch) (past : List Entry) (places : List ℕ) (is : IsWatched w past places) (e : Entry) (next : comes_next (length places) e ≡ true) where
+module _ (w : Watch) (past : List Entry) (places : List ℕ) (kept : List (Option Token)) (is : IsWatched w past places kept) (e : Entry) (next : comes_next (length places) e ≡ true) where
   parts : (option_map_or (λ number. number == length places) (number_posted e) true ≡ true) × (option_map_or (λ number. nat_lt number (length places)) (number_reached e) true ≡ true)
   parts = and_parts _ _ next
 
@@ -82,12 +84,11 @@ module _ (w : Watch) (past : List Entry) (places : List ℕ) (is : IsWatched w p
       by None e = tt
       by (Some k) e = eqb-true k (length places) e ∙ is.count
 
-  pub are_bytes : AreBytes past e (reached_at past places e)
-  are_bytes = by e
+  pub is_heard : IsHeard past e (heard_at kept e)
+  is_heard = by e
     where
-      by : (e : Entry) → AreBytes past e (reached_at past places e)
-      by (entries.Heard number outsider) = is.placed number
-      by (entries.Handed number node) = is.placed number
+      by : (e : Entry) → IsHeard past e (heard_at kept e)
+      by (entries.Heard number outsider) = is.tokens number
       by _ = tt
 
   is_told : IsTold past e
@@ -113,7 +114,7 @@ module _ (w : Watch) (past : List Entry) (places : List ℕ) (is : IsWatched w p
   longer = length-append past (e ∷ [])
 
   -- an entry that posts no packet
-  pub watched_on : (v : Watch) → StandsFor v (past ++ e ∷ []) → number_posted e ≡ None → IsWatched v (past ++ e ∷ []) places
+  pub watched_on : (v : Watch) → StandsFor v (past ++ e ∷ []) → number_posted e ≡ None → IsWatched v (past ++ e ∷ []) places kept
   watched_on v stands none = record {
     stands = stands;
     told = each-append IsTold [] past (e ∷ []) is.told (is_told, tt);
@@ -121,6 +122,8 @@ module _ (w : Watch) (past : List Entry) (places : List ℕ) (is : IsWatched w p
     inside = λ k place there. omega (arith, is.inside k place there, longer);
     posted = λ k inside. subst (λ (o : Option (List ℕ)). o ≢ None) (sym (packet_more past e k)) (some_or (packet_in past k) (packet_told k e) (is.posted k inside));
     count = is.count ∙ sym (ap (λ (l : List ℕ). length l) (filter_map-append number_posted past (e ∷ []) ∙ ap (λ (o : Option ℕ). filter_map number_posted past ++ cons_option o []) none ∙ append-nil (filter_map number_posted past)));
+    tokens = λ k. is.tokens k ∙ sym (ap token_of (packet_more past e k ∙ ap (or_else (packet_in past k)) (told_none e k none) ∙ or_none (packet_in past k)));
+    pairs = is.pairs;
   }
 
   -- one that posts the next packet
@@ -159,8 +162,35 @@ module _ (w : Watch) (past : List Entry) (places : List ℕ) (is : IsWatched w p
               ∙ sym (slice_get_past places k (omega (arith, above)))
         ]
 
-    pub watched_more : (v : Watch) → StandsFor v (past ++ e ∷ []) → IsWatched v (past ++ e ∷ []) (places ++ length past ∷ [])
-    watched_more v stands = record {
+    token_here : (t : Option Token) → option_map (λ (x : Token). x.0) t ≡ token_posted e → token_at (kept ++ t ∷ []) n ≡ token_of (packet_in (past ++ e ∷ []) n)
+    token_here t same =
+        ap (λ (o : Option (Option Token)). option_and_then (option_map (λ (x : Token). x.0)) o) (get_seam kept t n (n_is ∙ sym is.pairs))
+        ∙ same ∙ sym (by e)
+        ∙ ap token_of (sym (packet_more past e n ∙ ap (λ (o : Option (List ℕ)). or_else o (packet_told n e)) none_yet ∙ told_here e n posts))
+      where
+        by : (x : Entry) → token_of (bytes_posted x) ≡ token_posted x
+        by (entries.Sent number node shielded packet) = refl
+        by (entries.Injected number outsider link packet) = refl
+        by _ = refl
+
+    token_there : (t : Option Token) (k : ℕ) → n ≢ k → token_at (kept ++ t ∷ []) k ≡ token_of (packet_in (past ++ e ∷ []) k)
+    token_there t k other =
+        ap (λ (o : Option (Option Token)). option_and_then (option_map (λ (x : Token). x.0)) o) (same k other)
+        ∙ is.tokens k
+        ∙ ap token_of (sym (packet_more past e k ∙ ap (or_else (packet_in past k)) (told_there e n k posts other) ∙ or_none (packet_in past k)))
+      where
+        same : (k : ℕ) → n ≢ k → slice_get (kept ++ t ∷ []) k ≡ slice_get kept k
+        same k other = elim (cases_order k (length kept)) as (λ _. slice_get (kept ++ t ∷ []) k ≡ slice_get kept k) [
+          | inl at ↦ absurd (other (n_is ∙ sym is.pairs ∙ sym at))
+          | inr (inl below) ↦ get_front kept t k below
+          | inr (inr above) ↦
+              slice_get_past (kept ++ t ∷ []) k (omega (arith, length-append kept (t ∷ []), above))
+              ∙ sym (slice_get_past kept k (omega (arith, above)))
+        ]
+
+    pub watched_more : (v : Watch) (t : Option Token) → StandsFor v (past ++ e ∷ []) → option_map (λ (x : Token). x.0) t ≡ token_posted e
+        → IsWatched v (past ++ e ∷ []) (places ++ length past ∷ []) (kept ++ t ∷ [])
+    watched_more v t stands token = record {
       stands = stands;
       told = each-append IsTold [] past (e ∷ []) is.told (is_told, tt);
       placed = λ k. elim (cases_eq n k) as (λ _. bytes_at (past ++ e ∷ []) (places ++ length past ∷ []) k ≡ packet_in (past ++ e ∷ []) k) [
@@ -178,6 +208,11 @@ module _ (w : Watch) (past : List Entry) (places : List ℕ) (is : IsWatched w p
           length-append places (length past ∷ [])
           ∙ ap (λ (m : ℕ). m + 1) is.count
           ∙ sym (ap (λ (l : List ℕ). length l) (filter_map-append number_posted past (e ∷ []) ∙ ap (λ (o : Option ℕ). filter_map number_posted past ++ cons_option o []) posts) ∙ length-append (filter_map number_posted past) (n ∷ []));
+      tokens = λ k. elim (cases_eq n k) as (λ _. token_at (kept ++ t ∷ []) k ≡ token_of (packet_in (past ++ e ∷ []) k)) [
+        | inl same ↦ subst (λ (m : ℕ). token_at (kept ++ t ∷ []) m ≡ token_of (packet_in (past ++ e ∷ []) m)) same (token_here t token)
+        | inr other ↦ token_there t k other
+      ];
+      pairs = length-append kept (t ∷ []) ∙ ap (λ (m : ℕ). m + 1) is.pairs ∙ sym (length-append places (length past ∷ []));
     }
       where
         here : packet_in (past ++ e ∷ []) n ≢ None

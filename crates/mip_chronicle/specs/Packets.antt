@@ -1,6 +1,7 @@
 -- The packets of a history by their places.
-use Rattle.std.specs.Prelude.{ℕ, List, Bool, true, ◌==◌, nat_lt, ◌&&◌, Option, Some, None, slice_get}
+use Rattle.std.specs.Prelude.{ℕ, List, Bool, true, ◌==◌, nat_lt, ◌&&◌, Option, Some, None, option_map, slice_get}
 use Rattle.std.specs.Option.{option_and_then, option_map_or}
+use Rattle.mip_words.specs.declared.token.Token.{Token}
 use Rattle.mip_entries.specs.declared.entry.Entry.{Entry}
 use Rattle.mip_entries.specs.declared.entry.Entry.TheVariants as entries
 use Rattle.mip_watch.specs.Stands.{number_posted}
@@ -26,6 +27,11 @@ abbrev pub comes_next : ℕ → Entry → Bool
 comes_next count e =
     option_map_or (λ number. number == count) (number_posted e) true && option_map_or (λ number. nat_lt number count) (number_reached e) true
 
--- the packet that an entry says was heard or handed over
-abbrev pub reached_at : List Entry → List ℕ → Entry → Option (List ℕ)
-reached_at past places e = option_and_then (bytes_at past places) (number_reached e)
+-- the token of packet k, where there is one and it is a test
+abbrev pub token_at : List (Option Token) → ℕ → Option (List ℕ)
+token_at tokens k = option_and_then (option_map (λ (t : Token). t.0)) (slice_get tokens k)
+
+-- the token of the packet that an entry says was heard
+abbrev pub heard_at : List (Option Token) → Entry → Option (List ℕ)
+heard_at tokens (entries.Heard number outsider) = token_at tokens number
+heard_at tokens _ = None

@@ -1,13 +1,13 @@
-ghost use Rattle.std.specs.Prelude.{◌≡◌, ◌∷◌, ◌++◌, [], length, true, IfOk, OnOk, option_map};
+ghost use Rattle.std.specs.Prelude.{◌≡◌, ◌∷◌, ◌++◌, [], length, true, IfOk, OnOk};
 ghost use Rattle.mip_marks.specs.Marks.{mark_in};
-ghost use Rattle.mip_chronicle.specs.Packets.{bytes_at, comes_next, reached_at};
+ghost use Rattle.mip_chronicle.specs.Packets.{bytes_at, comes_next};
 ghost use Rattle.mip_chronicle.specs.Watched.{IsWatched};
 
-use crate::packets::{bytes_at, number_posted, number_reached};
+use crate::packets::{bytes_at, heard, number_posted, number_reached};
 use mip_entries::{Entry, History};
 use mip_marks::{AcceptedUpdate, Mark, mark_behind};
 use mip_watch::Watch;
-use mip_words::Memory;
+use mip_words::{Memory, Token};
 use std::alloc::Global;
 use std::marker::Model;
 
@@ -21,6 +21,7 @@ pub struct Chronicle {
     history: History,
     watch: Watch,
     places: Vec<usize>,
+    tokens: Vec<Option<Token>>,
     is_watched: bool,
 }
 
@@ -33,7 +34,7 @@ impl Model for Chronicle {
 
     ghost view = { λ c. c.history };
 
-    ghost invariant = { λ c. c.is_watched ≡ true → IsWatched c.watch c.history c.places.items };
+    ghost invariant = { λ c. c.is_watched ≡ true → IsWatched c.watch c.history c.places.items c.tokens.items };
 }
 
 impl Chronicle {
@@ -46,6 +47,7 @@ impl Chronicle {
             history: History::new(alloc)?,
             watch: Watch::new(alloc),
             places: Vec::new(alloc),
+            tokens: Vec::new(alloc),
             is_watched: true,
         })
     }
@@ -62,6 +64,7 @@ impl Chronicle {
                 self.alloc,
                 &mut self.watch,
                 &mut self.places,
+                &mut self.tokens,
                 &self.history,
                 &entry,
             )?;
@@ -105,33 +108,25 @@ fn is_next(count: usize, entry: &Entry) -> bool
     posted && reached
 }
 
-/// The packet that an entry says was heard or handed over.
-fn reached<'a>(history: &'a History, places: &[usize], entry: &Entry) -> Option<&'a [u8]>
-    ensures { option_map (λ p. p.now) result ≡ reached_at history.now places.now entry.now }
-{
-    match number_reached(entry) {
-        Some(number) => bytes_at(history, places, number),
-        None => None,
-    }
-}
-
-/// The watch and the places go along with one more entry, where it comes next.
+/// The watch, the places and the tokens go along with one more entry, where it comes next.
 fn follow(
     alloc: Global,
     watch: &mut Watch,
     places: &mut Vec<usize>,
+    tokens: &mut Vec<Option<Token>>,
     history: &History,
     entry: &Entry,
 ) -> Result<bool, Memory>
-    ensures { IsWatched watch.old history.now places.old.items → IfOk result (λ is. is ≡ true → IsWatched watch.new (history.now ++ entry.now ∷ []) places.new.items) }
+    ensures { IsWatched watch.old history.now places.old.items tokens.old.items → IfOk result (λ is. is ≡ true → IsWatched watch.new (history.now ++ entry.now ∷ []) places.new.items tokens.new.items) }
 {
     if !is_next(places.len(), entry) {
         return Ok(false);
     }
-    let packet = reached(history, places.as_slice(), entry);
-    watch.note(alloc, entry, packet)?;
+    let heard = heard(tokens.as_slice(), entry);
+    let token = watch.note(alloc, entry, heard)?;
     if number_posted(entry).is_some() {
         places.push(history.len())?;
+        tokens.push(token)?;
     }
     Ok(true)
 }

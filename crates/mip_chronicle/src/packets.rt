@@ -2,9 +2,10 @@
 
 ghost use Rattle.std.specs.Prelude.{◌≡◌, option_map};
 ghost use Rattle.mip_watch.specs.Stands.{number_posted};
-ghost use Rattle.mip_chronicle.specs.Packets.{bytes_posted, number_reached, bytes_at};
+ghost use Rattle.mip_chronicle.specs.Packets.{bytes_posted, number_reached, bytes_at, heard_at};
 
 use mip_entries::{Entry, History};
+use mip_words::Token;
 
 /// The number of the packet that an entry posts.
 pub fn number_posted(entry: &Entry) -> Option<u64>
@@ -24,6 +25,19 @@ pub fn number_reached(entry: &Entry) -> Option<u64>
     match entry {
         Entry::Heard { number, .. } => Some(*number),
         Entry::Handed { number, .. } => Some(*number),
+        _ => None,
+    }
+}
+
+/// The token of the packet that an entry says was heard, where it is a test.
+pub fn heard(tokens: &[Option<Token>], entry: &Entry) -> Option<Token>
+    ensures { option_map (λ t. t.0) result ≡ heard_at tokens.now entry.now }
+{
+    match entry {
+        Entry::Heard { number, .. } => match tokens.get(*number as usize) {
+            Some(token) => *token,
+            None => None,
+        },
         _ => None,
     }
 }

@@ -1,23 +1,22 @@
 -- A delivery keeps a run.
-use Rattle.std.proofs.Common.{◌≡◌, ℕ, zero, suc, ◌-◌, ◌<◌, List, [], ◌∷◌, Bool, true, false, length, refl, sym, ap, ◌∙◌, subst}
+use Rattle.std.proofs.Common.{◌≡◌, ℕ, zero, suc, ◌<◌, List, [], ◌∷◌, Bool, true, false, length, refl, sym, ap, ◌∙◌, subst}
 use Rattle.std.specs.Prelude.{Option, Some, None, if◌then◌else◌, slice_get, slice_index_or}
 use Rattle.std.proofs.lemmas.Option.{slice_get_within}
 use Rattle.mip_entries.specs.declared.entry.Entry.TheVariants as entries
 use Rattle.mip_entries.specs.Completed.{node_id}
-use Rattle.mip_rules_correspondent.specs.Calls.{Call, Take}
-use Rattle.mip_links.specs.Table.{Post, delivery, in_pool}
+use Rattle.mip_links.specs.Table.{Post, delivery, in_pool, outsider_of}
 use Rattle.mip_links.specs.Nets.{lowest_of}
 use Rattle.mip_links.specs.declared.delivery.Delivery.{Delivery}
 use Rattle.mip_links.specs.declared.delivery.Delivery.TheVariants.{Idle, Gone, Outsider, Node}
-use Rattle.mip_history.specs.Setup.{Setup, Host, Kind}
-use Rattle.mip_history.specs.Setup.Kind.{Correspondent, Agent, Mobile}
+use Rattle.mip_history.specs.Setup.{Setup}
 use Rattle.mip_history.specs.Runs.{Run, note, without}
 use Rattle.mip_history.specs.Questions.{asked_in}
-use Rattle.mip_history.specs.Nodes.{by_host, by_kind}
+use Rattle.mip_history.specs.Calls.{Take}
 use Rattle.mip_history.specs.Delivery.{handed_over, overheard_at, hears_there, handed, is_no_holder, became, arrival_link, arrived, delivered, carried_one, carried}
 use Rattle.mip_history.proofs.Runs.{IsRun, IsQuiet, Goes, quiet_same, quiet_then, quiet_notes, quiet_heard, quiet_handed, quiet_run, goes_quietly, goes_then}
 use Rattle.mip_history.proofs.Posts.{quiet_overheard, overheard_posts}
 use Rattle.mip_history.proofs.Handing.{handed_to}
+use Rattle.mip_history.proofs.Acting.{acts_goes}
 
 -- one entry that says nothing of all this
 quiet_overheard_at : (s : Setup) (post : Post) (k : ℕ) (link : Option ℕ) (run : Run) → k < length run.posts → IsQuiet s run (overheard_at s post k link run)
@@ -30,25 +29,11 @@ posts_overheard_at s post k (Some link) run = overheard_posts s link post.shield
 
 handed_goes : (s : Setup) (k n : ℕ) (post : Post) (link : Option ℕ) (run : Run) → IsRun s run → slice_get run.posts k ≡ Some post → Goes s run (handed s k post n link run)
 unfolding handed
-handed_goes s k n post link run is posted = by (slice_get s.hosts n) refl
-  where
-    call : Call
-    call = Take k post.shield (handed_over post.packet link)
-
-    next : Run
-    next = note (entries.Handed k (node_id n)) run
-
-    stays : Goes s run (note entries.Idle next)
-    stays = goes_quietly s run _ is (quiet_then s run next _ (quiet_handed s k (node_id n) run (slice_get_within run.posts k post posted)) (quiet_notes s (entries.Idle ∷ []) next refl))
-
-    by : (o : Option Host) → slice_get s.hosts n ≡ o → Goes s run (by_host s n call next o)
-    by None e = stays
-    by (Some host) e = of_kind host.kind e
-      where
-        of_kind : (kind : Kind) → slice_get s.hosts n ≡ Some (record { address = host.address; kind = kind }) → Goes s run (by_kind s n host.address call next kind)
-        of_kind (Correspondent room) e = handed_to s k n post link run is posted host.address room e
-        of_kind Agent e = stays
-        of_kind Mobile e = stays
+handed_goes s k n post link run is posted =
+    let next = note (entries.Handed k (node_id n)) run in
+    let quiet = quiet_handed s k (node_id n) run (slice_get_within run.posts k post posted) in
+    goes_then s run next _ (goes_quietly s run next is quiet)
+    (acts_goes s n (Take k post.shield (handed_over post.packet link)) next (quiet_run s run next quiet is) (λ own room e. handed_to s k n post link run is posted own room e))
 
 module _ (s : Setup) (k : ℕ) (post : Post) (link : Option ℕ) (run : Run) (is : IsRun s run) (posted : slice_get run.posts k ≡ Some post) where
   inside : k < length run.posts
@@ -61,11 +46,11 @@ module _ (s : Setup) (k : ℕ) (post : Post) (link : Option ℕ) (run : Run) (is
       by : (b : Bool) → Goes s run (note (entries.Gone k why) (if b then overheard_at s post k link run else run))
       by true = goes_quietly s run _ is (quiet_then s run (overheard_at s post k link run) _ (quiet_overheard_at s post k link run inside) (quiet_notes s (entries.Gone k why ∷ []) (overheard_at s post k link run) refl))
       by false = goes_quietly s run _ is (quiet_notes s (entries.Gone k why ∷ []) run refl)
-  became_goes (Outsider who) = goes_quietly s run _ is (quiet_then s run (overheard_at s post k link run) _ (quiet_overheard_at s post k link run inside) (by (hears_there (overheard_at s post k link run) (who - 32) link)))
+  became_goes (Outsider who) = goes_quietly s run _ is (quiet_then s run (overheard_at s post k link run) _ (quiet_overheard_at s post k link run inside) (by (hears_there (overheard_at s post k link run) (outsider_of who) link)))
     where
-      by : (b : Bool) → IsQuiet s (overheard_at s post k link run) (if b then overheard_at s post k link run else note (entries.Heard k (who - 32)) (overheard_at s post k link run))
+      by : (b : Bool) → IsQuiet s (overheard_at s post k link run) (if b then overheard_at s post k link run else note (entries.Heard k (outsider_of who)) (overheard_at s post k link run))
       by true = quiet_same s (overheard_at s post k link run)
-      by false = quiet_heard s k (who - 32) (overheard_at s post k link run) (subst (λ (l : List Post). k < length l) (sym (posts_overheard_at s post k link run)) inside)
+      by false = quiet_heard s k (outsider_of who) (overheard_at s post k link run) (subst (λ (l : List Post). k < length l) (sym (posts_overheard_at s post k link run)) inside)
   became_goes (Node n) =
       let quiet = quiet_overheard_at s post k link run inside in
       goes_then s run (overheard_at s post k link run) _ (goes_quietly s run (overheard_at s post k link run) is quiet)
@@ -82,7 +67,7 @@ pool_posted true posts k post e = e
 pool_posted false posts k post e = absurd cc
 
 quiet_without : (s : Setup) (k : ℕ) (run : Run) → IsQuiet s run (without k run)
-quiet_without s k run = record { pasts = refl; accepted = λ n. refl; moment = refl; life = λ n. refl; kept = λ kept. kept }
+quiet_without s k run = record { pasts = refl; agents = refl; mobiles = refl; accepted = λ n mine. refl; moment = refl; life = λ n. refl; kept = λ kept. kept }
 
 pub delivered_goes : (s : Setup) (run : Run) (k : ℕ) (keep : Bool) → IsRun s run → Goes s run (delivered s run k keep)
 unfolding delivered

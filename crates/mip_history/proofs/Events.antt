@@ -1,84 +1,58 @@
 -- Each event keeps a run, and so does a whole schedule.
-use Rattle.std.proofs.Common.{◌≡◌, ℕ, zero, suc, ◌+◌, ◌<◌, ◌≤◌, List, [], ◌∷◌, ◌++◌, Bool, true, false, length, inl, inr, refl, sym, ap, ◌∙◌, subst, arith, length-set, length-append}
-use Rattle.std.specs.Prelude.{fold, map, Option, Some, None, unwrap_or, ◌==◌, if◌then◌else◌, slice_get, slice_set, slice_index_or, ◌||◌}
-use Rattle.std.specs.List.{list_any, sum_by, AllByRecursion}
-use Rattle.std.proofs.lemmas.List.{append-nil, length-map, get_or-set_same, get_or-set_other}
-use Rattle.std.proofs.lemmas.List.Sums.{fold-append, sum_by-cons}
-use Rattle.std.proofs.lemmas.List.Elements.{filter_map-append}
-use Rattle.std.proofs.lemmas.Option.{slice_get_within}
-use Rattle.std.proofs.lemmas.Bool.{cases_eq, eqb-true, eq-eqb, ne_eqb}
+use Rattle.std.proofs.Common.{◌≡◌, ℕ, List, [], ◌∷◌, Bool, true, false, refl, sym, ap, arith}
+use Rattle.std.specs.Prelude.{fold, map, Option, Some, None, if◌then◌else◌, slice_get, slice_index_or, ◌||◌}
+use Rattle.std.specs.List.{list_any, sum_by}
+use Rattle.std.proofs.lemmas.List.Sums.{sum_by-cons}
 use Rattle.mip_words.specs.declared.address.Address.{Address}
+use Rattle.mip_words.specs.declared.ids.LinkId.{LinkId}
 use Rattle.mip_bcache.specs.declared.row.Row.{Row}
 use Rattle.mip_bcache.specs.Seen.{kept_at}
-use Rattle.mip_lists.specs.EachAfter.{EachAfter}
-use Rattle.mip_lists.proofs.EachLaws.{each-append}
 use Rattle.mip_entries.specs.declared.entry.Entry.{Entry}
 use Rattle.mip_entries.specs.declared.entry.Entry.TheVariants as entries
 use Rattle.mip_entries.specs.Completed.{node_id}
-use Rattle.mip_entries.specs.Stamped.{Stamped}
 use Rattle.mip_schedule.specs.declared.event.Event.{Event}
-use Rattle.mip_schedule.specs.declared.event.Event.TheVariants.{Wait, Payload, Inject, Probe, Bind, Tell, Listen, Deaf, Squat, Yield, Deliver, Repeat, Lose, Carry, Restart, Refresh, Show}
-use Rattle.mip_rules_correspondent.specs.declared.identity.Identity.{Identity}
-use Rattle.mip_rules_correspondent.specs.declared.known.Known.{Known}
-use Rattle.mip_rules_correspondent.specs.Steps.{Step, is_acceptance}
-use Rattle.mip_rules_correspondent.specs.Pasts.{accepted_in}
-use Rattle.mip_rules_correspondent.specs.Calls as calls
-use Rattle.mip_rules_correspondent.specs.Calls.{Call}
-use Rattle.mip_rules_correspondent.specs.Doing.{turn_of}
-use Rattle.mip_rules_correspondent.proofs.Taken.{refreshed_none, sent_none}
-use Rattle.mip_links.specs.Table.{link_of}
-use Rattle.mip_links.specs.Nets.{is_held_by}
+use Rattle.mip_schedule.specs.declared.event.Event.TheVariants.{Wait, Move, Advertise, Payload, Inject, Probe, Bind, Tell, Listen, Deaf, Squat, Yield, Deliver, Repeat, Lose, Carry, Restart, Refresh, Plan, Ask, Show, Settle}
+use Rattle.mip_rules_agent.specs.declared.home_row.HomeRow.{HomeRow}
+use Rattle.mip_rules_agent.specs.Questions.{rows_at}
+use Rattle.mip_links.specs.Table.{holder_outside}
 use Rattle.mip_history.specs.Setup.{Setup, Host, Kind}
 use Rattle.mip_history.specs.Setup.Kind.{Correspondent, Agent, Mobile}
 use Rattle.mip_history.specs.Runs.{Run, note, without}
-use Rattle.mip_history.specs.Questions.{moment_says, moment_in, restarts, life_in, holder_in, hears_in}
-use Rattle.mip_history.specs.Nodes.{link_or_first, past_at, known_in, identity_in, now_in, by_host, by_kind, acts, row_entry, rows_shown, rows_by_kind, shown}
-use Rattle.mip_history.specs.Outsiders.{link_id, injected, injected_if, probe_packet, update_packet, test_packet, claim_entry, squatted, squats, yielded, yields}
-use Rattle.mip_history.specs.Permitted.{claims_from, opened, lost, restarted, waited, happens, run_of}
+use Rattle.mip_history.specs.Questions.{hears_in}
+use Rattle.mip_history.specs.Calls as calls
+use Rattle.mip_history.specs.Calls.{Call}
+use Rattle.mip_history.specs.Claims.{link_id}
+use Rattle.mip_history.specs.Knowing.{now_in, known_in, agent_known_in, mobile_known_in}
+use Rattle.mip_history.specs.Nodes.{acts, row_entry, home_entry, rows_shown, rows_by_kind, shown}
+use Rattle.mip_history.specs.Outsiders.{injected, injected_if, probe_packet, update_packet, test_packet}
+use Rattle.mip_history.specs.Waiting.{waited}
+use Rattle.mip_history.specs.Permitted.{opened, lost, moves, happens, run_of}
 use Rattle.mip_history.specs.Passing.{waited_by, restarted_by}
-use Rattle.mip_history.specs.Claims.{is_free_for}
-use Rattle.mip_history.specs.Bound.{Lived, lived, accepted_by, packet_posted, packets_of}
-use Rattle.mip_history.proofs.Quiet.{is_told}
-use Rattle.mip_history.proofs.Runs.{Meets, IsPast, IsRun, IsQuiet, Goes, quiet_same, quiet_notes, quiet_meeting, is_met, goes_quietly}
+use Rattle.mip_history.proofs.Runs.{IsRun, quiet_same, quiet_notes, is_met, goes_then}
 use Rattle.mip_history.proofs.Posts.{quiet_injected}
-use Rattle.mip_history.proofs.Handing.{turned_quietly}
+use Rattle.mip_history.proofs.Claiming.{quiet_claims, quiet_gives_up}
+use Rattle.mip_history.proofs.Acting.{noted_goes, is_take, acts_calmly}
 use Rattle.mip_history.proofs.Deliveries.{delivered_goes, carried_goes}
-
--- what a stretch of a schedule keeps: time goes on by what it waits, and lives by what it restarts
-pub record Passes (s : Setup) (before after : Run) (waits : ℕ) (again : ℕ → ℕ) : Type 0 where
-  pub run : IsRun s after
-  pub moment : moment_in s.start after.past ≡ moment_in s.start before.past + waits
-  pub life : (n : ℕ) → life_in after.past n ≡ life_in before.past n + again n
+use Rattle.mip_history.proofs.Advertising.{advertised_goes}
+use Rattle.mip_history.proofs.Waiting.{waited_comes}
+use Rattle.mip_history.proofs.Restarting.{restarted_passes}
+use Rattle.mip_history.proofs.Opening.{nothing, nothing_is, quiet_opened}
+use Rattle.mip_history.proofs.Passes.{Passes, still, quietly, passes_then}
 
 abbrev Happens : Setup → Run → Event → Run → Type 0
 Happens s before event after = Passes s before after (waited_by event) (λ n. restarted_by n event)
 
-still : (s : Setup) (a b : Run) → Goes s a b → Passes s a b 0 (λ n. 0)
-still s a b goes = record { run = goes.run; moment = let e = goes.moment in omega (arith, e); life = λ n. let e = goes.life n in omega (arith, e) }
-
-quietly : (s : Setup) (a b : Run) → IsRun s a → IsQuiet s a b → Passes s a b 0 (λ n. 0)
-quietly s a b is quiet = still s a b (goes_quietly s a b is quiet)
-
 noted_one : (s : Setup) (run : Run) (e : Entry) → IsRun s run → is_met e ≡ false → Passes s run (note e run) 0 (λ n. 0)
 noted_one s run e is quiet = quietly s run (note e run) is (quiet_notes s (e ∷ []) run (ap (λ (b : Bool). b || false) quiet))
 
--- a call that accepts nothing
-acts_quietly : (s : Setup) (n : ℕ) (call : Call) (run : Run) → IsRun s run
-    → ((me : Identity) (k : Known) (now : ℕ) → ((turn_of me k now call).now ≡ now) × (list_any is_acceptance (turn_of me k now call).steps ≡ false))
-    → Passes s run (acts s n call run) 0 (λ n. 0)
-acts_quietly s n call run is none = by (slice_get s.hosts n) refl
-  where
-    by : (o : Option Host) → slice_get s.hosts n ≡ o → Passes s run (by_host s n call run o) 0 (λ n. 0)
-    by None e = noted_one s run entries.Idle is refl
-    by (Some host) e = of_kind host.kind
-      where
-        of_kind : (kind : Kind) → Passes s run (by_kind s n host.address call run kind) 0 (λ n. 0)
-        of_kind (Correspondent room) =
-            let me = identity_in s run n host.address room in
-            let q = none me (known_in run n room) (now_in s run) in
-            still s run _ (turned_quietly s n host.address run (turn_of me (known_in run n room) (now_in s run) call) is (slice_get_within s.hosts n host e) q.0 q.1)
-        of_kind Agent = noted_one s run entries.Idle is refl
-        of_kind Mobile = noted_one s run entries.Idle is refl
+-- a call in which no packet is handed over
+acted : (s : Setup) (n : ℕ) (call : Call) (run : Run) → IsRun s run → is_take call ≡ false → Passes s run (acts s n call run) 0 (λ n. 0)
+acted s n call run is calm = still s run _ (acts_calmly s n call run is calm)
+
+moves_goes : (s : Setup) (run : Run) (n : ℕ) (link : Option LinkId) → IsRun s run → Passes s run (moves s run n link) 0 (λ n. 0)
+moves_goes s run n link is =
+    let left = acts_calmly s n calls.Leave run is refl in
+    still s run _ (goes_then s run (acts s n calls.Leave run) _ left (noted_goes s (acts s n calls.Leave run) (entries.Moved (node_id n) link) left.run refl))
 
 -- what outsiders do
 injected_goes : (s : Setup) (run : Run) (o link : ℕ) (packet : List ℕ) → IsRun s run → Passes s run (injected s run o link packet) 0 (λ n. 0)
@@ -92,153 +66,49 @@ one_of : (s : Setup) (run : Run) (b : Bool) (x y : Entry) → IsRun s run → is
 one_of s run true x y is p q = noted_one s run x is p
 one_of s run false x y is p q = noted_one s run y is q
 
-met_one : (s : Setup) (run : Run) (e : Entry) → IsRun s run → is_told e ≡ false → Meets s run.past e → Passes s run (note e run) 0 (λ n. 0)
-met_one s run e is quiet meets = quietly s run (note e run) is (quiet_meeting s (e ∷ []) run (ap (λ (b : Bool). b || false) quiet) (λ kept. (meets, tt)))
-
-squats_goes : (s : Setup) (run : Run) (o : ℕ) (address : Address) → IsRun s run → Passes s run (squats s run o address) 0 (λ n. 0)
-squats_goes s run o address is = by (link_of s.links address.0)
-  where
-    choice : (link other : ℕ) (same : Bool) → (other == (o + 32)) ≡ same → holder_in run.past address.0 ≡ Some other
-        → Passes s run (note (if same then entries.Claimed (o + 32) (link_id link) address else entries.Taken (o + 32) (link_id link) address other) run) 0 (λ n. 0)
-    choice link other true test e = met_one s run (entries.Claimed (o + 32) (link_id link) address) is refl (λ long. ap (λ (h : Option ℕ). is_free_for h (o + 32)) e ∙ test)
-    choice link other false test e = met_one s run (entries.Taken (o + 32) (link_id link) address other) is refl e
-
-    claim : (link : ℕ) (holder : Option ℕ) → holder_in run.past address.0 ≡ holder → Passes s run (note (claim_entry (o + 32) address link holder) run) 0 (λ n. 0)
-    claim link None e = met_one s run (entries.Claimed (o + 32) (link_id link) address) is refl (λ long. ap (λ (h : Option ℕ). is_free_for h (o + 32)) e)
-    claim link (Some other) e = choice link other (other == (o + 32)) refl e
-
-    by : (link : Option ℕ) → Passes s run (squatted (o + 32) address run link) 0 (λ n. 0)
-    by None = noted_one s run entries.Idle is refl
-    by (Some link) = claim link (holder_in run.past address.0) refl
-
-yields_goes : (s : Setup) (run : Run) (o : ℕ) (address : Address) → IsRun s run → Passes s run (yields s run o address) 0 (λ n. 0)
-yields_goes s run o address is = by (link_of s.links address.0)
-  where
-    held_is : (holder : Option ℕ) (who : ℕ) → is_held_by holder who ≡ true → holder ≡ Some who
-    held_is None who e = absurd cc
-    held_is (Some other) who e = ap (λ (n : ℕ). Some n) (eqb-true other who e)
-
-    release : (link : ℕ) (held : Bool) → is_held_by (holder_in run.past address.0) (o + 32) ≡ held
-        → Passes s run (note (if held then entries.Released (o + 32) (link_id link) address else entries.Idle) run) 0 (λ n. 0)
-    release link true e = met_one s run (entries.Released (o + 32) (link_id link) address) is refl (held_is (holder_in run.past address.0) (o + 32) e)
-    release link false e = noted_one s run entries.Idle is refl
-
-    by : (link : Option ℕ) → Passes s run (yielded (o + 32) address run link) 0 (λ n. 0)
-    by None = noted_one s run entries.Idle is refl
-    by (Some link) = release link (is_held_by (holder_in run.past address.0) (o + 32)) refl
-
 -- rows that are shown
 rows_quiet : (n : ℕ) (rows : List Row) → list_any is_met (map (row_entry n) rows) ≡ false
 rows_quiet n [] = refl
 rows_quiet n (r ∷ rows) = rows_quiet n rows
+
+homes_quiet : (n : ℕ) (rows : List HomeRow) → list_any is_met (map (home_entry n) rows) ≡ false
+homes_quiet n [] = refl
+homes_quiet n (r ∷ rows) = homes_quiet n rows
+
+kind_quiet : (s : Setup) (n : ℕ) (own : Address) (run : Run) (kind : Kind) → list_any is_met (rows_by_kind s n own run kind) ≡ false
+kind_quiet s n own run (Correspondent room) = rows_quiet n (kept_at (known_in run n room).cache (now_in s run))
+kind_quiet s n own run (Agent preference life room serves) = homes_quiet n (rows_at (now_in s run) (agent_known_in run n serves).homes)
+kind_quiet s n own run (Mobile agent) = rows_quiet n (kept_at (mobile_known_in s run n own agent).part.known.cache (now_in s run))
 
 shown_goes : (s : Setup) (n : ℕ) (run : Run) → IsRun s run → Passes s run (shown s n run) 0 (λ n. 0)
 shown_goes s n run is = by (slice_get s.hosts n)
   where
     by : (o : Option Host) → Passes s run (rows_shown s n run o) 0 (λ n. 0)
     by None = noted_one s run entries.Idle is refl
-    by (Some host) = of_kind host.kind
-      where
-        of_kind : (kind : Kind) → Passes s run (rows_by_kind s n run kind) 0 (λ n. 0)
-        of_kind (Correspondent room) =
-            let rows = kept_at (known_in run n room).cache (now_in s run) in
-            quietly s run _ is (quiet_notes s (map (row_entry n) rows) run (rows_quiet n rows))
-        of_kind Agent = noted_one s run entries.Idle is refl
-        of_kind Mobile = noted_one s run entries.Idle is refl
+    by (Some host) = quietly s run _ is (quiet_notes s (rows_by_kind s n host.address run host.kind) run (kind_quiet s n host.address run host.kind))
 
 lost_goes : (s : Setup) (run : Run) (k : ℕ) → IsRun s run → Passes s run (lost run k) 0 (λ n. 0)
 unfolding lost
 lost_goes s run k is = by (slice_index_or run.flying k false)
   where
     out : IsRun s (without k run)
-    out = record { nodes = is.nodes; kept = is.kept; pasts = is.pasts }
+    out = record { nodes = is.nodes; agents = is.agents; mobiles = is.mobiles; kept = is.kept; pasts = is.pasts }
 
     by : (b : Bool) → Passes s run (note (if b then entries.Lost k else entries.Idle) (without k run)) 0 (λ n. 0)
     by b = let p = one_of s (without k run) b (entries.Lost k) entries.Idle out refl refl in record { run = p.run; moment = p.moment; life = p.life }
 
 -- time goes on
-all_later : (at later : ℕ) (past : List (Stamped Step)) → at ≤ later → AllByRecursion (λ t. t.at ≤ at) past → AllByRecursion (λ t. t.at ≤ later) past
-all_later at later [] p all = tt
-all_later at later (t ∷ past) p all = (let e = all.0 in omega arith, all_later at later past p all.1)
-
 waited_goes : (s : Setup) (run : Run) (ms : ℕ) → IsRun s run → Passes s run (waited s run ms) ms (λ n. 0)
-unfolding waited accepted_by
-waited_goes s run ms is = record {
-  run = record {
-    nodes = is.nodes;
-    kept = record {
-      packets = filter_map-append packet_posted run.past (e ∷ []) ∙ append-nil (packets_of run.past) ∙ is.kept.packets;
-      each = each-append (Meets s) [] run.past (e ∷ []) is.kept.each (omega arith, tt);
-    };
-    pasts = λ n inside. let p = is.pasts n inside in record {
-      accepted = p.accepted ∙ sym (ap (λ (l : Lived). l.accepted) (fold-append (lived n) (record { at = s.start; accepted = [] }) run.past (e ∷ [])));
-      rises = p.rises;
-      early = subst (λ (at : ℕ). AllByRecursion (λ t. t.at ≤ at) (past_at run n)) (sym moment) (all_later (moment_in s.start run.past) (moment_in s.start run.past + ms) (past_at run n) (omega arith) p.early);
-    };
-  };
-  moment = moment;
-  life = λ n. fold-append (restarts n) 0 run.past (e ∷ []) ∙ omega arith;
-}
-  where
-    e : Entry
-    e = entries.At (record { 0 = moment_in s.start run.past + ms })
-
-    moment : moment_in s.start (run.past ++ e ∷ []) ≡ moment_in s.start run.past + ms
-    moment = fold-append (λ (at : ℕ) (x : Entry). unwrap_or (moment_says x) at) s.start run.past (e ∷ [])
-
--- a node begins its next life
-module _ (s : Setup) (run : Run) (n : ℕ) (is : IsRun s run) where
-  restarted_accepted : (m : ℕ) → accepted_by s.start (run.past ++ entries.Restarted (node_id n) ∷ []) m ≡ (if m == n then [] else accepted_by s.start run.past m)
-  unfolding accepted_by
-  restarted_accepted m = ap (λ (l : Lived). l.accepted) (fold-append (lived m) (record { at = s.start; accepted = [] }) run.past (entries.Restarted (node_id n) ∷ []))
-
-  restarted_moment : moment_in s.start (run.past ++ entries.Restarted (node_id n) ∷ []) ≡ moment_in s.start run.past
-  restarted_moment = fold-append (λ (at : ℕ) (x : Entry). unwrap_or (moment_says x) at) s.start run.past (entries.Restarted (node_id n) ∷ [])
-
-  restarted_past : (m : ℕ) → m < length s.hosts → IsPast s (run.past ++ entries.Restarted (node_id n) ∷ []) (slice_index_or (slice_set run.pasts n []) m []) m
-  unfolding accepted_in
-  restarted_past m inside = elim (cases_eq m n) as (λ _. IsPast s (run.past ++ entries.Restarted (node_id n) ∷ []) (slice_index_or (slice_set run.pasts n []) m []) m) [
-    | inl e ↦
-        subst (λ (l : List (Stamped Step)). IsPast s (run.past ++ entries.Restarted (node_id n) ∷ []) l m)
-        (sym (ap (λ (k : ℕ). slice_index_or (slice_set run.pasts n []) k []) e ∙ get_or-set_same run.pasts n [] [] (let i = is.nodes in omega (arith, i, e, inside))))
-        (record {
-          accepted = sym (restarted_accepted m ∙ ap (λ (b : Bool). if b then [] else accepted_by s.start run.past m) (eq-eqb m n e));
-          rises = tt;
-          early = tt;
-        })
-    | inr other ↦
-        let p = is.pasts m inside in
-        subst (λ (l : List (Stamped Step)). IsPast s (run.past ++ entries.Restarted (node_id n) ∷ []) l m) (sym (get_or-set_other run.pasts n m [] [] other))
-        (record {
-          accepted = p.accepted ∙ sym (restarted_accepted m ∙ ap (λ (b : Bool). if b then [] else accepted_by s.start run.past m) (ne_eqb m n other));
-          rises = p.rises;
-          early = subst (λ (at : ℕ). AllByRecursion (λ t. t.at ≤ at) (past_at run m)) (sym restarted_moment) p.early;
-        })
-  ]
-
-  restarted_goes : Passes s run (restarted run n) 0 (λ m. if m == n then 1 else 0)
-  unfolding restarted
-  restarted_goes = record {
-    run = record {
-      nodes = length-set run.pasts n [] ∙ is.nodes;
-      kept = record {
-        packets = filter_map-append packet_posted run.past (entries.Restarted (node_id n) ∷ []) ∙ append-nil (packets_of run.past) ∙ is.kept.packets;
-        each = each-append (Meets s) [] run.past (entries.Restarted (node_id n) ∷ []) is.kept.each (tt, tt);
-      };
-      pasts = restarted_past;
-    };
-    moment = restarted_moment ∙ omega arith;
-    life = λ m. fold-append (restarts m) 0 run.past (entries.Restarted (node_id n) ∷ []) ∙ by (m == n) (life_in run.past m);
-  }
-    where
-      by : (b : Bool) (count : ℕ) → (if b then suc count else count) ≡ count + (if b then 1 else 0)
-      by true count = omega arith
-      by false count = omega arith
+waited_goes s run ms is =
+    let come = waited_comes s run ms is in
+    record { run = come.run; moment = come.moment; life = λ n. let e = come.life n in omega (arith, e) }
 
 -- whatever happens
 pub happened : (s : Setup) (run : Run) (event : Event) → IsRun s run → Happens s run event (happens s run event)
 happened s run (Wait ms) is = waited_goes s run ms is
-happened s run (Payload node to proto payload) is = acts_quietly s node.0 (calls.Send to proto payload) run is (λ me k now. sent_none me k now to proto payload)
+happened s run (Move node link) is = moves_goes s run node.0 link is
+happened s run (Advertise link) is = still s run _ (advertised_goes s run link.0 is)
+happened s run (Payload node to proto payload) is = acted s node.0 (calls.Send to proto payload) run is refl
 happened s run (Inject o link packet) is = injected_goes s run o link.0 packet is
 happened s run (Probe o link careof source peer cookie) is = injected_goes s run o link.0 (probe_packet careof source peer cookie.0) is
 happened s run (Bind o link source peer home careof sequence lifetime kh kc) is =
@@ -246,32 +116,20 @@ happened s run (Bind o link source peer home careof sequence lifetime kh kc) is 
 happened s run (Tell o link kt kp) is = injected_if_goes s run o link.0 (test_packet run.posts kt kp) is
 happened s run (Listen o link) is = one_of s run (hears_in run.past o link.0) entries.Idle (entries.Listening o (link_id link.0)) is refl refl
 happened s run (Deaf o link) is = one_of s run (hears_in run.past o link.0) (entries.Deafened o (link_id link.0)) entries.Idle is refl refl
-happened s run (Squat o address) is = squats_goes s run o address is
-happened s run (Yield o address) is = yields_goes s run o address is
+happened s run (Squat o address) is = quietly s run _ is (quiet_claims s (holder_outside o) address run)
+happened s run (Yield o address) is = quietly s run _ is (quiet_gives_up s (holder_outside o) address run)
 happened s run (Deliver k) is = still s run _ (delivered_goes s run k false is)
 happened s run (Repeat k) is = still s run _ (delivered_goes s run k true is)
 happened s run (Lose k) is = lost_goes s run k is
 happened s run (Carry count) is = still s run _ (carried_goes s run count is)
-happened s run (Restart node) is = restarted_goes s run node.0 is
-happened s run (Refresh node home) is = acts_quietly s node.0 (calls.Refresh home) run is (λ me k now. refreshed_none me k now home)
+happened s run (Restart node) is = restarted_passes s run node.0 is
+happened s run (Refresh node home) is = acted s node.0 (calls.Refresh home) run is refl
+happened s run (Plan node valid preferred) is = acted s node.0 (calls.Plan valid preferred) run is refl
+happened s run (Ask node) is = acted s node.0 calls.Ask run is refl
 happened s run (Show node) is = shown_goes s node.0 run is
-happened s run _ is = noted_one s run entries.Idle is refl
+happened s run (Settle a b) is = noted_one s run entries.Idle is refl
 
 -- a whole schedule
-added : (a b c x y : ℕ) → b ≡ a + x → c ≡ b + y → c ≡ a + (x + y)
-added a b c x y p q = omega arith
-
-passes_then : (s : Setup) (a b c : Run) (x y : ℕ) (f g : ℕ → ℕ) (all : ℕ) (each : ℕ → ℕ) → x + y ≡ all → ((n : ℕ) → f n + g n ≡ each n) → Passes s a b x f → Passes s b c y g → Passes s a c all each
-passes_then s a b c x y f g all each sum sums p q = record {
-  run = q.run;
-  moment =
-      added (moment_in s.start a.past) (moment_in s.start b.past) (moment_in s.start c.past) x y p.moment q.moment
-      ∙ ap (λ (n : ℕ). moment_in s.start a.past + n) sum;
-  life = λ n.
-      added (life_in a.past n) (life_in b.past n) (life_in c.past n) (f n) (g n) (p.life n) (q.life n)
-      ∙ ap (λ (k : ℕ). life_in a.past n + k) (sums n);
-}
-
 happened_all : (s : Setup) (run : Run) (events : List Event) → IsRun s run
     → Passes s run (fold (λ run event. happens s run event) run events) (sum_by waited_by events) (λ n. sum_by (restarted_by n) events)
 happened_all s run [] is = quietly s run run is (quiet_same s run)
@@ -283,38 +141,9 @@ happened_all s run (event ∷ events) is =
     (sym (sum_by-cons waited_by event events)) (λ n. sym (sum_by-cons (restarted_by n) event events))
     one (happened_all s (happens s run event) events one.run)
 
--- before the first event
-claims_meet : (s : Setup) (front : List Entry) (n : ℕ) (hosts : List Host) → length front + length hosts ≡ length s.hosts → EachAfter (Meets s) front (claims_from s n hosts)
-claims_meet s front n [] sum = tt
-claims_meet s front n (host ∷ hosts) sum =
-    ((λ long. absurd (omega (arith, sum, long))), claims_meet s (front ++ claim ∷ []) (suc n) hosts (omega (arith, sum, length-append front (claim ∷ []))))
-  where
-    claim : Entry
-    claim = entries.Claimed n (record { 0 = link_or_first s host.address.0 }) host.address
-
-claims_quiet : (s : Setup) (n : ℕ) (hosts : List Host) → list_any is_told (claims_from s n hosts) ≡ false
-claims_quiet s n [] = refl
-claims_quiet s n (host ∷ hosts) = claims_quiet s (suc n) hosts
-
-no_past : (hosts : List Host) (n : ℕ) → slice_index_or (map (λ (host : Host). let l : List (Stamped Step) = [] in l) hosts) n [] ≡ []
-no_past [] n = refl
-no_past (host ∷ hosts) zero = refl
-no_past (host ∷ hosts) (suc n) = no_past hosts n
-
-abbrev pub nothing : Setup → Run
-nothing s = record { past = []; pasts = map (λ host. []) s.hosts; posts = []; flying = [] }
-
-nothing_is : (s : Setup) → IsRun s (nothing s)
-unfolding accepted_in accepted_by
-nothing_is s = record {
-  nodes = length-map s.hosts (λ (host : Host). let l : List (Stamped Step) = [] in l);
-  kept = record { packets = refl; each = tt };
-  pasts = λ n inside. subst (λ (l : List (Stamped Step)). IsPast s [] l n) (sym (no_past s.hosts n)) (record { accepted = refl; rises = tt; early = tt });
-}
-
 pub run_passes : (s : Setup) (events : List Event) → Passes s (nothing s) (run_of s events) (sum_by waited_by events) (λ n. sum_by (restarted_by n) events)
 run_passes s events =
-    let open_is = quietly s (nothing s) (opened s) (nothing_is s) (quiet_meeting s (claims_from s 0 s.hosts) (nothing s) (claims_quiet s 0 s.hosts) (λ kept. claims_meet s [] 0 s.hosts (omega arith))) in
+    let open_is = quietly s (nothing s) (opened s) (nothing_is s) (quiet_opened s) in
     passes_then s (nothing s) (opened s) (run_of s events) 0 (sum_by waited_by events) (λ n. 0) (λ n. sum_by (restarted_by n) events)
     (sum_by waited_by events) (λ n. sum_by (restarted_by n) events) (omega arith) (λ n. omega arith)
     open_is (happened_all s (opened s) events open_is.run)

@@ -1,5 +1,5 @@
 -- Deliveries: a packet that is handed to a node is the one that was posted, but for its hop limit.
-use Rattle.std.proofs.Common.{◌≡◌, ℕ, ◌<◌, List, Bool, false, length, ◌⊎◌, inl, inr, refl, sym, ap, ◌∙◌, subst}
+use Rattle.std.proofs.Common.{◌≡◌, ℕ, ◌<◌, List, Bool, true, false, length, ◌⊎◌, inl, inr, refl, sym, ap, ◌∙◌, subst}
 use Rattle.std.specs.Prelude.{Option, Some, None, option_map, Result, Ok, Err, slice_get}
 use Rattle.std.specs.List.{list_any}
 use Rattle.std.proofs.lemmas.Option.{slice_get-map, slice_get_within}
@@ -28,23 +28,24 @@ use Rattle.mip_rules_correspondent.specs.Taken.{IsUpdateTaken}
 use Rattle.mip_rules_correspondent.proofs.Acceptances.{floor-answers, full-answers}
 use Rattle.mip_rules_correspondent.proofs.VerdictLaws.{sound}
 use Rattle.mip_links.specs.Table.{Post}
-use Rattle.mip_history.specs.Setup.{Setup}
+use Rattle.mip_history.specs.Setup.{Setup, is_correspondent_host, is_correspondent_at}
 use Rattle.mip_history.specs.Setup.Kind.{Correspondent}
-use Rattle.mip_history.specs.Runs.{Run, note}
-use Rattle.mip_history.specs.Nodes.{link_or_first, identity_in, known_in, now_in, past_at, turned}
+use Rattle.mip_history.specs.Runs.{Run, note, past_at}
+use Rattle.mip_history.specs.Knowing.{link_or_first, identity_in, known_in, now_in}
+use Rattle.mip_history.specs.Nodes.{turned}
 use Rattle.mip_history.specs.Delivery.{handed_over}
 use Rattle.mip_history.specs.Bound.{accepted_by, packet_in, judge_in, IsAccepted}
 use Rattle.mip_history.proofs.Numbered.{packet_numbered}
-use Rattle.mip_history.proofs.Runs.{IsRun, Goes, quiet_handed, quiet_run, goes_quietly, goes_then}
+use Rattle.mip_history.proofs.Runs.{IsRun, Goes, quiet_handed, quiet_run}
 use Rattle.mip_history.proofs.Turns.{done, quiet_turn, accepting_turn}
 use Rattle.mip_rules_correspondent.proofs.Taken.{accepted_home, taken_is}
 
--- a node's turn in which nothing is accepted
-pub turned_quietly : (s : Setup) (n : ℕ) (own : Address) (run : Run) (t : Turn) → IsRun s run → n < length s.hosts
+-- a turn of a correspondent in which nothing is accepted
+pub turned_quietly : (s : Setup) (n : ℕ) (own : Address) (run : Run) (t : Turn) → IsRun s run → n < length s.hosts → is_correspondent_at s n ≡ true
     → t.now ≡ now_in s run → list_any is_acceptance t.steps ≡ false → Goes s run (turned s n own t run)
-turned_quietly s n own run t is inside now none =
+turned_quietly s n own run t is inside corresponds now none =
     subst (λ (at : ℕ). Goes s run (done s n (link_or_first s own.0) at t.steps run)) (sym now)
-    (quiet_turn s n (link_or_first s own.0) run is inside t.steps none)
+    (quiet_turn s n (link_or_first s own.0) run is inside corresponds t.steps none)
 
 -- what is handed over reads as what was posted
 record ReadsAs (bytes : List ℕ) (q : Packet) : Type 0 where
@@ -87,6 +88,9 @@ module _ (s : Setup) (k n : ℕ) (post : Post) (link : Option ℕ) (before : Run
   inside : n < length s.hosts
   inside = slice_get_within s.hosts n (record { address = own; kind = Correspondent room }) host_is
 
+  corresponds : is_correspondent_at s n ≡ true
+  corresponds = ap is_correspondent_host host_is
+
   told : packet_in run.past k ≡ Some post.packet
   told =
       packet_numbered s run.past k run_is.kept.each
@@ -99,7 +103,7 @@ module _ (s : Setup) (k n : ℕ) (post : Post) (link : Option ℕ) (before : Run
 
   -- the judge of the turn is the one of the history
   same_judge : (r : Registration) (home : Address) → home ≡ home_of r → bench me (known_in run n room) (now_in s run) r ≡ judge_in s run.past n own room home.0
-  same_judge r home same = let p = run_is.pasts n inside in
+  same_judge r home same = let p = run_is.pasts n corresponds in
       bench_same own me.secrets (now_in s run)
       (floor-answers room (past_at run n) p.rises (now_in s run) (home_of r) p.early
       ∙ ap (λ (xs : List Acceptance). floor xs (home_of r).0 (now_in s run)) p.accepted
@@ -141,8 +145,8 @@ module _ (s : Setup) (k n : ℕ) (post : Post) (link : Option ℕ) (before : Run
       same : {a b : Address} {x y : Option Address} {l m : List ℕ} → b ≡ a → y ≡ x → m ≡ l → registration_in a x l ≡ registration_in b y m
       same p q r = cc
 
-  pub handed_to : Goes s before (turned s n own (turn_of me (known_in run n room) (now_in s run) (Take k post.shield (handed_over post.packet link))) run)
-  handed_to = goes_then s before run _ (goes_quietly s before run is (quiet_handed s k (node_id n) before (slice_get_within before.posts k post posted))) (by found.1)
+  pub handed_to : Goes s run (turned s n own (turn_of me (known_in run n room) (now_in s run) (Take k post.shield (handed_over post.packet link))) run)
+  handed_to = by found.1
     where
       t : Turn
       t = turn_of me (known_in run n room) (now_in s run) (Take k post.shield (handed_over post.packet link))
@@ -151,8 +155,8 @@ module _ (s : Setup) (k n : ℕ) (post : Post) (link : Option ℕ) (before : Run
       found = taken_is me (known_in run n room) (now_in s run) k post.shield (handed_over post.packet link)
 
       by : ((list_any is_acceptance t.steps ≡ false) ⊎ IsUpdateTaken me (known_in run n room) (now_in s run) k post.shield (handed_over post.packet link) t.steps) → Goes s run (turned s n own t run)
-      by (inl none) = turned_quietly s n own run t run_is inside found.0 none
+      by (inl none) = turned_quietly s n own run t run_is inside corresponds found.0 none
       by (inr u) =
           subst (λ (at : ℕ). Goes s run (done s n (link_or_first s own.0) at t.steps run)) (sym found.0)
           (subst (λ (l : List Step). Goes s run (done s n (link_or_first s own.0) (now_in s run) l run)) (sym u.steps_are)
-          (accepting_turn s n (link_or_first s own.0) run run_is inside (Take k post.shield (handed_over post.packet link)) k u.home u.accepted u.rest u.none (stands u)))
+          (accepting_turn s n (link_or_first s own.0) run run_is inside corresponds (Take k post.shield (handed_over post.packet link)) k u.home u.accepted u.rest u.none (stands u)))

@@ -2,7 +2,6 @@
 use Rattle.std.proofs.Common.{◌≡◌, ℕ, ◌+◌, ◌<◌, ◌≤◌, List, [], ◌∷◌, ◌++◌, length, Bool, true, ap, ◌∙◌, subst, arith}
 use Rattle.std.specs.Prelude.{Some, option_map, slice_get}
 use Rattle.std.specs.List.{sum_by}
-use Rattle.std.proofs.lemmas.Option.{slice_get_within}
 use Rattle.mip_words.specs.declared.address.Address.{Address}
 use Rattle.mip_words.specs.declared.moment.Moment.{Moment}
 use Rattle.mip_words.specs.declared.ids.NodeId.{NodeId}
@@ -17,15 +16,15 @@ use Rattle.mip_schedule.specs.Contents.{Content}
 use Rattle.mip_schedule.specs.declared.event.Event.{Event}
 use Rattle.mip_rules_correspondent.specs.Questions.{held_of, floor_of, is_full_for}
 use Rattle.mip_rules_correspondent.proofs.Acceptances.{held-answers, floor-answers, full-answers}
-use Rattle.mip_history.specs.Setup.{Setup, setup_of}
+use Rattle.mip_history.specs.Setup.{Setup, setup_of, is_correspondent_host, is_correspondent_at}
 use Rattle.mip_history.specs.Setup.Kind.{Correspondent}
-use Rattle.mip_history.specs.Runs.{Run}
+use Rattle.mip_history.specs.Runs.{Run, past_at}
 use Rattle.mip_history.specs.Questions.{moment_in, life_in, holder_in}
 use Rattle.mip_history.specs.Claims.{is_free_for}
-use Rattle.mip_history.specs.Nodes.{past_at, known_in, now_in}
-use Rattle.mip_history.specs.Permitted.{run_of, permitted}
+use Rattle.mip_history.specs.Knowing.{known_in, now_in}
+use Rattle.mip_history.specs.Permitted.{opening_claims, run_of, permitted}
 use Rattle.mip_history.specs.Passing.{waited_by, restarted_by}
-use Rattle.mip_history.specs.Bound.{accepted_by, held_in, packet_in, packets_of, is_accepted, HasAccepted, IsBound}
+use Rattle.mip_history.specs.Bound.{accepted_by, held_in, packet_in, packets_of, is_accepted_by_correspondent, HasAccepted, IsBound}
 use Rattle.mip_history.proofs.Runs.{Meets, IsPast}
 use Rattle.mip_history.proofs.Numbered.{packet_numbered}
 use Rattle.mip_history.proofs.Events.{run_passes}
@@ -39,14 +38,14 @@ meets_at : (c : Content) (before : List Entry) (e : Entry) (after : List Entry) 
 meets_at c before e after whole =
     each_at (Meets (setup_of c)) [] before e after (subst (λ (l : List Entry). EachAfter (Meets (setup_of c)) [] l) whole (permitted_each c))
 
-pub permitted_held : (c : Content) (n home careof : ℕ) → held_in (setup_of c) (permitted c) n home ≡ Some careof → IsBound (setup_of c) (permitted c) n home careof
-permitted_held c n home careof held = held_is_bound (setup_of c) (permitted c) (permitted_each c) n home careof held
+pub permitted_held : (c : Content) (n home careof : ℕ) → is_correspondent_at (setup_of c) n ≡ true → held_in (setup_of c) (permitted c) n home ≡ Some careof → IsBound (setup_of c) (permitted c) n home careof
+permitted_held c n home careof corresponds held = held_is_bound (setup_of c) (permitted c) (permitted_each c) n home careof corresponds held
 
-pub permitted_accepted : (c : Content) (before : List Entry) (e : Entry) (after : List Entry) → permitted c ≡ before ++ e ∷ after → is_accepted e ≡ true → HasAccepted (setup_of c) before e
+pub permitted_accepted : (c : Content) (before : List Entry) (e : Entry) (after : List Entry) → permitted c ≡ before ++ e ∷ after → is_accepted_by_correspondent (setup_of c) e ≡ true → HasAccepted (setup_of c) before e
 permitted_accepted c before e after whole accepted = by e accepted (meets_at c before e after whole)
   where
-    by : (e : Entry) → is_accepted e ≡ true → Meets (setup_of c) before e → HasAccepted (setup_of c) before e
-    by (entries.Accepted node number home binding careof sequence end i j) accepted is = is
+    by : (e : Entry) → is_accepted_by_correspondent (setup_of c) e ≡ true → Meets (setup_of c) before e → HasAccepted (setup_of c) before e
+    by (entries.Accepted node number home binding careof sequence end i j) accepted is = is accepted
     by _ accepted is = absurd cc
 
 pub permitted_at : (c : Content) (before : List Entry) (moment : Moment) (after : List Entry) → permitted c ≡ before ++ entries.At moment ∷ after → moment_in (setup_of c).start before ≤ moment.0
@@ -80,7 +79,7 @@ permitted_handed c before number node after whole = meets_at c before (entries.H
 
 -- addresses are claimed when they are free
 pub permitted_claimed : (c : Content) (before : List Entry) (who : ℕ) (link : LinkId) (address : Address) (after : List Entry) → permitted c ≡ before ++ entries.Claimed who link address ∷ after
-    → length (setup_of c).hosts ≤ length before → is_free_for (holder_in before address.0) who ≡ true
+    → length (opening_claims (setup_of c)) ≤ length before → is_free_for (holder_in before address.0) who ≡ true
 permitted_claimed c before who link address after whole behind = meets_at c before (entries.Claimed who link address) after whole behind
 
 pub permitted_released : (c : Content) (before : List Entry) (who : ℕ) (link : LinkId) (address : Address) (after : List Entry) → permitted c ≡ before ++ entries.Released who link address ∷ after
@@ -97,7 +96,7 @@ module _ (s : Setup) (events : List Event) (n : ℕ) (own : Address) (room : ℕ
   run = run_of s events
 
   past_is : IsPast s (run_of s events).past (past_at (run_of s events) n) n
-  past_is = (run_passes s events).run.pasts n (slice_get_within s.hosts n (record { address = own; kind = Correspondent room }) is)
+  past_is = (run_passes s events).run.pasts n (ap is_correspondent_host is)
 
   pub run_held : option_map (λ a. a.0) (held_of (known_in (run_of s events) n room) (now_in s (run_of s events)) home) ≡ held_in s (run_of s events).past n home.0
   run_held =

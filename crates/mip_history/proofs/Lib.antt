@@ -1,10 +1,19 @@
 mod Quiet
 pub mod Runs
 pub mod Posts
+mod Claiming
+mod Residents
+mod Answering
 mod Turns
 pub mod Numbered
 mod Handing
+mod Acting
 mod Deliveries
+mod Advertising
+mod Waiting
+mod Passes
+mod Restarting
+mod Opening
 mod Events
 mod Places
 mod LastOnes

@@ -1,4 +1,4 @@
--- A packet that is posted, and a node's answers, are quiet unless an update is accepted.
+-- A packet that is posted is quiet.
 use Rattle.std.proofs.Common.{◌≡◌, ℕ, zero, suc, ◌<◌, List, [], ◌∷◌, ◌++◌, Bool, true, false, length, refl, sym, ap, ◌∙◌, subst, arith, length-append}
 use Rattle.std.specs.Prelude.{fold, Option, Some, None, unwrap_or, is_some, ◌||◌, ◌&&◌, if◌then◌else◌}
 use Rattle.std.specs.List.{list_any, cons_option}
@@ -6,7 +6,6 @@ use Rattle.std.proofs.lemmas.List.{map-append, length-map}
 use Rattle.std.proofs.lemmas.List.Sums.{fold-append}
 use Rattle.std.proofs.lemmas.List.Folds.{list_any-append}
 use Rattle.std.proofs.lemmas.List.Elements.{filter_map-append}
-use Rattle.std.proofs.lemmas.Bool.{or_parts}
 use Rattle.mip_words.specs.declared.shield.Shield.{Shield}
 use Rattle.mip_words.specs.declared.ids.LinkId.{LinkId}
 use Rattle.mip_lists.specs.EachAfter.{EachAfter}
@@ -15,7 +14,6 @@ use Rattle.mip_entries.specs.declared.answer.Answer.{Answer}
 use Rattle.mip_entries.specs.declared.entry.Entry.{Entry}
 use Rattle.mip_entries.specs.declared.entry.Entry.TheVariants as entries
 use Rattle.mip_entries.specs.Completed.{node_id}
-use Rattle.mip_rules_correspondent.specs.Steps.{Step, Called, Sends, Accepts, Denies, Drops, HandsUp, Idles, answer_of, answers_of, is_acceptance}
 use Rattle.mip_links.specs.Table.{Post}
 use Rattle.mip_history.specs.Setup.{Setup}
 use Rattle.mip_history.specs.Runs.{Run, note, notes, entered}
@@ -24,7 +22,7 @@ use Rattle.mip_history.specs.Posting.{heards, is_other, overheard, posted}
 use Rattle.mip_history.specs.Nodes.{answered_one, answered}
 use Rattle.mip_history.specs.Bound.{Lived, lived, accepted_by, packet_posted, packets_of}
 use Rattle.mip_history.proofs.Quiet.{is_told, same_packets}
-use Rattle.mip_history.proofs.Runs.{Meets, IsQuiet, quiet_same, quiet_then, quiet_notes, quiet_meeting, count_posts}
+use Rattle.mip_history.proofs.Runs.{Meets, IsQuiet, quiet_same, quiet_then, quiet_meeting, count_posts}
 
 -- the entry of a packet that takes a number
 record IsPostOf (s : Setup) (number : ℕ) (packet : List ℕ) (e : Entry) : Type 0 where
@@ -38,7 +36,9 @@ quiet_entered : (s : Setup) (post : Post) (e : Entry) (run : Run) → IsPostOf s
 unfolding accepted_by
 quiet_entered s post e run is = record {
   pasts = refl;
-  accepted = λ n.
+  agents = refl;
+  mobiles = refl;
+  accepted = λ n mine.
       ap (λ (l : Lived). l.accepted)
       (fold-append (lived n) (record { at = s.start; accepted = [] }) run.past (e ∷ []) ∙ is.lives n (fold (lived n) (record { at = s.start; accepted = [] }) run.past));
   moment =
@@ -117,26 +117,7 @@ quiet_injected s post o link run =
     quiet_posted s post (Some o) (entries.Injected (length run.posts) o link post.packet) run
     (record { lives = λ m l. refl; moment = λ at. refl; life = λ m count. refl; posts = refl; meets = λ front same. same })
 
--- what a node does
+-- what a node does, in two parts
 pub answered_append : (s : Setup) (n from : ℕ) (run : Run) (xs ys : List Answer) → answered s n from run (xs ++ ys) ≡ answered s n from (answered s n from run xs) ys
 unfolding answered
 answered_append s n from run xs ys = fold-append (λ (r : Run) (answer : Answer). answered_one s n from r answer) run xs ys
-
-quiet_step : (s : Setup) (n from : ℕ) (run : Run) (step : Step) → is_acceptance step ≡ false → IsQuiet s run (answered s n from run (answer_of step))
-unfolding answered
-quiet_step s n from run (Called call) none = quiet_same s run
-quiet_step s n from run (Sends packet) none = quiet_sent s (record { from = from; shield = None; packet = packet }) n false run
-quiet_step s n from run (Accepts number home accepted) none = absurd cc
-quiet_step s n from run (Denies number status) none = quiet_notes s (entries.Denied (node_id n) number status ∷ []) run refl
-quiet_step s n from run (Drops number why) none = quiet_notes s (entries.Dropped (node_id n) number why ∷ []) run refl
-quiet_step s n from run (HandsUp number source destination proto payload) none = quiet_notes s (entries.Up (node_id n) number source destination proto payload ∷ []) run refl
-quiet_step s n from run Idles none = quiet_notes s (entries.Idle ∷ []) run refl
-
-pub quiet_steps : (s : Setup) (n from : ℕ) (run : Run) (steps : List Step) → list_any is_acceptance steps ≡ false → IsQuiet s run (answered s n from run (answers_of steps))
-unfolding answered
-quiet_steps s n from run [] none = quiet_same s run
-quiet_steps s n from run (step ∷ steps) none =
-    let parts = or_parts (is_acceptance step) (list_any is_acceptance steps) none in
-    let next = answered s n from run (answer_of step) in
-    subst (λ (r : Run). IsQuiet s run r) (sym (answered_append s n from run (answer_of step) (answers_of steps)))
-    (quiet_then s run next (answered s n from next (answers_of steps)) (quiet_step s n from run step parts.0) (quiet_steps s n from next steps parts.1))

@@ -23,7 +23,7 @@ use Rattle.mip_entries.specs.declared.entry.Entry.{Entry}
 use Rattle.mip_entries.specs.Completed.{node_id}
 use Rattle.mip_schedule.specs.Contents.{Content}
 use Rattle.mip_rules_correspondent.specs.Soundness.{IsNonce}
-use Rattle.mip_history.specs.Setup.{Setup, setup_of}
+use Rattle.mip_history.specs.Setup.{Setup, setup_of, is_correspondent_at}
 use Rattle.mip_history.specs.Questions.{moment_in}
 use Rattle.mip_history.specs.Permitted.{permitted}
 use Rattle.mip_history.specs.Passing.{waited_by}
@@ -89,7 +89,7 @@ accepted_bytes s front es n k home a key is u =
     let there = read_stands is.packet is.bytes is.read in
     subst IsBytes (sym there.there) (IsBytes-drop (length is.bytes - length is.packet.body) is.bytes (subst IsBytes (same_packet s front es n k home a key is u) u.bytes))
 
-module _ (c : Content) (short : sum_by waited_by c.events ≤ 36000000) (before between after : List Entry) (n k l : ℕ) (home : Address) (a b : Accepted)
+module _ (c : Content) (short : sum_by waited_by c.events ≤ 36000000) (before between after : List Entry) (n k l : ℕ) (home : Address) (a b : Accepted) (corresponds : is_correspondent_at (setup_of c) n ≡ true)
     (whole : permitted c ≡ before ++ accepted_entry n k home a ∷ between ++ accepted_entry n l home b ∷ after) (alive : list_any (is_restart_of n) between ≡ false) (again : IsRepeat (permitted c) k l) where
   abbrev s : Setup
   s = setup_of c
@@ -107,10 +107,10 @@ module _ (c : Content) (short : sum_by waited_by c.events ≤ 36000000) (before 
   from_first = whole ∙ append_assoc before (accepted_entry n k home a ∷ between) later
 
   first : Stood s before n k home a.sequence
-  first = stood s before n k home a (permitted_accepted c before (accepted_entry n k home a) since from_first refl)
+  first = stood s before n k home a (permitted_accepted c before (accepted_entry n k home a) since from_first corresponds)
 
   second : Stood s middle n l home b.sequence
-  second = stood s middle n l home b (permitted_accepted c middle (accepted_entry n l home b) after whole refl)
+  second = stood s middle n l home b (permitted_accepted c middle (accepted_entry n l home b) after whole corresponds)
 
   carries_first : CarriesUpdate (before ++ accepted_entry n k home a ∷ since) k again.key
   carries_first = subst (λ (p : List Entry). CarriesUpdate p k again.key) from_first again.first

@@ -1,5 +1,5 @@
--- What every run keeps: packets are numbered by their places, moments do not fall, every acceptance has its update,
--- and each node's past holds what the history has of it.
+-- What every run keeps: packets are numbered by their places, moments do not fall, every acceptance of a correspondent has its
+-- update, and each correspondent's past holds what the history has of it.
 use Rattle.std.proofs.Common.{◌≡◌, ℕ, ◌<◌, ◌≤◌, List, [], ◌∷◌, ◌++◌, Bool, true, false, length, refl, sym, ap, ◌∙◌, subst}
 use Rattle.std.specs.Prelude.{map, slice_index_or, Some, ◌||◌}
 use Rattle.std.proofs.lemmas.List.{length-map}
@@ -15,11 +15,11 @@ use Rattle.mip_rules_correspondent.specs.Steps.{Step}
 use Rattle.mip_turns.specs.Pasts.{RisesFrom}
 use Rattle.mip_rules_correspondent.specs.Pasts.{accepted_in}
 use Rattle.mip_links.specs.Table.{Post}
-use Rattle.mip_history.specs.Setup.{Setup}
-use Rattle.mip_history.specs.Runs.{Run, note, notes}
+use Rattle.mip_history.specs.Setup.{Setup, is_correspondent_at}
+use Rattle.mip_history.specs.Runs.{Run, note, notes, past_at}
 use Rattle.mip_history.specs.Questions.{moment_in, life_in, holder_in}
 use Rattle.mip_history.specs.Claims.{is_free_for}
-use Rattle.mip_history.specs.Nodes.{past_at}
+use Rattle.mip_history.specs.Permitted.{opening_claims}
 use Rattle.mip_history.specs.Bound.{accepted_by, packets_of, HasAccepted}
 use Rattle.mip_history.proofs.Quiet.{is_told, same_accepted, same_moment, same_life, same_packets}
 
@@ -29,8 +29,8 @@ Meets s front (entries.At moment) = moment_in s.start front ≤ moment.0
 Meets s front (entries.Sent number node shielded packet) = number ≡ length (packets_of front)
 Meets s front (entries.Injected number outsider link packet) = number ≡ length (packets_of front)
 Meets s front (entries.Accepted node number home binding careof sequence end i j) =
-    HasAccepted s front (entries.Accepted node number home binding careof sequence end i j)
-Meets s front (entries.Claimed who link address) = length s.hosts ≤ length front → is_free_for (holder_in front address.0) who ≡ true
+    is_correspondent_at s node.0 ≡ true → HasAccepted s front (entries.Accepted node number home binding careof sequence end i j)
+Meets s front (entries.Claimed who link address) = length (opening_claims s) ≤ length front → is_free_for (holder_in front address.0) who ≡ true
 Meets s front (entries.Released who link address) = holder_in front address.0 ≡ Some who
 Meets s front (entries.Taken who link address holder) = holder_in front address.0 ≡ Some holder
 Meets s front (entries.Heard number outsider) = number < length (packets_of front)
@@ -51,7 +51,7 @@ pub record IsKept (s : Setup) (past : List Entry) (posts : List Post) : Type 0 w
   pub packets : packets_of past ≡ map (λ p. p.packet) posts
   pub each : EachAfter (Meets s) [] past
 
--- the past of a node holds what the history has accepted in its present life, at moments that do not fall
+-- the past of a correspondent holds what the history has accepted in its present life, at moments that do not fall
 pub record IsPast (s : Setup) (past : List Entry) (steps : List (Stamped Step)) (n : ℕ) : Type 0 where
   pub accepted : accepted_in steps ≡ accepted_by s.start past n
   pub rises : RisesFrom 0 steps
@@ -59,24 +59,30 @@ pub record IsPast (s : Setup) (past : List Entry) (steps : List (Stamped Step)) 
 
 pub record IsRun (s : Setup) (run : Run) : Type 0 where
   pub nodes : length run.pasts ≡ length s.hosts
+  pub agents : length run.agent_pasts ≡ length s.hosts
+  pub mobiles : length run.mobile_pasts ≡ length s.hosts
   pub kept : IsKept s run.past run.posts
-  pub pasts : (n : ℕ) → n < length s.hosts → IsPast s run.past (past_at run n) n
+  pub pasts : (n : ℕ) → is_correspondent_at s n ≡ true → IsPast s run.past (past_at run n) n
 
--- a run goes on, and nothing is accepted, no time passes, and nobody restarts
+-- a run goes on, and no correspondent accepts anything, no time passes, and nobody restarts
 pub record IsQuiet (s : Setup) (before after : Run) : Type 0 where
   pub pasts : after.pasts ≡ before.pasts
-  pub accepted : (n : ℕ) → accepted_by s.start after.past n ≡ accepted_by s.start before.past n
+  pub agents : length after.agent_pasts ≡ length before.agent_pasts
+  pub mobiles : length after.mobile_pasts ≡ length before.mobile_pasts
+  pub accepted : (n : ℕ) → is_correspondent_at s n ≡ true → accepted_by s.start after.past n ≡ accepted_by s.start before.past n
   pub moment : moment_in s.start after.past ≡ moment_in s.start before.past
   pub life : (n : ℕ) → life_in after.past n ≡ life_in before.past n
   pub kept : IsKept s before.past before.posts → IsKept s after.past after.posts
 
 pub quiet_same : (s : Setup) (run : Run) → IsQuiet s run run
-quiet_same s run = record { pasts = refl; accepted = λ n. refl; moment = refl; life = λ n. refl; kept = λ k. k }
+quiet_same s run = record { pasts = refl; agents = refl; mobiles = refl; accepted = λ n mine. refl; moment = refl; life = λ n. refl; kept = λ k. k }
 
 pub quiet_then : (s : Setup) (a b c : Run) → IsQuiet s a b → IsQuiet s b c → IsQuiet s a c
 quiet_then s a b c p q = record {
   pasts = q.pasts ∙ p.pasts;
-  accepted = λ n. q.accepted n ∙ p.accepted n;
+  agents = q.agents ∙ p.agents;
+  mobiles = q.mobiles ∙ p.mobiles;
+  accepted = λ n mine. q.accepted n mine ∙ p.accepted n mine;
   moment = q.moment ∙ p.moment;
   life = λ n. q.life n ∙ p.life n;
   kept = λ k. q.kept (p.kept k);
@@ -86,16 +92,18 @@ quiet_then s a b c p q = record {
 pub quiet_run : (s : Setup) (a b : Run) → IsQuiet s a b → IsRun s a → IsRun s b
 quiet_run s a b quiet run = record {
   nodes = ap (λ (l : List (List (Stamped Step))). length l) quiet.pasts ∙ run.nodes;
+  agents = quiet.agents ∙ run.agents;
+  mobiles = quiet.mobiles ∙ run.mobiles;
   kept = quiet.kept run.kept;
-  pasts = λ n inside. by n (run.pasts n inside);
+  pasts = λ n mine. by n mine (run.pasts n mine);
 }
   where
     at : (n : ℕ) → past_at b n ≡ past_at a n
     at n = ap (λ (l : List (List (Stamped Step))). slice_index_or l n []) quiet.pasts
 
-    by : (n : ℕ) → IsPast s a.past (past_at a n) n → IsPast s b.past (past_at b n) n
-    by n p = record {
-      accepted = ap accepted_in (at n) ∙ p.accepted ∙ sym (quiet.accepted n);
+    by : (n : ℕ) → is_correspondent_at s n ≡ true → IsPast s a.past (past_at a n) n → IsPast s b.past (past_at b n) n
+    by n mine p = record {
+      accepted = ap accepted_in (at n) ∙ p.accepted ∙ sym (quiet.accepted n mine);
       rises = subst (RisesFrom 0) (sym (at n)) p.rises;
       early = subst (λ (l : List (Stamped Step)). AllByRecursion (λ t. t.at ≤ moment_in s.start b.past) l) (sym (at n))
           (subst (λ (m : ℕ). AllByRecursion (λ t. t.at ≤ m) (past_at a n)) (sym quiet.moment) p.early);
@@ -105,7 +113,9 @@ quiet_run s a b quiet run = record {
 pub quiet_meeting : (s : Setup) (es : List Entry) (run : Run) → list_any is_told es ≡ false → (IsKept s run.past run.posts → EachAfter (Meets s) run.past es) → IsQuiet s run (notes es run)
 quiet_meeting s es run quiet meets = record {
   pasts = refl;
-  accepted = λ n. same_accepted run.past es quiet s.start n;
+  agents = refl;
+  mobiles = refl;
+  accepted = λ n mine. same_accepted run.past es quiet s.start n;
   moment = same_moment run.past es quiet s.start;
   life = λ n. same_life run.past es quiet n;
   kept = λ k. record {
@@ -113,6 +123,10 @@ quiet_meeting s es run quiet meets = record {
     each = each-append (Meets s) [] run.past es k.each (meets k);
   };
 }
+
+-- one entry more that says nothing of these, and meets what it should
+pub quiet_one : (s : Setup) (run : Run) (e : Entry) → is_told e ≡ false → Meets s run.past e → IsQuiet s run (note e run)
+quiet_one s run e quiet meets = quiet_meeting s (e ∷ []) run (ap (λ (b : Bool). b || false) quiet) (λ kept. (meets, tt))
 
 meets_quiet : (s : Setup) (front : List Entry) (e : Entry) → is_met e ≡ false → Meets s front e
 meets_quiet s front (entries.At moment) quiet = absurd cc

@@ -1,4 +1,4 @@
--- A turn of a node keeps a run, whether an update is accepted in it or not.
+-- A turn of a correspondent keeps a run, whether an update is accepted in it or not.
 use Rattle.std.proofs.Common.{◌≡◌, ◌≢◌, ℕ, ◌<◌, ◌≤◌, List, [], ◌∷◌, ◌++◌, Bool, true, false, length, inl, inr, refl, sym, ap, ◌∙◌, subst, arith, length-set}
 use Rattle.std.specs.Prelude.{fold, unwrap_or, option_map, ◌||◌, ◌==◌, if◌then◌else◌}
 use Rattle.std.specs.List.{list_any, AllByRecursion}
@@ -22,17 +22,15 @@ use Rattle.mip_rules_correspondent.specs.Pasts.{acceptance_in, accepted_in}
 use Rattle.mip_nonce.specs.Window.{index_of}
 use Rattle.mip_entries.specs.Completed.{node_id}
 use Rattle.mip_marks.specs.declared.accepted_update.AcceptedUpdate.{AcceptedUpdate}
-use Rattle.mip_marks.specs.declared.mark.Mark.{Mark}
-use Rattle.mip_marks.specs.declared.mark.Mark.TheVariants.{Origin, Forged}
 use Rattle.mip_marks.specs.Entries.{mark_entry}
 use Rattle.mip_marks.specs.Marks.{mark_in}
-use Rattle.mip_history.specs.Setup.{Setup}
-use Rattle.mip_history.specs.Runs.{Run, with_past}
+use Rattle.mip_history.specs.Setup.{Setup, is_correspondent_at}
+use Rattle.mip_history.specs.Runs.{Run, past_at, with_past}
 use Rattle.mip_history.specs.Questions.{moment_says, moment_in, restarts, life_in}
-use Rattle.mip_history.specs.Nodes.{answered, past_at}
+use Rattle.mip_history.specs.Nodes.{answered}
 use Rattle.mip_history.specs.Bound.{Lived, lived, accepted_by, packet_posted, packets_of, IsAccepted, accepted_entry}
-use Rattle.mip_history.proofs.Runs.{Meets, IsKept, IsPast, IsRun, IsQuiet, Goes, goes_quietly, goes_then, quiet_then, quiet_notes, is_met}
-use Rattle.mip_history.proofs.Posts.{quiet_steps}
+use Rattle.mip_history.proofs.Runs.{Meets, IsKept, IsPast, IsRun, IsQuiet, Goes, goes_quietly, goes_then, quiet_then, quiet_notes}
+use Rattle.mip_history.proofs.Answering.{mark_quiet, quiet_steps}
 
 -- the moment that goes along with the acceptances is the moment
 pub lived_at : (n : ℕ) (l : Lived) (past : List Entry) → (fold (lived n) l past).at ≡ moment_in l.at past
@@ -97,20 +95,15 @@ accepted_other start m n k past home a other =
     by l true is = absurd cc
     by l false is = refl
 
--- a mark says nothing of all this
-mark_quiet : (m : Mark) → is_met (mark_entry m) ≡ false
-mark_quiet (Origin hot cot update) = refl
-mark_quiet (Forged cause) = refl
-
 -- what a node does in a turn, from the history before it
 abbrev pub done : Setup → ℕ → ℕ → ℕ → List Step → Run → Run
 done s n from now steps run = answered s n from (with_past n (past_at run n ++ stamped now steps) run) (answers_of steps)
 
 -- the run with this history
 abbrev at_past : List Entry → Run → Run
-at_past past run = record { past = past; pasts = run.pasts; posts = run.posts; flying = run.flying }
+at_past past run = record run { past = past }
 
-module _ (s : Setup) (n from : ℕ) (run : Run) (is : IsRun s run) (inside : n < length s.hosts) where
+module _ (s : Setup) (n from : ℕ) (run : Run) (is : IsRun s run) (inside : n < length s.hosts) (corresponds : is_correspondent_at s n ≡ true) where
   here : (past : List (Stamped Step)) → past_at (with_past n past run) n ≡ past
   here past = get_or-set_same run.pasts n past [] (omega (arith, is.nodes))
 
@@ -129,6 +122,8 @@ module _ (s : Setup) (n from : ℕ) (run : Run) (is : IsRun s run) (inside : n <
       → IsRun s (at_past past (with_past n (past_at run n ++ stamped (moment_in s.start run.past) steps) run))
   goes_on steps past same others moment kept = record {
     nodes = count next;
+    agents = is.agents;
+    mobiles = is.mobiles;
     kept = kept;
     pasts = λ m within. elim (cases_eq m n) as (λ _. IsPast s past (past_at (with_past n next run) m) m) [
       | inl e ↦ subst (λ (m : ℕ). IsPast s past (past_at (with_past n next run) m) m) (sym e) (subst (λ (l : List (Stamped Step)). IsPast s past l n) (sym (here next)) mine)
@@ -140,13 +135,13 @@ module _ (s : Setup) (n from : ℕ) (run : Run) (is : IsRun s run) (inside : n <
       next = past_at run n ++ stamped (moment_in s.start run.past) steps
 
       mine : IsPast s past next n
-      mine = let old = is.pasts n inside in record {
+      mine = let old = is.pasts n corresponds in record {
         accepted = same;
         rises = rises_turn 0 (moment_in s.start run.past) (past_at run n) steps (omega arith) old.early old.rises;
         early = subst (λ (at : ℕ). AllByRecursion (λ t. t.at ≤ at) next) (sym moment) (early_turn (moment_in s.start run.past) (past_at run n) steps old.early);
       }
 
-      yours : (m : ℕ) → m < length s.hosts → m ≢ n → IsPast s past (past_at run m) m
+      yours : (m : ℕ) → is_correspondent_at s m ≡ true → m ≢ n → IsPast s past (past_at run m) m
       yours m within other = let old = is.pasts m within in record {
         accepted = old.accepted ∙ sym (others m other);
         rises = old.rises;
@@ -167,7 +162,7 @@ module _ (s : Setup) (n from : ℕ) (run : Run) (is : IsRun s run) (inside : n <
       (accepted_turn (past_at run n) (stamped (moment_in s.start run.past) steps)
       ∙ ap (λ (l : List Acceptance). accepted_in (past_at run n) ++ l) (none_accepted (moment_in s.start run.past) steps none)
       ∙ append-nil (accepted_in (past_at run n))
-      ∙ (is.pasts n inside).accepted)
+      ∙ (is.pasts n corresponds).accepted)
       (λ m other. refl) refl is.kept)
       refl (λ m. refl)
       (quiet_steps s n from middle steps none)
@@ -212,12 +207,12 @@ module _ (s : Setup) (n from : ℕ) (run : Run) (is : IsRun s run) (inside : n <
       same =
           accepted_turn (past_at run n) (stamped (moment_in s.start run.past) steps)
           ∙ ap (λ (l : List Acceptance). accepted_in (past_at run n) ++ acceptance (moment_in s.start run.past) home 0 a ∷ l) (none_accepted (moment_in s.start run.past) rest none)
-          ∙ ap (λ (l : List Acceptance). l ++ acceptance (moment_in s.start run.past) home 0 a ∷ []) (is.pasts n inside).accepted
+          ∙ ap (λ (l : List Acceptance). l ++ acceptance (moment_in s.start run.past) home 0 a ∷ []) (is.pasts n corresponds).accepted
           ∙ sym (accepted_more s.start n number run.past home a)
 
       kept : IsKept s past run.posts
       kept = record {
         packets = filter_map-append packet_posted run.past (accepted_entry n number home a ∷ []) ∙ append-nil (packets_of run.past) ∙ is.kept.packets;
         each = each-append (Meets s) [] run.past (accepted_entry n number home a ∷ []) is.kept.each
-            (record { node = n; number = number; home = home; accepted = a; is = refl; stands = stands }, tt);
+            ((λ mine. record { node = n; number = number; home = home; accepted = a; is = refl; stands = stands }), tt);
       }

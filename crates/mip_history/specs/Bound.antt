@@ -19,7 +19,7 @@ use Rattle.mip_rules_correspondent.specs.declared.verdict.Verdict.TheVariants.{A
 use Rattle.mip_updates.specs.Registrations.{registration_in}
 use Rattle.mip_rules_correspondent.specs.Soundness.{IsSound}
 use Rattle.mip_rules_correspondent.specs.Verdicts.{Bench, verdict}
-use Rattle.mip_history.specs.Setup.{Setup}
+use Rattle.mip_history.specs.Setup.{Setup, is_correspondent_at}
 use Rattle.mip_history.specs.Setup.Kind.{Correspondent}
 use Rattle.mip_history.specs.Questions.{moment_in, life_in}
 
@@ -101,6 +101,11 @@ accepted_entry n k home a =
 abbrev pub is_accepted : Entry → Bool
 is_accepted (entries.Accepted node number home binding careof sequence end i j) = true
 is_accepted _ = false
+
+-- by a correspondent. The correspondent part of a mobile accepts updates, too
+abbrev pub is_accepted_by_correspondent : Setup → Entry → Bool
+is_accepted_by_correspondent s (entries.Accepted node number home binding careof sequence end i j) = is_correspondent_at s node.0
+is_accepted_by_correspondent s _ = false
 
 -- an entry behind this history is that of an update which was accepted there
 pub record HasAccepted (s : Setup) (past : List Entry) (e : Entry) : Type 0 where

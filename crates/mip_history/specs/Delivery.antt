@@ -9,7 +9,7 @@ use Rattle.mip_links.specs.Table.{Post, link_of, destination_in, delivery, in_po
 use Rattle.mip_links.specs.Nets.{lowest_of}
 use Rattle.mip_links.specs.declared.delivery.Delivery.{Delivery}
 use Rattle.mip_links.specs.declared.delivery.Delivery.TheVariants.{Idle, Gone, Outsider, Node}
-use Rattle.mip_rules_correspondent.specs.Calls.{Take}
+use Rattle.mip_history.specs.Calls.{Take}
 use Rattle.mip_history.specs.Setup.{Setup}
 use Rattle.mip_history.specs.Runs.{Run, note, without}
 use Rattle.mip_history.specs.Questions.{asked_in, hears_in}

@@ -1,48 +1,35 @@
 -- What a node does in a turn, and what becomes of it in the run.
-use Rattle.std.specs.Prelude.{ℕ, List, [], ◌∷◌, length, fold, map, Option, Some, None, is_some, unwrap_or, slice_get, slice_index_or}
+use Rattle.std.specs.Prelude.{ℕ, List, [], ◌∷◌, length, fold, map, Option, Some, None, is_some, unwrap_or, slice_get}
+use Rattle.mip_words.specs.declared.address.Address.{Address}
 use Rattle.mip_bcache.specs.Seen.{kept_at}
 use Rattle.mip_bcache.specs.declared.row.Row.{Row}
 use Rattle.mip_entries.specs.declared.answer.Answer.{Answer}
 use Rattle.mip_entries.specs.declared.answer.Answer.TheVariants.{Send, Note}
 use Rattle.mip_entries.specs.declared.entry.Entry.{Entry}
-use Rattle.mip_entries.specs.declared.entry.Entry.TheVariants.{Sent, Idle, Row as ShownRow}
-use Rattle.mip_entries.specs.Stamped.{Stamped}
-use Rattle.mip_entries.specs.Completed.{node_id, link_for, named}
-use Rattle.mip_rules_correspondent.specs.declared.identity.Identity.{Identity}
-use Rattle.mip_rules_correspondent.specs.declared.known.Known.{Known}
-use Rattle.mip_rules_correspondent.specs.Steps.{Step, answers_of}
-use Rattle.mip_rules_correspondent.specs.Questions.{known}
-use Rattle.mip_rules_correspondent.specs.Turns.{Turn, with_turn}
-use Rattle.mip_rules_correspondent.specs.Calls.{Call}
-use Rattle.mip_rules_correspondent.specs.Doing.{turn_of}
+use Rattle.mip_entries.specs.declared.entry.Entry.TheVariants.{Sent, Idle, Claimed, Released, Taken, Restarted, Row as ShownRow}
+use Rattle.mip_entries.specs.Completed.{node_id, named}
+use Rattle.mip_rules_correspondent.specs.Steps as correspondents
+use Rattle.mip_rules_correspondent.specs.Turns as correspondent_turns
+use Rattle.mip_rules_correspondent.specs.Doing as correspondent_doing
+use Rattle.mip_rules_agent.specs.Steps as agents
+use Rattle.mip_rules_agent.specs.Turns as agent_turns
+use Rattle.mip_rules_agent.specs.Doing as agent_doing
+use Rattle.mip_rules_agent.specs.Questions.{rows_at}
+use Rattle.mip_rules_agent.specs.declared.home_row.HomeRow.{HomeRow}
+use Rattle.mip_rules_mobile.specs.Steps as mobiles
+use Rattle.mip_rules_mobile.specs.Turns as mobile_turns
+use Rattle.mip_rules_mobile.specs.Doing as mobile_doing
 use Rattle.mip_marks.specs.declared.accepted_update.AcceptedUpdate.{AcceptedUpdate}
 use Rattle.mip_marks.specs.Entries.{update_accepted, mark_entry}
 use Rattle.mip_marks.specs.Marks.{mark_in}
-use Rattle.mip_links.specs.Table.{link_of}
-use Rattle.mip_words.specs.declared.address.Address.{Address}
 use Rattle.mip_history.specs.Setup.{Setup, Host, Kind}
 use Rattle.mip_history.specs.Setup.Kind.{Correspondent, Agent, Mobile}
-use Rattle.mip_history.specs.Runs.{Run, note, notes, with_past}
-use Rattle.mip_history.specs.Questions.{moment_in, life_in}
+use Rattle.mip_history.specs.Runs.{Run, note, notes, past_at, agent_past_at, mobile_past_at, with_past, with_agent_past, with_mobile_past}
+use Rattle.mip_history.specs.Calls.{Call, for_correspondent, for_agent, for_mobile}
+use Rattle.mip_history.specs.Knowing.{link_or_first, now_in, identity_in, known_in, agent_of, agent_known_in, mobile_known_in, stands_on, around_in}
+use Rattle.mip_history.specs.Claims.{claims}
+use Rattle.mip_history.specs.Homes.{gives_up}
 use Rattle.mip_history.specs.Posting.{posted}
-
--- the link of an address that is on one
-abbrev pub link_or_first : Setup → ℕ → ℕ
-link_or_first s address = unwrap_or (link_of s.links address) 0
-
--- correspondent n in its present life
-abbrev pub identity_in : Setup → Run → ℕ → Address → ℕ → Identity
-identity_in s run n own room = record { own = own; secrets = record { seed = s.seed; node = n; life = life_in run.past n }; room = room }
-
--- what it knows
-abbrev pub past_at : Run → ℕ → List (Stamped Step)
-past_at run n = slice_index_or run.pasts n []
-
-abbrev pub known_in : Run → ℕ → ℕ → Known
-known_in run n room = known room (past_at run n)
-
-abbrev pub now_in : Setup → Run → ℕ
-now_in s run = moment_in s.start run.past
 
 -- after an `accepted` stands the mark of its origin
 abbrev pub marks_of : List Entry → Option AcceptedUpdate → List Entry
@@ -52,27 +39,55 @@ marks_of past (Some a) = mark_entry (mark_in past a) ∷ []
 abbrev pub marked : Entry → Run → Run
 marked entry run = notes (entry ∷ marks_of run.past (update_accepted entry)) run
 
--- one thing that node n does: a packet is posted with its `sent`, or an entry is left with its node
+-- an entry of node n: who holds an address is for all nodes to see, and decides what a claim comes to; a restart is noted as it
+-- happens, before its answers; any other entry gets the node's number
+abbrev pub left_by : Setup → ℕ → Run → Entry → Run
+left_by s n run (Claimed who link address) = claims s n address run
+left_by s n run (Taken who link address holder) = claims s n address run
+left_by s n run (Released who link address) = gives_up s n address run
+left_by s n run (Restarted node) = run
+left_by s n run entry = marked (named n 0 (length run.posts) entry) run
+
+-- one thing that node n does: a packet is posted with its `sent`, or an entry is left
 abbrev pub answered_one : Setup → ℕ → ℕ → Run → Answer → Run
 answered_one s n from run (Send shield packet) =
     posted s (record { from = from; shield = shield; packet = packet }) None (Sent (length run.posts) (node_id n) (is_some shield) packet) run
-answered_one s n from run (Note entry) = marked (named n (link_for (λ address. link_or_first s address) entry) (length run.posts) entry) run
+answered_one s n from run (Note entry) = left_by s n run entry
 
 -- what node n does, in order
 unfoldable pub answered : Setup → ℕ → ℕ → Run → List Answer → Run
 answered s n from run answers = fold (λ r answer. answered_one s n from r answer) run answers
 
--- node n with this address has done a turn
-abbrev pub turned : Setup → ℕ → Address → Turn → Run → Run
+-- node n with this address has done a turn; a mobile sends from the link on which it stands
+abbrev pub turned : Setup → ℕ → Address → correspondent_turns.Turn → Run → Run
 turned s n own turn run =
-    answered s n (link_or_first s own.0) (with_past n (with_turn (past_at run n) turn) run) (answers_of turn.steps)
+    answered s n (link_or_first s own.0) (with_past n (correspondent_turns.with_turn (past_at run n) turn) run) (correspondents.answers_of turn.steps)
 
--- node n does what it does about a call; nothing where there is no such node, or where it is no correspondent
+abbrev pub agent_turned : Setup → ℕ → Address → agent_turns.Turn → Run → Run
+agent_turned s n own turn run =
+    answered s n (link_or_first s own.0) (with_agent_past n (agent_turns.with_turn (agent_past_at run n) turn) run) (agents.answers_of turn.steps)
+
+abbrev pub mobile_turned : Setup → ℕ → Address → mobile_turns.Turn → Run → Run
+mobile_turned s n own turn run =
+    answered s n (unwrap_or (stands_on s run n own) 0) (with_mobile_past n (mobile_turns.with_turn (mobile_past_at run n) turn) run) (mobiles.answers_of turn.steps)
+
+-- what is nothing to a node leaves `idle`
+abbrev pub asks : {C : Type 0} → (C → Run → Run) → Option C → Run → Run
+asks does None run = note Idle run
+asks does (Some call) run = does call run
+
+-- node n does what it does about a call
 abbrev pub by_kind : Setup → ℕ → Address → Call → Run → Kind → Run
-by_kind s n own call run (Correspondent room) = turned s n own (turn_of (identity_in s run n own room) (known_in run n room) (now_in s run) call) run
-by_kind s n own call run Agent = note Idle run
-by_kind s n own call run Mobile = note Idle run
+by_kind s n own call run (Correspondent room) =
+    asks (λ c run. turned s n own (correspondent_doing.turn_of (identity_in s run n own room) (known_in run n room) (now_in s run) c) run) (for_correspondent call) run
+by_kind s n own call run (Agent preference life room serves) =
+    asks (λ c run. agent_turned s n own (agent_doing.turn_of (agent_of own preference life room) (agent_known_in run n serves) (now_in s run) c) run)
+    (for_agent (around_in run n None) call) run
+by_kind s n own call run (Mobile agent) =
+    asks (λ c run. mobile_turned s n own (mobile_doing.turn_of (mobile_known_in s run n own agent) (now_in s run) c) run)
+    (for_mobile (around_in run n (Some own.0)) own call) run
 
+-- nothing where there is no such node
 abbrev pub by_host : Setup → ℕ → Call → Run → Option Host → Run
 by_host s n call run None = note Idle run
 by_host s n call run (Some host) = by_kind s n host.address call run host.kind
@@ -80,19 +95,22 @@ by_host s n call run (Some host) = by_kind s n host.address call run host.kind
 abbrev pub acts : Setup → ℕ → Call → Run → Run
 acts s n call run = by_host s n call run (slice_get s.hosts n)
 
--- a row of its binding cache
+-- a row of a binding cache, and a home that is registered
 abbrev pub row_entry : ℕ → Row → Entry
 row_entry n r = ShownRow (node_id n) r.home r.number r.careof r.sequence r.end r.kept_until
 
-abbrev pub rows_by_kind : Setup → ℕ → Run → Kind → Run
-rows_by_kind s n run (Correspondent room) = notes (map (row_entry n) (kept_at (known_in run n room).cache (now_in s run))) run
-rows_by_kind s n run Agent = note Idle run
-rows_by_kind s n run Mobile = note Idle run
+abbrev pub home_entry : ℕ → HomeRow → Entry
+home_entry n r = ShownRow (node_id n) r.home 0 r.careof r.sequence r.end r.end
+
+abbrev pub rows_by_kind : Setup → ℕ → Address → Run → Kind → List Entry
+rows_by_kind s n own run (Correspondent room) = map (row_entry n) (kept_at (known_in run n room).cache (now_in s run))
+rows_by_kind s n own run (Agent preference life room serves) = map (home_entry n) (rows_at (now_in s run) (agent_known_in run n serves).homes)
+rows_by_kind s n own run (Mobile agent) = map (row_entry n) (kept_at (mobile_known_in s run n own agent).part.known.cache (now_in s run))
 
 abbrev pub rows_shown : Setup → ℕ → Run → Option Host → Run
 rows_shown s n run None = note Idle run
-rows_shown s n run (Some host) = rows_by_kind s n run host.kind
+rows_shown s n run (Some host) = notes (rows_by_kind s n host.address run host.kind) run
 
--- the rows that node n keeps, in order of home
+-- the rows that node n keeps, in order of home: those of a cache, or an agent's registrations
 abbrev pub shown : Setup → ℕ → Run → Run
 shown s n run = rows_shown s n run (slice_get s.hosts n)

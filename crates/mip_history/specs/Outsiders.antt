@@ -1,9 +1,8 @@
 -- What outsiders do: they post packets, listen, and take addresses.
-use Rattle.std.specs.Prelude.{ℕ, ◌+◌, List, length, Bool, true, false, ◌==◌, if◌then◌else◌, Option, Some, None, option_and_then, slice_get}
+use Rattle.std.specs.Prelude.{ℕ, List, length, Bool, true, false, ◌==◌, if◌then◌else◌, Option, Some, None, option_and_then, slice_get}
 use Rattle.mip_constants.specs.Protocols.{mobility_header}
 use Rattle.mip_words.specs.Addresses.{address_at}
 use Rattle.mip_words.specs.declared.address.Address.{Address}
-use Rattle.mip_words.specs.declared.ids.LinkId.{LinkId}
 use Rattle.mip_ipv6.specs.declared.head.Head.{Head}
 use Rattle.mip_mobhdr.specs.Said.{Said}
 use Rattle.mip_mobhdr.specs.Said.Said.{HomeInit, CareofInit, Update}
@@ -13,17 +12,14 @@ use Rattle.mip_says.specs.Says.Carried.{Test}
 use Rattle.mip_signals.specs.Packets.{node_head}
 use Rattle.mip_signals.specs.Messages.{home_init_packet, careof_init_packet, home_test_packet, careof_test_packet}
 use Rattle.mip_signals.specs.Authenticated.{authenticated_packet}
-use Rattle.mip_entries.specs.declared.entry.Entry.{Entry}
-use Rattle.mip_entries.specs.declared.entry.Entry.TheVariants.{Injected, Listening, Deafened, Claimed, Released, Taken, Idle}
-use Rattle.mip_links.specs.Table.{Post, link_of, holder_outside}
-use Rattle.mip_links.specs.Nets.{is_held_by}
+use Rattle.mip_entries.specs.declared.entry.Entry.TheVariants.{Injected, Listening, Deafened, Idle}
+use Rattle.mip_links.specs.Table.{Post, holder_outside}
 use Rattle.mip_history.specs.Setup.{Setup}
 use Rattle.mip_history.specs.Runs.{Run, note}
-use Rattle.mip_history.specs.Questions.{holder_in, hears_in}
+use Rattle.mip_history.specs.Questions.{hears_in}
+use Rattle.mip_history.specs.Claims.{link_id, claims}
+use Rattle.mip_history.specs.Homes.{gives_up}
 use Rattle.mip_history.specs.Posting.{posted}
-
-abbrev pub link_id : ℕ → LinkId
-link_id link = record { 0 = link }
 
 -- an outsider posts a packet on a link
 abbrev pub injected : Setup → Run → ℕ → ℕ → List ℕ → Run
@@ -141,25 +137,9 @@ listens run o link = note (if hears_in run.past o link then Idle else Listening 
 abbrev pub deafens : Run → ℕ → ℕ → Run
 deafens run o link = note (if hears_in run.past o link then Deafened o (link_id link) else Idle) run
 
--- the claim of a holder that asks for an address, by who holds it
-abbrev pub claim_entry : ℕ → Address → ℕ → Option ℕ → Entry
-claim_entry who address link None = Claimed who (link_id link) address
-claim_entry who address link (Some other) =
-    if other == who then Claimed who (link_id link) address else Taken who (link_id link) address other
-
-abbrev pub squatted : ℕ → Address → Run → Option ℕ → Run
-squatted who address run None = note Idle run
-squatted who address run (Some link) = note (claim_entry who address link (holder_in run.past address.0)) run
-
--- an outsider takes an address, if nobody else has it
+-- an outsider takes an address, if nobody else has it, and gives it up
 abbrev pub squats : Setup → Run → ℕ → Address → Run
-squats s run o address = squatted (holder_outside o) address run (link_of s.links address.0)
+squats s run o address = claims s (holder_outside o) address run
 
-abbrev pub yielded : ℕ → Address → Run → Option ℕ → Run
-yielded who address run None = note Idle run
-yielded who address run (Some link) =
-    note (if is_held_by (holder_in run.past address.0) who then Released who (link_id link) address else Idle) run
-
--- and gives it up
 abbrev pub yields : Setup → Run → ℕ → Address → Run
-yields s run o address = yielded (holder_outside o) address run (link_of s.links address.0)
+yields s run o address = gives_up s (holder_outside o) address run

@@ -1,10 +1,10 @@
 -- Questions that are asked of a history.
-use Rattle.std.specs.Prelude.{ℕ, suc, List, fold, Bool, true, false, ◌&&◌, ◌==◌, if◌then◌else◌, Option, Some, None}
+use Rattle.std.specs.Prelude.{ℕ, suc, List, fold, Bool, true, false, ◌&&◌, ◌==◌, if◌then◌else◌, Option, Some, None, option_map}
 use Rattle.mip_words.specs.declared.address.Address.{Address}
 use Rattle.mip_lists.specs.Asked.{asked}
 use Rattle.mip_lists.specs.Last.{or_else}
 use Rattle.mip_entries.specs.declared.entry.Entry.{Entry}
-use Rattle.mip_entries.specs.declared.entry.Entry.TheVariants.{At, Claimed, Released, Listening, Deafened, Restarted}
+use Rattle.mip_entries.specs.declared.entry.Entry.TheVariants.{At, Moved, Claimed, Released, Listening, Deafened, Restarted}
 use Rattle.mip_links.specs.Table.{Asked}
 use Rattle.mip_history.specs.Setup.{Setup}
 
@@ -49,6 +49,14 @@ restarts n count _ = count
 -- the life of a node: how often it was restarted
 abbrev pub life_in : List Entry → ℕ → ℕ
 life_in past n = fold (restarts n) 0 past
+
+abbrev pub moved_says : ℕ → Entry → Option (Option ℕ)
+moved_says m (Moved node link) = if m == node.0 then Some (option_map (λ l. l.0) link) else None
+moved_says m _ = None
+
+-- the link on which a mobile stands, or none: that of its last `moved`, and before the first the one of its home
+abbrev pub spot_in : Option ℕ → List Entry → ℕ → Option ℕ
+spot_in home past m = asked (moved_says m) home past
 
 -- what a delivery asks
 abbrev pub asked_in : Setup → List Entry → Asked

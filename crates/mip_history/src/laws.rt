@@ -1,6 +1,6 @@
 //! Laws of the permitted history.
 
-ghost use Rattle.std.specs.Prelude.{◌≡◌, ◌≢◌, ℕ, ◌+◌, ◌<◌, ◌≤◌, max, List, [], ◌∷◌, ◌++◌, length, Bool, true, false, Some, None, option_map, slice_get};
+ghost use Rattle.std.specs.Prelude.{◌≡◌, ◌≢◌, ℕ, ◌+◌, ◌<◌, ◌≤◌, max, List, [], ◌∷◌, ◌++◌, length, Bool, true, false, Option, Some, None, option_map, slice_get};
 ghost use Rattle.std.specs.List.{list_any, sum_by};
 ghost use Rattle.mip_words.specs.declared.address.Address.{Address};
 ghost use Rattle.mip_words.specs.declared.moment.Moment.{Moment};
@@ -13,32 +13,35 @@ ghost use Rattle.mip_schedule.specs.declared.event.Event.{Event};
 ghost use Rattle.mip_bcache.specs.declared.accepted.Accepted.{Accepted};
 ghost use Rattle.mip_binding.specs.Held.{floor, is_full};
 ghost use Rattle.mip_rules_correspondent.specs.Questions.{held_of, floor_of, is_full_for};
-ghost use Rattle.mip_history.specs.Setup.{Setup, setup_of};
-ghost use Rattle.mip_history.specs.Setup.Kind.{Correspondent};
+ghost use Rattle.mip_history.specs.Setup.{Setup, setup_of, is_correspondent_at};
+ghost use Rattle.mip_history.specs.Setup.Kind.{Correspondent, Mobile};
+ghost use Rattle.mip_history.specs.Runs.{Run};
 ghost use Rattle.mip_history.specs.Questions.{moment_in, life_in, holder_in};
-ghost use Rattle.mip_history.specs.Nodes.{known_in, now_in};
-ghost use Rattle.mip_history.specs.Permitted.{run_of, happens, permitted};
+ghost use Rattle.mip_history.specs.Knowing.{known_in, now_in, mobile_known_in};
+ghost use Rattle.mip_history.specs.Homes.{is_at_home, lives_at, gives_up};
+ghost use Rattle.mip_links.specs.Table.{link_of};
+ghost use Rattle.mip_history.specs.Permitted.{opening_claims, run_of, happens, permitted};
 ghost use Rattle.mip_history.specs.Claims.{is_free_for};
 ghost use Rattle.mip_history.specs.Passing.{waited_by, restarted_by};
 ghost use Rattle.mip_history.specs.Again.{RepeatsAfterRounds};
-ghost use Rattle.mip_history.specs.Bound.{accepted_by, held_in, packet_in, packets_of, accepted_entry, is_accepted, is_restart_of, is_accepted_for, HasAccepted, IsBound};
+ghost use Rattle.mip_history.specs.Bound.{accepted_by, held_in, packet_in, packets_of, accepted_entry, is_accepted_by_correspondent, is_restart_of, is_accepted_for, HasAccepted, IsBound};
 
 /// A schedule with one event more is run by letting that event happen last.
 pub fn event_after_event()
     ensures { (s : Setup) (events : List Event) (event : Event) → run_of s (events ++ event ∷ []) ≡ happens s (run_of s events) event }
 {}
 
-/// In the permitted history of every schedule, a care-of address is held by an update that was accepted: the
+/// In the permitted history of every schedule, a correspondent holds a care-of address by an update that it accepted: the
 /// last one of its home in the present life of the node, whose packet had just been handed to the node, with
 /// the verdict Accept on its bytes by the secrets of that life, at that moment, with what was kept of the home
 /// just before. RFC 6275 section 9.5.1.
 pub fn held_was_accepted()
-    ensures { (c : Content) (n home careof : ℕ) → held_in (setup_of c) (permitted c) n home ≡ Some careof → IsBound (setup_of c) (permitted c) n home careof }
+    ensures { (c : Content) (n home careof : ℕ) → is_correspondent_at (setup_of c) n ≡ true → held_in (setup_of c) (permitted c) n home ≡ Some careof → IsBound (setup_of c) (permitted c) n home careof }
 {}
 
-/// Every update that was ever accepted had just been handed over, with that verdict.
+/// Every update that a correspondent ever accepted had just been handed over, with that verdict.
 pub fn accepted_was_handed()
-    ensures { (c : Content) (before : List Entry) (e : Entry) (after : List Entry) → permitted c ≡ before ++ e ∷ after → is_accepted e ≡ true → HasAccepted (setup_of c) before e }
+    ensures { (c : Content) (before : List Entry) (e : Entry) (after : List Entry) → permitted c ≡ before ++ e ∷ after → is_accepted_by_correspondent (setup_of c) e ≡ true → HasAccepted (setup_of c) before e }
 {}
 
 /// In any history, the last update of a home that a node accepted in its present life is the one that counts: to its end
@@ -56,7 +59,7 @@ pub fn last_acceptance_counts()
         → floor (accepted_by s.start (before ++ accepted_entry n k home a ∷ after) n) home.0 now ≡ Some a.sequence }
 {}
 
-/// What a node keeps of a home is what the history says of it.
+/// What a correspondent keeps of a home is what the history says of it.
 pub fn nodes_keep_what_was_accepted()
     ensures held { (s : Setup) (events : List Event) (n : ℕ) (own : Address) (room : ℕ) (home : Address) → slice_get s.hosts n ≡ Some (record { address = own; kind = Correspondent room })
         → option_map (λ a. a.0) (held_of (known_in (run_of s events) n room) (now_in s (run_of s events)) home) ≡ held_in s (run_of s events).past n home.0 }
@@ -92,16 +95,27 @@ pub fn lives_are_restarts()
 /// names the holder, and only the holder gives an address up.
 pub fn addresses_have_one_holder()
     ensures claimed { (c : Content) (before : List Entry) (who : ℕ) (link : LinkId) (address : Address) (after : List Entry) → permitted c ≡ before ++ Claimed who link address ∷ after
-        → length (setup_of c).hosts ≤ length before → is_free_for (holder_in before address.0) who ≡ true }
+        → length (opening_claims (setup_of c)) ≤ length before → is_free_for (holder_in before address.0) who ≡ true }
     ensures released { (c : Content) (before : List Entry) (who : ℕ) (link : LinkId) (address : Address) (after : List Entry) → permitted c ≡ before ++ Released who link address ∷ after
         → holder_in before address.0 ≡ Some who }
     ensures taken { (c : Content) (before : List Entry) (who : ℕ) (link : LinkId) (address : Address) (holder : ℕ) (after : List Entry) → permitted c ≡ before ++ Taken who link address holder ∷ after
         → holder_in before address.0 ≡ Some holder }
 {}
 
+/// A home address that its holder gives up passes at once to its mobile, where that is at home, and nobody holds it where
+/// none is. RFC 6275 section 11.5.5.
+pub fn homes_pass_to_their_mobiles()
+    ensures passes { (s : Setup) (run : Run) (who link : ℕ) (home : Address) → link_of s.links home.0 ≡ Some link → holder_in run.past home.0 ≡ Some who
+        → (m : ℕ) (agent : Option Address) → m ≢ who → slice_get s.hosts m ≡ Some (record { address = home; kind = Mobile agent })
+        → is_at_home (mobile_known_in s run m home agent).standing ≡ true → ((k : ℕ) → k < m → lives_at s run home.0 k ≡ false)
+        → holder_in (gives_up s who home run).past home.0 ≡ Some m }
+    ensures free { (s : Setup) (run : Run) (who link : ℕ) (home : Address) → link_of s.links home.0 ≡ Some link → holder_in run.past home.0 ≡ Some who
+        → ((k : ℕ) → k < length s.hosts → lives_at s run home.0 k ≡ false) → holder_in (gives_up s who home run).past home.0 ≡ None }
+{}
+
 /// In the permitted history of every schedule whose waits are at most 36,000 s together, as those of one that was read
-/// are, a node accepts the same update again in one life only where the sequences of its home have gone round since
+/// are, a correspondent accepts the same update again in one life only where the sequences of its home have gone round since
 /// then. Until its home nonce is no longer valid, the last sequence is kept. RFC 6275 sections 5.2.2 and 9.5.1.
 pub fn repeats_come_after_rounds()
-    ensures { (c : Content) → sum_by waited_by c.events ≤ 36000000 → RepeatsAfterRounds (permitted c) }
+    ensures { (c : Content) → sum_by waited_by c.events ≤ 36000000 → RepeatsAfterRounds (setup_of c) (permitted c) }
 {}

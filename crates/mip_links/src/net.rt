@@ -86,6 +86,14 @@ impl Net {
         Some(LinkId(place))
     }
 
+    /// The prefix of a link.
+    pub fn prefix(&self, link: LinkId) -> Prefix
+        requires { link.0 < length self.now.links }
+        ensures { result.0 ≡ slice_index_or self.now.links link.0 0 }
+    {
+        self.links[usize::from(link.0)]
+    }
+
     /// The address that a holder claimed first.
     pub fn declared(&self, by: u8) -> Option<Address>
         ensures { result ≡ declared_of self.now.firsts by }
@@ -180,6 +188,13 @@ impl Net {
         } else {
             None
         }
+    }
+
+    /// The number that the next packet takes.
+    pub fn next(&self) -> u64
+        ensures { result ≡ length self.now.posts }
+    {
+        self.posts.len() as u64
     }
 
     /// The bytes of a packet as it was posted, in the pool or not: its fixed header at least.

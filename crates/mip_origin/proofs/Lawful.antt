@@ -1,32 +1,37 @@
 -- The sights of a permitted history, and of each front of it, are lawful.
-use Rattle.std.proofs.Common.{◌≡◌, ℕ, ◌<◌, List, [], ◌∷◌, ◌++◌, Bool, true, false, length, refl, sym, ap, ◌∙◌, subst}
-use Rattle.std.specs.Prelude.{map, Option, Some, None, ◌||◌, ◌==◌, if◌then◌else◌, get_or}
+use Rattle.std.proofs.Common.{◌≡◌, ℕ, ◌<◌, List, [], ◌∷◌, ◌++◌, Bool, true, false, length, refl, sym, ap, ◌∙◌, subst, arith}
+use Rattle.std.specs.Prelude.{map, Option, Some, None, IfSome, option_map, ◌||◌, ◌==◌, if◌then◌else◌, get_or, slice_get}
+use Rattle.std.specs.Str.{bytes_eq}
 use Rattle.std.specs.List.{list_any}
 use Rattle.std.specs.Option.{option_or, option_and_then}
-use Rattle.std.proofs.lemmas.Bool.{or_left, or_right}
+use Rattle.std.proofs.lemmas.Bool.{or_left, or_right, and_from, eqb-true, eq-eqb}
 use Rattle.std.proofs.lemmas.List.{append_assoc, map-append}
-use Rattle.std.proofs.lemmas.Option.{slice_get-get_or}
+use Rattle.std.proofs.lemmas.Option.{slice_get-get_or, slice_get_past}
 use Rattle.mip_lists.specs.EachAfter.{EachAfter}
+use Rattle.mip_words.specs.declared.token.Token.{Token}
 use Rattle.mip_lists.proofs.EachLaws.{each_at}
 use Rattle.mip_says.specs.Says.{Carried, Test, Update, Other, carried}
 use Rattle.mip_entries.specs.declared.entry.Entry.{Entry}
 use Rattle.mip_entries.specs.declared.entry.Entry.TheVariants as entries
+use Rattle.mip_entries.specs.Completed.{node_id}
 use Rattle.mip_marks.specs.Lists.{first_some}
 use Rattle.mip_marks.specs.Entries.{packet_told, packet_in}
-use Rattle.mip_marks.specs.Sights.Sight.{Sent}
+use Rattle.mip_marks.specs.Sights.Sight.{Sent, Handed}
 use Rattle.mip_marks.specs.Sights.{Sight, token_in, token_at, sight, sights}
-use Rattle.mip_marks.specs.Reached.{says_token, carries}
+use Rattle.mip_marks.specs.Reached.{says_token, carries, is_handed}
 use Rattle.mip_marks.specs.Names.{is_agent}
+use Rattle.mip_marks.specs.Firsts.{is_post}
 use Rattle.mip_marks.specs.Laws.{WasPosted, IsLawful, AreLawful}
 use Rattle.mip_marks.proofs.ListLaws.{each_before, fold_first}
 use Rattle.mip_marks.proofs.Tokens.{bytes_same}
 use Rattle.mip_marks.proofs.Plain.{packet_first}
-use Rattle.mip_history.specs.Setup.{Setup}
+use Rattle.mip_history.specs.Setup.{Setup, Kind}
+use Rattle.mip_history.specs.Setup.Kind.{Correspondent, Agent, Mobile}
 use Rattle.mip_history.specs.Bound as bound
 use Rattle.mip_history.specs.Bound.{packets_of}
 use Rattle.mip_history.proofs.Runs.{Meets}
 use Rattle.mip_history.proofs.Numbered.{packet_numbered}
-use Rattle.mip_origin.specs.OwnHistories.{IsOwnEntry}
+use Rattle.mip_origin.specs.OwnHistories.{kind_at, is_agent_kind, HasCome, IsRightFrom, IsOwnEntry}
 
 -- the packets of a history are found alike
 told_alike : (k : ℕ) (e : Entry) → bound.packet_told k e ≡ packet_told k e
@@ -58,6 +63,10 @@ token_says (Test kind index u destination) t e = bytes_same u t (let same : u �
 token_says (Update key) t e = absurd cc
 token_says Other t e = absurd cc
 
+none_of : (b : Bool) (x : List ℕ) → (let o : Option (List ℕ) = (if b then Some x else None) in o) ≡ None → b ≡ false
+none_of true x e = absurd cc
+none_of false x e = refl
+
 if_some : (b : Bool) (x y : List ℕ) → (let o : Option (List ℕ) = (if b then Some x else None) in o) ≡ Some y → x ≡ y
 if_some true x y e = cc
 if_some false x y e = absurd cc
@@ -83,43 +92,110 @@ module _ (past : List Entry) where
       by (Some x) told again found = or_left (carries t (sight past e)) (list_any (carries t) (seen front)) (told_carries k e bytes t (told ∙ found) token)
       by None told again found = or_right (carries t (sight past e)) (list_any (carries t) (seen front)) (again found)
 
-  -- no agent has registered a home
-  none_agents : (s : Setup) (node : ℕ) (f front : List Entry) → EachAfter (IsOwnEntry s) f front → list_any (is_agent node) (seen front) ≡ false
-  none_agents s node f [] own = refl
-  none_agents s node f (e ∷ front) own = ap (λ (b : Bool). b || list_any (is_agent node) (seen front)) (by e own.0) ∙ none_agents s node (f ++ e ∷ []) front own.1
+  -- who registered a home is an agent
+  agents_are : (s : Setup) (node : ℕ) (f front : List Entry) → EachAfter (IsOwnEntry s) f front → list_any (is_agent node) (seen front) ≡ true → is_agent_kind (kind_at s node) ≡ true
+  agents_are s node f [] own any = absurd cc
+  agents_are s node f (e ∷ front) own any = by e own.0 any (agents_are s node (f ++ e ∷ []) front own.1)
     where
-      by : (e : Entry) → IsOwnEntry s f e → is_agent node (sight past e) ≡ false
-      by (entries.Home n home careof sequence end) own = absurd own
-      by _ own = refl
+      at : (n : ℕ) (b : Bool) → (n == node) ≡ b → is_agent_kind (kind_at s n) ≡ true → (b || list_any (is_agent node) (seen front)) ≡ true
+          → (list_any (is_agent node) (seen front) ≡ true → is_agent_kind (kind_at s node) ≡ true) → is_agent_kind (kind_at s node) ≡ true
+      at n true same owned any more = subst (λ (m : ℕ). is_agent_kind (kind_at s m) ≡ true) (eqb-true n node same) owned
+      at n false same owned any more = more any
+
+      by : (e : Entry) → IsOwnEntry s f e → (is_agent node (sight past e) || list_any (is_agent node) (seen front)) ≡ true
+          → (list_any (is_agent node) (seen front) ≡ true → is_agent_kind (kind_at s node) ≡ true) → is_agent_kind (kind_at s node) ≡ true
+      by (entries.Home n home careof sequence end) owned any more = at n.0 (n.0 == node) refl owned any more
+      by _ owned any more = more any
+
+  -- an agent sends a test only if it was handed to it
+  agent_sends : (s : Setup) (front : List Entry) (n : ℕ) (packet : List ℕ) (o : Option Kind) → is_agent_kind o ≡ true → IsRightFrom s front n packet o → IfSome (token_in (carried packet)) (HasCome front n)
+  agent_sends s front n packet (Some (Agent preference life room serves)) is right = right
+  agent_sends s front n packet (Some (Correspondent room)) is right = absurd cc
+  agent_sends s front n packet (Some (Mobile agent)) is right = absurd cc
+  agent_sends s front n packet None is right = absurd cc
+
+  -- a number that no packet has is not posted
+  not_posted : (k : ℕ) (e : Entry) → packet_told k e ≡ None → is_post k (sight past e) ≡ false
+  not_posted k (entries.Sent number node shielded packet) none = none_of (number == k) packet none
+  not_posted k (entries.Injected number outsider link packet) none = none_of (number == k) packet none
+  not_posted k _ none = refl
+
+  none_posted : (k : ℕ) (front : List Entry) → first_some (packet_told k) front ≡ None → list_any (is_post k) (seen front) ≡ false
+  none_posted k [] none = refl
+  none_posted k (e ∷ front) none = by (packet_told k e) refl (none_posted k front) none
+    where
+      by : (o : Option (List ℕ)) → packet_told k e ≡ o → (first_some (packet_told k) front ≡ None → list_any (is_post k) (seen front) ≡ false)
+          → option_or o (first_some (packet_told k) front) ≡ None → list_any (is_post k) (seen (e ∷ front)) ≡ false
+      by None told more none = ap (λ (b : Bool). b || list_any (is_post k) (seen front)) (not_posted k e told) ∙ more none
+      by (Some x) told more none = absurd cc
+
+  any_middle : (p : Sight → Bool) (before : List Sight) (x : Sight) (after : List Sight) → p x ≡ true → list_any p (before ++ x ∷ after) ≡ true
+  any_middle p [] x after is = or_left (p x) (list_any p after) is
+  any_middle p (y ∷ before) x after is = or_right (p y) (list_any p (before ++ x ∷ after)) (any_middle p before x after is)
 
   module _ (s : Setup) (each : EachAfter (Meets s) [] past) (own : EachAfter (IsOwnEntry s) [] past) where
+    met_before : (front rest : List Entry) → past ≡ front ++ rest → EachAfter (Meets s) [] front
+    met_before front rest whole = each_before (Meets s) [] front rest (subst (λ (l : List Entry). EachAfter (Meets s) [] l) whole each)
+
+    -- the first packet with a number is found there
+    first_is : (front rest : List Entry) → past ≡ front ++ rest → (number : ℕ) (o : Option (List ℕ)) → slice_get (packets_of front) number ≡ o → first_some (packet_told number) front ≡ o
+    first_is front rest whole number o got =
+        sym (packet_first number front) ∙ sym (packet_alike number front) ∙ packet_numbered s front number (met_before front rest whole) ∙ got
+
+    found_later : (front rest : List Entry) → past ≡ front ++ rest → (number : ℕ) (bytes : List ℕ) → first_some (packet_told number) front ≡ Some bytes → packet_in past number ≡ Some bytes
+    found_later front rest whole number bytes there =
+        ap (λ (l : List Entry). packet_in l number) whole ∙ packet_first number (front ++ rest) ∙ first_append number front rest bytes there
+
     -- a packet that was posted in front
     posted_before : (front rest : List Entry) → past ≡ front ++ rest → (number : ℕ) → number < length (packets_of front) → WasPosted (seen front) (token_at past number)
     posted_before front rest whole number inside =
-        let before : EachAfter (Meets s) [] front = each_before (Meets s) [] front rest (subst (λ (l : List Entry). EachAfter (Meets s) [] l) whole each) in
         let bytes : List ℕ = get_or (packets_of front) number [] in
-        let there : first_some (packet_told number) front ≡ Some bytes =
-        sym (packet_first number front) ∙ sym (packet_alike number front) ∙ packet_numbered s front number before ∙ slice_get-get_or (packets_of front) number [] inside in
-        let here : packet_in past number ≡ Some bytes =
-        ap (λ (l : List Entry). packet_in l number) whole ∙ packet_first number (front ++ rest) ∙ first_append number front rest bytes there in
-        subst (λ (o : Option (List ℕ)). WasPosted (seen front) (option_and_then (λ b. token_in (carried b)) o)) (sym here) (by bytes there (token_in (carried bytes)) refl)
+        let there : first_some (packet_told number) front ≡ Some bytes = first_is front rest whole number (Some bytes) (slice_get-get_or (packets_of front) number [] inside) in
+        subst (λ (o : Option (List ℕ)). WasPosted (seen front) (option_and_then (λ b. token_in (carried b)) o)) (sym (found_later front rest whole number bytes there)) (by bytes there (token_in (carried bytes)) refl)
       where
         by : (bytes : List ℕ) → first_some (packet_told number) front ≡ Some bytes → (o : Option (List ℕ)) → token_in (carried bytes) ≡ o → WasPosted (seen front) o
         by bytes there None token = tt
         by bytes there (Some t) token = posted_carries number front bytes t there token
 
+    -- a test that came to a node was posted, and is seen to come
+    come_carries : (front rest : List Entry) → past ≡ front ++ rest → (n : ℕ) (t : List ℕ) → HasCome front n t → list_any (carries t) (seen front) ≡ true
+    come_carries front rest whole n t c = posted_carries c.number front c.bytes t (first_is front rest whole c.number (Some c.bytes) c.posted) c.says
+
+    come_handed : (front rest : List Entry) → past ≡ front ++ rest → (n : ℕ) (t : List ℕ) → HasCome front n t → list_any (is_handed n t) (seen front) ≡ true
+    come_handed front rest whole n t c =
+        let here : token_at past c.number ≡ Some t =
+        ap (λ (o : Option (List ℕ)). option_and_then (λ b. token_in (carried b)) o)
+        (found_later front rest whole c.number c.bytes (first_is front rest whole c.number (Some c.bytes) c.posted)) ∙ c.says in
+        let is : is_handed n t (Handed n (token_at past c.number)) ≡ true =
+        ap (λ (o : Option (List ℕ)). is_handed n t (Handed n o)) here ∙ and_from (n == n) (bytes_eq t t) (eq-eqb n n refl) (bytes_same t t refl) in
+        ap (λ (l : List Entry). list_any (is_handed n t) (seen l)) c.whole
+        ∙ ap (list_any (is_handed n t)) (map-append (sight past) c.before (entries.Handed c.number (node_id n) ∷ c.after))
+        ∙ any_middle (is_handed n t) (seen c.before) (Handed n (token_at past c.number)) (seen c.after) is
+
+    if_come_handed : (front rest : List Entry) → past ≡ front ++ rest → (n : ℕ) (o : Option Token) → IfSome o (λ t. HasCome front n t.0) → IfSome (option_map (λ t. t.0) o) (λ q. list_any (is_handed n q) (seen front) ≡ true)
+    if_come_handed front rest whole n None come = tt
+    if_come_handed front rest whole n (Some t) come = come_handed front rest whole n t.0 come
+
+    own_before : (front rest : List Entry) → past ≡ front ++ rest → EachAfter (IsOwnEntry s) [] front
+    own_before front rest whole = each_before (IsOwnEntry s) [] front rest (subst (λ (l : List Entry). EachAfter (IsOwnEntry s) [] l) whole own)
+
     law_here : (front rest : List Entry) (e : Entry) → past ≡ front ++ rest → Meets s front e → IsOwnEntry s front e → IsLawful (seen front) (sight past e)
-    law_here front rest (entries.Sent number node shielded packet) whole meets owned = by (carried packet)
+    law_here front rest (entries.Sent number node shielded packet) whole meets owned = by (carried packet) refl
       where
-        by : (c : Carried) → IsLawful (seen front) (Sent number node.0 c)
-        by (Test kind index token destination) = λ agent. absurd
-            (let none = none_agents s node.0 [] front (each_before (IsOwnEntry s) [] front rest (subst (λ (l : List Entry). EachAfter (IsOwnEntry s) [] l) whole own)) in let both = sym none ∙ agent in cc)
-        by (Update key) = tt
-        by Other = tt
+        by : (c : Carried) → carried packet ≡ c → IsLawful (seen front) (Sent number node.0 c)
+        by (Test kind index token destination) is = λ agent.
+            let came : IfSome (token_in (carried packet)) (HasCome front node.0) =
+            agent_sends s front node.0 packet (kind_at s node.0) (agents_are s node.0 [] front (own_before front rest whole) agent) owned in
+            come_carries front rest whole node.0 token (subst (λ (c : Carried). IfSome (token_in c) (HasCome front node.0)) is came)
+        by (Update key) is = tt
+        by Other is = tt
     law_here front rest (entries.Heard number outsider) whole meets owned = posted_before front rest whole number meets
     law_here front rest (entries.Handed number node) whole meets owned = posted_before front rest whole number meets
-    law_here front rest (entries.Home node home careof sequence end) whole meets owned = absurd owned
-    law_here front rest (entries.Made node peer number home careof) whole meets owned = absurd owned
+    law_here front rest (entries.Made node peer number home careof) whole meets owned = record {
+      unposted = none_posted number front (first_is front rest whole number None (slice_get_past (packets_of front) number (omega (arith, owned.next))));
+      home_came = come_handed front rest whole node.0 home.0 owned.home_came;
+      careof_came = if_come_handed front rest whole node.0 careof owned.careof_came;
+    }
     law_here front rest _ whole meets owned = tt
 
     lawful_from : (front rest : List Entry) → past ≡ front ++ rest → EachAfter IsLawful (seen front) (seen rest)

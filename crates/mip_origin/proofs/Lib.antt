@@ -1,4 +1,13 @@
 pub mod Own
+pub mod Coming
+pub mod Following
+pub mod Adding
+pub mod Posting
+pub mod Answering
+pub mod Roles
+pub mod Acting
+pub mod Delivering
+pub mod Going
 pub mod Histories
 pub mod Lawful
 pub mod Origins

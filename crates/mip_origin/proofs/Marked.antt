@@ -1,6 +1,6 @@
 -- Each accepted update of a permitted history is marked, and the mark means what it says.
-use Rattle.std.proofs.Common.{◌≡◌, ℕ, ◌≤◌, List, [], ◌∷◌, ◌++◌, true, refl, sym, ap, ◌∙◌, subst}
-use Rattle.std.specs.Prelude.{Option, Some, None}
+use Rattle.std.proofs.Common.{◌≡◌, ◌≤◌, List, [], ◌∷◌, ◌++◌, true, refl, sym, subst}
+use Rattle.std.specs.Prelude.{Option, Some}
 use Rattle.std.specs.List.{sum_by}
 use Rattle.std.proofs.lemmas.List.{append_assoc, append-nil}
 use Rattle.mip_entries.specs.declared.entry.Entry.{Entry}
@@ -9,16 +9,16 @@ use Rattle.mip_schedule.specs.Contents.{Content}
 use Rattle.mip_marks.specs.declared.accepted_update.AcceptedUpdate.{AcceptedUpdate}
 use Rattle.mip_marks.specs.declared.mark.Mark.{Mark}
 use Rattle.mip_marks.specs.declared.mark.Mark.TheVariants.{Origin, Forged}
-use Rattle.mip_marks.specs.Entries.{update_accepted, mark_entry}
+use Rattle.mip_marks.specs.Entries.{update_accepted}
 use Rattle.mip_marks.specs.Marks.{mark_in}
 use Rattle.mip_history.specs.Setup.{setup_of}
 use Rattle.mip_history.specs.Passing.{waited_by}
 use Rattle.mip_history.specs.Permitted.{permitted}
 use Rattle.mip_history.specs.Bound.{is_accepted}
 use Rattle.mip_origin.specs.OwnHistories.{ArePlain}
-use Rattle.mip_origin.specs.Marked.{IsFollowed, EachIsFollowed, Means, IsMarked, EachIsMarked}
-use Rattle.mip_origin.proofs.Histories.{own_and_marked}
-use Rattle.mip_origin.proofs.Origins.{permitted_origin}
+use Rattle.mip_origin.specs.Marked.{IsFollowed, EachIsFollowed, Means, EachIsMarked}
+use Rattle.mip_origin.proofs.Histories.{followed_permitted}
+use Rattle.mip_origin.proofs.Origins.{permitted_stands, permitted_origin}
 
 -- what follows an entry in the middle
 followed_at : (front before : List Entry) (e : Entry) (after : List Entry) → EachIsFollowed front (before ++ e ∷ after) → IsFollowed (front ++ before) (update_accepted e) after
@@ -37,9 +37,12 @@ permitted_marked c plain short before e after whole is =
     let a : AcceptedUpdate = found.0 in
     let next : IsFollowed before (Some a) after =
     subst (λ (o : Option AcceptedUpdate). IsFollowed before o after) found.1
-    (followed_at [] before e after (subst (λ (l : List Entry). EachIsFollowed [] l) whole (own_and_marked c plain).1)) in
+    (followed_at [] before e after (subst (λ (l : List Entry). EachIsFollowed [] l) whole (followed_permitted c))) in
     record { update = a; is = found.1; more = next.0; next = next.1; means = by a found.1 (mark_in before a) refl }
   where
     by : (a : AcceptedUpdate) → update_accepted e ≡ Some a → (m : Mark) → mark_in before a ≡ m → Means (setup_of c) before e a m
-    by a told (Origin hot cot update) mark = permitted_origin c plain short before e after whole a told hot cot update mark
+    by a told (Origin hot cot update) mark = (
+      permitted_stands c plain before e after whole a hot cot update mark,
+      λ is. permitted_origin c plain short before e after whole a told is hot cot update mark,
+    )
     by a told (Forged cause) mark = tt

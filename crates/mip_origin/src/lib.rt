@@ -3,4 +3,7 @@
 
 mod laws;
 
-pub use laws::{acceptances_are_marked, tests_are_own, unforged_acceptances_have_their_origin};
+pub use laws::{
+    acceptances_are_marked, each_acceptance_is_followed, entries_are_own, tests_are_own,
+    unforged_acceptances_have_their_origin,
+};

@@ -94,13 +94,13 @@ fn schedules_have_their_traces(rt: HostRuntime) -> Result<(), Fail> {
 }
 
 #[test]
-fn what_does_not_run_yet_is_a_bad_line(rt: HostRuntime) -> Result<(), Fail> {
+fn a_wait_without_nodes_comes_to_its_moment(rt: HostRuntime) -> Result<(), Fail> {
     let words = owned(rt.alloc(), &["replay"])?;
     let schedule =
         b"mip 1\nseed 000102030405060708090a0b0c0d0e0f101112131415161718191a1b1c1d1e1f\nstart 0\nlink n2 20010db800020000\nrun\nwait 1\nadvertise n2\n";
     let reply = mip_in_memory(rt.alloc(), &words, schedule)?;
-    assert_eq!(rt; reply.status, Status::BAD);
-    assert_eq!(rt; reply.text.as_slice(), b"bad 7 form\n".as_slice());
+    assert_eq!(rt; reply.status, Status::OK);
+    assert_eq!(rt; reply.text.as_slice(), b"at 1\n".as_slice());
     Ok(())
 }
 

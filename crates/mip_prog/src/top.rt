@@ -42,7 +42,7 @@ pub fn mip<S: Source, K: Sink, C: Clock, L: Link>(
     // In the history of a schedule each care-of address that is held has its accepted update.
     ensures bound { IfSome (S.left source.old) (λ bytes. IfOk (reading bytes) (λ c. EachIsBound (setup_of c) (permitted c))) }
     // In it the same update is accepted again in one life only where its sequences have gone round.
-    ensures repeats { IfSome (S.left source.old) (λ bytes. IfOk (reading bytes) (λ c. EachRepeatIsLate (permitted c))) }
+    ensures repeats { IfSome (S.left source.old) (λ bytes. IfOk (reading bytes) (λ c. EachRepeatIsLate (setup_of c) (permitted c))) }
     // In it each accepted update is followed by its mark. Where that is an origin, both tokens had reached whoever made
     // the update before its first packet was posted.
     ensures marked { IfSome (S.left source.old) (λ bytes. IfOk (reading bytes) (λ c. EachIsMarked (setup_of c) (permitted c))) }

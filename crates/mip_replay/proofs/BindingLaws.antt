@@ -1,13 +1,13 @@
 -- The bindings of a permitted history, and its repeated updates.
 use Rattle.std.proofs.Common.{◌≡◌, ℕ, ◌≤◌, List, sym, subst}
-use Rattle.std.specs.Prelude.{Some, Ok}
+use Rattle.std.specs.Prelude.{true, Some, Ok}
 use Rattle.std.specs.List.{sum_by}
 use Rattle.mip_schedule.specs.Contents.{Content}
 use Rattle.mip_schedule.specs.EventTimes.{waited}
 use Rattle.mip_schedule.specs.Reading.{reading}
 use Rattle.mip_schedule.specs.Spelling.{spelling}
 use Rattle.mip_entries.specs.declared.entry.Entry.{Entry}
-use Rattle.mip_history.specs.Setup.{setup_of}
+use Rattle.mip_history.specs.Setup.{setup_of, is_correspondent_at}
 use Rattle.mip_history.specs.Permitted.{permitted}
 use Rattle.mip_history.specs.Passing.{waited_by}
 use Rattle.mip_history.specs.Bound.{held_in, IsBound}
@@ -16,21 +16,21 @@ use Rattle.mip_replay.specs.Bindings.{EachIsBound, EachRepeatIsLate}
 use Rattle.mip_replay.proofs.ReadyLaws.{waits_are}
 
 abbrev pub IsLaw : Type 0
-IsLaw = (c : Content) (n home careof : ℕ) → held_in (setup_of c) (permitted c) n home ≡ Some careof → IsBound (setup_of c) (permitted c) n home careof
+IsLaw = (c : Content) (n home careof : ℕ) → is_correspondent_at (setup_of c) n ≡ true → held_in (setup_of c) (permitted c) n home ≡ Some careof → IsBound (setup_of c) (permitted c) n home careof
 
 pub each_is_bound : IsLaw → (c : Content) (h : List Entry) → h ≡ permitted c → EachIsBound (setup_of c) h
 unfolding EachIsBound
 each_is_bound law c h is = subst (λ (past : List Entry). EachIsBound (setup_of c) past) (sym is) (law c)
 
 abbrev pub AreRounds : Type 0
-AreRounds = (c : Content) → sum_by waited_by c.events ≤ 36000000 → RepeatsAfterRounds (permitted c)
+AreRounds = (c : Content) → sum_by waited_by c.events ≤ 36000000 → RepeatsAfterRounds (setup_of c) (permitted c)
 
 abbrev pub AreShort : Type 0
 AreShort = (text : List ℕ) (c : Content) → reading text ≡ Ok c → waited c.events ≤ 36000000
 
-pub repeats_of_text : AreRounds → AreShort → (text : List ℕ) (c : Content) → reading text ≡ Ok c → EachRepeatIsLate (permitted c)
+pub repeats_of_text : AreRounds → AreShort → (text : List ℕ) (c : Content) → reading text ≡ Ok c → EachRepeatIsLate (setup_of c) (permitted c)
 unfolding EachRepeatIsLate waited
 repeats_of_text rounds short text c read = rounds c (subst (λ (n : ℕ). n ≤ 36000000) (sym (waits_are c.events)) (short text c read))
 
-pub repeats_of : AreRounds → AreShort → (c : Content) (h : List Entry) → reading (spelling c) ≡ Ok c → h ≡ permitted c → EachRepeatIsLate h
-repeats_of rounds short c h read is = subst EachRepeatIsLate (sym is) (repeats_of_text rounds short (spelling c) c read)
+pub repeats_of : AreRounds → AreShort → (c : Content) (h : List Entry) → reading (spelling c) ≡ Ok c → h ≡ permitted c → EachRepeatIsLate (setup_of c) h
+repeats_of rounds short c h read is = subst (EachRepeatIsLate (setup_of c)) (sym is) (repeats_of_text rounds short (spelling c) c read)

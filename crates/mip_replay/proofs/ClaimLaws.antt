@@ -14,31 +14,28 @@ use Rattle.mip_links.proofs.NetLaws.{holder-put, hears-set, first-set}
 use Rattle.mip_history.specs.Setup.{Setup}
 use Rattle.mip_history.specs.Runs.{Run, note}
 use Rattle.mip_history.specs.Questions.{holder_in, declared_in, listen_says, hears_in}
-use Rattle.mip_history.specs.Outsiders.{link_id, listens, deafens, claim_entry}
+use Rattle.mip_history.specs.Claims.{link_id, claim_entry}
+use Rattle.mip_history.specs.Outsiders.{listens, deafens}
 use Rattle.mip_replay.specs.Engines.{EngineSeen, with_entry, with_net, tried, claim_tried, released}
 use Rattle.mip_replay.specs.Standing.{IsAt}
 use Rattle.mip_replay.specs.Quiet.{IsQuiet, IsNoClaim, IsTimeless}
-use Rattle.mip_replay.proofs.QuietLaws.{holder-push, declared-push, hears-push, asked-same, hears-same, nodes-same, now-same, history-same, at_note}
+use Rattle.mip_replay.proofs.QuietLaws.{holder-push, declared-push, hears-push, asked-same, hears-same, nodes-same, now-same, history-same, at_note, quiet_by}
 use Rattle.mip_replay.proofs.PostingLaws.{quiet_idle}
 
 timeless_claimed : (who l : ℕ) (a : Address) → IsTimeless (Claimed who (link_id l) a)
-timeless_claimed who l a = record { moment = refl; life = λ n count. refl }
+timeless_claimed who l a = record { moment = refl; unmoved = record { life = λ n count. refl; spot = λ n. refl } }
 
 timeless_released : (who l : ℕ) (a : Address) → IsTimeless (Released who (link_id l) a)
-timeless_released who l a = record { moment = refl; life = λ n count. refl }
+timeless_released who l a = record { moment = refl; unmoved = record { life = λ n count. refl; spot = λ n. refl } }
 
 timeless_listening : (o l : ℕ) → IsTimeless (Listening o (link_id l))
-timeless_listening o l = record { moment = refl; life = λ n count. refl }
+timeless_listening o l = record { moment = refl; unmoved = record { life = λ n count. refl; spot = λ n. refl } }
 
 timeless_deafened : (o l : ℕ) → IsTimeless (Deafened o (link_id l))
-timeless_deafened o l = record { moment = refl; life = λ n count. refl }
+timeless_deafened o l = record { moment = refl; unmoved = record { life = λ n count. refl; spot = λ n. refl } }
 
 quiet_taken : (who l : ℕ) (a : Address) (holder : ℕ) → IsQuiet (Taken who (link_id l) a holder)
-quiet_taken who l a holder = record {
-  claim = record { holder = λ a. refl; declared = λ by. refl };
-  timeless = record { moment = refl; life = λ n count. refl };
-  listening = λ o l. refl;
-}
+quiet_taken who l a holder = quiet_by (Taken who (link_id l) a holder) refl
 
 holds_after : (b a : ℕ) (v : Option ℕ) (o : Option ℕ) → (if b == a then v else o) ≡ unwrap_or (if b == a then Some v else None) o
 holds_after b a v o = by (b == a)
@@ -103,9 +100,11 @@ at_claimed e s run who l a small at =
       flying = at.flying;
       spots = at.spots;
       firsts = firsts_long e.net.firsts who a ∙ at.firsts;
-      nodes = nodes-same e s run x (timeless_claimed who l a) at;
+      nodes = nodes-same e s run x (let t = (timeless_claimed who l a) in t.unmoved) at;
       count = at.count;
       pasts = at.pasts;
+      agent_pasts = at.agent_pasts;
+      mobile_pasts = at.mobile_pasts;
       outsiders = at.outsiders;
       now = now-same e s run x (timeless_claimed who l a) at;
       history = history-same e s run x at;
@@ -129,9 +128,11 @@ at_released e s run who l a at =
       flying = at.flying;
       spots = at.spots;
       firsts = at.firsts;
-      nodes = nodes-same e s run x (timeless_released who l a) at;
+      nodes = nodes-same e s run x (let t = (timeless_released who l a) in t.unmoved) at;
       count = at.count;
       pasts = at.pasts;
+      agent_pasts = at.agent_pasts;
+      mobile_pasts = at.mobile_pasts;
       outsiders = at.outsiders;
       now = now-same e s run x (timeless_released who l a) at;
       history = history-same e s run x at;
@@ -163,9 +164,11 @@ module _ (e : EngineSeen) (s : Setup) (run : Run) (o l : ℕ) (small : o < 8) (f
     flying = at.flying;
     spots = length-set e.net.hearing (spot o l) v ∙ at.spots;
     firsts = at.firsts;
-    nodes = nodes-same e s run x timeless at;
+    nodes = nodes-same e s run x timeless.unmoved at;
     count = at.count;
     pasts = at.pasts;
+    agent_pasts = at.agent_pasts;
+    mobile_pasts = at.mobile_pasts;
     outsiders = at.outsiders;
     now = now-same e s run x timeless at;
     history = history-same e s run x at;

@@ -16,7 +16,7 @@ use Rattle.mip_replay.specs.Arrivals.{ArrivalSeen, arrival_of, arrival_seen}
 use Rattle.mip_replay.specs.Standing.{IsAt}
 use Rattle.mip_replay.specs.declared.arrival.Arrival.{Arrival}
 use Rattle.mip_replay.proofs.PostingLaws.{at_left}
-use Rattle.mip_replay.proofs.NodeLaws.{map_some, map_none}
+use Rattle.mip_replay.proofs.ItemLaws.{map_some, map_none}
 
 -- a packet of the pool is one that was posted
 in_pool_posted : (b : Bool) (o : Option Post) (post : Post) → (if b then o else None) ≡ Some post → o ≡ Some post

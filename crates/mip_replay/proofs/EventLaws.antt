@@ -9,8 +9,8 @@ use Rattle.mip_history.specs.Permitted.{happens, is_built_event}
 
 pub unbuilt_idle : (s : Setup) (run : Run) (event : Event) → is_built_event event ≡ false → happens s run event ≡ note entries.Idle run
 unbuilt_idle s run (Wait ms) e = absurd cc
-unbuilt_idle s run (Move node link) e = refl
-unbuilt_idle s run (Advertise link) e = refl
+unbuilt_idle s run (Move node link) e = absurd cc
+unbuilt_idle s run (Advertise link) e = absurd cc
 unbuilt_idle s run (Payload node to proto payload) e = absurd cc
 unbuilt_idle s run (Inject o link packet) e = absurd cc
 unbuilt_idle s run (Probe o link careof source peer cookie) e = absurd cc
@@ -26,7 +26,7 @@ unbuilt_idle s run (Lose k) e = absurd cc
 unbuilt_idle s run (Carry count) e = absurd cc
 unbuilt_idle s run (Restart node) e = absurd cc
 unbuilt_idle s run (Refresh node home) e = absurd cc
-unbuilt_idle s run (Plan node valid preferred) e = refl
-unbuilt_idle s run (Ask node) e = refl
+unbuilt_idle s run (Plan node valid preferred) e = absurd cc
+unbuilt_idle s run (Ask node) e = absurd cc
 unbuilt_idle s run (Show node) e = absurd cc
 unbuilt_idle s run (Settle a b) e = refl

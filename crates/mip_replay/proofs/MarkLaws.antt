@@ -9,11 +9,12 @@ use Rattle.mip_marks.specs.declared.mark.Mark.TheVariants.{Origin, Forged}
 use Rattle.mip_marks.specs.Entries.{update_accepted, mark_entry}
 use Rattle.mip_marks.specs.Marks.{mark_in}
 use Rattle.mip_history.specs.Setup.{Setup}
-use Rattle.mip_history.specs.Runs.{Run, notes}
+use Rattle.mip_history.specs.Runs.{Run}
 use Rattle.mip_history.specs.Nodes.{marks_of, marked}
 use Rattle.mip_replay.specs.Engines.{EngineSeen, with_entries, with_entry}
 use Rattle.mip_replay.specs.Quiet.{IsQuiet}
 use Rattle.mip_replay.specs.Standing.{IsAt}
+use Rattle.mip_replay.proofs.QuietLaws.{quiet_by}
 use Rattle.mip_replay.proofs.PostingLaws.{with_more, at_quiets}
 
 -- what is left where there is no mark, and where there is one
@@ -29,16 +30,8 @@ marks_one entry e (Some a) m is =
     with_more (entry ∷ []) (mark_entry m ∷ []) e ∙ ap (λ (x : Mark). with_entries (entry ∷ mark_entry x ∷ []) e) same
 
 quiet_mark : (m : Mark) → IsQuiet (mark_entry m)
-quiet_mark (Origin hot cot update) = record {
-  claim = record { holder = λ a. refl; declared = λ by. refl };
-  timeless = record { moment = refl; life = λ n count. refl };
-  listening = λ o l. refl;
-}
-quiet_mark (Forged cause) = record {
-  claim = record { holder = λ a. refl; declared = λ by. refl };
-  timeless = record { moment = refl; life = λ n count. refl };
-  listening = λ o l. refl;
-}
+quiet_mark (Origin hot cot update) = quiet_by (mark_entry (Origin hot cot update)) refl
+quiet_mark (Forged cause) = quiet_by (mark_entry (Forged cause)) refl
 
 quiet_marks : (past : List Entry) (o : Option AcceptedUpdate) → AllByRecursion IsQuiet (marks_of past o)
 quiet_marks past None = tt

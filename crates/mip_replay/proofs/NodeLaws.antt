@@ -1,344 +1,177 @@
--- Nodes act, restart and join, and time goes on.
-use Rattle.std.proofs.Common.{◌≡◌, ◌≢◌, ℕ, zero, suc, ◌+◌, ◌<◌, ◌≤◌, ◌^◌, List, [], ◌∷◌, ◌++◌, length, ◌⊎◌, inl, inr, refl, sym, ap, ◌∙◌, subst, arith, length-set}
+-- Nodes act.
+use Rattle.std.proofs.Common.{◌≡◌, ◌≢◌, ℕ, ◌<◌, List, [], ◌∷◌, ◌++◌, length, ◌⊎◌, inl, inr, refl, sym, ap, ◌∙◌, subst, arith, length-set}
 use Rattle.std.proofs.lemmas.Bool.{cases_eq}
-use Rattle.std.proofs.lemmas.Bool.Decides.{nat_tests}
-use Rattle.std.proofs.lemmas.List.{get_or-set_same, get_or-set_other, map_push}
+use Rattle.std.proofs.lemmas.List.{get_or-set_other}
 use Rattle.std.proofs.lemmas.List.Sums.{fold-append}
 use Rattle.std.proofs.lemmas.Option.{slice_get_within}
-use Rattle.std.specs.Prelude.{Option, Some, None, option_map, slice_get, slice_set, slice_index_or, map, take, true, false}
-use Rattle.mip_entries.specs.Stamped.{Stamped}
-use Rattle.mip_entries.specs.Completed.{node_id}
-use Rattle.mip_entries.specs.declared.entry.Entry.{Entry}
-use Rattle.mip_entries.specs.declared.entry.Entry.TheVariants.{Idle, Restarted, At}
-use Rattle.mip_links.specs.Table.{Asked}
-use Rattle.mip_rules_correspondent.specs.declared.known.Known.{Known}
-use Rattle.mip_rules_correspondent.specs.Steps.{Step, answers_of}
-use Rattle.mip_rules_correspondent.specs.Questions.{known}
-use Rattle.mip_rules_correspondent.specs.Turns.{with_turn}
-use Rattle.mip_rules_correspondent.specs.Calls.{Call}
-use Rattle.mip_rules_correspondent.specs.Doing.{turn_of}
+use Rattle.std.specs.Prelude.{Option, Some, None, option_map, slice_get, slice_set, true}
 use Rattle.mip_words.specs.declared.address.Address.{Address}
+use Rattle.mip_entries.specs.Stamped.{Stamped}
+use Rattle.mip_entries.specs.declared.answer.Answer.{Answer}
+use Rattle.mip_entries.specs.declared.answer.Answer.TheVariants.{Note}
+use Rattle.mip_entries.specs.declared.entry.Entry.{Entry}
+use Rattle.mip_entries.specs.declared.entry.Entry.TheVariants.{Idle}
+use Rattle.mip_links.specs.Table.{Asked, link_of}
+use Rattle.mip_outside.specs.Places.{Around}
+use Rattle.mip_rules_correspondent.specs.Steps.{Step}
+use Rattle.mip_rules_agent.specs.Steps as agents
+use Rattle.mip_rules_mobile.specs.Steps as mobiles
 use Rattle.mip_history.specs.Setup.{Setup, Host, Kind}
 use Rattle.mip_history.specs.Setup.Kind.{Correspondent as OfCorrespondent, Agent as OfAgent, Mobile as OfMobile}
-use Rattle.mip_history.specs.Runs.{Run, note, notes, with_past}
-use Rattle.mip_history.specs.Questions.{life_in, moment_in, restarts}
-use Rattle.mip_history.specs.Nodes.{past_at, identity_in, known_in, acts, by_host, answered, answered_one, row_entry, rows_by_kind, rows_shown, shown}
-use Rattle.std.specs.Option.{option_map_or}
-use Rattle.mip_bcache.specs.declared.row.Row.{Row}
-use Rattle.mip_entries.specs.declared.answer.Answer.{Answer}
-use Rattle.std.specs.List.{AllByRecursion}
-use Rattle.mip_replay.specs.Quiet.{IsQuiet}
-use Rattle.mip_replay.proofs.PostingLaws.{at_quiets, quiet_row, with_more}
-use Rattle.mip_history.specs.Permitted.{restarted, waited}
-use Rattle.mip_replay.specs.Engines.{NodeSeen, EngineSeen, IsCalm, with_entry, with_entries, with_node, with_role, new_node, reborn, at_moment, station_of}
-use Rattle.mip_replay.specs.declared.role.Role.TheVariants.{Correspondent}
-use Rattle.mip_replay.specs.Roles.{is_correspondent, last_of, answers_to, after_call, rows_of}
-use Rattle.mip_replay.proofs.RoleLaws.{born, knows_on}
-use Rattle.mip_replay.specs.Standing.{IsAt, role_of, node_of}
-use Rattle.mip_replay.proofs.QuietLaws.{life-push, moment-push, asked-same, hears-same, history-same, take_one}
+use Rattle.mip_history.specs.Runs.{Run, note, past_at, agent_past_at, mobile_past_at, with_past, with_agent_past, with_mobile_past}
+use Rattle.mip_history.specs.Calls.{Call}
+use Rattle.mip_history.specs.Questions.{life_in, spot_in}
+use Rattle.mip_history.specs.Knowing.{other_than, around_in, stands_on}
+use Rattle.mip_history.specs.Nodes.{acts, by_host, answered, answered_one}
+use Rattle.mip_nodes.specs.declared.role.Role.{Role}
+use Rattle.mip_nodes.specs.Nodes.{NodeSeen, with_role}
+use Rattle.mip_nodes.specs.Places.{around_of}
+use Rattle.mip_replay.specs.Engines.{EngineSeen, with_node}
+use Rattle.mip_replay.specs.Standing.{IsAt, role_in, node_in}
+use Rattle.mip_replay.proofs.ItemLaws.{set_here, set_there, set_same, map_some, map_none}
+use Rattle.mip_replay.proofs.QuietLaws.{mapped_same}
 
--- an item of a list in which one was set
-pub set_here : {X : Type 0} (xs : List X) (i : ℕ) (y : X) → i < length xs → slice_get (slice_set xs i y) i ≡ Some y
-set_here [] i y inside = absurd (omega (arith, inside))
-set_here (x ∷ xs) zero y inside = refl
-set_here (x ∷ xs) (suc i) y inside = set_here xs i y (omega (arith, inside))
+-- a run in which node n knows something else, and all else is as it was
+pub record DiffersAt (n : ℕ) (run after : Run) : Type 0 where
+  pub past : after.past ≡ run.past
+  pub posts : after.posts ≡ run.posts
+  pub flying : after.flying ≡ run.flying
+  pub pasts : length after.pasts ≡ length run.pasts
+  pub agent_pasts : length after.agent_pasts ≡ length run.agent_pasts
+  pub mobile_pasts : length after.mobile_pasts ≡ length run.mobile_pasts
+  pub past_of : (m : ℕ) → m ≢ n → past_at after m ≡ past_at run m
+  pub agent_past_of : (m : ℕ) → m ≢ n → agent_past_at after m ≡ agent_past_at run m
+  pub mobile_past_of : (m : ℕ) → m ≢ n → mobile_past_at after m ≡ mobile_past_at run m
 
-pub set_there : {X : Type 0} (xs : List X) (i j : ℕ) (y : X) → j ≢ i → slice_get (slice_set xs i y) j ≡ slice_get xs j
-set_there [] i j y other = refl
-set_there (x ∷ xs) zero zero y other = absurd (other refl)
-set_there (x ∷ xs) zero (suc j) y other = refl
-set_there (x ∷ xs) (suc i) zero y other = refl
-set_there (x ∷ xs) (suc i) (suc j) y other = set_there xs i j y (λ same. other (ap suc same))
+pub differs_past : (n : ℕ) (past : List (Stamped Step)) (run : Run) → DiffersAt n run (with_past n past run)
+differs_past n past run = record {
+  past = refl;
+  posts = refl;
+  flying = refl;
+  pasts = length-set run.pasts n past;
+  agent_pasts = refl;
+  mobile_pasts = refl;
+  past_of = λ m other. get_or-set_other run.pasts n m past [] other;
+  agent_past_of = λ m other. refl;
+  mobile_past_of = λ m other. refl;
+}
 
-pub map_some : {X Y : Type 0} (f : X → Y) (o : Option X) (y : Y) → option_map f o ≡ Some y → (x : X) × (o ≡ Some x) × (f x ≡ y)
-map_some f None y e = absurd cc
-map_some f (Some x) y e = (x, refl, cc e)
+pub differs_agent_past : (n : ℕ) (past : List (Stamped agents.Step)) (run : Run) → DiffersAt n run (with_agent_past n past run)
+differs_agent_past n past run = record {
+  past = refl;
+  posts = refl;
+  flying = refl;
+  pasts = refl;
+  agent_pasts = length-set run.agent_pasts n past;
+  mobile_pasts = refl;
+  past_of = λ m other. refl;
+  agent_past_of = λ m other. get_or-set_other run.agent_pasts n m past [] other;
+  mobile_past_of = λ m other. refl;
+}
 
-pub map_none : {X Y : Type 0} (f : X → Y) (o : Option X) → option_map f o ≡ None → o ≡ None
-map_none f None e = refl
-map_none f (Some x) e = absurd cc
+pub differs_mobile_past : (n : ℕ) (past : List (Stamped mobiles.Step)) (run : Run) → DiffersAt n run (with_mobile_past n past run)
+differs_mobile_past n past run = record {
+  past = refl;
+  posts = refl;
+  flying = refl;
+  pasts = refl;
+  agent_pasts = refl;
+  mobile_pasts = length-set run.mobile_pasts n past;
+  past_of = λ m other. refl;
+  agent_past_of = λ m other. refl;
+  mobile_past_of = λ m other. get_or-set_other run.mobile_pasts n m past [] other;
+}
 
-pub set_same : {X : Type 0} (xs : List X) (i : ℕ) (x : X) → slice_get xs i ≡ Some x → slice_set xs i x ≡ xs
-set_same [] i x there = absurd cc
-set_same (y ∷ ys) zero x there = let same : x ≡ y = cc in ap (λ z. z ∷ ys) same
-set_same (y ∷ ys) (suc i) x there = ap (λ l. y ∷ l) (set_same ys i x there)
+pub differs_same : (n : ℕ) (run : Run) → DiffersAt n run run
+differs_same n run = record {
+  past = refl;
+  posts = refl;
+  flying = refl;
+  pasts = refl;
+  agent_pasts = refl;
+  mobile_pasts = refl;
+  past_of = λ m other. refl;
+  agent_past_of = λ m other. refl;
+  mobile_past_of = λ m other. refl;
+}
+
+-- another node is the same there
+other_role : (s : Setup) (n m : ℕ) (run after : Run) → DiffersAt n run after → m ≢ n → (own : Address) (kind : Kind) → role_in s run m own kind ≡ role_in s after m own kind
+other_role s n m run after d other own (OfCorrespondent room) = rw (d.past, d.past_of m other) refl
+other_role s n m run after d other own (OfAgent preference life room serves) = rw (d.agent_past_of m other) refl
+other_role s n m run after d other own (OfMobile agent) = rw (d.mobile_past_of m other) refl
+
+other_node : (s : Setup) (n m : ℕ) (run after : Run) → DiffersAt n run after → m ≢ n → (host : Host) → node_in s run m host ≡ node_in s after m host
+other_node s n m run after d other host =
+    ap (λ (r : Role). let c : NodeSeen = record { host = host; life = life_in run.past m; spot = stands_on s run m host.address; role = r } in c)
+    (other_role s n m run after d other host.address host.kind)
+    ∙ ap (λ (past : List Entry). let c : NodeSeen = record { host = host; life = life_in past m; spot = spot_in (link_of s.links host.address.0) past m; role = role_in s after m host.address host.kind } in c)
+    (sym d.past)
 
 -- node n does what a call asks: with its answers the run goes on from a run for which the engine stands
-pub record Acts (e : EngineSeen) (s : Setup) (run : Run) (n : ℕ) (call : Call) (c : NodeSeen) (from now : ℕ) : Type 0 where
+pub record Acts (e : EngineSeen) (s : Setup) (n : ℕ) (c : NodeSeen) (from : ℕ) (after : Role) (answers : List Answer) (result : Run) : Type 0 where
   pub next : Run
-  pub stands : IsAt (with_node n (with_role (after_call c.role now call) c) e) s next
-  pub does : answered s n from next (answers_to c.role now call) ≡ acts s n call run
+  pub stands : IsAt (with_node n (with_role after c) e) s next
+  pub does : answered s n from next answers ≡ result
 
 -- what a node is made of, where there is one
 module _ (e : EngineSeen) (s : Setup) (run : Run) (at : IsAt e s run) (n : ℕ) where
-  abbrev node_here : Host → NodeSeen
-  node_here host = node_of s n (life_in run.past n) (past_at run n) host
+  pub host_of : (c : NodeSeen) → slice_get e.nodes n ≡ Some c → (host : Host) × (slice_get s.hosts n ≡ Some host) × (node_in s run n host ≡ c)
+  host_of c there = map_some (node_in s run n) (slice_get s.hosts n) c (sym (at.nodes n) ∙ there)
 
-  pub host_of : (c : NodeSeen) → slice_get e.nodes n ≡ Some c → (host : Host) × (slice_get s.hosts n ≡ Some host) × (node_here host ≡ c)
-  host_of c there = map_some node_here (slice_get s.hosts n) c (sym (at.nodes n) ∙ there)
+  pub no_host : slice_get e.nodes n ≡ None → slice_get s.hosts n ≡ None
+  no_host none = map_none (node_in s run n) (slice_get s.hosts n) (sym (at.nodes n) ∙ none)
 
   -- nothing is done where there is no node
   pub acts_none : (call : Call) → slice_get e.nodes n ≡ None → acts s n call run ≡ note Idle run
-  acts_none call none = ap (by_host s n call run) (map_none node_here (slice_get s.hosts n) (sym (at.nodes n) ∙ none))
+  acts_none call none = ap (by_host s n call run) (no_host none)
 
-  -- its rows are shown
-  pub shown_none : option_map_or (λ c. is_correspondent c.role) (slice_get e.nodes n) false ≡ false → shown s n run ≡ note Idle run
-  shown_none none = by (slice_get s.hosts n) (sym (ap (λ (o : Option NodeSeen). option_map_or (λ (c : NodeSeen). is_correspondent c.role) o false) (at.nodes n)) ∙ none)
-    where
-      of_kind : (life : ℕ) (past : List (Stamped Step)) (own : Address) (kind : Kind) → is_correspondent (role_of s n life past own kind) ≡ false → rows_by_kind s n run kind ≡ note Idle run
-      of_kind life past own (OfCorrespondent room) none = absurd cc
-      of_kind life past own OfAgent none = refl
-      of_kind life past own OfMobile none = refl
-
-      by : (o : Option Host) → option_map_or (λ (c : NodeSeen). is_correspondent c.role) (option_map node_here o) false ≡ false → rows_shown s n run o ≡ note Idle run
-      by None none = refl
-      by (Some host) none = of_kind (life_in run.past n) (past_at run n) host.address host.kind none
-
-  pub shown_some : (c : NodeSeen) → slice_get e.nodes n ≡ Some c → is_correspondent c.role ≡ true → shown s n run ≡ notes (map (row_entry n) (rows_of c.role e.moment)) run
-  shown_some c there is =
-      let found = host_of c there in
-      ap (rows_shown s n run) found.1
-      ∙ rows_there found.0.address found.0.kind (ap (λ (x : NodeSeen). is_correspondent x.role) found.2 ∙ is)
-      ∙ ap (λ (x : NodeSeen). notes (map (row_entry n) (rows_of x.role (moment_in s.start run.past))) run) found.2
-      ∙ ap (λ (now : ℕ). notes (map (row_entry n) (rows_of c.role now)) run) (sym at.now)
-    where
-      rows_there : (own : Address) (kind : Kind) → is_correspondent (role_of s n (life_in run.past n) (past_at run n) own kind) ≡ true
-          → rows_by_kind s n run kind ≡ notes (map (row_entry n) (rows_of (role_of s n (life_in run.past n) (past_at run n) own kind) (moment_in s.start run.past))) run
-      rows_there own (OfCorrespondent room) is = refl
-      rows_there own OfAgent is = absurd cc
-      rows_there own OfMobile is = absurd cc
-
-  pub at_shown : (rows : List Row) → IsAt (with_entries (map (row_entry n) rows) e) s (notes (map (row_entry n) rows) run)
-  at_shown rows = at_quiets (map (row_entry n) rows) e s run (by rows) at
-    where
-      by : (rows : List Row) → AllByRecursion IsQuiet (map (row_entry n) rows)
-      by [] = tt
-      by (r ∷ rows) = (quiet_row (node_id n) r.home r.number r.careof r.sequence r.end r.kept_until, by rows)
-
-  -- a node with another past
-  pub at_node : (c : NodeSeen) (host : Host) (past : List (Stamped Step)) → slice_get s.hosts n ≡ Some host → c ≡ node_of s n (life_in run.past n) past host
-      → IsAt (with_node n c e) s (with_past n past run)
-  at_node c host past is_host is_node =
+  -- a node that knows something else
+  pub at_node : (c : NodeSeen) (host : Host) (after : Run) → slice_get s.hosts n ≡ Some host → DiffersAt n run after → c ≡ node_in s after n host → IsAt (with_node n c e) s after
+  at_node c host after is_host d is_node =
       let inside = slice_get_within s.hosts n host is_host in
       record {
         seed = at.seed;
-        asked = at.asked;
-        hears = at.hears;
-        posts = at.posts;
-        flying = at.flying;
+        asked = rw d.past at.asked;
+        hears = rw d.past at.hears;
+        posts = at.posts ∙ sym d.posts;
+        flying = at.flying ∙ sym d.flying;
         spots = at.spots;
         firsts = at.firsts;
         nodes = λ m. by m inside (cases_eq m n);
         count = length-set e.nodes n c ∙ at.count;
-        pasts = length-set run.pasts n past ∙ at.pasts;
+        pasts = d.pasts ∙ at.pasts;
+        agent_pasts = d.agent_pasts ∙ at.agent_pasts;
+        mobile_pasts = d.mobile_pasts ∙ at.mobile_pasts;
         outsiders = at.outsiders;
-        now = at.now;
-        history = at.history;
+        now = rw d.past at.now;
+        history = at.history ∙ sym d.past;
       }
     where
-      by : (m : ℕ) → n < length s.hosts → (m ≡ n) ⊎ (m ≢ n)
-          → slice_get (slice_set e.nodes n c) m ≡ option_map (node_of s m (life_in run.past m) (slice_index_or (slice_set run.pasts n past) m [])) (slice_get s.hosts m)
-      by m inside (inl same) = subst (λ (i : ℕ). slice_get (slice_set e.nodes n c) i ≡ option_map (node_of s i (life_in run.past i) (slice_index_or (slice_set run.pasts n past) i [])) (slice_get s.hosts i)) (sym same)
+      by : (m : ℕ) → n < length s.hosts → (m ≡ n) ⊎ (m ≢ n) → slice_get (slice_set e.nodes n c) m ≡ option_map (node_in s after m) (slice_get s.hosts m)
+      by m inside (inl same) = subst (λ (i : ℕ). slice_get (slice_set e.nodes n c) i ≡ option_map (node_in s after i) (slice_get s.hosts i)) (sym same)
           (set_here e.nodes n c (omega (arith, inside, at.count))
           ∙ ap (λ (x : NodeSeen). Some x) is_node
-          ∙ ap (λ (p : List (Stamped Step)). option_map (node_of s n (life_in run.past n) p) (Some host)) (sym (get_or-set_same run.pasts n past [] (omega (arith, inside, at.pasts))))
-          ∙ ap (λ (o : Option Host). option_map (node_of s n (life_in run.past n) (slice_index_or (slice_set run.pasts n past) n [])) o) (sym is_host))
+          ∙ ap (λ (o : Option Host). option_map (node_in s after n) o) (sym is_host))
       by m inside (inr other) =
           set_there e.nodes n m c other ∙ at.nodes m
-          ∙ ap (λ (p : List (Stamped Step)). option_map (node_of s m (life_in run.past m) p) (slice_get s.hosts m)) (sym (get_or-set_other run.pasts n m past [] other))
+          ∙ mapped_same (node_in s run m) (node_in s after m) (other_node s n m run after d other) (slice_get s.hosts m)
 
   -- the same node
-  at_same : (c : NodeSeen) → slice_get e.nodes n ≡ Some c → IsAt (with_node n c e) s run
+  pub at_same : (c : NodeSeen) → slice_get e.nodes n ≡ Some c → IsAt (with_node n c e) s run
   at_same c there = subst (λ (nodes : List NodeSeen). IsAt (record e { nodes = nodes }) s run) (sym (set_same e.nodes n c there)) at
 
-  -- what a node of this kind does about a call
-  of_kind : (call : Call) (own : Address) (kind : Kind) → slice_get s.hosts n ≡ Some (record { address = own; kind = kind })
-      → slice_get e.nodes n ≡ Some (node_here (record { address = own; kind = kind })) → (from : ℕ) → station_of s.links (node_here (record { address = own; kind = kind })) ≡ from
-      → Acts e s run n call (node_here (record { address = own; kind = kind })) from (moment_in s.start run.past)
+  -- what is nothing to a node
+  pub acts_idle : (c : NodeSeen) (from : ℕ) → slice_get e.nodes n ≡ Some c → Acts e s n c from c.role (Note Idle ∷ []) (note Idle run)
   unfolding answered
-  of_kind call own (OfCorrespondent room) is_host there from sends =
-      let host : Host = record { address = own; kind = OfCorrespondent room } in
-      let me = identity_in s run n own room in
-      let now = moment_in s.start run.past in
-      let t = turn_of me (known_in run n room) now call in
-      let past = with_turn (past_at run n) t in
-      let c = node_here host in
-      let is_node : with_role (after_call c.role now call) c ≡ node_of s n (life_in run.past n) past host =
-      ap (λ (k : Known). let x : NodeSeen = record { host = host; life = life_in run.past n; role = Correspondent (record { identity = me; known = k }) } in x) (knows_on me now room (past_at run n) call) in
-      record {
-        next = with_past n past run;
-        stands = at_node (with_role (after_call c.role now call) c) host past is_host is_node;
-        does = ap (λ (f : ℕ). answered s n f (with_past n past run) (answers_of t.steps)) (sym sends) ∙ sym (ap (by_host s n call run) is_host);
-      }
-  of_kind call own OfAgent is_host there from sends = record {
-    next = run;
-    stands = at_same (node_here (record { address = own; kind = OfAgent })) there;
-    does = sym (ap (by_host s n call run) is_host);
-  }
-  of_kind call own OfMobile is_host there from sends = record {
-    next = run;
-    stands = at_same (node_here (record { address = own; kind = OfMobile })) there;
-    does = sym (ap (by_host s n call run) is_host);
-  }
+  acts_idle c from there = record { next = run; stands = at_same c there; does = refl }
 
-  -- what a node does about a call
-  pub acts_some : (call : Call) (c : NodeSeen) → slice_get e.nodes n ≡ Some c → (from : ℕ) → station_of e.net.links c ≡ from → Acts e s run n call c from e.moment
-  acts_some call c there from sends =
-      let found = host_of c there in
-      let here = subst (λ (x : NodeSeen). slice_get e.nodes n ≡ Some x) (sym found.2) there in
-      let from_here : station_of s.links (node_here found.0) ≡ from =
-      ap (λ (x : NodeSeen). station_of s.links x) found.2 ∙ ap (λ (q : Asked). station_of q.links c) (sym at.asked) ∙ sends in
-      subst (λ (now : ℕ). Acts e s run n call c from now) (sym at.now)
-      (subst (λ (x : NodeSeen). Acts e s run n call x from (moment_in s.start run.past)) found.2
-      (of_kind call found.0.address found.0.kind found.1 here from from_here))
-
--- time goes on
-pub at_passed : (e : EngineSeen) (s : Setup) (run : Run) (ms : ℕ) → IsAt e s run
-    → IsAt (with_entry (At (record { 0 = e.moment + ms })) (at_moment (e.moment + ms) e)) s (waited s run ms)
-unfolding waited
-at_passed e s run ms at = subst (λ (now : ℕ). IsAt (with_entry (At (record { 0 = e.moment + ms })) (at_moment (e.moment + ms) e)) s (note (At (record { 0 = now + ms })) run)) at.now (by (At (record { 0 = e.moment + ms })) refl)
-  where
-    by : (x : Entry) → x ≡ At (record { 0 = e.moment + ms }) → IsAt (with_entry (At (record { 0 = e.moment + ms })) (at_moment (e.moment + ms) e)) s (note (At (record { 0 = e.moment + ms })) run)
-    by x same =
-        let y = At (record { 0 = e.moment + ms }) in
-        record {
-          seed = at.seed;
-          asked = at.asked ∙ sym (asked-same s run.past y (record { holder = λ a. refl; declared = λ by. refl }));
-          hears = at.hears ∙ sym (hears-same run.past y (λ o l. refl));
-          posts = at.posts;
-          flying = at.flying;
-          spots = at.spots;
-          firsts = at.firsts;
-          nodes = λ n. at.nodes n ∙ ap (λ (life : ℕ). option_map (node_of s n life (past_at run n)) (slice_get s.hosts n)) (sym (life-push run.past y n));
-          count = at.count;
-          pasts = at.pasts;
-          outsiders = at.outsiders;
-          now = sym (moment-push s.start run.past y);
-          history = history-same e s run y at;
-        }
-
--- the lives of the others go on
-lived_on : (n m life : ℕ) → m ≢ n → restarts m life (Restarted (node_id n)) ≡ life
-lived_on n m life other = grind (arith, nat_tests, other)
-
--- a node begins its next life
-pub at_restarted : (e : EngineSeen) (s : Setup) (run : Run) (n : ℕ) (c : NodeSeen) → IsAt e s run → slice_get e.nodes n ≡ Some c
-    → IsAt (with_entry (Restarted (node_id n)) (reborn n c e)) s (restarted run n)
-unfolding restarted
-at_restarted e s run n c at there =
-    let found = host_of e s run at n c there in
-    let host = found.0 in
-    let y = Restarted (node_id n) in
-    let inside = slice_get_within s.hosts n host found.1 in
-    let is_node : new_node e.seed n (suc c.life) c.host ≡ node_of s n (suc (life_in run.past n)) [] host =
-    ap (λ (x : NodeSeen). new_node e.seed n (suc x.life) x.host) (sym found.2) ∙ ap (λ (seed : List ℕ). new_node seed n (suc (life_in run.past n)) host) at.seed
-    ∙ born s n (suc (life_in run.past n)) host in
-    record {
-      seed = at.seed;
-      asked = at.asked ∙ sym (asked-same s run.past y (record { holder = λ a. refl; declared = λ by. refl }));
-      hears = at.hears ∙ sym (hears-same run.past y (λ o l. refl));
-      posts = at.posts;
-      flying = at.flying;
-      spots = at.spots;
-      firsts = at.firsts;
-      nodes = λ m. by m host inside found.1 is_node (cases_eq m n);
-      count = length-set e.nodes n (new_node e.seed n (suc c.life) c.host) ∙ at.count;
-      pasts = length-set run.pasts n [] ∙ at.pasts;
-      outsiders = at.outsiders;
-      now = at.now ∙ sym (moment-push s.start run.past y);
-      history = history-same e s run y at;
-    }
-  where
-    lived : restarts n (life_in run.past n) (Restarted (node_id n)) ≡ suc (life_in run.past n)
-    lived = grind (arith, nat_tests)
-
-    Is : ℕ → Type 0
-    Is m = slice_get (slice_set e.nodes n (new_node e.seed n (suc c.life) c.host)) m
-        ≡ option_map (node_of s m (life_in (run.past ++ Restarted (node_id n) ∷ []) m) (slice_index_or (slice_set run.pasts n []) m [])) (slice_get s.hosts m)
-
-    by : (m : ℕ) (host : Host) → n < length s.hosts → slice_get s.hosts n ≡ Some host
-        → new_node e.seed n (suc c.life) c.host ≡ node_of s n (suc (life_in run.past n)) [] host → (m ≡ n) ⊎ (m ≢ n) → Is m
-    by m host inside is_host is_node (inl same) = subst Is (sym same)
-        (set_here e.nodes n (new_node e.seed n (suc c.life) c.host) (omega (arith, inside, at.count))
-        ∙ ap (λ (x : NodeSeen). Some x) is_node
-        ∙ ap (λ (life : ℕ). option_map (node_of s n life []) (Some host)) (sym (life-push run.past (Restarted (node_id n)) n ∙ lived))
-        ∙ ap (λ (p : List (Stamped Step)). option_map (node_of s n (life_in (run.past ++ Restarted (node_id n) ∷ []) n) p) (Some host)) (sym (get_or-set_same run.pasts n [] [] (omega (arith, inside, at.pasts))))
-        ∙ ap (λ (o : Option Host). option_map (node_of s n (life_in (run.past ++ Restarted (node_id n) ∷ []) n) (slice_index_or (slice_set run.pasts n []) n [])) o) (sym is_host))
-    by m host inside is_host is_node (inr other) =
-        set_there e.nodes n m (new_node e.seed n (suc c.life) c.host) other ∙ at.nodes m
-        ∙ ap (λ (life : ℕ). option_map (node_of s m life (past_at run m)) (slice_get s.hosts m)) (sym (life-push run.past (Restarted (node_id n)) m ∙ lived_on n m (life_in run.past m) other))
-        ∙ ap (λ (p : List (Stamped Step)). option_map (node_of s m (life_in (run.past ++ Restarted (node_id n) ∷ []) m) p) (slice_get s.hosts m)) (sym (get_or-set_other run.pasts n m [] [] other))
-
--- one that is not there leaves all as it was
-pub at_restarted_nowhere : (e : EngineSeen) (s : Setup) (run : Run) (n : ℕ) → IsAt e s run → slice_get e.nodes n ≡ None
-    → IsAt (with_entry (Restarted (node_id n)) e) s (restarted run n)
-unfolding restarted
-at_restarted_nowhere e s run n at none =
-    let y = Restarted (node_id n) in
-    let no_host = map_none (node_of s n (life_in run.past n) (past_at run n)) (slice_get s.hosts n) (sym (at.nodes n) ∙ none) in
-    record {
-      seed = at.seed;
-      asked = at.asked ∙ sym (asked-same s run.past y (record { holder = λ a. refl; declared = λ by. refl }));
-      hears = at.hears ∙ sym (hears-same run.past y (λ o l. refl));
-      posts = at.posts;
-      flying = at.flying;
-      spots = at.spots;
-      firsts = at.firsts;
-      nodes = λ m. by m no_host (cases_eq m n);
-      count = at.count;
-      pasts = length-set run.pasts n [] ∙ at.pasts;
-      outsiders = at.outsiders;
-      now = at.now ∙ sym (moment-push s.start run.past y);
-      history = history-same e s run y at;
-    }
-  where
-    node_at : ℕ → List (Stamped Step) → Host → NodeSeen
-    node_at m past host = node_of s m (life_in (run.past ++ Restarted (node_id n) ∷ []) m) past host
-
-    Is : ℕ → Type 0
-    Is m = slice_get e.nodes m ≡ option_map (node_at m (slice_index_or (slice_set run.pasts n []) m [])) (slice_get s.hosts m)
-
-    by : (m : ℕ) → slice_get s.hosts n ≡ None → (m ≡ n) ⊎ (m ≢ n) → Is m
-    by m no_host (inl same) = subst Is (sym same) (none ∙ ap (λ (o : Option Host). option_map (node_at n (slice_index_or (slice_set run.pasts n []) n [])) o) (sym no_host))
-    by m no_host (inr other) =
-        at.nodes m
-        ∙ ap (λ (life : ℕ). option_map (node_of s m life (past_at run m)) (slice_get s.hosts m)) (sym (life-push run.past (Restarted (node_id n)) m ∙ lived_on n m (life_in run.past m) other))
-        ∙ ap (λ (p : List (Stamped Step)). option_map (node_at m p) (slice_get s.hosts m)) (sym (get_or-set_other run.pasts n m [] [] other))
-
--- engines stay calm
-pub calm_set : (nodes : List NodeSeen) (now n : ℕ) (c : NodeSeen) → IsCalm nodes now → last_of c.role ≤ now → IsCalm (slice_set nodes n c) now
-calm_set nodes now n c calm early = record { early = calm.early; later = by nodes n calm.later }
-  where
-    by : (xs : List NodeSeen) (i : ℕ) → ((m : ℕ) (x : NodeSeen) → slice_get xs m ≡ Some x → last_of x.role ≤ now)
-        → (m : ℕ) (x : NodeSeen) → slice_get (slice_set xs i c) m ≡ Some x → last_of x.role ≤ now
-    by [] i all m x found = absurd cc
-    by (y ∷ ys) zero all zero x found = let same : c ≡ x = cc in subst (λ (z : NodeSeen). last_of z.role ≤ now) same early
-    by (y ∷ ys) zero all (suc m) x found = all (suc m) x found
-    by (y ∷ ys) (suc i) all zero x found = all zero x found
-    by (y ∷ ys) (suc i) all (suc m) x found = by ys i (λ m x found. all (suc m) x found) m x found
-
-pub calm_later : (nodes : List NodeSeen) (now ms : ℕ) → IsCalm nodes now → now + ms < 2 ^ 62 → IsCalm nodes (now + ms)
-calm_later nodes now ms calm early = record { early = early; later = λ n c found. let l = calm.later n c found in omega arith }
-
-pub calm_push : (nodes : List NodeSeen) (now : ℕ) (c : NodeSeen) → IsCalm nodes now → last_of c.role ≤ now → IsCalm (nodes ++ c ∷ []) now
-calm_push nodes now c calm early = record { early = calm.early; later = by nodes calm.later }
-  where
-    by : (xs : List NodeSeen) → ((m : ℕ) (x : NodeSeen) → slice_get xs m ≡ Some x → last_of x.role ≤ now)
-        → (m : ℕ) (x : NodeSeen) → slice_get (xs ++ c ∷ []) m ≡ Some x → last_of x.role ≤ now
-    by [] all zero x found = let same : c ≡ x = cc in subst (λ (z : NodeSeen). last_of z.role ≤ now) same early
-    by [] all (suc m) x found = absurd cc
-    by (y ∷ ys) all zero x found = all zero x found
-    by (y ∷ ys) all (suc m) x found = by ys (λ m x found. all (suc m) x found) m x found
+  -- what it finds around it
+  pub around_is : (home : Option ℕ) → around_of e.net n home ≡ around_in run n home
+  around_is home = ap (λ (q : Asked). let a : Around = record { room = λ _. true; others = λ x. other_than n (q.holder x); home = home } in a) at.asked
 
 -- one thing more that a node does
 pub answered_more : (s : Setup) (n from : ℕ) (run : Run) (answers : List Answer) (answer : Answer)
     → answered_one s n from (answered s n from run answers) answer ≡ answered s n from run (answers ++ answer ∷ [])
 unfolding answered
 answered_more s n from run answers answer = sym (fold-append (λ (r : Run) (a : Answer). answered_one s n from r a) run answers (answer ∷ []))
-
--- one row more
-pub rows_more : (n : ℕ) (rows : List Row) (i : ℕ) (row : Row) (e : EngineSeen) → slice_get rows i ≡ Some row
-    → with_entries (row_entry n row ∷ []) (with_entries (map (row_entry n) (take i rows)) e) ≡ with_entries (map (row_entry n) (take (i + 1) rows)) e
-rows_more n rows i row e there =
-    with_more (map (row_entry n) (take i rows)) (row_entry n row ∷ []) e
-    ∙ ap (λ (xs : List Entry). with_entries xs e) (sym (map_push (row_entry n) (take i rows) row) ∙ ap (map (row_entry n)) (sym (take_one rows i row there)))

@@ -1,32 +1,40 @@
 -- Nodes join, each with its address, before the first event.
 use Rattle.std.proofs.Common.{◌≡◌, ℕ, zero, suc, ◌+◌, ◌<◌, List, [], ◌∷◌, ◌++◌, length, replicate, Bool, true, false, refl, sym, ap, ◌∙◌, arith}
 use Rattle.std.proofs.Math.Path.{fun_ext}
-use Rattle.std.proofs.lemmas.List.{length_push, take_more}
-use Rattle.std.specs.Prelude.{Option, Some, None, option_map, slice_get, slice_index_or, unwrap_or, map, take, get_or, ◌&&◌, nat_lt, if◌then◌else◌}
+use Rattle.std.proofs.lemmas.List.{length_push, append_assoc, append-nil, length-map}
+use Rattle.std.specs.Prelude.{fold, Option, Some, None, option_map, slice_get, slice_index_or, unwrap_or, map, ◌&&◌, nat_lt, if◌then◌else◌}
+use Rattle.std.proofs.lemmas.List.Sums.{fold-append}
 use Rattle.mip_words.specs.declared.address.Address.{Address}
 use Rattle.mip_entries.specs.Stamped.{Stamped}
 use Rattle.mip_entries.specs.declared.entry.Entry.{Entry}
 use Rattle.mip_entries.specs.declared.entry.Entry.TheVariants.{Claimed}
 use Rattle.mip_links.specs.Table.{Asked, link_of}
 use Rattle.mip_links.specs.Nets.{hears_of, spot, declared_of, claimed}
+use Rattle.mip_lists.specs.Asked.{asked}
 use Rattle.mip_rules_correspondent.specs.Steps.{Step}
-use Rattle.mip_schedule.specs.declared.declaration.Declaration.{Declaration}
-use Rattle.mip_schedule.specs.declared.declaration.Declaration.TheVariants as declare
-use Rattle.mip_history.specs.Setup.{Setup, Host, links_in, hosts_in, outsiders_in}
+use Rattle.mip_rules_correspondent.specs.declared.known.Known.{Known}
+use Rattle.mip_rules_agent.specs.Steps as agents
+use Rattle.mip_rules_agent.specs.Known as agent_known
+use Rattle.mip_rules_mobile.specs.Steps as mobiles
+use Rattle.mip_rules_mobile.specs.Known as mobile_known
+use Rattle.mip_history.specs.Setup.{Setup, Host, Kind}
 use Rattle.mip_history.specs.Setup.Kind.{Correspondent as OfCorrespondent, Agent as OfAgent, Mobile as OfMobile}
-use Rattle.mip_history.specs.Runs.{note}
-use Rattle.mip_history.specs.Questions.{life_in, asked_in, hears_in, moment_in}
-use Rattle.mip_history.specs.Nodes.{past_at, link_or_first}
-use Rattle.mip_history.specs.Outsiders.{link_id}
-use Rattle.mip_history.specs.Permitted.{claims_from, opened}
-use Rattle.mip_replay.specs.Engines.{NodeSeen, EngineSeen, new_engine, new_node, joined, with_entry, with_net}
-use Rattle.mip_replay.specs.Standing.{IsAt, node_of}
+use Rattle.mip_history.specs.Runs.{Run, note, past_at, agent_past_at, mobile_past_at}
+use Rattle.mip_history.specs.Questions.{life_in, restarts, moved_says, spot_in, asked_in, hears_in, moment_in}
+use Rattle.mip_history.specs.Knowing.{secrets_in, known_in}
+use Rattle.mip_rules_correspondent.specs.Questions.{known}
+use Rattle.mip_rules_agent.specs.Questions as agent_questions
+use Rattle.mip_rules_mobile.specs.Questions as mobile_questions
+use Rattle.mip_history.specs.Permitted.{claimed_entry, claims_of, claims_from, is_first_agent, anycast_at, opened}
+use Rattle.mip_nodes.specs.declared.role.Role.{Role}
+use Rattle.mip_nodes.specs.declared.role.Role.TheVariants.{Correspondent, Agent, Mobile}
+use Rattle.mip_nodes.specs.Nodes.{NodeSeen, new_node}
+use Rattle.mip_nodes.specs.Roles.{new_role}
+use Rattle.mip_nodes.proofs.RoleLaws.{known_first, agent_known_first, mobile_known_first}
+use Rattle.mip_replay.specs.Engines.{EngineSeen, new_engine, joined, with_entry, with_net}
+use Rattle.mip_replay.specs.Openings.{with_hosts}
+use Rattle.mip_replay.specs.Standing.{IsAt, role_in, node_in}
 use Rattle.mip_replay.proofs.ClaimLaws.{at_claimed}
-use Rattle.mip_replay.proofs.RoleLaws.{born}
-
--- these nodes alone
-abbrev pub with_hosts : List Host → Setup → Setup
-with_hosts hosts s = record s { hosts = hosts }
 
 none_first : (n by : ℕ) → declared_of (replicate n None) by ≡ None
 none_first zero by = refl
@@ -64,6 +72,8 @@ at_new s =
       nodes = λ n. refl;
       count = refl;
       pasts = refl;
+      agent_pasts = refl;
+      mobile_pasts = refl;
       outsiders = refl;
       now = refl;
       history = refl;
@@ -73,29 +83,45 @@ at_new s =
     asked_with f = record { links = s.links; holder = λ a. None; declared = f }
 
 -- one node more
-claims_same : (s : Setup) (xs ys hosts : List Host) (n : ℕ) → claims_from (with_hosts xs s) n hosts ≡ claims_from (with_hosts ys s) n hosts
-claims_same s xs ys [] n = refl
-claims_same s xs ys (h ∷ hosts) n = ap (λ (l : List Entry). Claimed n (link_id (link_or_first s h.address.0)) h.address ∷ l) (claims_same s xs ys hosts (suc n))
+claims_push : (links : List ℕ) (before hosts : List Host) (h : Host) → claims_from links before (hosts ++ h ∷ []) ≡ claims_from links before hosts ++ claims_of links (before ++ hosts) h
+claims_push links before [] h = append-nil (claims_of links before h) ∙ ap (λ (l : List Host). claims_of links l h) (sym (append-nil before))
+claims_push links before (x ∷ hosts) h =
+    ap (λ (l : List Entry). claims_of links before x ++ l) (claims_push links (before ++ x ∷ []) hosts h ∙ ap (λ (l : List Host). claims_from links (before ++ x ∷ []) hosts ++ claims_of links l h) (append_assoc before (x ∷ []) hosts))
+    ∙ sym (append_assoc (claims_of links before x) (claims_from links (before ++ x ∷ []) hosts) (claims_of links (before ++ x ∷ hosts) h))
 
-claims_push : (s : Setup) (hosts : List Host) (n : ℕ) (h : Host)
-    → claims_from s n (hosts ++ h ∷ []) ≡ claims_from s n hosts ++ Claimed (n + length hosts) (link_id (link_or_first s h.address.0)) h.address ∷ []
-claims_push s [] n h = let same : n ≡ n + 0 = omega arith in ap (λ (m : ℕ). Claimed m (link_id (link_or_first s h.address.0)) h.address ∷ []) same
-claims_push s (x ∷ hosts) n h =
-    let same : suc n + length hosts ≡ n + suc (length hosts) = omega arith in
-    ap (λ (l : List Entry). Claimed n (link_id (link_or_first s x.address.0)) x.address ∷ l) (claims_push s hosts (suc n) h
-    ∙ ap (λ (m : ℕ). claims_from s (suc n) hosts ++ Claimed m (link_id (link_or_first s h.address.0)) h.address ∷ []) same)
+-- claims say nothing of lives and of links where somebody stands
+claims_still : {X : Type 0} (f : X → Entry → X) → ((x : X) (who : ℕ) (link : _) (a : Address) → f x (Claimed who link a) ≡ x) → (x : X) (links : List ℕ) (before hosts : List Host) → fold f x (claims_from links before hosts) ≡ x
+claims_still f same x links before [] = refl
+claims_still f same x links before (h ∷ hosts) =
+    fold-append f x (claims_of links before h) (claims_from links (before ++ h ∷ []) hosts)
+    ∙ ap (λ y. fold f y (claims_from links (before ++ h ∷ []) hosts)) (by (is_first_agent links before h.address h.kind))
+    ∙ claims_still f same x links (before ++ h ∷ []) hosts
+  where
+    by : (b : Bool) → fold f x (claimed_entry links (length before) h.address ∷ (if b then claimed_entry links (length before) (anycast_at h.address) ∷ [] else [])) ≡ x
+    by true = ap (λ y. f y (claimed_entry links (length before) (anycast_at h.address))) (same x _ _ _) ∙ same x _ _ _
+    by false = same x _ _ _
 
-new_lives : (s : Setup) (hosts : List Host) (n m : ℕ) → life_in (claims_from s n hosts) m ≡ 0
-new_lives s [] n m = refl
-new_lives s (h ∷ hosts) n m = new_lives s hosts (suc n) m
+no_past : {X : Type 0} (hosts : List Host) (m : ℕ) → slice_index_or (map (λ (host : Host). let l : List X = [] in l) hosts) m [] ≡ []
+no_past [] m = refl
+no_past (h ∷ hosts) zero = refl
+no_past (h ∷ hosts) (suc m) = no_past hosts m
 
-abbrev no_past : Host → List (Stamped Step)
-no_past host = []
+-- a node with nothing behind it
+node_first : (s : Setup) (run : Run) (m : ℕ) (h : Host) → life_in run.past m ≡ 0 → ((home : Option ℕ) → spot_in home run.past m ≡ home)
+    → past_at run m ≡ [] → agent_past_at run m ≡ [] → mobile_past_at run m ≡ [] → node_in s run m h ≡ new_node s.seed m (link_of s.links h.address.0) h
+node_first s run m h life spot past agent mobile = made (life_in run.past m) (spot_in (link_of s.links h.address.0) run.past m) (role_in s run m h.address h.kind) life (spot (link_of s.links h.address.0)) (by h.address h.kind)
+  where
+    made : (l : ℕ) (o : Option ℕ) (r : Role) → l ≡ 0 → o ≡ link_of s.links h.address.0 → r ≡ new_role s.seed m 0 h.address h.kind
+        → ◌≡◌ {A = NodeSeen} (record { host = h; life = l; spot = o; role = r }) (new_node s.seed m (link_of s.links h.address.0) h)
+    made l o r e f g = cc
 
-no_pasts : (hosts : List Host) (m : ℕ) → slice_index_or (map no_past hosts) m [] ≡ []
-no_pasts [] m = refl
-no_pasts (h ∷ hosts) zero = refl
-no_pasts (h ∷ hosts) (suc m) = no_pasts hosts m
+    by : (own : Address) (kind : Kind) → role_in s run m own kind ≡ new_role s.seed m 0 own kind
+    by own (OfCorrespondent room) =
+        ap (λ (l : ℕ). Correspondent (record { identity = record { own = own; secrets = secrets_in s m l; room = room }; known = known_in run m room })) life
+        ∙ ap (λ (k : Known). Correspondent (record { identity = record { own = own; secrets = secrets_in s m 0; room = room }; known = k })) (ap (known room) past ∙ known_first room)
+    by own (OfAgent preference seconds room serves) =
+        ap (λ (k : agent_known.Known). Agent (record { identity = record { own = own; preference = preference; life = seconds; room = room }; known = k })) (ap (agent_questions.known serves) agent ∙ agent_known_first serves)
+    by own (OfMobile declared) = ap (λ (k : mobile_known.Known). Mobile k) (ap (mobile_questions.known own declared (secrets_in s m 0)) mobile ∙ mobile_known_first own declared (secrets_in s m 0))
 
 push_nodes : {A B : Type 0} (xs : List A) (ys : List B) (f : ℕ → B → A) (x : A) (y : B) → ((m : ℕ) → slice_get xs m ≡ option_map (f m) (slice_get ys m)) → x ≡ f (length ys) y
     → (m : ℕ) → slice_get (xs ++ x ∷ []) m ≡ option_map (f m) (slice_get (ys ++ y ∷ []) m)
@@ -118,103 +144,86 @@ module _ (e : EngineSeen) (s : Setup) (hosts : List Host) (host : Host) (small :
   n_is = at.count
 
   abbrev claim : Entry
-  claim = Claimed (length e.nodes) (link_id (unwrap_or (link_of e.net.links host.address.0) 0)) host.address
+  claim = Claimed (length e.nodes) (record { 0 = unwrap_or (link_of e.net.links host.address.0) 0 }) host.address
 
-  claim_is : claim ≡ Claimed (length hosts) (link_id (link_or_first after host.address.0)) host.address
+  claim_is : claim ≡ claimed_entry s.links (length hosts) host.address
   claim_is =
-      ap (λ (n : ℕ). Claimed n (link_id (unwrap_or (link_of e.net.links host.address.0) 0)) host.address) n_is
-      ∙ ap (λ (q : Asked). Claimed (length hosts) (link_id (unwrap_or (link_of q.links host.address.0) 0)) host.address) at.asked
+      ap (λ (n : ℕ). Claimed n (record { 0 = unwrap_or (link_of e.net.links host.address.0) 0 }) host.address) n_is
+      ∙ ap (λ (q : Asked). Claimed (length hosts) (record { 0 = unwrap_or (link_of q.links host.address.0) 0 }) host.address) at.asked
 
-  from_none : 0 + length hosts ≡ length hosts
-  from_none = omega arith
-
-  past_is : (opened after).past ≡ (opened before).past ++ claim ∷ []
-  past_is =
-      claims_push after hosts 0 host
-      ∙ ap (λ (n : ℕ). claims_from after 0 hosts ++ Claimed n (link_id (link_or_first after host.address.0)) host.address ∷ []) from_none
-      ∙ ap (λ (l : List Entry). l ++ Claimed (length hosts) (link_id (link_or_first after host.address.0)) host.address ∷ []) (claims_same s (hosts ++ host ∷ []) hosts hosts 0)
-      ∙ ap (λ (x : Entry). (opened before).past ++ x ∷ []) (sym claim_is)
+  -- the run in which the node has its own address, and no other yet
+  abbrev pub arrived : Run
+  arrived = record (opened after) { past = (opened before).past ++ claimed_entry s.links (length hosts) host.address ∷ [] }
 
   claims : IsAt (with_entry claim (with_net (claimed e.net (length e.nodes) host.address) e)) before (note claim (opened before))
   claims = at_claimed e before (opened before) (length e.nodes) (unwrap_or (link_of e.net.links host.address.0) 0) host.address (omega arith) at
 
+  past_is : (note claim (opened before)).past ≡ arrived.past
+  past_is = ap (λ (x : Entry). (opened before).past ++ x ∷ []) claim_is
+
   abbrev node : ℕ → Host → NodeSeen
-  node m h = node_of s m 0 [] h
+  node m h = new_node s.seed m (link_of s.links h.address.0) h
+
+  lives : (run : Run) → (more : List Entry) → run.past ≡ (opened before).past ++ more → ((m : ℕ) → fold (restarts m) 0 more ≡ 0) → (m : ℕ) → life_in run.past m ≡ 0
+  lives run more is none m =
+      ap (λ (l : List Entry). life_in l m) is ∙ fold-append (restarts m) 0 (opened before).past more
+      ∙ ap (λ (n : ℕ). fold (restarts m) n more) (claims_still (restarts m) (λ x who link a. refl) 0 s.links [] hosts) ∙ none m
+
+  spots : (run : Run) → (more : List Entry) → run.past ≡ (opened before).past ++ more → ((m : ℕ) (home : Option ℕ) → asked (moved_says m) home more ≡ home) → (m : ℕ) (home : Option ℕ) → spot_in home run.past m ≡ home
+  spots run more is none m home =
+      ap (λ (l : List Entry). spot_in home l m) is ∙ fold-append (λ (o : Option ℕ) (x : Entry). unwrap_or (moved_says m x) o) home (opened before).past more
+      ∙ ap (λ (o : Option ℕ). asked (moved_says m) o more) (claims_still (λ (o : Option ℕ) (x : Entry). unwrap_or (moved_says m x) o) (λ x who link a. refl) home s.links [] hosts) ∙ none m home
 
   were : (m : ℕ) → slice_get e.nodes m ≡ option_map (node m) (slice_get hosts m)
-  were m =
-      at.nodes m
-      ∙ ap (λ (life : ℕ). option_map (node_of s m life (past_at (opened before) m)) (slice_get hosts m)) (new_lives before hosts 0 m)
-      ∙ ap (λ (past : List (Stamped Step)). option_map (node_of s m 0 past) (slice_get hosts m)) (no_pasts hosts m)
+  were m = at.nodes m ∙ by (slice_get hosts m)
+    where
+      by : (o : Option Host) → option_map (node_in before (opened before) m) o ≡ option_map (node m) o
+      by None = refl
+      by (Some h) = ap (λ (c : NodeSeen). Some c) (node_first before (opened before) m h
+          (lives (opened before) [] (sym (append-nil (opened before).past)) (λ k. refl) m)
+          (spots (opened before) [] (sym (append-nil (opened before).past)) (λ k home. refl) m)
+          (no_past hosts m) (no_past hosts m) (no_past hosts m))
 
-  new_is : new_node e.seed (length e.nodes) 0 host ≡ node (length hosts) host
+  new_is : new_node e.seed (length e.nodes) (link_of e.net.links host.address.0) host ≡ node (length hosts) host
   new_is =
-      ap (λ (n : ℕ). new_node e.seed n 0 host) n_is ∙ ap (λ (seed : List ℕ). new_node seed (length hosts) 0 host) at.seed ∙ born s (length hosts) 0 host
+      ap (λ (n : ℕ). new_node e.seed n (link_of e.net.links host.address.0) host) n_is
+      ∙ ap (λ (seed : List ℕ). new_node seed (length hosts) (link_of e.net.links host.address.0) host) at.seed
+      ∙ ap (λ (q : Asked). new_node s.seed (length hosts) (link_of q.links host.address.0) host) at.asked
 
-  are : (m : ℕ) → slice_get (e.nodes ++ new_node e.seed (length e.nodes) 0 host ∷ []) m
-      ≡ option_map (node_of s m (life_in (opened after).past m) (past_at (opened after) m)) (slice_get (hosts ++ host ∷ []) m)
+  are : (m : ℕ) → slice_get (e.nodes ++ new_node e.seed (length e.nodes) (link_of e.net.links host.address.0) host ∷ []) m ≡ option_map (node_in after arrived m) (slice_get (hosts ++ host ∷ []) m)
   are m =
-      push_nodes e.nodes hosts node (new_node e.seed (length e.nodes) 0 host) host were new_is m
-      ∙ ap (λ (life : ℕ). option_map (node_of s m life []) (slice_get (hosts ++ host ∷ []) m)) (sym (new_lives after (hosts ++ host ∷ []) 0 m))
-      ∙ ap (λ (past : List (Stamped Step)). option_map (node_of s m (life_in (opened after).past m) past) (slice_get (hosts ++ host ∷ []) m)) (sym (no_pasts (hosts ++ host ∷ []) m))
+      push_nodes e.nodes hosts node (new_node e.seed (length e.nodes) (link_of e.net.links host.address.0) host) host were new_is m ∙ by (slice_get (hosts ++ host ∷ []) m)
+    where
+      by : (o : Option Host) → option_map (node m) o ≡ option_map (node_in after arrived m) o
+      by None = refl
+      by (Some h) = ap (λ (c : NodeSeen). Some c) (sym (node_first after arrived m h
+          (lives arrived (claimed_entry s.links (length hosts) host.address ∷ []) refl (λ k. refl) m)
+          (spots arrived (claimed_entry s.links (length hosts) host.address ∷ []) refl (λ k home. refl) m)
+          (no_past (hosts ++ host ∷ []) m) (no_past (hosts ++ host ∷ []) m) (no_past (hosts ++ host ∷ []) m)))
 
-  pub at_joined : IsAt (joined host e) after (opened after)
+  pub at_joined : IsAt (joined host e) after arrived
   at_joined = record {
     seed = at.seed;
-    asked = claims.asked ∙ ap (λ (past : List Entry). asked_in after past) (sym past_is);
-    hears = claims.hears ∙ ap hears_in (sym past_is);
+    asked = claims.asked ∙ ap (λ (past : List Entry). asked_in after past) past_is;
+    hears = claims.hears ∙ ap hears_in past_is;
     posts = at.posts;
     flying = at.flying;
     spots = at.spots;
     firsts = claims.firsts;
     nodes = are;
-    count = length_push e.nodes (new_node e.seed (length e.nodes) 0 host) ∙ ap (λ (n : ℕ). n + 1) n_is ∙ sym (length_push hosts host);
-    pasts = length_map (hosts ++ host ∷ []);
+    count = length_push e.nodes (new_node e.seed (length e.nodes) (link_of e.net.links host.address.0) host) ∙ ap (λ (n : ℕ). n + 1) n_is ∙ sym (length_push hosts host);
+    pasts = length-map (hosts ++ host ∷ []) (λ (h : Host). let l : List (Stamped Step) = [] in l);
+    agent_pasts = length-map (hosts ++ host ∷ []) (λ (h : Host). let l : List (Stamped agents.Step) = [] in l);
+    mobile_pasts = length-map (hosts ++ host ∷ []) (λ (h : Host). let l : List (Stamped mobiles.Step) = [] in l);
     outsiders = at.outsiders;
-    now = claims.now ∙ ap (λ (past : List Entry). moment_in s.start past) (sym past_is);
-    history = claims.history ∙ sym past_is;
+    now = claims.now ∙ ap (λ (past : List Entry). moment_in s.start past) past_is;
+    history = claims.history ∙ past_is;
   }
-    where
-      length_map : (xs : List Host) → length (map no_past xs) ≡ length xs
-      length_map [] = refl
-      length_map (x ∷ xs) = ap suc (length_map xs)
 
--- the declarations of a schedule, one behind the other
-pub links_in-append : (xs ys : List Declaration) → links_in (xs ++ ys) ≡ links_in xs ++ links_in ys
-links_in-append [] ys = refl
-links_in-append (declare.Link name prefix ∷ xs) ys = ap (λ (l : List ℕ). prefix.0 ∷ l) (links_in-append xs ys)
-links_in-append (declare.Agent name link address preference life room ∷ xs) ys = links_in-append xs ys
-links_in-append (declare.Correspondent name link address room ∷ xs) ys = links_in-append xs ys
-links_in-append (declare.Mobile name link address agent ∷ xs) ys = links_in-append xs ys
-links_in-append (declare.Serve agent mobile ∷ xs) ys = links_in-append xs ys
-links_in-append (declare.Outsider name ∷ xs) ys = links_in-append xs ys
-
-pub hosts_in-append : (xs ys : List Declaration) → hosts_in (xs ++ ys) ≡ hosts_in xs ++ hosts_in ys
-hosts_in-append [] ys = refl
-hosts_in-append (declare.Link name prefix ∷ xs) ys = hosts_in-append xs ys
-hosts_in-append (declare.Agent name link address preference life room ∷ xs) ys = ap (λ (l : List Host). record { address = address; kind = OfAgent } ∷ l) (hosts_in-append xs ys)
-hosts_in-append (declare.Correspondent name link address room ∷ xs) ys =
-    ap (λ (l : List Host). record { address = address; kind = OfCorrespondent room } ∷ l) (hosts_in-append xs ys)
-hosts_in-append (declare.Mobile name link address agent ∷ xs) ys = ap (λ (l : List Host). record { address = address; kind = OfMobile } ∷ l) (hosts_in-append xs ys)
-hosts_in-append (declare.Serve agent mobile ∷ xs) ys = hosts_in-append xs ys
-hosts_in-append (declare.Outsider name ∷ xs) ys = hosts_in-append xs ys
-
-pub outsiders_in-append : (xs ys : List Declaration) → outsiders_in (xs ++ ys) ≡ outsiders_in xs + outsiders_in ys
-outsiders_in-append [] ys = omega arith
-outsiders_in-append (declare.Link name prefix ∷ xs) ys = outsiders_in-append xs ys
-outsiders_in-append (declare.Agent name link address preference life room ∷ xs) ys = outsiders_in-append xs ys
-outsiders_in-append (declare.Correspondent name link address room ∷ xs) ys = outsiders_in-append xs ys
-outsiders_in-append (declare.Mobile name link address agent ∷ xs) ys = outsiders_in-append xs ys
-outsiders_in-append (declare.Serve agent mobile ∷ xs) ys = outsiders_in-append xs ys
-outsiders_in-append (declare.Outsider name ∷ xs) ys = let more = outsiders_in-append xs ys in omega arith
-
--- one declaration more
-pub links_more : (ds : List Declaration) (i : ℕ) (d : Declaration) → i < length ds → links_in (take i ds) ++ links_in (get_or ds i d ∷ []) ≡ links_in (take (i + 1) ds)
-links_more ds i d inside = sym (links_in-append (take i ds) (get_or ds i d ∷ [])) ∙ ap links_in (sym (take_more ds i d inside))
-
-pub hosts_more : (ds : List Declaration) (i : ℕ) (d : Declaration) → i < length ds → hosts_in (take i ds) ++ hosts_in (get_or ds i d ∷ []) ≡ hosts_in (take (i + 1) ds)
-hosts_more ds i d inside = sym (hosts_in-append (take i ds) (get_or ds i d ∷ [])) ∙ ap hosts_in (sym (take_more ds i d inside))
-
-pub outsiders_more : (ds : List Declaration) (i : ℕ) (d : Declaration) → i < length ds
-    → outsiders_in (take i ds) + outsiders_in (get_or ds i d ∷ []) ≡ outsiders_in (take (i + 1) ds)
-outsiders_more ds i d inside = sym (outsiders_in-append (take i ds) (get_or ds i d ∷ [])) ∙ ap outsiders_in (sym (take_more ds i d inside))
+  -- with the anycast address, if it is the first agent of its link, the node has what it is to have
+  pub opened_next : (b : Bool) → is_first_agent s.links hosts host.address host.kind ≡ b
+      → (if b then note (claimed_entry s.links (length hosts) (anycast_at host.address)) arrived else arrived) ≡ opened after
+  opened_next true is = ap (λ (l : List Entry). record (opened after) { past = l }) (append_assoc (opened before).past (claimed_entry s.links (length hosts) host.address ∷ []) (claimed_entry s.links (length hosts) (anycast_at host.address) ∷ [])
+      ∙ ap (λ (b : Bool). (opened before).past ++ claimed_entry s.links (length hosts) host.address ∷ (if b then claimed_entry s.links (length hosts) (anycast_at host.address) ∷ [] else [])) (sym is) ∙ sym (claims_push s.links [] hosts host))
+  opened_next false is = ap (λ (l : List Entry). record (opened after) { past = l })
+      (ap (λ (b : Bool). (opened before).past ++ claimed_entry s.links (length hosts) host.address ∷ (if b then claimed_entry s.links (length hosts) (anycast_at host.address) ∷ [] else [])) (sym is) ∙ sym (claims_push s.links [] hosts host))

@@ -1,5 +1,5 @@
 -- Packets enter the pool and leave it, and outsiders hear them.
-use Rattle.std.proofs.Common.{◌≡◌, ℕ, zero, suc, List, [], ◌∷◌, ◌++◌, Bool, true, false, refl, sym, ap, subst}
+use Rattle.std.proofs.Common.{◌≡◌, ℕ, zero, suc, List, [], ◌∷◌, ◌++◌, length, Bool, true, false, refl, sym, ap, subst}
 use Rattle.std.proofs.Math.Path.{fun_ext}
 use Rattle.std.proofs.lemmas.List.{append_assoc, append-nil}
 use Rattle.std.specs.Prelude.{Option, Some, None, slice_set, slice_index_or, if◌then◌else◌, ◌&&◌}
@@ -11,9 +11,8 @@ use Rattle.mip_words.specs.declared.ids.NodeId.{NodeId}
 use Rattle.mip_words.specs.declared.why.Why.{Why}
 use Rattle.mip_words.specs.declared.moment.Moment.{Moment}
 use Rattle.mip_entries.specs.declared.entry.Entry.{Entry}
-use Rattle.mip_entries.specs.declared.entry.Entry.TheVariants.{Heard, Sent, Injected, Idle, Lost, Gone, Handed, Accepted, Denied, Dropped, Up, Row}
-use Rattle.mip_entries.specs.Completed.{node_id, named}
-use Rattle.mip_rules_correspondent.specs.Wholes.{is_own}
+use Rattle.mip_entries.specs.declared.entry.Entry.TheVariants.{Heard, Sent, Injected, Idle, Lost, Gone, Handed, Row, Claimed, Taken, Released, Restarted}
+use Rattle.mip_entries.specs.Completed.{named}
 use Rattle.mip_links.specs.Table.{Post}
 use Rattle.mip_links.specs.Nets.{posted, left}
 use Rattle.mip_history.specs.Setup.{Setup}
@@ -21,94 +20,36 @@ use Rattle.mip_history.specs.Runs.{Run, note, notes, entered, without}
 use Rattle.mip_history.specs.Questions.{hears_in}
 use Rattle.mip_history.specs.Posting.{heards, is_other, overheard}
 use Rattle.mip_history.specs.Permitted.{lost}
+use Rattle.mip_history.specs.Nodes.{left_by, marked}
 use Rattle.mip_replay.specs.Engines.{EngineSeen, with_entry, with_entries, with_net, ears_of, heard_by}
 use Rattle.mip_replay.specs.Standing.{IsAt}
+use Rattle.mip_replay.specs.Groups.{is_plain}
 use Rattle.mip_replay.specs.Quiet.{IsQuiet}
-use Rattle.mip_replay.proofs.QuietLaws.{at_note}
+use Rattle.mip_replay.proofs.QuietLaws.{at_note, quiet_by}
 
 pub quiet_idle : IsQuiet Idle
-quiet_idle = record {
-  claim = record { holder = λ a. refl; declared = λ by. refl };
-  timeless = record { moment = refl; life = λ n count. refl };
-  listening = λ o l. refl;
-}
+quiet_idle = quiet_by Idle refl
 
 pub quiet_heard : (k o : ℕ) → IsQuiet (Heard k o)
-quiet_heard k o = record {
-  claim = record { holder = λ a. refl; declared = λ by. refl };
-  timeless = record { moment = refl; life = λ n count. refl };
-  listening = λ o l. refl;
-}
+quiet_heard k o = quiet_by (Heard k o) refl
 
 pub quiet_sent : (k : ℕ) (node : NodeId) (shielded : Bool) (packet : List ℕ) → IsQuiet (Sent k node shielded packet)
-quiet_sent k node shielded packet = record {
-  claim = record { holder = λ a. refl; declared = λ by. refl };
-  timeless = record { moment = refl; life = λ n count. refl };
-  listening = λ o l. refl;
-}
+quiet_sent k node shielded packet = quiet_by (Sent k node shielded packet) refl
 
 pub quiet_injected : (k o : ℕ) (link : LinkId) (packet : List ℕ) → IsQuiet (Injected k o link packet)
-quiet_injected k o link packet = record {
-  claim = record { holder = λ a. refl; declared = λ by. refl };
-  timeless = record { moment = refl; life = λ n count. refl };
-  listening = λ o l. refl;
-}
+quiet_injected k o link packet = quiet_by (Injected k o link packet) refl
 
 pub quiet_lost : (k : ℕ) → IsQuiet (Lost k)
-quiet_lost k = record {
-  claim = record { holder = λ a. refl; declared = λ by. refl };
-  timeless = record { moment = refl; life = λ n count. refl };
-  listening = λ o l. refl;
-}
+quiet_lost k = quiet_by (Lost k) refl
 
 pub quiet_gone : (k : ℕ) (why : Why) → IsQuiet (Gone k why)
-quiet_gone k why = record {
-  claim = record { holder = λ a. refl; declared = λ by. refl };
-  timeless = record { moment = refl; life = λ n count. refl };
-  listening = λ o l. refl;
-}
+quiet_gone k why = quiet_by (Gone k why) refl
 
 pub quiet_handed : (k : ℕ) (node : NodeId) → IsQuiet (Handed k node)
-quiet_handed k node = record {
-  claim = record { holder = λ a. refl; declared = λ by. refl };
-  timeless = record { moment = refl; life = λ n count. refl };
-  listening = λ o l. refl;
-}
-
-pub quiet_accepted : (node : NodeId) (number : ℕ) (home : Address) (binding : ℕ) (careof : Address) (sequence : ℕ) (end : Moment) (i : ℕ) (j : Option ℕ) → IsQuiet (Accepted node number home binding careof sequence end i j)
-quiet_accepted node number home binding careof sequence end i j = record {
-  claim = record { holder = λ a. refl; declared = λ by. refl };
-  timeless = record { moment = refl; life = λ n count. refl };
-  listening = λ o l. refl;
-}
-
-pub quiet_denied : (node : NodeId) (number status : ℕ) → IsQuiet (Denied node number status)
-quiet_denied node number status = record {
-  claim = record { holder = λ a. refl; declared = λ by. refl };
-  timeless = record { moment = refl; life = λ n count. refl };
-  listening = λ o l. refl;
-}
-
-pub quiet_dropped : (node : NodeId) (number : ℕ) (why : Why) → IsQuiet (Dropped node number why)
-quiet_dropped node number why = record {
-  claim = record { holder = λ a. refl; declared = λ by. refl };
-  timeless = record { moment = refl; life = λ n count. refl };
-  listening = λ o l. refl;
-}
-
-pub quiet_up : (node : NodeId) (number : ℕ) (source destination : Address) (proto : ℕ) (payload : List ℕ) → IsQuiet (Up node number source destination proto payload)
-quiet_up node number source destination proto payload = record {
-  claim = record { holder = λ a. refl; declared = λ by. refl };
-  timeless = record { moment = refl; life = λ n count. refl };
-  listening = λ o l. refl;
-}
+quiet_handed k node = quiet_by (Handed k node) refl
 
 pub quiet_row : (node : NodeId) (home : Address) (binding : ℕ) (careof : Address) (sequence : ℕ) (end kept : Moment) → IsQuiet (Row node home binding careof sequence end kept)
-quiet_row node home binding careof sequence end kept = record {
-  claim = record { holder = λ a. refl; declared = λ by. refl };
-  timeless = record { moment = refl; life = λ n count. refl };
-  listening = λ o l. refl;
-}
+quiet_row node home binding careof sequence end kept = quiet_by (Row node home binding careof sequence end kept) refl
 
 -- a packet enters the pool
 pub at_entered : (e : EngineSeen) (s : Setup) (run : Run) (post : Post) → IsAt e s run → IsAt (with_net (posted e.net post) e) s (entered post run)
@@ -123,6 +64,8 @@ at_entered e s run post at = record {
   nodes = at.nodes;
   count = at.count;
   pasts = at.pasts;
+  agent_pasts = at.agent_pasts;
+  mobile_pasts = at.mobile_pasts;
   outsiders = at.outsiders;
   now = at.now;
   history = at.history;
@@ -141,6 +84,8 @@ at_left e s run k at = record {
   nodes = at.nodes;
   count = at.count;
   pasts = at.pasts;
+  agent_pasts = at.agent_pasts;
+  mobile_pasts = at.mobile_pasts;
   outsiders = at.outsiders;
   now = at.now;
   history = at.history;
@@ -151,14 +96,14 @@ pub with_none : (e : EngineSeen) → with_entries [] e ≡ e
 with_none e = ap (λ (h : List Entry). record { seed = e.seed; net = e.net; nodes = e.nodes; outsiders = e.outsiders; moment = e.moment; past = h }) (append-nil e.past)
 
 pub notes_none : (run : Run) → notes [] run ≡ run
-notes_none run = ap (λ (h : List Entry). record { past = h; pasts = run.pasts; posts = run.posts; flying = run.flying }) (append-nil run.past)
+notes_none run = ap (λ (h : List Entry). record { past = h; pasts = run.pasts; agent_pasts = run.agent_pasts; mobile_pasts = run.mobile_pasts; posts = run.posts; flying = run.flying }) (append-nil run.past)
 
 -- entries behind entries
 pub with_more : (xs ys : List Entry) (e : EngineSeen) → with_entries ys (with_entries xs e) ≡ with_entries (xs ++ ys) e
 with_more xs ys e = ap (λ (h : List Entry). record { seed = e.seed; net = e.net; nodes = e.nodes; outsiders = e.outsiders; moment = e.moment; past = h }) (append_assoc e.past xs ys)
 
 pub notes_more : (xs ys : List Entry) (run : Run) → notes ys (notes xs run) ≡ notes (xs ++ ys) run
-notes_more xs ys run = ap (λ (h : List Entry). record { past = h; pasts = run.pasts; posts = run.posts; flying = run.flying }) (append_assoc run.past xs ys)
+notes_more xs ys run = ap (λ (h : List Entry). record { past = h; pasts = run.pasts; agent_pasts = run.agent_pasts; mobile_pasts = run.mobile_pasts; posts = run.posts; flying = run.flying }) (append_assoc run.past xs ys)
 
 -- the `heard` of so many outsiders
 pub at_heards : (hears : ℕ → Bool) (k o : ℕ) (e : EngineSeen) (s : Setup) (run : Run) → IsAt e s run → IsAt (with_entries (heards hears k o) e) s (notes (heards hears k o) run)
@@ -217,19 +162,18 @@ at_quiets (x ∷ xs) e s run quiet at =
     (subst (λ (r : Run). IsAt (with_entries xs (with_entry x e)) s r) (notes_more (x ∷ []) xs run)
     (at_quiets xs (with_entry x e) s (note x run) quiet.1 (at_note e s run x quiet.0 at)))
 
--- what a correspondent notes claims no address and names no packet to come
-pub own_named : (n l k m j : ℕ) (x : Entry) → is_own x ≡ true → named n l k x ≡ named n m j x
-own_named n l k m j (Accepted node number home binding careof sequence end a b) own = refl
-own_named n l k m j (Denied node number status) own = refl
-own_named n l k m j (Dropped node number why) own = refl
-own_named n l k m j (Up node number source destination proto payload) own = refl
-own_named n l k m j Idle own = refl
-own_named n l k m j _ own = absurd cc
+-- an entry of a node that claims nothing, with the node's number
+pub quiet_named : (n l k : ℕ) (x : Entry) → is_plain x ≡ true → IsQuiet (named n l k x)
+quiet_named n l k (Claimed who link address) plain = absurd cc
+quiet_named n l k (Taken who link address holder) plain = absurd cc
+quiet_named n l k (Released who link address) plain = absurd cc
+quiet_named n l k (Restarted node) plain = absurd cc
+quiet_named n l k x plain = quiet_by (named n l k x) refl
 
-pub quiet_own : (n l k : ℕ) (x : Entry) → is_own x ≡ true → IsQuiet (named n l k x)
-quiet_own n l k (Accepted node number home binding careof sequence end a b) own = quiet_accepted (node_id n) number home binding careof sequence end a b
-quiet_own n l k (Denied node number status) own = quiet_denied (node_id n) number status
-quiet_own n l k (Dropped node number why) own = quiet_dropped (node_id n) number why
-quiet_own n l k (Up node number source destination proto payload) own = quiet_up (node_id n) number source destination proto payload
-quiet_own n l k Idle own = quiet_idle
-quiet_own n l k _ own = absurd cc
+-- such an entry is left as it is
+pub left_plain : (s : Setup) (n : ℕ) (run : Run) (x : Entry) → is_plain x ≡ true → left_by s n run x ≡ marked (named n 0 (length run.posts) x) run
+left_plain s n run (Claimed who link address) plain = absurd cc
+left_plain s n run (Taken who link address holder) plain = absurd cc
+left_plain s n run (Released who link address) plain = absurd cc
+left_plain s n run (Restarted node) plain = absurd cc
+left_plain s n run _ plain = refl

@@ -1,5 +1,5 @@
 -- Entries that say nothing to the questions of a run, and what they leave as it was.
-use Rattle.std.proofs.Common.{◌≡◌, ℕ, List, [], ◌∷◌, ◌++◌, Bool, false, refl, sym, ap, ◌∙◌, subst}
+use Rattle.std.proofs.Common.{◌≡◌, ℕ, List, [], ◌∷◌, ◌++◌, Bool, true, false, refl, sym, ap, ◌∙◌, subst}
 use Rattle.std.proofs.Math.Path.{fun_ext}
 use Rattle.std.proofs.lemmas.List.{take_more}
 use Rattle.std.proofs.lemmas.Option.{slice_get_within, get_or_from_slice_get}
@@ -9,13 +9,16 @@ use Rattle.std.specs.Prelude.{Option, Some, None, unwrap_or, option_map, slice_g
 use Rattle.mip_words.specs.declared.address.Address.{Address}
 use Rattle.mip_lists.specs.Last.{or_else}
 use Rattle.mip_entries.specs.declared.entry.Entry.{Entry}
-use Rattle.mip_history.specs.Setup.{Setup}
+use Rattle.mip_entries.specs.declared.entry.Entry.TheVariants.{At, Moved, Claimed, Released, Listening, Deafened, Restarted}
+use Rattle.mip_history.specs.Setup.{Setup, Host, Kind}
+use Rattle.mip_history.specs.Setup.Kind.{Correspondent as OfCorrespondent, Agent as OfAgent, Mobile as OfMobile}
 use Rattle.mip_history.specs.Runs.{Run, note}
-use Rattle.mip_history.specs.Questions.{moment_says, moment_in, holder_says, holder_in, claims, declared_in, listen_says, hears_in, restarts, life_in, asked_in}
-use Rattle.mip_history.specs.Nodes.{past_at}
+use Rattle.mip_links.specs.Table.{link_of}
+use Rattle.mip_history.specs.Knowing.{stands_on}
+use Rattle.mip_history.specs.Questions.{moment_says, moment_in, holder_says, holder_in, claims, declared_in, listen_says, hears_in, restarts, life_in, moved_says, spot_in, asked_in}
 use Rattle.mip_replay.specs.Engines.{EngineSeen, with_entry}
-use Rattle.mip_replay.specs.Quiet.{IsNoClaim, IsTimeless, IsQuiet}
-use Rattle.mip_replay.specs.Standing.{IsAt, node_of}
+use Rattle.mip_replay.specs.Quiet.{IsNoClaim, IsUnmoved, IsTimeless, IsQuiet}
+use Rattle.mip_replay.specs.Standing.{IsAt, role_in, node_in}
 
 -- one entry more
 pub holder-push : (past : List Entry) (x : Entry) (a : ℕ) → holder_in (past ++ x ∷ []) a ≡ unwrap_or (holder_says a x) (holder_in past a)
@@ -29,6 +32,9 @@ hears-push past x o l = fold-append (λ (s : Bool) (e : Entry). unwrap_or (liste
 
 pub life-push : (past : List Entry) (x : Entry) (n : ℕ) → life_in (past ++ x ∷ []) n ≡ restarts n (life_in past n) x
 life-push past x n = fold-append (restarts n) 0 past (x ∷ [])
+
+pub spot-push : (home : Option ℕ) (past : List Entry) (x : Entry) (n : ℕ) → spot_in home (past ++ x ∷ []) n ≡ unwrap_or (moved_says n x) (spot_in home past n)
+spot-push home past x n = fold-append (λ (s : Option ℕ) (e : Entry). unwrap_or (moved_says n e) s) home past (x ∷ [])
 
 pub moment-push : (start : ℕ) (past : List Entry) (x : Entry) → moment_in start (past ++ x ∷ []) ≡ unwrap_or (moment_says x) (moment_in start past)
 moment-push start past x = fold-append (λ (s : ℕ) (e : Entry). unwrap_or (moment_says e) s) start past (x ∷ [])
@@ -49,10 +55,37 @@ pub hears-same : (past : List Entry) (x : Entry) → ((o l : ℕ) → listen_say
 hears-same past x quiet =
     fun_ext (λ (o : ℕ). fun_ext (λ (l : ℕ). hears-push past x o l ∙ ap (λ (b : Option Bool). unwrap_or b (hears_in past o l)) (quiet o l)))
 
-pub nodes-same : (e : EngineSeen) (s : Setup) (run : Run) (x : Entry) → IsTimeless x → IsAt e s run
-    → (n : ℕ) → slice_get e.nodes n ≡ option_map (node_of s n (life_in (run.past ++ x ∷ []) n) (past_at run n)) (slice_get s.hosts n)
+-- what is made of each is the same
+pub mapped_same : {X Y : Type 0} (f g : X → Y) → ((x : X) → f x ≡ g x) → (o : Option X) → option_map f o ≡ option_map g o
+mapped_same f g same None = refl
+mapped_same f g same (Some x) = ap (λ y. Some y) (same x)
+
+-- a node in another run in which it has the same life and spot, and all nodes know the same
+pub node_same : (s : Setup) (run after : Run) (n : ℕ) (host : Host) → life_in after.past n ≡ life_in run.past n → stands_on s after n host.address ≡ stands_on s run n host.address
+    → role_in s after n host.address host.kind ≡ role_in s run n host.address host.kind → node_in s after n host ≡ node_in s run n host
+node_same s run after n host life spot role = rw (life, spot, role) refl
+
+pub nodes-same : (e : EngineSeen) (s : Setup) (run : Run) (x : Entry) → IsUnmoved x → IsAt e s run
+    → (n : ℕ) → slice_get e.nodes n ≡ option_map (node_in s (note x run) n) (slice_get s.hosts n)
 nodes-same e s run x quiet at n =
-    at.nodes n ∙ ap (λ (life : ℕ). option_map (node_of s n life (past_at run n)) (slice_get s.hosts n)) (sym (life-push run.past x n ∙ quiet.life n (life_in run.past n)))
+    at.nodes n ∙ mapped_same (node_in s run n) (node_in s (note x run) n) (λ (host : Host). sym (same host)) (slice_get s.hosts n)
+  where
+    life : life_in (run.past ++ x ∷ []) n ≡ life_in run.past n
+    life = life-push run.past x n ∙ quiet.life n (life_in run.past n)
+
+    spot : (home : Option ℕ) → spot_in home (run.past ++ x ∷ []) n ≡ spot_in home run.past n
+    spot home = spot-push home run.past x n ∙ ap (λ (o : Option (Option ℕ)). unwrap_or o (spot_in home run.past n)) (quiet.spot n)
+
+    same : (host : Host) → node_in s (note x run) n host ≡ node_in s run n host
+    same host = by host.kind
+      where
+        role : (kind : Kind) → role_in s (note x run) n host.address kind ≡ role_in s run n host.address kind
+        role (OfCorrespondent room) = rw life refl
+        role (OfAgent preference live room serves) = refl
+        role (OfMobile agent) = refl
+
+        by : (kind : Kind) → node_in s (note x run) n (record { address = host.address; kind = kind }) ≡ node_in s run n (record { address = host.address; kind = kind })
+        by kind = rw (life, spot (link_of s.links host.address.0), role kind) refl
 
 pub now-same : (e : EngineSeen) (s : Setup) (run : Run) (x : Entry) → IsTimeless x → IsAt e s run → e.moment ≡ moment_in s.start (run.past ++ x ∷ [])
 now-same e s run x quiet at =
@@ -60,6 +93,31 @@ now-same e s run x quiet at =
 
 pub history-same : (e : EngineSeen) (s : Setup) (run : Run) (x : Entry) → IsAt e s run → e.past ++ x ∷ [] ≡ run.past ++ x ∷ []
 history-same e s run x at = ap (λ (h : List Entry). h ++ x ∷ []) at.history
+
+-- an entry that is none of those that say something
+abbrev pub is_quiet : Entry → Bool
+is_quiet (At moment) = false
+is_quiet (Moved node link) = false
+is_quiet (Claimed who link address) = false
+is_quiet (Released who link address) = false
+is_quiet (Listening outsider link) = false
+is_quiet (Deafened outsider link) = false
+is_quiet (Restarted node) = false
+is_quiet _ = true
+
+pub quiet_by : (x : Entry) → is_quiet x ≡ true → IsQuiet x
+quiet_by (At moment) is = absurd cc
+quiet_by (Moved node link) is = absurd cc
+quiet_by (Claimed who link address) is = absurd cc
+quiet_by (Released who link address) is = absurd cc
+quiet_by (Listening outsider link) is = absurd cc
+quiet_by (Deafened outsider link) is = absurd cc
+quiet_by (Restarted node) is = absurd cc
+quiet_by _ is = record {
+  claim = record { holder = λ a. refl; declared = λ by. refl };
+  timeless = record { moment = refl; unmoved = record { life = λ n count. refl; spot = λ n. refl } };
+  listening = λ o l. refl;
+}
 
 -- an entry is left that says nothing
 pub at_note : (e : EngineSeen) (s : Setup) (run : Run) (x : Entry) → IsQuiet x → IsAt e s run → IsAt (with_entry x e) s (note x run)
@@ -71,9 +129,11 @@ at_note e s run x quiet at = record {
   flying = at.flying;
   spots = at.spots;
   firsts = at.firsts;
-  nodes = nodes-same e s run x quiet.timeless at;
+  nodes = nodes-same e s run x quiet.timeless.unmoved at;
   count = at.count;
   pasts = at.pasts;
+  agent_pasts = at.agent_pasts;
+  mobile_pasts = at.mobile_pasts;
   outsiders = at.outsiders;
   now = now-same e s run x quiet.timeless at;
   history = history-same e s run x at;

@@ -14,7 +14,7 @@ use Rattle.mip_schedule.specs.Places.{AreFew, members}
 use Rattle.mip_schedule.specs.declared.declaration.Declaration.{Declaration}
 use Rattle.mip_schedule.specs.declared.declaration.Declaration.TheVariants as declare
 use Rattle.mip_schedule.specs.declared.event.Event.{Event}
-use Rattle.mip_schedule.specs.declared.event.Event.TheVariants.{Wait, Payload, Inject, Bind, Listen, Deaf, Squat, Yield, Restart}
+use Rattle.mip_schedule.specs.declared.event.Event.TheVariants.{Wait, Advertise, Payload, Inject, Bind, Listen, Deaf, Squat, Yield, Restart}
 use Rattle.mip_schedule.specs.declared.places.Sort.TheVariants as sorts
 use Rattle.mip_schedule.specs.declared.reason.Reason.{Reason}
 use Rattle.mip_schedule.specs.declared.reason.Reason.TheVariants as reasons
@@ -22,10 +22,11 @@ use Rattle.mip_history.specs.Setup.{setup_of, links_in}
 use Rattle.mip_history.specs.Questions.{moment_in, life_in}
 use Rattle.mip_history.specs.Permitted.{permitted, run_of}
 use Rattle.mip_history.specs.Passing.{waited_by, restarted_by}
-use Rattle.mip_replay.specs.Engines.{NodeSeen, EngineSeen}
+use Rattle.mip_nodes.specs.Nodes.{NodeSeen}
+use Rattle.mip_replay.specs.Engines.{EngineSeen}
 use Rattle.mip_words.specs.declared.ids.NodeId.{NodeId}
 use Rattle.mip_words.specs.declared.address.Address.{Address}
-use Rattle.mip_replay.specs.Payloads.{is_payload}
+use Rattle.mip_nodes.specs.Payloads.{is_payload}
 use Rattle.mip_replay.specs.Ready.{IsReady, IsEar}
 use Rattle.mip_replay.specs.Standing.{IsAt}
 use Rattle.mip_replay.proofs.NodeLaws.{host_of}
@@ -147,6 +148,11 @@ module _ (waits : AreWaits) (lives : AreRestarts) (c : Content) (lawful : IsLawf
       let links : length e.net.links ≡ length (links_in ds) = ap (λ (q : Asked). length q.links) at.asked in
       (outsider_there o outsider, omega (arith, declared, few.links), omega (arith, declared, links, many_links ds))
 
+  link_there : (link : LinkId) → IsLink ds link → link.0 < length e.net.links
+  link_there link declared =
+      let links : length e.net.links ≡ length (links_in ds) = ap (λ (q : Asked). length q.links) at.asked in
+      omega (arith, declared, links, many_links ds)
+
   wait_ready : (ms : ℕ) → IsEvent ds before (Wait ms) → IsReady e (Wait ms)
   wait_ready ms is =
       let fits = wait_fits ds (waited before) (carried before) ms (timely ds (length before) (waited before) (carried before) (Wait ms) is.fits).1 in
@@ -164,6 +170,7 @@ module _ (waits : AreWaits) (lives : AreRestarts) (c : Content) (lawful : IsLawf
   pub ready : (event : Event) → IsEvent ds before event → IsReady e event
   unfolding misfit
   ready (Wait ms) is = wait_ready ms is
+  ready (Advertise link) is = link_there link is.within
   ready (Payload node to proto payload) is = (data_fits proto (passed (is_reserved proto) reasons.Number None (fits _ is).1).0, is.within.2)
   ready (Inject o link packet) is = packet_fits packet (fits _ is).1
   ready (Bind o link source peer home careof sequence lifetime kh kc) is = is.within.4

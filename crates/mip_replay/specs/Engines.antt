@@ -1,23 +1,21 @@
 -- What a contract sees of the engine of a run, and what its parts make of it.
-use Rattle.std.specs.Prelude.{◌≡◌, ℕ, suc, ◌<◌, ◌≤◌, ◌^◌, List, [], ◌∷◌, ◌++◌, length, Bool, ◌&&◌, if◌then◌else◌, Option, Some, None, is_some, unwrap_or, slice_get, slice_set}
+use Rattle.std.specs.Prelude.{◌≡◌, ℕ, ◌<◌, ◌≤◌, ◌^◌, List, [], ◌∷◌, ◌++◌, length, Bool, true, false, ◌&&◌, if◌then◌else◌, Option, Some, None, is_some, unwrap_or, slice_get, slice_set}
+use Rattle.std.specs.Option.{option_map_or}
 use Rattle.mip_words.specs.declared.address.Address.{Address}
 use Rattle.mip_words.specs.declared.shield.Shield.{Shield}
+use Rattle.mip_entries.specs.declared.answer.Answer.{Answer}
 use Rattle.mip_entries.specs.declared.entry.Entry.{Entry}
 use Rattle.mip_entries.specs.declared.entry.Entry.TheVariants.{Claimed}
 use Rattle.mip_links.specs.Nets.{NetSeen, new_net, hears_of, claimed, refusal, holder_of, is_held_by, with_rows, put}
 use Rattle.mip_links.specs.Table.{link_of}
 use Rattle.mip_links.specs.declared.claim_fault.ClaimFault.{ClaimFault}
-use Rattle.mip_rules_correspondent.specs.Calls.{Call}
 use Rattle.mip_history.specs.Setup.{Host}
+use Rattle.mip_history.specs.Calls.{Call}
+use Rattle.mip_history.specs.Homes.{first_below}
 use Rattle.mip_history.specs.Posting.{heards, is_other}
-use Rattle.mip_replay.specs.declared.role.Role.{Role}
-use Rattle.mip_replay.specs.Roles.{last_of, after_call, new_role}
-
--- a node: what it was declared with, how often it was restarted, and its role
-pub record NodeSeen : Type 0 where
-  pub host : Host
-  pub life : ℕ
-  pub role : Role
+use Rattle.mip_nodes.specs.Roles.{last_of, after_call, answers_to, lives_in, is_roaming}
+use Rattle.mip_nodes.specs.Nodes as nodes
+use Rattle.mip_nodes.specs.Nodes.{NodeSeen, new_node, with_role, with_spot, around_node}
 
 pub record EngineSeen : Type 0 where
   pub seed : List ℕ
@@ -27,9 +25,10 @@ pub record EngineSeen : Type 0 where
   pub moment : ℕ
   pub past : List Entry
 
--- no node was called at a later moment, and moments stay far from the last one
+-- there are few nodes, none was called at a later moment, and moments stay far from the last one
 pub record IsCalm (nodes : List NodeSeen) (now : ℕ) : Type 0 where
   pub early : now < 2 ^ 62
+  pub few : length nodes ≤ 32
   pub later : (n : ℕ) (c : NodeSeen) → slice_get nodes n ≡ Some c → last_of c.role ≤ now
 
 abbrev pub with_entries : List Entry → EngineSeen → EngineSeen
@@ -49,36 +48,40 @@ with_node n c e =
 abbrev pub at_moment : ℕ → EngineSeen → EngineSeen
 at_moment now e = record e { moment = now }
 
--- a node with its role as it is now
-abbrev pub with_role : Role → NodeSeen → NodeSeen
-with_role role c = record { host = c.host; life = c.life; role = role }
-
--- node n in this life, with nothing behind it
-abbrev pub new_node : List ℕ → ℕ → ℕ → Host → NodeSeen
-new_node seed n life host = record { host = host; life = life; role = new_role seed n life host.address host.kind }
-
 -- node n in its next life
 abbrev pub reborn : ℕ → NodeSeen → EngineSeen → EngineSeen
-reborn n c e = with_node n (new_node e.seed n (suc c.life) c.host) e
+reborn n c e = with_node n (nodes.reborn e.seed n c) e
+
+-- node n stands on a link, or on none, where there is such a node
+abbrev pub stood_by : ℕ → Option ℕ → EngineSeen → Option NodeSeen → EngineSeen
+stood_by n spot e None = e
+stood_by n spot e (Some c) = with_node n (with_spot spot c) e
+
+abbrev pub stood : ℕ → Option ℕ → EngineSeen → EngineSeen
+stood n spot e = stood_by n spot e (slice_get e.nodes n)
 
 -- a node more, which holds its address
 abbrev pub joined : Host → EngineSeen → EngineSeen
 joined host e = record {
   seed = e.seed;
   net = claimed e.net (length e.nodes) host.address;
-  nodes = e.nodes ++ new_node e.seed (length e.nodes) 0 host ∷ [];
+  nodes = e.nodes ++ new_node e.seed (length e.nodes) (link_of e.net.links host.address.0) host ∷ [];
   outsiders = e.outsiders;
   moment = e.moment;
   past = e.past ++ Claimed (length e.nodes) (record { 0 = unwrap_or (link_of e.net.links host.address.0) 0 }) host.address ∷ [];
 }
 
--- node n has done what it was asked
-abbrev pub acted : Call → ℕ → NodeSeen → EngineSeen → EngineSeen
-acted call n c e = with_node n (with_role (after_call c.role e.moment call) c) e
+-- what node n answers to what it is asked
+abbrev pub answers_of : Call → ℕ → NodeSeen → EngineSeen → List Answer
+answers_of call n c e = answers_to (around_node e.net n c) c.role e.moment call
 
--- the link that a node sends from
+-- and it has done that
+abbrev pub acted : Call → ℕ → NodeSeen → EngineSeen → EngineSeen
+acted call n c e = with_node n (with_role (after_call (around_node e.net n c) c.role e.moment call) c) e
+
+-- the link that a node sends from: a mobile the one on which it stands
 abbrev pub station_of : List ℕ → NodeSeen → ℕ
-station_of links c = unwrap_or (link_of links c.host.address.0) 0
+station_of links c = if is_roaming c.role then unwrap_or c.spot 0 else unwrap_or (link_of links c.host.address.0) 0
 
 -- an outsider hears a link, and is not the one that is left out
 abbrev pub ears_of : EngineSeen → Option ℕ → ℕ → ℕ → Bool
@@ -106,3 +109,15 @@ claim_tried net who address = tried net who address (refusal net who address.0)
 abbrev pub released : NetSeen → ℕ → Address → NetSeen
 released net who address =
     if is_held_by (holder_of net.rows address.0) who then with_rows net (put net.rows address.0 None) else net
+
+-- a node is a mobile at home, and this is its home address
+abbrev pub lives_at : List NodeSeen → ℕ → ℕ → Bool
+lives_at nodes address n = option_map_or (λ (c : NodeSeen). lives_in c.role address) (slice_get nodes n) false
+
+-- the mobile at home whose home address this is
+abbrev pub resident_of : List NodeSeen → ℕ → Option ℕ
+resident_of nodes address = first_below (lives_at nodes address) (length nodes)
+
+-- an address on a link that nobody has
+abbrev pub IsFree : NetSeen → ℕ → Type 0
+IsFree net address = (is_some (link_of net.links address) ≡ true) × (holder_of net.rows address ≡ None)

@@ -3,11 +3,9 @@ pub mod Standing
 pub mod Arrivals
 pub mod Quiet
 pub mod Forged
-pub mod Payloads
 pub mod Bindings
 pub mod Ready
 pub mod Joining
 pub mod Groups
-pub mod Calls
-pub mod Hosts
-pub mod Roles
+pub mod Renewals
+pub mod Openings

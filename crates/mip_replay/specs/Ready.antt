@@ -4,9 +4,10 @@ use Rattle.std.specs.Prelude.{◌≡◌, ℕ, ◌+◌, ◌<◌, ◌≤◌, ◌^�
 use Rattle.mip_words.specs.Addresses.{is_routable}
 use Rattle.mip_words.specs.declared.ids.LinkId.{LinkId}
 use Rattle.mip_schedule.specs.declared.event.Event.{Event}
-use Rattle.mip_schedule.specs.declared.event.Event.TheVariants.{Wait, Payload, Inject, Bind, Listen, Deaf, Squat, Yield, Restart}
-use Rattle.mip_replay.specs.Engines.{NodeSeen, EngineSeen}
-use Rattle.mip_replay.specs.Payloads.{is_payload}
+use Rattle.mip_schedule.specs.declared.event.Event.TheVariants.{Wait, Advertise, Payload, Inject, Bind, Listen, Deaf, Squat, Yield, Restart}
+use Rattle.mip_nodes.specs.Nodes.{NodeSeen}
+use Rattle.mip_replay.specs.Engines.{EngineSeen}
+use Rattle.mip_nodes.specs.Payloads.{is_payload}
 
 -- the outsider and the link are there
 abbrev pub IsEar : EngineSeen → ℕ → LinkId → Type 0
@@ -14,6 +15,7 @@ IsEar e outsider link = (outsider < 8) × (link.0 < 32) × (link.0 < length e.ne
 
 abbrev pub IsReady : EngineSeen → Event → Type 0
 IsReady e (Wait ms) = e.moment + ms < 2 ^ 62
+IsReady e (Advertise link) = link.0 < length e.net.links
 IsReady e (Payload node to proto payload) = (is_payload proto ≡ true) × (length payload ≤ 512)
 IsReady e (Inject outsider link packet) = 40 ≤ length packet
 IsReady e (Bind outsider link source peer home careof sequence lifetime home_test careof_test) = is_routable home.0 ≡ true

@@ -1,31 +1,23 @@
-//! Nodes act: they do what they are asked, restart, and show what they keep.
+//! Nodes act: they do what they are asked, move, and show what they keep.
 
-ghost use Rattle.std.specs.Prelude.{◌≡◌, ◌+◌, ◌<◌, ◌^◌, length, [], ◌∷◌, map, Some, OnOk, slice_get};
+ghost use Rattle.std.specs.Prelude.{◌≡◌, [], ◌∷◌, Some, None, OnOk, option_map, slice_get};
 ghost use Rattle.mip_history.specs.Setup.{Setup};
 ghost use Rattle.mip_history.specs.Runs.{Run};
-ghost use Rattle.mip_history.specs.Nodes.{acts, row_entry, shown};
-ghost use Rattle.mip_history.specs.Permitted.{restarted, waited};
-ghost use Rattle.mip_replay.specs.Engines.{NodeSeen, with_entries};
-ghost use Rattle.mip_replay.specs.Calls.{asked, IsAskable};
-ghost use Rattle.mip_replay.specs.Roles.{rows_of};
+ghost use Rattle.mip_history.specs.Nodes.{acts, shown};
+ghost use Rattle.mip_history.specs.Permitted.{moves};
+ghost use Rattle.mip_nodes.specs.Calls.{asked, IsAskable};
+ghost use Rattle.mip_nodes.specs.Nodes.{NodeSeen};
+ghost use Rattle.mip_nodes.specs.Roles.{rows_of};
+ghost use Rattle.mip_replay.specs.Engines.{with_entries};
 ghost use Rattle.mip_replay.specs.Standing.{IsAt};
 
-use crate::call::Call;
 use crate::engine::Engine;
-use mip_bcache::Row;
 use mip_entries::Entry;
-use mip_words::{Memory, NodeId};
+use mip_nodes::Call;
+use mip_words::{LinkId, Memory, NodeId};
 use std::alloc::Global;
 
 impl Engine {
-    /// Time goes on.
-    pub(crate) fn wait(&mut self, ms: u32) -> Result<(), Memory>
-        requires { self.old.moment + ms < 2 ^ 62 }
-        ensures { (s : Setup) (run : Run) → IsAt self.old s run → OnOk result (IsAt self.new s (waited s run ms)) }
-    {
-        self.pass(ms)
-    }
-
     /// A node is asked something, and does it.
     pub(crate) fn act(&mut self, alloc: Global, node: NodeId, call: Call<'_>) -> Result<(), Memory>
         requires { IsAskable call }
@@ -39,59 +31,39 @@ impl Engine {
         self.answer(alloc, node, from, answers)
     }
 
-    fn begin_life(&mut self, alloc: Global, node: NodeId) -> Result<(), Memory>
-        requires node { node.0 < length self.old.nodes }
-        requires life { (c : NodeSeen) → slice_get self.old.nodes node.0 ≡ Some c → c.life + 1 < 2 ^ 32 }
-        ensures { (s : Setup) (run : Run) (c : NodeSeen) → IsAt self.old s run → slice_get self.old.nodes node.0 ≡ Some c → OnOk result (IsAt self.new s (restarted run node.0)) }
+    /// A mobile leaves where it is, and stands on a link or on none.
+    pub(crate) fn move_to(
+        &mut self,
+        alloc: Global,
+        node: NodeId,
+        link: Option<LinkId>,
+    ) -> Result<(), Memory>
+        ensures { (s : Setup) (run : Run) → IsAt self.old s run → OnOk result (IsAt self.new s (moves s run node.0 link)) }
     {
-        self.renew(alloc, node)?;
-        self.note(Entry::Restarted { node })
-    }
-
-    /// A node restarts. That is noted also of a node that is not there.
-    pub(crate) fn restart(&mut self, alloc: Global, node: NodeId) -> Result<(), Memory>
-        requires { (c : NodeSeen) → slice_get self.old.nodes node.0 ≡ Some c → c.life + 1 < 2 ^ 32 }
-        ensures { (s : Setup) (run : Run) → IsAt self.old s run → OnOk result (IsAt self.new s (restarted run node.0)) }
-    {
-        match self.station(node) {
-            Some(_) => self.begin_life(alloc, node),
-            None => self.note(Entry::Restarted { node }),
-        }
-    }
-
-    fn show_row(&mut self, node: NodeId, row: Row) -> Result<(), Memory>
-        ensures { OnOk result (self.new ≡ with_entries (row_entry node.0 row ∷ []) self.old) }
-    {
-        self.note(Entry::Row {
-            node,
-            home: row.home,
-            binding: row.number,
-            careof: row.careof,
-            sequence: row.sequence,
-            end: row.end,
-            kept_until: row.kept_until,
-        })
+        self.act(alloc, node, Call::Leave)?;
+        self.stand(node, link);
+        self.note(Entry::Moved { node, link })
     }
 
     fn show_rows(&mut self, node: NodeId) -> Result<(), Memory>
-        ensures { (c : NodeSeen) → slice_get self.old.nodes node.0 ≡ Some c → OnOk result (self.new ≡ with_entries (map (row_entry node.0) (rows_of c.role self.old.moment)) self.old) }
+        ensures { (c : NodeSeen) → slice_get self.old.nodes node.0 ≡ Some c → OnOk result (self.new ≡ with_entries (rows_of node.0 c.role self.old.moment) self.old) }
     {
         for place in 0..u32::MAX {
-            let Some(row) = self.row(node, place) else {
-                return Ok(());
-            };
-            self.show_row(node, row)?;
+            match self.row(node, place) {
+                Some(row) => self.note(row)?,
+                None => return Ok(()),
+            }
         }
-        Ok(())
+        Err(Memory)
     }
 
     /// The rows that a node keeps are shown.
     pub(crate) fn show(&mut self, node: NodeId) -> Result<(), Memory>
         ensures { (s : Setup) (run : Run) → IsAt self.old s run → OnOk result (IsAt self.new s (shown s node.0 run)) }
     {
-        if self.is_correspondent(node) {
-            return self.show_rows(node);
+        match self.station(node) {
+            Some(_) => self.show_rows(node),
+            None => self.note(Entry::Idle),
         }
-        self.note(Entry::Idle)
     }
 }

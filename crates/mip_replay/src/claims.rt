@@ -4,7 +4,7 @@ ghost use Rattle.std.specs.Prelude.{◌≡◌, ◌<◌, IfOk, None, OnOk, Some};
 ghost use Rattle.mip_entries.specs.declared.entry.Entry.TheVariants.{Taken};
 ghost use Rattle.mip_links.specs.Nets.{claimed, holder_of, refusal};
 ghost use Rattle.mip_links.specs.Table.{link_of};
-ghost use Rattle.mip_history.specs.Outsiders.{claim_entry};
+ghost use Rattle.mip_history.specs.Claims.{claim_entry};
 ghost use Rattle.mip_replay.specs.Engines.{claim_tried};
 
 use mip_entries::Entry;

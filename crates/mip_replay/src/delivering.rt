@@ -11,10 +11,10 @@ ghost use Rattle.mip_links.specs.Nets.{lowest_of};
 ghost use Rattle.mip_replay.specs.Standing.{IsAt};
 
 use crate::arrival::Arrival;
-use crate::call::Call;
 use crate::engine::Engine;
 use mip_entries::Entry;
 use mip_links::{Delivery, FIRST_OUTSIDER};
+use mip_nodes::Call;
 use mip_words::{LinkId, Memory, NodeId, Shield, Why};
 use std::alloc::Global;
 

@@ -9,9 +9,9 @@ ghost use Rattle.mip_replay.specs.Ready.{IsReady};
 ghost use Rattle.mip_replay.specs.Standing.{IsAt};
 
 use crate::binding::Binding;
-use crate::call::Call;
 use crate::engine::Engine;
 use mip_entries::Entry;
+use mip_nodes::Call;
 use mip_schedule::Event;
 use mip_words::Memory;
 use std::alloc::Global;
@@ -116,7 +116,8 @@ impl Engine {
             Event::Repeat { number } => self.deliver(alloc, u64::from(*number), true),
             Event::Lose { number } => self.drop_packet(u64::from(*number)),
             Event::Carry { count } => self.carry(alloc, *count),
-            Event::Wait { ms } => self.wait(*ms),
+            Event::Wait { ms } => self.wait(alloc, *ms),
+            Event::Advertise { link } => self.advertise(alloc, *link),
             Event::Payload {
                 node,
                 to,
@@ -135,6 +136,20 @@ impl Engine {
             Event::Refresh { node, home } => {
                 self.act(alloc, *node, Call::Refresh { home: *home })
             }
+            Event::Move { node, link } => self.move_to(alloc, *node, *link),
+            Event::Plan {
+                node,
+                valid,
+                preferred,
+            } => self.act(
+                alloc,
+                *node,
+                Call::Plan {
+                    valid: *valid,
+                    preferred: *preferred,
+                },
+            ),
+            Event::Ask { node } => self.act(alloc, *node, Call::Ask),
             Event::Show { node } => self.show(*node),
             _ => self.nothing_happens(event),
         }

@@ -2,28 +2,28 @@
 #![tactic(auto)]
 
 mod acting;
+mod advertising;
 mod answering;
 mod arrival;
 mod asking;
 mod binding;
 mod built;
-mod call;
+mod claiming;
 mod claims;
 mod delivering;
 mod engine;
 mod forging;
 mod happening;
-mod host;
-mod kind;
+mod hosts;
 mod laws;
 mod limits;
-mod node;
 mod outsiders;
 mod posting;
-mod role;
+mod restarting;
 mod run;
 mod setup;
 mod told;
+mod waiting;
 
 pub use built::unbuilt;
 pub use laws::{each_acceptance_is_marked, each_is_bound, each_repeat_is_late};

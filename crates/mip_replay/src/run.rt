@@ -46,7 +46,7 @@ fn run_whole(alloc: Global, schedule: &Schedule) -> Result<History, Memory>
 
 /// The history of a schedule: its permitted one.
 ///
-/// In it a care-of address is held only by an update that was accepted in this life of the node, the last of its
+/// In it a correspondent holds a care-of address only by an update that it accepted in its present life, the last of its
 /// home, with the verdict Accept on its bytes under nonces that were valid then, and in sequence after what stood.
 /// The same update is accepted again in one life only where the sequences of its home have gone round since then.
 ///
@@ -55,7 +55,7 @@ fn run_whole(alloc: Global, schedule: &Schedule) -> Result<History, Memory>
 pub fn replay(alloc: Global, schedule: &Schedule) -> Result<History, Memory>
     ensures permitted { IfOk result (λ h. h ≡ permitted (content schedule.now)) }
     ensures bound { IfOk result (λ h. EachIsBound (setup_of (content schedule.now)) h) }
-    ensures repeats { IfOk result (λ h. EachRepeatIsLate h) }
+    ensures repeats { IfOk result (λ h. EachRepeatIsLate (setup_of (content schedule.now)) h) }
     ensures marked { IfOk result (λ h. EachIsMarked (setup_of (content schedule.now)) h) }
 {
     held_was_accepted();

@@ -26,7 +26,7 @@ use Rattle.mip_watch.specs.declared.first.First.{First}
 use Rattle.mip_watch.specs.declared.sight.Sight.{Sight as Seen}
 use Rattle.mip_watch.specs.declared.sight.Sight.TheVariants as seen
 use Rattle.mip_watch.specs.declared.watch.Watch.{Watch}
-use Rattle.mip_watch.specs.Sights.{sight_of, glimpse, seen_behind, seen_in}
+use Rattle.mip_watch.specs.Sights.{sight_of, token_posted, token_sighted, glimpse, seen_behind, seen_in}
 use Rattle.mip_watch.specs.Nodes.{stranger, known_at, known_step}
 use Rattle.mip_watch.specs.Names.{kept_of, named_at, kept_at, naming_known, kept_step}
 use Rattle.mip_watch.specs.Heard.{has_come, heard_by, arrivals_new}
@@ -34,7 +34,7 @@ use Rattle.mip_watch.specs.Early.{is_used, early_known}
 use Rattle.mip_watch.specs.Made.{made_at}
 use Rattle.mip_watch.specs.Updates.{AreOf, update_at, update_posted, look_step, at_step}
 use Rattle.mip_watch.specs.Addresses.{address_at}
-use Rattle.mip_watch.specs.Stands.{numbers, IsNumber, AreNumberedFrom, known_of, IsKept, AreAlike, IsFirstAtIf, UpdatesStand, StandsFor, number_posted, IsNext, AreBytes}
+use Rattle.mip_watch.specs.Stands.{numbers, IsNumber, AreNumberedFrom, known_of, IsKept, AreAlike, IsFirstAtIf, UpdatesStand, StandsFor, number_posted, IsNext, IsHeard}
 use Rattle.mip_watch.proofs.Steps.{any_more, along_one, known_more, naming_same, heard_values, early_same, early_more, made_more}
 use Rattle.mip_watch.proofs.Kept.{names_more}
 use Rattle.mip_watch.proofs.Numbers.{numbered_more}
@@ -65,14 +65,20 @@ numbers_same front (e ∷ es) =
     ∙ ap (λ (l : List ℕ). cons_option (number_posted e) l) (numbers_same (front ++ e ∷ []) es)
 
 -- an entry is seen as it stands behind those before it
-sight_told : (past : List Entry) (e : Entry) (packet : Option (List ℕ)) → AreBytes past e packet → ((number : ℕ) (node : NodeId) → e ≡ entries.Handed number node → ⊥) → glimpse packet e ≡ sight past e
-sight_told past (entries.Heard number outsider) packet is other = ap (λ (p : Option (List ℕ)). Heard outsider (option_and_then (λ bytes. token_in (carried bytes)) p)) is
+sight_told : (past : List Entry) (e : Entry) (packet : Option (List ℕ)) → IsHeard past e packet → ((number : ℕ) (node : NodeId) → e ≡ entries.Handed number node → ⊥) → glimpse packet e ≡ sight past e
+sight_told past (entries.Heard number outsider) packet is other = ap (Heard outsider) is
 sight_told past (entries.Handed number node) packet is other = absurd (other number node refl)
 sight_told past _ packet is other = refl
 
 seen_more : (past : List Entry) (e : Entry) → seen_in (past ++ e ∷ []) ≡ seen_in past ++ sight past e ∷ []
 unfolding seen_in
 seen_more past e = along_one seen_behind past e
+
+-- the token of what an entry posts, by its sight
+pub posted_token : (token : Option (List ℕ)) (e : Entry) → token_sighted (glimpse token e) ≡ token_posted e
+posted_token token (entries.Sent number node shielded packet) = refl
+posted_token token (entries.Injected number outsider link packet) = refl
+posted_token token _ = refl
 
 -- the record over a list of sights, so that it can be moved from one to another
 record Standing (w : Watch) (past : List Entry) (ss : List Sight) : Type 0 where
@@ -156,7 +162,7 @@ handed_any w v e _ n node token same is = absurd cc
 token_with : List ℕ → Token
 token_with t = record { 0 = t }
 
-pub stands_more : (w v : Watch) (past : List Entry) (e : Entry) (found : Seen) (packet : Option (List ℕ)) → StandsFor w past → IsNext past e → AreBytes past e packet
+pub stands_more : (w v : Watch) (past : List Entry) (e : Entry) (found : Seen) (packet : Option (List ℕ)) → StandsFor w past → IsNext past e → IsHeard past e packet
     → sight_of found ≡ glimpse packet e → Noted w v found e → StandsFor v (past ++ e ∷ [])
 unfolding token_with
 stands_more w v past (entries.Handed number node) found packet old next bytes told is =

@@ -25,10 +25,21 @@ sight_of seen.Quiet = Quiet
 abbrev pub token_of : Option (List ℕ) → Option (List ℕ)
 token_of packet = option_and_then (λ bytes. token_in (carried bytes)) packet
 
--- an entry as a sight, where the packet that was heard has these bytes; no mark asks what was handed over
+-- the token of the packet that an entry posts
+abbrev pub token_posted : Entry → Option (List ℕ)
+token_posted (entries.Sent number node shielded packet) = token_in (carried packet)
+token_posted (entries.Injected number outsider link packet) = token_in (carried packet)
+token_posted _ = None
+
+abbrev pub token_sighted : Sight → Option (List ℕ)
+token_sighted (Sent number node c) = token_in c
+token_sighted (Injected number outsider c) = token_in c
+token_sighted _ = None
+
+-- an entry as a sight, where the packet that was heard has this token; no mark asks what was handed over
 abbrev pub glimpse : Option (List ℕ) → Entry → Sight
-glimpse packet (entries.Handed number node) = Handed node.0 None
-glimpse packet entry = sight_with (λ k. token_of packet) entry
+glimpse token (entries.Handed number node) = Handed node.0 None
+glimpse token entry = sight_with (λ k. token) entry
 
 abbrev pub seen_behind : List Entry → Entry → Option Sight
 seen_behind front entry = Some (sight front entry)

@@ -18,7 +18,7 @@ use Rattle.mip_watch.specs.declared.first.First.{First}
 use Rattle.mip_watch.specs.declared.known.Known.{Known}
 use Rattle.mip_watch.specs.declared.updates.Updates.{Updates}
 use Rattle.mip_watch.specs.declared.watch.Watch.{Watch}
-use Rattle.mip_watch.specs.Sights.{seen_in}
+use Rattle.mip_watch.specs.Sights.{token_of, seen_in}
 use Rattle.mip_watch.specs.Nodes.{known_at}
 use Rattle.mip_watch.specs.Names.{Kept, kept_at}
 use Rattle.mip_watch.specs.Heard.{has_come, heard_by}
@@ -117,8 +117,7 @@ number_posted _ = None
 abbrev pub IsNext : List Entry → Entry → Type 0
 IsNext past entry = IsNumber (number_posted entry) (length (filter_map number_posted past))
 
--- the bytes of the packet that was heard or handed over
-abbrev pub AreBytes : List Entry → Entry → Option (List ℕ) → Type 0
-AreBytes past (entries.Heard number outsider) packet = packet ≡ packet_in past number
-AreBytes past (entries.Handed number node) packet = packet ≡ packet_in past number
-AreBytes past _ packet = ⊤
+-- the token of the packet that was heard
+abbrev pub IsHeard : List Entry → Entry → Option (List ℕ) → Type 0
+IsHeard past (entries.Heard number outsider) token = token ≡ token_of (packet_in past number)
+IsHeard past _ token = ⊤

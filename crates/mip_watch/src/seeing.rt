@@ -1,28 +1,37 @@
 ghost use Rattle.std.specs.Prelude.{◌≡◌, option_map};
-ghost use Rattle.std.specs.Option.{option_and_then};
-ghost use Rattle.mip_says.specs.Says.{carried};
+ghost use Rattle.mip_says.specs.Says.{carried_of};
 ghost use Rattle.mip_marks.specs.Sights.{token_in};
-ghost use Rattle.mip_watch.specs.Sights.{sight_of, glimpse};
+ghost use Rattle.mip_watch.specs.Sights.{sight_of, token_sighted, glimpse};
 
 use crate::sight::Sight;
 use mip_entries::Entry;
-use mip_marks::token_said;
-use mip_says::carried_in;
+use mip_says::{Carried, carried_in};
 use mip_words::Token;
 
-/// The token of a packet, where there is one and it is a test.
-fn token_of(packet: Option<&[u8]>) -> Option<Token>
-    ensures { option_map (λ t. t.0) result ≡ option_and_then (λ bytes. token_in (carried bytes)) (option_map (λ p. p.now) packet.entry) }
+/// The token of what a packet says, where that is a test.
+fn token_in(carried: &Carried) -> Option<Token>
+    ensures { option_map (λ t. t.0) result ≡ token_in (carried_of carried.now) }
 {
-    match packet {
-        Some(bytes) => token_said(bytes),
-        None => None,
+    match carried {
+        Carried::Test { token, .. } => Some(*token),
+        _ => None,
     }
 }
 
-/// An entry as a sight, where the packet that was heard has these bytes. What was handed over is not read: no mark asks it.
-pub fn sight<'a>(entry: &'a Entry, packet: Option<&[u8]>) -> Sight<'a>
-    ensures { sight_of result ≡ glimpse (option_map (λ p. p.now) packet.entry) entry.now }
+/// The token of the packet that is posted, where one is and it is a test.
+pub fn token_sighted(sight: &Sight) -> Option<Token>
+    ensures { option_map (λ t. t.0) result ≡ token_sighted (sight_of sight.now) }
+{
+    match sight {
+        Sight::Sent { carried, .. } => token_in(carried),
+        Sight::Injected { carried, .. } => token_in(carried),
+        _ => None,
+    }
+}
+
+/// An entry as a sight, where the packet that was heard has this token. What was handed over is not looked at: no mark asks it.
+pub fn sight(entry: &Entry, heard: Option<Token>) -> Sight<'_>
+    ensures { sight_of result ≡ glimpse (option_map (λ t. t.0) heard) entry.now }
 {
     match entry {
         Entry::Sent {
@@ -47,7 +56,7 @@ pub fn sight<'a>(entry: &'a Entry, packet: Option<&[u8]>) -> Sight<'a>
         },
         Entry::Heard { outsider, .. } => Sight::Heard {
             outsider: *outsider,
-            token: token_of(packet),
+            token: heard,
         },
         Entry::Handed { node, .. } => Sight::Handed {
             node: *node,

@@ -1,4 +1,4 @@
-ghost use Rattle.std.specs.Prelude.{◌≡◌, ◌∷◌, ◌++◌, [], List, Some, OnOk, option_map};
+ghost use Rattle.std.specs.Prelude.{◌≡◌, ◌∷◌, ◌++◌, [], List, Some, IfOk, OnOk, option_map};
 ghost use Rattle.std.specs.Option.{option_and_then};
 ghost use Rattle.mip_says.specs.Says.{carried, key_of};
 ghost use Rattle.mip_entries.specs.declared.entry.Entry.{Entry};
@@ -7,9 +7,9 @@ ghost use Rattle.mip_marks.specs.Marks.{mark_of, mark_in};
 ghost use Rattle.mip_marks.specs.Firsts.{key_in};
 ghost use Rattle.mip_marks.specs.declared.maker.Maker.TheVariants.{Node};
 ghost use Rattle.mip_marks.specs.Seen.{claim_of, pair_of, gives_it};
-ghost use Rattle.mip_watch.specs.Sights.{seen_in};
+ghost use Rattle.mip_watch.specs.Sights.{seen_in, token_posted};
 ghost use Rattle.mip_watch.specs.Told.{AreTold};
-ghost use Rattle.mip_watch.specs.Stands.{StandsFor, IsNext, AreBytes};
+ghost use Rattle.mip_watch.specs.Stands.{StandsFor, IsNext, IsHeard};
 ghost use Rattle.mip_watch.specs.Answers.{pair_by_maker, is_used_by, is_otherwise_by, claims_looked, key_looked, mark_looked};
 
 use crate::addresses::Addresses;
@@ -19,12 +19,12 @@ use crate::heard::{Heard, first_alone, first_both};
 use crate::made::Made;
 use crate::names::Names;
 use crate::nodes::Nodes;
-use crate::seeing::sight;
+use crate::seeing::{sight, token_sighted};
 use crate::updates::Updates;
 use mip_entries::Entry;
 use mip_marks::{AcceptedUpdate, Claim, Maker, Mark, Pair, Signed, key_said};
 use mip_says::Key;
-use mip_words::{Address, Memory, NodeId};
+use mip_words::{Address, Memory, NodeId, Token};
 use std::alloc::Global;
 
 /// A history as it goes on, for the marks of its acceptances.
@@ -65,17 +65,19 @@ impl Watch {
         }
     }
 
-    /// Takes one more entry. Where it says that packet K was heard or handed over, the packet has these bytes.
+    /// Takes one more entry. Where it says that packet K was heard, the packet has this token. Gives the token of the packet that the entry
+    /// posts.
     pub fn note(
         &mut self,
         alloc: Global,
         entry: &Entry,
-        packet: Option<&[u8]>,
-    ) -> Result<(), Memory>
-        ensures { (past : List Entry) → StandsFor self.old past → IsNext past entry.now → AreBytes past entry.now (option_map (λ p. p.now) packet.entry)
+        heard: Option<Token>,
+    ) -> Result<Option<Token>, Memory>
+        ensures stands { (past : List Entry) → StandsFor self.old past → IsNext past entry.now → IsHeard past entry.now (option_map (λ t. t.0) heard)
             → OnOk result (StandsFor self.new (past ++ entry.now ∷ [])) }
+        ensures token { IfOk result (λ token. option_map (λ t. t.0) token ≡ token_posted entry.now) }
     {
-        let sight = sight(entry, packet);
+        let sight = sight(entry, heard);
         self.names.note(&self.nodes, &sight)?;
         self.early.note(&self.heard, &sight)?;
         self.updates.note(alloc, self.heard.len(), &sight)?;
@@ -83,7 +85,7 @@ impl Watch {
         self.heard.note(&sight)?;
         self.nodes.note(&sight)?;
         self.addresses.note(entry)?;
-        Ok(())
+        Ok(token_sighted(&sight))
     }
 
     /// The pair that a mobile made an update from, where it gives the authenticator.

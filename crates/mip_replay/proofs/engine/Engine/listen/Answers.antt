@@ -2,7 +2,8 @@ use Rattle.std.proofs.Common.{◌≡◌, Bool, true, false, sym, ◌∙◌, subs
 use Rattle.std.specs.Prelude.{if◌then◌else◌, not}
 use Rattle.mip_entries.specs.declared.entry.Entry.TheVariants.{Listening, Idle}
 use Rattle.mip_links.specs.Nets.{hears_of, with_hearing}
-use Rattle.mip_history.specs.Outsiders.{link_id, listens}
+use Rattle.mip_history.specs.Claims.{link_id}
+use Rattle.mip_history.specs.Outsiders.{listens}
 use Rattle.mip_replay.specs.Engines.{EngineSeen, with_entry, with_net}
 use Rattle.mip_replay.specs.Standing.{IsAt}
 use Rattle.mip_replay.proofs.QuietLaws.{at_ok}

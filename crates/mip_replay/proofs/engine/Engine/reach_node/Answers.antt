@@ -5,7 +5,7 @@ use Rattle.mip_words.specs.declared.shield.Shield.{Shield}
 use Rattle.mip_entries.specs.Completed.{node_id}
 use Rattle.mip_entries.specs.declared.entry.Entry.TheVariants.{Handed}
 use Rattle.mip_links.specs.Table.{Post}
-use Rattle.mip_rules_correspondent.specs.Calls.{Take}
+use Rattle.mip_history.specs.Calls.{Take}
 use Rattle.mip_history.specs.Runs.{note}
 use Rattle.mip_history.specs.Nodes.{acts}
 use Rattle.mip_history.specs.Delivery.{handed, handed_over, overheard_at}

@@ -1,13 +1,18 @@
-use Rattle.std.proofs.Common.{◌+◌}
-use Rattle.mip_entries.specs.declared.entry.Entry.TheVariants.{At}
-use Rattle.mip_history.specs.Permitted.{waited}
-use Rattle.mip_replay.specs.Engines.{with_entry, at_moment}
-use Rattle.mip_replay.proofs.QuietLaws.{at_ok}
-use Rattle.mip_replay.proofs.NodeLaws.{at_passed}
+use Rattle.std.proofs.Common.{◌≡◌, ℕ, ◌+◌, suc, false, ap, ◌∙◌, arith}
+use Rattle.mip_history.specs.Knowing.{now_in}
+use Rattle.mip_history.specs.Waiting.{Waiting, works_until, waited}
+use Rattle.mip_replay.proofs.QuietLaws.{at_ok_run}
+use Rattle.mip_replay.proofs.WaitLaws.{run_come, waited_is}
 use Rattle.mip_replay.proofs.engine.Engine.wait.Goals as goal
 
 pub returns : goal.returns
 returns c = λ s run at.
-    let e = c.args.self.now in
-    at_ok c.pass.result c.pass.new.self (with_entry (At (record { 0 = e.moment + c.args.ms })) (at_moment (e.moment + c.args.ms) e)) s (waited s run c.args.ms) c.pass.ensures
-    (at_passed e s run c.args.ms at)
+    let ms = c.args.ms in
+    let target = c.moment.result.0 + c.from.result in
+    let rounds = c.from-2.result + 1 in
+    let w : Waiting = works_until s target rounds (record { run = run; told = false }) in
+    let target_is : target ≡ now_in s run + ms = ap (λ (now : ℕ). now + c.from.result) (c.moment.ensures.is ∙ at.now) ∙ ap (λ (d : ℕ). now_in s run + d) c.from.ensures in
+    let rounds_is : rounds ≡ suc ms = omega (arith, c.from-2.ensures) in
+    at_ok_run c.come_to.result c.come_to.new.self s (run_come s target w.run c.in_ok-told.told) (waited s run ms)
+    (c.come_to.ensures s w.run (c.in_ok-told.ensures.after s run at))
+    (waited_is s run ms target rounds c.in_ok-told.told target_is rounds_is (c.in_ok-told.ensures.told s run at))

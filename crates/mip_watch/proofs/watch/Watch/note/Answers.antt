@@ -1,12 +1,17 @@
-use Rattle.std.proofs.Common.{◌≡◌, ℕ, subst}
+use Rattle.std.proofs.Common.{◌≡◌, ◌∙◌, ℕ, ap, subst}
+use Rattle.std.specs.Prelude.{option_map}
+use Rattle.mip_words.specs.declared.token.Token.{Token}
 use Rattle.mip_watch.specs.declared.watch.Watch.{Watch}
-use Rattle.mip_watch.specs.Sights.{sight_of}
+use Rattle.mip_watch.specs.Sights.{sight_of, token_sighted}
 use Rattle.mip_watch.specs.Updates.{AreOf, update_at, update_posted, look_step, at_step}
-use Rattle.mip_watch.proofs.Noting.{Noted, stands_more}
+use Rattle.mip_watch.proofs.Noting.{Noted, posted_token, stands_more}
 use Rattle.mip_watch.proofs.watch.Watch.note.Goals as goal
 
-pub returns : goal.returns
-returns c = λ past stands next bytes.
+pub returns-clause-token : goal.returns-clause-token
+returns-clause-token c = c.token_sighted.ensures ∙ ap token_sighted c.sight-sight.ensures ∙ posted_token (option_map (λ (t : Token). t.0) c.args.heard) c.args.entry.now
+
+pub returns-clause-stands : goal.returns-clause-stands
+returns-clause-stands c = λ past stands next bytes.
     let v : Watch = record {
       addresses = c.note-7.new.self;
       nodes = c.note-6.new.self;

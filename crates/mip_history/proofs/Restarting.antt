@@ -1,0 +1,151 @@
+-- A node begins its next life.
+use Rattle.std.proofs.Common.{◌≡◌, ◌≢◌, ℕ, suc, ◌+◌, ◌<◌, ◌≤◌, List, [], ◌∷◌, ◌++◌, Bool, true, false, length, inl, inr, refl, sym, ap, ◌∙◌, subst, arith, length-set}
+use Rattle.std.specs.Prelude.{Option, Some, None, unwrap_or, ◌==◌, if◌then◌else◌, slice_get, slice_set, slice_index_or}
+use Rattle.std.specs.List.{AllByRecursion}
+use Rattle.std.proofs.lemmas.List.{append-nil, get_or-set_same, get_or-set_other}
+use Rattle.std.proofs.lemmas.List.Sums.{fold-append}
+use Rattle.std.proofs.lemmas.List.Elements.{filter_map-append}
+use Rattle.std.proofs.lemmas.Option.{slice_get_within}
+use Rattle.std.proofs.lemmas.Bool.{cases_eq, eq-eqb, ne_eqb}
+use Rattle.mip_words.specs.declared.address.Address.{Address}
+use Rattle.mip_lists.proofs.EachLaws.{each-append}
+use Rattle.mip_entries.specs.declared.entry.Entry.{Entry}
+use Rattle.mip_entries.specs.declared.entry.Entry.TheVariants as entries
+use Rattle.mip_entries.specs.Completed.{node_id}
+use Rattle.mip_entries.specs.Stamped.{Stamped}
+use Rattle.mip_rules_correspondent.specs.Steps.{Step}
+use Rattle.mip_rules_correspondent.specs.Pasts.{accepted_in}
+use Rattle.mip_rules_agent.specs.declared.home_row.HomeRow.{HomeRow}
+use Rattle.mip_rules_agent.specs.Questions.{rows_at}
+use Rattle.mip_history.specs.Setup.{Setup, Host, Kind, is_correspondent_host, is_correspondent_at}
+use Rattle.mip_history.specs.Setup.Kind.{Correspondent, Agent, Mobile}
+use Rattle.mip_history.specs.Runs.{Run, note, past_at, with_past, with_agent_past}
+use Rattle.mip_history.specs.Questions.{moment_says, moment_in, restarts, life_in}
+use Rattle.mip_history.specs.Calls.{Restart}
+use Rattle.mip_history.specs.Knowing.{now_in, secrets_in, agent_known_in}
+use Rattle.mip_history.specs.Homes.{gives_up}
+use Rattle.mip_history.specs.Restarting.{homes_left, reborn_by_kind, reborn_by_host, restarted}
+use Rattle.mip_history.specs.Bound.{Lived, lived, accepted_by, packet_posted, packets_of}
+use Rattle.mip_history.proofs.Runs.{Meets, IsKept, IsPast, IsRun, IsQuiet, quiet_same, quiet_then, quiet_run, goes_quietly}
+use Rattle.mip_history.proofs.Claiming.{quiet_gives_up}
+use Rattle.mip_history.proofs.Answering.{differs}
+use Rattle.mip_history.proofs.Acting.{quiet_agent_past, acts_calmly}
+use Rattle.mip_history.proofs.Passes.{Passes, passes_behind, passes_before}
+
+-- how often this restarts a node
+abbrev pub again : ℕ → ℕ → ℕ
+again n m = if m == n then 1 else 0
+
+module _ (s : Setup) (run : Run) (n : ℕ) (is : IsRun s run) where
+  abbrev past : List Entry
+  past = run.past ++ entries.Restarted (node_id n) ∷ []
+
+  accepted_then : (m : ℕ) → accepted_by s.start past m ≡ (if m == n then [] else accepted_by s.start run.past m)
+  unfolding accepted_by
+  accepted_then m = ap (λ (l : Lived). l.accepted) (fold-append (lived m) (record { at = s.start; accepted = [] }) run.past (entries.Restarted (node_id n) ∷ []))
+
+  moment_then : moment_in s.start past ≡ moment_in s.start run.past
+  moment_then = fold-append (λ (at : ℕ) (x : Entry). unwrap_or (moment_says x) at) s.start run.past (entries.Restarted (node_id n) ∷ [])
+
+  life_then : (m : ℕ) → life_in past m ≡ life_in run.past m + again n m
+  life_then m = fold-append (restarts m) 0 run.past (entries.Restarted (node_id n) ∷ []) ∙ by (m == n) (life_in run.past m)
+    where
+      by : (b : Bool) (count : ℕ) → (if b then suc count else count) ≡ count + (if b then 1 else 0)
+      by true count = omega arith
+      by false count = omega arith
+
+  kept_then : IsKept s past run.posts
+  kept_then = record {
+    packets = filter_map-append packet_posted run.past (entries.Restarted (node_id n) ∷ []) ∙ append-nil (packets_of run.past) ∙ is.kept.packets;
+    each = each-append (Meets s) [] run.past (entries.Restarted (node_id n) ∷ []) is.kept.each (tt, tt);
+  }
+
+  -- what another node has accepted counts on
+  past_of_other : (m : ℕ) → is_correspondent_at s m ≡ true → m ≢ n → IsPast s past (past_at run m) m
+  past_of_other m mine other = let p = is.pasts m mine in record {
+    accepted = p.accepted ∙ sym (accepted_then m ∙ ap (λ (b : Bool). if b then [] else accepted_by s.start run.past m) (ne_eqb m n other));
+    rises = p.rises;
+    early = subst (λ (at : ℕ). AllByRecursion (λ t. t.at ≤ at) (past_at run m)) (sym moment_then) p.early;
+  }
+
+  -- what this one has accepted does not
+  past_of_this : IsPast s past [] n
+  unfolding accepted_in
+  past_of_this = record {
+    accepted = sym (accepted_then n ∙ ap (λ (b : Bool). if b then [] else accepted_by s.start run.past n) (eq-eqb n n refl));
+    rises = tt;
+    early = tt;
+  }
+
+  -- a node that is no correspondent
+  pub other_reborn : is_correspondent_at s n ≡ false → Passes s run (note (entries.Restarted (node_id n)) run) 0 (again n)
+  other_reborn none = record {
+    run = record {
+      nodes = is.nodes;
+      agents = is.agents;
+      mobiles = is.mobiles;
+      kept = kept_then;
+      pasts = λ m mine. past_of_other m mine (differs s m n mine none);
+    };
+    moment = moment_then ∙ omega arith;
+    life = life_then;
+  }
+
+  -- a correspondent
+  pub correspondent_reborn : n < length s.hosts → Passes s run (note (entries.Restarted (node_id n)) (with_past n [] run)) 0 (again n)
+  correspondent_reborn inside = record {
+    run = record {
+      nodes = length-set run.pasts n [] ∙ is.nodes;
+      agents = is.agents;
+      mobiles = is.mobiles;
+      kept = kept_then;
+      pasts = pasts;
+    };
+    moment = moment_then ∙ omega arith;
+    life = life_then;
+  }
+    where
+      pasts : (m : ℕ) → is_correspondent_at s m ≡ true → IsPast s past (slice_index_or (slice_set run.pasts n []) m []) m
+      pasts m mine = elim (cases_eq m n) as (λ _. IsPast s past (slice_index_or (slice_set run.pasts n []) m []) m) [
+        | inl e ↦
+            subst (λ (k : ℕ). IsPast s past (slice_index_or (slice_set run.pasts n []) k []) k) (sym e)
+            (subst (λ (l : List (Stamped Step)). IsPast s past l n) (sym (get_or-set_same run.pasts n [] [] (let i = is.nodes in omega (arith, i, inside)))) past_of_this)
+        | inr other ↦
+            subst (λ (l : List (Stamped Step)). IsPast s past l m) (sym (get_or-set_other run.pasts n m [] [] other)) (past_of_other m mine other)
+      ]
+
+-- an agent gives up its homes
+quiet_homes : (s : Setup) (n : ℕ) (rows : List HomeRow) (run : Run) → IsQuiet s run (homes_left s n rows run)
+unfolding homes_left
+quiet_homes s n [] run = quiet_same s run
+quiet_homes s n (r ∷ rows) run =
+    quiet_then s run (gives_up s n r.home run) _ (quiet_gives_up s n r.home run) (quiet_homes s n rows (gives_up s n r.home run))
+
+module _ (s : Setup) (run : Run) (n : ℕ) (is : IsRun s run) where
+  agent_reborn : (rows : List HomeRow) → is_correspondent_at s n ≡ false
+      → Passes s run (homes_left s n rows (note (entries.Restarted (node_id n)) (with_agent_past n [] run))) 0 (again n)
+  agent_reborn rows other =
+      let empty = with_agent_past n [] run in
+      let quiet = quiet_agent_past s n [] run in
+      let next = note (entries.Restarted (node_id n)) empty in
+      let reborn = passes_behind s run empty next 0 (again n) (goes_quietly s run empty is quiet) (other_reborn s empty n (quiet_run s run empty quiet is) other) in
+      passes_before s run next _ 0 (again n) reborn (goes_quietly s next _ reborn.run (quiet_homes s n rows next))
+
+  mobile_reborn : (agent : Option Address) → is_correspondent_at s n ≡ false → Passes s run (reborn_by_kind s n run (Mobile agent)) 0 (again n)
+  mobile_reborn agent other =
+      let next = note (entries.Restarted (node_id n)) run in
+      let reborn = other_reborn s run n is other in
+      passes_before s run next _ 0 (again n) reborn (acts_calmly s n (Restart (secrets_in s n (life_in next.past n))) next reborn.run refl)
+
+  reborn_kind : (own : Address) (kind : Kind) → slice_get s.hosts n ≡ Some (record { address = own; kind = kind }) → Passes s run (reborn_by_kind s n run kind) 0 (again n)
+  reborn_kind own (Correspondent room) e = correspondent_reborn s run n is (slice_get_within s.hosts n _ e)
+  reborn_kind own (Agent preference life room serves) e = agent_reborn (rows_at (now_in s run) (agent_known_in run n serves).homes) (ap is_correspondent_host e)
+  reborn_kind own (Mobile agent) e = mobile_reborn agent (ap is_correspondent_host e)
+
+  pub restarted_passes : Passes s run (restarted s run n) 0 (again n)
+  unfolding restarted
+  restarted_passes = by (slice_get s.hosts n) refl
+    where
+      by : (o : Option Host) → slice_get s.hosts n ≡ o → Passes s run (reborn_by_host s n run o) 0 (again n)
+      by None e = other_reborn s run n is (ap is_correspondent_host e)
+      by (Some host) e = reborn_kind host.address host.kind e

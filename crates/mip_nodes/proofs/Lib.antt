@@ -1,0 +1,4 @@
+mod Ended
+mod Heard
+pub mod WholeLaws
+pub mod RoleLaws

@@ -1,0 +1,29 @@
+//! A node of a run, whatever its role: a correspondent, a home agent or a mobile.
+#![tactic(auto)]
+
+mod agent;
+mod call;
+mod correspondent;
+mod host;
+mod idle;
+mod kind;
+mod laws;
+mod mobile;
+mod node;
+mod place;
+mod roaming;
+mod role;
+mod router;
+
+pub use call::Call;
+pub use host::Host;
+pub use kind::Kind;
+pub use laws::{
+    answers_are_whole, mobiles_keep_their_home, new_roles_have_nothing_behind_them,
+    roles_stand_for_their_pasts,
+};
+pub use node::Node;
+pub use place::NetPlace;
+pub use roaming::Roaming;
+pub use role::Role;
+pub use router::Router;
