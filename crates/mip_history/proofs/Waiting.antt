@@ -29,10 +29,10 @@ pub record Comes (s : Setup) (before after : Run) (at : ℕ) : Type 0 where
   pub life : (n : ℕ) → life_in after.past n ≡ life_in before.past n
 
 -- and is not beyond one
-record IsWithin (s : Setup) (before after : Run) (target : ℕ) : Type 0 where
-  run : IsRun s after
-  early : moment_in s.start after.past ≤ target
-  life : (n : ℕ) → life_in after.past n ≡ life_in before.past n
+pub record IsWithin (s : Setup) (before after : Run) (target : ℕ) : Type 0 where
+  pub run : IsRun s after
+  pub early : moment_in s.start after.past ≤ target
+  pub life : (n : ℕ) → life_in after.past n ≡ life_in before.past n
 
 all_later : (at later : ℕ) (past : List (Stamped Step)) → at ≤ later → AllByRecursion (λ t. t.at ≤ at) past → AllByRecursion (λ t. t.at ≤ later) past
 all_later at later [] p all = tt
@@ -118,7 +118,7 @@ module _ (s : Setup) (target : ℕ) (more : Waiting → Waiting) (keeps : (w : W
           let next = keeps (works s due w) one.run one.early in
           record { run = next.run; early = next.early; life = λ m. next.life m ∙ one.life m }
 
-works_until_within : (s : Setup) (target n : ℕ) (w : Waiting) → IsRun s w.run → now_in s w.run ≤ target → IsWithin s w.run (works_until s target n w).run target
+pub works_until_within : (s : Setup) (target n : ℕ) (w : Waiting) → IsRun s w.run → now_in s w.run ≤ target → IsWithin s w.run (works_until s target n w).run target
 unfolding works_until
 works_until_within s target zero w is early = record { run = is; early = early; life = λ n. refl }
 works_until_within s target (suc n) w is early =

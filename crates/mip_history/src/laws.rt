@@ -19,6 +19,7 @@ ghost use Rattle.mip_history.specs.Runs.{Run};
 ghost use Rattle.mip_history.specs.Questions.{moment_in, life_in, holder_in};
 ghost use Rattle.mip_history.specs.Knowing.{known_in, now_in, mobile_known_in};
 ghost use Rattle.mip_history.specs.Homes.{is_at_home, lives_at, gives_up};
+ghost use Rattle.mip_history.specs.Waiting.{works_until};
 ghost use Rattle.mip_links.specs.Table.{link_of};
 ghost use Rattle.mip_history.specs.Permitted.{opening_claims, run_of, happens, permitted};
 ghost use Rattle.mip_history.specs.Claims.{is_free_for};
@@ -73,6 +74,12 @@ pub fn nodes_keep_what_was_accepted()
 pub fn moments_rise()
     ensures at { (c : Content) (before : List Entry) (moment : Moment) (after : List Entry) → permitted c ≡ before ++ At moment ∷ after → moment_in (setup_of c).start before ≤ moment.0 }
     ensures waited { (c : Content) → moment_in (setup_of c).start (permitted c) ≡ c.start.0 + sum_by waited_by c.events }
+{}
+
+/// Work that is due during a wait is done by the end of the wait: no moment of it is later.
+pub fn work_stays_within_its_wait()
+    ensures { (s : Setup) (events : List Event) (target rounds : ℕ) → now_in s (run_of s events) ≤ target
+        → now_in s (works_until s target rounds (record { run = run_of s events; told = false })).run ≤ target }
 {}
 
 /// Packets are numbered from 0 in the order in which they are posted, and are heard and handed over only then.
