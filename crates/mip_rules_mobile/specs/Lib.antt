@@ -19,6 +19,7 @@ pub mod IcmpRules
 pub mod ReceivingRules
 pub mod RingingRules
 pub mod Doing
+pub mod Part
 pub mod Told
 pub mod Kept
 pub mod Fitting
