@@ -20,3 +20,4 @@ pub mod Says
 pub mod Kept
 pub mod Refusals
 pub mod Away
+pub mod Shielding

@@ -24,3 +24,4 @@ pub mod Kept
 pub mod Fitting
 pub mod Answering
 pub mod Refusing
+pub mod Shielding
