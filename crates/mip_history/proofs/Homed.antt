@@ -1,7 +1,7 @@
 -- What every run keeps of the homes of its agents: each registration has its update, each packet under a shield was sent by the
 -- mobile that the shield names or has no update, and each agent keeps of a home what the history says. Entries keep it.
 use Rattle.std.proofs.Common.{◌≡◌, ℕ, List, [], ◌∷◌, ◌++◌, Bool, true, false, length, ◌⊎◌, inl, inr, refl, sym, ap, ◌∙◌, subst}
-use Rattle.std.specs.Prelude.{fold, Option, Some, None, unwrap_or, is_some, ◌==◌, ◌&&◌, if◌then◌else◌, slice_get, slice_index_or}
+use Rattle.std.specs.Prelude.{Option, Some, None, unwrap_or, is_some, ◌==◌, ◌&&◌, if◌then◌else◌, slice_get, slice_index_or}
 use Rattle.std.specs.List.{AllByRecursion}
 use Rattle.std.proofs.lemmas.List.{append_assoc}
 use Rattle.std.proofs.lemmas.List.Sums.{fold-append}

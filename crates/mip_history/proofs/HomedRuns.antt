@@ -1,13 +1,10 @@
 -- Every run keeps what is kept of the homes of its agents.
-use Rattle.std.proofs.Common.{◌≡◌, ◌≢◌, ℕ, zero, suc, ◌<◌, List, [], ◌∷◌, ◌++◌, Bool, true, false, length, inl, inr, refl, sym, ap, ◌∙◌, subst, arith, length-set}
-use Rattle.std.specs.Prelude.{Option, Some, None, unwrap_or, ◌==◌, if◌then◌else◌, map, slice_get, slice_index_or}
-use Rattle.std.specs.List.{list_any}
+use Rattle.std.proofs.Common.{◌≡◌, ◌≢◌, ℕ, zero, suc, List, [], ◌∷◌, ◌++◌, Bool, true, false, inl, inr, refl, sym, ap, ◌∙◌, subst, length-set}
+use Rattle.std.specs.Prelude.{Option, Some, None, unwrap_or, if◌then◌else◌, map, slice_get, slice_index_or}
 use Rattle.std.proofs.lemmas.List.{length-map}
 use Rattle.std.proofs.lemmas.Bool.{eq-eqb, ne_eqb}
 use Rattle.mip_words.specs.declared.address.Address.{Address}
 use Rattle.mip_lists.proofs.EachLaws.{each-append}
-use Rattle.mip_outside.specs.Places.{Around}
-use Rattle.mip_entries.specs.declared.entry.Entry.{Entry}
 use Rattle.mip_entries.specs.declared.entry.Entry.TheVariants as entries
 use Rattle.mip_entries.specs.Completed.{node_id}
 use Rattle.mip_entries.specs.Stamped.{Stamped}
@@ -21,7 +18,6 @@ use Rattle.mip_rules_agent.specs.Calls.{claim_for}
 use Rattle.mip_rules_agent.specs.Steps as agents
 use Rattle.mip_rules_agent.specs.Doing as agent_doing
 use Rattle.mip_rules_agent.specs.Questions.{binding_of, known}
-use Rattle.mip_rules_agent.specs.Taken.{IsUpdateTaken}
 use Rattle.mip_rules_agent.proofs.Taken.{taken_is}
 use Rattle.mip_rules_agent.proofs.HomeLaws.{tick-quiet, plan-quiet, hear-quiet}
 use Rattle.mip_rules_mobile.specs.Known as mobile_known
@@ -35,7 +31,7 @@ use Rattle.mip_schedule.specs.declared.event.Event.{Event}
 use Rattle.mip_history.specs.Setup.{Setup, Host, Kind}
 use Rattle.mip_history.specs.Setup.Kind.{Correspondent, Agent, Mobile}
 use Rattle.mip_history.specs.Runs.{Run, note, past_at, mobile_past_at, with_past, with_agent_past, with_mobile_past}
-use Rattle.mip_history.specs.Calls.{Call, Take, Tick, Plan, Hear, for_correspondent, for_agent, for_mobile}
+use Rattle.mip_history.specs.Calls.{Call, Take, Tick, Plan, Hear, for_correspondent, for_mobile}
 use Rattle.mip_history.specs.Knowing.{link_or_first, now_in, secrets_in, identity_in, known_in, agent_of, agent_known_in, mobile_known_in, around_in}
 use Rattle.mip_history.specs.Nodes.{turned, agent_turned, mobile_turned, asks, by_kind, by_host, acts}
 use Rattle.mip_history.specs.Permitted.{run_of}
@@ -43,7 +39,7 @@ use Rattle.mip_history.specs.Registered.{is_agent_host, is_agent_at, registratio
 use Rattle.mip_history.proofs.Opening.{nothing}
 use Rattle.mip_history.proofs.Keeping.{IsCall, emptied_by_host, emptied, Keeps}
 use Rattle.mip_history.proofs.Walking.{walk_run}
-use Rattle.mip_history.proofs.Homed.{MeetsHome, serves_by_host, serves_in, IsHomed, serves_agent, under_more, registration_push, homed_entry, homed_other, homed_idle, homed_injected, homed_answers}
+use Rattle.mip_history.proofs.Homed.{MeetsHome, IsHomed, under_more, registration_push, homed_entry, homed_other, homed_idle, homed_injected, homed_answers}
 use Rattle.mip_history.proofs.Homing.{correspondent_fine, mobile_fine, none_known, homes_with, quiet_agent, taking_agent}
 
 -- what is nothing to a node leaves `idle`
@@ -109,7 +105,6 @@ restart_other : (s : Setup) (n m : ℕ) → is_agent_at s n ≡ false → is_age
 restart_other s n m other mine same = absurd (let both : true ≡ false = sym mine ∙ ap (λ (k : ℕ). is_agent_at s k) same ∙ other in cc)
 
 module _ (s : Setup) (n : ℕ) where
-
   silent_other : (m : ℕ) (home : Address) → m ≢ n → registration_says m home (entries.Restarted (node_id n)) ≡ None
   silent_other m home other = ap (λ (b : Bool). if b then Some None else None) (ne_eqb m n other)
 

@@ -1,8 +1,8 @@
 -- A turn of any node keeps what is kept of homes: what an agent registers was sent by the mobile with that home.
-use Rattle.std.proofs.Common.{◌≡◌, ◌≢◌, ℕ, zero, suc, ◌<◌, List, [], ◌∷◌, ◌++◌, Bool, true, false, length, ◌⊎◌, inl, inr, refl, sym, ap, ◌∙◌, subst, arith, length-set}
-use Rattle.std.specs.Prelude.{Option, Some, None, option_map, unwrap_or, Result, Ok, Err, ◌==◌, ◌&&◌, ◌||◌, if◌then◌else◌, slice_get, slice_set, slice_index, slice_index_or, map}
+use Rattle.std.proofs.Common.{◌≡◌, ◌≢◌, ℕ, ◌<◌, List, [], ◌∷◌, ◌++◌, Bool, true, false, length, inl, inr, refl, sym, ap, ◌∙◌, subst, arith, length-set}
+use Rattle.std.specs.Prelude.{Option, Some, None, option_map, unwrap_or, Result, Ok, Err, ◌==◌, ◌&&◌, ◌||◌, if◌then◌else◌, slice_get, slice_set, slice_index, slice_index_or}
 use Rattle.std.specs.List.{list_any}
-use Rattle.std.proofs.lemmas.List.{length-map, get_or-set_same, get_or-set_other}
+use Rattle.std.proofs.lemmas.List.{get_or-set_same, get_or-set_other}
 use Rattle.std.proofs.lemmas.Option.{slice_get_within}
 use Rattle.std.proofs.lemmas.Bool.{cases_eq, eq-eqb, ne_eqb}
 use Rattle.mip_words.specs.declared.address.Address.{Address}
@@ -17,8 +17,6 @@ use Rattle.mip_outside.specs.declared.claim.Claim.{Claim}
 use Rattle.mip_entries.specs.declared.answer.Answer.{Answer}
 use Rattle.mip_entries.specs.declared.answer.Answer.TheVariants.{Send, Note}
 use Rattle.mip_entries.specs.declared.entry.Entry.{Entry}
-use Rattle.mip_entries.specs.declared.entry.Entry.TheVariants as entries
-use Rattle.mip_entries.specs.Completed.{node_id}
 use Rattle.mip_entries.specs.Stamped.{Stamped}
 use Rattle.mip_updates.specs.declared.registration.Registration.{Registration}
 use Rattle.mip_updates.specs.Registrations.{registration_in, home_of}
@@ -28,7 +26,6 @@ use Rattle.mip_rules_agent.specs.declared.identity.Identity.{Identity}
 use Rattle.mip_rules_agent.specs.declared.home_binding.HomeBinding.{HomeBinding}
 use Rattle.mip_rules_agent.specs.Known as agent_known
 use Rattle.mip_rules_agent.specs.Calls as agent_calls
-use Rattle.mip_rules_agent.specs.Steps as agents
 use Rattle.mip_rules_agent.specs.Steps.{Step, Called, Sends, Registers, Claims, Releases, Denies, Drops, Rang, answers_of, is_registration}
 use Rattle.mip_rules_agent.specs.Turns as agent_turns
 use Rattle.mip_rules_agent.specs.Questions.{known, binding_of, holds}
@@ -38,23 +35,22 @@ use Rattle.mip_rules_agent.specs.Verdicts.{binding_for}
 use Rattle.mip_rules_agent.specs.Pasts.{is_one_of, is_registration_of}
 use Rattle.mip_rules_agent.specs.Soundness.{IsShielded, IsSound}
 use Rattle.mip_rules_agent.specs.Taken.{IsUpdateIn, IsUpdateTaken}
-use Rattle.mip_rules_agent.specs.Shielding.{HasNoUpdate, ShieldNoUpdate}
+use Rattle.mip_rules_agent.specs.Shielding.{ShieldNoUpdate}
 use Rattle.mip_rules_agent.proofs.VerdictLaws.{sound}
 use Rattle.mip_rules_agent.proofs.Pasts.{stands-known, known-binding, known-unserved}
 use Rattle.mip_rules_agent.proofs.Calls.{call-stands}
 use Rattle.mip_rules_agent.proofs.HomeLaws.{keeps-call, of_home_none, becomes}
 use Rattle.mip_rules_agent.proofs.Shielding.{call-none}
 use Rattle.mip_rules_mobile.specs.Shielding.{AreShieldedFrom}
-use Rattle.mip_links.specs.Table.{Post}
-use Rattle.mip_history.specs.Setup.{Setup, Host}
+use Rattle.mip_history.specs.Setup.{Setup}
 use Rattle.mip_history.specs.Setup.Kind.{Agent, Mobile}
 use Rattle.mip_history.specs.Runs.{Run, note, agent_past_at, with_agent_past}
 use Rattle.mip_history.specs.Knowing.{link_or_first, now_in, agent_of, agent_known_in}
 use Rattle.mip_history.specs.Nodes.{agent_turned, answered}
 use Rattle.mip_history.specs.Delivery.{handed_over}
-use Rattle.mip_history.specs.Registered.{is_agent_host, is_agent_at, registration_entry, registration_says, last_registration, IsSentFrom, IsRegistration}
+use Rattle.mip_history.specs.Registered.{is_agent_host, is_agent_at, registration_entry, last_registration, IsSentFrom, IsRegistration}
 use Rattle.mip_history.proofs.Keeping.{IsHanded}
-use Rattle.mip_history.proofs.Homed.{MeetsHome, IsUnder, AreUnder, serves_by_host, serves_in, AreHomes, IsHomed, under_more, registration_push, is_home, IsMobileAt, AreFine, homed_answers}
+use Rattle.mip_history.proofs.Homed.{MeetsHome, IsUnder, serves_by_host, serves_in, AreHomes, IsHomed, under_more, registration_push, is_home, IsMobileAt, AreFine, homed_answers}
 
 -- what a correspondent answers
 pub correspondent_fine : (s : Setup) (n : ℕ) (steps : List correspondents.Step) → AreFine s n (correspondents.answers_of steps)

@@ -1,5 +1,5 @@
 -- A fact of a run that is kept by each thing which can happen in one, and what claims and packets leave of it.
-use Rattle.std.proofs.Common.{◌≡◌, ℕ, zero, suc, ◌+◌, List, [], ◌∷◌, ◌++◌, Bool, true, false, length, refl, sym, ap, ◌∙◌, subst}
+use Rattle.std.proofs.Common.{◌≡◌, ℕ, zero, suc, List, [], ◌∷◌, ◌++◌, Bool, true, false, length, refl, sym, ap, ◌∙◌, subst}
 use Rattle.std.specs.Prelude.{Option, Some, None, is_some, ◌==◌, ◌&&◌, ◌||◌, if◌then◌else◌, slice_get}
 use Rattle.std.specs.List.{list_any}
 use Rattle.std.proofs.lemmas.List.{append_assoc, append-nil}
@@ -20,8 +20,8 @@ use Rattle.mip_history.specs.Calls.{Call, Take}
 use Rattle.mip_history.specs.Claims.{link_id, claim_entry, claimed_on, claims}
 use Rattle.mip_history.specs.Homes.{resident, passes_to, left_on, given_up_on, gives_up}
 use Rattle.mip_history.specs.Nodes.{acts}
-use Rattle.mip_history.specs.Posting.{heards, is_other, overheard, posted}
-use Rattle.mip_history.specs.Delivery.{handed_over, overheard_at, handed}
+use Rattle.mip_history.specs.Posting.{heards, is_other, overheard}
+use Rattle.mip_history.specs.Delivery.{handed_over, overheard_at}
 
 -- an entry that tells of time or of lives, of a packet that is posted, or of what a node accepts
 abbrev pub is_busy : Entry → Bool

@@ -1,5 +1,5 @@
 -- What is known of the homes of agents in every permitted history.
-use Rattle.std.proofs.Common.{◌≡◌, ◌≢◌, ℕ, ◌<◌, ◌≤◌, List, [], ◌∷◌, ◌++◌, Bool, true, false, ◌⊎◌, inl, inr, refl, sym, ap, ◌∙◌, subst, arith, ltb}
+use Rattle.std.proofs.Common.{◌≡◌, ◌≢◌, ℕ, ◌<◌, ◌≤◌, List, [], ◌∷◌, ◌++◌, Bool, true, false, ◌⊎◌, inl, inr, refl, sym, ap, ◌∙◌, subst, arith}
 use Rattle.std.specs.Prelude.{fold, Option, Some, None, option_map, unwrap_or, not, nat_lt, ◌==◌, ◌&&◌, ◌||◌, if◌then◌else◌, slice_get}
 use Rattle.std.specs.List.{list_any}
 use Rattle.std.proofs.lemmas.List.Sums.{fold-append}
@@ -16,7 +16,7 @@ use Rattle.mip_schedule.specs.Contents.{Content}
 use Rattle.mip_schedule.specs.declared.event.Event.{Event}
 use Rattle.mip_rules_agent.specs.declared.home_binding.HomeBinding.{HomeBinding}
 use Rattle.mip_rules_agent.specs.Questions.{is_standing, if_standing, careof_at, kept_of}
-use Rattle.mip_history.specs.Setup.{Setup, Host, setup_of}
+use Rattle.mip_history.specs.Setup.{Setup, setup_of}
 use Rattle.mip_history.specs.Setup.Kind.{Agent}
 use Rattle.mip_history.specs.Runs.{Run}
 use Rattle.mip_history.specs.Questions.{moment_says, moment_in}

@@ -24,7 +24,7 @@ use Rattle.mip_history.specs.Runs.{Run, note, without}
 use Rattle.mip_history.specs.Questions.{hears_in, life_in, asked_in}
 use Rattle.mip_history.specs.Calls as calls
 use Rattle.mip_history.specs.Calls.{Take}
-use Rattle.mip_history.specs.Claims.{link_id, claims}
+use Rattle.mip_history.specs.Claims.{link_id}
 use Rattle.mip_history.specs.Homes.{gives_up}
 use Rattle.mip_history.specs.Knowing.{now_in, secrets_in, known_in, agent_known_in, mobile_known_in}
 use Rattle.mip_history.specs.Nodes.{acts, row_entry, home_entry, rows_by_kind, rows_shown, shown}
@@ -123,7 +123,6 @@ module _ (s : Setup) (P : Run → Type 0) (keeps : Keeps s P) where
   unfolding carried
   walk_carried run zero p = p
   walk_carried run (suc n) p = walk_carried_one (carried s run n) (lowest_of (carried s run n).flying) (walk_carried run n p)
-
 
   -- time goes on
   walk_comes : (m : ℕ) (w : Waiting) → P w.run → P (comes_to s m w).run
