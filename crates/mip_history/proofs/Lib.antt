@@ -24,3 +24,9 @@ pub mod Moments
 mod Kept
 mod SameUpdates
 mod Repeats
+mod Keeping
+mod Walking
+mod Homed
+mod Homing
+mod HomedRuns
+mod Registrations
