@@ -1,4 +1,4 @@
-ghost use Rattle.std.specs.Prelude.{◌≤◌};
+ghost use Rattle.std.specs.Prelude.{◌≡◌, ◌≤◌, ◌+◌, ◌-◌, ◌^◌, min};
 ghost use Rattle.mip_outside.specs.Cause.{Rose};
 
 /// How many calls failed. The last value of 64 bits stays.
@@ -7,6 +7,7 @@ pub struct Faults(pub u64);
 
 impl Faults {
     pub fn raise(&mut self)
+        ensures one { self.new.0 ≡ min (self.old.0 + 1) (2 ^ 64 - 1) }
         ensures no_fewer { self.old.0 ≤ self.new.0 }
         ensures rose { Rose self.old.0 self.new.0 }
     {

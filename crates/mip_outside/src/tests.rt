@@ -23,6 +23,8 @@ fn calls_fail_where_they_are_to(rt: HostRuntime) -> Result<(), Fail> {
 fn moments_and_datagrams_come_in_order(rt: HostRuntime) -> Result<(), Fail> {
     let mut clock = SetClock::new(rt.alloc(), &[3, 5])?;
     assert_eq!(rt; (clock.now(), clock.now(), clock.now()), (3, 5, 5));
+    clock.set(rt.alloc(), &[8])?;
+    assert_eq!(rt; clock.now(), 8);
     let mut real = MonotoneClock::new(rt.clone()?);
     assert!(rt; real.now() < 60_000);
 

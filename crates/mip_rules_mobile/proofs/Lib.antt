@@ -22,3 +22,4 @@ pub mod Refusals
 pub mod Away
 pub mod PartLives
 pub mod PartTurns
+pub mod Shielding

@@ -25,3 +25,4 @@ pub mod Kept
 pub mod Fitting
 pub mod Answering
 pub mod Refusing
+pub mod Shielding

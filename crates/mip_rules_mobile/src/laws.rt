@@ -13,7 +13,7 @@ ghost use Rattle.mip_rules_mobile.specs.Calls.{Call, Take, Tick, Restart};
 ghost use Rattle.mip_rules_mobile.specs.Sendings.{PeerUpdate};
 ghost use Rattle.mip_rules_mobile.specs.Steps.{Step, is_call, answers_of};
 ghost use Rattle.mip_rules_mobile.specs.Known.{Known};
-ghost use Rattle.mip_rules_mobile.specs.HomeQuestions.{standing_said, registered_said, latest_said, agent_said, owes_said, next_said, next_to};
+ghost use Rattle.mip_rules_mobile.specs.HomeQuestions.{home_of, standing_said, registered_said, latest_said, agent_said, owes_said, next_said, next_to};
 ghost use Rattle.mip_rules_mobile.specs.DiscoveryQuestions.{found_said, chosen_said, is_choice};
 ghost use Rattle.mip_rules_mobile.specs.Questions.{known};
 ghost use Rattle.mip_rules_mobile.specs.Turns.{Stands, with_turn};
@@ -22,6 +22,7 @@ ghost use Rattle.mip_rules_mobile.specs.Fitting.{IsUpdateOf, EachFits};
 ghost use Rattle.mip_rules_mobile.specs.Kept.{RowsGiven, IsMadeFrom};
 ghost use Rattle.mip_rules_mobile.specs.Refusing.{is_refusal, tables_of};
 ghost use Rattle.mip_rules_mobile.specs.Answering.{EachAnswer, CanBeAsked, SendsPlainData, IsWhole, LeavesRight, IsElsewhere, AreFrom, stays_put, SaysRight};
+ghost use Rattle.mip_rules_mobile.specs.Shielding.{AreShieldedFrom};
 ghost use Rattle.mip_rules_mobile.specs.Doing.{turn_of};
 ghost use Rattle.mip_rules_mobile.specs.Part.{part_of, part_life, IsPartTurn, is_restart, IsPartReborn};
 
@@ -123,4 +124,11 @@ pub fn refused_changes_nothing()
 pub fn updates_are_of_tests_since_the_start()
     ensures trials { (home : Address) (declared : Option Address) (secrets : Life) (past : List (Stamped Step)) → RowsGiven past (known home declared secrets past).list.rows }
     ensures updates { (home : Address) (declared : Option Address) (secrets : Life) (past : List (Stamped Step)) (now row : ℕ) (u : PeerUpdate) → IsUpdateOf now (known home declared secrets past) row u → IsMadeFrom past row u.made }
+{}
+
+/// Each packet that a mobile sends under a shield is sent under one from its own home address, and that is the same after
+/// every past.
+pub fn shields_are_from_its_home()
+    ensures home { (home : Address) (declared : Option Address) (secrets : Life) (past : List (Stamped Step)) → home_of (known home declared secrets past) ≡ home }
+    ensures sent { (k : Known) (now : ℕ) (c : Call) → AreShieldedFrom (home_of k) (answers_of (turn_of k now c).steps) }
 {}
