@@ -7,6 +7,8 @@ mod Answering
 mod Turns
 pub mod Numbered
 mod Handing
+pub mod PartTurns
+mod PartHanding
 mod Acting
 mod Deliveries
 mod Advertising

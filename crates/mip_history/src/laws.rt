@@ -15,7 +15,8 @@ ghost use Rattle.mip_schedule.specs.declared.event.Event.{Event};
 ghost use Rattle.mip_bcache.specs.declared.accepted.Accepted.{Accepted};
 ghost use Rattle.mip_binding.specs.Held.{floor, is_full};
 ghost use Rattle.mip_rules_correspondent.specs.Questions.{held_of, floor_of, is_full_for};
-ghost use Rattle.mip_history.specs.Setup.{Setup, setup_of, is_correspondent_at};
+ghost use Rattle.mip_rules_mobile.specs.Questions.{part_room};
+ghost use Rattle.mip_history.specs.Setup.{Setup, setup_of};
 ghost use Rattle.mip_history.specs.Setup.Kind.{Correspondent, Agent, Mobile};
 ghost use Rattle.mip_history.specs.Runs.{Run};
 ghost use Rattle.mip_history.specs.Questions.{moment_in, life_in, holder_in};
@@ -28,24 +29,25 @@ ghost use Rattle.mip_history.specs.Claims.{is_free_for};
 ghost use Rattle.mip_history.specs.Passing.{waited_by, restarted_by};
 ghost use Rattle.mip_history.specs.Again.{RepeatsAfterRounds};
 ghost use Rattle.mip_history.specs.Registered.{is_agent_at, registration_entry, last_registration, registered_in, IsRegistration, IsRegistered, HomeChange};
-ghost use Rattle.mip_history.specs.Bound.{accepted_by, held_in, packet_in, packets_of, accepted_entry, is_accepted_by_correspondent, is_restart_of, is_accepted_for, HasAccepted, IsBound};
+ghost use Rattle.mip_history.specs.Bound.{accepted_by, held_in, packet_in, packets_of, accepted_entry, is_accepted, is_restart_of, is_accepted_for, HasAccepted, IsBound};
 
 /// A schedule with one event more is run by letting that event happen last.
 pub fn event_after_event()
     ensures { (s : Setup) (events : List Event) (event : Event) → run_of s (events ++ event ∷ []) ≡ happens s (run_of s events) event }
 {}
 
-/// In the permitted history of every schedule, a correspondent holds a care-of address by an update that it accepted: the
+/// In the permitted history of every schedule, a node holds a care-of address by an update that it accepted, a correspondent or
+/// the correspondent part of a mobile: the
 /// last one of its home in the present life of the node, whose packet had just been handed to the node, with
 /// the verdict Accept on its bytes by the secrets of that life, at that moment, with what was kept of the home
 /// just before. RFC 6275 section 9.5.1.
 pub fn held_was_accepted()
-    ensures { (c : Content) (n home careof : ℕ) → is_correspondent_at (setup_of c) n ≡ true → held_in (setup_of c) (permitted c) n home ≡ Some careof → IsBound (setup_of c) (permitted c) n home careof }
+    ensures { (c : Content) (n home careof : ℕ) → held_in (setup_of c) (permitted c) n home ≡ Some careof → IsBound (setup_of c) (permitted c) n home careof }
 {}
 
-/// Every update that a correspondent ever accepted had just been handed over, with that verdict.
+/// Every update that a correspondent or a mobile ever accepted had just been handed over, with that verdict; no other node accepts one.
 pub fn accepted_was_handed()
-    ensures { (c : Content) (before : List Entry) (e : Entry) (after : List Entry) → permitted c ≡ before ++ e ∷ after → is_accepted_by_correspondent (setup_of c) e ≡ true → HasAccepted (setup_of c) before e }
+    ensures { (c : Content) (before : List Entry) (e : Entry) (after : List Entry) → permitted c ≡ before ++ e ∷ after → is_accepted e ≡ true → HasAccepted (setup_of c) before e }
 {}
 
 /// In any history, the last update of a home that a node accepted in its present life is the one that counts: to its end
@@ -63,7 +65,7 @@ pub fn last_acceptance_counts()
         → floor (accepted_by s.start (before ++ accepted_entry n k home a ∷ after) n) home.0 now ≡ Some a.sequence }
 {}
 
-/// What a correspondent keeps of a home is what the history says of it.
+/// What a correspondent keeps of a home is what the history says of it, and so is what the correspondent part of a mobile keeps.
 pub fn nodes_keep_what_was_accepted()
     ensures held { (s : Setup) (events : List Event) (n : ℕ) (own : Address) (room : ℕ) (home : Address) → slice_get s.hosts n ≡ Some (record { address = own; kind = Correspondent room })
         → option_map (λ a. a.0) (held_of (known_in (run_of s events) n room) (now_in s (run_of s events)) home) ≡ held_in s (run_of s events).past n home.0 }
@@ -71,6 +73,12 @@ pub fn nodes_keep_what_was_accepted()
         → floor_of (known_in (run_of s events) n room) (now_in s (run_of s events)) home ≡ floor (accepted_by s.start (run_of s events).past n) home.0 (now_in s (run_of s events)) }
     ensures full { (s : Setup) (events : List Event) (n : ℕ) (own : Address) (room : ℕ) (home : Address) → slice_get s.hosts n ≡ Some (record { address = own; kind = Correspondent room })
         → is_full_for (known_in (run_of s events) n room) (now_in s (run_of s events)) home ≡ is_full room (accepted_by s.start (run_of s events).past n) home.0 (now_in s (run_of s events)) }
+    ensures part_held { (s : Setup) (events : List Event) (n : ℕ) (own : Address) (agent : Option Address) (home : Address) → slice_get s.hosts n ≡ Some (record { address = own; kind = Mobile agent })
+        → option_map (λ a. a.0) (held_of (mobile_known_in s (run_of s events) n own agent).part.known (now_in s (run_of s events)) home) ≡ held_in s (run_of s events).past n home.0 }
+    ensures part_floor { (s : Setup) (events : List Event) (n : ℕ) (own : Address) (agent : Option Address) (home : Address) → slice_get s.hosts n ≡ Some (record { address = own; kind = Mobile agent })
+        → floor_of (mobile_known_in s (run_of s events) n own agent).part.known (now_in s (run_of s events)) home ≡ floor (accepted_by s.start (run_of s events).past n) home.0 (now_in s (run_of s events)) }
+    ensures part_full { (s : Setup) (events : List Event) (n : ℕ) (own : Address) (agent : Option Address) (home : Address) → slice_get s.hosts n ≡ Some (record { address = own; kind = Mobile agent })
+        → is_full_for (mobile_known_in s (run_of s events) n own agent).part.known (now_in s (run_of s events)) home ≡ is_full part_room (accepted_by s.start (run_of s events).past n) home.0 (now_in s (run_of s events)) }
 {}
 
 /// Moments do not fall, and time goes on by what the schedule waits.
@@ -124,7 +132,7 @@ pub fn homes_pass_to_their_mobiles()
 {}
 
 /// In the permitted history of every schedule whose waits are at most 36,000 s together, as those of one that was read
-/// are, a correspondent accepts the same update again in one life only where the sequences of its home have gone round since
+/// are, a node accepts the same update again in one life only where the sequences of its home have gone round since
 /// then. Until its home nonce is no longer valid, the last sequence is kept. RFC 6275 sections 5.2.2 and 9.5.1.
 pub fn repeats_come_after_rounds()
     ensures { (c : Content) → sum_by waited_by c.events ≤ 36000000 → RepeatsAfterRounds (setup_of c) (permitted c) }
