@@ -1,3 +1,4 @@
+use Rattle.std.specs.Prelude.{false}
 use Rattle.mip_history.specs.Permitted.{run_of}
 use Rattle.mip_history.proofs.Events.{run_passes}
 use Rattle.mip_history.proofs.Waiting.{works_until_within}
