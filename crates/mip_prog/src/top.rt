@@ -8,6 +8,7 @@ ghost use Rattle.mip_history.specs.Setup.{setup_of};
 ghost use Rattle.mip_history.specs.Permitted.{permitted};
 ghost use Rattle.mip_origin.specs.Marked.{EachIsMarked};
 ghost use Rattle.mip_replay.specs.Bindings.{EachIsBound, EachRepeatIsLate};
+ghost use Rattle.mip_replay.specs.Homes.{HomesAreSent};
 ghost use Rattle.mip_prog.specs.Commands.{command_of, takes_nothing};
 ghost use Rattle.mip_prog.specs.Answers.{answer_of, form_answer};
 ghost use Rattle.mip_prog.specs.Told.{IsAnswered, IsStatus, Told};
@@ -21,7 +22,9 @@ use crate::status::Status;
 use crate::telling::tell_reply;
 use crate::writing::tell;
 use mip_outside::{Clock, Link, Sink, Source};
-use mip_replay::{each_acceptance_is_marked, each_is_bound, each_repeat_is_late};
+use mip_replay::{
+    each_acceptance_is_marked, each_home_is_sent, each_is_bound, each_repeat_is_late,
+};
 use mip_words::Memory;
 use std::alloc::Global;
 
@@ -45,6 +48,9 @@ pub fn mip<S: Source, K: Sink, C: Clock, L: Link>(
     ensures bound { IfSome (S.left source.old) (λ bytes. IfOk (reading bytes) (λ c. EachIsBound (setup_of c) (permitted c))) }
     // In it the same update is accepted again in one life only where its sequences have gone round.
     ensures repeats { IfSome (S.left source.old) (λ bytes. IfOk (reading bytes) (λ c. EachRepeatIsLate (setup_of c) (permitted c))) }
+    // In it the mobile with that home had sent the update of each registered care-of address under its shield; it changes only
+    // by such an update, or by the end of its time.
+    ensures homes { IfSome (S.left source.old) (λ bytes. IfOk (reading bytes) (λ c. HomesAreSent (setup_of c) (permitted c))) }
     // In it each accepted update is followed by its mark. Where that is an origin, both tokens had reached whoever made
     // the update before its first packet was posted.
     ensures marked { IfSome (S.left source.old) (λ bytes. IfOk (reading bytes) (λ c. EachIsMarked (setup_of c) (permitted c))) }
@@ -68,6 +74,7 @@ pub fn mip<S: Source, K: Sink, C: Clock, L: Link>(
     let _ = link;
     each_is_bound();
     each_repeat_is_late();
+    each_home_is_sent();
     each_acceptance_is_marked();
     match parse(words) {
         None => tell(sink, b"usage: mip COMMAND\n", Status::USAGE),

@@ -17,6 +17,9 @@ returns-in-None-clause-bound g c = if_told _ (λ text x read. c.each_is_bound.en
 pub returns-in-None-clause-repeats : goal.returns-in-None-clause-repeats
 returns-in-None-clause-repeats g c = if_told _ c.each_repeat_is_late.ensures (g.S.Source.left c.args.source.now)
 
+pub returns-in-None-clause-homes : goal.returns-in-None-clause-homes
+returns-in-None-clause-homes g c = if_told _ (λ text x read. c.each_home_is_sent.ensures x) (g.S.Source.left c.args.source.now)
+
 pub returns-in-None-clause-marked : goal.returns-in-None-clause-marked
 returns-in-None-clause-marked g c = if_told _ c.each_acceptance_is_marked.ensures (g.S.Source.left c.args.source.now)
 
@@ -31,6 +34,12 @@ returns-in-Some-Reads-clause-repeats g c = if_told _ c.each_repeat_is_late.ensur
 
 pub returns-in-Some-Makes-clause-repeats : goal.returns-in-Some-Makes-clause-repeats
 returns-in-Some-Makes-clause-repeats g c = if_told _ c.each_repeat_is_late.ensures (g.S.Source.left c.args.source.now)
+
+pub returns-in-Some-Reads-clause-homes : goal.returns-in-Some-Reads-clause-homes
+returns-in-Some-Reads-clause-homes g c = if_told _ (λ text x read. c.each_home_is_sent.ensures x) (g.S.Source.left c.args.source.now)
+
+pub returns-in-Some-Makes-clause-homes : goal.returns-in-Some-Makes-clause-homes
+returns-in-Some-Makes-clause-homes g c = if_told _ (λ text x read. c.each_home_is_sent.ensures x) (g.S.Source.left c.args.source.now)
 
 pub returns-in-Some-Reads-clause-marked : goal.returns-in-Some-Reads-clause-marked
 returns-in-Some-Reads-clause-marked g c = if_told _ c.each_acceptance_is_marked.ensures (g.S.Source.left c.args.source.now)
