@@ -1,4 +1,4 @@
-//! The run of a schedule and its permitted history, as definitions; the entries of `mip_entries` again.
+//! The run of a schedule and its permitted history, as definitions; the entries of `mip_entries` and the marks of `mip_marks` again.
 #![tactic(auto)]
 
 mod laws;
@@ -11,3 +11,4 @@ pub use laws::{
     registrations_have_their_update, repeats_come_after_rounds, work_stays_within_its_wait,
 };
 pub use mip_entries::{Answer, Answers, Entry, History, UpdateSeen};
+pub use mip_marks::{Mark, Watch};
