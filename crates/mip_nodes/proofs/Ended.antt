@@ -6,7 +6,7 @@ use Rattle.mip_entries.specs.declared.answer.Answer.{Answer}
 use Rattle.mip_turns.proofs.TurnLaws.{noted-now}
 use Rattle.mip_turns.proofs.ShowLaws.{shows-answers}
 use Rattle.mip_rules_mobile.specs.Calls.{Call}
-use Rattle.mip_rules_mobile.specs.Steps.{Called, Notes, Drops, answer_of, answers_of}
+use Rattle.mip_rules_mobile.specs.Steps.{Called, Parts, Notes, Drops, answer_of, answers_of}
 use Rattle.mip_rules_mobile.specs.Known.{Known}
 use Rattle.mip_rules_mobile.specs.Questions.{after}
 use Rattle.mip_rules_mobile.specs.Turns.{Turn, begun}
@@ -21,6 +21,7 @@ pub call-now : (k : Known) (now : ℕ) (c : Call) → (turn_of k now c).now ≡ 
 call-now k now c =
     every-call c (λ (t : Turn). t.now ≡ now)
     (λ step t steady fits is. noted-now after step t ∙ is)
+    (λ call t is. noted-now after (Parts call) t ∙ is)
     (λ entry t own is. noted-now after (Notes entry) t ∙ is)
     (λ step t ack fits is. noted-now after step t ∙ is)
     (λ step t move fits is. noted-now after step t ∙ is)

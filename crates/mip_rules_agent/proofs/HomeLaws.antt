@@ -156,7 +156,7 @@ unfolding does
 hear-quiet me k now agent preference life = called-quiet now k (calls.Hear agent preference life)
 
 -- no registration is none of a home
-of_home_none : (home : Address) (steps : List Step) → list_any is_registration steps ≡ false → list_any (is_registration_of home) steps ≡ false
+pub of_home_none : (home : Address) (steps : List Step) → list_any is_registration steps ≡ false → list_any (is_registration_of home) steps ≡ false
 of_home_none home [] none = refl
 of_home_none home (Registers number h b ∷ steps) none = absurd cc
 of_home_none home (Called call ∷ steps) none = of_home_none home steps none
@@ -214,7 +214,7 @@ module _ (me : Identity) (k : Known) (now number : ℕ) (shield : Option Shield)
       by true is = refl
       by false is = absurd cc
 
-  becomes : binding_of (turn_of me k now call).known home ≡ Some (binding_for now (registered_of is.update) is.update.sequence is.granted)
+  pub becomes : binding_of (turn_of me k now call).known home ≡ Some (binding_for now (registered_of is.update) is.update.sequence is.granted)
   becomes =
       let s = judged-sound in
       let b = binds-call home me k now call served in

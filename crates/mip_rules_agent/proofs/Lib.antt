@@ -13,3 +13,4 @@ pub mod HomeLaws
 pub mod Refusals
 pub mod Sayings
 pub mod Ended
+pub mod Shielding

@@ -1,7 +1,7 @@
 -- What a home agent does about a packet that it is handed: it registers nothing, or at once the update in the packet, with
 -- the verdict Accept; where it registers nothing, its homes and their ends stay.
-use Rattle.std.proofs.Common.{◌≡◌, ℕ, List, ◌∷◌, Bool, true, false, ◌⊎◌, inl, inr, refl, ap, length}
-use Rattle.std.specs.Prelude.{Option, Some, None, Result, Ok, Err, not, ◌==◌, ◌||◌, ◌&&◌, nat_lt, if◌then◌else◌, is_some}
+use Rattle.std.proofs.Common.{◌≡◌, ℕ, List, ◌∷◌, Bool, true, false, ◌⊎◌, inl, inr, refl, sym, ap, length}
+use Rattle.std.specs.Prelude.{Option, Some, None, Result, Ok, Err, not, ◌==◌, ◌||◌, ◌&&◌, nat_lt, if◌then◌else◌, is_some, slice_index}
 use Rattle.std.specs.List.{list_any}
 use Rattle.std.proofs.lemmas.Bool.{cond_both, eqb-true}
 use Rattle.mip_words.specs.Steps.{◌>>=◌}
@@ -19,6 +19,7 @@ use Rattle.mip_mobhdr.specs.declared.fault.Fault.{Fault}
 use Rattle.mip_mobhdr.specs.Said.{Said}
 use Rattle.mip_mobhdr.specs.Said.Said.{Refresh, HomeInit, CareofInit, HomeTest, CareofTest, Update, Acknowledgement, Error}
 use Rattle.mip_mobhdr.specs.Reading.{type_in, options_in, refresh_of, home_init_of, careof_init_of, home_test_of, careof_test_of, update_of, acknowledgement_of, error_of, fields_of, message_of}
+use Rattle.mip_written.proofs.Messages.{message_reads}
 use Rattle.mip_tunnel.specs.Tunnel.{hop_of}
 use Rattle.mip_outside.specs.declared.claim.Claim.{Claim}
 use Rattle.mip_turns.specs.Turns.{noted_by}
@@ -74,6 +75,9 @@ module _ (body : List ℕ) (s : ℕ) (a h l k : Bool) (t : ℕ) (o : Values) whe
       by : (r : Result ℕ Fault) → (r >>= (λ type. fields_of type body)) ≡ Ok (Update s a h l k t o) → update_of body ≡ Ok (Update s a h l k t o)
       by (Ok type) e = update_fields type e
       by (Err fault) e = absurd cc
+
+  pub update_type : (source destination : Address) → message_of source destination body ≡ Ok (Update s a h l k t o) → slice_index body 2 ≡ 5
+  update_type source destination e = let reads = message_reads source destination body (Update s a h l k t o) e in sym reads.type_is
 
 -- what passes the checks is the message of the packet
 passes_home : (holds : Bool) (home : Option Address) (r : Result (Option Said) Refusal) (m : Option Said) → then_home holds home r ≡ Ok m → r ≡ Ok m
@@ -220,6 +224,7 @@ module _ (me : Identity) (k : Known) (now number : ℕ) (shield : Option Shield)
         packet = p;
         read = read;
         mobility = message_proto place p (Update s a f l key t o) is;
+        of_type = update_type p.body s a f l key t o (source_of p.head) (destination_of p.head) (message_read place p (Update s a f l key t o) is);
         asks = ap (registration_said p.head.source p.head.home)
             (update_read p.body s a f l key t o (source_of p.head) (destination_of p.head) (message_read place p (Update s a f l key t o) is));
       })

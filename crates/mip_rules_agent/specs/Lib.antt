@@ -16,3 +16,4 @@ pub mod Pasts
 pub mod Ends
 pub mod Claims
 pub mod Sayings
+pub mod Shielding

@@ -1,5 +1,5 @@
 -- What a call registers: the update in the packet that was handed over, at once, with the verdict Accept.
-use Rattle.std.specs.Prelude.{◌≡◌, ℕ, List, ◌∷◌, true, false, Option, Some, Ok}
+use Rattle.std.specs.Prelude.{◌≡◌, ℕ, List, ◌∷◌, true, false, Option, Some, Ok, slice_index}
 use Rattle.std.specs.List.{list_any}
 use Rattle.mip_words.specs.Sequence.{is_after}
 use Rattle.mip_words.specs.declared.address.Address.{Address}
@@ -19,11 +19,12 @@ use Rattle.mip_rules_agent.specs.Verdicts.{verdict, binding_for}
 use Rattle.mip_rules_agent.specs.Rules.{bench, claim_with}
 use Rattle.mip_rules_agent.specs.Doing.{turn_of}
 
--- the packet has this update
+-- the packet has this update, a message of type 5
 pub record IsUpdateIn (bytes : List ℕ) (update : Registration) : Type 0 where
   pub packet : Packet
   pub read : packet_of bytes ≡ Ok packet
   pub mobility : packet.head.proto ≡ 135
+  pub of_type : slice_index packet.body 2 ≡ 5
   pub asks : registration_in packet.head.source packet.head.home packet.body ≡ Some update
 
 -- the update in the packet is accepted at once, with this verdict

@@ -24,6 +24,7 @@ ghost use Rattle.mip_rules_agent.specs.Soundness.{IsSound, IsBehind};
 ghost use Rattle.mip_rules_agent.specs.Sendings.{SendsOwn};
 ghost use Rattle.mip_rules_agent.specs.Sayings.{SaysNoOther};
 ghost use Rattle.mip_rules_agent.specs.Wholes.{IsWhole};
+ghost use Rattle.mip_rules_agent.specs.Shielding.{ShieldNoUpdate};
 ghost use Rattle.mip_rules_agent.specs.Taken.{IsUpdateTaken, IsRegisteredBy};
 ghost use Rattle.mip_rules_agent.specs.Pasts.{is_one_of, last_binding, is_claimed, last_plan, all_heard};
 ghost use Rattle.mip_rules_agent.specs.Ends.{AreInOrder, IsEndOf, has_end, AreUntil};
@@ -95,6 +96,11 @@ pub fn each_packet_is_its_own()
 /// makes none of its own.
 pub fn each_test_was_handed_over()
     ensures { (me : Identity) (k : Known) (now : ℕ) (c : Call) → AllByRecursion (SaysNoOther (bytes_of c)) (answers_of (turn_of me k now c).steps) }
+{}
+
+/// No packet that a call sends under a shield has a Binding Update: those have an acknowledgement, a prefix or a tunnel.
+pub fn no_update_goes_under_its_shield()
+    ensures { (me : Identity) (k : Known) (now : ℕ) (c : Call) → ShieldNoUpdate (answers_of (turn_of me k now c).steps) }
 {}
 
 /// A packet that is handed over leads to no registration, or at once to that of the update in it, with the verdict Accept

@@ -8,4 +8,5 @@ pub mod Sendings
 pub mod VerdictLaws
 pub mod Moments
 pub mod Taken
+pub mod Parted
 pub mod Answers

@@ -26,9 +26,16 @@ at-noted now step t silent is = (
   ap (λ (m : Moment). m.0) (last-noted step t ∙ ap (λ (b : Bool). if b then record { 0 = t.now } else t.known.last) silent) ∙ is.1,
 )
 
-pub call-last : (me : Identity) (k : Known) (now : ℕ) (c : Call) → (turn_of me k now c).known.last.0 ≡ now
+-- a call's turn is at this moment, and leaves it known
+call-at : (me : Identity) (k : Known) (now : ℕ) (c : Call) → IsAt now (turn_of me k now c)
 unfolding does
-call-last me k now c =
+call-at me k now c =
     let first = noted (Called c) (begun now k) in
-    let is = every-handles me c (IsAt now) (λ step t silent own is. at-noted now step t silent is) c refl first
-    (noted-now after (Called c) (begun now k), ap (λ (m : Moment). m.0) (last-noted (Called c) (begun now k))) in is.1
+    every-handles me c (IsAt now) (λ step t silent own is. at-noted now step t silent is) c refl first
+    (noted-now after (Called c) (begun now k), ap (λ (m : Moment). m.0) (last-noted (Called c) (begun now k)))
+
+pub call-now : (me : Identity) (k : Known) (now : ℕ) (c : Call) → (turn_of me k now c).now ≡ now
+call-now me k now c = let is = call-at me k now c in is.0
+
+pub call-last : (me : Identity) (k : Known) (now : ℕ) (c : Call) → (turn_of me k now c).known.last.0 ≡ now
+call-last me k now c = let is = call-at me k now c in is.1

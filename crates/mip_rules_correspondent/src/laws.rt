@@ -4,6 +4,7 @@ ghost use Rattle.std.specs.Prelude.{◌≡◌, ℕ, ◌≤◌, List, [], ◌<◌
 ghost use Rattle.std.specs.List.{list_any, AllByRecursion};
 ghost use Rattle.mip_words.specs.declared.address.Address.{Address};
 ghost use Rattle.mip_words.specs.declared.shield.Shield.{Shield};
+ghost use Rattle.mip_ipv6.specs.Packet.{Packet};
 ghost use Rattle.mip_tokens.specs.declared.kbm.Kbm.{Kbm};
 ghost use Rattle.mip_lists.specs.Last.{last_where};
 ghost use Rattle.mip_nonce.specs.Window.{IsValidAt};
@@ -20,14 +21,14 @@ ghost use Rattle.mip_rules_correspondent.specs.declared.verdict.Verdict.TheVaria
 ghost use Rattle.mip_rules_correspondent.specs.Soundness.{IsGenuine, IsSound, IsBehind};
 ghost use Rattle.mip_rules_correspondent.specs.Verdicts.{Bench, verdict};
 ghost use Rattle.mip_turns.specs.Pasts.{RisesFrom};
-ghost use Rattle.mip_rules_correspondent.specs.Calls.{Call, Take, Refresh, Send, Tick, is_tick};
+ghost use Rattle.mip_rules_correspondent.specs.Calls.{Call, Take, Part, Refresh, Send, Tick, is_tick};
 ghost use Rattle.mip_rules_correspondent.specs.Steps.{Step, answers_of, is_call, is_acceptance};
 ghost use Rattle.mip_rules_correspondent.specs.Questions.{known, held_of, floor_of, is_full_for};
 ghost use Rattle.mip_rules_correspondent.specs.Turns.{Turn, Stands, with_turn};
 ghost use Rattle.mip_rules_correspondent.specs.Pasts.{accepted_in};
 ghost use Rattle.mip_rules_correspondent.specs.Doing.{does, turn_of};
 ghost use Rattle.mip_rules_correspondent.specs.Sendings.{SendsOwn};
-ghost use Rattle.mip_rules_correspondent.specs.Taken.{IsUpdateTaken};
+ghost use Rattle.mip_rules_correspondent.specs.Taken.{IsUpdateTaken, IsUpdateParted};
 ghost use Rattle.mip_rules_correspondent.specs.Wholes.{IsWhole};
 
 /// The last moment known is that of the last call.
@@ -72,10 +73,12 @@ pub fn each_packet_is_its_own()
 {}
 
 /// A packet that is handed over leads to no acceptance, or at once to that of the update in it, with the verdict Accept on
-/// its bytes by what is kept of its home; nothing else does, but for the part of a mobile.
+/// its bytes by what is kept of its home; so does one that is handed to the part of a mobile, and nothing else does.
 pub fn what_is_accepted_was_taken()
     ensures taken { (me : Identity) (k : Known) (now number : ℕ) (shield : Option Shield) (bytes : List ℕ) → list_any is_acceptance (turn_of me k now (Take number shield bytes)).steps ≡ true
         → IsUpdateTaken me k now number shield bytes (turn_of me k now (Take number shield bytes)).steps }
+    ensures parted { (me : Identity) (k : Known) (now number : ℕ) (packet : Packet) → list_any is_acceptance (turn_of me k now (Part number packet)).steps ≡ true
+        → IsUpdateParted me k now number packet (turn_of me k now (Part number packet)).steps }
     ensures refreshed { (me : Identity) (k : Known) (now : ℕ) (home : Address) → list_any is_acceptance (turn_of me k now (Refresh home)).steps ≡ false }
     ensures sent { (me : Identity) (k : Known) (now : ℕ) (to : Address) (proto : ℕ) (payload : List ℕ) → list_any is_acceptance (turn_of me k now (Send to proto payload)).steps ≡ false }
     ensures ticked { (me : Identity) (k : Known) (now : ℕ) → list_any is_acceptance (turn_of me k now Tick).steps ≡ false }

@@ -26,7 +26,7 @@ use Rattle.mip_rules_mobile.specs.MovingRules.{registers_if_away, restarts}
 use Rattle.mip_rules_mobile.specs.Answering.{EachAnswer, LeavesRight, LeavesFrom, IsElsewhere, AreFrom, stays_put}
 use Rattle.mip_rules_mobile.specs.Doing.{does, handles, turn_of}
 use Rattle.mip_rules_mobile.proofs.Told.{home-kept}
-use Rattle.mip_rules_mobile.proofs.Steady.{Goes, Notings, standing-noted}
+use Rattle.mip_rules_mobile.proofs.Steady.{Goes, Askings, Notings, standing-noted}
 use Rattle.mip_rules_mobile.proofs.HomeWalks.{Acks, every-registers}
 use Rattle.mip_rules_mobile.proofs.OutWalks.{every-goes_out, every-asks_part, every-replies}
 use Rattle.mip_rules_mobile.proofs.RingWalks.{every-ticks_all}
@@ -43,7 +43,7 @@ AllStay home steps = AllByRecursion (Stays home) steps
 
 steady-stays : (home : Address) (step : Step) → kind_of step ≡ Steady → Stays home step
 steady-stays home (Called call) is = absurd cc
-steady-stays home (Parts call) is = refl
+steady-stays home (Parts call) is = absurd cc
 steady-stays home (Notes entry) is = absurd cc
 steady-stays home (Sends sending) is = refl
 steady-stays home (Unsends why) is = refl
@@ -122,6 +122,9 @@ module _ (c : Call) (home : Address) where
   more : Goes c (Puts home)
   more step t steady fits p = puts-noted home step t (steady-stays home step steady) p
 
+  asks : Askings (Puts home)
+  asks call t p = puts-noted home (Parts call) t refl p
+
   notes : Notings (Puts home)
   notes entry t own p = puts-noted home (Notes entry) t refl p
 
@@ -160,12 +163,12 @@ module _ (c : Call) (home : Address) where
       by (calls.Take number shield packet) is sure =
           every-takes c (Puts home) more acks (Puts home) (λ u q. q) t p (λ number why. drops number why t p)
           (λ number bytes source refusal. refuses-stay number bytes source refusal t p)
-          (λ number tunnelled packet message read mine. every-for_part c (Puts home) more notes number tunnelled packet message t p)
+          (λ number tunnelled packet message of read mine. every-for_part c (Puts home) more asks notes number tunnelled packet message t p)
           number shield packet is
       by calls.Tick is sure = every-ticks_all c (Puts home) more t p
-      by (calls.Send to proto payload) is sure = every-transmits c (Puts home) more notes to proto payload is t p
-      by (calls.Refresh other) is sure = every-asks_part c (Puts home) more notes (parts.Refresh other) tt t p
-      by calls.Ask is sure = every-solicits c (Puts home) more notes t p
+      by (calls.Send to proto payload) is sure = every-transmits c (Puts home) more asks notes to proto payload is t p
+      by (calls.Refresh other) is sure = every-asks_part c (Puts home) more asks notes (parts.Refresh other) tt t p
+      by calls.Ask is sure = every-solicits c (Puts home) more asks notes t p
       by (calls.Restart secrets) is sure = restart-stays secrets t p
       by (calls.Tunnel inner) is sure = every-goes_out c (Puts home) more (Given inner) t is p
 

@@ -9,7 +9,7 @@ use Rattle.mip_entries.specs.Stamped.{Stamped}
 use Rattle.mip_turns.specs.Turns.{StandsBy}
 use Rattle.mip_turns.proofs.TurnLaws.{noted-now, noted-known, stands-noted, stands-begun}
 use Rattle.mip_rules_mobile.specs.Calls.{Call}
-use Rattle.mip_rules_mobile.specs.Steps.{Step, Called, Notes, Drops, is_call}
+use Rattle.mip_rules_mobile.specs.Steps.{Step, Called, Parts, Notes, Drops, is_call}
 use Rattle.mip_rules_mobile.specs.Known.{Known}
 use Rattle.mip_rules_mobile.specs.Questions.{last_after, after, fresh, known}
 use Rattle.mip_rules_mobile.specs.Turns.{Turn, begun, noted, Stands, with_turn}
@@ -27,6 +27,7 @@ call-stands home declared secrets past k now c stands =
     let first = fresh home declared secrets in
     every-call c (λ (t : Turn). Stands home declared secrets (with_turn past t) t.known)
     (λ step t steady fits s. stands-noted after first past step t s)
+    (λ call t s. stands-noted after first past (Parts call) t s)
     (λ entry t own s. stands-noted after first past (Notes entry) t s)
     (λ step t ack fits s. stands-noted after first past step t s)
     (λ step t move fits s. stands-noted after first past step t s)
@@ -49,15 +50,22 @@ at-noted now step t is = (noted-now after step t ∙ is.0, ap (λ (m : Moment). 
     by true = is.0
     by false = is.1
 
-pub call-last : (k : Known) (now : ℕ) (c : Call) → (turn_of k now c).known.last.0 ≡ now
+-- a call's turn is at this moment, and leaves it known
+call-at : (k : Known) (now : ℕ) (c : Call) → IsAt now (turn_of k now c)
 unfolding does
-call-last k now c =
+call-at k now c =
     let first = noted (Called c) (begun now k) in
-    let is = every-handles c (IsAt now)
+    every-handles c (IsAt now)
     (λ step t steady fits is. at-noted now step t is)
+    (λ call t is. at-noted now (Parts call) t is)
     (λ entry t own is. at-noted now (Notes entry) t is)
     (λ step t ack fits is. at-noted now step t is)
     (λ step t move fits is. at-noted now step t is)
     (λ number why t is. at-noted now (Drops number why) t is)
-    first (noted-now after (Called c) (begun now k), ap (λ (m : Moment). m.0) (last-noted (Called c) (begun now k))) in
-    is.1
+    first (noted-now after (Called c) (begun now k), ap (λ (m : Moment). m.0) (last-noted (Called c) (begun now k)))
+
+pub call-now : (k : Known) (now : ℕ) (c : Call) → (turn_of k now c).now ≡ now
+call-now k now c = let is = call-at k now c in is.0
+
+pub call-last : (k : Known) (now : ℕ) (c : Call) → (turn_of k now c).known.last.0 ≡ now
+call-last k now c = let is = call-at k now c in is.1

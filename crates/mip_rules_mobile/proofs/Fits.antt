@@ -4,7 +4,7 @@ use Rattle.mip_entries.specs.Stamped.{stamped}
 use Rattle.mip_turns.specs.Turns.{known_by}
 use Rattle.mip_turns.proofs.TurnLaws.{noted-now, noted-known, noted-steps}
 use Rattle.mip_rules_mobile.specs.Calls.{Call}
-use Rattle.mip_rules_mobile.specs.Steps.{Step, Called, Notes, Drops}
+use Rattle.mip_rules_mobile.specs.Steps.{Step, Called, Parts, Notes, Drops}
 use Rattle.mip_rules_mobile.specs.Known.{Known}
 use Rattle.mip_rules_mobile.specs.Questions.{after}
 use Rattle.mip_rules_mobile.specs.Turns.{Turn, begun, noted}
@@ -50,6 +50,7 @@ pub call-along : (k : Known) (now : ℕ) (c : Call) → IsAlong c now k (turn_of
 call-along k now c =
     every-call c (IsAlong c now k)
     (λ step t steady fits is. along-noted c now k step t fits is)
+    (λ call t is. along-noted c now k (Parts call) t tt is)
     (λ entry t own is. along-noted c now k (Notes entry) t own is)
     (λ step t ack fits is. along-noted c now k step t fits is)
     (λ step t move fits is. along-noted c now k step t fits is)

@@ -20,3 +20,6 @@ pub mod Says
 pub mod Kept
 pub mod Refusals
 pub mod Away
+pub mod PartLives
+pub mod PartTurns
+pub mod Shielding

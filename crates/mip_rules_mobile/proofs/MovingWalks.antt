@@ -8,6 +8,7 @@ use Rattle.mip_outside.specs.declared.claim.Claim.TheVariants.{Held, Waiting, Ta
 use Rattle.mip_outside.specs.Places.{is_held}
 use Rattle.mip_rules_mobile.specs.declared.standing.Standing.{Standing}
 use Rattle.mip_rules_mobile.specs.declared.standing.Standing.TheVariants.{Detached, AtHome, Away}
+use Rattle.mip_rules_mobile.specs.Calls as calls
 use Rattle.mip_rules_mobile.specs.Calls.{Call}
 use Rattle.mip_rules_mobile.specs.Steps.{Step, Claims, Releases, FindsTaken, Arrives, Detaches, Restarts, Unbinds}
 use Rattle.mip_rules_mobile.specs.HomeQuestions.{home_of, agent_of}
@@ -87,15 +88,15 @@ module _ (c : Call) (P : Turn → Type 0) (more : Goes c P) where
         by true = p
         by false = every-arrives prefix of_address (leaves_first t.known.standing of_home t) (every-leaves_first t.known.standing of_home t p)
 
-    pub every-restarts : (secrets : Life) (t : Turn) → P t → P (restarts secrets t)
+    pub every-restarts : (secrets : Life) → c ≡ calls.Restart secrets → (t : Turn) → P t → P (restarts secrets t)
     unfolding restarts
-    every-restarts secrets t p = by t.known.standing refl
+    every-restarts secrets asked t p = by t.known.standing refl
       where
         first : Turn
         first = noted (Restarts secrets) t
 
         q : P first
-        q = moves (Restarts secrets) t refl tt p
+        q = moves (Restarts secrets) t refl asked p
 
         by : (s : Standing) → t.known.standing ≡ s → P (registers_if_away s first)
         by Detached here = q

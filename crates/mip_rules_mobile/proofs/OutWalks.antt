@@ -20,7 +20,7 @@ use Rattle.mip_rules_mobile.specs.HomeQuestions.{home_of, registered_agent}
 use Rattle.mip_rules_mobile.specs.Turns.{Turn, noted}
 use Rattle.mip_rules_mobile.specs.OutRules.{tunnels, goes_from, goes_out, passes_all, part_answers, asks_part, goes_back, replies}
 use Rattle.mip_rules_mobile.specs.Fitting.{IsAsked, IsOfPart, IsInner}
-use Rattle.mip_rules_mobile.proofs.Steady.{Goes, Notings, Stays, stays-noted, stays-told, staying, stays-here}
+use Rattle.mip_rules_mobile.proofs.Steady.{Goes, Askings, Notings, Stays, stays-asked, stays-told, staying, stays-here}
 use Rattle.mip_rules_mobile.proofs.PartAnswers.{IsPartAnswer, part-answers}
 
 module _ (c : Call) (P : Turn → Type 0) (more : Goes c P) where
@@ -47,7 +47,7 @@ of-part c s me now packet t stays is =
     subst (λ (n : ℕ). IsOfPart c t.known.part.identity n packet) (sym stays.moment)
     (subst (λ (i : Identity). IsOfPart c i now packet) (sym stays.identity) is)
 
-module _ (c : Call) (P : Turn → Type 0) (more : Goes c P) (notes : Notings P) where
+module _ (c : Call) (P : Turn → Type 0) (more : Goes c P) (asks : Askings P) (notes : Notings P) where
   every-passes : (s : Standing) (me : Identity) (now : ℕ) (answers : List Answer) → AllByRecursion (IsPartAnswer c me now) answers → (t : Turn) → Stays s me now t → P t → P (passes_all answers t)
   unfolding passes_all
   every-passes s me now [] all t stays p = p
@@ -64,7 +64,7 @@ module _ (c : Call) (P : Turn → Type 0) (more : Goes c P) (notes : Notings P) 
   every-asks_part call asked t p =
       every-passes t.known.standing t.known.part.identity t.now (part_answers t call)
       (part-answers c t.known.part.identity t.known.part.known t.now call asked) (noted (Parts call) t)
-      (stays-noted t.known.standing t.known.part.identity t.now (Parts call) t refl (stays-here t)) (more (Parts call) t refl tt p)
+      (stays-asked t.known.standing t.known.part.identity t.now call t (stays-here t)) (asks call t p)
 
 module _ (c : Call) (P : Turn → Type 0) (more : Goes c P) where
   pub every-replies : (source : Address) (bytes : List ℕ) (reply : Reply) (t : Turn) → P t → P (replies source bytes reply t)

@@ -40,6 +40,7 @@ use Rattle.mip_rules_mobile.specs.Turns.{Turn, noted}
 use Rattle.mip_rules_mobile.specs.HomeRules.{home_answered, takes_home_ack, registers}
 use Rattle.mip_rules_mobile.specs.IcmpRules.{agents_named, is_matched, drops_icmp, finds, takes_discovery_reply, is_from_agent, learns, takes_prefix_reply, by_icmp, takes_icmp}
 use Rattle.mip_rules_mobile.specs.ReceivingRules.{acks_by, takes_ack, takes_for_part, by_message, by_role, refuses, after_inner_checks, inner_standing, takes_inner, opens_with, opens_from, opens, after_checks, standing_of, receives, takes}
+use Rattle.mip_rules_mobile.specs.Part.{IsReadIn, Itself, Within}
 use Rattle.mip_rules_mobile.specs.Fitting.{IsHanded}
 use Rattle.mip_rules_mobile.proofs.Steady.{Goes, at-noted}
 use Rattle.mip_rules_mobile.proofs.Checks.{checked-in, in-proto, in-reads, opened-reads}
@@ -57,6 +58,13 @@ pub record IsTold (c : Call) (packet : Packet) (m : Said) : Type 0 where
 abbrev pub Tells : Call → Packet → Option Said → Type 0
 Tells c packet None = Unit {0}
 Tells c packet (Some m) = IsTold c packet m
+
+-- a packet that was handed over in this call, or stands in its tunnel
+pub record IsOfTake (c : Call) (number : ℕ) (packet : Packet) : Type 0 where
+  pub shield : Option Shield
+  pub bytes : List ℕ
+  pub call : c ≡ calls.Take number shield bytes
+  pub read : IsReadIn bytes packet
 
 -- a test that was told was handed over
 handed : {c : Call} {packet : Packet} {m : Said} {now kind : ℕ} {test : Test} (told : IsTold c packet m)
@@ -146,18 +154,18 @@ module _ (c : Call) (P : Turn → Type 0) (more : Goes c P) (acks : Acks c P) (Q
   every-message number tunnelled shield packet (Some (Update s a h l k t' o)) told = drops number whys.Role
 
   module _ (refusing : (number : ℕ) (bytes : List ℕ) (source : Address) (refusal : Refusal) → Q (refuses number bytes source refusal t))
-      (parting : (number : ℕ) (tunnelled : Bool) (packet : Packet) (message : Option Said) → message_in packet ≡ message → is_for_part packet.head.proto message ≡ true → Q (takes_for_part number tunnelled packet message t)) where
-    every-role : (number : ℕ) (tunnelled : Bool) (shield : Option Shield) (packet : Packet) (message : Option Said) → message_in packet ≡ message → Tells c packet message → Q (by_role number tunnelled shield packet message t)
+      (parting : (number : ℕ) (tunnelled : Bool) (packet : Packet) (message : Option Said) → IsOfTake c number packet → message_in packet ≡ message → is_for_part packet.head.proto message ≡ true → Q (takes_for_part number tunnelled packet message t)) where
+    every-role : (number : ℕ) (tunnelled : Bool) (shield : Option Shield) (packet : Packet) (message : Option Said) → IsOfTake c number packet → message_in packet ≡ message → Tells c packet message → Q (by_role number tunnelled shield packet message t)
     unfolding by_role
-    every-role number tunnelled shield packet message read told = by (is_for_part packet.head.proto message) refl
+    every-role number tunnelled shield packet message of read told = by (is_for_part packet.head.proto message) refl
       where
         by : (mine : Bool) → is_for_part packet.head.proto message ≡ mine → Q (if mine then takes_for_part number tunnelled packet message t else by_message number tunnelled shield packet message t)
-        by true is = parting number tunnelled packet message read is
+        by true is = parting number tunnelled packet message of read is
         by false is = every-message number tunnelled shield packet message told
 
-    every-inner : (number : ℕ) (shield : Option Shield) (bytes : List ℕ) (packet : Packet) → ((m : Said) → message_in packet ≡ Some m → Tells c packet (Some m)) → Q (takes_inner number shield bytes packet t)
+    every-inner : (number : ℕ) (shield : Option Shield) (bytes : List ℕ) (packet : Packet) → IsOfTake c number packet → ((m : Said) → message_in packet ≡ Some m → Tells c packet (Some m)) → Q (takes_inner number shield bytes packet t)
     unfolding takes_inner
-    every-inner number shield bytes packet tells =
+    every-inner number shield bytes packet of tells =
         by (packet.head.proto == ipv6) (not (packet.head.destination.0 == (home_of t.known).0)) (is_some packet.head.route) ((packet.head.proto == mobility_header) && is_none shield)
         (checked (inner_standing t.known t.now packet.head) (place_in bytes packet) packet) refl
       where
@@ -174,14 +182,15 @@ module _ (c : Call) (P : Turn → Type 0) (more : Goes c P) (acks : Acks c P) (Q
         by false false false false (Err refusal) is = refusing number bytes packet.head.source refusal
         by false false false false (Ok message) is =
             let read = checked-in (inner_standing t.known t.now packet.head) (place_in bytes packet) packet message is in
-            every-role number true shield packet message read (passed message read)
+            every-role number true shield packet message of read (passed message read)
 
-    every-opens : (number : ℕ) (shield : Option Shield) (packet : Packet) → ((agent : Address) (inside : Packet) → opened agent packet ≡ Ok inside → (m : Said) → message_in inside ≡ Some m → Tells c inside (Some m)) → Q (opens number shield packet t)
+    every-opens : (number : ℕ) (shield : Option Shield) (packet : Packet) → ((agent : Address) (inside : Packet) → opened agent packet ≡ Ok inside → IsOfTake c number inside)
+        → ((agent : Address) (inside : Packet) → opened agent packet ≡ Ok inside → (m : Said) → message_in inside ≡ Some m → Tells c inside (Some m)) → Q (opens number shield packet t)
     unfolding opens
-    every-opens number shield packet tells = by (agent_of t.known t.now)
+    every-opens number shield packet of tells = by (agent_of t.known t.now)
       where
         opening : (agent : Address) (r : Result Packet ExitFault) → opened agent packet ≡ r → Q (opens_with number shield packet.body r t)
-        opening agent (Ok inside) is = every-inner number shield packet.body inside (tells agent inside is)
+        opening agent (Ok inside) is = every-inner number shield packet.body inside (of agent inside is) (tells agent inside is)
         opening agent (Err NotTunnel) is = drops number whys.Entry
         opening agent (Err (WrongEntry seen)) is = drops number whys.Entry
         opening agent (Err (Inner fault)) is = drops number (packet_why fault)
@@ -215,9 +224,15 @@ module _ (c : Call) (P : Turn → Type 0) (more : Goes c P) (acks : Acks c P) (Q
               ∙ carried_message packet.body inside m (opened-reads agent packet inside opens) (in-proto inside m is) (in-reads inside m is);
         }
 
+        itself : (packet : Packet) → packet_of bytes ≡ Ok packet → IsOfTake c number packet
+        itself packet read = record { shield = shield; bytes = bytes; call = call; read = Itself read }
+
+        inside_of : (packet : Packet) → packet_of bytes ≡ Ok packet → (agent : Address) (inside : Packet) → opened agent packet ≡ Ok inside → IsOfTake c number inside
+        inside_of packet read agent inside opens = record { shield = shield; bytes = bytes; call = call; read = Within packet agent read opens }
+
         outer : (packet : Packet) → packet_of bytes ≡ Ok packet → (message : Option Said) → message_in packet ≡ message → (tunnel : Bool) → Q (if tunnel then opens number shield packet t else by_role number false shield packet message t)
-        outer packet read message is true = every-opens number shield packet (within packet read)
-        outer packet read message is false = every-role number false shield packet message is (straight packet read message is)
+        outer packet read message is true = every-opens number shield packet (inside_of packet read) (within packet read)
+        outer packet read message is false = every-role number false shield packet message (itself packet read) is (straight packet read message is)
 
         checks : (packet : Packet) → packet_of bytes ≡ Ok packet → (r : Result (Option Said) Refusal) → checked (standing_of t.known t.now packet.head) (place_in bytes packet) packet ≡ r → Q (after_checks number shield bytes packet r t)
         checks packet read (Err refusal) is = refusing number bytes packet.head.source refusal

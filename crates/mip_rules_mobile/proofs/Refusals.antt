@@ -54,7 +54,7 @@ use Rattle.mip_rules_mobile.specs.Refusing.{tells_of_refusal, is_refusal, tables
 use Rattle.mip_rules_mobile.proofs.Steady.{Goes}
 use Rattle.mip_rules_mobile.proofs.HomeWalks.{Acks}
 use Rattle.mip_rules_mobile.proofs.PeerWalks.{every-meets}
-use Rattle.mip_rules_mobile.proofs.ReceivingWalks.{every-takes}
+use Rattle.mip_rules_mobile.proofs.ReceivingWalks.{IsOfTake, every-takes}
 
 -- no refusal so far
 abbrev IsQuiet : Turn → Type 0
@@ -69,7 +69,7 @@ quiet-noted step t is quiet =
 
 steady-quiet : (step : Step) → kind_of step ≡ Steady → is_refusal step ≡ false
 steady-quiet (Called call) is = absurd cc
-steady-quiet (Parts call) is = refl
+steady-quiet (Parts call) is = absurd cc
 steady-quiet (Notes entry) is = absurd cc
 steady-quiet (Sends sending) is = refl
 steady-quiet (Unsends why) is = refl
@@ -283,9 +283,9 @@ module _ (c : Call) (t : Turn) (quiet : IsQuiet t) where
   refuse-keeps number bytes source refusal some =
       ap tables_of (replies-same source bytes refusal.reply (noted (Drops number refusal.why) t) ∙ dropped-same number refusal.why t)
 
-  part-keeps : (number : ℕ) (tunnelled : Bool) (packet : Packet) (message : Option Said) → message_in packet ≡ message → is_for_part packet.head.proto message ≡ true → Keeps (takes_for_part number tunnelled packet message t)
+  part-keeps : (number : ℕ) (tunnelled : Bool) (packet : Packet) (message : Option Said) → IsOfTake c number packet → message_in packet ≡ message → is_for_part packet.head.proto message ≡ true → Keeps (takes_for_part number tunnelled packet message t)
   unfolding takes_for_part asks_part
-  part-keeps number tunnelled packet message read mine = by message read mine tunnelled
+  part-keeps number tunnelled packet message of read mine = by message read mine tunnelled
     where
       call : parts.Call
       call = parts.Part number packet

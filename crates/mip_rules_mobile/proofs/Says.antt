@@ -2,7 +2,6 @@
 use Rattle.std.proofs.Common.{◌≡◌, ℕ, List, Bool, true, false, ◌⊎◌, inl, inr, refl, sym, ap, ◌∙◌, subst, arith}
 use Rattle.std.specs.Prelude.{Option, Some, None, is_some, Result, Ok, Err}
 use Rattle.mip_words.specs.declared.address.Address.{Address}
-use Rattle.mip_ipv6.specs.declared.head.Head.{Head}
 use Rattle.mip_ipv6.specs.declared.not_packet.NotPacket.{NotPacket}
 use Rattle.mip_ipv6.specs.Packet.{Packet, names_no_body}
 use Rattle.mip_ipv6.specs.Reading.{packet_of}
@@ -21,7 +20,6 @@ use Rattle.mip_reception.specs.Replies.{reply_packet}
 use Rattle.mip_updates.specs.declared.registration.Registration.{Registration}
 use Rattle.mip_updates.specs.Acks.{ack_packet}
 use Rattle.mip_rules_correspondent.specs.declared.identity.Identity.{Identity}
-use Rattle.mip_rules_correspondent.specs.Rules.{is_data}
 use Rattle.mip_rules_correspondent.specs.Doing as part_doing
 use Rattle.mip_rules_correspondent.specs.Calls as part_calls
 use Rattle.mip_rules_correspondent.specs.Sendings as parts
@@ -31,7 +29,7 @@ use Rattle.mip_rules_mobile.specs.Sendings.{Inner, OfPart, AsksHome, Given, Send
 use Rattle.mip_rules_mobile.specs.Known.{Known}
 use Rattle.mip_rules_mobile.specs.Doing.{turn_of}
 use Rattle.mip_rules_mobile.specs.Fitting.{IsAsked, IsInner, IsSentBy}
-use Rattle.mip_rules_mobile.specs.Answering.{EachAnswer, CanBeAsked, SaysOwn, NoTest, OwnHomeTest, OwnCareofTest, Asked, SaysRight}
+use Rattle.mip_rules_mobile.specs.Answering.{EachAnswer, SendsPlainData, SaysOwn, NoTest, OwnHomeTest, OwnCareofTest, Asked, SaysRight}
 use Rattle.mip_rules_mobile.proofs.Fits.{call-fits}
 use Rattle.mip_rules_mobile.proofs.Answers.{each-answer}
 
@@ -45,16 +43,6 @@ tunnel-says entry exit packet = by (packet_of (encapsulated entry exit packet)) 
         let back = read_back (tunnel_packet entry exit packet) q refl e in
         inl (carried_outer (encapsulated entry exit packet) q e back.proto ∙ ap carried back.body ∙ carried_lowered packet)
     by (Err fault) e = inr (subst SaysNoTest (sym (carried_is (encapsulated entry exit packet) ∙ ap said_if_read e)) tt)
-
--- data is no message and no packet
-not-mobility : (proto : ℕ) → is_data proto ≡ true → proto ≡ 135 → ⊥
-not-mobility proto is e = absurd (let both : is_data 135 ≡ true = subst (λ (p : ℕ). is_data p ≡ true) e is in cc)
-
-not-tunnel : (proto : ℕ) → is_data proto ≡ true → proto ≡ 41 → ⊥
-not-tunnel proto is e = absurd (let both : is_data 41 ≡ true = subst (λ (p : ℕ). is_data p ≡ true) e is in cc)
-
-data-says : (head : Head) (payload : List ℕ) → (is_data head.proto ≡ true) × (names_no_body head.proto ≡ false) → SaysNoTest (carried (data_packet head payload))
-data-says head payload can = data_says_no_test head payload can.1 (not-mobility head.proto can.0) (not-tunnel head.proto can.0)
 
 ack-says : (own : Address) (r : Registration) (status sequence lifetime : ℕ) (kbm : Option Kbm) → SaysNoTest (carried (ack_packet own r status sequence lifetime kbm))
 unfolding ack_packet authenticated_packet
@@ -75,7 +63,7 @@ reply-says own source bytes (ParameterProblem pointer) packet is = subst some is
     some None = Unit {0}
     some (Some p) = SaysNoTest (carried p)
 
-module _ (c : Call) (can : CanBeAsked c) (me : Identity) (now : ℕ) where
+module _ (c : Call) (plain : SendsPlainData c) (me : Identity) (now : ℕ) where
   none : (packet other : List ℕ) → packet ≡ other → SaysNoTest (carried other) → SaysOwn c me now packet
   none packet other is says = NoTest (subst (λ (p : List ℕ). SaysNoTest (carried p)) (sym is) says)
 
@@ -87,12 +75,12 @@ module _ (c : Call) (can : CanBeAsked c) (me : Identity) (now : ℕ) where
   part-says call (parts.SendsRefresh home careof) packet asked is = none packet _ is (message_says_no_test _ _ refl refl)
   part-says call (parts.SendsData to proto payload held) packet asked is =
       let sent : c ≡ calls.Send to proto payload = subst (IsAsked c) is.0 asked in
-      let able : (is_data proto ≡ true) × (names_no_body proto ≡ false) = subst CanBeAsked sent can in
+      let able : (names_no_body proto ≡ false) × (proto ≡ 135 → ⊥) × (proto ≡ 41 → ⊥) = subst SendsPlainData sent plain in
       none packet _ is.1 (held-says held able)
     where
-      held-says : (held : Option Address) → (is_data proto ≡ true) × (names_no_body proto ≡ false) → SaysNoTest (carried (part_doing.data_sent me to proto payload held))
-      held-says None able = data-says _ payload able
-      held-says (Some careof) able = data-says _ payload able
+      held-says : (held : Option Address) → (names_no_body proto ≡ false) × (proto ≡ 135 → ⊥) × (proto ≡ 41 → ⊥) → SaysNoTest (carried (part_doing.data_sent me to proto payload held))
+      held-says None able = data_says_no_test _ payload able.0 able.1 able.2
+      held-says (Some careof) able = data_says_no_test _ payload able.0 able.1 able.2
 
   inner-says : (home : Address) (inner : Inner) → IsInner c me now inner → SaysOwn c me now (inner_packet home inner)
   inner-says home (OfPart packet) is = part-says is.call is.sending packet is.asked is.is
@@ -120,11 +108,11 @@ module _ (c : Call) (can : CanBeAsked c) (me : Identity) (now : ℕ) where
   sending-says k (AsksCareof careof peer cookie) same is = NoTest (message_says_no_test _ _ refl refl)
   sending-says k (RegistersHome home careof agent sequence) same is = NoTest (message_says_no_test _ _ refl refl)
   sending-says k (DeregistersHome home agent sequence) same is = NoTest (message_says_no_test _ _ refl refl)
-  sending-says k (SendsData home careof to held proto payload) same is = NoTest (held-says held (subst CanBeAsked is.1 can))
+  sending-says k (SendsData home careof to held proto payload) same is = NoTest (held-says held (subst SendsPlainData is.1 plain))
     where
-      held-says : (held : Option Address) → (is_data proto ≡ true) × (names_no_body proto ≡ false) → SaysNoTest (carried (data_packet (data_head home careof to proto held) payload))
-      held-says None able = data-says _ payload able
-      held-says (Some other) able = data-says _ payload able
+      held-says : (held : Option Address) → (names_no_body proto ≡ false) × (proto ≡ 135 → ⊥) × (proto ≡ 41 → ⊥) → SaysNoTest (carried (data_packet (data_head home careof to proto held) payload))
+      held-says None able = data_says_no_test _ payload able.0 able.1 able.2
+      held-says (Some other) able = data_says_no_test _ payload able.0 able.1 able.2
   sending-says k (Discovers home careof identifier) same is = NoTest (data_says_no_test _ _ refl (λ e. omega (arith, e)) (λ e. omega (arith, e)))
   sending-says k (Solicits home careof agent identifier) same is = NoTest (data_says_no_test _ _ refl (λ e. omega (arith, e)) (λ e. omega (arith, e)))
 
@@ -136,8 +124,8 @@ module _ (c : Call) (can : CanBeAsked c) (me : Identity) (now : ℕ) where
       by true = message_says_no_test _ _ refl refl
       by false = message_says_no_test _ _ refl refl
 
-pub call-says : (k : Known) (now : ℕ) (c : Call) → CanBeAsked c → EachAnswer (SaysRight c now) now k (turn_of k now c).steps
-call-says k now c can =
+pub call-says : (k : Known) (now : ℕ) (c : Call) → SendsPlainData c → EachAnswer (SaysRight c now) now k (turn_of k now c).steps
+call-says k now c plain =
     each-answer (SaysRight c now) (λ k. Unit {0}) c now (λ k step i. tt) (λ k e is. tt)
-    (λ l x i is. sending-says c can l.part.identity now l x refl is) (λ l row u i is. update-says c can l.part.identity now u)
+    (λ l x i is. sending-says c plain l.part.identity now l x refl is) (λ l row u i is. update-says c plain l.part.identity now u)
     k (turn_of k now c).steps tt (call-fits k now c)

@@ -7,6 +7,7 @@ use Rattle.mip_turns.proofs.TurnLaws.{noted-now, noted-known}
 use Rattle.mip_words.specs.declared.address.Address.{Address}
 use Rattle.mip_rules_correspondent.specs.declared.identity.Identity.{Identity}
 use Rattle.mip_rules_mobile.specs.declared.standing.Standing.{Standing}
+use Rattle.mip_rules_correspondent.specs.Calls as parts
 use Rattle.mip_rules_mobile.specs.Calls.{Call}
 use Rattle.mip_rules_mobile.specs.Steps.{Step, Called, Parts, Notes, Sends, Unsends, Drops, Claims, Releases, FindsTaken, Arrives, Detaches, Restarts, Registers, Unregisters, IsRefused, Resequences, Seeks, SeeksAgain, GivesUp, Finds, Chooses, Learns, Meets, Tries, Updates, Forgets, Binds, Unbinds, Waits, Stops, Rings}
 use Rattle.mip_rules_mobile.specs.Known.{Known}
@@ -35,7 +36,7 @@ pub record Stays (s : Standing) (me : Identity) (now : ℕ) (t : Turn) : Type 0 
 
 steady-standing : (step : Step) (k : Known) → kind_of step ≡ Steady → standing_after k step ≡ k.standing
 steady-standing (Called call) k is = absurd cc
-steady-standing (Parts call) k is = refl
+steady-standing (Parts call) k is = absurd cc
 steady-standing (Notes entry) k is = absurd cc
 steady-standing (Sends sending) k is = refl
 steady-standing (Unsends why) k is = refl
@@ -68,7 +69,7 @@ steady-standing (Rings work) k is = refl
 
 steady-identity : (step : Step) (k : Known) (at : ℕ) → kind_of step ≡ Steady → (part_after k.part at step).identity ≡ k.part.identity
 steady-identity (Called call) k at is = absurd cc
-steady-identity (Parts call) k at is = refl
+steady-identity (Parts call) k at is = absurd cc
 steady-identity (Notes entry) k at is = absurd cc
 steady-identity (Sends sending) k at is = refl
 steady-identity (Unsends why) k at is = refl
@@ -112,6 +113,18 @@ stays-told s me now entry t stays = record {
   identity = identity-noted (Notes entry) t ∙ stays.identity;
   moment = noted-now after (Notes entry) t ∙ stays.moment;
 }
+
+-- a call of the correspondent part changes neither
+pub stays-asked : (s : Standing) (me : Identity) (now : ℕ) (call : parts.Call) (t : Turn) → Stays s me now t → Stays s me now (noted (Parts call) t)
+stays-asked s me now call t stays = record {
+  standing = standing-noted (Parts call) t ∙ stays.standing;
+  identity = identity-noted (Parts call) t ∙ stays.identity;
+  moment = noted-now after (Parts call) t ∙ stays.moment;
+}
+
+-- the correspondent part may be called
+abbrev pub Askings : (Turn → Type 0) → Type 0
+Askings P = (call : parts.Call) (t : Turn) → P t → P (noted (Parts call) t)
 
 -- an entry of the correspondent part may be left
 abbrev pub Notings : (Turn → Type 0) → Type 0

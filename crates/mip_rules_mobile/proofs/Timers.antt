@@ -150,7 +150,7 @@ late-length now (t ∷ ts) =
 -- no steady step makes more of them due
 late-kept : (c : Call) (now : ℕ) (k : Known) (step : Step) (ts : List Timer) → kind_of step ≡ Steady → Fits c now k step → late now (timers_after ts now step) ≤ late now ts
 late-kept c now k (Called call) ts is fits = absurd cc
-late-kept c now k (Parts call) ts is fits = omega arith
+late-kept c now k (Parts call) ts is fits = absurd cc
 late-kept c now k (Notes entry) ts is fits = absurd cc
 late-kept c now k (Sends sending) ts is fits = omega arith
 late-kept c now k (Unsends why) ts is fits = omega arith

@@ -21,7 +21,7 @@ use Rattle.mip_rules_mobile.specs.Turns.{Turn, noted}
 use Rattle.mip_rules_mobile.specs.OutRules.{asks_part}
 use Rattle.mip_rules_mobile.specs.ReceivingRules.{then_meets, takes_for_part, refuses}
 use Rattle.mip_rules_mobile.specs.Doing.{transmits_from, transmits, solicits_from, solicits, handles, does}
-use Rattle.mip_rules_mobile.proofs.Steady.{Goes, Notings}
+use Rattle.mip_rules_mobile.proofs.Steady.{Goes, Askings, Notings}
 use Rattle.mip_rules_mobile.proofs.OutWalks.{every-goes_out, every-asks_part, every-replies}
 use Rattle.mip_rules_mobile.proofs.HomeWalks.{Acks}
 use Rattle.mip_rules_mobile.proofs.PeerWalks.{every-meets}
@@ -29,7 +29,7 @@ use Rattle.mip_rules_mobile.proofs.MovingWalks.{Moves, every-leaves, every-attac
 use Rattle.mip_rules_mobile.proofs.RingWalks.{every-ticks_all}
 use Rattle.mip_rules_mobile.proofs.ReceivingWalks.{every-takes}
 
-module _ (c : Call) (P : Turn → Type 0) (more : Goes c P) (notes : Notings P) where
+module _ (c : Call) (P : Turn → Type 0) (more : Goes c P) (asks : Askings P) (notes : Notings P) where
   pub every-transmits : (to : Address) (proto : ℕ) (payload : List ℕ) → c ≡ calls.Send to proto payload → (t : Turn) → P t → P (transmits to proto payload t)
   unfolding transmits
   every-transmits to proto payload asked t p = by t.known.standing (bound_row_of t.known t.now to) refl
@@ -37,9 +37,9 @@ module _ (c : Call) (P : Turn → Type 0) (more : Goes c P) (notes : Notings P) 
       by : (s : Standing) (row : Option ℕ) → t.known.standing ≡ s → P (transmits_from s row to proto payload t)
       by (Away careof) (Some row) here =
           more (Sends (SendsData (home_of t.known) careof to (held_of t.known.part.known t.now to) proto payload)) t refl ((here, refl), asked) p
-      by (Away careof) None here = every-asks_part c P more notes (parts.Send to proto payload) asked t p
-      by Detached row here = every-asks_part c P more notes (parts.Send to proto payload) asked t p
-      by AtHome row here = every-asks_part c P more notes (parts.Send to proto payload) asked t p
+      by (Away careof) None here = every-asks_part c P more asks notes (parts.Send to proto payload) asked t p
+      by Detached row here = every-asks_part c P more asks notes (parts.Send to proto payload) asked t p
+      by AtHome row here = every-asks_part c P more asks notes (parts.Send to proto payload) asked t p
 
   pub every-solicits : (t : Turn) → P t → P (solicits t)
   unfolding solicits
@@ -60,7 +60,7 @@ module _ (c : Call) (P : Turn → Type 0) (more : Goes c P) (notes : Notings P) 
       first = asks_part (parts.Part number packet) t
 
       q : P first
-      q = every-asks_part c P more notes (parts.Part number packet) tt t p
+      q = every-asks_part c P more asks notes (parts.Part number packet) tt t p
 
       by : (met : Bool) → P (then_meets met packet first)
       by true = every-meets c P more (source_of packet.head) first q
@@ -70,7 +70,7 @@ module _ (c : Call) (P : Turn → Type 0) (more : Goes c P) (notes : Notings P) 
 abbrev pub Dropping : (Turn → Type 0) → Type 0
 Dropping P = (number : ℕ) (why : Why) (t : Turn) → P t → P (noted (Drops number why) t)
 
-module _ (c : Call) (P : Turn → Type 0) (more : Goes c P) (notes : Notings P) (acks : Acks c P) (moves : Moves c P) (drops : Dropping P) where
+module _ (c : Call) (P : Turn → Type 0) (more : Goes c P) (asks : Askings P) (notes : Notings P) (acks : Acks c P) (moves : Moves c P) (drops : Dropping P) where
   every-refuses : (number : ℕ) (bytes : List ℕ) (source : Address) (refusal : Refusal) (t : Turn) → P t → P (refuses number bytes source refusal t)
   unfolding refuses
   every-refuses number bytes source refusal t p =
@@ -86,13 +86,13 @@ module _ (c : Call) (P : Turn → Type 0) (more : Goes c P) (notes : Notings P) 
       by (calls.Take number shield packet) is =
           every-takes c P more acks P (λ u q. q) t p (λ number why. drops number why t p)
           (λ number bytes source refusal. every-refuses number bytes source refusal t p)
-          (λ number tunnelled packet message read mine. every-for_part c P more notes number tunnelled packet message t p)
+          (λ number tunnelled packet message of read mine. every-for_part c P more asks notes number tunnelled packet message t p)
           number shield packet is
       by calls.Tick is = every-ticks_all c P more t p
-      by (calls.Send to proto payload) is = every-transmits c P more notes to proto payload is t p
-      by (calls.Refresh home) is = every-asks_part c P more notes (parts.Refresh home) tt t p
-      by calls.Ask is = every-solicits c P more notes t p
-      by (calls.Restart secrets) is = every-restarts c P more moves secrets t p
+      by (calls.Send to proto payload) is = every-transmits c P more asks notes to proto payload is t p
+      by (calls.Refresh home) is = every-asks_part c P more asks notes (parts.Refresh home) tt t p
+      by calls.Ask is = every-solicits c P more asks notes t p
+      by (calls.Restart secrets) is = every-restarts c P more moves secrets is t p
       by (calls.Tunnel inner) is = every-goes_out c P more (Given inner) t is p
 
   pub every-call : ((t : Turn) → P t → P (noted (Called c) t)) → (t : Turn) → P t → P (does c t)

@@ -33,6 +33,11 @@ CanBeAsked (calls.Send to proto payload) = (is_data proto ≡ true) × (names_no
 CanBeAsked (calls.Tunnel inner) = 40 ≤ length inner
 CanBeAsked _ = Unit {0}
 
+-- what it is asked to send as data is no packet, no mobility message and no extension header
+abbrev pub SendsPlainData : Call → Type 0
+SendsPlainData (calls.Send to proto payload) = (names_no_body proto ≡ false) × (proto ≡ 135 → ⊥) × (proto ≡ 41 → ⊥)
+SendsPlainData _ = Unit {0}
+
 -- the entries that a mobile leaves beside those of its correspondent part
 abbrev pub is_mobiles : Entry → Bool
 is_mobiles (entries.Claimed who link address) = true

@@ -16,7 +16,7 @@ use Rattle.mip_rules_mobile.specs.Calls as calls
 use Rattle.mip_rules_mobile.specs.Calls.{Call}
 use Rattle.mip_rules_mobile.specs.Trials.{Change, HomeTest, CareofTest, makes}
 use Rattle.mip_rules_mobile.specs.Sendings.{Inner, OfPart, AsksHome, Given, Sending, FromHome, ByTunnel, AsksCareof, RegistersHome, DeregistersHome, SendsData, Discovers, Solicits, PeerUpdate}
-use Rattle.mip_rules_mobile.specs.Steps.{Step, Called, Notes, Sends, Drops, FindsTaken, Arrives, Detaches, Restarts, Registers, Tries, Updates, Binds, Waits}
+use Rattle.mip_rules_mobile.specs.Steps.{Step, Called, Parts, Notes, Sends, Drops, FindsTaken, Arrives, Detaches, Restarts, Registers, Tries, Updates, Binds, Waits}
 use Rattle.mip_rules_mobile.specs.Known.{Known}
 use Rattle.mip_rules_mobile.specs.HomeQuestions.{home_of}
 use Rattle.mip_rules_mobile.specs.RowQuestions.{peer_of_row, trial_of}
@@ -83,6 +83,7 @@ IsChangedBy c now _ = Unit {0}
 abbrev pub Fits : Call → ℕ → Known → Step → Type 0
 Fits c now k (Called call) = c ≡ call
 Fits c now k (Notes entry) = is_own entry ≡ true
+Fits c now k (Restarts secrets) = c ≡ calls.Restart secrets
 Fits c now k (Sends sending) = IsSentBy c now k sending
 Fits c now k (Updates row update) = IsUpdateOf now k row update
 Fits c now k (Tries row change) = IsChangedBy c now change
@@ -95,19 +96,21 @@ EachFits c now k [] = Unit {0}
 EachFits c now k (step ∷ steps) = Fits c now k step × EachFits c now (after k (record { at = now; step = step })) steps
 
 -- which steps change what others rest on, or tell of what did not change: a call begins, the mobile moves or restarts, a
--- binding is acknowledged, a packet is dropped, the correspondent part leaves an entry
+-- binding is acknowledged, a packet is dropped, the correspondent part is called or leaves an entry
 pub data Kind : Type 0 where
   OfCall : Kind
   OfMove : Kind
   OfAck : Kind
   OfDrop : Kind
   OfNote : Kind
+  OfAsk : Kind
   Steady : Kind
 
 abbrev pub kind_of : Step → Kind
 kind_of (Called call) = OfCall
 kind_of (Drops number why) = OfDrop
 kind_of (Notes entry) = OfNote
+kind_of (Parts call) = OfAsk
 kind_of (FindsTaken address holder) = OfMove
 kind_of (Arrives address) = OfMove
 kind_of Detaches = OfMove

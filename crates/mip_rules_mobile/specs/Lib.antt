@@ -19,8 +19,10 @@ pub mod IcmpRules
 pub mod ReceivingRules
 pub mod RingingRules
 pub mod Doing
+pub mod Part
 pub mod Told
 pub mod Kept
 pub mod Fitting
 pub mod Answering
 pub mod Refusing
+pub mod Shielding

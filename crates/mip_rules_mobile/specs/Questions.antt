@@ -19,9 +19,13 @@ use Rattle.mip_rules_mobile.specs.TimerQuestions.{timers_after}
 abbrev pub last_after : Known → ℕ → Step → Moment
 last_after k at step = if is_call step then record { 0 = at } else k.last
 
--- a correspondent part with room for sixteen homes, to which nothing happened yet
+-- how many homes its correspondent part keeps
+abbrev pub part_room : ℕ
+part_room = 16
+
+-- a correspondent part to which nothing happened yet
 abbrev pub fresh_part : Address → Life → CorrespondentSeen
-fresh_part home secrets = record { identity = record { own = home; secrets = secrets; room = 16 }; known = parts.fresh 16 }
+fresh_part home secrets = record { identity = record { own = home; secrets = secrets; room = part_room }; known = parts.fresh part_room }
 
 -- the correspondent part: what its calls make of it; a restart gives it new secrets
 abbrev pub part_after : CorrespondentSeen → ℕ → Step → CorrespondentSeen

@@ -9,11 +9,11 @@ ghost use Rattle.mip_lists.specs.Last.{since};
 ghost use Rattle.mip_bulist.specs.Timers.{AreDueFrom, AreInOrder};
 ghost use Rattle.mip_entries.specs.Stamped.{Stamped};
 ghost use Rattle.mip_rules_mobile.specs.declared.standing.Standing.TheVariants.{AtHome, Away};
-ghost use Rattle.mip_rules_mobile.specs.Calls.{Call, Take, Tick};
+ghost use Rattle.mip_rules_mobile.specs.Calls.{Call, Take, Tick, Restart};
 ghost use Rattle.mip_rules_mobile.specs.Sendings.{PeerUpdate};
 ghost use Rattle.mip_rules_mobile.specs.Steps.{Step, is_call, answers_of};
 ghost use Rattle.mip_rules_mobile.specs.Known.{Known};
-ghost use Rattle.mip_rules_mobile.specs.HomeQuestions.{standing_said, registered_said, latest_said, agent_said, owes_said, next_said, next_to};
+ghost use Rattle.mip_rules_mobile.specs.HomeQuestions.{home_of, standing_said, registered_said, latest_said, agent_said, owes_said, next_said, next_to};
 ghost use Rattle.mip_rules_mobile.specs.DiscoveryQuestions.{found_said, chosen_said, is_choice};
 ghost use Rattle.mip_rules_mobile.specs.Questions.{known};
 ghost use Rattle.mip_rules_mobile.specs.Turns.{Stands, with_turn};
@@ -21,8 +21,10 @@ ghost use Rattle.mip_rules_mobile.specs.Told.{last_told, next_in};
 ghost use Rattle.mip_rules_mobile.specs.Fitting.{IsUpdateOf, EachFits};
 ghost use Rattle.mip_rules_mobile.specs.Kept.{RowsGiven, IsMadeFrom};
 ghost use Rattle.mip_rules_mobile.specs.Refusing.{is_refusal, tables_of};
-ghost use Rattle.mip_rules_mobile.specs.Answering.{EachAnswer, CanBeAsked, IsWhole, LeavesRight, IsElsewhere, AreFrom, stays_put, SaysRight};
+ghost use Rattle.mip_rules_mobile.specs.Answering.{EachAnswer, CanBeAsked, SendsPlainData, IsWhole, LeavesRight, IsElsewhere, AreFrom, stays_put, SaysRight};
+ghost use Rattle.mip_rules_mobile.specs.Shielding.{AreShieldedFrom};
 ghost use Rattle.mip_rules_mobile.specs.Doing.{turn_of};
+ghost use Rattle.mip_rules_mobile.specs.Part.{part_of, part_life, IsPartTurn, is_restart, IsPartReborn};
 
 /// Whoever stands for a past knows what it leaves known.
 pub fn stands_for_what_is_known()
@@ -33,6 +35,20 @@ pub fn stands_for_what_is_known()
 pub fn stands_after_each_call()
     ensures { (home : Address) (declared : Option Address) (secrets : Life) (past : List (Stamped Step)) (k : Known) (now : ℕ) (c : Call) → Stands home declared secrets past k
         → Stands home declared secrets (with_turn past (turn_of k now c)) (turn_of k now c).known }
+{}
+
+/// The correspondent part is a correspondent with the home address, the secrets of the mobile's present life and room for
+/// sixteen homes: it knows what was done since the mobile last restarted, call by call.
+pub fn the_part_is_a_correspondent()
+    ensures { (home : Address) (declared : Option Address) (secrets : Life) (past : List (Stamped Step)) → (known home declared secrets past).part ≡ part_of home (part_life home secrets past) }
+{}
+
+/// A call of a mobile is nothing to its correspondent part, or one call of it at most, or a restart. The part accepts an update only
+/// where a packet is handed to the mobile: the update in it, or in the packet within its tunnel, with the verdict Accept on
+/// its bytes; and the mobile tells so at once. No entry of a mobile tells of an acceptance otherwise.
+pub fn each_call_is_one_of_the_part_at_most()
+    ensures called { (k : Known) (now : ℕ) (c : Call) → is_restart c ≡ false → IsPartTurn k now c (turn_of k now c).steps }
+    ensures reborn { (k : Known) (now : ℕ) (secrets : Life) → IsPartReborn secrets (turn_of k now (Restart secrets)).steps }
 {}
 
 /// Each step of a call fits where it is taken: a packet leaves from the address that the mobile stands at, a packet of its
@@ -91,9 +107,9 @@ pub fn away_packets_leave_from_the_careof_address()
 {}
 
 /// Whatever a mobile sends is a test of its own correspondent part, or says no test, or says what the packet said that it was
-/// asked to send: it passes on no other test.
+/// asked to send: it passes on no other test. What it is asked to send as data is no packet and no mobility message.
 pub fn each_test_is_its_own()
-    ensures { (k : Known) (now : ℕ) (c : Call) → CanBeAsked c → EachAnswer (SaysRight c now) now k (turn_of k now c).steps }
+    ensures { (k : Known) (now : ℕ) (c : Call) → SendsPlainData c → EachAnswer (SaysRight c now) now k (turn_of k now c).steps }
 {}
 
 /// A packet that is dropped, and an update that is denied, change nothing but the moments of the last calls: no binding, no
@@ -108,4 +124,11 @@ pub fn refused_changes_nothing()
 pub fn updates_are_of_tests_since_the_start()
     ensures trials { (home : Address) (declared : Option Address) (secrets : Life) (past : List (Stamped Step)) → RowsGiven past (known home declared secrets past).list.rows }
     ensures updates { (home : Address) (declared : Option Address) (secrets : Life) (past : List (Stamped Step)) (now row : ℕ) (u : PeerUpdate) → IsUpdateOf now (known home declared secrets past) row u → IsMadeFrom past row u.made }
+{}
+
+/// Each packet that a mobile sends under a shield is sent under one from its own home address, and that is the same after
+/// every past.
+pub fn shields_are_from_its_home()
+    ensures home { (home : Address) (declared : Option Address) (secrets : Life) (past : List (Stamped Step)) → home_of (known home declared secrets past) ≡ home }
+    ensures sent { (k : Known) (now : ℕ) (c : Call) → AreShieldedFrom (home_of k) (answers_of (turn_of k now c).steps) }
 {}

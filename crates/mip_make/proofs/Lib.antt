@@ -1,0 +1,5 @@
+pub mod FieldReads
+pub mod EventReads
+pub mod DrawnReads
+pub mod HeadReads
+pub mod MadeLaws

@@ -1,0 +1,5 @@
+pub mod Network
+pub mod Draws
+pub mod Drawn
+pub mod Made
+pub mod Summaries

@@ -1,0 +1,15 @@
+//! Schedules of any length from a seed, and the summary of a run.
+#![tactic(auto)]
+
+mod draw;
+mod drawn;
+mod draws;
+mod laws;
+mod making;
+mod network;
+mod summing;
+mod word;
+
+pub use laws::{each_is_lawful, each_is_valid};
+pub use making::make;
+pub use summing::summary;

@@ -1,0 +1,123 @@
+-- What the correspondent part of a mobile does about a packet: it accepts nothing, or at once the update in the packet, with
+-- the verdict Accept.
+use Rattle.std.proofs.Common.{◌≡◌, ℕ, List, [], ◌∷◌, Bool, true, false, ◌⊎◌, inl, inr, refl, ap}
+use Rattle.std.specs.Prelude.{Option, Some, None, Result, Ok, Err, ◌==◌, if◌then◌else◌}
+use Rattle.std.specs.Result.{result_ok}
+use Rattle.std.specs.List.{list_any}
+use Rattle.std.proofs.lemmas.Bool.{cond_both, eqb-true}
+use Rattle.mip_words.specs.declared.address.Address.{Address}
+use Rattle.mip_ipv6.specs.Packet.{Packet, source_of, destination_of}
+use Rattle.mip_mobhdr.specs.declared.fault.Fault.{Fault}
+use Rattle.mip_mobhdr.specs.Said.{Said}
+use Rattle.mip_mobhdr.specs.Said.Said.{Refresh, HomeInit, CareofInit, HomeTest, CareofTest, Update, Acknowledgement, Error}
+use Rattle.mip_mobhdr.specs.Reading.{message_of}
+use Rattle.mip_says.specs.Says.{message_in}
+use Rattle.mip_tokens.specs.declared.kbm.Kbm.{Kbm}
+use Rattle.mip_bcache.specs.declared.accepted.Accepted.{Accepted}
+use Rattle.mip_turns.specs.Turns.{noted_by}
+use Rattle.mip_updates.specs.declared.registration.Registration.{Registration}
+use Rattle.mip_updates.specs.Registrations.{registration, registration_said, registration_in}
+use Rattle.mip_updates.specs.Acks.{ack_packet}
+use Rattle.mip_rules_correspondent.specs.declared.identity.Identity.{Identity}
+use Rattle.mip_rules_correspondent.specs.declared.known.Known.{Known}
+use Rattle.mip_rules_correspondent.specs.declared.verdict.Verdict.{Verdict}
+use Rattle.mip_rules_correspondent.specs.declared.verdict.Verdict.TheVariants.{Refuse, Deny, Accept}
+use Rattle.mip_rules_correspondent.specs.Calls as calls
+use Rattle.mip_rules_correspondent.specs.Steps.{Called, Sends, Accepts, is_acceptance}
+use Rattle.mip_rules_correspondent.specs.Questions.{after}
+use Rattle.mip_rules_correspondent.specs.Turns.{Turn, begun, noted}
+use Rattle.mip_rules_correspondent.specs.Verdicts.{verdict}
+use Rattle.mip_rules_correspondent.specs.Rules.{answers_home_init, answers_careof_init, bench, denies, accepts, judged, takes_update, hands_up, by_message}
+use Rattle.mip_rules_correspondent.specs.Doing.{parts, does, turn_of}
+use Rattle.mip_rules_correspondent.specs.Taken.{IsUpdateParted}
+use Rattle.mip_rules_correspondent.proofs.Taken.{update_read}
+
+-- a packet with a message has a mobility header, and the message is read from it
+parted_proto : (p : Packet) (m : Said) → message_in p ≡ Some m → p.head.proto ≡ 135
+parted_proto p m =
+    cond_both (p.head.proto == 135) _ _ (λ (o : Option Said). o ≡ Some m → p.head.proto ≡ 135) (λ is e. eqb-true p.head.proto 135 is) (λ other e. absurd cc)
+
+some_result : (r : Result Said Fault) (m : Said) → result_ok r ≡ Some m → r ≡ Ok m
+some_result (Ok message) m e = cc
+some_result (Err fault) m e = absurd cc
+
+parted_read : (p : Packet) (m : Said) → message_in p ≡ Some m → message_of (source_of p.head) (destination_of p.head) p.body ≡ Ok m
+parted_read p m e = by (p.head.proto == 135) e
+  where
+    by : (b : Bool) → (if b then result_ok (message_of (source_of p.head) (destination_of p.head) p.body) else None) ≡ Some m → message_of (source_of p.head) (destination_of p.head) p.body ≡ Ok m
+    by true e = some_result (message_of (source_of p.head) (destination_of p.head) p.body) m e
+    by false e = absurd cc
+
+module _ (me : Identity) (k : Known) (now number : ℕ) (p : Packet) where
+  abbrev Is : Turn → Type 0
+  Is t = (t.now ≡ now) × ((list_any is_acceptance t.steps ≡ false) ⊎ IsUpdateParted me k now number p t.steps)
+
+  abbrev given : Turn
+  given = noted (Called (calls.Part number p)) (begun now k)
+
+  of_verdict : (r : Registration) → p.head.proto ≡ 135 → registration_in p.head.source p.head.home p.body ≡ Some r
+      → (v : Verdict) → verdict (bench me k now r) r p.body ≡ v → Is (judged me number r v given)
+  unfolding noted_by denies accepts
+  of_verdict r mobility asks (Refuse why) is = (refl, inl refl)
+  of_verdict r mobility asks (Deny status last kbm) is = (refl, inl refl)
+  of_verdict r mobility asks (Accept home a granted kbm) is = by r.ack
+    where
+      first : Turn
+      first = noted (Accepts number home a) given
+
+      by : (ack : Bool) → Is (let t : Turn = (if ack then noted (Sends (ack_packet me.own r 0 r.sequence granted (Some kbm))) first else first) in t)
+      by true = (
+        refl,
+        inr (record {
+          mobility = mobility;
+          registration = r;
+          asks = asks;
+          home = home;
+          accepted = a;
+          granted = granted;
+          kbm = kbm;
+          verdict_is = is;
+          rest = Sends (ack_packet me.own r 0 r.sequence granted (Some kbm)) ∷ [];
+          steps_are = refl;
+          none = refl;
+        }),
+      )
+      by false = (
+        refl,
+        inr (record {
+          mobility = mobility;
+          registration = r;
+          asks = asks;
+          home = home;
+          accepted = a;
+          granted = granted;
+          kbm = kbm;
+          verdict_is = is;
+          rest = [];
+          steps_are = refl;
+          none = refl;
+        }),
+      )
+
+  of_update : (r : Registration) → p.head.proto ≡ 135 → registration_in p.head.source p.head.home p.body ≡ Some r → Is (takes_update me number r p.body given)
+  unfolding takes_update noted_by after
+  of_update r mobility asks = of_verdict r mobility asks (verdict (bench me k now r) r p.body) refl
+
+  of_message : (m : Option Said) → message_in p ≡ m → Is (by_message me number p m given)
+  unfolding noted_by hands_up answers_home_init answers_careof_init
+  of_message None is = (refl, inl refl)
+  of_message (Some (HomeInit cookie options)) is = (refl, inl refl)
+  of_message (Some (CareofInit cookie options)) is = (refl, inl refl)
+  of_message (Some (Update s a h l key t o)) is =
+      of_update (registration p.head.source p.head.home s a h t o) (parted_proto p (Update s a h l key t o) is)
+      (ap (registration_said p.head.source p.head.home)
+      (update_read p.body s a h l key t o (source_of p.head) (destination_of p.head) (parted_read p (Update s a h l key t o) is)))
+  of_message (Some (Refresh options)) is = (refl, inl refl)
+  of_message (Some (HomeTest index cookie token options)) is = (refl, inl refl)
+  of_message (Some (CareofTest index cookie token options)) is = (refl, inl refl)
+  of_message (Some (Acknowledgement s key q t o)) is = (refl, inl refl)
+  of_message (Some (Error s home options)) is = (refl, inl refl)
+
+  pub parted_is : Is (turn_of me k now (calls.Part number p))
+  unfolding does parts
+  parted_is = of_message (message_in p) refl

@@ -1,0 +1,99 @@
+-- The correspondent part of a mobile: its past since the mobile last restarted, and what a call of the mobile is to it.
+-- RFC 6275 sections 9.5 and 11.1
+use Rattle.std.specs.Prelude.{◌≡◌, ℕ, List, [], ◌∷◌, fold, Bool, true, false, Option, option_map, Ok}
+use Rattle.std.specs.List.{list_any}
+use Rattle.mip_words.specs.declared.address.Address.{Address}
+use Rattle.mip_words.specs.declared.shield.Shield.{Shield}
+use Rattle.mip_ipv6.specs.Packet.{Packet}
+use Rattle.mip_ipv6.specs.Reading.{packet_of}
+use Rattle.mip_nonce.specs.Secrets.{Life}
+use Rattle.mip_nonce.specs.Window.{index_of}
+use Rattle.mip_bcache.specs.declared.accepted.Accepted.{Accepted}
+use Rattle.mip_tunnel.specs.Tunnel.{opened}
+use Rattle.mip_entries.specs.declared.entry.Entry.{Entry}
+use Rattle.mip_entries.specs.declared.entry.Entry.TheVariants as entries
+use Rattle.mip_entries.specs.Stamped.{Stamped}
+use Rattle.mip_rules_correspondent.specs.Calls as parts
+use Rattle.mip_rules_correspondent.specs.Steps as part_steps
+use Rattle.mip_rules_correspondent.specs.Turns.{with_turn}
+use Rattle.mip_rules_correspondent.specs.Questions as part_questions
+use Rattle.mip_rules_correspondent.specs.Seen.{CorrespondentSeen, turn_at}
+use Rattle.mip_rules_correspondent.specs.Taken.{IsUpdateParted}
+use Rattle.mip_rules_mobile.specs.Calls.{Call, Take, Restart}
+use Rattle.mip_rules_mobile.specs.Steps.{Step, Called, Parts, Notes, Restarts, myself}
+use Rattle.mip_rules_mobile.specs.Known.{Known}
+use Rattle.mip_rules_mobile.specs.Questions.{part_room}
+
+-- the secrets that the part has since the mobile last restarted, and what it did since
+pub record PartLife : Type 0 where
+  pub secrets : Life
+  pub past : List (Stamped part_steps.Step)
+
+-- the correspondent that it is
+abbrev pub part_of : Address → PartLife → CorrespondentSeen
+part_of home p = record { identity = record { own = home; secrets = p.secrets; room = part_room }; known = part_questions.known part_room p.past }
+
+-- a call of the part is a turn of it; a restart begins it anew
+abbrev pub part_goes_on : Address → PartLife → ℕ → Step → PartLife
+part_goes_on home p at (Parts call) = record { secrets = p.secrets; past = with_turn p.past (turn_at (part_of home p) at call) }
+part_goes_on home p at (Restarts secrets) = record { secrets = secrets; past = [] }
+part_goes_on home p at _ = p
+
+abbrev pub new_part : Life → PartLife
+new_part secrets = record { secrets = secrets; past = [] }
+
+-- the part of a mobile with this past
+unfoldable pub part_life : Address → Life → List (Stamped Step) → PartLife
+part_life home secrets past = fold (λ (p : PartLife) (s : Stamped Step). part_goes_on home p s.at s.step) (new_part secrets) past
+
+-- what the part reads: the packet that is handed to the mobile, or the one within its tunnel
+pub data IsReadIn (bytes : List ℕ) (packet : Packet) : Type 0 where
+  Itself : packet_of bytes ≡ Ok packet → IsReadIn bytes packet
+  Within : (outer : Packet) (entry : Address) → packet_of bytes ≡ Ok outer → opened entry outer ≡ Ok packet → IsReadIn bytes packet
+
+-- the entry of an update that the part accepted, as the mobile leaves it
+abbrev pub accepted_note : ℕ → Address → Accepted → Entry
+accepted_note number home a =
+    entries.Accepted myself number home 0 a.careof a.sequence a.end (index_of a.home_nonce) (option_map index_of a.careof_nonce)
+
+abbrev pub tells_of_acceptance : Entry → Bool
+tells_of_acceptance (entries.Accepted node number home binding careof sequence end i j) = true
+tells_of_acceptance _ = false
+
+-- a step that is something to the part: it is called, it begins anew, or the mobile tells that it accepted an update
+abbrev pub concerns_part : Step → Bool
+concerns_part (Parts call) = true
+concerns_part (Restarts secrets) = true
+concerns_part (Notes entry) = tells_of_acceptance entry
+concerns_part _ = false
+
+-- the part accepts the update in the packet that was handed to the mobile in this call, and the mobile tells so at once
+pub record IsPartTaken (k : Known) (now : ℕ) (c : Call) (steps : List Step) : Type 0 where
+  pub number : ℕ
+  pub shield : Option Shield
+  pub bytes : List ℕ
+  pub call : c ≡ Take number shield bytes
+  pub packet : Packet
+  pub read : IsReadIn bytes packet
+  pub taken : IsUpdateParted k.part.identity k.part.known now number packet (turn_at k.part now (parts.Part number packet)).steps
+  pub rest : List Step
+  pub steps_are : steps ≡ Called c ∷ Parts (parts.Part number packet) ∷ Notes (accepted_note number taken.home taken.accepted) ∷ rest
+  pub none : list_any concerns_part rest ≡ false
+
+-- what a call of the mobile is to its part, unless it is a restart: nothing; a call of it, in which it accepts nothing; or one
+-- in which it accepts an update
+pub data IsPartTurn (k : Known) (now : ℕ) (c : Call) (steps : List Step) : Type 0 where
+  Silent : list_any concerns_part steps ≡ false → IsPartTurn k now c steps
+  Asked : (call : parts.Call) (rest : List Step) → steps ≡ Called c ∷ Parts call ∷ rest → list_any concerns_part rest ≡ false
+      → list_any part_steps.is_acceptance (turn_at k.part now call).steps ≡ false → IsPartTurn k now c steps
+  Accepting : IsPartTaken k now c steps → IsPartTurn k now c steps
+
+abbrev pub is_restart : Call → Bool
+is_restart (Restart secrets) = true
+is_restart _ = false
+
+-- a restart begins the part anew, and then is nothing to it
+pub record IsPartReborn (secrets : Life) (steps : List Step) : Type 0 where
+  pub rest : List Step
+  pub steps_are : steps ≡ Called (Restart secrets) ∷ Restarts secrets ∷ rest
+  pub none : list_any concerns_part rest ≡ false
