@@ -11,10 +11,10 @@ use Rattle.mip_history.specs.Claims.{link_id}
 use Rattle.mip_history.specs.Nodes.{acts}
 use Rattle.mip_history.specs.Advertising.{Router, router_at, hears_of_router, hears_of_node, hears_of_first, hears_of_all, agents_hear, roams_on, mobile_told, mobiles_told, advertised}
 use Rattle.mip_history.proofs.Runs.{IsRun, Goes, goes_then, is_met}
-use Rattle.mip_history.proofs.Acting.{stays, noted_goes, is_take, acts_calmly}
+use Rattle.mip_history.proofs.Acting.{stays, noted_goes, is_grave, acts_calmly}
 
 -- an entry, and then a call
-noted_then : (s : Setup) (n : ℕ) (e : Entry) (call : Call) (run : Run) → IsRun s run → is_met e ≡ false → is_take call ≡ false → Goes s run (acts s n call (note e run))
+noted_then : (s : Setup) (n : ℕ) (e : Entry) (call : Call) (run : Run) → IsRun s run → is_met e ≡ false → is_grave call ≡ false → Goes s run (acts s n call (note e run))
 noted_then s n e call run is quiet calm =
     let first = noted_goes s run e is quiet in
     goes_then s run (note e run) _ first (acts_calmly s n call (note e run) first.run calm)

@@ -1,4 +1,4 @@
--- What a correspondent holds was accepted, and stands.
+-- What a node holds was accepted, and stands.
 use Rattle.std.proofs.Common.{◌≡◌, ℕ, ◌<◌, List, [], ◌∷◌, ◌++◌, Bool, true, false, refl, sym, ap, ◌∙◌, subst}
 use Rattle.std.specs.Prelude.{◌==◌, ◌&&◌, ◌||◌, Option, Some}
 use Rattle.std.specs.List.{list_any}
@@ -15,7 +15,7 @@ use Rattle.mip_binding.proofs.HeldLaws.{held_was_accepted}
 use Rattle.mip_entries.specs.declared.entry.Entry.{Entry}
 use Rattle.mip_entries.specs.declared.entry.Entry.TheVariants as entries
 use Rattle.mip_entries.specs.Completed.{node_id}
-use Rattle.mip_history.specs.Setup.{Setup, is_correspondent_at}
+use Rattle.mip_history.specs.Setup.{Setup}
 use Rattle.mip_history.specs.Questions.{moment_in}
 use Rattle.mip_history.specs.Bound.{accepted_by, held_in, is_accepted_for, accepted_entry, IsAccepted, HasAccepted, IsBound}
 use Rattle.mip_history.proofs.Runs.{Meets}
@@ -26,7 +26,7 @@ pub each_rest : {X : Type 0} (P : List X → X → Type 0) (front xs ys : List X
 each_rest {X = X} P front [] ys each = subst (λ (f : List X). EachAfter P f ys) (sym (append-nil front)) each
 each_rest {X = X} P front (x ∷ xs) ys each = subst (λ (f : List X). EachAfter P f ys) (append_assoc front (x ∷ []) xs) (each_rest P (front ++ x ∷ []) xs ys each.1)
 
--- every acceptance of a correspondent has the number 0
+-- every acceptance has the number 0
 and_true : (a b c : Bool) → (a ≡ true → c ≡ true) → (a && (b && c)) ≡ false → (a && b) ≡ false
 and_true true b true is e = by b e
   where
@@ -36,12 +36,11 @@ and_true true b true is e = by b e
 and_true true b false is e = let no : false ≡ true = is refl in absurd cc
 and_true false b c is e = refl
 
-module _ (s : Setup) (n home : ℕ) (corresponds : is_correspondent_at s n ≡ true) where
+module _ (s : Setup) (n home : ℕ) where
   numbered_zero : (front : List Entry) (node : NodeId) (k : ℕ) (of : Address) (binding : ℕ) (careof : Address) (sequence : ℕ) (end : Moment) (i : ℕ) (j : Option ℕ)
       → Meets s front (entries.Accepted node k of binding careof sequence end i j) → (n == node.0) ≡ true → (binding == 0) ≡ true
   numbered_zero front node k of binding careof sequence end i j is mine =
-      let m = is (subst (λ (x : ℕ). is_correspondent_at s x ≡ true) (eqb-true n node.0 mine) corresponds) in
-      let same = m.is in
+      let same = is.is in
       let zero_is : binding ≡ 0 = cc in
       eq-eqb binding 0 zero_is
 
@@ -57,7 +56,7 @@ module _ (s : Setup) (n home : ℕ) (corresponds : is_correspondent_at s n ≡ t
       ap (λ (b : Bool). b || list_any (is_accepted_for n home) es) (not_accepted front e each.0 parts.0)
       ∙ none_accepted (front ++ e ∷ []) es each.1 parts.1
 
-module _ (s : Setup) (past : List Entry) (each : EachAfter (Meets s) [] past) (n home careof : ℕ) (corresponds : is_correspondent_at s n ≡ true) where
+module _ (s : Setup) (past : List Entry) (each : EachAfter (Meets s) [] past) (n home careof : ℕ) where
   bound_at : (f : HeldFrom (accepted_by s.start past n) home (moment_in s.start past) careof) → IsPlaced n home f.acceptance.number f.acceptance past → IsBound s past n home careof
   bound_at f p =
       record {
@@ -72,7 +71,7 @@ module _ (s : Setup) (past : List Entry) (each : EachAfter (Meets s) [] past) (n
         away = f.away;
         in_time = subst (λ (end : ℕ). moment_in s.start past < end) (sym (ap (λ (a : Acceptance). a.end) p.is) ∙ ap (λ (end : Moment). end.0) end_is) f.in_time;
         this_life = p.this_life;
-        last = none_accepted s n home corresponds (p.before ++ entry ∷ []) p.after behind
+        last = none_accepted s n home (p.before ++ entry ∷ []) p.after behind
             (subst (λ (number : ℕ). list_any (is_numbered_for n home number) p.after ≡ false) (sym (ap (λ (a : Acceptance). a.number) p.is) ∙ binding_is) p.none_after);
         verdict_stands = subst (λ (k : ℕ). IsAccepted s p.before k m.number m.home m.accepted) node_is m.stands;
       }
@@ -85,7 +84,6 @@ module _ (s : Setup) (past : List Entry) (each : EachAfter (Meets s) [] past) (n
 
       m : HasAccepted s p.before (entries.Accepted p.node p.k p.of p.binding p.careof p.sequence p.end p.i p.j)
       m = each_at (Meets s) [] p.before (entries.Accepted p.node p.k p.of p.binding p.careof p.sequence p.end p.i p.j) p.after split
-          (subst (λ (x : ℕ). is_correspondent_at s x ≡ true) p.of_node corresponds)
 
       behind : EachAfter (Meets s) (p.before ++ entry ∷ []) p.after
       behind = each_rest (Meets s) [] (p.before ++ entry ∷ []) p.after (subst (λ (l : List Entry). EachAfter (Meets s) [] l) (sym (append_assoc p.before (entry ∷ []) p.after)) split)

@@ -16,6 +16,7 @@ use Rattle.mip_history.specs.Delivery.{handed_over, overheard_at, hears_there, h
 use Rattle.mip_history.proofs.Runs.{IsRun, IsQuiet, Goes, quiet_same, quiet_then, quiet_notes, quiet_heard, quiet_handed, quiet_run, goes_quietly, goes_then}
 use Rattle.mip_history.proofs.Posts.{quiet_overheard, overheard_posts}
 use Rattle.mip_history.proofs.Handing.{handed_to}
+use Rattle.mip_history.proofs.PartHanding.{handed_to_part}
 use Rattle.mip_history.proofs.Acting.{acts_goes}
 
 -- one entry that says nothing of all this
@@ -33,7 +34,8 @@ handed_goes s k n post link run is posted =
     let next = note (entries.Handed k (node_id n)) run in
     let quiet = quiet_handed s k (node_id n) run (slice_get_within run.posts k post posted) in
     goes_then s run next _ (goes_quietly s run next is quiet)
-    (acts_goes s n (Take k post.shield (handed_over post.packet link)) next (quiet_run s run next quiet is) (λ own room e. handed_to s k n post link run is posted own room e))
+    (acts_goes s n (Take k post.shield (handed_over post.packet link)) next (quiet_run s run next quiet is) (λ own room e. handed_to s k n post link run is posted own room e)
+    (λ own agent e. handed_to_part s k n post link run is posted own agent e))
 
 module _ (s : Setup) (k : ℕ) (post : Post) (link : Option ℕ) (run : Run) (is : IsRun s run) (posted : slice_get run.posts k ≡ Some post) where
   inside : k < length run.posts
@@ -67,7 +69,7 @@ pool_posted true posts k post e = e
 pool_posted false posts k post e = absurd cc
 
 quiet_without : (s : Setup) (k : ℕ) (run : Run) → IsQuiet s run (without k run)
-quiet_without s k run = record { pasts = refl; agents = refl; mobiles = refl; accepted = λ n mine. refl; moment = refl; life = λ n. refl; kept = λ kept. kept }
+quiet_without s k run = record { pasts = refl; agents = refl; mobiles = refl; accepted = λ n. refl; moment = refl; life = λ n. refl; kept = λ kept. kept }
 
 pub delivered_goes : (s : Setup) (run : Run) (k : ℕ) (keep : Bool) → IsRun s run → Goes s run (delivered s run k keep)
 unfolding delivered

@@ -31,7 +31,7 @@ use Rattle.mip_history.specs.Passing.{waited_by, restarted_by}
 use Rattle.mip_history.proofs.Runs.{IsRun, quiet_same, quiet_notes, is_met, goes_then}
 use Rattle.mip_history.proofs.Posts.{quiet_injected}
 use Rattle.mip_history.proofs.Claiming.{quiet_claims, quiet_gives_up}
-use Rattle.mip_history.proofs.Acting.{noted_goes, is_take, acts_calmly}
+use Rattle.mip_history.proofs.Acting.{noted_goes, is_grave, acts_calmly}
 use Rattle.mip_history.proofs.Deliveries.{delivered_goes, carried_goes}
 use Rattle.mip_history.proofs.Advertising.{advertised_goes}
 use Rattle.mip_history.proofs.Waiting.{waited_comes}
@@ -45,8 +45,8 @@ Happens s before event after = Passes s before after (waited_by event) (λ n. re
 noted_one : (s : Setup) (run : Run) (e : Entry) → IsRun s run → is_met e ≡ false → Passes s run (note e run) 0 (λ n. 0)
 noted_one s run e is quiet = quietly s run (note e run) is (quiet_notes s (e ∷ []) run (ap (λ (b : Bool). b || false) quiet))
 
--- a call in which no packet is handed over
-acted : (s : Setup) (n : ℕ) (call : Call) (run : Run) → IsRun s run → is_take call ≡ false → Passes s run (acts s n call run) 0 (λ n. 0)
+-- a call by which no packet is handed over
+acted : (s : Setup) (n : ℕ) (call : Call) (run : Run) → IsRun s run → is_grave call ≡ false → Passes s run (acts s n call run) 0 (λ n. 0)
 acted s n call run is calm = still s run _ (acts_calmly s n call run is calm)
 
 moves_goes : (s : Setup) (run : Run) (n : ℕ) (link : Option LinkId) → IsRun s run → Passes s run (moves s run n link) 0 (λ n. 0)
@@ -92,7 +92,7 @@ unfolding lost
 lost_goes s run k is = by (slice_index_or run.flying k false)
   where
     out : IsRun s (without k run)
-    out = record { nodes = is.nodes; agents = is.agents; mobiles = is.mobiles; kept = is.kept; pasts = is.pasts }
+    out = record { nodes = is.nodes; agents = is.agents; mobiles = is.mobiles; kept = is.kept; pasts = is.pasts; parts = is.parts }
 
     by : (b : Bool) → Passes s run (note (if b then entries.Lost k else entries.Idle) (without k run)) 0 (λ n. 0)
     by b = let p = one_of s (without k run) b (entries.Lost k) entries.Idle out refl refl in record { run = p.run; moment = p.moment; life = p.life }

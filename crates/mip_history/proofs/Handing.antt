@@ -1,5 +1,5 @@
 -- Deliveries: a packet that is handed to a node is the one that was posted, but for its hop limit.
-use Rattle.std.proofs.Common.{◌≡◌, ℕ, ◌<◌, List, Bool, true, false, length, ◌⊎◌, inl, inr, refl, sym, ap, ◌∙◌, subst}
+use Rattle.std.proofs.Common.{◌≡◌, ℕ, ◌<◌, List, [], ◌∷◌, ◌++◌, Bool, true, false, length, ◌⊎◌, inl, inr, refl, sym, ap, ◌∙◌, subst}
 use Rattle.std.specs.Prelude.{Option, Some, None, option_map, Result, Ok, Err, slice_get}
 use Rattle.std.specs.List.{list_any}
 use Rattle.std.proofs.lemmas.Option.{slice_get-map, slice_get_within}
@@ -11,12 +11,15 @@ use Rattle.mip_tunnel.specs.Tunnel.{lowered_packet, lowered_if_read}
 use Rattle.mip_tunnel.proofs.Tunnels.{packet_of_lowered}
 use Rattle.mip_binding.specs.Acceptance.{Acceptance}
 use Rattle.mip_binding.specs.Held.{floor, is_full}
+use Rattle.mip_entries.specs.declared.entry.Entry.{Entry}
 use Rattle.mip_entries.specs.declared.entry.Entry.TheVariants as entries
 use Rattle.mip_entries.specs.Completed.{node_id}
+use Rattle.mip_entries.specs.Stamped.{Stamped}
 use Rattle.mip_nonce.specs.Secrets.{Life}
 use Rattle.mip_rules_correspondent.specs.declared.identity.Identity.{Identity}
 use Rattle.mip_updates.specs.declared.registration.Registration.{Registration}
 use Rattle.mip_rules_correspondent.specs.Steps.{Step, is_acceptance}
+use Rattle.mip_rules_correspondent.specs.Questions.{known}
 use Rattle.mip_rules_correspondent.specs.Turns.{Turn}
 use Rattle.mip_updates.specs.Registrations.{registration_in, home_of}
 use Rattle.mip_rules_correspondent.specs.declared.verdict.Verdict.TheVariants.{Accept}
@@ -31,12 +34,13 @@ use Rattle.mip_links.specs.Table.{Post}
 use Rattle.mip_history.specs.Setup.{Setup, is_correspondent_host, is_correspondent_at}
 use Rattle.mip_history.specs.Setup.Kind.{Correspondent}
 use Rattle.mip_history.specs.Runs.{Run, note, past_at}
-use Rattle.mip_history.specs.Knowing.{link_or_first, identity_in, known_in, now_in}
+use Rattle.mip_history.specs.Questions.{moment_in, life_in}
+use Rattle.mip_history.specs.Knowing.{link_or_first, secrets_in, identity_in, known_in, now_in}
 use Rattle.mip_history.specs.Nodes.{turned}
 use Rattle.mip_history.specs.Delivery.{handed_over}
 use Rattle.mip_history.specs.Bound.{accepted_by, packet_in, judge_in, IsAccepted}
 use Rattle.mip_history.proofs.Numbered.{packet_numbered}
-use Rattle.mip_history.proofs.Runs.{IsRun, Goes, quiet_handed, quiet_run}
+use Rattle.mip_history.proofs.Runs.{IsPast, IsRun, Goes, quiet_handed, quiet_run}
 use Rattle.mip_history.proofs.Turns.{done, quiet_turn, accepting_turn}
 use Rattle.mip_rules_correspondent.proofs.Taken.{accepted_home, taken_is}
 
@@ -48,15 +52,15 @@ turned_quietly s n own run t is inside corresponds now none =
     (quiet_turn s n (link_or_first s own.0) run is inside corresponds t.steps none)
 
 -- what is handed over reads as what was posted
-record ReadsAs (bytes : List ℕ) (q : Packet) : Type 0 where
-  packet : Packet
-  read : packet_of bytes ≡ Ok packet
-  source : q.head.source ≡ packet.head.source
-  home : q.head.home ≡ packet.head.home
-  proto : q.head.proto ≡ packet.head.proto
-  body : q.body ≡ packet.body
+pub record ReadsAs (bytes : List ℕ) (q : Packet) : Type 0 where
+  pub packet : Packet
+  pub read : packet_of bytes ≡ Ok packet
+  pub source : q.head.source ≡ packet.head.source
+  pub home : q.head.home ≡ packet.head.home
+  pub proto : q.head.proto ≡ packet.head.proto
+  pub body : q.body ≡ packet.body
 
-reads_as : (bytes : List ℕ) (link : Option ℕ) (q : Packet) → packet_of (handed_over bytes link) ≡ Ok q → ReadsAs bytes q
+pub reads_as : (bytes : List ℕ) (link : Option ℕ) (q : Packet) → packet_of (handed_over bytes link) ≡ Ok q → ReadsAs bytes q
 reads_as bytes None q read = record { packet = q; read = read; source = refl; home = refl; proto = refl; body = refl }
 reads_as bytes (Some link) q read = by (packet_of bytes) refl (sym (packet_of_lowered bytes) ∙ read)
   where
@@ -73,9 +77,35 @@ reads_as bytes (Some link) q read = by (packet_of bytes) refl (sym (packet_of_lo
         }
     by (Err fault) is e = absurd cc
 
-bench_same : (own : Address) (secrets : Life) (now : ℕ) {a b : Option ℕ} {x y : Bool} → a ≡ b → x ≡ y
-    → (let k : Bench = record { own = own; secrets = secrets; now = now; floor = a; full = x } in k) ≡ record { own = own; secrets = secrets; now = now; floor = b; full = y }
-bench_same own secrets now p q = cc
+bench_same : (own : Address) (now : ℕ) {s t : Life} {a b : Option ℕ} {x y : Bool} → s ≡ t → a ≡ b → x ≡ y
+    → (let k : Bench = record { own = own; secrets = s; now = now; floor = a; full = x } in k) ≡ record { own = own; secrets = t; now = now; floor = b; full = y }
+bench_same own now o p q = cc
+
+-- the judge of a turn is the one of the history
+pub judge_same : (s : Setup) (past : List Entry) (n : ℕ) (own : Address) (secrets : Life) (room : ℕ) (steps : List (Stamped Step)) → secrets ≡ secrets_in s n (life_in past n) → IsPast s past steps n
+    → (r : Registration) (home : Address) → home ≡ home_of r
+    → bench (record { own = own; secrets = secrets; room = room }) (known room steps) (moment_in s.start past) r ≡ judge_in s past n own room home.0
+judge_same s past n own secrets room steps mine p r home same =
+    let now : ℕ = moment_in s.start past in
+    bench_same own now mine
+    (floor-answers room steps p.rises now (home_of r) p.early
+    ∙ ap (λ (xs : List Acceptance). floor xs (home_of r).0 now) p.accepted
+    ∙ ap (λ (h : Address). floor (accepted_by s.start past n) h.0 now) (sym same))
+    (full-answers room steps p.rises now (home_of r) p.early
+    ∙ ap (λ (xs : List Acceptance). is_full room xs (home_of r).0 now) p.accepted
+    ∙ ap (λ (h : Address). is_full room (accepted_by s.start past n) h.0 now) (sym same))
+
+-- a packet is handed over to a node
+module _ (s : Setup) (k n : ℕ) (post : Post) (before : Run) (is : IsRun s before) (posted : slice_get before.posts k ≡ Some post) where
+  pub handed_run : IsRun s (note (entries.Handed k (node_id n)) before)
+  handed_run = quiet_run s before (note (entries.Handed k (node_id n)) before) (quiet_handed s k (node_id n) before (slice_get_within before.posts k post posted)) is
+
+  pub handed_packet : packet_in (before.past ++ entries.Handed k (node_id n) ∷ []) k ≡ Some post.packet
+  handed_packet =
+      packet_numbered s (before.past ++ entries.Handed k (node_id n) ∷ []) k handed_run.kept.each
+      ∙ ap (λ (l : List (List ℕ)). slice_get l k) handed_run.kept.packets
+      ∙ slice_get-map (λ (p : Post). p.packet) before.posts k
+      ∙ ap (λ (o : Option Post). option_map (λ p. p.packet) o) posted
 
 module _ (s : Setup) (k n : ℕ) (post : Post) (link : Option ℕ) (before : Run) (is : IsRun s before) (posted : slice_get before.posts k ≡ Some post) (own : Address) (room : ℕ)
     (host_is : slice_get s.hosts n ≡ Some (record { address = own; kind = Correspondent room })) where
@@ -83,7 +113,7 @@ module _ (s : Setup) (k n : ℕ) (post : Post) (link : Option ℕ) (before : Run
   run = note (entries.Handed k (node_id n)) before
 
   run_is : IsRun s run
-  run_is = quiet_run s before run (quiet_handed s k (node_id n) before (slice_get_within before.posts k post posted)) is
+  run_is = handed_run s k n post before is posted
 
   inside : n < length s.hosts
   inside = slice_get_within s.hosts n (record { address = own; kind = Correspondent room }) host_is
@@ -91,26 +121,11 @@ module _ (s : Setup) (k n : ℕ) (post : Post) (link : Option ℕ) (before : Run
   corresponds : is_correspondent_at s n ≡ true
   corresponds = ap is_correspondent_host host_is
 
-  told : packet_in run.past k ≡ Some post.packet
-  told =
-      packet_numbered s run.past k run_is.kept.each
-      ∙ ap (λ (l : List (List ℕ)). slice_get l k) run_is.kept.packets
-      ∙ slice_get-map (λ (p : Post). p.packet) before.posts k
-      ∙ ap (λ (o : Option Post). option_map (λ p. p.packet) o) posted
-
   abbrev pub me : Identity
   me = identity_in s run n own room
 
-  -- the judge of the turn is the one of the history
   same_judge : (r : Registration) (home : Address) → home ≡ home_of r → bench me (known_in run n room) (now_in s run) r ≡ judge_in s run.past n own room home.0
-  same_judge r home same = let p = run_is.pasts n corresponds in
-      bench_same own me.secrets (now_in s run)
-      (floor-answers room (past_at run n) p.rises (now_in s run) (home_of r) p.early
-      ∙ ap (λ (xs : List Acceptance). floor xs (home_of r).0 (now_in s run)) p.accepted
-      ∙ ap (λ (h : Address). floor (accepted_by s.start run.past n) h.0 (now_in s run)) (sym same))
-      (full-answers room (past_at run n) p.rises (now_in s run) (home_of r) p.early
-      ∙ ap (λ (xs : List Acceptance). is_full room xs (home_of r).0 (now_in s run)) p.accepted
-      ∙ ap (λ (h : Address). is_full room (accepted_by s.start run.past n) h.0 (now_in s run)) (sym same))
+  same_judge r home same = judge_same s run.past n own me.secrets room (past_at run n) refl (run_is.pasts n corresponds) r home same
 
   abbrev steps : List Step
   steps = (turn_of me (known_in run n room) (now_in s run) (Take k post.shield (handed_over post.packet link))).steps
@@ -125,12 +140,14 @@ module _ (s : Setup) (k n : ℕ) (post : Post) (link : Option ℕ) (before : Run
       ∙ u.verdict_is in
       record {
         own = own;
+        kind = Correspondent room;
         room = room;
         is_host = host_is;
+        has_room = refl;
         earlier = before.past;
         handed = refl;
         bytes = post.packet;
-        posted = told;
+        posted = handed_packet s k n post before is posted;
         packet = as_posted.packet;
         read = as_posted.read;
         mobility = sym as_posted.proto ∙ u.mobility;

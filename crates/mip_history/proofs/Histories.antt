@@ -1,6 +1,6 @@
 -- What is known of every permitted history.
 use Rattle.std.proofs.Common.{◌≡◌, ℕ, ◌+◌, ◌<◌, ◌≤◌, List, [], ◌∷◌, ◌++◌, length, Bool, true, ap, ◌∙◌, subst, arith}
-use Rattle.std.specs.Prelude.{Some, option_map, slice_get}
+use Rattle.std.specs.Prelude.{Option, Some, option_map, slice_get}
 use Rattle.std.specs.List.{sum_by}
 use Rattle.mip_words.specs.declared.address.Address.{Address}
 use Rattle.mip_words.specs.declared.moment.Moment.{Moment}
@@ -14,17 +14,23 @@ use Rattle.mip_entries.specs.declared.entry.Entry.{Entry}
 use Rattle.mip_entries.specs.declared.entry.Entry.TheVariants as entries
 use Rattle.mip_schedule.specs.Contents.{Content}
 use Rattle.mip_schedule.specs.declared.event.Event.{Event}
-use Rattle.mip_rules_correspondent.specs.Questions.{held_of, floor_of, is_full_for}
+use Rattle.mip_rules_correspondent.specs.declared.known.Known.{Known}
+use Rattle.mip_rules_correspondent.specs.Steps.{Step}
+use Rattle.mip_rules_correspondent.specs.Questions.{known, held_of, floor_of, is_full_for}
+use Rattle.mip_rules_correspondent.specs.Seen.{CorrespondentSeen}
+use Rattle.mip_rules_mobile.specs.Questions.{part_room}
+use Rattle.mip_rules_mobile.proofs.PartLives.{part_is}
+use Rattle.mip_entries.specs.Stamped.{Stamped}
 use Rattle.mip_rules_correspondent.proofs.Acceptances.{held-answers, floor-answers, full-answers}
-use Rattle.mip_history.specs.Setup.{Setup, setup_of, is_correspondent_host, is_correspondent_at}
-use Rattle.mip_history.specs.Setup.Kind.{Correspondent}
-use Rattle.mip_history.specs.Runs.{Run, past_at}
+use Rattle.mip_history.specs.Setup.{Setup, setup_of, is_correspondent_host}
+use Rattle.mip_history.specs.Setup.Kind.{Correspondent, Mobile}
+use Rattle.mip_history.specs.Runs.{Run, past_at, mobile_past_at}
 use Rattle.mip_history.specs.Questions.{moment_in, life_in, holder_in}
 use Rattle.mip_history.specs.Claims.{is_free_for}
-use Rattle.mip_history.specs.Knowing.{known_in, now_in}
+use Rattle.mip_history.specs.Knowing.{known_in, now_in, secrets_in, mobile_known_in, part_in}
 use Rattle.mip_history.specs.Permitted.{opening_claims, run_of, permitted}
 use Rattle.mip_history.specs.Passing.{waited_by, restarted_by}
-use Rattle.mip_history.specs.Bound.{accepted_by, held_in, packet_in, packets_of, is_accepted_by_correspondent, HasAccepted, IsBound}
+use Rattle.mip_history.specs.Bound.{accepted_by, held_in, packet_in, packets_of, is_accepted, HasAccepted, IsBound}
 use Rattle.mip_history.proofs.Runs.{Meets, IsPast}
 use Rattle.mip_history.proofs.Numbered.{packet_numbered}
 use Rattle.mip_history.proofs.Events.{run_passes}
@@ -38,14 +44,14 @@ meets_at : (c : Content) (before : List Entry) (e : Entry) (after : List Entry) 
 meets_at c before e after whole =
     each_at (Meets (setup_of c)) [] before e after (subst (λ (l : List Entry). EachAfter (Meets (setup_of c)) [] l) whole (permitted_each c))
 
-pub permitted_held : (c : Content) (n home careof : ℕ) → is_correspondent_at (setup_of c) n ≡ true → held_in (setup_of c) (permitted c) n home ≡ Some careof → IsBound (setup_of c) (permitted c) n home careof
-permitted_held c n home careof corresponds held = held_is_bound (setup_of c) (permitted c) (permitted_each c) n home careof corresponds held
+pub permitted_held : (c : Content) (n home careof : ℕ) → held_in (setup_of c) (permitted c) n home ≡ Some careof → IsBound (setup_of c) (permitted c) n home careof
+permitted_held c n home careof held = held_is_bound (setup_of c) (permitted c) (permitted_each c) n home careof held
 
-pub permitted_accepted : (c : Content) (before : List Entry) (e : Entry) (after : List Entry) → permitted c ≡ before ++ e ∷ after → is_accepted_by_correspondent (setup_of c) e ≡ true → HasAccepted (setup_of c) before e
+pub permitted_accepted : (c : Content) (before : List Entry) (e : Entry) (after : List Entry) → permitted c ≡ before ++ e ∷ after → is_accepted e ≡ true → HasAccepted (setup_of c) before e
 permitted_accepted c before e after whole accepted = by e accepted (meets_at c before e after whole)
   where
-    by : (e : Entry) → is_accepted_by_correspondent (setup_of c) e ≡ true → Meets (setup_of c) before e → HasAccepted (setup_of c) before e
-    by (entries.Accepted node number home binding careof sequence end i j) accepted is = is accepted
+    by : (e : Entry) → is_accepted e ≡ true → Meets (setup_of c) before e → HasAccepted (setup_of c) before e
+    by (entries.Accepted node number home binding careof sequence end i j) accepted is = is
     by _ accepted is = absurd cc
 
 pub permitted_at : (c : Content) (before : List Entry) (moment : Moment) (after : List Entry) → permitted c ≡ before ++ entries.At moment ∷ after → moment_in (setup_of c).start before ≤ moment.0
@@ -112,3 +118,36 @@ module _ (s : Setup) (events : List Event) (n : ℕ) (own : Address) (room : ℕ
   run_full =
       full-answers room (past_at run n) past_is.rises (now_in s run) home past_is.early
       ∙ ap (λ (xs : List Acceptance). is_full room xs home.0 (now_in s run)) past_is.accepted
+
+-- and what the correspondent part of a mobile keeps
+module _ (s : Setup) (events : List Event) (n : ℕ) (own : Address) (agent : Option Address) (home : Address) (is : slice_get s.hosts n ≡ Some (record { address = own; kind = Mobile agent })) where
+  abbrev after : Run
+  after = run_of s events
+
+  abbrev life : List (Stamped Step)
+  life = (part_in s (run_of s events) n own).past
+
+  life_is : IsPast s (run_of s events).past (part_in s (run_of s events) n own).past n
+  life_is = ((run_passes s events).run.parts n own agent is).past
+
+  part_known : (mobile_known_in s (run_of s events) n own agent).part.known ≡ known part_room (part_in s (run_of s events) n own).past
+  part_known = ap (λ (c : CorrespondentSeen). c.known) (part_is own agent (secrets_in s n 0) (mobile_past_at after n))
+
+  pub part_held : option_map (λ a. a.0) (held_of (mobile_known_in s (run_of s events) n own agent).part.known (now_in s (run_of s events)) home) ≡ held_in s (run_of s events).past n home.0
+  part_held =
+      ap (λ (k : Known). option_map (λ (a : Address). a.0) (held_of k (now_in s after) home)) part_known
+      ∙ held-answers part_room life life_is.rises (now_in s after) home life_is.early
+      ∙ ap (λ (xs : List Acceptance). held xs home.0 (now_in s after)) life_is.accepted
+
+  pub part_floor : floor_of (mobile_known_in s (run_of s events) n own agent).part.known (now_in s (run_of s events)) home ≡ floor (accepted_by s.start (run_of s events).past n) home.0 (now_in s (run_of s events))
+  part_floor =
+      ap (λ (k : Known). floor_of k (now_in s after) home) part_known
+      ∙ floor-answers part_room life life_is.rises (now_in s after) home life_is.early
+      ∙ ap (λ (xs : List Acceptance). floor xs home.0 (now_in s after)) life_is.accepted
+
+  pub part_full : is_full_for (mobile_known_in s (run_of s events) n own agent).part.known (now_in s (run_of s events)) home
+      ≡ is_full part_room (accepted_by s.start (run_of s events).past n) home.0 (now_in s (run_of s events))
+  part_full =
+      ap (λ (k : Known). is_full_for k (now_in s after) home) part_known
+      ∙ full-answers part_room life life_is.rises (now_in s after) home life_is.early
+      ∙ ap (λ (xs : List Acceptance). is_full part_room xs home.0 (now_in s after)) life_is.accepted

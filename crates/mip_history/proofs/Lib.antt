@@ -7,6 +7,8 @@ mod Answering
 mod Turns
 pub mod Numbered
 mod Handing
+pub mod PartTurns
+mod PartHanding
 mod Acting
 mod Deliveries
 mod Advertising
@@ -24,3 +26,9 @@ pub mod Moments
 mod Kept
 mod SameUpdates
 mod Repeats
+mod Keeping
+mod Walking
+mod Homed
+mod Homing
+mod HomedRuns
+mod Registrations

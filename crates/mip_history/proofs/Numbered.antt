@@ -14,7 +14,7 @@ use Rattle.mip_history.specs.Bound.{packet_told, packet_in, packet_posted, packe
 use Rattle.mip_history.proofs.Runs.{Meets}
 
 -- one item more
-slice_get_push : {X : Type 0} (xs : List X) (x : X) (k : ℕ) → slice_get (xs ++ x ∷ []) k ≡ or_else (slice_get xs k) (if length xs == k then Some x else None)
+pub slice_get_push : {X : Type 0} (xs : List X) (x : X) (k : ℕ) → slice_get (xs ++ x ∷ []) k ≡ or_else (slice_get xs k) (if length xs == k then Some x else None)
 slice_get_push [] x zero = refl
 slice_get_push [] x (suc k) = grind (arith, nat_tests)
 slice_get_push (y ∷ xs) x zero = refl

@@ -13,12 +13,14 @@ use Rattle.mip_rules_correspondent.specs.Steps.{Step}
 use Rattle.mip_rules_correspondent.specs.Pasts.{accepted_in}
 use Rattle.mip_rules_agent.specs.Steps as agents
 use Rattle.mip_rules_mobile.specs.Steps as mobiles
+use Rattle.mip_rules_mobile.specs.Part.{part_life}
 use Rattle.mip_history.specs.Setup.{Setup, Host}
 use Rattle.mip_history.specs.Runs.{Run}
+use Rattle.mip_history.specs.Knowing.{secrets_in}
 use Rattle.mip_history.specs.Permitted.{is_first_agent, anycast_at, claimed_entry, claims_of, claims_from, opening_claims, opened}
 use Rattle.mip_history.specs.Bound.{accepted_by}
 use Rattle.mip_history.proofs.Quiet.{is_told}
-use Rattle.mip_history.proofs.Runs.{Meets, IsPast, IsRun, IsQuiet, quiet_meeting}
+use Rattle.mip_history.proofs.Runs.{Meets, IsPast, IsPart, IsRun, IsQuiet, quiet_meeting}
 
 -- a claim
 abbrev is_other : Entry → Bool
@@ -66,6 +68,11 @@ no_past [] n = refl
 no_past (host ∷ hosts) zero = refl
 no_past (host ∷ hosts) (suc n) = no_past hosts n
 
+no_mobile_past : (hosts : List Host) (n : ℕ) → slice_index_or (map (λ (host : Host). let l : List (Stamped mobiles.Step) = [] in l) hosts) n [] ≡ []
+no_mobile_past [] n = refl
+no_mobile_past (host ∷ hosts) zero = refl
+no_mobile_past (host ∷ hosts) (suc n) = no_mobile_past hosts n
+
 abbrev pub nothing : Setup → Run
 nothing s = record {
   past = [];
@@ -77,13 +84,16 @@ nothing s = record {
 }
 
 pub nothing_is : (s : Setup) → IsRun s (nothing s)
-unfolding accepted_in accepted_by
+unfolding accepted_in accepted_by part_life
 nothing_is s = record {
   nodes = length-map s.hosts (λ (host : Host). let l : List (Stamped Step) = [] in l);
   agents = length-map s.hosts (λ (host : Host). let l : List (Stamped agents.Step) = [] in l);
   mobiles = length-map s.hosts (λ (host : Host). let l : List (Stamped mobiles.Step) = [] in l);
   kept = record { packets = refl; each = tt };
   pasts = λ n mine. subst (λ (l : List (Stamped Step)). IsPast s [] l n) (sym (no_past s.hosts n)) (record { accepted = refl; rises = tt; early = tt });
+  parts = λ n home agent host.
+      subst (λ (l : List (Stamped mobiles.Step)). IsPart s [] (part_life home (secrets_in s n 0) l) n) (sym (no_mobile_past s.hosts n))
+      (record { secrets = refl; past = record { accepted = refl; rises = tt; early = tt } });
 }
 
 pub quiet_opened : (s : Setup) → IsQuiet s (nothing s) (opened s)

@@ -38,7 +38,7 @@ quiet_entered s post e run is = record {
   pasts = refl;
   agents = refl;
   mobiles = refl;
-  accepted = λ n mine.
+  accepted = λ n.
       ap (λ (l : Lived). l.accepted)
       (fold-append (lived n) (record { at = s.start; accepted = [] }) run.past (e ∷ []) ∙ is.lives n (fold (lived n) (record { at = s.start; accepted = [] }) run.past));
   moment =

@@ -1,6 +1,6 @@
 -- An update is accepted again only where the sequences of its home have gone round since.
 use Rattle.std.proofs.Common.{◌≡◌, ℕ, ◌+◌, ◌-◌, ◌*◌, ◌<◌, ◌≤◌, List, [], ◌∷◌, ◌++◌, length, false, true, refl, sym, ap, ◌∙◌, subst, arith}
-use Rattle.std.specs.Prelude.{fold, Option, Some}
+use Rattle.std.specs.Prelude.{fold, Option, Some, Ok}
 use Rattle.std.specs.List.{list_any, sum_by, AllByRecursion}
 use Rattle.std.proofs.lemmas.List.{append_assoc}
 use Rattle.std.proofs.lemmas.List.Sums.{fold-append}
@@ -12,22 +12,27 @@ use Rattle.mip_words.specs.declared.ids.NodeId.{NodeId}
 use Rattle.mip_words.proofs.Fields.{IsBytes-drop}
 use Rattle.mip_lists.specs.EachAfter.{EachAfter}
 use Rattle.mip_lists.specs.Last.{or_else}
+use Rattle.mip_ipv6.specs.Packet.{Packet}
+use Rattle.mip_ipv6.specs.Reading.{packet_of}
 use Rattle.mip_ipv6.proofs.Packets.{read_stands}
 use Rattle.mip_options.specs.declared.indices.Indices.{Indices}
 use Rattle.mip_says.specs.Says.{Key, carried, says}
 use Rattle.mip_says.specs.Says.Carried.{Update}
-use Rattle.mip_says.proofs.Sayings.{carried_plain}
+use Rattle.mip_says.proofs.Sayings.{carried_plain, carried_opened}
+use Rattle.mip_rules_mobile.specs.Part.{Itself, Within}
+use Rattle.mip_rules_mobile.proofs.Checks.{opened-reads}
 use Rattle.mip_binding.specs.Held.{floor}
 use Rattle.mip_bcache.specs.declared.accepted.Accepted.{Accepted}
 use Rattle.mip_entries.specs.declared.entry.Entry.{Entry}
 use Rattle.mip_entries.specs.Completed.{node_id}
 use Rattle.mip_schedule.specs.Contents.{Content}
 use Rattle.mip_rules_correspondent.specs.Soundness.{IsNonce}
-use Rattle.mip_history.specs.Setup.{Setup, setup_of, is_correspondent_at}
+use Rattle.mip_history.specs.Setup.{Setup, Kind, setup_of}
+use Rattle.mip_history.specs.Setup.Kind.{Correspondent, Agent, Mobile}
 use Rattle.mip_history.specs.Questions.{moment_in}
 use Rattle.mip_history.specs.Permitted.{permitted}
 use Rattle.mip_history.specs.Passing.{waited_by}
-use Rattle.mip_history.specs.Bound.{accepted_by, packet_told, packet_in, accepted_entry, is_restart_of, IsAccepted, HasAccepted}
+use Rattle.mip_history.specs.Bound.{accepted_by, packet_told, packet_in, accepted_entry, is_restart_of, IsReadBy, IsAccepted, HasAccepted}
 use Rattle.mip_history.specs.Again.{CarriesUpdate, IsRepeat, advanced}
 use Rattle.mip_history.proofs.Runs.{Meets}
 use Rattle.mip_history.proofs.Bindings.{each_rest}
@@ -78,18 +83,37 @@ packet_is x y e = cc
 same_packet : (s : Setup) (front es : List Entry) (n k : ℕ) (home : Address) (a : Accepted) (key : Key) (is : IsAccepted s front n k home a) (u : CarriesUpdate (front ++ es) k key) → u.packet ≡ is.bytes
 same_packet s front es n k home a key is u = packet_is u.packet is.bytes (sym u.posted ∙ packet_stays k front es is.bytes is.posted)
 
+-- what is read of a packet says what the packet carries, and is a part of its bytes
+read_says : (kind : Kind) (bytes : List ℕ) (p : Packet) → p.head.proto ≡ 135 → IsReadBy kind bytes p → carried bytes ≡ says p
+read_says (Correspondent room) bytes p mobility read = carried_plain bytes p read (λ t. omega (arith, mobility))
+read_says (Agent preference life room serves) bytes p mobility read = absurd read
+read_says (Mobile agent) bytes p mobility (Itself read) = carried_plain bytes p read (λ t. omega (arith, mobility))
+read_says (Mobile agent) bytes p mobility (Within outer entry read opens) =
+    carried_opened bytes outer p entry read opens
+    ∙ carried_plain outer.body p (opened-reads entry outer p opens) (λ t. omega (arith, mobility))
+
+body_bytes : (bytes : List ℕ) (p : Packet) → packet_of bytes ≡ Ok p → IsBytes bytes → IsBytes p.body
+body_bytes bytes p read are =
+    let there = read_stands p bytes read in
+    subst IsBytes (sym there.there) (IsBytes-drop (length bytes - length p.body) bytes are)
+
+read_bytes : (kind : Kind) (bytes : List ℕ) (p : Packet) → IsReadBy kind bytes p → IsBytes bytes → IsBytes p.body
+read_bytes (Correspondent room) bytes p read are = body_bytes bytes p read are
+read_bytes (Agent preference life room serves) bytes p read are = absurd read
+read_bytes (Mobile agent) bytes p (Itself read) are = body_bytes bytes p read are
+read_bytes (Mobile agent) bytes p (Within outer entry read opens) are = body_bytes outer.body p (opened-reads entry outer p opens) (body_bytes bytes outer read are)
+
 accepted_says : (s : Setup) (front es : List Entry) (n k : ℕ) (home : Address) (a : Accepted) (key : Key) (is : IsAccepted s front n k home a) → CarriesUpdate (front ++ es) k key → says is.packet ≡ Update key
 accepted_says s front es n k home a key is u =
-    sym (carried_plain is.bytes is.packet is.read (λ t. let m = is.mobility in omega arith))
+    sym (read_says is.kind is.bytes is.packet is.mobility is.read)
     ∙ ap carried (sym (same_packet s front es n k home a key is u))
     ∙ u.says
 
 accepted_bytes : (s : Setup) (front es : List Entry) (n k : ℕ) (home : Address) (a : Accepted) (key : Key) (is : IsAccepted s front n k home a) → CarriesUpdate (front ++ es) k key → IsBytes is.packet.body
 accepted_bytes s front es n k home a key is u =
-    let there = read_stands is.packet is.bytes is.read in
-    subst IsBytes (sym there.there) (IsBytes-drop (length is.bytes - length is.packet.body) is.bytes (subst IsBytes (same_packet s front es n k home a key is u) u.bytes))
+    read_bytes is.kind is.bytes is.packet is.read (subst IsBytes (same_packet s front es n k home a key is u) u.bytes)
 
-module _ (c : Content) (short : sum_by waited_by c.events ≤ 36000000) (before between after : List Entry) (n k l : ℕ) (home : Address) (a b : Accepted) (corresponds : is_correspondent_at (setup_of c) n ≡ true)
+module _ (c : Content) (short : sum_by waited_by c.events ≤ 36000000) (before between after : List Entry) (n k l : ℕ) (home : Address) (a b : Accepted)
     (whole : permitted c ≡ before ++ accepted_entry n k home a ∷ between ++ accepted_entry n l home b ∷ after) (alive : list_any (is_restart_of n) between ≡ false) (again : IsRepeat (permitted c) k l) where
   abbrev s : Setup
   s = setup_of c
@@ -107,10 +131,10 @@ module _ (c : Content) (short : sum_by waited_by c.events ≤ 36000000) (before 
   from_first = whole ∙ append_assoc before (accepted_entry n k home a ∷ between) later
 
   first : Stood s before n k home a.sequence
-  first = stood s before n k home a (permitted_accepted c before (accepted_entry n k home a) since from_first corresponds)
+  first = stood s before n k home a (permitted_accepted c before (accepted_entry n k home a) since from_first refl)
 
   second : Stood s middle n l home b.sequence
-  second = stood s middle n l home b (permitted_accepted c middle (accepted_entry n l home b) after whole corresponds)
+  second = stood s middle n l home b (permitted_accepted c middle (accepted_entry n l home b) after whole refl)
 
   carries_first : CarriesUpdate (before ++ accepted_entry n k home a ∷ since) k again.key
   carries_first = subst (λ (p : List Entry). CarriesUpdate p k again.key) from_first again.first

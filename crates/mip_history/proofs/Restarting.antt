@@ -12,24 +12,34 @@ use Rattle.mip_lists.proofs.EachLaws.{each-append}
 use Rattle.mip_entries.specs.declared.entry.Entry.{Entry}
 use Rattle.mip_entries.specs.declared.entry.Entry.TheVariants as entries
 use Rattle.mip_entries.specs.Completed.{node_id}
-use Rattle.mip_entries.specs.Stamped.{Stamped}
+use Rattle.mip_entries.specs.Stamped.{Stamped, stamped}
+use Rattle.mip_nonce.specs.Secrets.{Life}
 use Rattle.mip_rules_correspondent.specs.Steps.{Step}
 use Rattle.mip_rules_correspondent.specs.Pasts.{accepted_in}
 use Rattle.mip_rules_agent.specs.declared.home_row.HomeRow.{HomeRow}
 use Rattle.mip_rules_agent.specs.Questions.{rows_at}
+use Rattle.mip_rules_mobile.specs.Calls as mobiles
+use Rattle.mip_rules_mobile.specs.Steps as mobile_steps
+use Rattle.mip_rules_mobile.specs.Turns.{Turn}
+use Rattle.mip_rules_mobile.specs.Doing.{turn_of}
+use Rattle.mip_rules_mobile.specs.Part.{PartLife, part_life, IsPartReborn}
+use Rattle.mip_rules_mobile.proofs.Calls.{call-now}
+use Rattle.mip_rules_mobile.proofs.PartTurns.{restart-part}
 use Rattle.mip_history.specs.Setup.{Setup, Host, Kind, is_correspondent_host, is_correspondent_at}
 use Rattle.mip_history.specs.Setup.Kind.{Correspondent, Agent, Mobile}
-use Rattle.mip_history.specs.Runs.{Run, note, past_at, with_past, with_agent_past}
+use Rattle.mip_history.specs.Runs.{Run, note, past_at, mobile_past_at, with_past, with_agent_past, with_mobile_past}
 use Rattle.mip_history.specs.Questions.{moment_says, moment_in, restarts, life_in}
 use Rattle.mip_history.specs.Calls.{Restart}
-use Rattle.mip_history.specs.Knowing.{now_in, secrets_in, agent_known_in}
+use Rattle.mip_history.specs.Knowing.{now_in, secrets_in, agent_known_in, mobile_known_in, part_in, stands_on}
+use Rattle.mip_history.specs.Nodes.{mobile_turned, by_host}
 use Rattle.mip_history.specs.Homes.{gives_up}
 use Rattle.mip_history.specs.Restarting.{homes_left, reborn_by_kind, reborn_by_host, restarted}
 use Rattle.mip_history.specs.Bound.{Lived, lived, accepted_by, packet_posted, packets_of}
-use Rattle.mip_history.proofs.Runs.{Meets, IsKept, IsPast, IsRun, IsQuiet, quiet_same, quiet_then, quiet_run, goes_quietly}
+use Rattle.mip_history.proofs.Runs.{Meets, IsKept, IsPast, IsPart, past_stays, part_stays, IsRun, IsQuiet, quiet_same, quiet_then, quiet_run, goes_quietly}
 use Rattle.mip_history.proofs.Claiming.{quiet_gives_up}
 use Rattle.mip_history.proofs.Answering.{differs}
-use Rattle.mip_history.proofs.Acting.{quiet_agent_past, acts_calmly}
+use Rattle.mip_history.proofs.PartTurns.{is_mobile_host, mobile_apart, part_goes, mobile_done, reborn_life, quiet_reborn}
+use Rattle.mip_history.proofs.Acting.{quiet_agent_past}
 use Rattle.mip_history.proofs.Passes.{Passes, passes_behind, passes_before}
 
 -- how often this restarts a node
@@ -61,12 +71,17 @@ module _ (s : Setup) (run : Run) (n : ℕ) (is : IsRun s run) where
   }
 
   -- what another node has accepted counts on
+  accepted_apart : (m : ℕ) → m ≢ n → accepted_by s.start past m ≡ accepted_by s.start run.past m
+  accepted_apart m other = accepted_then m ∙ ap (λ (b : Bool). if b then [] else accepted_by s.start run.past m) (ne_eqb m n other)
+
+  life_apart : (m : ℕ) → m ≢ n → life_in past m ≡ life_in run.past m
+  life_apart m other = let e = life_then m in let none : again n m ≡ 0 = ap (λ (b : Bool). if b then 1 else 0) (ne_eqb m n other) in omega (arith, e, none)
+
   past_of_other : (m : ℕ) → is_correspondent_at s m ≡ true → m ≢ n → IsPast s past (past_at run m) m
-  past_of_other m mine other = let p = is.pasts m mine in record {
-    accepted = p.accepted ∙ sym (accepted_then m ∙ ap (λ (b : Bool). if b then [] else accepted_by s.start run.past m) (ne_eqb m n other));
-    rises = p.rises;
-    early = subst (λ (at : ℕ). AllByRecursion (λ t. t.at ≤ at) (past_at run m)) (sym moment_then) p.early;
-  }
+  past_of_other m mine other = past_stays s run.past past (past_at run m) m (accepted_apart m other) moment_then (is.pasts m mine)
+
+  part_of_other : (m : ℕ) (home : Address) (agent : Option Address) → slice_get s.hosts m ≡ Some (record { address = home; kind = Mobile agent }) → m ≢ n → IsPart s past (part_in s run m home) m
+  part_of_other m home agent e other = part_stays s run.past past (part_in s run m home) m (accepted_apart m other) moment_then (life_apart m other) (is.parts m home agent e)
 
   -- what this one has accepted does not
   past_of_this : IsPast s past [] n
@@ -77,29 +92,31 @@ module _ (s : Setup) (run : Run) (n : ℕ) (is : IsRun s run) where
     early = tt;
   }
 
-  -- a node that is no correspondent
-  pub other_reborn : is_correspondent_at s n ≡ false → Passes s run (note (entries.Restarted (node_id n)) run) 0 (again n)
-  other_reborn none = record {
+  -- a node that is neither a correspondent nor a mobile
+  pub other_reborn : is_correspondent_at s n ≡ false → is_mobile_host (slice_get s.hosts n) ≡ false → Passes s run (note (entries.Restarted (node_id n)) run) 0 (again n)
+  other_reborn none unmoved = record {
     run = record {
       nodes = is.nodes;
       agents = is.agents;
       mobiles = is.mobiles;
       kept = kept_then;
       pasts = λ m mine. past_of_other m mine (differs s m n mine none);
+      parts = λ m home agent e. part_of_other m home agent e (mobile_apart s n unmoved m home agent e);
     };
     moment = moment_then ∙ omega arith;
     life = life_then;
   }
 
   -- a correspondent
-  pub correspondent_reborn : n < length s.hosts → Passes s run (note (entries.Restarted (node_id n)) (with_past n [] run)) 0 (again n)
-  correspondent_reborn inside = record {
+  pub correspondent_reborn : n < length s.hosts → is_mobile_host (slice_get s.hosts n) ≡ false → Passes s run (note (entries.Restarted (node_id n)) (with_past n [] run)) 0 (again n)
+  correspondent_reborn inside unmoved = record {
     run = record {
       nodes = length-set run.pasts n [] ∙ is.nodes;
       agents = is.agents;
       mobiles = is.mobiles;
       kept = kept_then;
       pasts = pasts;
+      parts = λ m home agent e. part_of_other m home agent e (mobile_apart s n unmoved m home agent e);
     };
     moment = moment_then ∙ omega arith;
     life = life_then;
@@ -114,6 +131,37 @@ module _ (s : Setup) (run : Run) (n : ℕ) (is : IsRun s run) where
             subst (λ (l : List (Stamped Step)). IsPast s past l m) (sym (get_or-set_other run.pasts n m [] [] other)) (past_of_other m mine other)
       ]
 
+  -- a mobile: its correspondent part begins anew, with the secrets of the new life
+  module _ (home : Address) (agent : Option Address) (host_is : slice_get s.hosts n ≡ Some (record { address = home; kind = Mobile agent })) where
+    abbrev next : Run
+    next = note (entries.Restarted (node_id n)) run
+
+    abbrev secrets : Life
+    secrets = secrets_in s n (life_in next.past n)
+
+    abbrev turn : Turn
+    turn = turn_of (mobile_known_in s next n home agent) (now_in s next) (mobiles.Restart secrets)
+
+    reborn : IsPartReborn secrets (turn_of (mobile_known_in s next n home agent) (now_in s next) (mobiles.Restart secrets)).steps
+    reborn = restart-part (mobile_known_in s next n home agent) (now_in s next) secrets
+
+    abbrev moved : List (Stamped mobile_steps.Step)
+    moved = mobile_past_at run n ++ stamped (now_in s next) turn.steps
+
+    begins_anew : IsPart s past (part_life home (secrets_in s n 0) (mobile_past_at run n ++ stamped (now_in s next) turn.steps)) n
+    begins_anew =
+        subst (λ (q : PartLife). IsPart s past q n)
+        (sym (reborn_life home (secrets_in s n 0) (mobile_past_at run n) (now_in s next) secrets turn.steps reborn))
+        (record { secrets = refl; past = past_of_this })
+
+    mobile_reborn : Passes s run (mobile_turned s n home turn next) 0 (again n)
+    mobile_reborn =
+        let middle = with_mobile_past n moved next in
+        let there : IsRun s middle = part_goes s n home agent run is host_is past moved begins_anew accepted_apart moment_then life_apart kept_then in
+        subst (λ (at : ℕ). Passes s run (mobile_done s n (unwrap_or (stands_on s next n home) 0) at turn.steps next) 0 (again n)) (sym (call-now (mobile_known_in s next n home agent) (now_in s next) (mobiles.Restart secrets)))
+        (passes_before s run middle _ 0 (again n) (record { run = there; moment = moment_then ∙ omega arith; life = life_then })
+        (goes_quietly s middle _ there (quiet_reborn s n (unwrap_or (stands_on s next n home) 0) middle secrets turn.steps reborn)))
+
 -- an agent gives up its homes
 quiet_homes : (s : Setup) (n : ℕ) (rows : List HomeRow) (run : Run) → IsQuiet s run (homes_left s n rows run)
 unfolding homes_left
@@ -122,30 +170,29 @@ quiet_homes s n (r ∷ rows) run =
     quiet_then s run (gives_up s n r.home run) _ (quiet_gives_up s n r.home run) (quiet_homes s n rows (gives_up s n r.home run))
 
 module _ (s : Setup) (run : Run) (n : ℕ) (is : IsRun s run) where
-  agent_reborn : (rows : List HomeRow) → is_correspondent_at s n ≡ false
+  agent_reborn : (rows : List HomeRow) → is_correspondent_at s n ≡ false → is_mobile_host (slice_get s.hosts n) ≡ false
       → Passes s run (homes_left s n rows (note (entries.Restarted (node_id n)) (with_agent_past n [] run))) 0 (again n)
-  agent_reborn rows other =
+  agent_reborn rows other unmoved =
       let empty = with_agent_past n [] run in
       let quiet = quiet_agent_past s n [] run in
       let next = note (entries.Restarted (node_id n)) empty in
-      let reborn = passes_behind s run empty next 0 (again n) (goes_quietly s run empty is quiet) (other_reborn s empty n (quiet_run s run empty quiet is) other) in
+      let reborn = passes_behind s run empty next 0 (again n) (goes_quietly s run empty is quiet) (other_reborn s empty n (quiet_run s run empty quiet is) other unmoved) in
       passes_before s run next _ 0 (again n) reborn (goes_quietly s next _ reborn.run (quiet_homes s n rows next))
 
-  mobile_reborn : (agent : Option Address) → is_correspondent_at s n ≡ false → Passes s run (reborn_by_kind s n run (Mobile agent)) 0 (again n)
-  mobile_reborn agent other =
+  mobile_goes_on : (own : Address) (agent : Option Address) → slice_get s.hosts n ≡ Some (record { address = own; kind = Mobile agent }) → Passes s run (reborn_by_kind s n run (Mobile agent)) 0 (again n)
+  mobile_goes_on own agent e =
       let next = note (entries.Restarted (node_id n)) run in
-      let reborn = other_reborn s run n is other in
-      passes_before s run next _ 0 (again n) reborn (acts_calmly s n (Restart (secrets_in s n (life_in next.past n))) next reborn.run refl)
+      subst (λ (o : Option Host). Passes s run (by_host s n (Restart (secrets_in s n (life_in next.past n))) next o) 0 (again n)) (sym e) (mobile_reborn s run n is own agent e)
 
   reborn_kind : (own : Address) (kind : Kind) → slice_get s.hosts n ≡ Some (record { address = own; kind = kind }) → Passes s run (reborn_by_kind s n run kind) 0 (again n)
-  reborn_kind own (Correspondent room) e = correspondent_reborn s run n is (slice_get_within s.hosts n _ e)
-  reborn_kind own (Agent preference life room serves) e = agent_reborn (rows_at (now_in s run) (agent_known_in run n serves).homes) (ap is_correspondent_host e)
-  reborn_kind own (Mobile agent) e = mobile_reborn agent (ap is_correspondent_host e)
+  reborn_kind own (Correspondent room) e = correspondent_reborn s run n is (slice_get_within s.hosts n _ e) (ap is_mobile_host e)
+  reborn_kind own (Agent preference life room serves) e = agent_reborn (rows_at (now_in s run) (agent_known_in run n serves).homes) (ap is_correspondent_host e) (ap is_mobile_host e)
+  reborn_kind own (Mobile agent) e = mobile_goes_on own agent e
 
   pub restarted_passes : Passes s run (restarted s run n) 0 (again n)
   unfolding restarted
   restarted_passes = by (slice_get s.hosts n) refl
     where
       by : (o : Option Host) → slice_get s.hosts n ≡ o → Passes s run (reborn_by_host s n run o) 0 (again n)
-      by None e = other_reborn s run n is (ap is_correspondent_host e)
+      by None e = other_reborn s run n is (ap is_correspondent_host e) (ap is_mobile_host e)
       by (Some host) e = reborn_kind host.address host.kind e

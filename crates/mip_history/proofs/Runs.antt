@@ -1,10 +1,11 @@
--- What every run keeps: packets are numbered by their places, moments do not fall, every acceptance of a correspondent has its
--- update, and each correspondent's past holds what the history has of it.
+-- What every run keeps: packets are numbered by their places, moments do not fall, every acceptance has its update, and the past of
+-- each correspondent, and of each mobile's correspondent part, holds what the history has of it.
 use Rattle.std.proofs.Common.{◌≡◌, ℕ, ◌<◌, ◌≤◌, List, [], ◌∷◌, ◌++◌, Bool, true, false, length, refl, sym, ap, ◌∙◌, subst}
-use Rattle.std.specs.Prelude.{map, slice_index_or, Some, ◌||◌}
+use Rattle.std.specs.Prelude.{map, slice_get, slice_index_or, Option, Some, ◌||◌}
 use Rattle.std.proofs.lemmas.List.{length-map}
 use Rattle.std.proofs.lemmas.Bool.{or_parts}
 use Rattle.std.specs.List.{list_any, AllByRecursion}
+use Rattle.mip_words.specs.declared.address.Address.{Address}
 use Rattle.mip_words.specs.declared.ids.NodeId.{NodeId}
 use Rattle.mip_lists.specs.EachAfter.{EachAfter}
 use Rattle.mip_lists.proofs.EachLaws.{each-append}
@@ -14,10 +15,14 @@ use Rattle.mip_entries.specs.Stamped.{Stamped}
 use Rattle.mip_rules_correspondent.specs.Steps.{Step}
 use Rattle.mip_turns.specs.Pasts.{RisesFrom}
 use Rattle.mip_rules_correspondent.specs.Pasts.{accepted_in}
+use Rattle.mip_rules_mobile.specs.Steps as mobile_steps
+use Rattle.mip_rules_mobile.specs.Part.{PartLife, part_life}
 use Rattle.mip_links.specs.Table.{Post}
 use Rattle.mip_history.specs.Setup.{Setup, is_correspondent_at}
+use Rattle.mip_history.specs.Setup.Kind.{Mobile}
 use Rattle.mip_history.specs.Runs.{Run, note, notes, past_at}
 use Rattle.mip_history.specs.Questions.{moment_in, life_in, holder_in}
+use Rattle.mip_history.specs.Knowing.{secrets_in, part_in}
 use Rattle.mip_history.specs.Claims.{is_free_for}
 use Rattle.mip_history.specs.Permitted.{opening_claims}
 use Rattle.mip_history.specs.Bound.{accepted_by, packets_of, HasAccepted}
@@ -29,7 +34,7 @@ Meets s front (entries.At moment) = moment_in s.start front ≤ moment.0
 Meets s front (entries.Sent number node shielded packet) = number ≡ length (packets_of front)
 Meets s front (entries.Injected number outsider link packet) = number ≡ length (packets_of front)
 Meets s front (entries.Accepted node number home binding careof sequence end i j) =
-    is_correspondent_at s node.0 ≡ true → HasAccepted s front (entries.Accepted node number home binding careof sequence end i j)
+    HasAccepted s front (entries.Accepted node number home binding careof sequence end i j)
 Meets s front (entries.Claimed who link address) = length (opening_claims s) ≤ length front → is_free_for (holder_in front address.0) who ≡ true
 Meets s front (entries.Released who link address) = holder_in front address.0 ≡ Some who
 Meets s front (entries.Taken who link address holder) = holder_in front address.0 ≡ Some holder
@@ -57,32 +62,54 @@ pub record IsPast (s : Setup) (past : List Entry) (steps : List (Stamped Step)) 
   pub rises : RisesFrom 0 steps
   pub early : AllByRecursion (λ t. t.at ≤ moment_in s.start past) steps
 
+-- so does that of a mobile's correspondent part, and it has the secrets of that life
+pub record IsPart (s : Setup) (front : List Entry) (life : PartLife) (n : ℕ) : Type 0 where
+  pub secrets : life.secrets ≡ secrets_in s n (life_in front n)
+  pub past : IsPast s front life.past n
+
+-- in a history of the same moment and acceptances the same stands
+pub past_stays : (s : Setup) (before after : List Entry) (steps : List (Stamped Step)) (n : ℕ) → accepted_by s.start after n ≡ accepted_by s.start before n → moment_in s.start after ≡ moment_in s.start before
+    → IsPast s before steps n → IsPast s after steps n
+past_stays s before after steps n accepted moment p = record {
+  accepted = p.accepted ∙ sym accepted;
+  rises = p.rises;
+  early = subst (λ (m : ℕ). AllByRecursion (λ t. t.at ≤ m) steps) (sym moment) p.early;
+}
+
+pub part_stays : (s : Setup) (before after : List Entry) (life : PartLife) (n : ℕ) → accepted_by s.start after n ≡ accepted_by s.start before n → moment_in s.start after ≡ moment_in s.start before
+    → life_in after n ≡ life_in before n → IsPart s before life n → IsPart s after life n
+part_stays s before after life n accepted moment lives p = record {
+  secrets = p.secrets ∙ ap (λ (l : ℕ). secrets_in s n l) (sym lives);
+  past = past_stays s before after life.past n accepted moment p.past;
+}
+
 pub record IsRun (s : Setup) (run : Run) : Type 0 where
   pub nodes : length run.pasts ≡ length s.hosts
   pub agents : length run.agent_pasts ≡ length s.hosts
   pub mobiles : length run.mobile_pasts ≡ length s.hosts
   pub kept : IsKept s run.past run.posts
   pub pasts : (n : ℕ) → is_correspondent_at s n ≡ true → IsPast s run.past (past_at run n) n
+  pub parts : (n : ℕ) (home : Address) (agent : Option Address) → slice_get s.hosts n ≡ Some (record { address = home; kind = Mobile agent }) → IsPart s run.past (part_in s run n home) n
 
--- a run goes on, and no correspondent accepts anything, no time passes, and nobody restarts
+-- a run goes on, and nobody accepts anything, no time passes, and nobody restarts
 pub record IsQuiet (s : Setup) (before after : Run) : Type 0 where
   pub pasts : after.pasts ≡ before.pasts
   pub agents : length after.agent_pasts ≡ length before.agent_pasts
-  pub mobiles : length after.mobile_pasts ≡ length before.mobile_pasts
-  pub accepted : (n : ℕ) → is_correspondent_at s n ≡ true → accepted_by s.start after.past n ≡ accepted_by s.start before.past n
+  pub mobiles : after.mobile_pasts ≡ before.mobile_pasts
+  pub accepted : (n : ℕ) → accepted_by s.start after.past n ≡ accepted_by s.start before.past n
   pub moment : moment_in s.start after.past ≡ moment_in s.start before.past
   pub life : (n : ℕ) → life_in after.past n ≡ life_in before.past n
   pub kept : IsKept s before.past before.posts → IsKept s after.past after.posts
 
 pub quiet_same : (s : Setup) (run : Run) → IsQuiet s run run
-quiet_same s run = record { pasts = refl; agents = refl; mobiles = refl; accepted = λ n mine. refl; moment = refl; life = λ n. refl; kept = λ k. k }
+quiet_same s run = record { pasts = refl; agents = refl; mobiles = refl; accepted = λ n. refl; moment = refl; life = λ n. refl; kept = λ k. k }
 
 pub quiet_then : (s : Setup) (a b c : Run) → IsQuiet s a b → IsQuiet s b c → IsQuiet s a c
 quiet_then s a b c p q = record {
   pasts = q.pasts ∙ p.pasts;
   agents = q.agents ∙ p.agents;
   mobiles = q.mobiles ∙ p.mobiles;
-  accepted = λ n mine. q.accepted n mine ∙ p.accepted n mine;
+  accepted = λ n. q.accepted n ∙ p.accepted n;
   moment = q.moment ∙ p.moment;
   life = λ n. q.life n ∙ p.life n;
   kept = λ k. q.kept (p.kept k);
@@ -93,21 +120,19 @@ pub quiet_run : (s : Setup) (a b : Run) → IsQuiet s a b → IsRun s a → IsRu
 quiet_run s a b quiet run = record {
   nodes = ap (λ (l : List (List (Stamped Step))). length l) quiet.pasts ∙ run.nodes;
   agents = quiet.agents ∙ run.agents;
-  mobiles = quiet.mobiles ∙ run.mobiles;
+  mobiles = ap (λ (l : List (List (Stamped mobile_steps.Step))). length l) quiet.mobiles ∙ run.mobiles;
   kept = quiet.kept run.kept;
-  pasts = λ n mine. by n mine (run.pasts n mine);
+  pasts = λ n mine. by n (run.pasts n mine);
+  parts = λ n home agent host.
+      subst (λ (life : PartLife). IsPart s b.past life n) (ap (λ (l : List (List (Stamped mobile_steps.Step))). part_life home (secrets_in s n 0) (slice_index_or l n [])) (sym quiet.mobiles))
+      (part_stays s a.past b.past (part_in s a n home) n (quiet.accepted n) quiet.moment (quiet.life n) (run.parts n home agent host));
 }
   where
     at : (n : ℕ) → past_at b n ≡ past_at a n
     at n = ap (λ (l : List (List (Stamped Step))). slice_index_or l n []) quiet.pasts
 
-    by : (n : ℕ) → is_correspondent_at s n ≡ true → IsPast s a.past (past_at a n) n → IsPast s b.past (past_at b n) n
-    by n mine p = record {
-      accepted = ap accepted_in (at n) ∙ p.accepted ∙ sym (quiet.accepted n mine);
-      rises = subst (RisesFrom 0) (sym (at n)) p.rises;
-      early = subst (λ (l : List (Stamped Step)). AllByRecursion (λ t. t.at ≤ moment_in s.start b.past) l) (sym (at n))
-          (subst (λ (m : ℕ). AllByRecursion (λ t. t.at ≤ m) (past_at a n)) (sym quiet.moment) p.early);
-    }
+    by : (n : ℕ) → IsPast s a.past (past_at a n) n → IsPast s b.past (past_at b n) n
+    by n p = subst (λ (l : List (Stamped Step)). IsPast s b.past l n) (sym (at n)) (past_stays s a.past b.past (past_at a n) n (quiet.accepted n) quiet.moment p)
 
 -- entries that say nothing of moments, lives, acceptances and packets, and meet what they should
 pub quiet_meeting : (s : Setup) (es : List Entry) (run : Run) → list_any is_told es ≡ false → (IsKept s run.past run.posts → EachAfter (Meets s) run.past es) → IsQuiet s run (notes es run)
@@ -115,7 +140,7 @@ quiet_meeting s es run quiet meets = record {
   pasts = refl;
   agents = refl;
   mobiles = refl;
-  accepted = λ n mine. same_accepted run.past es quiet s.start n;
+  accepted = λ n. same_accepted run.past es quiet s.start n;
   moment = same_moment run.past es quiet s.start;
   life = λ n. same_life run.past es quiet n;
   kept = λ k. record {

@@ -15,6 +15,7 @@ use Rattle.mip_bcache.specs.Seen.{acceptance}
 use Rattle.mip_entries.specs.declared.entry.Entry.{Entry}
 use Rattle.mip_entries.specs.declared.entry.Entry.TheVariants as entries
 use Rattle.mip_entries.specs.Stamped.{Stamped, stamped}
+use Rattle.mip_links.specs.Table.{Post}
 use Rattle.mip_turns.proofs.PastLaws.{rises_turn}
 use Rattle.mip_rules_correspondent.specs.Calls.{Call}
 use Rattle.mip_rules_correspondent.specs.Steps.{Step, Called, Accepts, answers_of, is_acceptance}
@@ -24,13 +25,14 @@ use Rattle.mip_entries.specs.Completed.{node_id}
 use Rattle.mip_marks.specs.declared.accepted_update.AcceptedUpdate.{AcceptedUpdate}
 use Rattle.mip_marks.specs.Entries.{mark_entry}
 use Rattle.mip_marks.specs.Marks.{mark_in}
-use Rattle.mip_history.specs.Setup.{Setup, is_correspondent_at}
+use Rattle.mip_history.specs.Setup.{Setup, is_correspondent_host, is_correspondent_at}
 use Rattle.mip_history.specs.Runs.{Run, past_at, with_past}
 use Rattle.mip_history.specs.Questions.{moment_says, moment_in, restarts, life_in}
+use Rattle.mip_history.specs.Knowing.{part_in}
 use Rattle.mip_history.specs.Nodes.{answered}
 use Rattle.mip_history.specs.Bound.{Lived, lived, accepted_by, packet_posted, packets_of, IsAccepted, accepted_entry}
-use Rattle.mip_history.proofs.Runs.{Meets, IsKept, IsPast, IsRun, IsQuiet, Goes, goes_quietly, goes_then, quiet_then, quiet_notes}
-use Rattle.mip_history.proofs.Answering.{mark_quiet, quiet_steps}
+use Rattle.mip_history.proofs.Runs.{Meets, IsKept, IsPast, past_stays, part_stays, IsRun, IsQuiet, Goes, goes_quietly, goes_then, quiet_then, quiet_notes}
+use Rattle.mip_history.proofs.Answering.{mark_quiet, differs, quiet_steps}
 
 -- the moment that goes along with the acceptances is the moment
 pub lived_at : (n : ℕ) (l : Lived) (past : List Entry) → (fold (lived n) l past).at ≡ moment_in l.at past
@@ -71,6 +73,19 @@ early_turn : (at : ℕ) (past : List (Stamped Step)) (steps : List Step) → All
 early_turn at [] steps all = early_stamped at steps
 early_turn at (t ∷ past) steps all = (all.0, early_turn at past steps all.1)
 
+-- a past goes on by a turn at the present moment, in which nothing is accepted; or by one in which an update is accepted
+pub quiet_past : (s : Setup) (past : List Entry) (old : List (Stamped Step)) (n : ℕ) (steps : List Step) → list_any is_acceptance steps ≡ false → IsPast s past old n
+    → IsPast s past (old ++ stamped (moment_in s.start past) steps) n
+quiet_past s past old n steps none p = record {
+  accepted =
+      accepted_turn old (stamped (moment_in s.start past) steps)
+      ∙ ap (λ (l : List Acceptance). accepted_in old ++ l) (none_accepted (moment_in s.start past) steps none)
+      ∙ append-nil (accepted_in old)
+      ∙ p.accepted;
+  rises = rises_turn 0 (moment_in s.start past) old steps (omega arith) p.early p.rises;
+  early = early_turn (moment_in s.start past) old steps p.early;
+}
+
 -- the history with one acceptance more
 pub accepted_more : (start n k : ℕ) (past : List Entry) (home : Address) (a : Accepted)
     → accepted_by start (past ++ accepted_entry n k home a ∷ []) n ≡ accepted_by start past n ++ acceptance (moment_in start past) home 0 a ∷ []
@@ -84,7 +99,21 @@ accepted_more start n k past home a =
     by l at true is = ap (λ (m : ℕ). l.accepted ++ acceptance m home 0 a ∷ []) at
     by l at false is = absurd cc
 
-accepted_other : (start m n k : ℕ) (past : List Entry) (home : Address) (a : Accepted) → m ≢ n
+pub accepted_moment : (start n k : ℕ) (past : List Entry) (home : Address) (a : Accepted) → moment_in start (past ++ accepted_entry n k home a ∷ []) ≡ moment_in start past
+accepted_moment start n k past home a = fold-append (λ (at : ℕ) (x : Entry). unwrap_or (moment_says x) at) start past (accepted_entry n k home a ∷ [])
+
+pub accepted_lives : (n k : ℕ) (past : List Entry) (home : Address) (a : Accepted) (m : ℕ) → life_in (past ++ accepted_entry n k home a ∷ []) m ≡ life_in past m
+accepted_lives n k past home a m = fold-append (restarts m) 0 past (accepted_entry n k home a ∷ [])
+
+-- and its packets are the same
+pub accepted_kept : (s : Setup) (past : List Entry) (posts : List Post) (n k : ℕ) (home : Address) (a : Accepted) → IsAccepted s past n k home a → IsKept s past posts → IsKept s (past ++ accepted_entry n k home a ∷ []) posts
+accepted_kept s past posts n k home a stands kept = record {
+  packets = filter_map-append packet_posted past (accepted_entry n k home a ∷ []) ∙ append-nil (packets_of past) ∙ kept.packets;
+  each = each-append (Meets s) [] past (accepted_entry n k home a ∷ []) kept.each
+      (record { node = n; number = k; home = home; accepted = a; is = refl; stands = stands }, tt);
+}
+
+pub accepted_other : (start m n k : ℕ) (past : List Entry) (home : Address) (a : Accepted) → m ≢ n
     → accepted_by start (past ++ accepted_entry n k home a ∷ []) m ≡ accepted_by start past m
 unfolding accepted_by
 accepted_other start m n k past home a other =
@@ -95,13 +124,45 @@ accepted_other start m n k past home a other =
     by l true is = absurd cc
     by l false is = refl
 
+-- a past goes on by a turn in which an update is accepted, and so does the history
+pub accepting_past : (s : Setup) (past : List Entry) (old : List (Stamped Step)) (n number : ℕ) (home : Address) (a : Accepted) (call : Call) (rest : List Step) → list_any is_acceptance rest ≡ false → IsPast s past old n
+    → IsPast s (past ++ accepted_entry n number home a ∷ []) (old ++ stamped (moment_in s.start past) (Called call ∷ Accepts number home a ∷ rest)) n
+unfolding accepted_in
+accepting_past s past old n number home a call rest none p = record {
+  accepted =
+      accepted_turn old (stamped (moment_in s.start past) (Called call ∷ Accepts number home a ∷ rest))
+      ∙ ap (λ (l : List Acceptance). accepted_in old ++ acceptance (moment_in s.start past) home 0 a ∷ l) (none_accepted (moment_in s.start past) rest none)
+      ∙ ap (λ (l : List Acceptance). l ++ acceptance (moment_in s.start past) home 0 a ∷ []) p.accepted
+      ∙ sym (accepted_more s.start n number past home a);
+  rises = rises_turn 0 (moment_in s.start past) old (Called call ∷ Accepts number home a ∷ rest) (omega arith) p.early p.rises;
+  early =
+      subst (λ (at : ℕ). AllByRecursion (λ t. t.at ≤ at) (old ++ stamped (moment_in s.start past) (Called call ∷ Accepts number home a ∷ rest))) (sym (accepted_moment s.start n number past home a))
+      (early_turn (moment_in s.start past) old (Called call ∷ Accepts number home a ∷ rest) p.early);
+}
+
 -- what a node does in a turn, from the history before it
 abbrev pub done : Setup → ℕ → ℕ → ℕ → List Step → Run → Run
 done s n from now steps run = answered s n from (with_past n (past_at run n ++ stamped now steps) run) (answers_of steps)
 
 -- the run with this history
-abbrev at_past : List Entry → Run → Run
+abbrev pub at_past : List Entry → Run → Run
 at_past past run = record run { past = past }
+
+-- with the mark of an update that was accepted behind this history
+abbrev pub mark_of_accepted : ℕ → ℕ → Address → Accepted → List Entry → Entry
+mark_of_accepted n number home a past =
+    mark_entry (mark_in past (record { node = node_id n; number = number; home = home; careof = a.careof; home_index = index_of a.home_nonce; careof_index = option_map index_of a.careof_nonce }))
+
+abbrev pub marked_with : ℕ → ℕ → Address → Accepted → Run → List Entry → Run
+marked_with n number home a run past = at_past (past ++ accepted_entry n number home a ∷ mark_of_accepted n number home a past ∷ []) run
+
+pub quiet_mark : (s : Setup) (n number : ℕ) (home : Address) (a : Accepted) (past : List Entry) (run : Run) → run.past ≡ past ++ accepted_entry n number home a ∷ []
+    → IsQuiet s run (marked_with n number home a run past)
+quiet_mark s n number home a past run is =
+    let mark : Entry = mark_of_accepted n number home a past in
+    let update : AcceptedUpdate = record { node = node_id n; number = number; home = home; careof = a.careof; home_index = index_of a.home_nonce; careof_index = option_map index_of a.careof_nonce } in
+    subst (λ (l : List Entry). IsQuiet s run (at_past l run)) (ap (λ (l : List Entry). l ++ mark ∷ []) is ∙ append_assoc past (accepted_entry n number home a ∷ []) (mark ∷ []))
+    (quiet_notes s (mark ∷ []) run (ap (λ (b : Bool). b || false) (mark_quiet (mark_in past update))))
 
 module _ (s : Setup) (n from : ℕ) (run : Run) (is : IsRun s run) (inside : n < length s.hosts) (corresponds : is_correspondent_at s n ≡ true) where
   here : (past : List (Stamped Step)) → past_at (with_past n past run) n ≡ past
@@ -115,38 +176,27 @@ module _ (s : Setup) (n from : ℕ) (run : Run) (is : IsRun s run) (inside : n <
 
   -- the past of the node goes on, the others' stand
   goes_on : (steps : List Step) (past : List Entry)
-      → accepted_in (past_at run n ++ stamped (moment_in s.start run.past) steps) ≡ accepted_by s.start past n
+      → IsPast s past (past_at run n ++ stamped (moment_in s.start run.past) steps) n
       → ((m : ℕ) → m ≢ n → accepted_by s.start past m ≡ accepted_by s.start run.past m)
       → moment_in s.start past ≡ moment_in s.start run.past
+      → ((m : ℕ) → life_in past m ≡ life_in run.past m)
       → IsKept s past run.posts
       → IsRun s (at_past past (with_past n (past_at run n ++ stamped (moment_in s.start run.past) steps) run))
-  goes_on steps past same others moment kept = record {
+  goes_on steps past mine others moment lives kept = record {
     nodes = count next;
     agents = is.agents;
     mobiles = is.mobiles;
     kept = kept;
     pasts = λ m within. elim (cases_eq m n) as (λ _. IsPast s past (past_at (with_past n next run) m) m) [
       | inl e ↦ subst (λ (m : ℕ). IsPast s past (past_at (with_past n next run) m) m) (sym e) (subst (λ (l : List (Stamped Step)). IsPast s past l n) (sym (here next)) mine)
-      | inr other ↦ subst (λ (l : List (Stamped Step)). IsPast s past l m) (sym (there m next other)) (yours m within other)
+      | inr other ↦ subst (λ (l : List (Stamped Step)). IsPast s past l m) (sym (there m next other)) (past_stays s run.past past (past_at run m) m (others m other) moment (is.pasts m within))
     ];
+    parts = λ m home agent e.
+        part_stays s run.past past (part_in s run m home) m (others m (λ same. differs s n m corresponds (ap is_correspondent_host e) (sym same))) moment (lives m) (is.parts m home agent e);
   }
     where
       next : List (Stamped Step)
       next = past_at run n ++ stamped (moment_in s.start run.past) steps
-
-      mine : IsPast s past next n
-      mine = let old = is.pasts n corresponds in record {
-        accepted = same;
-        rises = rises_turn 0 (moment_in s.start run.past) (past_at run n) steps (omega arith) old.early old.rises;
-        early = subst (λ (at : ℕ). AllByRecursion (λ t. t.at ≤ at) next) (sym moment) (early_turn (moment_in s.start run.past) (past_at run n) steps old.early);
-      }
-
-      yours : (m : ℕ) → is_correspondent_at s m ≡ true → m ≢ n → IsPast s past (past_at run m) m
-      yours m within other = let old = is.pasts m within in record {
-        accepted = old.accepted ∙ sym (others m other);
-        rises = old.rises;
-        early = subst (λ (at : ℕ). AllByRecursion (λ t. t.at ≤ at) (past_at run m)) (sym moment) old.early;
-      }
 
   -- from a run of the same moment and lives on quietly
   quietly : (middle end : Run) → IsRun s middle → moment_in s.start middle.past ≡ moment_in s.start run.past
@@ -158,61 +208,28 @@ module _ (s : Setup) (n from : ℕ) (run : Run) (is : IsRun s run) (inside : n <
   quiet_turn steps none =
       let middle = with_past n (past_at run n ++ stamped (moment_in s.start run.past) steps) run in
       quietly middle (answered s n from middle (answers_of steps))
-      (goes_on steps run.past
-      (accepted_turn (past_at run n) (stamped (moment_in s.start run.past) steps)
-      ∙ ap (λ (l : List Acceptance). accepted_in (past_at run n) ++ l) (none_accepted (moment_in s.start run.past) steps none)
-      ∙ append-nil (accepted_in (past_at run n))
-      ∙ (is.pasts n corresponds).accepted)
-      (λ m other. refl) refl is.kept)
+      (goes_on steps run.past (quiet_past s run.past (past_at run n) n steps none (is.pasts n corresponds)) (λ m other. refl) refl (λ m. refl) is.kept)
       refl (λ m. refl)
       (quiet_steps s n from middle steps none)
 
   pub accepting_turn : (call : Call) (number : ℕ) (home : Address) (a : Accepted) (rest : List Step) → list_any is_acceptance rest ≡ false
       → IsAccepted s run.past n number home a
       → Goes s run (done s n from (moment_in s.start run.past) (Called call ∷ Accepts number home a ∷ rest) run)
-  unfolding answered accepted_in
+  unfolding answered
   accepting_turn call number home a rest none stands =
-      quietly middle (answered s n from left (answers_of rest))
-      (goes_on steps past same (λ m other. accepted_other s.start m n number run.past home a other) moment kept)
-      moment
-      (λ m. fold-append (restarts m) 0 run.past (accepted_entry n number home a ∷ []))
-      (quiet_then s middle left (answered s n from left (answers_of rest))
-      (subst (λ (l : List Entry). IsQuiet s middle (at_past l middle)) (append_assoc run.past (accepted_entry n number home a ∷ []) (mark ∷ []))
-      (quiet_notes s (mark ∷ []) middle (ap (λ (b : Bool). b || false) (mark_quiet (mark_in run.past update)))))
-      (quiet_steps s n from left rest none))
+      quietly middle (answered s n from (marked_with n number home a middle run.past) (answers_of rest))
+      (goes_on steps (run.past ++ accepted_entry n number home a ∷ [])
+      (accepting_past s run.past (past_at run n) n number home a call rest none (is.pasts n corresponds))
+      (λ m other. accepted_other s.start m n number run.past home a other)
+      (accepted_moment s.start n number run.past home a) (accepted_lives n number run.past home a)
+      (accepted_kept s run.past run.posts n number home a stands is.kept))
+      (accepted_moment s.start n number run.past home a) (accepted_lives n number run.past home a)
+      (quiet_then s middle (marked_with n number home a middle run.past) (answered s n from (marked_with n number home a middle run.past) (answers_of rest))
+      (quiet_mark s n number home a run.past middle refl)
+      (quiet_steps s n from (marked_with n number home a middle run.past) rest none))
     where
       steps : List Step
       steps = Called call ∷ Accepts number home a ∷ rest
 
-      past : List Entry
-      past = run.past ++ accepted_entry n number home a ∷ []
-
       middle : Run
-      middle = at_past past (with_past n (past_at run n ++ stamped (moment_in s.start run.past) steps) run)
-
-      -- the mark that stands behind it
-      update : AcceptedUpdate
-      update = record { node = node_id n; number = number; home = home; careof = a.careof; home_index = index_of a.home_nonce; careof_index = option_map index_of a.careof_nonce }
-
-      mark : Entry
-      mark = mark_entry (mark_in run.past update)
-
-      left : Run
-      left = at_past (run.past ++ accepted_entry n number home a ∷ mark ∷ []) middle
-
-      moment : moment_in s.start past ≡ moment_in s.start run.past
-      moment = fold-append (λ (at : ℕ) (x : Entry). unwrap_or (moment_says x) at) s.start run.past (accepted_entry n number home a ∷ [])
-
-      same : accepted_in (past_at run n ++ stamped (moment_in s.start run.past) steps) ≡ accepted_by s.start past n
-      same =
-          accepted_turn (past_at run n) (stamped (moment_in s.start run.past) steps)
-          ∙ ap (λ (l : List Acceptance). accepted_in (past_at run n) ++ acceptance (moment_in s.start run.past) home 0 a ∷ l) (none_accepted (moment_in s.start run.past) rest none)
-          ∙ ap (λ (l : List Acceptance). l ++ acceptance (moment_in s.start run.past) home 0 a ∷ []) (is.pasts n corresponds).accepted
-          ∙ sym (accepted_more s.start n number run.past home a)
-
-      kept : IsKept s past run.posts
-      kept = record {
-        packets = filter_map-append packet_posted run.past (accepted_entry n number home a ∷ []) ∙ append-nil (packets_of run.past) ∙ is.kept.packets;
-        each = each-append (Meets s) [] run.past (accepted_entry n number home a ∷ []) is.kept.each
-            ((λ mine. record { node = n; number = number; home = home; accepted = a; is = refl; stands = stands }), tt);
-      }
+      middle = at_past (run.past ++ accepted_entry n number home a ∷ []) (with_past n (past_at run n ++ stamped (moment_in s.start run.past) steps) run)

@@ -15,11 +15,11 @@ use Rattle.mip_history.specs.Setup.{Setup}
 use Rattle.mip_history.specs.Runs.{Run, note, past_at}
 use Rattle.mip_history.specs.Questions.{moment_says, moment_in, restarts, life_in}
 use Rattle.mip_history.specs.Calls.{Tick}
-use Rattle.mip_history.specs.Knowing.{now_in}
+use Rattle.mip_history.specs.Knowing.{now_in, secrets_in, part_in}
 use Rattle.mip_history.specs.Nodes.{acts}
 use Rattle.mip_history.specs.Waiting.{Waiting, due_of, earliest, comes_to, is_due, ticks_one, ticked, works, works_on, works_until, waited}
 use Rattle.mip_history.specs.Bound.{Lived, lived, accepted_by, packet_posted, packets_of}
-use Rattle.mip_history.proofs.Runs.{Meets, IsRun, Goes, goes_then}
+use Rattle.mip_history.proofs.Runs.{Meets, IsPast, IsRun, Goes, goes_then}
 use Rattle.mip_history.proofs.Acting.{stays, acts_calmly}
 
 -- a run comes to a moment
@@ -29,10 +29,10 @@ pub record Comes (s : Setup) (before after : Run) (at : ℕ) : Type 0 where
   pub life : (n : ℕ) → life_in after.past n ≡ life_in before.past n
 
 -- and is not beyond one
-record IsWithin (s : Setup) (before after : Run) (target : ℕ) : Type 0 where
-  run : IsRun s after
-  early : moment_in s.start after.past ≤ target
-  life : (n : ℕ) → life_in after.past n ≡ life_in before.past n
+pub record IsWithin (s : Setup) (before after : Run) (target : ℕ) : Type 0 where
+  pub run : IsRun s after
+  pub early : moment_in s.start after.past ≤ target
+  pub life : (n : ℕ) → life_in after.past n ≡ life_in before.past n
 
 all_later : (at later : ℕ) (past : List (Stamped Step)) → at ≤ later → AllByRecursion (λ t. t.at ≤ at) past → AllByRecursion (λ t. t.at ≤ later) past
 all_later at later [] p all = tt
@@ -49,14 +49,14 @@ at_comes s run m is later = record {
       packets = filter_map-append packet_posted run.past (e ∷ []) ∙ append-nil (packets_of run.past) ∙ is.kept.packets;
       each = each-append (Meets s) [] run.past (e ∷ []) is.kept.each (later, tt);
     };
-    pasts = λ n mine. let p = is.pasts n mine in record {
-      accepted = p.accepted ∙ sym (ap (λ (l : Lived). l.accepted) (fold-append (lived n) (record { at = s.start; accepted = [] }) run.past (e ∷ [])));
-      rises = p.rises;
-      early = subst (λ (at : ℕ). AllByRecursion (λ t. t.at ≤ at) (past_at run n)) (sym moment) (all_later (moment_in s.start run.past) m (past_at run n) later p.early);
+    pasts = λ n mine. goes_later n (past_at run n) (is.pasts n mine);
+    parts = λ n home agent host. let q = is.parts n home agent host in record {
+      secrets = q.secrets ∙ ap (λ (l : ℕ). secrets_in s n l) (sym (life n));
+      past = goes_later n (part_in s run n home).past q.past;
     };
   };
   moment = moment;
-  life = λ n. fold-append (restarts n) 0 run.past (e ∷ []);
+  life = life;
 }
   where
     e : Entry
@@ -64,6 +64,16 @@ at_comes s run m is later = record {
 
     moment : moment_in s.start (run.past ++ e ∷ []) ≡ m
     moment = fold-append (λ (at : ℕ) (x : Entry). unwrap_or (moment_says x) at) s.start run.past (e ∷ [])
+
+    life : (n : ℕ) → life_in (run.past ++ e ∷ []) n ≡ life_in run.past n
+    life n = fold-append (restarts n) 0 run.past (e ∷ [])
+
+    goes_later : (n : ℕ) (steps : List (Stamped Step)) → IsPast s run.past steps n → IsPast s (run.past ++ e ∷ []) steps n
+    goes_later n steps p = record {
+      accepted = p.accepted ∙ sym (ap (λ (l : Lived). l.accepted) (fold-append (lived n) (record { at = s.start; accepted = [] }) run.past (e ∷ [])));
+      rises = p.rises;
+      early = subst (λ (at : ℕ). AllByRecursion (λ t. t.at ≤ at) steps) (sym moment) (all_later (moment_in s.start run.past) m steps later p.early);
+    }
 
 comes_goes : (s : Setup) (m : ℕ) (w : Waiting) → IsRun s w.run → now_in s w.run ≤ m → Comes s w.run (comes_to s m w).run m
 comes_goes s m w is later = by (w.told && (now_in s w.run == m)) refl
@@ -118,7 +128,7 @@ module _ (s : Setup) (target : ℕ) (more : Waiting → Waiting) (keeps : (w : W
           let next = keeps (works s due w) one.run one.early in
           record { run = next.run; early = next.early; life = λ m. next.life m ∙ one.life m }
 
-works_until_within : (s : Setup) (target n : ℕ) (w : Waiting) → IsRun s w.run → now_in s w.run ≤ target → IsWithin s w.run (works_until s target n w).run target
+pub works_until_within : (s : Setup) (target n : ℕ) (w : Waiting) → IsRun s w.run → now_in s w.run ≤ target → IsWithin s w.run (works_until s target n w).run target
 unfolding works_until
 works_until_within s target zero w is early = record { run = is; early = early; life = λ n. refl }
 works_until_within s target (suc n) w is early =

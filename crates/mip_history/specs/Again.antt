@@ -9,7 +9,7 @@ use Rattle.mip_says.specs.Says.Carried.{Update}
 use Rattle.mip_bcache.specs.declared.accepted.Accepted.{Accepted}
 use Rattle.mip_entries.specs.declared.entry.Entry.{Entry}
 use Rattle.mip_entries.specs.declared.entry.Entry.TheVariants as entries
-use Rattle.mip_history.specs.Setup.{Setup, is_correspondent_at}
+use Rattle.mip_history.specs.Setup.{Setup}
 use Rattle.mip_history.specs.Bound.{packet_in, accepted_entry, is_restart_of}
 
 -- packet k, a list of bytes, carries this update
@@ -41,12 +41,11 @@ advance n home a _ = a
 unfoldable pub advanced : ℕ → ℕ → ℕ → List Entry → ℕ
 advanced n home last es = (fold (advance n home) (record { last = last; all = 0 }) es).all
 
--- in one life of a correspondent the same update is accepted again only where the sequences of its home have gone round since,
+-- in one life of a node the same update is accepted again only where the sequences of its home have gone round since,
 -- once or more
 abbrev pub RepeatsAfterRounds : Setup → List Entry → Type 0
 RepeatsAfterRounds s past =
     (before between after : List Entry) (n k l : ℕ) (home : Address) (a b : Accepted)
-    → is_correspondent_at s n ≡ true
     → past ≡ before ++ accepted_entry n k home a ∷ between ++ accepted_entry n l home b ∷ after
     → list_any (is_restart_of n) between ≡ false
     → IsRepeat past k l

@@ -19,8 +19,9 @@ use Rattle.mip_rules_correspondent.specs.declared.verdict.Verdict.TheVariants.{A
 use Rattle.mip_updates.specs.Registrations.{registration_in}
 use Rattle.mip_rules_correspondent.specs.Soundness.{IsSound}
 use Rattle.mip_rules_correspondent.specs.Verdicts.{Bench, verdict}
-use Rattle.mip_history.specs.Setup.{Setup, is_correspondent_at}
-use Rattle.mip_history.specs.Setup.Kind.{Correspondent}
+use Rattle.mip_rules_mobile.specs.Part.{IsReadIn}
+use Rattle.mip_history.specs.Setup.{Setup, Kind, part_room}
+use Rattle.mip_history.specs.Setup.Kind.{Correspondent, Agent, Mobile}
 use Rattle.mip_history.specs.Questions.{moment_in, life_in}
 
 -- the moment, and what a node has accepted in its present life, oldest first
@@ -72,18 +73,27 @@ judge_in s past n own room home = record {
   full = is_full room (accepted_by s.start past n) home (moment_in s.start past);
 }
 
+-- what a node reads of a packet that it is handed: a correspondent the packet itself, the correspondent part of a mobile the
+-- packet or the one within its tunnel
+abbrev pub IsReadBy : Kind → List ℕ → Packet → Type 0
+IsReadBy (Correspondent room) bytes packet = packet_of bytes ≡ Ok packet
+IsReadBy (Agent preference life room serves) bytes packet = ⊥
+IsReadBy (Mobile agent) bytes packet = IsReadIn bytes packet
+
 -- behind this history node n accepted packet k, which it had just been handed: the verdict on its bytes
 pub record IsAccepted (s : Setup) (past : List Entry) (n k : ℕ) (home : Address) (accepted : Accepted) : Type 0 where
-  -- it is a correspondent with this address and room
+  -- it is a correspondent, or a mobile, with this address and room
   pub own : Address
+  pub kind : Kind
   pub room : ℕ
-  pub is_host : slice_get s.hosts n ≡ Some (record { address = own; kind = Correspondent room })
+  pub is_host : slice_get s.hosts n ≡ Some (record { address = own; kind = kind })
+  pub has_room : part_room kind ≡ Some room
   pub earlier : List Entry
   pub handed : past ≡ earlier ++ entries.Handed k (node_id n) ∷ []
   pub bytes : List ℕ
   pub posted : packet_in past k ≡ Some bytes
   pub packet : Packet
-  pub read : packet_of bytes ≡ Ok packet
+  pub read : IsReadBy kind bytes packet
   pub mobility : packet.head.proto ≡ 135
   pub registration : Registration
   pub asks : registration_in packet.head.source packet.head.home packet.body ≡ Some registration
@@ -101,11 +111,6 @@ accepted_entry n k home a =
 abbrev pub is_accepted : Entry → Bool
 is_accepted (entries.Accepted node number home binding careof sequence end i j) = true
 is_accepted _ = false
-
--- by a correspondent. The correspondent part of a mobile accepts updates, too
-abbrev pub is_accepted_by_correspondent : Setup → Entry → Bool
-is_accepted_by_correspondent s (entries.Accepted node number home binding careof sequence end i j) = is_correspondent_at s node.0
-is_accepted_by_correspondent s _ = false
 
 -- an entry behind this history is that of an update which was accepted there
 pub record HasAccepted (s : Setup) (past : List Entry) (e : Entry) : Type 0 where

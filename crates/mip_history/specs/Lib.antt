@@ -16,3 +16,4 @@ pub mod Permitted
 pub mod Passing
 pub mod Bound
 pub mod Again
+pub mod Registered

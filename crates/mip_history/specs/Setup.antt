@@ -3,6 +3,7 @@ use Rattle.std.specs.Prelude.{ℕ, suc, List, [], ◌∷◌, Bool, true, false, 
 use Rattle.std.specs.Option.{option_and_then}
 use Rattle.mip_words.specs.declared.address.Address.{Address}
 use Rattle.mip_words.specs.declared.ids.NodeId.{NodeId}
+use Rattle.mip_rules_mobile.specs.Questions as mobiles
 use Rattle.mip_schedule.specs.Contents.{Content}
 use Rattle.mip_schedule.specs.declared.declaration.Declaration.{Declaration}
 use Rattle.mip_schedule.specs.declared.declaration.Declaration.TheVariants as declare
@@ -32,6 +33,13 @@ pub record Setup : Type 0 where
   pub hosts : List Host
   -- how many outsiders there are
   pub outsiders : ℕ
+
+-- how many homes the binding cache of a node keeps: that of a correspondent, or of the correspondent part of a mobile. An agent
+-- has none
+abbrev pub part_room : Kind → Option ℕ
+part_room (Correspondent room) = Some room
+part_room (Agent preference life room serves) = None
+part_room (Mobile agent) = Some mobiles.part_room
 
 abbrev pub is_correspondent_kind : Kind → Bool
 is_correspondent_kind (Correspondent room) = true

@@ -8,40 +8,46 @@ ghost use Rattle.mip_words.specs.declared.ids.NodeId.{NodeId};
 ghost use Rattle.mip_words.specs.declared.ids.LinkId.{LinkId};
 ghost use Rattle.mip_entries.specs.declared.entry.Entry.{Entry};
 ghost use Rattle.mip_entries.specs.declared.entry.Entry.TheVariants.{At, Sent, Injected, Heard, Handed, Claimed, Released, Taken};
+ghost use Rattle.mip_rules_agent.specs.declared.home_binding.HomeBinding.{HomeBinding};
+ghost use Rattle.mip_rules_agent.specs.Questions.{careof_at, kept_of};
 ghost use Rattle.mip_schedule.specs.Contents.{Content};
 ghost use Rattle.mip_schedule.specs.declared.event.Event.{Event};
 ghost use Rattle.mip_bcache.specs.declared.accepted.Accepted.{Accepted};
 ghost use Rattle.mip_binding.specs.Held.{floor, is_full};
 ghost use Rattle.mip_rules_correspondent.specs.Questions.{held_of, floor_of, is_full_for};
-ghost use Rattle.mip_history.specs.Setup.{Setup, setup_of, is_correspondent_at};
-ghost use Rattle.mip_history.specs.Setup.Kind.{Correspondent, Mobile};
+ghost use Rattle.mip_rules_mobile.specs.Questions.{part_room};
+ghost use Rattle.mip_history.specs.Setup.{Setup, setup_of};
+ghost use Rattle.mip_history.specs.Setup.Kind.{Correspondent, Agent, Mobile};
 ghost use Rattle.mip_history.specs.Runs.{Run};
 ghost use Rattle.mip_history.specs.Questions.{moment_in, life_in, holder_in};
-ghost use Rattle.mip_history.specs.Knowing.{known_in, now_in, mobile_known_in};
+ghost use Rattle.mip_history.specs.Knowing.{known_in, now_in, agent_known_in, mobile_known_in};
 ghost use Rattle.mip_history.specs.Homes.{is_at_home, lives_at, gives_up};
+ghost use Rattle.mip_history.specs.Waiting.{works_until};
 ghost use Rattle.mip_links.specs.Table.{link_of};
 ghost use Rattle.mip_history.specs.Permitted.{opening_claims, run_of, happens, permitted};
 ghost use Rattle.mip_history.specs.Claims.{is_free_for};
 ghost use Rattle.mip_history.specs.Passing.{waited_by, restarted_by};
 ghost use Rattle.mip_history.specs.Again.{RepeatsAfterRounds};
-ghost use Rattle.mip_history.specs.Bound.{accepted_by, held_in, packet_in, packets_of, accepted_entry, is_accepted_by_correspondent, is_restart_of, is_accepted_for, HasAccepted, IsBound};
+ghost use Rattle.mip_history.specs.Registered.{is_agent_at, registration_entry, last_registration, registered_in, IsRegistration, IsRegistered, HomeChange};
+ghost use Rattle.mip_history.specs.Bound.{accepted_by, held_in, packet_in, packets_of, accepted_entry, is_accepted, is_restart_of, is_accepted_for, HasAccepted, IsBound};
 
 /// A schedule with one event more is run by letting that event happen last.
 pub fn event_after_event()
     ensures { (s : Setup) (events : List Event) (event : Event) → run_of s (events ++ event ∷ []) ≡ happens s (run_of s events) event }
 {}
 
-/// In the permitted history of every schedule, a correspondent holds a care-of address by an update that it accepted: the
+/// In the permitted history of every schedule, a node holds a care-of address by an update that it accepted, a correspondent or
+/// the correspondent part of a mobile: the
 /// last one of its home in the present life of the node, whose packet had just been handed to the node, with
 /// the verdict Accept on its bytes by the secrets of that life, at that moment, with what was kept of the home
 /// just before. RFC 6275 section 9.5.1.
 pub fn held_was_accepted()
-    ensures { (c : Content) (n home careof : ℕ) → is_correspondent_at (setup_of c) n ≡ true → held_in (setup_of c) (permitted c) n home ≡ Some careof → IsBound (setup_of c) (permitted c) n home careof }
+    ensures { (c : Content) (n home careof : ℕ) → held_in (setup_of c) (permitted c) n home ≡ Some careof → IsBound (setup_of c) (permitted c) n home careof }
 {}
 
-/// Every update that a correspondent ever accepted had just been handed over, with that verdict.
+/// Every update that a correspondent or a mobile ever accepted had just been handed over, with that verdict; no other node accepts one.
 pub fn accepted_was_handed()
-    ensures { (c : Content) (before : List Entry) (e : Entry) (after : List Entry) → permitted c ≡ before ++ e ∷ after → is_accepted_by_correspondent (setup_of c) e ≡ true → HasAccepted (setup_of c) before e }
+    ensures { (c : Content) (before : List Entry) (e : Entry) (after : List Entry) → permitted c ≡ before ++ e ∷ after → is_accepted e ≡ true → HasAccepted (setup_of c) before e }
 {}
 
 /// In any history, the last update of a home that a node accepted in its present life is the one that counts: to its end
@@ -59,7 +65,7 @@ pub fn last_acceptance_counts()
         → floor (accepted_by s.start (before ++ accepted_entry n k home a ∷ after) n) home.0 now ≡ Some a.sequence }
 {}
 
-/// What a correspondent keeps of a home is what the history says of it.
+/// What a correspondent keeps of a home is what the history says of it, and so is what the correspondent part of a mobile keeps.
 pub fn nodes_keep_what_was_accepted()
     ensures held { (s : Setup) (events : List Event) (n : ℕ) (own : Address) (room : ℕ) (home : Address) → slice_get s.hosts n ≡ Some (record { address = own; kind = Correspondent room })
         → option_map (λ a. a.0) (held_of (known_in (run_of s events) n room) (now_in s (run_of s events)) home) ≡ held_in s (run_of s events).past n home.0 }
@@ -67,12 +73,24 @@ pub fn nodes_keep_what_was_accepted()
         → floor_of (known_in (run_of s events) n room) (now_in s (run_of s events)) home ≡ floor (accepted_by s.start (run_of s events).past n) home.0 (now_in s (run_of s events)) }
     ensures full { (s : Setup) (events : List Event) (n : ℕ) (own : Address) (room : ℕ) (home : Address) → slice_get s.hosts n ≡ Some (record { address = own; kind = Correspondent room })
         → is_full_for (known_in (run_of s events) n room) (now_in s (run_of s events)) home ≡ is_full room (accepted_by s.start (run_of s events).past n) home.0 (now_in s (run_of s events)) }
+    ensures part_held { (s : Setup) (events : List Event) (n : ℕ) (own : Address) (agent : Option Address) (home : Address) → slice_get s.hosts n ≡ Some (record { address = own; kind = Mobile agent })
+        → option_map (λ a. a.0) (held_of (mobile_known_in s (run_of s events) n own agent).part.known (now_in s (run_of s events)) home) ≡ held_in s (run_of s events).past n home.0 }
+    ensures part_floor { (s : Setup) (events : List Event) (n : ℕ) (own : Address) (agent : Option Address) (home : Address) → slice_get s.hosts n ≡ Some (record { address = own; kind = Mobile agent })
+        → floor_of (mobile_known_in s (run_of s events) n own agent).part.known (now_in s (run_of s events)) home ≡ floor (accepted_by s.start (run_of s events).past n) home.0 (now_in s (run_of s events)) }
+    ensures part_full { (s : Setup) (events : List Event) (n : ℕ) (own : Address) (agent : Option Address) (home : Address) → slice_get s.hosts n ≡ Some (record { address = own; kind = Mobile agent })
+        → is_full_for (mobile_known_in s (run_of s events) n own agent).part.known (now_in s (run_of s events)) home ≡ is_full part_room (accepted_by s.start (run_of s events).past n) home.0 (now_in s (run_of s events)) }
 {}
 
 /// Moments do not fall, and time goes on by what the schedule waits.
 pub fn moments_rise()
     ensures at { (c : Content) (before : List Entry) (moment : Moment) (after : List Entry) → permitted c ≡ before ++ At moment ∷ after → moment_in (setup_of c).start before ≤ moment.0 }
     ensures waited { (c : Content) → moment_in (setup_of c).start (permitted c) ≡ c.start.0 + sum_by waited_by c.events }
+{}
+
+/// Work that is due during a wait is done by the end of the wait: no moment of it is later.
+pub fn work_stays_within_its_wait()
+    ensures { (s : Setup) (events : List Event) (target rounds : ℕ) → now_in s (run_of s events) ≤ target
+        → now_in s (works_until s target rounds (record { run = run_of s events; told = false })).run ≤ target }
 {}
 
 /// Packets are numbered from 0 in the order in which they are posted, and are heard and handed over only then.
@@ -114,8 +132,36 @@ pub fn homes_pass_to_their_mobiles()
 {}
 
 /// In the permitted history of every schedule whose waits are at most 36,000 s together, as those of one that was read
-/// are, a correspondent accepts the same update again in one life only where the sequences of its home have gone round since
+/// are, a node accepts the same update again in one life only where the sequences of its home have gone round since
 /// then. Until its home nonce is no longer valid, the last sequence is kept. RFC 6275 sections 5.2.2 and 9.5.1.
 pub fn repeats_come_after_rounds()
     ensures { (c : Content) → sum_by waited_by c.events ≤ 36000000 → RepeatsAfterRounds (setup_of c) (permitted c) }
+{}
+
+/// In the permitted history of every schedule, a care-of address is registered at an agent by an update of this life of the
+/// agent, the last one for that home, not yet at its end. The mobile with that home had sent it under its shield, it names
+/// the care-of address, and its sequence came after the one that was kept. RFC 6275 section 10.3.1.
+pub fn registered_was_sent()
+    ensures { (c : Content) (n : ℕ) (home careof : Address) → is_agent_at (setup_of c) n ≡ true → registered_in (setup_of c) (permitted c) n home ≡ Some careof → IsRegistered (setup_of c) (permitted c) n home careof }
+{}
+
+/// The same update stands behind every registration of an agent, and behind every one that it ended. RFC 6275 sections
+/// 10.3.1 and 10.3.2.
+pub fn registrations_have_their_update()
+    ensures { (c : Content) (before : List Entry) (n : ℕ) (home : Address) (b : HomeBinding) (after : List Entry) → permitted c ≡ before ++ registration_entry n home b ∷ after → is_agent_at (setup_of c) n ≡ true
+        → IsRegistration (setup_of c) before n home b }
+{}
+
+/// Within an agent's life the registered care-of address of a home changes only by such an update, or by the end of its time.
+pub fn homes_change_by_updates_or_time()
+    ensures { (c : Content) (before : List Entry) (e : Entry) (after : List Entry) (n : ℕ) (home : Address) → permitted c ≡ before ++ e ∷ after → is_agent_at (setup_of c) n ≡ true
+        → HomeChange (setup_of c) before e n home }
+{}
+
+/// What an agent keeps of a home is what the history says of it: the registered care-of address, and the last sequence.
+pub fn agents_keep_what_was_registered()
+    ensures careof { (s : Setup) (events : List Event) (n : ℕ) (own : Address) (preference life room : ℕ) (serves : List Address) (home : Address) → slice_get s.hosts n ≡ Some (record { address = own; kind = Agent preference life room serves })
+        → careof_at (agent_known_in (run_of s events) n serves) (now_in s (run_of s events)) home ≡ registered_in s (run_of s events).past n home }
+    ensures kept { (s : Setup) (events : List Event) (n : ℕ) (own : Address) (preference life room : ℕ) (serves : List Address) (home : Address) → slice_get s.hosts n ≡ Some (record { address = own; kind = Agent preference life room serves })
+        → kept_of (agent_known_in (run_of s events) n serves) home ≡ option_map (λ b. b.sequence) (last_registration (run_of s events).past n home) }
 {}

@@ -1,6 +1,6 @@
 -- A run goes on by entries that are right.
-use Rattle.std.proofs.Common.{◌≡◌, ℕ, List, [], ◌∷◌, ◌++◌, Bool, true, false, refl, sym, ap, ◌∙◌, subst}
-use Rattle.std.specs.Prelude.{fold, map, Option, Some, None, unwrap_or, ◌||◌, if◌then◌else◌}
+use Rattle.std.proofs.Common.{◌≡◌, ℕ, List, [], ◌∷◌, ◌++◌, Bool, true, false, length, refl, sym, ap, ◌∙◌, subst}
+use Rattle.std.specs.Prelude.{fold, map, slice_get, slice_index_or, Option, Some, None, unwrap_or, ◌||◌, if◌then◌else◌}
 use Rattle.std.specs.List.{list_any, cons_option}
 use Rattle.std.proofs.lemmas.List.{append_assoc, append-nil}
 use Rattle.std.proofs.lemmas.List.Elements.{filter_map-append}
@@ -9,18 +9,24 @@ use Rattle.std.proofs.lemmas.List.Folds.{list_any-append}
 use Rattle.std.proofs.lemmas.Bool.{or_parts}
 use Rattle.mip_lists.specs.EachAfter.{EachAfter}
 use Rattle.mip_lists.proofs.EachLaws.{each-append}
+use Rattle.mip_words.specs.declared.address.Address.{Address}
 use Rattle.mip_nonce.specs.Secrets.{Life}
 use Rattle.mip_entries.specs.declared.entry.Entry.{Entry}
 use Rattle.mip_entries.specs.declared.entry.Entry.TheVariants as entries
+use Rattle.mip_entries.specs.Stamped.{Stamped}
 use Rattle.mip_links.specs.Table.{Post}
+use Rattle.mip_rules_mobile.specs.Steps as mobile_steps
+use Rattle.mip_rules_mobile.specs.Part.{PartLife, part_life}
 use Rattle.mip_marks.specs.declared.accepted_update.AcceptedUpdate.{AcceptedUpdate}
 use Rattle.mip_marks.specs.declared.mark.Mark.{Mark}
 use Rattle.mip_marks.specs.declared.mark.Mark.TheVariants.{Origin, Forged}
 use Rattle.mip_marks.specs.Entries.{update_accepted, mark_entry}
 use Rattle.mip_marks.specs.Marks.{mark_in}
 use Rattle.mip_history.specs.Setup.{Setup}
+use Rattle.mip_history.specs.Setup.Kind.{Mobile}
 use Rattle.mip_history.specs.Runs.{Run, note, notes, mobile_past_at}
 use Rattle.mip_history.specs.Questions.{moment_says, moment_in, restarts, life_in}
+use Rattle.mip_history.specs.Knowing.{secrets_in, part_in}
 use Rattle.mip_history.specs.Nodes.{marks_of, marked}
 use Rattle.mip_history.specs.Bound.{packet_posted, packets_of}
 use Rattle.mip_origin.specs.Marked.{IsFollowed, EachIsFollowed}
@@ -70,7 +76,7 @@ no_packets (e ∷ es) idle =
     let parts = or_parts (is_busy e) (list_any is_busy es) idle in
     ap (λ (o : Option (List ℕ)). cons_option o (packets_of es)) (unposted e parts.0) ∙ no_packets es parts.1
 
-all_untimed : (es : List Entry) → list_any is_busy es ≡ false → list_any is_timed es ≡ false
+pub all_untimed : (es : List Entry) → list_any is_busy es ≡ false → list_any is_timed es ≡ false
 all_untimed [] idle = refl
 all_untimed (e ∷ es) idle =
     let parts = or_parts (is_busy e) (list_any is_busy es) idle in
@@ -114,12 +120,34 @@ mark_unposted : (m : Mark) → packet_posted (mark_entry m) ≡ None
 mark_unposted (Origin hot cot update) = refl
 mark_unposted (Forged cause) = refl
 
+-- each node has its place among the pasts of mobiles, and the correspondent part of each mobile the secrets of the mobile's present life
+abbrev pub HaveSecrets : Setup → Run → Type 0
+HaveSecrets s run = (length run.mobile_pasts ≡ length s.hosts)
+    × ((n : ℕ) (home : Address) (agent : Option Address) → slice_get s.hosts n ≡ Some (record { address = home; kind = Mobile agent }) → (part_in s run n home).secrets ≡ life_of s run.past n)
+
+-- so they do where neither lives nor mobiles go on
+pub secrets_stay : (s : Setup) (a b : Run) → b.mobile_pasts ≡ a.mobile_pasts → ((n : ℕ) → life_of s b.past n ≡ life_of s a.past n) → HaveSecrets s a → HaveSecrets s b
+secrets_stay s a b same lives have = (
+  ap (λ (l : List (List (Stamped mobile_steps.Step))). length l) same ∙ have.0,
+  λ n home agent host.
+      ap (λ (l : List (List (Stamped mobile_steps.Step))). let p : PartLife = part_life home (secrets_in s n 0) (slice_index_or l n []) in p.secrets) same
+      ∙ have.1 n home agent host
+      ∙ sym (lives n),
+)
+
+-- entries that restart nobody leave lives as they were
+pub untimed_life : (s : Setup) (front es : List Entry) (n : ℕ) → list_any is_timed es ≡ false → life_of s (front ++ es) n ≡ life_of s front n
+untimed_life s front es n steady =
+    ap (λ (l : ℕ). let x : Life = record { seed = s.seed; node = n; life = l } in x)
+    (fold-append (restarts n) 0 front es ∙ fold_same (restarts n) (life_same n) (life_in front n) es steady)
+
 module _ (s : Setup) (Q : Type 0) where
   -- a run goes on by entries that are right, if Q holds, and no time passes
   pub record Adds (a b : Run) : Type 0 where
     pub es : List Entry
     pub whole : b.past ≡ a.past ++ es
-    pub own : Q → EachAfter (IsOwnEntry s) a.past es
+    pub own : Q → HaveSecrets s a → EachAfter (IsOwnEntry s) a.past es
+    pub secrets : HaveSecrets s a → HaveSecrets s b
     pub followed : EachIsFollowed a.past es
     pub steady : list_any is_timed es ≡ false
     pub good : IsGood b
@@ -135,14 +163,19 @@ module _ (s : Setup) (Q : Type 0) where
       ap (λ (l : ℕ). let x : Life = record { seed = s.seed; node = n; life = l } in x)
       (ap (λ (past : List Entry). life_in past n) adds.whole ∙ fold-append (restarts n) 0 a.past adds.es ∙ fold_same (restarts n) (life_same n) (life_in a.past n) adds.es adds.steady)
 
-  pub adds_same : (a b : Run) → b.past ≡ a.past → IsGood b → Adds a b
-  adds_same a b e good = record { es = []; whole = e ∙ sym (append-nil a.past); own = λ q. tt; followed = tt; steady = refl; good = good }
+  -- a run whose history stands
+  pub adds_none : (a b : Run) → b.past ≡ a.past → (HaveSecrets s a → HaveSecrets s b) → IsGood b → Adds a b
+  adds_none a b e secrets good = record { es = []; whole = e ∙ sym (append-nil a.past); own = λ q h. tt; secrets = secrets; followed = tt; steady = refl; good = good }
+
+  pub adds_same : (a b : Run) → b.past ≡ a.past → b.mobile_pasts ≡ a.mobile_pasts → IsGood b → Adds a b
+  adds_same a b e same good = adds_none a b e (secrets_stay s a b same (λ n. ap (λ (past : List Entry). life_of s past n) e)) good
 
   pub adds_then : (a b c : Run) → Adds a b → Adds b c → Adds a c
   adds_then a b c p q = record {
     es = p.es ++ q.es;
     whole = q.whole ∙ ap (λ (l : List Entry). l ++ q.es) p.whole ∙ append_assoc a.past p.es q.es;
-    own = λ x. each-append (IsOwnEntry s) a.past p.es q.es (p.own x) (subst (λ (l : List Entry). EachAfter (IsOwnEntry s) l q.es) p.whole (q.own x));
+    own = λ x h. each-append (IsOwnEntry s) a.past p.es q.es (p.own x h) (subst (λ (l : List Entry). EachAfter (IsOwnEntry s) l q.es) p.whole (q.own x (p.secrets h)));
+    secrets = λ h. q.secrets (p.secrets h);
     followed = followed-append a.past p.es q.es p.followed (subst (λ (l : List Entry). EachIsFollowed l q.es) p.whole q.followed);
     steady = list_any-append is_timed p.es q.es ∙ ap (λ (x : Bool). x || list_any is_timed q.es) p.steady ∙ q.steady;
     good = q.good;
@@ -152,7 +185,8 @@ module _ (s : Setup) (Q : Type 0) where
   adds_notes es run idle good = record {
     es = es;
     whole = refl;
-    own = λ q. each_idle s run.past es idle;
+    own = λ q h. each_idle s run.past es idle;
+    secrets = secrets_stay s run (notes es run) refl (λ n. untimed_life s run.past es n (all_untimed es idle));
     followed = followed_idle run.past es idle;
     steady = all_untimed es idle;
     good = good_notes es run (no_packets es idle) good;
@@ -173,7 +207,8 @@ module _ (s : Setup) (Q : Type 0) where
       by None is = record {
         es = e ∷ [];
         whole = refl;
-        own = λ q. (own q, tt);
+        own = λ q h. (own q, tt);
+        secrets = secrets_stay s run (note e run) refl (λ n. untimed_life s run.past (e ∷ []) n (ap (λ (x : Bool). x || false) steady));
         followed = (subst (λ (o : Option AcceptedUpdate). IsFollowed run.past o []) (sym is) tt, tt);
         steady = ap (λ (x : Bool). x || false) steady;
         good = good_notes (e ∷ []) run (ap (λ (o : Option (List ℕ)). cons_option o []) silent) good;
@@ -181,7 +216,10 @@ module _ (s : Setup) (Q : Type 0) where
       by (Some a) is = record {
         es = e ∷ mark_entry (mark_in run.past a) ∷ [];
         whole = refl;
-        own = λ q. (own q, (mark_own s (run.past ++ e ∷ []) (mark_in run.past a), tt));
+        own = λ q h. (own q, (mark_own s (run.past ++ e ∷ []) (mark_in run.past a), tt));
+        secrets = secrets_stay s run (notes (e ∷ mark_entry (mark_in run.past a) ∷ []) run) refl
+            (λ n. untimed_life s run.past (e ∷ mark_entry (mark_in run.past a) ∷ []) n
+            (ap (λ (x : Bool). x || list_any is_timed (mark_entry (mark_in run.past a) ∷ [])) steady ∙ ap (λ (x : Bool). x || false) (mark_steady (mark_in run.past a))));
         followed = (
           subst (λ (o : Option AcceptedUpdate). IsFollowed run.past o (mark_entry (mark_in run.past a) ∷ [])) (sym is) ([], refl),
           (mark_followed (run.past ++ e ∷ []) (mark_in run.past a), tt),

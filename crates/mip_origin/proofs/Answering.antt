@@ -43,7 +43,9 @@ module _ (s : Setup) (Q : Type 0) where
       (subst (λ (t : ℕ). IsOwnTest (life_of s a.past n) t (carried packet)) (sym (adds_moment s Q a b adds)) right)
   from_more a b n packet (Some (Agent preference life room serves)) adds right =
       subst (λ (l : List Entry). IfSome (token_in (carried packet)) (HasCome l n)) (sym adds.whole) (if_come_more a.past adds.es n (token_in (carried packet)) right)
-  from_more a b n packet (Some (Mobile agent)) adds right = tt
+  from_more a b n packet (Some (Mobile agent)) adds right =
+      subst (λ (l : Life). IsOwnTest l (moment_in s.start b.past) (carried packet)) (sym (adds_life s Q a b n adds))
+      (subst (λ (t : ℕ). IsOwnTest (life_of s a.past n) t (carried packet)) (sym (adds_moment s Q a b adds)) right)
   from_more a b n packet None adds right = tt
 
   noted_more : (front es : List Entry) (n : ℕ) (e : Entry) → IsNoted front n e → IsNoted (front ++ es) n e
@@ -67,7 +69,7 @@ module _ (s : Setup) (Q : Type 0) where
   adds_left n (entries.Claimed who link address) run good noted = adds_claims s Q n address run good
   adds_left n (entries.Taken who link address holder) run good noted = adds_claims s Q n address run good
   adds_left n (entries.Released who link address) run good noted = adds_gives_up s Q n address run good
-  adds_left n (entries.Restarted node) run good noted = adds_same s Q run run refl good
+  adds_left n (entries.Restarted node) run good noted = adds_same s Q run run refl refl good
   adds_left n (entries.Home node home careof sequence end) run good noted =
       adds_marked s Q (entries.Home (node_id n) home careof sequence end) run good (λ q. noted) refl refl
   adds_left n (entries.Made node peer number home careof) run good noted =
@@ -99,7 +101,7 @@ module _ (s : Setup) (Q : Type 0) where
 
   pub adds_answers : (n from : ℕ) (answers : List Answer) (run : Run) → IsGood run → AllByRecursion (IsRight run.past n) answers → Adds s Q run (answered s n from run answers)
   unfolding answered
-  adds_answers n from [] run good right = adds_same s Q run run refl good
+  adds_answers n from [] run good right = adds_same s Q run run refl refl good
   adds_answers n from (answer ∷ answers) run good right =
       let next : Run = answered_one s n from run answer in
       let one : Adds s Q run next = adds_answer n from answer run good right.0 in

@@ -47,7 +47,7 @@ told k n post link run good posted = λ t says. record {
 
 module _ (s : Setup) (Q : Type 0) where
   adds_overheard_at : (post : Post) (k : ℕ) (link : Option ℕ) (run : Run) → IsGood run → Adds s Q run (overheard_at s post k link run)
-  adds_overheard_at post k None run good = adds_same s Q run run refl good
+  adds_overheard_at post k None run good = adds_same s Q run run refl refl good
   adds_overheard_at post k (Some link) run good = adds_overheard s Q link post.shield None k run good
 
   adds_handed : (k n : ℕ) (post : Post) (link : Option ℕ) (run : Run) → IsGood run → slice_get run.posts k ≡ Some post → Adds s Q run (handed s k post n link run)
@@ -56,7 +56,7 @@ module _ (s : Setup) (Q : Type 0) where
       let next : Run = note (entries.Handed k (node_id n)) run in
       let one : Adds s Q run next = adds_one s Q (entries.Handed k (node_id n)) run refl good in
       adds_then s Q run next _ one
-      (adds_acts s Q n next one.good (Take k post.shield (handed_over post.packet link)) (λ q. tt) (told k n post link run one.good posted))
+      (adds_acts s Q n next one.good (Take k post.shield (handed_over post.packet link)) refl (λ q. tt) (told k n post link run one.good posted))
 
   adds_became : (k : ℕ) (post : Post) (link : Option ℕ) (run : Run) (d : Delivery) → IsGood run → slice_get run.posts k ≡ Some post → Adds s Q run (became s k post link run d)
   adds_became k post link run Idle good posted = adds_one s Q entries.Idle run refl good
@@ -74,7 +74,7 @@ module _ (s : Setup) (Q : Type 0) where
       one = adds_overheard_at post k link run good
 
       by : (b : Bool) → Adds s Q (overheard_at s post k link run) (if b then overheard_at s post k link run else note (entries.Heard k (outsider_of who)) (overheard_at s post k link run))
-      by true = adds_same s Q _ _ refl one.good
+      by true = adds_same s Q (overheard_at s post k link run) (overheard_at s post k link run) refl refl one.good
       by false = adds_one s Q (entries.Heard k (outsider_of who)) (overheard_at s post k link run) refl one.good
   adds_became k post link run (Node n) good posted =
       let one : Adds s Q run (overheard_at s post k link run) = adds_overheard_at post k link run good in
@@ -97,16 +97,16 @@ module _ (s : Setup) (Q : Type 0) where
   adds_delivered run k true good = adds_arrived k run (in_pool run.flying run.posts k) good (pool_posted run k)
   adds_delivered run k false good =
       let still : IsGood (without k run) = record { packets = good.packets; mobiles = good.mobiles } in
-      adds_then s Q run (without k run) _ (adds_same s Q run (without k run) refl still)
+      adds_then s Q run (without k run) _ (adds_same s Q run (without k run) refl refl still)
       (adds_arrived k (without k run) (in_pool run.flying run.posts k) still (pool_posted run k))
 
   adds_carried_one : (run : Run) (o : Option ℕ) → IsGood run → Adds s Q run (carried_one s run o)
-  adds_carried_one run None good = adds_same s Q run run refl good
+  adds_carried_one run None good = adds_same s Q run run refl refl good
   adds_carried_one run (Some k) good = adds_delivered run k false good
 
   pub adds_carried : (run : Run) (n : ℕ) → IsGood run → Adds s Q run (carries s run n)
   unfolding carries
-  adds_carried run zero good = adds_same s Q run run refl good
+  adds_carried run zero good = adds_same s Q run run refl refl good
   adds_carried run (suc n) good =
       let one : Adds s Q run (carries s run n) = adds_carried run n good in
       adds_then s Q run (carries s run n) _ one (adds_carried_one (carries s run n) (lowest_of (carries s run n).flying) one.good)

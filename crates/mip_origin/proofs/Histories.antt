@@ -2,6 +2,7 @@
 use Rattle.std.proofs.Common.{◌≡◌, ℕ, zero, suc, List, [], ◌∷◌, ◌++◌, Bool, true, false, length, refl, sym, ap, ◌∙◌, subst}
 use Rattle.std.specs.Prelude.{fold, map, Option, Some, None, ◌||◌, if◌then◌else◌, slice_get, slice_index_or}
 use Rattle.std.specs.List.{list_any, AllByRecursion}
+use Rattle.std.proofs.lemmas.List.{length-map}
 use Rattle.std.proofs.lemmas.List.Folds.{list_any-append}
 use Rattle.mip_lists.specs.EachAfter.{EachAfter}
 use Rattle.mip_lists.proofs.EachLaws.{each-append}
@@ -12,6 +13,9 @@ use Rattle.mip_bcache.specs.Seen.{kept_at}
 use Rattle.mip_entries.specs.declared.entry.Entry.{Entry}
 use Rattle.mip_entries.specs.declared.entry.Entry.TheVariants as entries
 use Rattle.mip_entries.specs.Completed.{node_id}
+use Rattle.mip_entries.specs.Stamped.{Stamped}
+use Rattle.mip_rules_mobile.specs.Steps as mobiles
+use Rattle.mip_rules_mobile.specs.Part.{PartLife, part_life}
 use Rattle.mip_rules_agent.specs.declared.home_row.HomeRow.{HomeRow}
 use Rattle.mip_rules_agent.specs.Questions.{rows_at}
 use Rattle.mip_schedule.specs.Contents.{Content}
@@ -23,16 +27,16 @@ use Rattle.mip_history.specs.Setup.Kind.{Correspondent, Agent, Mobile}
 use Rattle.mip_history.specs.Runs.{Run, without}
 use Rattle.mip_history.specs.Questions.{hears_in}
 use Rattle.mip_history.specs.Calls as calls
-use Rattle.mip_history.specs.Knowing.{now_in, known_in, agent_known_in, mobile_known_in}
+use Rattle.mip_history.specs.Knowing.{now_in, secrets_in, known_in, agent_known_in, mobile_known_in, part_in}
 use Rattle.mip_history.specs.Claims.{link_id}
 use Rattle.mip_history.specs.Nodes.{acts, row_entry, home_entry, rows_by_kind, rows_shown, shown}
 use Rattle.mip_history.specs.Outsiders.{probe_packet, update_packet, test_packet}
 use Rattle.mip_history.specs.Permitted.{is_first_agent, claimed_entry, anycast_at, claims_of, claims_from, opening_claims, opened, lost, moves, happens, permitted}
 use Rattle.mip_origin.specs.Marked.{EachIsFollowed}
-use Rattle.mip_origin.specs.OwnHistories.{IsOwnEntry, IsPlainEvent, ArePlain}
+use Rattle.mip_origin.specs.OwnHistories.{life_of, IsOwnEntry, IsPlainEvent, ArePlain}
 use Rattle.mip_origin.proofs.Coming.{AreGiven}
 use Rattle.mip_origin.proofs.Following.{is_busy, followed_idle, followed-append}
-use Rattle.mip_origin.proofs.Adding.{no_packets, each_idle, IsGood, Adds, adds_same, adds_then, adds_notes, adds_one, adds_either}
+use Rattle.mip_origin.proofs.Adding.{all_untimed, no_packets, each_idle, IsGood, HaveSecrets, untimed_life, Adds, adds_same, adds_then, adds_notes, adds_one, adds_either}
 use Rattle.mip_origin.proofs.Posting.{adds_injected, adds_injected_if, adds_claims, adds_gives_up}
 use Rattle.mip_origin.proofs.Acting.{adds_acts}
 use Rattle.mip_origin.proofs.Delivering.{adds_delivered, adds_carried}
@@ -64,12 +68,12 @@ module _ (s : Setup) (Q : Type 0) where
   unfolding lost
   adds_lost run k good =
       let still : IsGood (without k run) = record { packets = good.packets; mobiles = good.mobiles } in
-      adds_then s Q run (without k run) _ (adds_same s Q run (without k run) refl still)
+      adds_then s Q run (without k run) _ (adds_same s Q run (without k run) refl refl still)
       (adds_either s Q (slice_index_or run.flying k false) (entries.Lost k) entries.Idle (without k run) refl refl still)
 
   adds_moves : (run : Run) (n : ℕ) (link : Option LinkId) → IsGood run → Adds s Q run (moves s run n link)
   adds_moves run n link good =
-      let one : Adds s Q run (acts s n calls.Leave run) = adds_acts s Q n run good calls.Leave (λ q. tt) tt in
+      let one : Adds s Q run (acts s n calls.Leave run) = adds_acts s Q n run good calls.Leave refl (λ q. tt) tt in
       adds_then s Q run (acts s n calls.Leave run) _ one (adds_one s Q (entries.Moved (node_id n) link) (acts s n calls.Leave run) refl one.good)
 
   -- what an event makes of a run
@@ -77,7 +81,7 @@ module _ (s : Setup) (Q : Type 0) where
   goes_happens run (Wait ms) plain good = goes_waited s Q run ms good
   goes_happens run (Move node link) plain good = goes_adds s Q run _ (adds_moves run node.0 link good)
   goes_happens run (Advertise link) plain good = goes_advertised s Q run link.0 good
-  goes_happens run (Payload node to proto payload) plain good = goes_adds s Q run _ (adds_acts s Q node.0 run good (calls.Send to proto payload) plain tt)
+  goes_happens run (Payload node to proto payload) plain good = goes_adds s Q run _ (adds_acts s Q node.0 run good (calls.Send to proto payload) refl plain tt)
   goes_happens run (Inject o link packet) plain good = goes_adds s Q run _ (adds_injected s Q o link.0 packet run good)
   goes_happens run (Probe o link careof source peer cookie) plain good = goes_adds s Q run _ (adds_injected s Q o link.0 (probe_packet careof source peer cookie.0) run good)
   goes_happens run (Bind o link source peer home careof sequence lifetime kh kc) plain good =
@@ -93,21 +97,23 @@ module _ (s : Setup) (Q : Type 0) where
   goes_happens run (Lose k) plain good = goes_adds s Q run _ (adds_lost run k good)
   goes_happens run (Carry count) plain good = goes_adds s Q run _ (adds_carried s Q run count good)
   goes_happens run (Restart node) plain good = goes_restarted s Q run node.0 good
-  goes_happens run (Refresh node home) plain good = goes_adds s Q run _ (adds_acts s Q node.0 run good (calls.Refresh home) (λ q. tt) tt)
-  goes_happens run (Plan node valid preferred) plain good = goes_adds s Q run _ (adds_acts s Q node.0 run good (calls.Plan valid preferred) (λ q. tt) tt)
-  goes_happens run (Ask node) plain good = goes_adds s Q run _ (adds_acts s Q node.0 run good calls.Ask (λ q. tt) tt)
+  goes_happens run (Refresh node home) plain good = goes_adds s Q run _ (adds_acts s Q node.0 run good (calls.Refresh home) refl (λ q. tt) tt)
+  goes_happens run (Plan node valid preferred) plain good = goes_adds s Q run _ (adds_acts s Q node.0 run good (calls.Plan valid preferred) refl (λ q. tt) tt)
+  goes_happens run (Ask node) plain good = goes_adds s Q run _ (adds_acts s Q node.0 run good calls.Ask refl (λ q. tt) tt)
   goes_happens run (Show node) plain good = goes_adds s Q run _ (adds_shown node.0 run good)
   goes_happens run (Settle a b) plain good = goes_adds s Q run _ (adds_one s Q entries.Idle run refl good)
 
   -- each entry so far is right, and each `accepted` is followed by its mark
   pub record IsOwnRun (run : Run) : Type 0 where
     pub own : Q → EachAfter (IsOwnEntry s) [] run.past
+    pub secrets : HaveSecrets s run
     pub followed : EachIsFollowed [] run.past
     pub good : IsGood run
 
   own_goes : (a b : Run) → IsOwnRun a → Goes s Q a b → IsOwnRun b
   own_goes a b is goes = record {
-    own = λ q. subst (λ (l : List Entry). EachAfter (IsOwnEntry s) [] l) (sym goes.whole) (each-append (IsOwnEntry s) [] a.past goes.es (is.own q) (goes.own q));
+    own = λ q. subst (λ (l : List Entry). EachAfter (IsOwnEntry s) [] l) (sym goes.whole) (each-append (IsOwnEntry s) [] a.past goes.es (is.own q) (goes.own q is.secrets));
+    secrets = goes.secrets is.secrets;
     followed = subst (λ (l : List Entry). EachIsFollowed [] l) (sym goes.whole) (followed-append [] a.past goes.es is.followed goes.followed);
     good = goes.good;
   }
@@ -137,6 +143,27 @@ none_given front m [] n = tt
 none_given front m (h ∷ hosts) zero = tt
 none_given front m (h ∷ hosts) (suc n) = none_given front m hosts n
 
+-- the secrets of the first lives, which the opening claims leave as they are
+no_mobile_past : (hosts : List Host) (n : ℕ) → slice_index_or (map (λ (host : Host). let l : List (Stamped mobiles.Step) = [] in l) hosts) n [] ≡ []
+no_mobile_past [] n = refl
+no_mobile_past (host ∷ hosts) zero = refl
+no_mobile_past (host ∷ hosts) (suc n) = no_mobile_past hosts n
+
+first_secrets : (s : Setup) → HaveSecrets s (opened s)
+unfolding part_life
+first_secrets s = (
+  length-map s.hosts (λ (host : Host). let l : List (Stamped mobiles.Step) = [] in l),
+  λ n home agent host. first n home,
+)
+  where
+    quiet : list_any is_busy (opening_claims s) ≡ false
+    quiet = claims_idle s (Unit {0}) s.links [] s.hosts
+
+    first : (n : ℕ) (home : Address) → (part_in s (opened s) n home).secrets ≡ life_of s (opened s).past n
+    first n home =
+        ap (λ (l : List (Stamped mobiles.Step)). let p : PartLife = part_life home (secrets_in s n 0) l in p.secrets) (no_mobile_past s.hosts n)
+        ∙ sym (untimed_life s [] (opening_claims s) n (all_untimed (opening_claims s) quiet))
+
 -- the whole history of a schedule
 run_is_own : (c : Content) → IsOwnRun (setup_of c) (ArePlain c) (let r : Run = fold (λ run event. happens (setup_of c) run event) (opened (setup_of c)) c.events in r)
 run_is_own c =
@@ -145,6 +172,7 @@ run_is_own c =
     own_all s (ArePlain c) (opened s) c.events (λ q. q)
     (record {
       own = λ q. each_idle s [] (opening_claims s) quiet;
+      secrets = first_secrets s;
       followed = followed_idle [] (opening_claims s) quiet;
       good = record { packets = no_packets (opening_claims s) quiet; mobiles = λ n. none_given (opening_claims s) n s.hosts n };
     })

@@ -43,6 +43,6 @@ permitted_marked c plain short before e after whole is =
     by : (a : AcceptedUpdate) → update_accepted e ≡ Some a → (m : Mark) → mark_in before a ≡ m → Means (setup_of c) before e a m
     by a told (Origin hot cot update) mark = (
       permitted_stands c plain before e after whole a hot cot update mark,
-      λ is. permitted_origin c plain short before e after whole a told is hot cot update mark,
+      permitted_origin c plain short before e after whole a told hot cot update mark,
     )
     by a told (Forged cause) mark = tt

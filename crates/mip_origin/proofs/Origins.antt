@@ -1,6 +1,6 @@
 -- An acceptance in a permitted history that is not forged has its origin.
 use Rattle.std.proofs.Common.{◌≡◌, ℕ, ◌+◌, ◌/◌, ◌%◌, ◌<◌, ◌≤◌, List, [], ◌∷◌, ◌++◌, refl, sym, ap, ◌∙◌, subst, true, arith}
-use Rattle.std.specs.Prelude.{fold, Option, Some, None, option_map}
+use Rattle.std.specs.Prelude.{fold, Option, Some, None, option_map, slice_get}
 use Rattle.std.specs.List.{sum_by}
 use Rattle.mip_words.specs.declared.address.Address.{Address}
 use Rattle.mip_words.specs.declared.ids.NodeId.{NodeId}
@@ -26,12 +26,12 @@ use Rattle.mip_marks.specs.Marks.{mark_in}
 use Rattle.mip_marks.specs.Origins.{WasSent, HasCareof, HasOrigin}
 use Rattle.mip_marks.proofs.ListLaws.{each_before}
 use Rattle.mip_marks.proofs.Originating.{origin_stands}
-use Rattle.mip_history.specs.Setup.{Setup, Host, is_correspondent_at, setup_of}
-use Rattle.mip_history.specs.Setup.Kind.{Correspondent}
+use Rattle.mip_history.specs.Setup.{Setup, Host, Kind, part_room, setup_of}
+use Rattle.mip_history.specs.Setup.Kind.{Correspondent, Agent, Mobile}
 use Rattle.mip_history.specs.Questions.{moment_in, restarts}
 use Rattle.mip_history.specs.Passing.{waited_by}
 use Rattle.mip_history.specs.Permitted.{permitted}
-use Rattle.mip_history.specs.Bound.{IsAccepted, HasAccepted, accepted_entry, is_accepted_by_correspondent}
+use Rattle.mip_history.specs.Bound.{IsAccepted, HasAccepted, accepted_entry, is_accepted}
 use Rattle.mip_history.proofs.Runs.{Meets}
 use Rattle.mip_history.proofs.Bindings.{each_rest}
 use Rattle.mip_history.proofs.Moments.{rises_from}
@@ -61,16 +61,29 @@ same_number now then_ i valid up near same = one_number (now / 30000) (then_ / 3
 the : (a b : ℕ) → Some a ≡ Some b → a ≡ b
 the a b e = cc
 
+-- whatever is right of what node n sends, a test in it is its own
+abbrev AreTested : Setup → ℕ → Type 0
+AreTested s n = (front : List Entry) (packet : List ℕ) → IsRightFrom s front n packet (kind_at s n) → IsOwnTest (life_of s front n) (moment_in s.start front) (carried packet)
+
+accepted_tests : (s : Setup) (n : ℕ) (own : Address) (kind : Kind) (room : ℕ) → slice_get s.hosts n ≡ Some (record { address = own; kind = kind }) → part_room kind ≡ Some room → AreTested s n
+accepted_tests s n own kind room host_is has front packet right =
+    by kind has (subst (IsRightFrom s front n packet) (ap (option_map (λ (h : Host). h.kind)) host_is) right)
+  where
+    by : (kind : Kind) → part_room kind ≡ Some room → IsRightFrom s front n packet (Some kind) → IsOwnTest (life_of s front n) (moment_in s.start front) (carried packet)
+    by (Correspondent room') has right = right
+    by (Agent preference life room' serves) has right = absurd cc
+    by (Mobile agent) has right = right
+
 module _ (s : Setup) (past : List Entry) (each : EachAfter (Meets s) [] past) (own : EachAfter (IsOwnEntry s) [] past) (short : moment_in s.start past ≤ s.start + 36000000) where
   -- the token of a test that was sent in this life is that of the nonce which its index names at the end of the history
   sent_is : (node : NodeId) (number kind index : ℕ) (token : List ℕ) (address : Address) (i : ℕ) → WasSent past node number kind index token address
-      → (room : ℕ) → kind_at s node.0 ≡ Some (Correspondent room) → IsValidAt (moment_in s.start past) i → index ≡ index_of i → token ≡ token_in_life s past node.0 kind address i
-  sent_is node number kind index token address i sent room is valid named =
+      → AreTested s node.0 → IsValidAt (moment_in s.start past) i → index ≡ index_of i → token ≡ token_in_life s past node.0 kind address i
+  sent_is node number kind index token address i sent tested valid named =
       let e : Entry = entries.Sent number node sent.shielded sent.packet in
       let then_ : ℕ = moment_in s.start sent.earlier in
       let right : IsRightFrom s sent.earlier node.0 sent.packet (kind_at s node.0) =
       each_at (IsOwnEntry s) [] sent.earlier e sent.later (subst (λ (l : List Entry). EachAfter (IsOwnEntry s) [] l) sent.whole own) in
-      let owned : IsOwnTest (life_of s sent.earlier node.0) then_ (carried sent.packet) = subst (IsRightFrom s sent.earlier node.0 sent.packet) is right in
+      let owned : IsOwnTest (life_of s sent.earlier node.0) then_ (carried sent.packet) = tested sent.earlier sent.packet right in
       let told : IsOwnTest (life_of s sent.earlier node.0) then_ (Test kind index token address) = subst (IsOwnTest (life_of s sent.earlier node.0) then_) sent.says owned in
       let split : EachAfter (Meets s) [] (sent.earlier ++ e ∷ sent.later) = subst (λ (l : List Entry). EachAfter (Meets s) [] l) sent.whole each in
       let front : EachAfter (Meets s) [] sent.earlier = each_before (Meets s) [] sent.earlier (e ∷ sent.later) split in
@@ -87,16 +100,16 @@ module _ (s : Setup) (past : List Entry) (each : EachAfter (Meets s) [] past) (o
 
   -- the care-of token, where the binding does not end
   careof_is : (a : AcceptedUpdate) (earlier : List Entry) (maker : Maker) (index : Option ℕ) (token : Option (List ℕ)) (cot : Option ℕ) (nonce : Option ℕ) → HasCareof past a earlier maker index token cot
-      → (room : ℕ) → kind_at s a.node.0 ≡ Some (Correspondent room) → index ≡ option_map index_of nonce → ((j : ℕ) → nonce ≡ Some j → IsValidAt (moment_in s.start past) j) → IsCareofToken s past a.node.0 a.careof nonce token
-  careof_is a earlier maker (Some index) (Some token) (Some cot) (Some j) has room is named valid =
-      sent_is a.node cot 1 index token a.careof j has.0 room is (valid j refl) (the index (index_of j) named)
-  careof_is a earlier maker None None None None has room is named valid = tt
-  careof_is a earlier maker (Some index) token cot None has room is named valid = absurd cc
-  careof_is a earlier maker None token cot (Some j) has room is named valid = absurd cc
-  careof_is a earlier maker (Some index) None cot (Some j) has room is named valid = absurd has
-  careof_is a earlier maker (Some index) (Some token) None (Some j) has room is named valid = absurd has
-  careof_is a earlier maker None (Some token) cot None has room is named valid = absurd has
-  careof_is a earlier maker None None (Some cot) None has room is named valid = absurd has
+      → AreTested s a.node.0 → index ≡ option_map index_of nonce → ((j : ℕ) → nonce ≡ Some j → IsValidAt (moment_in s.start past) j) → IsCareofToken s past a.node.0 a.careof nonce token
+  careof_is a earlier maker (Some index) (Some token) (Some cot) (Some j) has tested named valid =
+      sent_is a.node cot 1 index token a.careof j has.0 tested (valid j refl) (the index (index_of j) named)
+  careof_is a earlier maker None None None None has tested named valid = tt
+  careof_is a earlier maker (Some index) token cot None has tested named valid = absurd cc
+  careof_is a earlier maker None token cot (Some j) has tested named valid = absurd cc
+  careof_is a earlier maker (Some index) None cot (Some j) has tested named valid = absurd has
+  careof_is a earlier maker (Some index) (Some token) None (Some j) has tested named valid = absurd has
+  careof_is a earlier maker None (Some token) cot None has tested named valid = absurd has
+  careof_is a earlier maker None None (Some cot) None has tested named valid = absurd has
 
 -- an accepted update as its entry tells it
 abbrev update_of : ℕ → ℕ → Address → Accepted → AcceptedUpdate
@@ -120,13 +133,9 @@ careof_valid now r indices (Some k) is j e = subst (IsValidAt now) (number_same 
     number_same : (k j : ℕ) → Some k ≡ Some j → k ≡ j
     number_same k j e = cc
 
-by_correspondent : (s : Setup) (e : Entry) (a : AcceptedUpdate) → update_accepted e ≡ Some a → is_correspondent_at s a.node.0 ≡ true → is_accepted_by_correspondent s e ≡ true
-by_correspondent s (entries.Accepted node number home binding careof sequence end i j) a told is =
-    ap (λ (n : NodeId). is_correspondent_at s n.0) (node_same node a.node (ap (option_map (λ (u : AcceptedUpdate). u.node)) told)) ∙ is
-  where
-    node_same : (x y : NodeId) → Some x ≡ Some y → x ≡ y
-    node_same x y e = cc
-by_correspondent s _ a told is = absurd cc
+is_acceptance : (e : Entry) (a : AcceptedUpdate) → update_accepted e ≡ Some a → is_accepted e ≡ true
+is_acceptance (entries.Accepted node number home binding careof sequence end i j) a told = refl
+is_acceptance _ a told = absurd cc
 
 -- the origin of one acceptance
 origin_at : (s : Setup) (past : List Entry) (n k : ℕ) (home : Address) (accepted : Accepted) (hot : ℕ) (cot : Option ℕ) (update : ℕ)
@@ -137,14 +146,14 @@ origin_at s past n k home accepted hot cot update each own short stands mark =
     let a : AcceptedUpdate = update_of n k home accepted in
     let origin : HasOrigin past a hot cot update = origin_stands past a hot cot update (lawful_sights past s each own) mark in
     let genuine = stands.sound.genuine in
-    let is : kind_at s n ≡ Some (Correspondent stands.room) = ap (option_map (λ (h : Host). h.kind)) stands.is_host in
+    let tested : AreTested s n = accepted_tests s n stands.own stands.kind stands.room stands.is_host stands.has_room in
     record {
       accepted = accepted;
       is = refl;
       stands = stands;
       origin = origin;
-      home_token = sent_is s past each own short a.node hot 0 a.home_index origin.home_token home accepted.home_nonce origin.home_sent stands.room is genuine.home_nonce.0 refl;
-      careof_token = careof_is s past each own short a origin.earlier origin.maker a.careof_index origin.careof_token cot accepted.careof_nonce origin.careof stands.room is refl
+      home_token = sent_is s past each own short a.node hot 0 a.home_index origin.home_token home accepted.home_nonce origin.home_sent tested genuine.home_nonce.0 refl;
+      careof_token = careof_is s past each own short a origin.earlier origin.maker a.careof_index origin.careof_token cot accepted.careof_nonce origin.careof tested refl
           (careof_valid (moment_in s.start past) stands.registration genuine.indices accepted.careof_nonce genuine.careof_nonce);
     }
 
@@ -157,11 +166,11 @@ permitted_stands c plain before e after whole a hot cot update mark =
     let own : EachAfter (IsOwnEntry s) [] before = each_before (IsOwnEntry s) [] before (e ∷ after) (subst (λ (l : List Entry). EachAfter (IsOwnEntry s) [] l) whole (own_permitted c plain)) in
     origin_stands before a hot cot update (lawful_sights before s each own) mark
 
--- each one of a correspondent
+-- and those tokens are the ones of the nonces that were valid
 pub permitted_origin : (c : Content) → ArePlain c → sum_by waited_by c.events ≤ 36000000 → (before : List Entry) (e : Entry) (after : List Entry) → permitted c ≡ before ++ e ∷ after
-    → (a : AcceptedUpdate) → update_accepted e ≡ Some a → is_correspondent_at (setup_of c) a.node.0 ≡ true → (hot : ℕ) (cot : Option ℕ) (update : ℕ) → mark_in before a ≡ Origin hot cot update
+    → (a : AcceptedUpdate) → update_accepted e ≡ Some a → (hot : ℕ) (cot : Option ℕ) (update : ℕ) → mark_in before a ≡ Origin hot cot update
     → IsOriginOf (setup_of c) before e a hot cot update
-permitted_origin c plain short before e after whole a told is hot cot update mark =
+permitted_origin c plain short before e after whole a told hot cot update mark =
     let s = setup_of c in
     let split : EachAfter (Meets s) [] (before ++ e ∷ after) = subst (λ (l : List Entry). EachAfter (Meets s) [] l) whole (permitted_each c) in
     let each : EachAfter (Meets s) [] before = each_before (Meets s) [] before (e ∷ after) split in
@@ -170,7 +179,7 @@ permitted_origin c plain short before e after whole a told is hot cot update mar
     subst (λ (l : List Entry). moment_in s.start before ≤ moment_in s.start l) (sym whole)
     (rises_from s (moment_in s.start before) before (e ∷ after) (each_rest (Meets s) [] before (e ∷ after) split) (omega arith)).1 in
     let within : moment_in s.start before ≤ s.start + 36000000 = omega (arith, ended, permitted_waited c, short) in
-    by each own within (permitted_accepted c before e after whole (by_correspondent s e a told is))
+    by each own within (permitted_accepted c before e after whole (is_acceptance e a told))
   where
     by : EachAfter (Meets (setup_of c)) [] before → EachAfter (IsOwnEntry (setup_of c)) [] before → moment_in (setup_of c).start before ≤ (setup_of c).start + 36000000
         → HasAccepted (setup_of c) before e → IsOriginOf (setup_of c) before e a hot cot update

@@ -34,7 +34,7 @@ use Rattle.mip_rules_correspondent.proofs.Sendings.{call-own}
 use Rattle.mip_origin.specs.OwnTests.{IsOwnTest, SendsOwnTests, SendsPlainData}
 
 -- a packet without a test
-own_of_none : (life : Life) (now : ℕ) (c : Carried) → SaysNoTest c → IsOwnTest life now c
+pub own_of_none : (life : Life) (now : ℕ) (c : Carried) → SaysNoTest c → IsOwnTest life now c
 own_of_none life now Other none = tt
 own_of_none life now (Update key) none = tt
 own_of_none life now (Test kind index token destination) none = absurd none
@@ -86,11 +86,11 @@ careof_back life now source cookie (Test kind index token destination) says =
       says.2 (token_long 1 kcn nonce source) ∙ token_same 1 kcn nonce source destination (sym says.3) ∙ ap (λ (k : ℕ). token_of k kcn destination nonce) (sym says.0),
     )
 
-home_own : (me : Identity) (now : ℕ) (source : Address) (cookie : ℕ) → IsOwnTest me.secrets now (carried (home_test me now source cookie))
+pub home_own : (me : Identity) (now : ℕ) (source : Address) (cookie : ℕ) → IsOwnTest me.secrets now (carried (home_test me now source cookie))
 unfolding home_token_of
 home_own me now source cookie = home_back me.secrets now source cookie (carried (home_test me now source cookie)) (message_says (straight me.own source 135) _ refl)
 
-careof_own : (me : Identity) (now : ℕ) (source : Address) (cookie : ℕ) → IsOwnTest me.secrets now (carried (careof_test me now source cookie))
+pub careof_own : (me : Identity) (now : ℕ) (source : Address) (cookie : ℕ) → IsOwnTest me.secrets now (carried (careof_test me now source cookie))
 unfolding careof_token_of
 careof_own me now source cookie = careof_back me.secrets now source cookie (carried (careof_test me now source cookie)) (message_says (straight me.own source 135) _ refl)
 

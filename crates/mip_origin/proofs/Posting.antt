@@ -25,7 +25,7 @@ use Rattle.mip_origin.specs.Marked.{IsFollowed}
 use Rattle.mip_origin.specs.OwnHistories.{IsOwnEntry}
 use Rattle.mip_origin.proofs.Coming.{all_given_more}
 use Rattle.mip_origin.proofs.Following.{is_busy}
-use Rattle.mip_origin.proofs.Adding.{is_timed, IsGood, Adds, adds_same, adds_then, adds_notes, adds_one, adds_either}
+use Rattle.mip_origin.proofs.Adding.{is_timed, IsGood, secrets_stay, Adds, untimed_life, adds_same, adds_then, adds_notes, adds_one, adds_either}
 
 -- what outsiders hear
 heards_idle : (hears : ℕ → Bool) (k o : ℕ) → list_any is_busy (heards hears k o) ≡ false
@@ -67,7 +67,7 @@ module _ (s : Setup) (Q : Type 0) where
       hears o = is_other by o && hears_in run.past o link
 
       at : (b : Bool) → Adds s Q run (if b then run else notes (heards hears k s.outsiders) run)
-      at true = adds_same s Q run run refl good
+      at true = adds_same s Q run run refl refl good
       at false = adds_notes s Q (heards hears k s.outsiders) run (heards_idle hears k s.outsiders) good
 
   pub adds_posted : (post : Post) (by : Option ℕ) (e : Entry) (run : Run) → IsGood run → packet_posted e ≡ Some post.packet → (Q → IsOwnEntry s run.past e)
@@ -79,7 +79,8 @@ module _ (s : Setup) (Q : Type 0) where
       (record {
         es = e ∷ [];
         whole = refl;
-        own = λ q. (own q, tt);
+        own = λ q h. (own q, tt);
+        secrets = secrets_stay s run next refl (λ n. untimed_life s run.past (e ∷ []) n (ap (λ (x : Bool). x || false) steady));
         followed = (subst (λ (o : Option AcceptedUpdate). IsFollowed run.past o []) (sym none) tt, tt);
         steady = ap (λ (x : Bool). x || false) steady;
         good = all_good;
@@ -107,11 +108,11 @@ module _ (s : Setup) (Q : Type 0) where
       by (Some link) = claim link (holder_in run.past address.0)
 
   adds_passes : (who : ℕ) (address : Address) (link : ℕ) (run : Run) (o : Option ℕ) → IsGood run → Adds s Q run (passes_to who address link run o)
-  adds_passes who address link run None good = adds_same s Q run run refl good
+  adds_passes who address link run None good = adds_same s Q run run refl refl good
   adds_passes who address link run (Some m) good = by (m == who)
     where
       by : (b : Bool) → Adds s Q run (if b then run else note (entries.Claimed m (link_id link) address) run)
-      by true = adds_same s Q run run refl good
+      by true = adds_same s Q run run refl refl good
       by false = adds_one s Q (entries.Claimed m (link_id link) address) run refl good
 
   adds_left_on : (who : ℕ) (address : Address) (link : ℕ) (run : Run) → IsGood run → Adds s Q run (left_on s who address link run)

@@ -1,7 +1,8 @@
 -- What a correspondent, an agent and a mobile answer is right.
-use Rattle.std.proofs.Common.{◌≡◌, ℕ, List, [], ◌∷◌, ◌++◌, true, inl, inr, refl, sym, ap, ◌∙◌, subst}
+use Rattle.std.proofs.Common.{◌≡◌, ℕ, List, [], ◌∷◌, ◌++◌, Bool, true, false, inl, inr, refl, sym, ap, ◌∙◌, subst}
 use Rattle.std.specs.Prelude.{Option, Some, None, IfSome}
-use Rattle.std.specs.List.{AllByRecursion}
+use Rattle.std.specs.List.{list_any, AllByRecursion}
+use Rattle.std.proofs.lemmas.Bool.{or_parts}
 use Rattle.std.proofs.lemmas.List.Sums.{fold-append}
 use Rattle.mip_words.specs.declared.address.Address.{Address}
 use Rattle.mip_nonce.specs.Secrets.{Life}
@@ -17,12 +18,15 @@ use Rattle.mip_rules_correspondent.specs.Steps as parts
 use Rattle.mip_rules_correspondent.specs.Wholes.{is_own}
 use Rattle.mip_rules_agent.specs.Steps as agents
 use Rattle.mip_rules_agent.specs.Sayings.{SaysHanded, SaysNoOther}
+use Rattle.mip_rules_correspondent.specs.Seen.{CorrespondentSeen}
+use Rattle.mip_rules_mobile.specs.Calls as calls
 use Rattle.mip_rules_mobile.specs.Calls.{Call}
-use Rattle.mip_rules_mobile.specs.Sendings.{PeerUpdate}
+use Rattle.mip_rules_mobile.specs.Sendings.{PeerUpdate, packet_of_sending, update_packet}
 use Rattle.mip_rules_mobile.specs.Steps.{Step, Called, Parts, Notes, Sends, Unsends, Drops, Claims, Releases, FindsTaken, Arrives, Detaches, Restarts, Registers, Unregisters, IsRefused, Resequences, Seeks, SeeksAgain, GivesUp, Finds, Chooses, Learns, Meets, Tries, Updates, Forgets, Binds, Unbinds, Waits, Stops, Rings, answer_of, answers_of}
 use Rattle.mip_rules_mobile.specs.Known.{Known}
-use Rattle.mip_rules_mobile.specs.Questions.{after, fresh, known}
+use Rattle.mip_rules_mobile.specs.Questions.{part_after, after, fresh, known}
 use Rattle.mip_rules_mobile.specs.Fitting.{IsUpdateOf, Fits, EachFits}
+use Rattle.mip_rules_mobile.specs.Answering.{EachAnswer, SaysOwn, NoTest, OwnHomeTest, OwnCareofTest, Asked, SaysRight}
 use Rattle.mip_rules_mobile.specs.Kept.{IsMadeFrom}
 use Rattle.mip_rules_mobile.proofs.Kept.{update-from}
 use Rattle.mip_history.specs.Setup.{Setup}
@@ -30,6 +34,7 @@ use Rattle.mip_history.specs.Setup.Kind.{Correspondent, Agent, Mobile}
 use Rattle.mip_history.specs.Questions.{moment_in}
 use Rattle.mip_origin.specs.OwnTests.{IsOwnTest, SendsOwnTests}
 use Rattle.mip_origin.specs.OwnHistories.{life_of, kind_at, is_agent_kind, HasCome, IsRightFrom}
+use Rattle.mip_origin.proofs.Own.{own_of_none, home_own, careof_own}
 use Rattle.mip_origin.proofs.Coming.{IsGiven, AreGiven, HasTaken, fit_given, made_home, made_careof, all_both}
 use Rattle.mip_origin.proofs.Answering.{IsNoted, IsRight}
 
@@ -37,6 +42,25 @@ no_token : (c : Carried) (t : List ℕ) → SaysNoTest c → token_in c ≡ Some
 no_token (Test kind index token destination) t none e = none
 no_token (Update key) t none e = absurd cc
 no_token Other t none e = absurd cc
+
+-- a step is a restart
+abbrev pub begins_anew : Step → Bool
+begins_anew (Restarts secrets) = true
+begins_anew _ = false
+
+-- the secrets of the part stay through a step that is none
+part_secrets : (part : CorrespondentSeen) (at : ℕ) (step : Step) → begins_anew step ≡ false → (part_after part at step).identity.secrets ≡ part.identity.secrets
+part_secrets part at (Restarts secrets) none = absurd cc
+part_secrets part at _ none = refl
+
+pub secrets_after : (k : Known) (x : Stamped Step) → begins_anew x.step ≡ false → (let l : Known = after k x in l.part.identity.secrets) ≡ k.part.identity.secrets
+unfolding after
+secrets_after k x none = part_secrets k.part x.at x.step none
+
+-- what is known with one step more
+pub known_more : (own : Address) (agent : Option Address) (secrets : Life) (past : List (Stamped Step)) (x : Stamped Step) → after (known own agent secrets past) x ≡ known own agent secrets (past ++ x ∷ [])
+unfolding known
+known_more own agent secrets past x = sym (fold-append after (fresh own agent secrets) past (x ∷ []))
 
 module _ (s : Setup) (Q : Type 0) (front : List Entry) (n : ℕ) where
   abbrev AllRight : List Answer → Type 0
@@ -88,58 +112,68 @@ module _ (s : Setup) (Q : Type 0) (front : List Entry) (n : ℕ) where
   own_noted (entries.Made node peer number home careof) own = absurd cc
   own_noted _ own = tt
 
-  module _ (own : Address) (agent : Option Address) (secrets : Life) (c : Call) (now : ℕ) (came : HasTaken front n c) (kind : kind_at s n ≡ Some (Mobile agent)) where
-    sent_any : (packet : List ℕ) → Q → IsRightFrom s front n packet (kind_at s n)
-    sent_any packet q = subst (IsRightFrom s front n packet) (sym kind) tt
+  module _ (own : Address) (agent : Option Address) (secrets : Life) (c : Call) (now : ℕ) (came : HasTaken front n c) (kind : kind_at s n ≡ Some (Mobile agent))
+      (moment : now ≡ moment_in s.start front) (asked : (inner : List ℕ) → c ≡ calls.Tunnel inner → ⊥) where
+    -- what it says is a test of its own, or none
+    says_own : (me : Identity) (packet : List ℕ) → SaysOwn c me now packet → IsOwnTest me.secrets now (carried packet)
+    says_own me packet (NoTest none) = own_of_none me.secrets now (carried packet) none
+    says_own me packet (OwnHomeTest source cookie is) = subst (IsOwnTest me.secrets now) (sym is) (home_own me now source cookie)
+    says_own me packet (OwnCareofTest source cookie is) = subst (IsOwnTest me.secrets now) (sym is) (careof_own me now source cookie)
+    says_own me packet (Asked inner tunnel is) = absurd (asked inner tunnel)
+
+    sent_right : (k : Known) (packet : List ℕ) → k.part.identity.secrets ≡ life_of s front n → SaysOwn c k.part.identity now packet → IsRightFrom s front n packet (kind_at s n)
+    sent_right k packet mine says =
+        subst (IsRightFrom s front n packet) (sym kind)
+        (subst (λ (l : Life). IsOwnTest l (moment_in s.start front) (carried packet)) mine
+        (subst (λ (t : ℕ). IsOwnTest k.part.identity.secrets t (carried packet)) moment (says_own k.part.identity packet says)))
 
     update_right : (past : List (Stamped Step)) (k : Known) (row : ℕ) (u : PeerUpdate) → k ≡ known own agent secrets past → AreGiven front n past → IsUpdateOf now k row u
-        → AllRight (answer_of (Updates row u))
-    update_right past k row u is given of =
+        → (Q → k.part.identity.secrets ≡ life_of s front n) → (Q → AllByRecursion (SaysRight c now k) (answer_of (Updates row u))) → AllRight (answer_of (Updates row u))
+    update_right past k row u is given of mine says =
         let from : IsMadeFrom past row u.made = update-from own agent secrets past now row u (subst (λ (l : Known). IsUpdateOf now l row u) is of) in
-        ((made_home front n row past u.made given from, made_careof front n row past u.made u.made.careof given from.careof), (sent_any _, tt))
+        ((made_home front n row past u.made given from, made_careof front n row past u.made u.made.careof given from.careof), (λ q. sent_right k (update_packet u) (mine q) (says q).1.0, tt))
 
-    step_right : (past : List (Stamped Step)) (k : Known) (step : Step) → k ≡ known own agent secrets past → AreGiven front n past → Fits c now k step → AllRight (answer_of step)
-    step_right past k (Called call) is given fits = tt
-    step_right past k (Parts call) is given fits = tt
-    step_right past k (Notes entry) is given fits = (own_noted entry fits, tt)
-    step_right past k (Sends sending) is given fits = (sent_any _, tt)
-    step_right past k (Unsends why) is given fits = (tt, tt)
-    step_right past k (Drops number why) is given fits = (tt, tt)
-    step_right past k (Claims address) is given fits = (tt, tt)
-    step_right past k (Releases address) is given fits = (tt, tt)
-    step_right past k (FindsTaken address holder) is given fits = (tt, tt)
-    step_right past k (Arrives address) is given fits = (tt, tt)
-    step_right past k Detaches is given fits = tt
-    step_right past k (Restarts new) is given fits = (tt, tt)
-    step_right past k (Registers agent' end renew) is given fits = (tt, tt)
-    step_right past k (Unregisters agent') is given fits = (tt, tt)
-    step_right past k (IsRefused status) is given fits = (tt, tt)
-    step_right past k (Resequences agent' last) is given fits = tt
-    step_right past k Seeks is given fits = tt
-    step_right past k SeeksAgain is given fits = tt
-    step_right past k GivesUp is given fits = tt
-    step_right past k (Finds agents) is given fits = tt
-    step_right past k (Chooses agent') is given fits = (tt, tt)
-    step_right past k (Learns valid preferred) is given fits = (tt, tt)
-    step_right past k (Meets peer) is given fits = tt
-    step_right past k (Tries row change) is given fits = tt
-    step_right past k (Updates row update) is given fits = update_right past k row update is given fits
-    step_right past k (Forgets row) is given fits = tt
-    step_right past k (Binds row peer end renew) is given fits = (tt, tt)
-    step_right past k (Unbinds row peer) is given fits = (tt, tt)
-    step_right past k (Waits work wait) is given fits = tt
-    step_right past k (Stops work) is given fits = tt
-    step_right past k (Rings work) is given fits = tt
-
-    known_more : (past : List (Stamped Step)) (x : Stamped Step) → after (known own agent secrets past) x ≡ known own agent secrets (past ++ x ∷ [])
-    unfolding known
-    known_more past x = sym (fold-append after (fresh own agent secrets) past (x ∷ []))
+    step_right : (past : List (Stamped Step)) (k : Known) (step : Step) → k ≡ known own agent secrets past → AreGiven front n past → Fits c now k step
+        → (Q → k.part.identity.secrets ≡ life_of s front n) → (Q → AllByRecursion (SaysRight c now k) (answer_of step)) → AllRight (answer_of step)
+    step_right past k (Called call) is given fits mine says = tt
+    step_right past k (Parts call) is given fits mine says = tt
+    step_right past k (Notes entry) is given fits mine says = (own_noted entry fits, tt)
+    step_right past k (Sends sending) is given fits mine says = (λ q. sent_right k (packet_of_sending sending) (mine q) (says q).0, tt)
+    step_right past k (Unsends why) is given fits mine says = (tt, tt)
+    step_right past k (Drops number why) is given fits mine says = (tt, tt)
+    step_right past k (Claims address) is given fits mine says = (tt, tt)
+    step_right past k (Releases address) is given fits mine says = (tt, tt)
+    step_right past k (FindsTaken address holder) is given fits mine says = (tt, tt)
+    step_right past k (Arrives address) is given fits mine says = (tt, tt)
+    step_right past k Detaches is given fits mine says = tt
+    step_right past k (Restarts new) is given fits mine says = (tt, tt)
+    step_right past k (Registers agent' end renew) is given fits mine says = (tt, tt)
+    step_right past k (Unregisters agent') is given fits mine says = (tt, tt)
+    step_right past k (IsRefused status) is given fits mine says = (tt, tt)
+    step_right past k (Resequences agent' last) is given fits mine says = tt
+    step_right past k Seeks is given fits mine says = tt
+    step_right past k SeeksAgain is given fits mine says = tt
+    step_right past k GivesUp is given fits mine says = tt
+    step_right past k (Finds agents) is given fits mine says = tt
+    step_right past k (Chooses agent') is given fits mine says = (tt, tt)
+    step_right past k (Learns valid preferred) is given fits mine says = (tt, tt)
+    step_right past k (Meets peer) is given fits mine says = tt
+    step_right past k (Tries row change) is given fits mine says = tt
+    step_right past k (Updates row update) is given fits mine says = update_right past k row update is given fits mine says
+    step_right past k (Forgets row) is given fits mine says = tt
+    step_right past k (Binds row peer end renew) is given fits mine says = (tt, tt)
+    step_right past k (Unbinds row peer) is given fits mine says = (tt, tt)
+    step_right past k (Waits work wait) is given fits mine says = tt
+    step_right past k (Stops work) is given fits mine says = tt
+    step_right past k (Rings work) is given fits mine says = tt
 
     pub mobile_right : (past : List (Stamped Step)) (k : Known) (steps : List Step) → k ≡ known own agent secrets past → AreGiven front n past → EachFits c now k steps
-        → AllRight (answers_of steps)
-    mobile_right past k [] is given fits = tt
-    mobile_right past k (step ∷ steps) is given fits =
+        → (Q → k.part.identity.secrets ≡ life_of s front n) → (Q → EachAnswer (SaysRight c now) now k steps) → list_any begins_anew steps ≡ false → AllRight (answers_of steps)
+    mobile_right past k [] is given fits mine says none = tt
+    mobile_right past k (step ∷ steps) is given fits mine says none =
         let x : Stamped Step = record { at = now; step = step } in
-        all_both (IsRight s Q front n) (answer_of step) (answers_of steps) (step_right past k step is given fits.0)
-        (mobile_right (past ++ x ∷ []) (after k x) steps (ap (λ (l : Known). after l x) is ∙ known_more past x)
-        (all_both (λ (y : Stamped Step). IsGiven front n y.step) past (x ∷ []) given (fit_given front n c now k step came fits.0, tt)) fits.1)
+        let parts = or_parts (begins_anew step) (list_any begins_anew steps) none in
+        all_both (IsRight s Q front n) (answer_of step) (answers_of steps) (step_right past k step is given fits.0 mine (λ q. (says q).0))
+        (mobile_right (past ++ x ∷ []) (after k x) steps (ap (λ (l : Known). after l x) is ∙ known_more own agent secrets past x)
+        (all_both (λ (y : Stamped Step). IsGiven front n y.step) past (x ∷ []) given (fit_given front n c now k step came fits.0, tt)) fits.1
+        (λ q. secrets_after k x parts.0 ∙ mine q) (λ q. (says q).1) parts.1)

@@ -7,7 +7,7 @@ use Rattle.mip_marks.specs.declared.mark.Mark.TheVariants.{Origin, Forged}
 use Rattle.mip_marks.specs.Entries.{update_accepted, mark_entry}
 use Rattle.mip_marks.specs.Marks.{mark_in}
 use Rattle.mip_marks.specs.Origins.{HasOrigin}
-use Rattle.mip_history.specs.Setup.{Setup, is_correspondent_at}
+use Rattle.mip_history.specs.Setup.{Setup}
 use Rattle.mip_history.specs.Bound.{is_accepted}
 use Rattle.mip_origin.specs.Origins.{IsOriginOf}
 
@@ -21,11 +21,11 @@ abbrev pub EachIsFollowed : List Entry → List Entry → Type 0
 EachIsFollowed front [] = Unit {0}
 EachIsFollowed front (e ∷ rest) = IsFollowed front (update_accepted e) rest × EachIsFollowed (front ++ e ∷ []) rest
 
--- what the mark says: an origin stands in the history, and where a correspondent accepted the update, its tokens are those of
--- the nonces that were valid; a forged one says no more than its definition
+-- what the mark says: an origin stands in the history, and its tokens are those of the nonces that were valid; a forged one says
+-- no more than its definition
 abbrev pub Means : Setup → List Entry → Entry → AcceptedUpdate → Mark → Type 0
 Means s past e a (Origin hot cot update) =
-    HasOrigin past a hot cot update × (is_correspondent_at s a.node.0 ≡ true → IsOriginOf s past e a hot cot update)
+    HasOrigin past a hot cot update × IsOriginOf s past e a hot cot update
 Means s past e a (Forged cause) = ⊤
 
 -- behind this history an update was accepted; its mark comes next, and this is what it means

@@ -1,5 +1,5 @@
--- What each node sends in a history: a correspondent its own tests, an agent those that were handed to it, and a mobile updates
--- from those that were handed to it. RFC 6275 sections 5.2.5, 9.4.3, 9.4.4, 10.4 and 11.6
+-- What each node sends in a history: a correspondent and a mobile their own tests, an agent those that were handed to it, and a
+-- mobile updates from those that were handed to it. RFC 6275 sections 5.2.5, 9.4.3, 9.4.4, 10.4 and 11.6
 use Rattle.std.specs.Prelude.{◌≡◌, ℕ, List, ◌∷◌, ◌++◌, length, Bool, true, false, Option, Some, None, IfSome, option_map, slice_get}
 use Rattle.std.specs.List.{AllByRecursion}
 use Rattle.mip_words.specs.declared.token.Token.{Token}
@@ -41,11 +41,11 @@ pub record HasCome (front : List Entry) (node : ℕ) (token : List ℕ) : Type 0
   pub posted : slice_get (packets_of front) number ≡ Some bytes
   pub says : token_in (carried bytes) ≡ Some token
 
--- a test that a correspondent sends is its own, by its life and the moment; one that an agent sends was handed to it
+-- a test that a correspondent or a mobile sends is its own, by its life and the moment; one that an agent sends was handed to it
 abbrev pub IsRightFrom : Setup → List Entry → ℕ → List ℕ → Option Kind → Type 0
 IsRightFrom s front n packet (Some (Correspondent room)) = IsOwnTest (life_of s front n) (moment_in s.start front) (carried packet)
 IsRightFrom s front n packet (Some (Agent preference life room serves)) = IfSome (token_in (carried packet)) (HasCome front n)
-IsRightFrom s front n packet (Some (Mobile agent)) = Unit {0}
+IsRightFrom s front n packet (Some (Mobile agent)) = IsOwnTest (life_of s front n) (moment_in s.start front) (carried packet)
 IsRightFrom s front n packet None = Unit {0}
 
 -- a mobile makes the update of the packet that it posts next from tests that were handed to it

@@ -12,7 +12,7 @@ ghost use Rattle.mip_marks.specs.declared.accepted_update.AcceptedUpdate.{Accept
 ghost use Rattle.mip_marks.specs.declared.mark.Mark.TheVariants.{Origin};
 ghost use Rattle.mip_marks.specs.Entries.{update_accepted};
 ghost use Rattle.mip_marks.specs.Marks.{mark_in};
-ghost use Rattle.mip_history.specs.Setup.{is_correspondent_at, setup_of};
+ghost use Rattle.mip_history.specs.Setup.{setup_of};
 ghost use Rattle.mip_marks.specs.Origins.{HasOrigin};
 ghost use Rattle.mip_lists.specs.EachAfter.{EachAfter};
 ghost use Rattle.mip_history.specs.Passing.{waited_by};
@@ -35,17 +35,17 @@ pub fn each_acceptance_is_followed()
 
 /// In the permitted history of a schedule of plain data, an accepted update that is not forged has its origin, whoever accepted
 /// it: the node sent both tokens in its present life, to that home and that care-of address, and both had reached the maker of
-/// the update before its first packet was posted. Where the node is a correspondent and the waits add up to at most 36,000 s,
-/// both tokens are those of the nonces that were valid at the acceptance.
+/// the update before its first packet was posted. Where the waits add up to at most 36,000 s, both tokens are those of the
+/// nonces that were valid at the acceptance.
 pub fn unforged_acceptances_have_their_origin()
     ensures stands { (c : Content) → ArePlain c → (before : List Entry) (e : Entry) (after : List Entry) → permitted c ≡ before ++ e ∷ after
         → (a : AcceptedUpdate) (hot : ℕ) (cot : Option ℕ) (update : ℕ) → mark_in before a ≡ Origin hot cot update → HasOrigin before a hot cot update }
     ensures nonces { (c : Content) → ArePlain c → sum_by waited_by c.events ≤ 36000000 → (before : List Entry) (e : Entry) (after : List Entry) → permitted c ≡ before ++ e ∷ after
-        → (a : AcceptedUpdate) → update_accepted e ≡ Some a → is_correspondent_at (setup_of c) a.node.0 ≡ true → (hot : ℕ) (cot : Option ℕ) (update : ℕ) → mark_in before a ≡ Origin hot cot update
+        → (a : AcceptedUpdate) → update_accepted e ≡ Some a → (hot : ℕ) (cot : Option ℕ) (update : ℕ) → mark_in before a ≡ Origin hot cot update
         → IsOriginOf (setup_of c) before e a hot cot update }
 {}
 
-/// What each node sends in such a history: a test that a correspondent sends is its own, a test that an agent sends had been
+/// What each node sends in such a history: a test that a correspondent or a mobile sends is its own, a test that an agent sends had been
 /// handed to it, only agents register homes, and a mobile makes each update from tests that had been handed to it.
 pub fn entries_are_own()
     ensures { (c : Content) → ArePlain c → EachAfter (IsOwnEntry (setup_of c)) [] (permitted c) }

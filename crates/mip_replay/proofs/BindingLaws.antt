@@ -1,13 +1,13 @@
 -- The bindings of a permitted history, and its repeated updates.
 use Rattle.std.proofs.Common.{◌≡◌, ℕ, ◌≤◌, List, sym, subst}
-use Rattle.std.specs.Prelude.{true, Some, Ok}
+use Rattle.std.specs.Prelude.{Some, Ok}
 use Rattle.std.specs.List.{sum_by}
 use Rattle.mip_schedule.specs.Contents.{Content}
 use Rattle.mip_schedule.specs.EventTimes.{waited}
 use Rattle.mip_schedule.specs.Reading.{reading}
 use Rattle.mip_schedule.specs.Spelling.{spelling}
 use Rattle.mip_entries.specs.declared.entry.Entry.{Entry}
-use Rattle.mip_history.specs.Setup.{setup_of, is_correspondent_at}
+use Rattle.mip_history.specs.Setup.{setup_of}
 use Rattle.mip_history.specs.Permitted.{permitted}
 use Rattle.mip_history.specs.Passing.{waited_by}
 use Rattle.mip_history.specs.Bound.{held_in, IsBound}
@@ -16,7 +16,7 @@ use Rattle.mip_replay.specs.Bindings.{EachIsBound, EachRepeatIsLate}
 use Rattle.mip_replay.proofs.ReadyLaws.{waits_are}
 
 abbrev pub IsLaw : Type 0
-IsLaw = (c : Content) (n home careof : ℕ) → is_correspondent_at (setup_of c) n ≡ true → held_in (setup_of c) (permitted c) n home ≡ Some careof → IsBound (setup_of c) (permitted c) n home careof
+IsLaw = (c : Content) (n home careof : ℕ) → held_in (setup_of c) (permitted c) n home ≡ Some careof → IsBound (setup_of c) (permitted c) n home careof
 
 pub each_is_bound : IsLaw → (c : Content) (h : List Entry) → h ≡ permitted c → EachIsBound (setup_of c) h
 unfolding EachIsBound

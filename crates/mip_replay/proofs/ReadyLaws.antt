@@ -156,7 +156,7 @@ module _ (waits : AreWaits) (lives : AreRestarts) (c : Content) (lawful : IsLawf
   wait_ready : (ms : ℕ) → IsEvent ds before (Wait ms) → IsReady e (Wait ms)
   wait_ready ms is =
       let fits = wait_fits ds (waited before) (carried before) ms (timely ds (length before) (waited before) (carried before) (Wait ms) is.fits).1 in
-      omega (arith, at.now, moment_is waits c before, fits, lawful.start)
+      (omega (arith, at.now, moment_is waits c before, fits, lawful.start), record { setup = setup_of c; events = before; stands = at })
 
   restart_ready : (n : ℕ) → length before < 20000 → (x : NodeSeen) → slice_get e.nodes n ≡ Some x → x.life + 1 < 2 ^ 32
   restart_ready n short x there =

@@ -1,5 +1,5 @@
 -- What an engine needs to let an event happen: what the event names is there, and its sizes, the moment and the lives
--- stay within their bounds. Every event of a schedule finds the engine ready.
+-- stay within their bounds; time goes on in a run of events. Every event of a schedule finds the engine ready.
 use Rattle.std.specs.Prelude.{◌≡◌, ℕ, ◌+◌, ◌<◌, ◌≤◌, ◌^◌, length, true, Some, slice_get, ⊤}
 use Rattle.mip_words.specs.Addresses.{is_routable}
 use Rattle.mip_words.specs.declared.ids.LinkId.{LinkId}
@@ -8,13 +8,14 @@ use Rattle.mip_schedule.specs.declared.event.Event.TheVariants.{Wait, Advertise,
 use Rattle.mip_nodes.specs.Nodes.{NodeSeen}
 use Rattle.mip_replay.specs.Engines.{EngineSeen}
 use Rattle.mip_nodes.specs.Payloads.{is_payload}
+use Rattle.mip_replay.specs.Standing.{IsOfRun}
 
 -- the outsider and the link are there
 abbrev pub IsEar : EngineSeen → ℕ → LinkId → Type 0
 IsEar e outsider link = (outsider < 8) × (link.0 < 32) × (link.0 < length e.net.links)
 
 abbrev pub IsReady : EngineSeen → Event → Type 0
-IsReady e (Wait ms) = e.moment + ms < 2 ^ 62
+IsReady e (Wait ms) = (e.moment + ms < 2 ^ 62) × IsOfRun e
 IsReady e (Advertise link) = link.0 < length e.net.links
 IsReady e (Payload node to proto payload) = (is_payload proto ≡ true) × (length payload ≤ 512)
 IsReady e (Inject outsider link packet) = 40 ≤ length packet

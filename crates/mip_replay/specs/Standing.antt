@@ -1,11 +1,13 @@
 -- An engine stands for a run: what it keeps is what is asked of the run.
-use Rattle.std.specs.Prelude.{◌≡◌, ℕ, length, option_map, slice_get}
+use Rattle.std.specs.Prelude.{◌≡◌, ℕ, List, length, option_map, slice_get}
 use Rattle.mip_words.specs.declared.address.Address.{Address}
 use Rattle.mip_links.specs.Nets.{asked_of, hears_of}
 use Rattle.mip_history.specs.Setup.{Setup, Host, Kind}
 use Rattle.mip_history.specs.Setup.Kind.{Correspondent as OfCorrespondent, Agent as OfAgent, Mobile as OfMobile}
 use Rattle.mip_history.specs.Runs.{Run}
 use Rattle.mip_history.specs.Questions.{moment_in, hears_in, life_in, asked_in}
+use Rattle.mip_schedule.specs.declared.event.Event.{Event}
+use Rattle.mip_history.specs.Permitted.{run_of}
 use Rattle.mip_history.specs.Knowing.{identity_in, known_in, agent_of, agent_known_in, mobile_known_in, stands_on}
 use Rattle.mip_nodes.specs.declared.role.Role.{Role}
 use Rattle.mip_nodes.specs.declared.role.Role.TheVariants.{Correspondent, Agent, Mobile}
@@ -45,3 +47,9 @@ pub record IsAt (e : EngineSeen) (s : Setup) (run : Run) : Type 0 where
   pub outsiders : e.outsiders ≡ s.outsiders
   pub now : e.moment ≡ moment_in s.start run.past
   pub history : e.past ≡ run.past
+
+-- it stands for the run of some events
+pub record IsOfRun (e : EngineSeen) : Type 0 where
+  pub setup : Setup
+  pub events : List Event
+  pub stands : IsAt e setup (run_of setup events)

@@ -12,7 +12,7 @@ use mip_history::{held_was_accepted, repeats_come_after_rounds};
 use mip_origin::acceptances_are_marked;
 use mip_schedule::waits_are_short;
 
-/// In the permitted history of every schedule each care-of address that a correspondent holds has its accepted update.
+/// In the permitted history of every schedule each care-of address that a node holds has its accepted update.
 #[tactic(auto, unfolding(crate::specs::Bindings::EachIsBound))]
 pub fn each_is_bound()
     ensures { (c : Content) → EachIsBound (setup_of c) (permitted c) }
@@ -20,7 +20,7 @@ pub fn each_is_bound()
     held_was_accepted();
 }
 
-/// In the permitted history of every schedule that is read a correspondent accepts the same update again in one life only where the
+/// In the permitted history of every schedule that is read a node accepts the same update again in one life only where the
 /// sequences of its home have gone round since then.
 pub fn each_repeat_is_late()
     ensures { (text : List ℕ) (c : Content) → reading text ≡ Ok c → EachRepeatIsLate (setup_of c) (permitted c) }

@@ -46,8 +46,9 @@ fn run_whole(alloc: Global, schedule: &Schedule) -> Result<History, Memory>
 
 /// The history of a schedule: its permitted one.
 ///
-/// In it a correspondent holds a care-of address only by an update that it accepted in its present life, the last of its
-/// home, with the verdict Accept on its bytes under nonces that were valid then, and in sequence after what stood.
+/// In it a node, a correspondent or a mobile in its correspondent part, holds a care-of address only by an update that it
+/// accepted in its present life, the last of its home, with the verdict Accept on its bytes under nonces that were valid
+/// then, and in sequence after what stood.
 /// The same update is accepted again in one life only where the sequences of its home have gone round since then.
 ///
 /// Each accepted update is followed by the mark of its origin. Where that is not `forged`, both tokens had reached

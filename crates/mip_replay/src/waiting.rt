@@ -6,9 +6,10 @@ ghost use Rattle.mip_history.specs.Setup.{Setup};
 ghost use Rattle.mip_history.specs.Runs.{Run};
 ghost use Rattle.mip_history.specs.Waiting.{due_of, sooner, earliest, is_due, comes_to, ticks_one, ticked, works, works_on, works_until, waited};
 ghost use Rattle.mip_nodes.specs.Roles.{due_of as role_due};
-ghost use Rattle.mip_replay.specs.Standing.{IsAt};
+ghost use Rattle.mip_replay.specs.Standing.{IsAt, IsOfRun};
 
 use crate::engine::Engine;
+use mip_history::work_stays_within_its_wait;
 use mip_nodes::Call;
 use mip_words::{Memory, Moment, NodeId};
 use std::alloc::Global;
@@ -157,14 +158,13 @@ impl Engine {
 
     /// So many milliseconds pass.
     pub(crate) fn wait(&mut self, alloc: Global, ms: u32) -> Result<(), Memory>
-        requires { self.old.moment + ms < 2 ^ 62 }
+        requires early { self.old.moment + ms < 2 ^ 62 }
+        requires of_run { IsOfRun self.old }
         ensures { (s : Setup) (run : Run) → IsAt self.old s run → OnOk result (IsAt self.new s (waited s run ms)) }
     {
+        work_stays_within_its_wait();
         let target = Moment(self.moment().0 + u64::from(ms));
         let told = self.work_until(alloc, target, u64::from(ms) + 1)?;
-        if target.0 < self.moment().0 {
-            return Err(Memory);
-        }
         self.come_to(target, told)
     }
 }

@@ -1,9 +1,27 @@
-use Rattle.std.proofs.Common.{◌≡◌, ℕ, ◌+◌, suc, false, ap, ◌∙◌, arith}
+use Rattle.std.proofs.Common.{◌≡◌, ℕ, ◌+◌, ◌≤◌, suc, false, sym, subst, ap, ◌∙◌, arith}
 use Rattle.mip_history.specs.Knowing.{now_in}
+use Rattle.mip_history.specs.Permitted.{run_of}
 use Rattle.mip_history.specs.Waiting.{Waiting, works_until, waited}
 use Rattle.mip_replay.proofs.QuietLaws.{at_ok_run}
 use Rattle.mip_replay.proofs.WaitLaws.{run_come, waited_is}
 use Rattle.mip_replay.proofs.engine.Engine.wait.Goals as goal
+
+pub come_to-requires : goal.come_to-requires
+come_to-requires c =
+    let of = c.requires.of_run in
+    let s = of.setup in
+    let events = of.events in
+    let run = run_of s events in
+    let target = c.moment.result.0 + c.from.result in
+    let rounds = c.from-2.result + 1 in
+    let w : Waiting = works_until s target rounds (record { run = run; told = false }) in
+    let starts : now_in s run ≤ target = omega (arith, c.moment.ensures.is, of.stands.now) in
+    let within = c.work_stays_within_its_wait.ensures s events target rounds starts in
+    let at = c.in_ok-told.ensures.after s run of.stands in
+    record {
+      later = subst (λ (m : ℕ). m ≤ target) (sym at.now) within;
+      early = omega (arith, c.moment.ensures.is, c.from.ensures, c.requires.early);
+    }
 
 pub returns : goal.returns
 returns c = λ s run at.

@@ -1,0 +1,155 @@
+-- Deliveries to mobiles: what the correspondent part reads is the packet that was posted, but for its hop limit, or the one within
+-- its tunnel.
+use Rattle.std.proofs.Common.{◌≡◌, ℕ, List, [], ◌∷◌, ◌++◌, refl, sym, ap, ◌∙◌, subst}
+use Rattle.std.specs.Prelude.{Option, Some, Result, Ok, Err, not, ◌==◌, if◌then◌else◌, slice_get, unwrap_or}
+use Rattle.mip_words.specs.declared.address.Address.{Address}
+use Rattle.mip_words.specs.declared.shield.Shield.{Shield}
+use Rattle.mip_ipv6.specs.declared.not_packet.NotPacket.{NotPacket}
+use Rattle.mip_ipv6.specs.Packet.{Packet}
+use Rattle.mip_ipv6.specs.Reading.{packet_of}
+use Rattle.mip_tunnel.specs.declared.exit_fault.ExitFault.{ExitFault}
+use Rattle.mip_tunnel.specs.declared.exit_fault.ExitFault.TheVariants.{NotTunnel, WrongEntry}
+use Rattle.mip_tunnel.specs.Tunnel.{inner, opened}
+use Rattle.mip_entries.specs.declared.entry.Entry.TheVariants as entries
+use Rattle.mip_entries.specs.Completed.{node_id}
+use Rattle.mip_updates.specs.declared.registration.Registration.{Registration}
+use Rattle.mip_updates.specs.Registrations.{registration_in, home_of}
+use Rattle.mip_rules_correspondent.specs.declared.verdict.Verdict.TheVariants.{Accept}
+use Rattle.mip_rules_correspondent.specs.Verdicts.{Bench, verdict}
+use Rattle.mip_rules_correspondent.specs.Rules.{bench}
+use Rattle.mip_rules_correspondent.specs.Seen.{CorrespondentSeen}
+use Rattle.mip_rules_correspondent.proofs.Taken.{accepted_home}
+use Rattle.mip_rules_correspondent.proofs.VerdictLaws.{sound}
+use Rattle.mip_rules_mobile.specs.Calls.{Call, Take}
+use Rattle.mip_rules_mobile.specs.Known.{Known}
+use Rattle.mip_rules_mobile.specs.Questions.{part_room}
+use Rattle.mip_rules_mobile.specs.Doing.{turn_of}
+use Rattle.mip_rules_mobile.specs.Part.{PartLife, part_of, IsReadIn, Itself, Within, IsPartTaken}
+use Rattle.mip_rules_mobile.proofs.PartLives.{part_is}
+use Rattle.mip_links.specs.Table.{Post}
+use Rattle.mip_history.specs.Setup.{Setup}
+use Rattle.mip_history.specs.Setup.Kind.{Mobile}
+use Rattle.mip_history.specs.Runs.{Run, note, mobile_past_at}
+use Rattle.mip_history.specs.Knowing.{now_in, secrets_in, mobile_known_in, part_in}
+use Rattle.mip_history.specs.Nodes.{mobile_turned}
+use Rattle.mip_history.specs.Delivery.{handed_over}
+use Rattle.mip_history.specs.Bound.{judge_in, IsAccepted}
+use Rattle.mip_history.proofs.Runs.{IsPart, IsRun, Goes}
+use Rattle.mip_history.proofs.Handing.{ReadsAs, reads_as, judge_same, handed_run, handed_packet}
+use Rattle.mip_history.proofs.PartTurns.{mobile_turn}
+
+-- what is handed over has in it what was posted
+record ReadsIn (bytes : List ℕ) (q : Packet) : Type 0 where
+  packet : Packet
+  read : IsReadIn bytes packet
+  source : q.head.source ≡ packet.head.source
+  home : q.head.home ≡ packet.head.home
+  proto : q.head.proto ≡ packet.head.proto
+  body : q.body ≡ packet.body
+
+-- a tunnel packet is opened alike, whatever its hop limit
+opened_alike : (entry : Address) (p q : Packet) → p.head.source ≡ q.head.source → p.head.proto ≡ q.head.proto → p.body ≡ q.body → opened entry p ≡ opened entry q
+unfolding opened
+opened_alike entry p q source proto body =
+    ap (λ (n : ℕ). exit n p.head.source p.body) proto
+    ∙ ap (λ (a : Address). exit q.head.proto a p.body) source
+    ∙ ap (λ (l : List ℕ). exit q.head.proto q.head.source l) body
+  where
+    exit : ℕ → Address → List ℕ → Result Packet ExitFault
+    exit n a l = if not (n == 41) then Err NotTunnel else if not (a.0 == entry.0) then Err (WrongEntry a) else inner (packet_of l)
+
+reads_in : (bytes : List ℕ) (link : Option ℕ) (q : Packet) → IsReadIn (handed_over bytes link) q → ReadsIn bytes q
+reads_in bytes link q (Itself read) =
+    let found = reads_as bytes link q read in
+    record { packet = found.packet; read = Itself found.read; source = found.source; home = found.home; proto = found.proto; body = found.body }
+reads_in bytes link q (Within outer entry read opens) =
+    let found = reads_as bytes link outer read in
+    record {
+      packet = q;
+      read = Within found.packet entry found.read (sym (opened_alike entry outer found.packet found.source found.proto found.body) ∙ opens);
+      source = refl;
+      home = refl;
+      proto = refl;
+      body = refl;
+    }
+
+-- the packet of a call
+abbrev number_in : Call → ℕ
+number_in (Take number shield packet) = number
+number_in _ = 0
+
+abbrev bytes_in : Call → List ℕ
+bytes_in (Take number shield packet) = packet
+bytes_in _ = []
+
+module _ (s : Setup) (k n : ℕ) (post : Post) (link : Option ℕ) (before : Run) (is : IsRun s before) (posted : slice_get before.posts k ≡ Some post) (own : Address) (agent : Option Address)
+    (host_is : slice_get s.hosts n ≡ Some (record { address = own; kind = Mobile agent })) where
+  abbrev run : Run
+  run = note (entries.Handed k (node_id n)) before
+
+  run_is : IsRun s run
+  run_is = handed_run s k n post before is posted
+
+  abbrev known : Known
+  known = mobile_known_in s run n own agent
+
+  abbrev p : PartLife
+  p = part_in s run n own
+
+  p_is : IsPart s run.past p n
+  p_is = run_is.parts n own agent host_is
+
+  abbrev c : Call
+  c = Take k post.shield (handed_over post.packet link)
+
+  module _ (x : IsPartTaken known (now_in s run) c (turn_of known (now_in s run) c).steps) where
+    abbrev bench_of : CorrespondentSeen → Bench
+    bench_of part = bench part.identity part.known (now_in s run) x.taken.registration
+
+    -- the judge of the part is the one of the history
+    same_judge : bench_of known.part ≡ judge_in s run.past n own part_room x.taken.home.0
+    same_judge =
+        ap bench_of (part_is own agent (secrets_in s n 0) (mobile_past_at run n))
+        ∙ judge_same s run.past n own p.secrets part_room p.past p_is.secrets p_is.past x.taken.registration x.taken.home
+        (accepted_home _ x.taken.registration x.packet.body x.taken.home x.taken.accepted x.taken.granted x.taken.kbm x.taken.verdict_is)
+
+    as_posted : ReadsIn post.packet x.packet
+    as_posted = reads_in post.packet link x.packet (subst (λ (l : List ℕ). IsReadIn l x.packet) (sym (ap bytes_in x.call)) x.read)
+
+    accepts : verdict (judge_in s run.past n own part_room x.taken.home.0) x.taken.registration as_posted.packet.body ≡ Accept x.taken.home x.taken.accepted x.taken.granted x.taken.kbm
+    accepts =
+        ap (λ (b : Bench). verdict b x.taken.registration as_posted.packet.body) (sym same_judge)
+        ∙ ap (λ (l : List ℕ). verdict (bench_of known.part) x.taken.registration l) (sym as_posted.body)
+        ∙ x.taken.verdict_is
+
+    same_asks : {a b : Address} {x y : Option Address} {l m : List ℕ} → b ≡ a → y ≡ x → m ≡ l → registration_in a x l ≡ registration_in b y m
+    same_asks p q r = cc
+
+    -- an update that is accepted stands behind its packet
+    stands_at : IsAccepted s run.past n k x.taken.home x.taken.accepted
+    stands_at = record {
+      own = own;
+      kind = Mobile agent;
+      room = part_room;
+      is_host = host_is;
+      has_room = refl;
+      earlier = before.past;
+      handed = refl;
+      bytes = post.packet;
+      posted = handed_packet s k n post before is posted;
+      packet = as_posted.packet;
+      read = as_posted.read;
+      mobility = sym as_posted.proto ∙ x.taken.mobility;
+      registration = x.taken.registration;
+      asks = same_asks as_posted.source as_posted.home as_posted.body ∙ x.taken.asks;
+      granted = x.taken.granted;
+      kbm = x.taken.kbm;
+      verdict_is = accepts;
+      sound = sound (judge_in s run.past n own part_room x.taken.home.0) x.taken.registration as_posted.packet.body x.taken.home x.taken.accepted x.taken.granted x.taken.kbm accepts;
+    }
+
+    stands : IsAccepted s run.past n x.number x.taken.home x.taken.accepted
+    stands = subst (λ (number : ℕ). IsAccepted s run.past n number x.taken.home x.taken.accepted) (ap number_in x.call) stands_at
+
+  pub handed_to_part : Goes s run (mobile_turned s n own (turn_of known (now_in s run) c) run)
+  handed_to_part = mobile_turn s n own agent run run_is host_is c refl stands
