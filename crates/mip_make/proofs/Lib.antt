@@ -3,3 +3,4 @@ pub mod EventReads
 pub mod DrawnReads
 pub mod HeadReads
 pub mod MadeLaws
+pub mod SettleLaws

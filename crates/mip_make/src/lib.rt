@@ -10,6 +10,6 @@ mod network;
 mod summing;
 mod word;
 
-pub use laws::{each_is_lawful, each_is_valid};
+pub use laws::{each_is_lawful, each_is_valid, none_settles};
 pub use making::make;
 pub use summing::summary;
