@@ -2,7 +2,12 @@
 use Rattle.std.specs.Prelude.{ℕ, List, [], ◌∷◌, ◌++◌, length, None, Some, Result, Ok, Err, nat_lt, codes, decimal, if◌then◌else◌}
 use Rattle.std.specs.declared.option.Option.{Option}
 use Rattle.mip_prog.specs.declared.command.Command.{Command}
-use Rattle.mip_prog.specs.declared.command.Command.TheVariants.{Replay, Decode}
+use Rattle.mip_prog.specs.declared.command.Command.TheVariants.{Reads, Makes}
+use Rattle.mip_prog.specs.declared.draft.Draft.{Draft}
+use Rattle.mip_prog.specs.declared.input_form.InputForm.{InputForm}
+use Rattle.mip_prog.specs.declared.input_form.InputForm.TheVariants as forms
+use Rattle.mip_prog.specs.declared.product.Product.{Product}
+use Rattle.mip_prog.specs.declared.product.Product.TheVariants as products
 use Rattle.mip_ipv6.specs.declared.not_packet.NotPacket.{NotPacket}
 use Rattle.mip_explain.specs.Words.{refusal_word}
 use Rattle.mip_explain.specs.Listing.{listing_of}
@@ -10,10 +15,13 @@ use Rattle.mip_lines.specs.Lines.{line_text}
 use Rattle.mip_schedule.specs.Contents.{Content}
 use Rattle.mip_schedule.specs.Faults.{Wrong}
 use Rattle.mip_schedule.specs.Reading.{reading}
+use Rattle.mip_schedule.specs.Spelling.{spelling}
 use Rattle.mip_schedule.specs.declared.reason.Reason.{Reason}
 use Rattle.mip_schedule.specs.declared.reason.Reason.TheVariants as reasons
 use Rattle.mip_history.specs.Permitted.{permitted, unbuilt_line}
 use Rattle.mip_trace.specs.Lines.{trace_text}
+use Rattle.mip_make.specs.Made.{made}
+use Rattle.mip_make.specs.Summaries.{summary_text}
 use Rattle.mip_prog.specs.Commands.{command_of}
 use Rattle.mip_prog.specs.Lengths.{event_lines}
 use Rattle.mip_prog.specs.Words.{reason_word}
@@ -54,13 +62,26 @@ abbrev pub listing_answer : Result (List ℕ) NotPacket → Answer
 listing_answer (Ok text) = record { status = 0; text = text }
 listing_answer (Err refusal) = record { status = 8; text = codes "drop " ++ (refusal_word refusal ++ 10 ∷ []) }
 
--- for a command and the bytes of the input
-unfoldable pub input_answer : Command → List ℕ → Answer
-input_answer Replay bytes = replay_answer bytes
-input_answer Decode bytes = listing_answer (listing_of bytes)
+-- for a form that reads the input, and its bytes
+unfoldable pub input_answer : InputForm → List ℕ → Answer
+input_answer forms.Replay bytes = replay_answer bytes
+input_answer forms.Decode bytes = listing_answer (listing_of bytes)
 
+abbrev pub form_answer : InputForm → List ℕ → Answer
+form_answer form bytes = if nat_lt 16777216 (length bytes) then long_answer else input_answer form bytes
+
+-- the schedule of a seed and a count, or the summary of its permitted history
+abbrev pub product_text : Product → Content → List ℕ
+product_text products.Schedule c = spelling c
+product_text products.Summary c = summary_text c.events (permitted c)
+
+unfoldable pub made_answer : Product → Draft → Answer
+made_answer product draft = record { status = 0; text = product_text product (made draft.seed draft.count) }
+
+-- for a command and the bytes of the input
 abbrev pub command_answer : Command → List ℕ → Answer
-command_answer command bytes = if nat_lt 16777216 (length bytes) then long_answer else input_answer command bytes
+command_answer (Reads form) bytes = form_answer form bytes
+command_answer (Makes product draft) bytes = made_answer product draft
 
 abbrev pub words_answer : Option Command → List ℕ → Answer
 words_answer None bytes = usage_answer

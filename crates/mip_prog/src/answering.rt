@@ -1,11 +1,11 @@
-//! What a command answers to its input.
+//! What a command answers to the input.
 
 ghost use Rattle.std.specs.Prelude.{◌≡◌, ◌≢◌, IfOk, Err};
-ghost use Rattle.mip_prog.specs.Answers.{command_answer, listing_answer};
+ghost use Rattle.mip_prog.specs.Answers.{form_answer, listing_answer};
 ghost use Rattle.mip_explain.specs.Listing.{listing_of};
 ghost use Rattle.mip_prog.specs.Told.{IsSettled, IsStatus};
 
-use crate::command::Command;
+use crate::input_form::InputForm;
 use crate::reading::LIMIT;
 use crate::replaying::replay;
 use crate::reply::Reply;
@@ -15,19 +15,19 @@ use mip_ipv6::NotPacket;
 use mip_words::{Bytes, Memory};
 use std::alloc::Global;
 
-/// The answer of a command to its input.
+/// The answer to the input.
 #[tactic(auto, unfolding(crate::specs::Answers::input_answer))]
-pub fn answer(alloc: Global, command: Command, input: Bytes) -> Result<Reply, Memory>
-    ensures answers { IfOk result (λ reply. reply ≡ command_answer command input) }
+pub fn answer(alloc: Global, form: InputForm, input: Bytes) -> Result<Reply, Memory>
+    ensures answers { IfOk result (λ reply. reply ≡ form_answer form input) }
     ensures settled { IfOk result (λ reply. IsSettled reply.status) }
     ensures statuses { IfOk result (λ reply. IsStatus reply.status × (reply.status ≢ 1)) }
 {
     if input.len() > LIMIT {
         return Reply::copy(alloc, Status::TOO_LONG, b"long\n");
     }
-    match command {
-        Command::Replay => replay(alloc, input),
-        Command::Decode => decode(alloc, input.as_slice()),
+    match form {
+        InputForm::Replay => replay(alloc, input),
+        InputForm::Decode => decode(alloc, input.as_slice()),
     }
 }
 

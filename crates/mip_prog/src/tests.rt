@@ -25,6 +25,17 @@ const NO_NEXT_HEADER: [u8; 44] = [
 const NO_NEXT_HEADER_LISTING: &str =
     "source 20010db8000200000000000000000002\ndestination 20010db8000100000000000000000077\nhop 64\nclass 0\nflow 0\nroute -\nhome -\nproto 59\nbody 01020304\n";
 
+/// A seed, the schedule that it makes of one event, and the summary of the one of forty, as another program gives them.
+const SEED: &str = "000102030405060708090a0b0c0d0e0f101112131415161718191a1b1c1d1e1f";
+
+const SEED_OF_63: &str = "000102030405060708090a0b0c0d0e0f101112131415161718191a1b1c1d1e1";
+
+const MADE_SCHEDULE: &str =
+    "mip 1\nseed 000102030405060708090a0b0c0d0e0f101112131415161718191a1b1c1d1e1f\nstart 0\nlink n1 20010db800010000\nlink n2 20010db800020000\nlink n3 20010db800030000\nagent g n1 20010db8000100000000000000000001 10 1800 16\ncorrespondent c n2 20010db8000200000000000000000002 2\nmobile m n1 20010db8000100000000000000000077 g\nmobile m2 n1 20010db8000100000000000000000078 g\nserve g m\nserve g m2\noutsider o\nrun\nadvertise n1\n";
+
+const SUMMARY_OF_40: &str =
+    "events 40\nentries 74\nsent 15\nhanded 10\nup 3\naccepted 0\ndenied 0\ndropped 1\nforged 0\n";
+
 /// The stored run's schedule, and the first line of its trace.
 const HOME_TEST: &[u8] =
     b"mip 1\nseed 000102030405060708090a0b0c0d0e0f101112131415161718191a1b1c1d1e1f\nstart 0\nlink n2 20010db800020000\ncorrespondent c n2 20010db8000200000000000000000002 2\noutsider o\nrun\nprobe o n2 home 20010db8000100000000000000000077 20010db8000200000000000000000002 0102030405060708\ndeliver 0\n";
@@ -52,7 +63,7 @@ fn replay<S: Source, K: Sink>(
 
 #[test]
 fn words_and_input_have_their_answer(rt: HostRuntime) -> Result<(), Fail> {
-    let cases: [(&[&str], &[u8], u8, &str); 8] = [
+    let cases: [(&[&str], &[u8], u8, &str); 20] = [
         (&["replay"], b"", 2, "bad 1 form\n"),
         (&["replay"], b"mip 1\nseed", 2, "bad 2 form\n"),
         (&[], b"", 1, USAGE),
@@ -61,6 +72,18 @@ fn words_and_input_have_their_answer(rt: HostRuntime) -> Result<(), Fail> {
         (&["replay", "replay"], b"", 1, USAGE),
         (&["decode"], &[0x60; 39], 8, "drop short\n"),
         (&["decode"], &NO_NEXT_HEADER, 0, NO_NEXT_HEADER_LISTING),
+        (&["make", SEED, "1"], b"unread", 0, MADE_SCHEDULE),
+        (&["sum", SEED, "40"], b"unread", 0, SUMMARY_OF_40),
+        (&["make", SEED], b"", 1, USAGE),
+        (&["make", SEED, "1", "1"], b"", 1, USAGE),
+        (&["sum", SEED_OF_63, "5"], b"", 1, USAGE),
+        (&["sum", SEED, "0"], b"", 1, USAGE),
+        (&["sum", SEED, "01"], b"", 1, USAGE),
+        (&["sum", SEED, "20001"], b"", 1, USAGE),
+        (&["sum", SEED, "-1"], b"", 1, USAGE),
+        (&["--help"], b"", 1, USAGE),
+        (&["help", "make", "1"], b"", 1, USAGE),
+        (&["replay", SEED, "1"], b"", 1, USAGE),
     ];
     for (words, input, status, text) in cases {
         let words = owned(rt.alloc(), words)?;

@@ -1,6 +1,6 @@
 //! The program, over any source, sink, clock and link.
 
-ghost use Rattle.std.specs.Prelude.{◌≡◌, ◌≢◌, ℕ, ◌≤◌, ◌⊎◌, List, length, map, string_bytes, None, Some, IfSome, IfOk};
+ghost use Rattle.std.specs.Prelude.{◌≡◌, ◌≢◌, ℕ, ◌≤◌, ◌⊎◌, List, length, map, string_bytes, true, false, None, Some, IfSome, IfOk};
 ghost use Rattle.std.specs.Io.KnownBytes.{prepend_known, IsAtEnd};
 ghost use Rattle.mip_outside.specs.Cause.{Rose};
 ghost use Rattle.mip_schedule.specs.Reading.{reading};
@@ -8,18 +8,23 @@ ghost use Rattle.mip_history.specs.Setup.{setup_of};
 ghost use Rattle.mip_history.specs.Permitted.{permitted};
 ghost use Rattle.mip_origin.specs.Marked.{EachIsMarked};
 ghost use Rattle.mip_replay.specs.Bindings.{EachIsBound, EachRepeatIsLate};
-ghost use Rattle.mip_prog.specs.Commands.{command_of};
-ghost use Rattle.mip_prog.specs.Answers.{answer_of, command_answer};
+ghost use Rattle.mip_replay.specs.Homes.{HomesAreSent};
+ghost use Rattle.mip_prog.specs.Commands.{command_of, takes_nothing};
+ghost use Rattle.mip_prog.specs.Answers.{answer_of, form_answer};
 ghost use Rattle.mip_prog.specs.Told.{IsAnswered, IsStatus, Told};
 
 use crate::answering::answer;
 use crate::command::{Command, parse};
+use crate::input_form::InputForm;
+use crate::making::tell_made;
 use crate::reading::{ReadFault, read_input};
 use crate::status::Status;
 use crate::telling::tell_reply;
 use crate::writing::tell;
 use mip_outside::{Clock, Link, Sink, Source};
-use mip_replay::{each_acceptance_is_marked, each_is_bound, each_repeat_is_late};
+use mip_replay::{
+    each_acceptance_is_marked, each_home_is_sent, each_is_bound, each_repeat_is_late,
+};
 use mip_words::Memory;
 use std::alloc::Global;
 
@@ -43,6 +48,9 @@ pub fn mip<S: Source, K: Sink, C: Clock, L: Link>(
     ensures bound { IfSome (S.left source.old) (λ bytes. IfOk (reading bytes) (λ c. EachIsBound (setup_of c) (permitted c))) }
     // In it the same update is accepted again in one life only where its sequences have gone round.
     ensures repeats { IfSome (S.left source.old) (λ bytes. IfOk (reading bytes) (λ c. EachRepeatIsLate (setup_of c) (permitted c))) }
+    // In it the mobile with that home had sent the update of each registered care-of address under its shield; it changes only
+    // by such an update, or by the end of its time.
+    ensures homes { IfSome (S.left source.old) (λ bytes. IfOk (reading bytes) (λ c. HomesAreSent (setup_of c) (permitted c))) }
     // In it each accepted update is followed by its mark. Where that is an origin, both tokens had reached whoever made
     // the update before its first packet was posted.
     ensures marked { IfSome (S.left source.old) (λ bytes. IfOk (reading bytes) (λ c. EachIsMarked (setup_of c) (permitted c))) }
@@ -50,8 +58,9 @@ pub fn mip<S: Source, K: Sink, C: Clock, L: Link>(
     ensures statuses { IsStatus result.0 }
     ensures usage { result.0 ≡ 1 → command_of (map string_bytes words.now) ≡ None }
     ensures no_command { command_of (map string_bytes words.now) ≡ None → (result.0 ≡ 1) ⊎ ((result.0 ≡ 4) ⊎ (result.0 ≡ 5)) }
-    ensures untouched { command_of (map string_bytes words.now) ≡ None → source.new ≡ source.old }
-    ensures at_end { result.0 ≡ 0 → IsAtEnd (S.left source.new) }
+    // What is made of a seed takes nothing from the source, and no words that are no form do.
+    ensures untouched { takes_nothing (command_of (map string_bytes words.now)) ≡ true → source.new ≡ source.old }
+    ensures at_end { takes_nothing (command_of (map string_bytes words.now)) ≡ false → result.0 ≡ 0 → IsAtEnd (S.left source.new) }
 
     ensures read_fault { result.0 ≡ 3 → Rose (S.faults source.old) (S.faults source.new) }
     ensures read_fault_text { result.0 ≡ 3 → K.held sink.new ≡ K.held sink.old }
@@ -65,21 +74,23 @@ pub fn mip<S: Source, K: Sink, C: Clock, L: Link>(
     let _ = link;
     each_is_bound();
     each_repeat_is_late();
+    each_home_is_sent();
     each_acceptance_is_marked();
     match parse(words) {
         None => tell(sink, b"usage: mip COMMAND\n", Status::USAGE),
-        Some(command) => answer_input(alloc, command, source, sink),
+        Some(Command::Reads(form)) => answer_input(alloc, form, source, sink),
+        Some(Command::Makes(product, draft)) => tell_made(alloc, product, &draft, sink),
     }
 }
 
-/// Reads the input and writes a command's answer to it.
+/// Reads the input and writes the answer to it.
 fn answer_input<S: Source, K: Sink>(
     alloc: Global,
-    command: Command,
+    form: InputForm,
     source: &mut S,
     sink: &mut K,
 ) -> Status
-    ensures answered { (bytes : List ℕ) × IsAnswered (command_answer command) bytes result.0
+    ensures answered { (bytes : List ℕ) × IsAnswered (form_answer form) bytes result.0
         (S.left source.old) (S.left source.new) (K.held sink.old) (K.held sink.new) }
     ensures statuses { IsStatus result.0 × (result.0 ≢ 1) }
     ensures read_fault { result.0 ≡ 3 → Rose (S.faults source.old) (S.faults source.new) }
@@ -93,7 +104,7 @@ fn answer_input<S: Source, K: Sink>(
         Err(ReadFault::Failed) => return Status::READ_FAULT,
         Err(ReadFault::Memory) => return Status::MEMORY,
     };
-    match answer(alloc, command, bytes) {
+    match answer(alloc, form, bytes) {
         Ok(reply) => tell_reply(alloc, sink, &reply),
         Err(Memory) => Status::MEMORY,
     }

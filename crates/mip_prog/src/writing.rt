@@ -6,6 +6,7 @@ ghost use Rattle.mip_outside.specs.Cause.{Rose};
 ghost use Rattle.mip_prog.specs.Told.{IsSettled, Told};
 
 use crate::status::Status;
+use mip_lines::cut_at;
 use mip_outside::{PutFault, Sink};
 
 /// Writes the text, and gives this status where all of it was taken.
@@ -46,8 +47,8 @@ fn line_end(text: &[u8], at: usize) -> usize
     ensures more { at < result }
     ensures within { result ≤ length text.now }
 {
-    match text[at..].iter().position(|byte| *byte == b'\n') {
-        Some(place) => at + place + 1,
+    match cut_at(b'\n', &text[at..]) {
+        Some((line, _)) => at + line.len() + 1,
         None => text.len(),
     }
 }

@@ -27,3 +27,4 @@ pub mod JoinLaws
 pub mod WaitLaws
 pub mod AdvertLaws
 pub mod SettleLaws
+pub mod RegisteredLaws

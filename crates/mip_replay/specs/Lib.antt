@@ -4,6 +4,7 @@ pub mod Arrivals
 pub mod Quiet
 pub mod Forged
 pub mod Bindings
+pub mod Homes
 pub mod Ready
 pub mod Joining
 pub mod Groups

@@ -7,8 +7,12 @@ ghost use Rattle.mip_history.specs.Setup.{setup_of};
 ghost use Rattle.mip_history.specs.Permitted.{permitted};
 ghost use Rattle.mip_origin.specs.Marked.{EachIsMarked};
 ghost use Rattle.mip_replay.specs.Bindings.{EachIsBound, EachRepeatIsLate};
+ghost use Rattle.mip_replay.specs.Homes.{HomesAreSent};
 
-use mip_history::{held_was_accepted, repeats_come_after_rounds};
+use mip_history::{
+    held_was_accepted, homes_change_by_updates_or_time, registered_was_sent,
+    repeats_come_after_rounds,
+};
 use mip_origin::acceptances_are_marked;
 use mip_schedule::waits_are_short;
 
@@ -27,6 +31,16 @@ pub fn each_repeat_is_late()
 {
     repeats_come_after_rounds();
     waits_are_short();
+}
+
+/// In the permitted history of every schedule the mobile with that home had sent the update of each registered care-of address
+/// under its shield; within an agent's life a registered care-of address changes only by such an update, or by the end of
+/// its time.
+pub fn each_home_is_sent()
+    ensures { (c : Content) → HomesAreSent (setup_of c) (permitted c) }
+{
+    registered_was_sent();
+    homes_change_by_updates_or_time();
 }
 
 /// In the permitted history of every schedule that is read each accepted update is followed by the mark of its origin, and

@@ -26,5 +26,5 @@ mod told;
 mod waiting;
 
 pub use built::unbuilt;
-pub use laws::{each_acceptance_is_marked, each_is_bound, each_repeat_is_late};
+pub use laws::{each_acceptance_is_marked, each_home_is_sent, each_is_bound, each_repeat_is_late};
 pub use run::replay;

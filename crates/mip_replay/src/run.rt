@@ -8,11 +8,15 @@ ghost use Rattle.mip_schedule.specs.Places.{AreFew};
 ghost use Rattle.mip_schedule.specs.Schedules.{content};
 ghost use Rattle.mip_origin.specs.Marked.{EachIsMarked};
 ghost use Rattle.mip_replay.specs.Bindings.{EachIsBound, EachRepeatIsLate};
+ghost use Rattle.mip_replay.specs.Homes.{HomesAreSent};
 ghost use Rattle.mip_replay.specs.Standing.{IsAt};
 
 use crate::engine::Engine;
 use mip_entries::History;
-use mip_history::{held_was_accepted, lives_are_restarts, moments_rise, repeats_come_after_rounds};
+use mip_history::{
+    held_was_accepted, homes_change_by_updates_or_time, lives_are_restarts, moments_rise,
+    registered_was_sent, repeats_come_after_rounds,
+};
 use mip_origin::acceptances_are_marked;
 use mip_schedule::{Schedule, few, lawful, spelling_read, waits_are_short};
 use mip_words::Memory;
@@ -51,16 +55,22 @@ fn run_whole(alloc: Global, schedule: &Schedule) -> Result<History, Memory>
 /// then, and in sequence after what stood.
 /// The same update is accepted again in one life only where the sequences of its home have gone round since then.
 ///
+/// A care-of address is registered at an agent only by an update that the mobile with that home had sent under its shield, in
+/// sequence after what was kept. Within an agent's life it changes only by such an update, or by the end of its time.
+///
 /// Each accepted update is followed by the mark of its origin. Where that is not `forged`, both tokens had reached
 /// whoever made the update, before its first packet was posted.
 pub fn replay(alloc: Global, schedule: &Schedule) -> Result<History, Memory>
     ensures permitted { IfOk result (λ h. h ≡ permitted (content schedule.now)) }
     ensures bound { IfOk result (λ h. EachIsBound (setup_of (content schedule.now)) h) }
     ensures repeats { IfOk result (λ h. EachRepeatIsLate (setup_of (content schedule.now)) h) }
+    ensures homes { IfOk result (λ h. HomesAreSent (setup_of (content schedule.now)) h) }
     ensures marked { IfOk result (λ h. EachIsMarked (setup_of (content schedule.now)) h) }
 {
     held_was_accepted();
     repeats_come_after_rounds();
+    registered_was_sent();
+    homes_change_by_updates_or_time();
     acceptances_are_marked();
     waits_are_short();
     spelling_read(schedule);
