@@ -4,3 +4,4 @@ pub mod Words
 pub mod Answers
 pub mod Told
 pub mod Texts
+pub mod Given

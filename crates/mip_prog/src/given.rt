@@ -1,18 +1,32 @@
 //! The words that the program was started with.
 
 ghost use Rattle.std.specs.Prelude.{◌≡◌, [], IfOk, OnErr};
+ghost use Rattle.std.specs.Vec.Iter.{into_iter_items};
+ghost use Rattle.mip_prog.specs.Given.{words_behind};
 
 use mip_words::Memory;
-use std::alloc::Global;
-use std::env;
-use std::io::ErrorKind;
+use std::alloc::{AllocError, Global};
+use std::env::Args;
+use std::io::{ErrorKind, Result as IoResult};
 
-/// The words after the program's name. Where one of them is no text there are none, which is no form.
-pub fn words(rt: &HostRuntime) -> Result<Vec<String>, Memory> {
-    match env::args(rt) {
-        Ok(all) => Ok(all.skip(1).collect(rt.alloc())?),
-        Err(error) => no_words(rt.alloc(), error.kind()),
+/// The words behind the program's name. Where one of them is no text there are none, which is no form.
+pub fn words(alloc: Global, all: IoResult<Args>) -> Result<Vec<String>, Memory>
+    ensures { IfOk result (λ words. words.items ≡ words_behind all) }
+{
+    match all {
+        Ok(mut all) => {
+            let _name = all.next();
+            Ok(gathered(alloc, all)?)
+        }
+        Err(error) => no_words(alloc, error.kind()),
     }
+}
+
+/// The words that are left.
+fn gathered(alloc: Global, left: Args) -> Result<Vec<String>, AllocError>
+    ensures { IfOk result (λ words. words.items ≡ into_iter_items left) }
+{
+    left.collect(alloc)
 }
 
 /// What stands for words that could not be had.

@@ -1,0 +1,9 @@
+-- The words that the program was started with.
+use Rattle.std.specs.Prelude.{List, [], drop, Result, Ok, Err}
+use Rattle.std.specs.Vec.Iter.{into_iter_items}
+use Rattle.std.specs.declared.vec.IntoIter.{IntoIter}
+
+-- those behind the program's name; none, where they could not be had
+abbrev pub words_behind : {X Z E : Type 0} → Result (IntoIter X Z) E → List X
+words_behind (Ok all) = drop 1 (into_iter_items all)
+words_behind (Err error) = []

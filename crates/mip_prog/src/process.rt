@@ -1,0 +1,62 @@
+//! The process: what its words and its input come to.
+
+ghost use Rattle.std.specs.Prelude.{◌≡◌, ℕ, ◌≤◌, ◌⊎◌, List, [], map, string_bytes, IfSome, IfOk};
+ghost use Rattle.std.specs.Io.KnownBytes.{prepend_known};
+ghost use Rattle.mip_outside.specs.Cause.{Rose};
+ghost use Rattle.mip_prog.specs.Answers.{answer_of};
+ghost use Rattle.mip_prog.specs.Given.{words_behind};
+ghost use Rattle.mip_prog.specs.Told.{IsSettled, IsStatus, Says};
+
+use crate::ending::mip_flushed;
+use crate::given::words;
+use crate::status::Status;
+use mip_outside::{Buffered, Clock, Sink, Source, SureLink};
+use mip_words::Memory;
+use std::alloc::Global;
+use std::env::Args;
+use std::io::Result as IoResult;
+
+/// The program with the words that the system gave, and the status with which the process ends. Its link carries nothing yet.
+pub fn run<S: Source, K: Sink + Drop, C: Clock>(
+    alloc: Global,
+    given: IoResult<Args>,
+    source: &mut S,
+    sink: &mut Buffered<K>,
+    clock: &mut C,
+) -> u8
+    requires { sink.old.waiting ≡ [] }
+    // Unless a call failed or memory ran out, the whole answer to the words and the input was put on, and the status is its own.
+    ensures whole { IfSome (S.left source.old) (λ bytes. IsSettled result
+        → Says (answer_of (map string_bytes (words_behind given)) bytes) result sink.old.put_on sink.new.put_on) }
+    ensures whole_of_some { IsSettled result → ((bytes : List ℕ)
+        × (S.left source.old ≡ prepend_known bytes (S.left source.new))
+        × Says (answer_of (map string_bytes (words_behind given)) bytes) result sink.old.put_on sink.new.put_on) }
+    ensures statuses { IsStatus result }
+    ensures read_fault { result ≡ 3 → Rose (S.faults source.old) (S.faults source.new) }
+    ensures write_fault { result ≡ 4 → Rose sink.old.faults sink.new.faults }
+{
+    Status::of(attempt(alloc, given, source, sink, clock)).0
+}
+
+/// The same, where memory may run out before it begins.
+fn attempt<S: Source, K: Sink + Drop, C: Clock>(
+    alloc: Global,
+    given: IoResult<Args>,
+    source: &mut S,
+    sink: &mut Buffered<K>,
+    clock: &mut C,
+) -> Result<Status, Memory>
+    requires { sink.old.waiting ≡ [] }
+    ensures whole { IfOk result (λ status. IfSome (S.left source.old) (λ bytes. IsSettled status.0
+        → Says (answer_of (map string_bytes (words_behind given)) bytes) status.0 sink.old.put_on sink.new.put_on)) }
+    ensures whole_of_some { IfOk result (λ status. IsSettled status.0 → ((bytes : List ℕ)
+        × (S.left source.old ≡ prepend_known bytes (S.left source.new))
+        × Says (answer_of (map string_bytes (words_behind given)) bytes) status.0 sink.old.put_on sink.new.put_on)) }
+    ensures statuses { IfOk result (λ status. IsStatus status.0) }
+    ensures read_fault { IfOk result (λ status. status.0 ≡ 3 → Rose (S.faults source.old) (S.faults source.new)) }
+    ensures write_fault { IfOk result (λ status. status.0 ≡ 4 → Rose sink.old.faults sink.new.faults) }
+{
+    let words = words(alloc, given)?;
+    let mut link = SureLink::new(alloc)?;
+    Ok(mip_flushed(alloc, &words, source, sink, clock, &mut link))
+}
