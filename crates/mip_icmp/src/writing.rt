@@ -1,5 +1,5 @@
 ghost use Rattle.std.specs.Prelude.{◌≡◌, ◌≤◌, ◌++◌, length, Ok, IfOk, OnOk, IsTrue};
-ghost use Rattle.mip_ipv6.specs.Sum.{is_right_sum, with_number_at};
+ghost use Rattle.mip_ipv6.specs.Sum.{is_right_sum};
 ghost use Rattle.mip_icmp.specs.Said.{said_plain};
 ghost use Rattle.mip_icmp.specs.Reading.{icmp_of};
 ghost use Rattle.mip_icmp.specs.Spelling.{unsummed, icmp_bytes, IsWritable, Fits, IsIcmp};
@@ -11,7 +11,7 @@ use crate::plain::PlainIcmp;
 use crate::prefixes::{put_prefix_ask, put_prefix_reply};
 use crate::reading::PROTO;
 use mip_ipv6::checksum;
-use mip_words::{Address, Bytes, Memory, u16_bytes};
+use mip_words::{Address, Bytes, Memory};
 use std::alloc::Global;
 
 /// Appends the message with a checksum of zero.
@@ -37,19 +37,6 @@ fn put_unsummed(out: &mut Bytes, message: &PlainIcmp) -> Result<(), Memory>
             options,
         } => put_prefix_reply(out, *identifier, *options),
     }
-}
-
-/// A message with this checksum in place of the one that it has.
-fn with_sum(alloc: Global, message: &[u8], sum: u16) -> Result<Bytes, Memory>
-    requires { 4 ≤ length message.now }
-    ensures { IfOk result (λ b. b ≡ with_number_at 2 sum message.now) }
-{
-    let (front, rest) = message.split_at(2);
-    let (_, back) = rest.split_at(2);
-    let mut out = Bytes::copy(alloc, front)?;
-    out.extend(&u16_bytes(sum))?;
-    out.extend(back)?;
-    Ok(out)
 }
 
 /// The message with a checksum of zero.
@@ -79,9 +66,10 @@ fn summed(
     ensures sum { IfOk result (λ b. IsTrue (is_right_sum source destination 58 b)) }
     ensures fits { OnOk result (Fits (said_plain message.now)) }
 {
-    let blank = unsummed_of(alloc, message)?;
-    let sum = checksum(source, destination, PROTO, blank.as_slice(), 2);
-    with_sum(alloc, blank.as_slice(), sum)
+    let mut bytes = unsummed_of(alloc, message)?;
+    let sum = checksum(source, destination, PROTO, bytes.as_slice(), 2);
+    bytes.set_u16(2, sum);
+    Ok(bytes)
 }
 
 /// The canonical spelling of a message between these addresses, as `read_icmp` has them.

@@ -66,3 +66,7 @@ parts_some c bytes i =
 pub fields_counted : (line : List ℕ) → length (fields_of line) ≡ count_by (λ b. b == 32) line + 1
 unfolding parts
 fields_counted line = length-slice_split (λ b. b == 32) line
+
+-- a line has a field at least
+pub some_field : (line : List ℕ) → 0 < length (parts 32 line)
+some_field line = let e = fields_counted line in omega (arith, e)

@@ -4,9 +4,16 @@ ghost use Rattle.std.specs.Prelude.{◌≡◌, ◌==◌, ◌+◌, ◌<◌, ◌�
 ghost use Rattle.std.specs.List.{count_by, position};
 ghost use Rattle.mip_lines.specs.Cutting.{parts, fields_of, texts};
 
+use arrayvec::ArrayVec;
 use memchr::memchr;
 use mip_words::Memory;
 use std::alloc::Global;
+
+/// The most fields that are kept without memory being taken for them.
+const FEW: usize = 11;
+
+/// The fields of a line that has at most eleven.
+pub type FewFields<'a> = ArrayVec<&'a [u8], FEW>;
 
 #[tactic(auto, using(crate::proofs::Parts::first_place))]
 fn place_of(byte: u8, bytes: &[u8]) -> Option<usize>
@@ -79,4 +86,23 @@ pub fn fields_up_to(alloc: Global, most: usize, line: &[u8]) -> Result<Option<Ve
         return Ok(None);
     }
     Ok(Some(fields_in_room(alloc, count, line)?))
+}
+
+/// The fields of a line that has at most eleven; none where it has more. No memory is taken for them.
+#[tactic(auto, using(crate::proofs::Parts::some_field))]
+pub fn few_fields(line: &[u8]) -> Option<FewFields<'_>>
+    ensures { MatchOption result (11 < length (fields_of line.now)) (λ v. texts v.items ≡ fields_of line.now) }
+{
+    let mut fields = FewFields::new();
+    let mut rest = line;
+    while let Some((field, more)) = cut_at(b' ', rest) {
+        match fields.try_push(field) {
+            Ok(()) => rest = more,
+            Err(_) => return None,
+        }
+    }
+    match fields.try_push(rest) {
+        Ok(()) => Some(fields),
+        Err(_) => None,
+    }
 }

@@ -48,7 +48,7 @@ fn spelled(alloc: Global, size: usize, field: &[u8]) -> Result<Option<Bytes>, Me
 {
     let mut bytes = vec![in alloc; 0; size]?;
     if hex_exact(field, &mut bytes) {
-        Ok(Some(Bytes::copy(alloc, &bytes)?))
+        Ok(Some(Bytes::from_vec(bytes)))
     } else {
         Ok(None)
     }
@@ -74,7 +74,7 @@ pub fn put_hex_text(out: &mut Bytes, bytes: &[u8]) -> Result<(), Memory>
     ensures { OnOk result (out.new ≡ out.old ++ hex_text bytes.now) }
 {
     if bytes.is_empty() {
-        out.extend(b"-")
+        out.push(b'-')
     } else {
         put_hex(out, bytes)
     }

@@ -12,7 +12,7 @@ fn put_spaced(out: &mut Bytes, fields: &[&[u8]]) -> Result<(), Memory>
     ensures { OnOk result (out.new ≡ out.old ++ spaced (texts fields.now)) }
 {
     for field in fields {
-        out.extend(b" ")?;
+        out.push(b' ')?;
         out.extend(field)?;
     }
     Ok(())
@@ -24,11 +24,11 @@ pub fn put_line(out: &mut Bytes, fields: &[&[u8]]) -> Result<(), Memory>
     ensures { OnOk result (out.new ≡ out.old ++ line_text (texts fields.now)) }
 {
     let [first, rest @ ..] = fields else {
-        return out.extend(b"\n");
+        return out.push(b'\n');
     };
     out.extend(first)?;
     put_spaced(out, rest)?;
-    out.extend(b"\n")
+    out.push(b'\n')
 }
 
 #[tactic(auto, using(crate::proofs::LineLaws::appended_line))]
@@ -43,7 +43,7 @@ pub fn put_line_hex(
 {
     out.extend(word)?;
     put_spaced(out, fields)?;
-    out.extend(b" ")?;
+    out.push(b' ')?;
     put_hex_text(out, bytes)?;
-    out.extend(b"\n")
+    out.push(b'\n')
 }

@@ -1,7 +1,7 @@
 -- The steps of the writer make the canonical spelling.
-use Rattle.std.proofs.Common.{◌≡◌, ℕ, ◌+◌, ◌-◌, ◌/◌, List, ◌∷◌, ◌++◌, length, drop, sym, ap, subst, ◌∙◌, arith}
+use Rattle.std.proofs.Common.{◌≡◌, ℕ, ◌+◌, ◌-◌, ◌/◌, List, ◌∷◌, ◌++◌, length, set, sym, ap, subst, ◌∙◌, arith}
 use Rattle.std.proofs.lemmas.List.{append_cancel_left}
-use Rattle.std.specs.Prelude.{Result, Ok, Err, IfOk, OnOk}
+use Rattle.std.specs.Prelude.{Ok}
 use Rattle.mip_words.specs.declared.address.Address.{Address}
 use Rattle.mip_ipv6.specs.Sum.{with_number_at, checksum_of}
 use Rattle.mip_options.specs.Values.{Values}
@@ -13,14 +13,6 @@ use Rattle.mip_mobhdr.specs.Spelling.{IsMessage, type_of, options_said, field_by
 use Rattle.mip_mobhdr.proofs.Canonical.{message_canonical}
 use Rattle.mip_mobhdr.proofs.Messages.{message_read}
 
-pub if_ok : {T E : Type 0} (r : Result T E) (P Q : T → Type 0) → IfOk r P → ((x : T) → P x → Q x) → IfOk r Q
-if_ok (Ok x) P Q is then = then x is
-if_ok (Err e) P Q is then = tt
-
-pub on_ok : {T E : Type 0} (r : Result T E) (P : Type 0) → P → OnOk r P
-on_ok (Ok x) P is = is
-on_ok (Err e) P is = tt
-
 -- the options begin behind the fields
 length-front : (m : Said) (b : List ℕ) → b ≡ front_bytes m → length b ≡ 6 + length (field_bytes m)
 length-front m b front = ap (λ (l : List ℕ). length l) front ∙ omega arith
@@ -30,7 +22,7 @@ options_at_end : (m : Said) (b : List ℕ) (o : Values) → b ≡ front_bytes m 
 options_at_end m b o front is = ap (λ (n : ℕ). canonical n o) (length-front m b front) ∙ ap (canonical (6 + length (field_bytes m))) is
 
 -- with its Header Len in place
-pub draft_is : (m : Said) (b c : List ℕ) (o : Values) → b ≡ front_bytes m → o ≡ options_said m → c ≡ b ++ canonical (length b) o → 59 ∷ (length c / 8 - 1) ∷ drop 2 c ≡ unsummed m
+pub draft_is : (m : Said) (b c : List ℕ) (o : Values) → b ≡ front_bytes m → o ≡ options_said m → c ≡ b ++ canonical (length b) o → set c 1 (length c / 8 - 1) ≡ unsummed m
 unfolding unsummed rest_bytes
 draft_is m b c o front is appended =
     let tail = canonical (6 + length (field_bytes m)) (options_said m) in
@@ -38,7 +30,7 @@ draft_is m b c o front is appended =
     let whole : c ≡ 59 ∷ 0 ∷ type_of m ∷ 0 ∷ 0 ∷ 0 ∷ rest =
     appended ∙ ap (λ (l : List ℕ). b ++ l) (options_at_end m b o front is) ∙ ap (λ (l : List ℕ). l ++ tail) front in
     let long : length c ≡ 6 + length rest = ap (λ (l : List ℕ). length l) whole ∙ omega arith in
-    ap (λ (n : ℕ). 59 ∷ (n / 8 - 1) ∷ drop 2 c) long ∙ ap (λ (l : List ℕ). 59 ∷ ((6 + length rest) / 8 - 1) ∷ drop 2 l) whole
+    ap (λ (n : ℕ). set c 1 (n / 8 - 1)) long ∙ ap (λ (l : List ℕ). set l 1 ((6 + length rest) / 8 - 1)) whole
 
 pub options_written : (m : Said) (b c : List ℕ) (o : Values) → b ≡ front_bytes m → o ≡ options_said m → c ≡ b ++ canonical (length b) o → AppendsOptions o b c → WritesOptions m
 options_written m b c o front is appended (bytes, same, spelled) =

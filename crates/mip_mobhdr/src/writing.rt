@@ -1,6 +1,6 @@
 //! Writing a message.
 
-ghost use Rattle.std.specs.Prelude.{◌≡◌, ℕ, ◌+◌, ◌-◌, ◌/◌, ◌≤◌, ◌∷◌, ◌++◌, length, drop, Ok, IfOk, OnOk};
+ghost use Rattle.std.specs.Prelude.{◌≡◌, ℕ, ◌+◌, ◌-◌, ◌/◌, ◌≤◌, ◌++◌, length, slice_set, Ok, IfOk, OnOk};
 ghost use Rattle.mip_ipv6.specs.Sum.{with_number_at, checksum_of};
 ghost use Rattle.mip_options.specs.Values.{set_values};
 ghost use Rattle.mip_mobhdr.specs.Said.{said_plain};
@@ -16,7 +16,7 @@ use crate::test_init::put_init;
 use crate::update::{put_update, update_flags};
 use mip_ipv6::checksum;
 use mip_options::{OptionSet, write_options};
-use mip_words::{Address, Bytes, Memory, u16_bytes};
+use mip_words::{Address, Bytes, Memory};
 use std::alloc::Global;
 
 /// The bytes of the longest message.
@@ -33,8 +33,9 @@ pub fn write_message(
     ensures spelled { IfOk result (IsMessage source destination (said_plain message.now)) }
     ensures read_back { IfOk result (λ b. message_of source destination b ≡ Ok (said_plain message.now)) }
 {
-    let draft = draft_of(alloc, message)?;
-    summed(alloc, source, destination, draft.as_slice())
+    let mut bytes = draft_of(alloc, message)?;
+    put_sum(&mut bytes, source, destination);
+    Ok(bytes)
 }
 
 /// The message with zero for its checksum.
@@ -47,7 +48,8 @@ fn draft_of(alloc: Global, message: &Plain) -> Result<Bytes, Memory>
 {
     let mut out = front_of(alloc, message)?;
     write_options(&mut out, options_of(message))?;
-    sized(alloc, out.as_slice())
+    put_size(&mut out);
+    Ok(out)
 }
 
 /// What stands before the options, with zero for Header Len and checksum.
@@ -139,36 +141,22 @@ fn options_of(message: &Plain) -> &OptionSet
     }
 }
 
-/// The message with its Header Len in place.
-fn sized(alloc: Global, message: &[u8]) -> Result<Bytes, Memory>
-    requires long { 8 ≤ length message.now }
-    requires short { length message.now ≤ 96 }
-    ensures { IfOk result (λ b. b ≡ 59 ∷ (length message.now / 8 - 1) ∷ drop 2 message.now) }
+/// Puts the Header Len in its place.
+fn put_size(message: &mut Bytes)
+    requires long { 8 ≤ length message.old }
+    requires short { length message.old ≤ 96 }
+    ensures { message.new ≡ slice_set message.old 1 (length message.old / 8 - 1) }
 {
-    let (_, behind) = message.split_at(2);
-    let mut out = Bytes::with_capacity(alloc, message.len())?;
-    out.extend(&[59, (message.len() / 8 - 1) as u8])?;
-    out.extend(behind)?;
-    Ok(out)
+    let size = (message.len() / 8 - 1) as u8;
+    message.set(1, size);
 }
 
-/// The message with its checksum in place.
-fn summed(
-    alloc: Global,
-    source: Address,
-    destination: Address,
-    message: &[u8],
-) -> Result<Bytes, Memory>
-    requires long { 8 ≤ length message.now }
-    requires short { length message.now ≤ 96 }
-    ensures { IfOk result (λ b. b ≡ with_number_at 4 (checksum_of source destination 135 message.now 4) message.now) }
+/// Puts the checksum in its place.
+fn put_sum(message: &mut Bytes, source: Address, destination: Address)
+    requires long { 8 ≤ length message.old }
+    requires short { length message.old ≤ 96 }
+    ensures { message.new ≡ with_number_at 4 (checksum_of source destination 135 message.old 4) message.old }
 {
-    let sum = checksum(source, destination, 135, message, 4);
-    let (front, field) = message.split_at(4);
-    let (_, behind) = field.split_at(2);
-    let mut out = Bytes::with_capacity(alloc, message.len())?;
-    out.extend(front)?;
-    out.extend(&u16_bytes(sum))?;
-    out.extend(behind)?;
-    Ok(out)
+    let sum = checksum(source, destination, 135, message.as_slice(), 4);
+    message.set_u16(4, sum);
 }

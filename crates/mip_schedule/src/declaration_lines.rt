@@ -11,9 +11,9 @@ ghost use Rattle.mip_schedule.specs.Reading as reading;
 use crate::declaration::Declaration;
 use crate::declaration_line::declaration_line;
 use crate::declarations::Declarations;
-use crate::fault::{MOST_FIELDS, ScheduleFault};
+use crate::fault::ScheduleFault;
 use crate::reason::Reason;
-use mip_lines::{cut_at, fields_up_to};
+use mip_lines::{cut_at, few_fields};
 use std::alloc::Global;
 
 /// Declarations, the number of the line behind `run`, and the text from there on.
@@ -36,7 +36,6 @@ fn is_run(row: &[&[u8]]) -> bool
 /// The declaration of one line, or none at `run`.
 #[tactic(auto, unfolding(crate::specs::Declarings::next_of), using(crate::proofs::LongLaws::long_next))]
 fn next_declaration(
-    alloc: Global,
     ds: &[Declaration],
     line: u32,
     row: &[u8],
@@ -44,7 +43,7 @@ fn next_declaration(
     requires { AreFew ds.now }
     ensures { GivesText (λ d. d) result (next_of ds.now line (fields_of row.now)) }
 {
-    let Some(row) = fields_up_to(alloc, MOST_FIELDS, row)? else {
+    let Some(row) = few_fields(row) else {
         return Err(ScheduleFault::Bad {
             line,
             why: Reason::Form,
@@ -74,7 +73,7 @@ pub fn declarations_from(
     let mut line = first;
     let mut rest = text;
     while let Some((row, more)) = cut_at(b'\n', rest) {
-        let next = match next_declaration(alloc, declarations.as_slice(), line, row) {
+        let next = match next_declaration(declarations.as_slice(), line, row) {
             Ok(next) => next,
             Err(fault) => return Err(fault),
         };

@@ -11,10 +11,16 @@ use crate::declaration::Declaration;
 use crate::event::Event;
 use crate::event_line::{Sums, carry_of, event_line, wait_of};
 use crate::events::Events;
-use crate::fault::{LineFault, MOST_FIELDS, ScheduleFault};
+use crate::fault::{LineFault, ScheduleFault};
 use crate::reason::Reason;
-use mip_lines::{cut_at, fields_up_to};
+use mip_lines::{cut_at, few_fields};
 use std::alloc::Global;
+
+/// The most events for which room is taken at once.
+const MOST_EVENTS: usize = 20_000;
+
+/// The bytes of a short line.
+const SHORT_LINE: usize = 8;
 
 /// The event of one line.
 #[tactic(auto, using(crate::proofs::LongLaws::long_timed))]
@@ -32,7 +38,7 @@ fn next_event(
     ensures waits { IfOk result (λ e. sums.waits + rows.wait_of e ≤ 36000000) }
     ensures carries { IfOk result (λ e. sums.carries + rows.carry_of e ≤ 200000) }
 {
-    let Some(row) = fields_up_to(alloc, MOST_FIELDS, row)? else {
+    let Some(row) = few_fields(row) else {
         return Err(ScheduleFault::Bad {
             line,
             why: Reason::Form,
@@ -56,7 +62,7 @@ pub fn events_from(
     requires short { first + length text.now < 2 ^ 32 }
     ensures { GivesText (λ e. e) result (reading.events_of ds.now [] first (rows_of text.now)) }
 {
-    let mut events = Events::new(alloc);
+    let mut events = Events::with_capacity(alloc, MOST_EVENTS.min(text.len() / SHORT_LINE))?;
     let mut waits = 0;
     let mut carries = 0;
     let mut line = first;

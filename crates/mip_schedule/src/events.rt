@@ -1,4 +1,4 @@
-ghost use Rattle.std.specs.Prelude.{◌≡◌, ◌∷◌, ◌++◌, [], List, length, slice_get, OnOk, OnErr};
+ghost use Rattle.std.specs.Prelude.{◌≡◌, ◌∷◌, ◌++◌, [], List, length, slice_get, IfOk, OnOk, OnErr};
 ghost use Rattle.std.specs.Option.{option_copied};
 
 use crate::event::Event;
@@ -28,6 +28,14 @@ impl Events {
         Events {
             list: Vec::new(alloc),
         }
+    }
+
+    /// No event yet, and room for this many.
+    pub fn with_capacity(alloc: Global, capacity: usize) -> Result<Events, Memory>
+        ensures { IfOk result (λ events. events ≡ []) }
+    {
+        let list = Vec::with_capacity(alloc, capacity)?;
+        Ok(Events { list })
     }
 
     /// Appends an event.

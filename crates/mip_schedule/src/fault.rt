@@ -2,9 +2,6 @@ use crate::reason::Reason;
 use mip_words::Memory;
 use thiserror::Error;
 
-/// The most fields that a line has. A line of more is in no row's form, and no memory is taken for it.
-pub const MOST_FIELDS: usize = 11;
-
 /// A text that is no schedule: its first bad line, counted from 1, and why. Or memory has run out.
 #[derive(Clone, Copy, Debug, PartialEq, Eq, Error)]
 pub enum ScheduleFault {

@@ -7,12 +7,11 @@ ghost use Rattle.mip_schedule.specs.Faults.{GivesText};
 ghost use Rattle.mip_schedule.specs.Heads.{head_seen};
 ghost use Rattle.mip_schedule.specs.Reading as reading;
 
-use crate::fault::{MOST_FIELDS, ScheduleFault};
+use crate::fault::ScheduleFault;
 use crate::kinds::{seed, u8_in, u64_in};
 use crate::reason::Reason;
-use mip_lines::{cut_at, fields_up_to};
+use mip_lines::{cut_at, few_fields};
 use mip_words::Moment;
-use std::alloc::Global;
 
 /// What the first three lines say, and the text behind them.
 #[derive(Drop)]
@@ -38,7 +37,6 @@ fn headed<'a>(word: &[u8], row: &[&'a [u8]]) -> Result<&'a [u8], Reason>
 
 /// The field of the first line, which has this word, and the text behind it.
 fn head_field<'a>(
-    alloc: Global,
     word: &[u8],
     line: u32,
     text: &'a [u8],
@@ -52,7 +50,7 @@ fn head_field<'a>(
             why: Reason::Form,
         });
     };
-    let Some(row) = fields_up_to(alloc, MOST_FIELDS, row)? else {
+    let Some(row) = few_fields(row) else {
         return Err(ScheduleFault::Bad {
             line,
             why: Reason::Form,
@@ -65,11 +63,11 @@ fn head_field<'a>(
 }
 
 #[tactic(auto, unfolding(crate::specs::Reading::version_line))]
-fn version_line(alloc: Global, text: &[u8]) -> Result<(u8, &[u8]), ScheduleFault>
+fn version_line(text: &[u8]) -> Result<(u8, &[u8]), ScheduleFault>
     ensures exact { GivesText (λ p. (p.0, rows_of p.1.now)) result (reading.version_line (rows_of text.now)) }
     ensures short { IfOk result (λ p. length p.1.now < length text.now) }
 {
-    let (field, rest) = head_field(alloc, b"mip", 1, text)?;
+    let (field, rest) = head_field(b"mip", 1, text)?;
     match u8_in(1, 1, field) {
         Ok(version) => Ok((version, rest)),
         Err(why) => Err(ScheduleFault::Bad { line: 1, why }),
@@ -77,11 +75,11 @@ fn version_line(alloc: Global, text: &[u8]) -> Result<(u8, &[u8]), ScheduleFault
 }
 
 #[tactic(auto, unfolding(crate::specs::Reading::seed_line))]
-fn seed_line(alloc: Global, text: &[u8]) -> Result<([u8; 32], &[u8]), ScheduleFault>
+fn seed_line(text: &[u8]) -> Result<([u8; 32], &[u8]), ScheduleFault>
     ensures exact { GivesText (λ p. (p.0, rows_of p.1.now)) result (reading.seed_line (rows_of text.now)) }
     ensures short { IfOk result (λ p. length p.1.now < length text.now) }
 {
-    let (field, rest) = head_field(alloc, b"seed", 2, text)?;
+    let (field, rest) = head_field(b"seed", 2, text)?;
     match seed(field) {
         Ok(seed) => Ok((seed, rest)),
         Err(why) => Err(ScheduleFault::Bad { line: 2, why }),
@@ -89,11 +87,11 @@ fn seed_line(alloc: Global, text: &[u8]) -> Result<([u8; 32], &[u8]), ScheduleFa
 }
 
 #[tactic(auto, unfolding(crate::specs::Reading::start_line))]
-fn start_line(alloc: Global, text: &[u8]) -> Result<(u64, &[u8]), ScheduleFault>
+fn start_line(text: &[u8]) -> Result<(u64, &[u8]), ScheduleFault>
     ensures exact { GivesText (λ p. (p.0, rows_of p.1.now)) result (reading.start_line (rows_of text.now)) }
     ensures short { IfOk result (λ p. length p.1.now < length text.now) }
 {
-    let (field, rest) = head_field(alloc, b"start", 3, text)?;
+    let (field, rest) = head_field(b"start", 3, text)?;
     match u64_in(0, 0x0100_0000_0000, field) {
         Ok(start) => Ok((start, rest)),
         Err(why) => Err(ScheduleFault::Bad { line: 3, why }),
@@ -102,13 +100,13 @@ fn start_line(alloc: Global, text: &[u8]) -> Result<(u64, &[u8]), ScheduleFault>
 
 /// The head of a text.
 #[tactic(auto, unfolding(crate::specs::Reading::head_of))]
-pub fn read_head(alloc: Global, text: &[u8]) -> Result<Head<'_>, ScheduleFault>
+pub fn read_head(text: &[u8]) -> Result<Head<'_>, ScheduleFault>
     ensures exact { GivesText head_seen result (reading.head_of (rows_of text.now)) }
     ensures short { IfOk result (λ h. length h.rest.now + 3 ≤ length text.now) }
 {
-    let (_, rest) = version_line(alloc, text)?;
-    let (seed, rest) = seed_line(alloc, rest)?;
-    let (start, rest) = start_line(alloc, rest)?;
+    let (_, rest) = version_line(text)?;
+    let (seed, rest) = seed_line(rest)?;
+    let (start, rest) = start_line(rest)?;
     Ok(Head {
         seed,
         start: Moment(start),

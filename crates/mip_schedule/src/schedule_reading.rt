@@ -19,7 +19,7 @@ fn read_parts(alloc: Global, text: &[u8]) -> Result<Parts, ScheduleFault>
     requires { length text.now + 1 < 2 ^ 32 }
     ensures { GivesText parts_content result (reading text.now) }
 {
-    let head = read_head(alloc, text)?;
+    let head = read_head(text)?;
     let declared = declarations_from(alloc, 4, head.rest)?;
     let events = events_from(
         alloc,

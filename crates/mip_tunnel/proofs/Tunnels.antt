@@ -20,19 +20,6 @@ use Rattle.mip_ipv6.proofs.Packets.{packet_takes}
 use Rattle.mip_ipv6.proofs.Canonical.{packet_back, length_behind, length_routing, length_options}
 use Rattle.mip_tunnel.specs.Tunnel.{hop_of, lowered, lowered_packet, lowered_if_read, outer_head, tunnel_packet, encapsulated, inner, opened}
 
--- the pieces that are appended
-pub lowered_is : (packet front rest hop behind : List ℕ) → 7 < length packet → front ≡ take 7 packet → rest ≡ drop 7 packet → hop ≡ take 1 rest → behind ≡ drop 1 rest
-    → (front ++ ((get_or hop 0 0 - 1) ∷ [])) ++ behind ≡ set packet 7 (get_or packet 7 0 - 1)
-lowered_is packet front rest hop behind inside f r h b =
-    let read : get_or hop 0 0 ≡ get_or packet 7 0 =
-    ap (λ (l : List ℕ). get_or l 0 0) (h ∙ ap (take 1) r) ∙ get_or-take 1 (drop 7 packet) 0 0 (omega arith) ∙ get_or-drop 7 packet 0 0 in
-    let back : behind ≡ drop 8 packet = b ∙ ap (drop 1) r ∙ drop-drop 1 7 packet in
-    append_assoc front ((get_or hop 0 0 - 1) ∷ []) behind
-    ∙ ap (λ (l : List ℕ). l ++ ((get_or hop 0 0 - 1) ∷ behind)) f
-    ∙ ap (λ (n : ℕ). take 7 packet ++ ((n - 1) ∷ behind)) read
-    ∙ ap (λ (l : List ℕ). take 7 packet ++ ((get_or packet 7 0 - 1) ∷ l)) back
-    ∙ sym (set_split packet 7 (get_or packet 7 0 - 1) inside)
-
 -- what else of a packet is read, is the same in a lowered one
 pub length_lowered : (packet : List ℕ) → length (lowered packet) ≡ length packet
 unfolding lowered

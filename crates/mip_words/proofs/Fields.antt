@@ -1,5 +1,5 @@
 -- What is known of numbers in bytes, and of cutting a list of bytes into pieces.
-use Rattle.std.proofs.Common.{◌≡◌, inl, inr, ℕ, zero, suc, ◌+◌, ◌*◌, ◌/◌, ◌^◌, ◌<◌, ◌≤◌, List, [], ◌∷◌, ◌++◌, length, take, drop, refl, sym, ap, ◌∙◌, subst, arith, length-drop, length-take}
+use Rattle.std.proofs.Common.{◌≡◌, inl, inr, ℕ, zero, suc, ◌+◌, ◌*◌, ◌/◌, ◌^◌, ◌<◌, ◌≤◌, List, [], ◌∷◌, ◌++◌, length, take, drop, set, refl, sym, ap, ◌∙◌, subst, arith, length-drop, length-take}
 use Rattle.std.proofs.lemmas.List.{append-nil, drop-drop, drop_at, drop-append-le, get_or-drop, get_or-take, get_or_past}
 use Rattle.std.proofs.lemmas.Bool.{cases_lt, cases_order}
 use Rattle.std.proofs.Math.Nat.{mod-lt, mul-le-mul_right, add-mul}
@@ -8,6 +8,7 @@ use Rattle.std.specs.Int.{byte_at, bytes_high_first}
 use Rattle.byteorder.specs.Endian.{big_from, big_number}
 use Rattle.byteorder.specs.Numbers.{big_number-reads_back, big_from-append, big_from-take, big_from-lt, big_from-cons, length-bytes_high_first}
 use Rattle.mip_words.specs.Numbers.{IsBytes, number_at, number_bytes}
+use native.Mathlib.Numerals.{unary_clauses}
 
 -- bytes behind a place are bytes
 pub IsBytes-drop : (n : ℕ) (bytes : List ℕ) → IsBytes bytes → IsBytes (drop n bytes)
@@ -116,3 +117,17 @@ number_bytes-number_at n place bytes are inside =
     let read : big_from 0 n (bytes_high_first n y) ≡ y = ap (big_from 0 n) (sym (append-nil (bytes_high_first n y))) ∙ big_number-reads_back n y [] small in
     let front : big_from 0 n (take n xs) ≡ y = big_from-take 0 n n xs (omega arith) in
     same_bytes n (bytes_high_first n y) (take n xs) (length-bytes_high_first n y) (omega (arith, length-take n xs, length-drop place bytes)) (high_bytes n y) (IsBytes-take n xs (IsBytes-drop place bytes are)) (read ∙ sym front)
+
+-- two bytes that are set one after the other
+two_set : (bytes : List ℕ) (place high low : ℕ) → place + 2 ≤ length bytes → set (set bytes place high) (place + 1) low ≡ take place bytes ++ (high ∷ low ∷ drop (place + 2) bytes)
+two_set [] place high low fits = absurd (omega (arith, fits))
+two_set (a ∷ []) place high low fits = absurd (omega (arith, fits))
+two_set (a ∷ b ∷ bytes) zero high low fits = refl
+two_set (a ∷ b ∷ bytes) (suc place) high low fits =
+    let rest = two_set (b ∷ bytes) place high low (omega (arith, fits)) in
+    simp unary_clauses (ap (λ (l : List ℕ). a ∷ l) (simp unary_clauses at rest))
+
+pub number_set : (bytes : List ℕ) (place number : ℕ) → place + 2 ≤ length bytes
+    → set (set bytes place (slice_index (number_bytes 2 number) 0)) (place + 1) (slice_index (number_bytes 2 number) 1) ≡ take place bytes ++ (number_bytes 2 number ++ drop (place + 2) bytes)
+unfolding number_bytes
+number_set bytes place number fits = two_set bytes place (slice_index (number_bytes 2 number) 0) (slice_index (number_bytes 2 number) 1) fits

@@ -1,6 +1,8 @@
-ghost use Rattle.std.specs.Prelude.{◌≡◌, ◌==◌, ◌<◌, ◌++◌, List, ℕ, [], length, slice_set, IfOk, OnOk, OnErr};
+ghost use Rattle.std.specs.Prelude.{◌≡◌, ◌==◌, ◌+◌, ◌^◌, ◌<◌, ◌≤◌, ◌∷◌, ◌++◌, List, ℕ, [], length, take, drop, slice_set, IfOk, OnOk, OnErr};
+ghost use Rattle.mip_words.specs.Numbers.{number_bytes};
 
 use crate::memory::Memory;
+use crate::numbers::u16_bytes;
 use std::alloc::Global;
 use std::marker::Model;
 
@@ -40,6 +42,22 @@ impl Bytes {
         Ok(Bytes { list })
     }
 
+    /// The bytes of a list, which is taken over.
+    pub fn from_vec(list: Vec<u8>) -> Bytes
+        ensures { result ≡ list.items }
+    {
+        Bytes { list }
+    }
+
+    /// Appends a byte.
+    pub fn push(&mut self, byte: u8) -> Result<(), Memory>
+        ensures ok { OnOk result (self.new ≡ self.old ++ byte ∷ []) }
+        ensures err { OnErr result (self.new ≡ self.old) }
+    {
+        self.list.push(byte)?;
+        Ok(())
+    }
+
     /// Appends these bytes.
     pub fn extend(&mut self, bytes: &[u8]) -> Result<(), Memory>
         ensures ok { OnOk result (self.new ≡ self.old ++ bytes.now) }
@@ -55,6 +73,17 @@ impl Bytes {
         ensures { self.new ≡ slice_set self.old place byte }
     {
         self.list[place] = byte;
+    }
+
+    /// Puts a number in the place of the two bytes that stand there, its high byte first.
+    pub fn set_u16(&mut self, place: usize, number: u16)
+        requires within { place + 2 ≤ length self.old }
+        requires early { place < 2 ^ 16 }
+        ensures { self.new ≡ take place self.old ++ (number_bytes 2 number ++ drop (place + 2) self.old) }
+    {
+        let [high, low] = u16_bytes(number);
+        self.set(place, high);
+        self.set(place + 1, low);
     }
 
     /// Takes all bytes out. The room that they took stays for those to come.

@@ -44,13 +44,11 @@ fn digit_value(c: u8) -> u8
 fn are_hex_digits(field: &[u8]) -> bool
     ensures { result ≡ list_all is_hex_digit field.now }
 {
-    let mut all = true;
+    let mut others = 0;
     for c in field {
-        if !is_hex_digit(*c) {
-            all = false;
-        }
+        others |= u8::from(!is_hex_digit(*c));
     }
-    all
+    others == 0
 }
 
 fn pair_value(high: u8, low: u8) -> u8

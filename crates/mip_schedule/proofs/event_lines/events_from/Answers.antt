@@ -8,9 +8,9 @@ use Rattle.mip_schedule.proofs.event_lines.events_from.Goals as goal
 
 pub loop-row-init : goal.loop-row-init
 loop-row-init c = record {
-  so_far = ap (λ es. events_of c.args.ds.now es c.args.first (rows_of c.args.text.now)) c.new-events.ensures;
-  waits = sym (ap waited c.new-events.ensures ∙ none_waited);
-  carries = sym (ap carried c.new-events.ensures ∙ none_carried);
+  so_far = ap (λ es. events_of c.args.ds.now es c.args.first (rows_of c.args.text.now)) c.in_ok-events.ensures;
+  waits = sym (ap waited c.in_ok-events.ensures ∙ none_waited);
+  carries = sym (ap carried c.in_ok-events.ensures ∙ none_carried);
   few_waits = omega arith;
   few_carries = omega arith;
   short = omega arith;
