@@ -6,7 +6,7 @@ use Rattle.mip_words.specs.declared.address.Address.{Address}
 use Rattle.mip_words.specs.declared.ids.NodeId.{NodeId}
 use Rattle.mip_words.specs.declared.ids.LinkId.{LinkId}
 use Rattle.mip_entries.specs.declared.entry.Entry.{Entry}
-use Rattle.mip_entries.specs.declared.entry.Entry.TheVariants.{At, Moved, Advertised, Claimed, Released, Taken, Listening, Deafened, Careof, Sent, Injected, Heard, Handed, Gone, Lost, Idle, Home, Registered, Unregistered, Refused, Chosen, Prefixes, Made, Bound, Unbound, Accepted, Origin, Forged, Denied, Dropped, Up, Unsent, Restarted, Row, Settled}
+use Rattle.mip_entries.specs.declared.entry.Entry.TheVariants.{Claimed, Released, Taken, Careof, Sent, Idle, Home, Registered, Unregistered, Refused, Chosen, Prefixes, Made, Bound, Unbound, Accepted, Denied, Dropped, Up, Unsent, Restarted, Row}
 use Rattle.mip_entries.specs.declared.answer.Answer.{Answer}
 use Rattle.mip_entries.specs.declared.answer.Answer.TheVariants.{Send, Note}
 

@@ -1,7 +1,10 @@
 ghost use Rattle.std.specs.Prelude.{◌≡◌, ◌∷◌, ◌++◌, [], List, length, slice_get, IfOk, OnOk, OnErr};
+ghost use Rattle.std.specs.List.{AllByRecursion};
 ghost use Rattle.std.specs.Option.{option_copied};
+ghost use Rattle.mip_entries.specs.Widths.{HasWidths};
 
 use crate::entry::Entry;
+use crate::widths::widths;
 use mip_words::Memory;
 use std::alloc::Global;
 use std::marker::Model;
@@ -19,6 +22,11 @@ impl Model for History {
     ghost Value = { List Entry };
 
     ghost view = { λ a. a.list.items };
+
+    ghost use Rattle.std.specs.List.{AllByRecursion};
+    ghost use Rattle.mip_entries.specs.Widths.{HasWidths};
+
+    ghost invariant = { λ a. AllByRecursion HasWidths a.list.items };
 }
 
 impl History {
@@ -35,8 +43,16 @@ impl History {
         ensures ok { OnOk result (self.new ≡ self.old ++ entry ∷ []) }
         ensures err { OnErr result (self.new ≡ self.old) }
     {
+        widths(&entry);
         self.list.push(entry)?;
         Ok(())
+    }
+
+    /// A law: each number of each entry fits its bits, and packets, data and tokens are of bytes.
+    pub fn widths(&self)
+        ensures { AllByRecursion HasWidths self.now }
+    {
+        let _count = self.list.len();
     }
 
     /// The entries, oldest first.

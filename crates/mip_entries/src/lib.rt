@@ -10,6 +10,7 @@ mod entry;
 mod history;
 mod reserved;
 mod update_seen;
+mod widths;
 
 pub use answer::Answer;
 pub use answers::Answers;

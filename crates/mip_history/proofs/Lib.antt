@@ -32,3 +32,5 @@ mod Homed
 mod Homing
 mod HomedRuns
 mod Registrations
+pub mod Reasons
+pub mod Declaring

@@ -39,15 +39,15 @@ rises_from s m front (e ∷ es) each early =
 some_is : (x y : ℕ) → Some x ≡ Some y → x ≡ y
 some_is x y e = cc
 
-near_index : (newest back index n : ℕ) → back ≡ (newest % 65536 + 65536 - index) % 65536 → index < 65536 → back < 8 → back ≤ newest → newest - back ≡ n → n % 65536 ≡ index
-near_index newest back index n is fits few inside same = omega arith
+near_index : (newest back index n : ℕ) → back ≡ (newest % 65536 + 65536 - index % 65536) % 65536 → back < 8 → back ≤ newest → newest - back ≡ n → n % 65536 ≡ index % 65536
+near_index newest back index n is few inside same = omega arith
 
-named_index : (now index n : ℕ) → index < 65536 → number_named now index ≡ Some n → n % 65536 ≡ index
+named_index : (now index n : ℕ) → number_named now index ≡ Some n → n % 65536 ≡ index % 65536
 unfolding number_named
-named_index now index n fits =
-    cond_both (ltb (behind now index) 8 && leb (behind now index) (current_of now)) _ _ (λ (o : Option ℕ). o ≡ Some n → n % 65536 ≡ index) (λ near e.
+named_index now index n =
+    cond_both (ltb (behind now index) 8 && leb (behind now index) (current_of now)) _ _ (λ (o : Option ℕ). o ≡ Some n → n % 65536 ≡ index % 65536) (λ near e.
     let tests = and_parts _ _ near in
-    near_index (current_of now) (behind now index) index n (omega arith) fits (ltb-true (behind now index) 8 tests.0) (leb-true (behind now index) (current_of now) tests.1) (some_is _ n e))
+    near_index (current_of now) (behind now index) index n (omega arith) (ltb-true (behind now index) 8 tests.0) (leb-true (behind now index) (current_of now) tests.1) (some_is _ n e))
     (λ far e. absurd cc)
 
 -- two numbers that are near the newest ones of their moments, and have the same end
@@ -55,10 +55,10 @@ one_number : (t u i j : ℕ) → i ≤ t → t < i + 8 → j ≤ u → u < j + 8
 one_number t u i j a b c d up near same = omega arith
 
 -- so an index names the same nonce at two moments, and they are less than 240 s apart
-pub same_nonce : (t u index i j : ℕ) → index < 65536 → IsNonce t index i → IsNonce u index j → t ≤ u → u ≤ t + 36000000 → u < t + 240000
-same_nonce t u index i j fits first second up far =
-    let a = named_index t index i fits first.1 in
-    let b = named_index u index j fits second.1 in
+pub same_nonce : (t u index i j : ℕ) → IsNonce t index i → IsNonce u index j → t ≤ u → u ≤ t + 36000000 → u < t + 240000
+same_nonce t u index i j first second up far =
+    let a = named_index t index i first.1 in
+    let b = named_index u index j second.1 in
     let one : i ≡ j = one_number (t / 30000) (u / 30000) i j first.0.0 first.0.1 second.0.0 second.0.1 (omega arith) (omega arith) (omega arith) in
     near t u i first.0.0 (omega (arith, second.0.1, one))
   where

@@ -83,7 +83,7 @@ packet_is x y e = cc
 same_packet : (s : Setup) (front es : List Entry) (n k : ℕ) (home : Address) (a : Accepted) (key : Key) (is : IsAccepted s front n k home a) (u : CarriesUpdate (front ++ es) k key) → u.packet ≡ is.bytes
 same_packet s front es n k home a key is u = packet_is u.packet is.bytes (sym u.posted ∙ packet_stays k front es is.bytes is.posted)
 
--- what is read of a packet says what the packet carries, and is a part of its bytes
+-- what is read of a packet says what the packet carries
 read_says : (kind : Kind) (bytes : List ℕ) (p : Packet) → p.head.proto ≡ 135 → IsReadBy kind bytes p → carried bytes ≡ says p
 read_says (Correspondent room) bytes p mobility read = carried_plain bytes p read (λ t. omega (arith, mobility))
 read_says (Agent preference life room serves) bytes p mobility read = absurd read
@@ -92,26 +92,11 @@ read_says (Mobile agent) bytes p mobility (Within outer entry read opens) =
     carried_opened bytes outer p entry read opens
     ∙ carried_plain outer.body p (opened-reads entry outer p opens) (λ t. omega (arith, mobility))
 
-body_bytes : (bytes : List ℕ) (p : Packet) → packet_of bytes ≡ Ok p → IsBytes bytes → IsBytes p.body
-body_bytes bytes p read are =
-    let there = read_stands p bytes read in
-    subst IsBytes (sym there.there) (IsBytes-drop (length bytes - length p.body) bytes are)
-
-read_bytes : (kind : Kind) (bytes : List ℕ) (p : Packet) → IsReadBy kind bytes p → IsBytes bytes → IsBytes p.body
-read_bytes (Correspondent room) bytes p read are = body_bytes bytes p read are
-read_bytes (Agent preference life room serves) bytes p read are = absurd read
-read_bytes (Mobile agent) bytes p (Itself read) are = body_bytes bytes p read are
-read_bytes (Mobile agent) bytes p (Within outer entry read opens) are = body_bytes outer.body p (opened-reads entry outer p opens) (body_bytes bytes outer read are)
-
 accepted_says : (s : Setup) (front es : List Entry) (n k : ℕ) (home : Address) (a : Accepted) (key : Key) (is : IsAccepted s front n k home a) → CarriesUpdate (front ++ es) k key → says is.packet ≡ Update key
 accepted_says s front es n k home a key is u =
     sym (read_says is.kind is.bytes is.packet is.mobility is.read)
     ∙ ap carried (sym (same_packet s front es n k home a key is u))
     ∙ u.says
-
-accepted_bytes : (s : Setup) (front es : List Entry) (n k : ℕ) (home : Address) (a : Accepted) (key : Key) (is : IsAccepted s front n k home a) → CarriesUpdate (front ++ es) k key → IsBytes is.packet.body
-accepted_bytes s front es n k home a key is u =
-    read_bytes is.kind is.bytes is.packet is.read (subst IsBytes (same_packet s front es n k home a key is u) u.bytes)
 
 module _ (c : Content) (short : sum_by waited_by c.events ≤ 36000000) (before between after : List Entry) (n k l : ℕ) (home : Address) (a b : Accepted)
     (whole : permitted c ≡ before ++ accepted_entry n k home a ∷ between ++ accepted_entry n l home b ∷ after) (alive : list_any (is_restart_of n) between ≡ false) (again : IsRepeat (permitted c) k l) where
@@ -146,8 +131,6 @@ module _ (c : Content) (short : sum_by waited_by c.events ≤ 36000000) (before 
   same : AsksSame first.stands.registration second.stands.registration
   same =
       asks_same first.stands.packet second.stands.packet again.key
-      (accepted_bytes s before (accepted_entry n k home a ∷ since) n k home first.accepted again.key first.stands carries_first)
-      (accepted_bytes s middle later n l home second.accepted again.key second.stands carries_second)
       (accepted_says s before (accepted_entry n k home a ∷ since) n k home first.accepted again.key first.stands carries_first)
       (accepted_says s middle later n l home second.accepted again.key second.stands carries_second)
       first.stands.registration first.stands.asks second.stands.registration second.stands.asks
@@ -180,7 +163,7 @@ module _ (c : Content) (short : sum_by waited_by c.events ≤ 36000000) (before 
       let named : Some x.indices ≡ Some y.indices = sym x.named ∙ same.nonces ∙ y.named in
       let one : x.indices ≡ y.indices = cc in
       same_nonce (moment_in s.start before) (moment_in s.start middle) x.indices.home first.accepted.home_nonce second.accepted.home_nonce
-      (same.fits x.indices x.named) x.home_nonce
+      x.home_nonce
       (subst (λ (i : Indices). IsNonce (moment_in s.start middle) i.home second.accepted.home_nonce) (sym one) y.home_nonce)
       rises.1 within
 

@@ -1,7 +1,6 @@
 -- An update that is accepted again. RFC 6275 section 9.5.1
 use Rattle.std.specs.Prelude.{◌≡◌, ℕ, ◌+◌, ◌*◌, ◌%◌, ◌<◌, List, [], ◌∷◌, ◌++◌, fold, true, false, ◌&&◌, ◌==◌, if◌then◌else◌, Some}
 use Rattle.std.specs.List.{list_any}
-use Rattle.mip_words.specs.Numbers.{IsBytes}
 use Rattle.mip_words.specs.Sequence.{step_from}
 use Rattle.mip_words.specs.declared.address.Address.{Address}
 use Rattle.mip_says.specs.Says.{Key, carried}
@@ -12,11 +11,10 @@ use Rattle.mip_entries.specs.declared.entry.Entry.TheVariants as entries
 use Rattle.mip_history.specs.Setup.{Setup}
 use Rattle.mip_history.specs.Bound.{packet_in, accepted_entry, is_restart_of}
 
--- packet k, a list of bytes, carries this update
+-- packet k carries this update
 pub record CarriesUpdate (past : List Entry) (k : ℕ) (key : Key) : Type 0 where
   pub packet : List ℕ
   pub posted : packet_in past k ≡ Some packet
-  pub bytes : IsBytes packet
   pub says : carried packet ≡ Update key
 
 -- two packets carry the same update: its home and care-of addresses, what its authenticator covers, and the authenticator

@@ -17,3 +17,4 @@ pub mod Passing
 pub mod Bound
 pub mod Again
 pub mod Registered
+pub mod Declared

@@ -1,7 +1,7 @@
-ghost use Rattle.std.specs.Prelude.{◌≡◌, ◌^◌, ◌<◌, ◌≤◌, ◌∷◌, ◌++◌, length, OnOk};
+ghost use Rattle.std.specs.Prelude.{◌≡◌, ◌^◌, ◌<◌, ◌≤◌, ◌∷◌, ◌++◌, length, IfOk, OnOk};
 ghost use Rattle.mip_words.specs.Numbers.{number_bytes};
 ghost use Rattle.mip_words.specs.Steps.{Gives};
-ghost use Rattle.mip_mobhdr.specs.Said.{said};
+ghost use Rattle.mip_mobhdr.specs.Said.{said, HasSpan};
 ghost use Rattle.mip_mobhdr.specs.Reading.{acknowledgement_of};
 ghost use Rattle.mip_mobhdr.specs.Spelling.{flag};
 
@@ -14,7 +14,8 @@ use mip_words::{Bytes, Memory, u16_at, u16_bytes};
 #[tactic(auto, unfolding(crate::specs::Reading::acknowledgement_of))]
 pub fn acknowledgement(body: &[u8]) -> Result<Message<'_>, Fault>
     requires { 16 ≤ length body.now }
-    ensures { Gives said result (acknowledgement_of body.now) }
+    ensures exact { Gives said result (acknowledgement_of body.now) }
+    ensures span { IfOk result (HasSpan body.now) }
 {
     let options = read_options(body, 12)?;
     Ok(Message::Acknowledgement {

@@ -1,7 +1,7 @@
-ghost use Rattle.std.specs.Prelude.{◌≡◌, ◌^◌, ◌<◌, ◌≤◌, ◌++◌, length, take, drop, OnOk};
+ghost use Rattle.std.specs.Prelude.{◌≡◌, ◌^◌, ◌<◌, ◌≤◌, ◌++◌, length, take, drop, IfOk, OnOk};
 ghost use Rattle.mip_words.specs.Numbers.{number_bytes};
 ghost use Rattle.mip_words.specs.Steps.{Gives};
-ghost use Rattle.mip_mobhdr.specs.Said.{said};
+ghost use Rattle.mip_mobhdr.specs.Said.{said, HasSpan};
 ghost use Rattle.mip_mobhdr.specs.Reading.{home_test_of, careof_test_of};
 
 use crate::fault::Fault;
@@ -13,7 +13,8 @@ use mip_words::{Bytes, Cookie, Memory, Token, u16_at, u16_bytes, u64_at, u64_byt
 #[tactic(auto, unfolding(crate::specs::Reading::home_test_of))]
 pub fn home_test(body: &[u8]) -> Result<Message<'_>, Fault>
     requires { 24 ≤ length body.now }
-    ensures { Gives said result (home_test_of body.now) }
+    ensures exact { Gives said result (home_test_of body.now) }
+    ensures span { IfOk result (HasSpan body.now) }
 {
     let options = read_options(body, 24)?;
     Ok(Message::HomeTest {
@@ -28,7 +29,8 @@ pub fn home_test(body: &[u8]) -> Result<Message<'_>, Fault>
 #[tactic(auto, unfolding(crate::specs::Reading::careof_test_of))]
 pub fn careof_test(body: &[u8]) -> Result<Message<'_>, Fault>
     requires { 24 ≤ length body.now }
-    ensures { Gives said result (careof_test_of body.now) }
+    ensures exact { Gives said result (careof_test_of body.now) }
+    ensures span { IfOk result (HasSpan body.now) }
 {
     let options = read_options(body, 24)?;
     Ok(Message::CareofTest {

@@ -1,7 +1,7 @@
-ghost use Rattle.std.specs.Prelude.{◌≡◌, ◌^◌, ◌<◌, ◌≤◌, ◌∷◌, ◌++◌, length, OnOk};
+ghost use Rattle.std.specs.Prelude.{◌≡◌, ◌^◌, ◌<◌, ◌≤◌, ◌∷◌, ◌++◌, length, IfOk, OnOk};
 ghost use Rattle.mip_words.specs.Addresses.{address_bytes};
 ghost use Rattle.mip_words.specs.Steps.{Gives};
-ghost use Rattle.mip_mobhdr.specs.Said.{said};
+ghost use Rattle.mip_mobhdr.specs.Said.{said, HasSpan};
 ghost use Rattle.mip_mobhdr.specs.Reading.{error_of};
 
 use crate::fault::Fault;
@@ -13,7 +13,8 @@ use mip_words::{Address, Bytes, Memory};
 #[tactic(auto, unfolding(crate::specs::Reading::error_of))]
 pub fn binding_error(body: &[u8]) -> Result<Message<'_>, Fault>
     requires { 24 ≤ length body.now }
-    ensures { Gives said result (error_of body.now) }
+    ensures exact { Gives said result (error_of body.now) }
+    ensures span { IfOk result (HasSpan body.now) }
 {
     let options = read_options(body, 24)?;
     Ok(Message::Error {

@@ -2,7 +2,7 @@
 
 ghost use Rattle.std.specs.Prelude.{◌≡◌, ◌+◌, ◌*◌, ◌≤◌, ◌<◌, length, Ok, IfOk};
 ghost use Rattle.mip_words.specs.Steps.{Gives};
-ghost use Rattle.mip_mobhdr.specs.Said.{Said, said};
+ghost use Rattle.mip_mobhdr.specs.Said.{Said, said, HasSpan};
 ghost use Rattle.mip_mobhdr.specs.Reading.{least_of, type_in, fields_of, message_of};
 ghost use Rattle.mip_mobhdr.specs.Spelling.{IsMessage};
 
@@ -28,13 +28,16 @@ pub fn read_message(
     ensures found { IfOk result (λ m. IsMessage source destination (said m) body.now) }
     ensures only { (m : Said) → IsMessage source destination m body.now → Gives said result (Ok m) }
     ensures exact { Gives said result (message_of source destination body.now) }
+    // The bytes of the options are those from their place to the end of the message.
+    ensures span { IfOk result (HasSpan body.now) }
 {
     message_in(source, destination, body)
 }
 
 #[tactic(auto, unfolding(crate::specs::Reading::message_of))]
 fn message_in(source: Address, destination: Address, body: &[u8]) -> Result<Message<'_>, Fault>
-    ensures { Gives said result (message_of source destination body.now) }
+    ensures exact { Gives said result (message_of source destination body.now) }
+    ensures span { IfOk result (HasSpan body.now) }
 {
     let kind = kind_of(source, destination, body)?;
     fields(kind, body)
@@ -69,7 +72,8 @@ fn kind_of(source: Address, destination: Address, body: &[u8]) -> Result<u8, Fau
 #[tactic(auto, unfolding(crate::specs::Reading::fields_of))]
 fn fields(kind: u8, body: &[u8]) -> Result<Message<'_>, Fault>
     requires { 8 + 8 * least_of kind ≤ length body.now }
-    ensures { Gives said result (fields_of kind body.now) }
+    ensures exact { Gives said result (fields_of kind body.now) }
+    ensures span { IfOk result (HasSpan body.now) }
 {
     match kind {
         0 => refresh(body),

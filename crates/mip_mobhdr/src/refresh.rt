@@ -1,6 +1,6 @@
-ghost use Rattle.std.specs.Prelude.{◌≡◌, ◌≤◌, [], ◌∷◌, ◌++◌, length, OnOk};
+ghost use Rattle.std.specs.Prelude.{◌≡◌, ◌≤◌, [], ◌∷◌, ◌++◌, length, IfOk, OnOk};
 ghost use Rattle.mip_words.specs.Steps.{Gives};
-ghost use Rattle.mip_mobhdr.specs.Said.{said};
+ghost use Rattle.mip_mobhdr.specs.Said.{said, HasSpan};
 ghost use Rattle.mip_mobhdr.specs.Reading.{refresh_of};
 
 use crate::fault::Fault;
@@ -12,7 +12,8 @@ use mip_words::{Bytes, Memory};
 #[tactic(auto, unfolding(crate::specs::Reading::refresh_of))]
 pub fn refresh(body: &[u8]) -> Result<Message<'_>, Fault>
     requires { 8 ≤ length body.now }
-    ensures { Gives said result (refresh_of body.now) }
+    ensures exact { Gives said result (refresh_of body.now) }
+    ensures span { IfOk result (HasSpan body.now) }
 {
     let options = read_options(body, 8)?;
     Ok(Message::Refresh { options })

@@ -1,7 +1,7 @@
-ghost use Rattle.std.specs.Prelude.{◌≡◌, ◌^◌, ◌<◌, ◌≤◌, ◌∷◌, ◌++◌, length, OnOk};
+ghost use Rattle.std.specs.Prelude.{◌≡◌, ◌^◌, ◌<◌, ◌≤◌, ◌∷◌, ◌++◌, length, IfOk, OnOk};
 ghost use Rattle.mip_words.specs.Numbers.{number_bytes};
 ghost use Rattle.mip_words.specs.Steps.{Gives};
-ghost use Rattle.mip_mobhdr.specs.Said.{said};
+ghost use Rattle.mip_mobhdr.specs.Said.{said, HasSpan};
 ghost use Rattle.mip_mobhdr.specs.Reading.{home_init_of, careof_init_of};
 
 use crate::fault::Fault;
@@ -13,7 +13,8 @@ use mip_words::{Bytes, Cookie, Memory, u64_at, u64_bytes};
 #[tactic(auto, unfolding(crate::specs::Reading::home_init_of))]
 pub fn home_init(body: &[u8]) -> Result<Message<'_>, Fault>
     requires { 16 ≤ length body.now }
-    ensures { Gives said result (home_init_of body.now) }
+    ensures exact { Gives said result (home_init_of body.now) }
+    ensures span { IfOk result (HasSpan body.now) }
 {
     let cookie = Cookie(u64_at(body, 8));
     let options = read_options(body, 16)?;
@@ -24,7 +25,8 @@ pub fn home_init(body: &[u8]) -> Result<Message<'_>, Fault>
 #[tactic(auto, unfolding(crate::specs::Reading::careof_init_of))]
 pub fn careof_init(body: &[u8]) -> Result<Message<'_>, Fault>
     requires { 16 ≤ length body.now }
-    ensures { Gives said result (careof_init_of body.now) }
+    ensures exact { Gives said result (careof_init_of body.now) }
+    ensures span { IfOk result (HasSpan body.now) }
 {
     let cookie = Cookie(u64_at(body, 8));
     let options = read_options(body, 16)?;

@@ -18,9 +18,9 @@ index_of n = n % 65536
 abbrev pub IsNamed : ℕ → ℕ → ℕ → Type 0
 IsNamed now index n = IsValidAt now n × (index_of n ≡ index)
 
--- how many numbers before the newest one the index is, counting round
+-- how many numbers before the newest one the index is, counting round; an index has 16 bits
 abbrev pub behind : ℕ → ℕ → ℕ
-behind now index = (index_of (current_of now) + 65536 - index) % 65536
+behind now index = (index_of (current_of now) + 65536 - index_of index) % 65536
 
 -- the valid nonce that an index names, if there is one
 unfoldable pub number_named : ℕ → ℕ → Option ℕ

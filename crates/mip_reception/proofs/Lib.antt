@@ -1,2 +1,3 @@
 pub mod Passings
 pub mod Pointers
+pub mod Reasons

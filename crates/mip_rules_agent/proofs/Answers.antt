@@ -29,7 +29,7 @@ whole-step me bytes (Registers number home binding) own = (refl, tt)
 whole-step me bytes (Claims home) own = (refl, tt)
 whole-step me bytes (Releases home) own = (refl, tt)
 whole-step me bytes (Denies number status) own = (refl, tt)
-whole-step me bytes (Drops number why) own = (refl, tt)
+whole-step me bytes (Drops number why) own = (own, tt)
 whole-step me bytes Rang own = tt
 
 -- the answers so far are whole

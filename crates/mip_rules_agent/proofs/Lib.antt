@@ -1,3 +1,4 @@
+pub mod Reasons
 pub mod Walks
 pub mod Calls
 pub mod Moments

@@ -20,6 +20,7 @@ use Rattle.mip_reception.specs.declared.refusal.Refusal.{Refusal}
 use Rattle.mip_reception.specs.Checks.{checked}
 use Rattle.mip_reception.specs.Replies.{reply_packet}
 use Rattle.mip_reception.specs.Words.{packet_why}
+use Rattle.mip_reception.proofs.Reasons.{RefusesRight as Refuses, packet_why-dropped, checked-right}
 use Rattle.mip_updates.specs.declared.registration.Registration.{Registration}
 use Rattle.mip_updates.specs.Registrations.{registration, home_of, deletes}
 use Rattle.mip_rules_agent.specs.declared.identity.Identity.{Identity}
@@ -34,6 +35,8 @@ use Rattle.mip_rules_agent.specs.Steps.{Step, Called, Sends, Registers, Claims, 
 use Rattle.mip_rules_agent.specs.Questions.{careof_at, holds, valid_at, preferred_at, rows_at, due_ends}
 use Rattle.mip_rules_agent.specs.Turns.{Turn, noted}
 use Rattle.mip_rules_agent.specs.Verdicts.{is_from, verdict, binding_for}
+use Rattle.mip_entries.specs.Reasons.{is_dropped_why}
+use Rattle.mip_rules_agent.proofs.Reasons.{RefusesRight, verdict-right}
 use Rattle.mip_rules_agent.specs.Rules.{Handing, intercepts, is_careof, opens, takes_tunnel, bench, claim_with, acknowledges, denies, claims_if, answers_if, accepts, judged, takes_update, names_agents, advertises, answers_solicitation, takes_icmp, by_proto, by_role, replies, refuses, standing_of, after_checks, place_in, by_destination, receives}
 use Rattle.mip_rules_agent.specs.Doing.{takes, releases_all, ticks, advertises_all, plans, handing, handles, does}
 use Rattle.mip_rules_agent.specs.Sendings.{SendsInto, SendsOut, SendsAck, SendsReply, SendsAgents, SendsPrefix, SendsOwn}
@@ -49,22 +52,22 @@ first_of false b e = e
 
 -- over a packet that is handed over
 module _ (h : Handing) (P : Turn → Type 0) (more : (step : Step) (t : Turn) → is_call step ≡ false → SendsOwn h.me h.bytes step → P t → P (noted step t)) where
-  every-drop : (why : Why) (t : Turn) → P t → P (noted (Drops h.number why) t)
-  every-drop why t p = more (Drops h.number why) t refl tt p
+  every-drop : (why : Why) → is_dropped_why why ≡ true → (t : Turn) → P t → P (noted (Drops h.number why) t)
+  every-drop why right t p = more (Drops h.number why) t refl right p
 
   every-interception : (home careof : Address) (proto : ℕ) (t : Turn) → P t → P (intercepts h home careof proto t)
   unfolding intercepts
   every-interception home careof proto t p =
-      either P (nat_lt (hop_of h.bytes) 2) _ _ (every-drop whys.Hop t p)
-      (cond_both (nat_lt 65535 (length h.bytes)) _ _ P (λ big. every-drop whys.Size t p)
+      either P (nat_lt (hop_of h.bytes) 2) _ _ (every-drop whys.Hop refl t p)
+      (cond_both (nat_lt 65535 (length h.bytes)) _ _ P (λ big. every-drop whys.Size refl t p)
       (λ fits. more _ t refl (SendsInto home careof proto, (refl, refl, (let f : nat_lt 65535 (length h.bytes) ≡ false = fits in grind (arith, nat_tests, f)))) p))
 
   every-opening : (outer : Packet) → packet_of h.bytes ≡ Ok outer → outer.head.proto ≡ 41 → (r : Result Packet NotPacket) → packet_of outer.body ≡ r → (t : Turn) → P t → P (opens h outer r t)
-  every-opening outer read tunnel (Err fault) is t p = every-drop (packet_why fault) t p
+  every-opening outer read tunnel (Err fault) is t p = every-drop (packet_why fault) (packet_why-dropped fault) t p
   every-opening outer read tunnel (Ok q) is t p =
-      either P (not (is_careof h.known h.now q.head.source outer.head.source)) _ _ (every-drop whys.Entry t p)
-      (either P (q.head.destination.0 == h.me.own.0) _ _ (every-drop whys.Nested t p)
-      (either P ((q.head.proto == 135) && not (is_from q.head.source h.shield)) _ _ (every-drop whys.Unshielded t p)
+      either P (not (is_careof h.known h.now q.head.source outer.head.source)) _ _ (every-drop whys.Entry refl t p)
+      (either P (q.head.destination.0 == h.me.own.0) _ _ (every-drop whys.Nested refl t p)
+      (either P ((q.head.proto == 135) && not (is_from q.head.source h.shield)) _ _ (every-drop whys.Unshielded refl t p)
       (more (Sends None outer.body) t refl (SendsOut outer q, (refl, refl, read, tunnel, is)) p)))
 
   every-tunnel : (outer : Packet) → packet_of h.bytes ≡ Ok outer → outer.head.proto ≡ 41 → (t : Turn) → P t → P (takes_tunnel h outer t)
@@ -85,12 +88,12 @@ module _ (h : Handing) (P : Turn → Type 0) (more : (step : Step) (t : Turn) �
   every-answer true r granted t p = every-acknowledgement r 0 r.sequence granted t p
   every-answer false r granted t p = p
 
-  every-judged : (r : Registration) (held : Bool) (v : HomeVerdict) (t : Turn) → P t → P (judged h r held v t)
+  every-judged : (r : Registration) (held : Bool) (v : HomeVerdict) → RefusesRight v → (t : Turn) → P t → P (judged h r held v t)
   unfolding denies accepts
-  every-judged r held (Refuse why) t p = every-drop why t p
-  every-judged r held (Deny status last) t p =
+  every-judged r held (Refuse why) right t p = every-drop why right t p
+  every-judged r held (Deny status last) right t p =
       every-acknowledgement r status last 0 (noted (Denies h.number status) t) (more (Denies h.number status) t refl tt p)
-  every-judged r held (Accept home careof sequence granted) t p =
+  every-judged r held (Accept home careof sequence granted) right t p =
       let step : Step = Registers h.number home (binding_for h.now careof sequence granted) in
       every-answer r.ack r granted (claims_if held (deletes r) home (noted step t)) (every-claim held (deletes r) home (noted step t) (more step t refl tt p))
 
@@ -98,15 +101,16 @@ module _ (h : Handing) (P : Turn → Type 0) (more : (step : Step) (t : Turn) �
   unfolding takes_update
   every-update r t p =
       let held : Bool = holds h.known (home_of r) in
-      every-judged r held (verdict (bench h.me h.known h.now r) h.shield (claim_with held h.claim) r) t p
+      let b = bench h.me h.known h.now r in
+      every-judged r held (verdict b h.shield (claim_with held h.claim) r) (verdict-right b h.shield (claim_with held h.claim) r) t p
 
   every-solicitation : (home : Address) (identifier : ℕ) (careof : Option Address) (t : Turn) → P t → P (answers_solicitation h home identifier careof t)
   unfolding advertises
-  every-solicitation home identifier None t p = every-drop whys.Role t p
+  every-solicitation home identifier None t p = every-drop whys.Role refl t p
   every-solicitation home identifier (Some careof) t p =
       either P (is_from home h.shield) _ _
       (more _ t refl (SendsPrefix home careof identifier (valid_at h.known h.now) (preferred_at h.known h.now), (refl, refl)) p)
-      (every-drop whys.Role t p)
+      (every-drop whys.Role refl t p)
 
   every-icmp : (packet : Packet) (r : Result icmp.Said IcmpFault) (t : Turn) → P t → P (takes_icmp h packet r t)
   unfolding names_agents
@@ -114,11 +118,11 @@ module _ (h : Handing) (P : Turn → Type 0) (more : (step : Step) (t : Turn) �
       more _ t refl (SendsAgents packet.head.source identifier (live h.now h.known.agents.agents), (refl, refl)) p
   every-icmp packet (Ok (icmp.PrefixAsk identifier)) t p =
       every-solicitation (source_of packet.head) identifier (careof_at h.known h.now (source_of packet.head)) t p
-  every-icmp packet (Ok (icmp.Parameter pointer quoted)) t p = every-drop whys.Role t p
-  every-icmp packet (Ok (icmp.Advertisement hop agent life options)) t p = every-drop whys.Role t p
-  every-icmp packet (Ok (icmp.DiscoverReply identifier agents)) t p = every-drop whys.Role t p
-  every-icmp packet (Ok (icmp.PrefixReply identifier options)) t p = every-drop whys.Role t p
-  every-icmp packet (Err fault) t p = every-drop whys.Role t p
+  every-icmp packet (Ok (icmp.Parameter pointer quoted)) t p = every-drop whys.Role refl t p
+  every-icmp packet (Ok (icmp.Advertisement hop agent life options)) t p = every-drop whys.Role refl t p
+  every-icmp packet (Ok (icmp.DiscoverReply identifier agents)) t p = every-drop whys.Role refl t p
+  every-icmp packet (Ok (icmp.PrefixReply identifier options)) t p = every-drop whys.Role refl t p
+  every-icmp packet (Err fault) t p = every-drop whys.Role refl t p
 
   every-proto : (packet : Packet) → packet_of h.bytes ≡ Ok packet → (t : Turn) → P t → P (by_proto h packet t)
   every-proto packet read t p =
@@ -126,37 +130,38 @@ module _ (h : Handing) (P : Turn → Type 0) (more : (step : Step) (t : Turn) �
       (λ both. every-tunnel packet read (eqb-true packet.head.proto 41 (first_of (packet.head.proto == 41) (packet.head.destination.0 == h.me.own.0) both)) t p)
       (λ other. either P (packet.head.proto == 58) _ _
       (every-icmp packet (icmp_of (source_of packet.head) (destination_of packet.head) packet.body) t p)
-      (every-drop whys.Role t p))
+      (every-drop whys.Role refl t p))
 
   every-role : (packet : Packet) → packet_of h.bytes ≡ Ok packet → (message : Option Said) (t : Turn) → P t → P (by_role h packet message t)
   every-role packet read None t p = every-proto packet read t p
   every-role packet read (Some (Update s a f l k t' o)) t p = every-update (registration packet.head.source packet.head.home s a f t' o) t p
-  every-role packet read (Some (Refresh options)) t p = every-drop whys.Role t p
-  every-role packet read (Some (HomeInit cookie options)) t p = every-drop whys.Role t p
-  every-role packet read (Some (CareofInit cookie options)) t p = every-drop whys.Role t p
-  every-role packet read (Some (HomeTest index cookie token options)) t p = every-drop whys.Role t p
-  every-role packet read (Some (CareofTest index cookie token options)) t p = every-drop whys.Role t p
-  every-role packet read (Some (Acknowledgement s k q t' o)) t p = every-drop whys.Role t p
-  every-role packet read (Some (Error status home options)) t p = every-drop whys.Role t p
+  every-role packet read (Some (Refresh options)) t p = every-drop whys.Role refl t p
+  every-role packet read (Some (HomeInit cookie options)) t p = every-drop whys.Role refl t p
+  every-role packet read (Some (CareofInit cookie options)) t p = every-drop whys.Role refl t p
+  every-role packet read (Some (HomeTest index cookie token options)) t p = every-drop whys.Role refl t p
+  every-role packet read (Some (CareofTest index cookie token options)) t p = every-drop whys.Role refl t p
+  every-role packet read (Some (Acknowledgement s k q t' o)) t p = every-drop whys.Role refl t p
+  every-role packet read (Some (Error status home options)) t p = every-drop whys.Role refl t p
 
   every-reply : (source : Address) (refusal : Refusal) (reply : Option (List ℕ)) → reply_packet h.me.own source h.bytes refusal.reply ≡ reply → (t : Turn) → P t → P (replies reply t)
   every-reply source refusal None is t p = p
   every-reply source refusal (Some packet) is t p = more (Sends None packet) t refl (SendsReply source refusal.reply, (refl, is)) p
 
-  every-check : (packet : Packet) → packet_of h.bytes ≡ Ok packet → (r : Result (Option Said) Refusal) (t : Turn) → P t → P (after_checks h packet r t)
+  every-check : (packet : Packet) → packet_of h.bytes ≡ Ok packet → (r : Result (Option Said) Refusal) → Refuses r → (t : Turn) → P t → P (after_checks h packet r t)
   unfolding refuses
-  every-check packet read (Err refusal) t p =
+  every-check packet read (Err refusal) right t p =
       every-reply packet.head.source refusal (reply_packet h.me.own packet.head.source h.bytes refusal.reply) refl
-      (noted (Drops h.number refusal.why) t) (every-drop refusal.why t p)
-  every-check packet read (Ok message) t p = every-role packet read message t p
+      (noted (Drops h.number refusal.why) t) (every-drop refusal.why right t p)
+  every-check packet read (Ok message) right t p = every-role packet read message t p
 
   every-destination : (packet : Packet) → packet_of h.bytes ≡ Ok packet → (careof : Option Address) (t : Turn) → P t → P (by_destination h packet careof t)
   every-destination packet read (Some careof) t p = every-interception packet.head.destination careof packet.head.proto t p
   every-destination packet read None t p =
-      every-check packet read (checked (standing_of h.me h.known h.now packet.head) (place_in h.bytes packet) packet) t p
+      let standing = standing_of h.me h.known h.now packet.head in
+      every-check packet read (checked standing (place_in h.bytes packet) packet) (checked-right standing (place_in h.bytes packet) packet) t p
 
   every-receipt : (r : Result Packet NotPacket) → packet_of h.bytes ≡ r → (t : Turn) → P t → P (receives h r t)
-  every-receipt (Err fault) read t p = every-drop (packet_why fault) t p
+  every-receipt (Err fault) read t p = every-drop (packet_why fault) (packet_why-dropped fault) t p
   every-receipt (Ok packet) read t p = every-destination packet read (careof_at h.known h.now packet.head.destination) t p
 
   every-take : (t : Turn) → P t → P (takes h t)

@@ -1,6 +1,6 @@
 -- The packets that a home agent sends, one kind a line: what it was handed, in or out of a tunnel, or a message of its
 -- own. RFC 6275 sections 10.3 to 10.6
-use Rattle.std.specs.Prelude.{◌≡◌, ℕ, ◌≤◌, List, length, Option, Some, None, Ok}
+use Rattle.std.specs.Prelude.{◌≡◌, ℕ, ◌≤◌, List, length, true, Option, Some, None, Ok}
 use Rattle.mip_constants.specs.Protocols.{ipv6}
 use Rattle.mip_words.specs.declared.address.Address.{Address}
 use Rattle.mip_words.specs.declared.shield.Shield.{Shield}
@@ -14,8 +14,9 @@ use Rattle.mip_reception.specs.Replies.{reply_packet}
 use Rattle.mip_updates.specs.declared.registration.Registration.{Registration}
 use Rattle.mip_updates.specs.Registrations.{home_of}
 use Rattle.mip_updates.specs.Acks.{ack_packet}
+use Rattle.mip_entries.specs.Reasons.{is_dropped_why}
 use Rattle.mip_rules_agent.specs.declared.identity.Identity.{Identity}
-use Rattle.mip_rules_agent.specs.Steps.{Step, Sends}
+use Rattle.mip_rules_agent.specs.Steps.{Step, Sends, Drops}
 use Rattle.mip_rules_agent.specs.Messages.{shield_to, prefix_packet}
 use Rattle.mip_rules_agent.specs.Rules.{shield_for}
 
@@ -44,7 +45,9 @@ IsPacketOf me bytes (SendsReply source reply) shield packet = (shield ≡ None) 
 IsPacketOf me bytes (SendsAgents to identifier agents) shield packet = (shield ≡ None) × (packet ≡ discovery_reply me.own me.preference to identifier agents)
 IsPacketOf me bytes (SendsPrefix home careof identifier valid preferred) shield packet = (shield ≡ shield_to me.own home) × (packet ≡ prefix_packet me.own home careof identifier valid preferred)
 
--- a packet that the step sends, in a call that hands over these bytes, is one of these
+-- a packet that the step sends, in a call that hands over these bytes, is one of these; one that it drops is dropped for a
+-- reason of that kind
 abbrev pub SendsOwn : Identity → List ℕ → Step → Type 0
 SendsOwn me bytes (Sends shield packet) = (x : Sending) × IsPacketOf me bytes x shield packet
+SendsOwn me bytes (Drops number why) = is_dropped_why why ≡ true
 SendsOwn me bytes _ = Unit {0}

@@ -5,13 +5,14 @@ use Rattle.mip_entries.specs.declared.answer.Answer.{Answer}
 use Rattle.mip_entries.specs.declared.answer.Answer.TheVariants.{Send, Note}
 use Rattle.mip_entries.specs.declared.entry.Entry.{Entry}
 use Rattle.mip_entries.specs.declared.entry.Entry.TheVariants as entries
+use Rattle.mip_entries.specs.Reasons.{is_dropped_why}
 
 abbrev pub is_own : Entry → Bool
 is_own (entries.Home node home careof sequence end) = true
 is_own (entries.Claimed who link address) = true
 is_own (entries.Released who link address) = true
 is_own (entries.Denied node number status) = true
-is_own (entries.Dropped node number why) = true
+is_own (entries.Dropped node number why) = is_dropped_why why
 is_own _ = false
 
 abbrev pub IsWhole : Answer → Type 0

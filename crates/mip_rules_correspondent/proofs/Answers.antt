@@ -27,7 +27,7 @@ whole-step me c now (Called call) own = tt
 whole-step me c now (Sends packet) own = (sending-long me c now own.0 packet own.1, tt)
 whole-step me c now (Accepts number home accepted) own = (refl, tt)
 whole-step me c now (Denies number status) own = (refl, tt)
-whole-step me c now (Drops number why) own = (refl, tt)
+whole-step me c now (Drops number why) own = (own, tt)
 whole-step me c now (HandsUp number source destination proto payload) own = (refl, tt)
 whole-step me c now Idles own = (refl, tt)
 

@@ -1,11 +1,13 @@
 pub mod Pasts
 pub mod Acceptances
 pub mod Wholes
+pub mod Reasons
 pub mod Walks
 pub mod Refusals
 pub mod Calls
 pub mod Sendings
 pub mod VerdictLaws
+pub mod RowLaws
 pub mod Moments
 pub mod Taken
 pub mod Parted

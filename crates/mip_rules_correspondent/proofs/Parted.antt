@@ -1,19 +1,16 @@
 -- What the correspondent part of a mobile does about a packet: it accepts nothing, or at once the update in the packet, with
 -- the verdict Accept.
-use Rattle.std.proofs.Common.{◌≡◌, ℕ, List, [], ◌∷◌, Bool, true, false, ◌⊎◌, inl, inr, refl, ap}
+use Rattle.std.proofs.Common.{◌≡◌, ℕ, [], ◌∷◌, Bool, true, false, ◌⊎◌, inl, inr, refl, ap}
 use Rattle.std.specs.Prelude.{Option, Some, None, Result, Ok, Err, ◌==◌, if◌then◌else◌}
 use Rattle.std.specs.Result.{result_ok}
 use Rattle.std.specs.List.{list_any}
 use Rattle.std.proofs.lemmas.Bool.{cond_both, eqb-true}
-use Rattle.mip_words.specs.declared.address.Address.{Address}
 use Rattle.mip_ipv6.specs.Packet.{Packet, source_of, destination_of}
 use Rattle.mip_mobhdr.specs.declared.fault.Fault.{Fault}
 use Rattle.mip_mobhdr.specs.Said.{Said}
 use Rattle.mip_mobhdr.specs.Said.Said.{Refresh, HomeInit, CareofInit, HomeTest, CareofTest, Update, Acknowledgement, Error}
 use Rattle.mip_mobhdr.specs.Reading.{message_of}
 use Rattle.mip_says.specs.Says.{message_in}
-use Rattle.mip_tokens.specs.declared.kbm.Kbm.{Kbm}
-use Rattle.mip_bcache.specs.declared.accepted.Accepted.{Accepted}
 use Rattle.mip_turns.specs.Turns.{noted_by}
 use Rattle.mip_updates.specs.declared.registration.Registration.{Registration}
 use Rattle.mip_updates.specs.Registrations.{registration, registration_said, registration_in}

@@ -4,6 +4,7 @@ pub mod Questions
 pub mod Turns
 pub mod Verdicts
 pub mod Soundness
+pub mod Rows
 pub mod Rules
 pub mod Doing
 pub mod Seen

@@ -1,7 +1,8 @@
 -- The packets that a correspondent sends, one kind a line. RFC 6275 sections 9.3 to 9.5
-use Rattle.std.specs.Prelude.{◌≡◌, ℕ, List, Option, Some}
+use Rattle.std.specs.Prelude.{◌≡◌, ℕ, List, true, Option, Some}
 use Rattle.mip_words.specs.declared.address.Address.{Address}
 use Rattle.mip_tokens.specs.declared.kbm.Kbm.{Kbm}
+use Rattle.mip_entries.specs.Reasons.{is_dropped_why}
 use Rattle.mip_signals.specs.Messages.{refresh_packet}
 use Rattle.mip_reception.specs.declared.reply.Reply.{Reply}
 use Rattle.mip_reception.specs.Replies.{reply_packet}
@@ -9,7 +10,7 @@ use Rattle.mip_rules_correspondent.specs.declared.identity.Identity.{Identity}
 use Rattle.mip_updates.specs.declared.registration.Registration.{Registration}
 use Rattle.mip_rules_correspondent.specs.Calls as calls
 use Rattle.mip_rules_correspondent.specs.Calls.{Call}
-use Rattle.mip_rules_correspondent.specs.Steps.{Step, Sends}
+use Rattle.mip_rules_correspondent.specs.Steps.{Step, Sends, Drops}
 use Rattle.mip_updates.specs.Acks.{ack_packet}
 use Rattle.mip_rules_correspondent.specs.Rules.{home_test, careof_test}
 use Rattle.mip_rules_correspondent.specs.Doing.{data_sent}
@@ -36,7 +37,8 @@ IsPacketOf me c now (SendsReply source bytes reply) packet = reply_packet me.own
 IsPacketOf me c now (SendsRefresh home careof) packet = packet ≡ refresh_packet me.own careof home
 IsPacketOf me c now (SendsData to proto payload held) packet = (c ≡ calls.Send to proto payload) × (packet ≡ data_sent me to proto payload held)
 
--- a packet that the step sends is one of these
+-- a packet that the step sends is one of these, and one that it drops is dropped for a reason of that kind
 abbrev pub SendsOwn : Identity → Call → ℕ → Step → Type 0
 SendsOwn me c now (Sends packet) = (x : Sending) × IsPacketOf me c now x packet
+SendsOwn me c now (Drops number why) = is_dropped_why why ≡ true
 SendsOwn me c now _ = Unit {0}

@@ -19,6 +19,7 @@ ghost use Rattle.mip_updates.specs.Statuses.{sequence_out_of_window, is_authoriz
 ghost use Rattle.mip_updates.specs.declared.registration.Registration.{Registration};
 ghost use Rattle.mip_rules_correspondent.specs.declared.verdict.Verdict.TheVariants.{Deny, Accept};
 ghost use Rattle.mip_rules_correspondent.specs.Soundness.{IsGenuine, IsSound, IsBehind};
+ghost use Rattle.mip_rules_correspondent.specs.Rows.{JudgesInOrder};
 ghost use Rattle.mip_rules_correspondent.specs.Verdicts.{Bench, verdict};
 ghost use Rattle.mip_turns.specs.Pasts.{RisesFrom};
 ghost use Rattle.mip_rules_correspondent.specs.Calls.{Call, Take, Part, Refresh, Send, Tick, is_tick};
@@ -88,6 +89,12 @@ pub fn what_is_accepted_was_taken()
 /// nor an update that is denied or refused in silence.
 pub fn refused_changes_no_row()
     ensures { (me : Identity) (c : Call) (t : Turn) → is_tick c ≡ false → list_any is_acceptance (does me c t).steps ≡ false → (does me c t).known.cache ≡ t.known.cache }
+{}
+
+/// Each verdict comes where its row says, and no row before it applies.
+#[tactic(auto, using(crate::proofs::RowLaws::judges))]
+pub fn verdicts_in_order()
+    ensures { (b : Bench) (r : Registration) (message : List ℕ) → JudgesInOrder b r message }
 {}
 
 /// An update is accepted only under valid nonces, with their authenticator, between routable addresses,

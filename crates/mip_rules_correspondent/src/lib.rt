@@ -14,6 +14,6 @@ pub use laws::{
     bindings_are_of_the_acceptances, denials_are_authorized_by_status, each_call_is_the_last,
     each_packet_is_its_own, keyed_denial_is_genuine, last_is_of_the_last_call,
     out_of_window_tells_the_floor, refused_changes_no_row, stands_after_each_call,
-    stands_for_what_is_known, what_is_accepted_was_taken,
+    stands_for_what_is_known, verdicts_in_order, what_is_accepted_was_taken,
 };
 pub use verdict::Verdict;

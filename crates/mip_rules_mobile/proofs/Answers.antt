@@ -1,5 +1,5 @@
 -- What is true of each step where it is taken is true of its answers.
-use Rattle.std.proofs.Common.{◌≡◌, ℕ, List, [], ◌∷◌, Bool, true, false, refl}
+use Rattle.std.proofs.Common.{◌≡◌, ℕ, List, [], ◌∷◌, Bool, true, false, refl, ap}
 use Rattle.std.specs.Prelude.{None, ◌||◌}
 use Rattle.std.specs.List.{AllByRecursion}
 use Rattle.mip_entries.specs.declared.answer.Answer.{Answer}
@@ -32,8 +32,8 @@ module _ (R : Known → Answer → Type 0) (I : Known → Type 0) (c : Call) (no
   step-answers k (Parts call) i fits = tt
   step-answers k (Notes entry') i fits = (entry k entry' (own-too entry' fits), tt)
   step-answers k (Sends sending) i fits = (sent k sending i fits, tt)
-  step-answers k (Unsends why) i fits = (entry k _ refl, tt)
-  step-answers k (Drops number why) i fits = (entry k _ refl, tt)
+  step-answers k (Unsends why) i fits = (entry k _ (ap (λ (b : Bool). b || false) fits), tt)
+  step-answers k (Drops number why) i fits = (entry k _ fits, tt)
   step-answers k (Claims address) i fits = (entry k _ refl, tt)
   step-answers k (Releases address) i fits = (entry k _ refl, tt)
   step-answers k (FindsTaken address holder) i fits = (entry k _ refl, tt)

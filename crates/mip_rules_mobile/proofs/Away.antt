@@ -1,13 +1,14 @@
 -- Away, a call by which the mobile stays where it stands sends no packet from the home address.
 use Rattle.std.proofs.Common.{◌≡◌, ℕ, List, [], ◌∷◌, ◌++◌, refl, sym, ap, ◌∙◌, subst}
-use Rattle.std.specs.Prelude.{Option, None, Bool, true, false, unwrap_or}
+use Rattle.std.specs.Prelude.{Option, None, true, unwrap_or}
 use Rattle.std.specs.List.{AllByRecursion}
 use Rattle.mip_words.specs.declared.address.Address.{Address}
 use Rattle.mip_nonce.specs.Secrets.{Life}
 use Rattle.mip_entries.specs.declared.answer.Answer.{Answer}
 use Rattle.mip_entries.specs.declared.answer.Answer.TheVariants.{Send, Note}
-use Rattle.mip_turns.proofs.TurnLaws.{noted-known, noted-steps}
+use Rattle.mip_turns.proofs.TurnLaws.{noted-steps}
 use Rattle.mip_reception.specs.declared.refusal.Refusal.{Refusal}
+use Rattle.mip_entries.specs.Reasons.{is_dropped_why}
 use Rattle.mip_entries.specs.Stamped.{Stamped}
 use Rattle.mip_rules_mobile.specs.ReceivingRules.{refuses}
 use Rattle.mip_rules_correspondent.specs.Calls as parts
@@ -18,10 +19,10 @@ use Rattle.mip_rules_mobile.specs.Calls.{Call}
 use Rattle.mip_rules_mobile.specs.Sendings.{Given}
 use Rattle.mip_rules_mobile.specs.Steps.{Step, Called, Parts, Notes, Sends, Unsends, Drops, Claims, Releases, FindsTaken, Arrives, Detaches, Restarts, Registers, Unregisters, IsRefused, Resequences, Seeks, SeeksAgain, GivesUp, Finds, Chooses, Learns, Meets, Tries, Updates, Forgets, Binds, Unbinds, Waits, Stops, Rings, answer_of, answers_of}
 use Rattle.mip_rules_mobile.specs.Known.{Known}
-use Rattle.mip_rules_mobile.specs.HomeQuestions.{home_of, standing_said, standing_after}
+use Rattle.mip_rules_mobile.specs.HomeQuestions.{home_of, standing_said}
 use Rattle.mip_rules_mobile.specs.Questions.{after}
 use Rattle.mip_rules_mobile.specs.Turns.{Turn, begun, noted}
-use Rattle.mip_rules_mobile.specs.Fitting.{Fits, kind_of, OfAck, Steady}
+use Rattle.mip_rules_mobile.specs.Fitting.{kind_of, OfAck, Steady}
 use Rattle.mip_rules_mobile.specs.MovingRules.{registers_if_away, restarts}
 use Rattle.mip_rules_mobile.specs.Answering.{EachAnswer, LeavesRight, LeavesFrom, IsElsewhere, AreFrom, stays_put}
 use Rattle.mip_rules_mobile.specs.Doing.{does, handles, turn_of}
@@ -132,12 +133,12 @@ module _ (c : Call) (home : Address) where
   acks step t ack fits p = puts-noted home step t (ack-stays home step ack) p
 
   drops : Dropping (Puts home)
-  drops number why t p = puts-noted home (Drops number why) t refl p
+  drops number why t right p = puts-noted home (Drops number why) t refl p
 
-  refuses-stay : (number : ℕ) (bytes : List ℕ) (source : Address) (refusal : Refusal) (t : Turn) → Puts home t → Puts home (refuses number bytes source refusal t)
+  refuses-stay : (number : ℕ) (bytes : List ℕ) (source : Address) (refusal : Refusal) (t : Turn) → is_dropped_why refusal.why ≡ true → Puts home t → Puts home (refuses number bytes source refusal t)
   unfolding refuses
-  refuses-stay number bytes source refusal t p =
-      every-replies c (Puts home) more source bytes refusal.reply (noted (Drops number refusal.why) t) (drops number refusal.why t p)
+  refuses-stay number bytes source refusal t right p =
+      every-replies c (Puts home) more source bytes refusal.reply (noted (Drops number refusal.why) t) (drops number refusal.why t right p)
 
   restart-stays : (secrets : Life) (t : Turn) → Puts home t → Puts home (restarts secrets t)
   unfolding restarts
@@ -161,8 +162,8 @@ module _ (c : Call) (home : Address) where
       by (calls.Attach prefix of_home of_address) is never = absurd cc
       by (calls.Leave of_home) is never = absurd cc
       by (calls.Take number shield packet) is sure =
-          every-takes c (Puts home) more acks (Puts home) (λ u q. q) t p (λ number why. drops number why t p)
-          (λ number bytes source refusal. refuses-stay number bytes source refusal t p)
+          every-takes c (Puts home) more acks (Puts home) (λ u q. q) t p (λ number why right. drops number why t right p)
+          (λ number bytes source refusal right. refuses-stay number bytes source refusal t right p)
           (λ number tunnelled packet message of read mine. every-for_part c (Puts home) more asks notes number tunnelled packet message t p)
           number shield packet is
       by calls.Tick is sure = every-ticks_all c (Puts home) more t p

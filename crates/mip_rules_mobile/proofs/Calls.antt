@@ -31,7 +31,7 @@ call-stands home declared secrets past k now c stands =
     (λ entry t own s. stands-noted after first past (Notes entry) t s)
     (λ step t ack fits s. stands-noted after first past step t s)
     (λ step t move fits s. stands-noted after first past step t s)
-    (λ number why t s. stands-noted after first past (Drops number why) t s)
+    (λ number why t right s. stands-noted after first past (Drops number why) t s)
     (λ t s. stands-noted after first past (Called c) t s)
     (begun now k) (stands-begun after first past now k stands)
 
@@ -61,7 +61,7 @@ call-at k now c =
     (λ entry t own is. at-noted now (Notes entry) t is)
     (λ step t ack fits is. at-noted now step t is)
     (λ step t move fits is. at-noted now step t is)
-    (λ number why t is. at-noted now (Drops number why) t is)
+    (λ number why t right is. at-noted now (Drops number why) t is)
     first (noted-now after (Called c) (begun now k), ap (λ (m : Moment). m.0) (last-noted (Called c) (begun now k)))
 
 pub call-now : (k : Known) (now : ℕ) (c : Call) → (turn_of k now c).now ≡ now

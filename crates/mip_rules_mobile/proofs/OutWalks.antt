@@ -29,11 +29,11 @@ module _ (c : Call) (P : Turn → Type 0) (more : Goes c P) where
   every-goes_out inner t is p = by t.known.standing refl
     where
       away : (careof : Address) (agent : Option Address) → t.known.standing ≡ Away careof → P (tunnels careof inner agent t)
-      away careof None here = more (Unsends whys.Unregistered) t refl tt p
+      away careof None here = more (Unsends whys.Unregistered) t refl refl p
       away careof (Some agent) here = more (Sends (ByTunnel (home_of t.known) careof agent inner)) t refl ((here, refl), is) p
 
       by : (s : Standing) → t.known.standing ≡ s → P (goes_from s inner t)
-      by Detached here = more (Unsends whys.Detached) t refl tt p
+      by Detached here = more (Unsends whys.Detached) t refl refl p
       by AtHome here = more (Sends (FromHome (home_of t.known) inner)) t refl ((here, refl), is) p
       by (Away careof) here = away careof (registered_agent t.known t.now) here
 

@@ -29,7 +29,7 @@ module _ (c : Call) (me : Identity) (now : ℕ) where
     step-part (Sends packet) own = (record { call = call; asked = asked; sending = own.0; is = own.1 }, tt)
     step-part (Accepts number home accepted) own = (refl, tt)
     step-part (Denies number status) own = (refl, tt)
-    step-part (Drops number why) own = (refl, tt)
+    step-part (Drops number why) own = (own, tt)
     step-part (HandsUp number source destination proto payload) own = (refl, tt)
     step-part Idles own = (refl, tt)
 

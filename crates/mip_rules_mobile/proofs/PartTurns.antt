@@ -4,7 +4,6 @@ use Rattle.std.specs.Prelude.{Option, Some, None, ◌||◌, ◌&&◌, is_none}
 use Rattle.std.specs.List.{list_any, AllByRecursion}
 use Rattle.std.proofs.lemmas.List.{append_assoc, append-nil}
 use Rattle.std.proofs.lemmas.List.Folds.{list_any-append}
-use Rattle.std.proofs.lemmas.Bool.{or_parts}
 use Rattle.mip_words.specs.declared.address.Address.{Address}
 use Rattle.mip_words.specs.declared.shield.Shield.{Shield}
 use Rattle.mip_words.specs.declared.why.Why.{Why}
@@ -12,7 +11,6 @@ use Rattle.mip_words.specs.declared.why.Why.TheVariants as whys
 use Rattle.mip_nonce.specs.Secrets.{Life}
 use Rattle.mip_ipv6.specs.Packet.{Packet, source_of}
 use Rattle.mip_mobhdr.specs.Said.{Said}
-use Rattle.mip_says.specs.Says.{message_in}
 use Rattle.mip_entries.specs.declared.answer.Answer.{Answer}
 use Rattle.mip_entries.specs.declared.answer.Answer.TheVariants.{Send, Note}
 use Rattle.mip_turns.proofs.TurnLaws.{noted-now, noted-known, noted-steps}
@@ -22,7 +20,6 @@ use Rattle.mip_rules_correspondent.specs.Steps as part_steps
 use Rattle.mip_rules_correspondent.specs.Questions.{held_of}
 use Rattle.mip_rules_correspondent.specs.Seen.{CorrespondentSeen, turn_at}
 use Rattle.mip_rules_correspondent.specs.Taken.{IsUpdateParted}
-use Rattle.mip_rules_correspondent.specs.Rules.{is_for_part}
 use Rattle.mip_rules_correspondent.proofs.Taken.{refreshed_none, sent_none}
 use Rattle.mip_rules_correspondent.proofs.Parted.{parted_is}
 use Rattle.mip_rules_mobile.specs.declared.standing.Standing.{Standing}
@@ -42,7 +39,7 @@ use Rattle.mip_rules_mobile.specs.ReceivingRules.{then_meets, takes_for_part, re
 use Rattle.mip_rules_mobile.specs.RingingRules.{ticks_all}
 use Rattle.mip_rules_mobile.specs.Doing.{transmits_from, transmits, solicits_from, solicits, handles, does, turn_of}
 use Rattle.mip_rules_mobile.specs.Fitting.{Fits, OfAck, OfMove, Steady, kind_of}
-use Rattle.mip_rules_mobile.specs.Part.{tells_of_acceptance, concerns_part, accepted_note, IsPartTaken, IsPartTurn, Silent, Asked, Accepting, is_restart, IsPartReborn}
+use Rattle.mip_rules_mobile.specs.Part.{tells_of_acceptance, concerns_part, accepted_note, IsPartTurn, Silent, Asked, Accepting, is_restart, IsPartReborn}
 use Rattle.mip_rules_mobile.proofs.Steady.{Goes, standing-noted}
 use Rattle.mip_rules_mobile.proofs.OutWalks.{every-replies}
 use Rattle.mip_rules_mobile.proofs.HomeWalks.{Acks, every-registers}
@@ -261,7 +258,7 @@ module _ (k : Known) (now : ℕ) (c : Call) (t : Turn) (called : t.steps ≡ Cal
 
   takes-one : (number : ℕ) (shield : Option Shield) (bytes : List ℕ) → c ≡ calls.Take number shield bytes → Is (handles (calls.Take number shield bytes) t)
   takes-one number shield bytes is =
-      every-takes c Calm (goes c (Called c ∷ [])) (acks c (Called c ∷ [])) Is silent t calm drops refusing
+      every-takes c Calm (goes c (Called c ∷ [])) (acks c (Called c ∷ [])) Is silent t calm (λ number why right. drops number why) (λ number bytes source refusal right. refusing number bytes source refusal)
       (λ number tunnelled packet message of read mine. parting number tunnelled packet message of)
       number shield bytes is
 

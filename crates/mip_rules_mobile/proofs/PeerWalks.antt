@@ -1,10 +1,11 @@
 -- What steady steps and acknowledgements keep, the rules for a peer's messages keep; a message that is not taken is dropped at
 -- once.
-use Rattle.std.proofs.Common.{ℕ, List, refl, arith}
+use Rattle.std.proofs.Common.{◌≡◌, ℕ, List, refl, arith}
 use Rattle.std.specs.Prelude.{Option, Some, None, Bool, true, false, ◌==◌, ◌&&◌, not, is_some, if◌then◌else◌, Result, Ok, Err}
 use Rattle.mip_words.specs.declared.address.Address.{Address}
 use Rattle.mip_words.specs.declared.why.Why.{Why}
 use Rattle.mip_words.specs.declared.why.Why.TheVariants as whys
+use Rattle.mip_entries.specs.Reasons.{is_dropped_why}
 use Rattle.mip_bulist.specs.declared.any.Any.{Any}
 use Rattle.mip_bulist.specs.declared.any.Any.TheVariants.{Idle, Probing, Proved, Pending, Bound}
 use Rattle.mip_bulist.specs.declared.list_full.ListFull.{ListFull}
@@ -80,7 +81,7 @@ module _ (c : Call) (P : Turn → Type 0) (more : Goes c P) where
         by false false true = every-starts c P more row t p
         by false false false = every-rests row t p
 
-    module _ (Q : Turn → Type 0) (done : (u : Turn) → P u → Q u) (t : Turn) (p : P t) (drops : (number : ℕ) (why : Why) → Q (noted (Drops number why) t)) where
+    module _ (Q : Turn → Type 0) (done : (u : Turn) → P u → Q u) (t : Turn) (p : P t) (drops : (number : ℕ) (why : Why) → is_dropped_why why ≡ true → Q (noted (Drops number why) t)) where
       pub every-home_test : (number : ℕ) (tunnelled : Bool) (peer : Address) (index c' : ℕ) (token : List ℕ) → IsHanded c t.now 0 (test_at t.now index token) → Q (takes_home_test number tunnelled peer index c' token t)
       unfolding takes_home_test
       every-home_test number tunnelled peer index c' token handed = by (comes_right t.known.standing tunnelled) (home_row t.known peer (cookie c') test (row_of t.known peer))
@@ -89,11 +90,11 @@ module _ (c : Call) (P : Turn → Type 0) (more : Goes c P) where
           test = test_at t.now index token
 
           by : (right : Bool) (row : Option ℕ) → Q (if right then keeps_home number peer (cookie c') test row t else noted (Drops number whys.Cookie) t)
-          by true None = drops number whys.Cookie
+          by true None = drops number whys.Cookie refl
           by true (Some row) =
               let step : Step = Tries row (HomeTest peer (cookie c') test) in
               done (updates row initial_bindack_timeout (noted step t)) (every-updates c P more row initial_bindack_timeout (noted step t) (omega arith) (more step t refl handed p))
-          by false row = drops number whys.Cookie
+          by false row = drops number whys.Cookie refl
 
       pub every-careof_test : (number : ℕ) (tunnelled : Bool) (peer : Address) (index c' : ℕ) (token : List ℕ) → IsHanded c t.now 1 (test_at t.now index token) → Q (takes_careof_test number tunnelled peer index c' token t)
       unfolding takes_careof_test
@@ -103,11 +104,11 @@ module _ (c : Call) (P : Turn → Type 0) (more : Goes c P) where
           test = test_at t.now index token
 
           by : (right : Bool) (row : Option ℕ) → Q (if right then keeps_careof number peer (cookie c') test row t else noted (Drops number whys.Cookie) t)
-          by true None = drops number whys.Cookie
+          by true None = drops number whys.Cookie refl
           by true (Some row) =
               let step : Step = Tries row (CareofTest peer (cookie c') test) in
               done (updates row initial_bindack_timeout (noted step t)) (every-updates c P more row initial_bindack_timeout (noted step t) (omega arith) (more step t refl handed p))
-          by false row = drops number whys.Cookie
+          by false row = drops number whys.Cookie refl
 
       pub every-ack_of : (number : ℕ) (peer : Address) (status sequence lifetime : ℕ) (authenticator : Option (List ℕ)) (message : List ℕ) → Q (takes_ack_of number peer status sequence lifetime authenticator message t)
       unfolding takes_ack_of
@@ -118,18 +119,18 @@ module _ (c : Call) (P : Turn → Type 0) (more : Goes c P) where
 
           pend : (row : ℕ) (u : Trial pending.Pending) (mine : Bool) → Q (if mine then takes_peer_ack row u status sequence lifetime t else noted (Drops number whys.Ack) t)
           pend row u true = done (takes_peer_ack row u status sequence lifetime t) (every-peer_ack row u status sequence lifetime t p)
-          pend row u false = drops number whys.Ack
+          pend row u false = drops number whys.Ack refl
 
           of : (row : ℕ) (o : Option Any) → Q (acks_trial number row home status sequence lifetime authenticator message o t)
           of row (Some (Pending u)) = pend row u (acknowledges home status sequence authenticator message u)
-          of row (Some (Idle u)) = drops number whys.Ack
-          of row (Some (Probing u)) = drops number whys.Ack
-          of row (Some (Proved u)) = drops number whys.Ack
-          of row (Some (Bound u)) = drops number whys.Ack
-          of row None = drops number whys.Ack
+          of row (Some (Idle u)) = drops number whys.Ack refl
+          of row (Some (Probing u)) = drops number whys.Ack refl
+          of row (Some (Proved u)) = drops number whys.Ack refl
+          of row (Some (Bound u)) = drops number whys.Ack refl
+          of row None = drops number whys.Ack refl
 
           by : (o : Option ℕ) → Q (acks_row number o status sequence lifetime authenticator message t)
-          by None = drops number whys.Ack
+          by None = drops number whys.Ack refl
           by (Some row) = of row (trial_of t.known row)
 
       pub every-error : (number : ℕ) (peer : Address) (status : ℕ) (home : Address) → Q (takes_error number peer status home t)
@@ -137,14 +138,14 @@ module _ (c : Call) (P : Turn → Type 0) (more : Goes c P) where
       every-error number peer status home = by ((status == 1) && (home.0 == (home_of t.known).0)) (bound_row_of t.known t.now peer)
         where
           by : (mine : Bool) (o : Option ℕ) → Q (if mine then loses number o peer t else noted (Drops number whys.Error) t)
-          by true None = drops number whys.Error
+          by true None = drops number whys.Error refl
           by true (Some row) = done (rests row (noted (Unbinds row peer) t)) (every-rests row (noted (Unbinds row peer) t) (more (Unbinds row peer) t refl tt p))
-          by false o = drops number whys.Error
+          by false o = drops number whys.Error refl
 
       pub every-refresh : (number : ℕ) (peer : Address) → Q (takes_refresh number peer t)
       unfolding takes_refresh
       every-refresh number peer = by (bound_row_of t.known t.now peer)
         where
           by : (o : Option ℕ) → Q (renews number o t)
-          by None = drops number whys.Refresh
+          by None = drops number whys.Refresh refl
           by (Some row) = done (starts row t) (every-starts c P more row t p)

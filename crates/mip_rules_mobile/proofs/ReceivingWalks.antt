@@ -27,6 +27,8 @@ use Rattle.mip_bulist.specs.declared.tested.Test.{Test}
 use Rattle.mip_reception.specs.declared.refusal.Refusal.{Refusal}
 use Rattle.mip_reception.specs.Words.{packet_why}
 use Rattle.mip_reception.specs.Checks.{checked}
+use Rattle.mip_reception.proofs.Reasons.{packet_why-dropped, refused-right}
+use Rattle.mip_entries.specs.Reasons.{is_dropped_why}
 use Rattle.mip_rules_correspondent.specs.Rules.{is_for_part, place_in}
 use Rattle.mip_rules_mobile.specs.declared.standing.Standing.{Standing}
 use Rattle.mip_rules_mobile.specs.declared.standing.Standing.TheVariants.{Detached, AtHome, Away}
@@ -81,7 +83,7 @@ handed {packet = packet} told is moment = record {
 }
 
 module _ (c : Call) (P : Turn → Type 0) (more : Goes c P) (acks : Acks c P) (Q : Turn → Type 0) (done : (u : Turn) → P u → Q u) (t : Turn) (p : P t)
-    (drops : (number : ℕ) (why : Why) → Q (noted (Drops number why) t)) where
+    (drops : (number : ℕ) (why : Why) → is_dropped_why why ≡ true → Q (noted (Drops number why) t)) where
   every-ack : (number : ℕ) (tunnelled : Bool) (shield : Option Shield) (packet : Packet) (status sequence lifetime : ℕ) (options : Values) → Q (takes_ack number tunnelled shield packet status sequence lifetime options t)
   unfolding takes_ack
   every-ack number tunnelled shield packet status sequence lifetime options =
@@ -96,7 +98,7 @@ module _ (c : Call) (P : Turn → Type 0) (more : Goes c P) (acks : Acks c P) (Q
   every-discovery number identifier agents = by (is_matched t.known.discovery identifier) t.known.standing (agents_named agents) refl
     where
       by : (right : Bool) (s : Standing) (list : List Address) → t.known.standing ≡ s → Q (if right then finds number s list t else drops_icmp number t)
-      by false s list here = drops number whys.Icmp
+      by false s list here = drops number whys.Icmp refl
       by true (Away careof) (agent ∷ others) here =
           let one = noted (Finds (agent ∷ others)) t in
           let two = noted (Stops seeking) one in
@@ -106,39 +108,39 @@ module _ (c : Call) (P : Turn → Type 0) (more : Goes c P) (acks : Acks c P) (Q
           done (registers careof (noted (Chooses agent) two))
           (every-registers c P more careof (noted (Chooses agent) two) at3.0
           (more (Chooses agent) two refl tt (more (Stops seeking) one refl tt (more (Finds (agent ∷ others)) t refl tt p))))
-      by true (Away careof) [] here = drops number whys.Icmp
-      by true Detached list here = drops number whys.Icmp
-      by true AtHome list here = drops number whys.Icmp
+      by true (Away careof) [] here = drops number whys.Icmp refl
+      by true Detached list here = drops number whys.Icmp refl
+      by true AtHome list here = drops number whys.Icmp refl
 
   every-prefixes : (number : ℕ) (shield : Option Shield) (options : IcmpSet) → Q (takes_prefix_reply number shield options t)
   unfolding takes_prefix_reply
   every-prefixes number shield options = by (is_from_agent shield (agent_of t.known t.now)) options.prefix
     where
       by : (right : Bool) (o : Option PrefixInfo) → Q (learns number right o t)
-      by right None = drops number whys.Icmp
+      by right None = drops number whys.Icmp refl
       by true (Some x) = done (noted (Learns x.valid x.preferred) t) (more (Learns x.valid x.preferred) t refl tt p)
-      by false (Some x) = drops number whys.Icmp
+      by false (Some x) = drops number whys.Icmp refl
 
   every-icmp : (number : ℕ) (shield : Option Shield) (packet : Packet) → Q (takes_icmp number shield packet t)
   unfolding takes_icmp
   every-icmp number shield packet = by (icmp_of (source_of packet.head) (destination_of packet.head) packet.body)
     where
       by : (r : Result icmp.Said IcmpFault) → Q (by_icmp number shield r t)
-      by (Err fault) = drops number whys.Icmp
+      by (Err fault) = drops number whys.Icmp refl
       by (Ok (icmp.DiscoverReply identifier agents)) = every-discovery number identifier agents
       by (Ok (icmp.PrefixReply identifier options)) = every-prefixes number shield options
-      by (Ok (icmp.Parameter pointer quoted)) = drops number whys.Icmp
-      by (Ok (icmp.Advertisement hop agent life options)) = drops number whys.Icmp
-      by (Ok (icmp.DiscoverAsk identifier)) = drops number whys.Icmp
-      by (Ok (icmp.PrefixAsk identifier)) = drops number whys.Icmp
+      by (Ok (icmp.Parameter pointer quoted)) = drops number whys.Icmp refl
+      by (Ok (icmp.Advertisement hop agent life options)) = drops number whys.Icmp refl
+      by (Ok (icmp.DiscoverAsk identifier)) = drops number whys.Icmp refl
+      by (Ok (icmp.PrefixAsk identifier)) = drops number whys.Icmp refl
 
   every-message : (number : ℕ) (tunnelled : Bool) (shield : Option Shield) (packet : Packet) (message : Option Said) → Tells c packet message → Q (by_message number tunnelled shield packet message t)
   every-message number tunnelled shield packet None told = by (packet.head.proto == icmpv6) (packet.head.proto == no_next_header)
     where
       by : (icmp none : Bool) → Q (if icmp then takes_icmp number shield packet t else if none then noted (Drops number whys.NoNext) t else noted (Drops number whys.Role) t)
       by true none = every-icmp number shield packet
-      by false true = drops number whys.NoNext
-      by false false = drops number whys.Role
+      by false true = drops number whys.NoNext refl
+      by false false = drops number whys.Role refl
   every-message number tunnelled shield packet (Some (HomeTest index cookie token options)) told =
       every-home_test c P more acks Q done t p drops number tunnelled (source_of packet.head) index cookie token (handed told refl refl)
   every-message number tunnelled shield packet (Some (CareofTest index cookie token options)) told =
@@ -149,11 +151,11 @@ module _ (c : Call) (P : Turn → Type 0) (more : Goes c P) (acks : Acks c P) (Q
       every-error c P more acks Q done t p drops number (source_of packet.head) status home
   every-message number tunnelled shield packet (Some (Refresh options)) told =
       every-refresh c P more acks Q done t p drops number (source_of packet.head)
-  every-message number tunnelled shield packet (Some (HomeInit cookie options)) told = drops number whys.Role
-  every-message number tunnelled shield packet (Some (CareofInit cookie options)) told = drops number whys.Role
-  every-message number tunnelled shield packet (Some (Update s a h l k t' o)) told = drops number whys.Role
+  every-message number tunnelled shield packet (Some (HomeInit cookie options)) told = drops number whys.Role refl
+  every-message number tunnelled shield packet (Some (CareofInit cookie options)) told = drops number whys.Role refl
+  every-message number tunnelled shield packet (Some (Update s a h l k t' o)) told = drops number whys.Role refl
 
-  module _ (refusing : (number : ℕ) (bytes : List ℕ) (source : Address) (refusal : Refusal) → Q (refuses number bytes source refusal t))
+  module _ (refusing : (number : ℕ) (bytes : List ℕ) (source : Address) (refusal : Refusal) → is_dropped_why refusal.why ≡ true → Q (refuses number bytes source refusal t))
       (parting : (number : ℕ) (tunnelled : Bool) (packet : Packet) (message : Option Said) → IsOfTake c number packet → message_in packet ≡ message → is_for_part packet.head.proto message ≡ true → Q (takes_for_part number tunnelled packet message t)) where
     every-role : (number : ℕ) (tunnelled : Bool) (shield : Option Shield) (packet : Packet) (message : Option Said) → IsOfTake c number packet → message_in packet ≡ message → Tells c packet message → Q (by_role number tunnelled shield packet message t)
     unfolding by_role
@@ -175,11 +177,12 @@ module _ (c : Call) (P : Turn → Type 0) (more : Goes c P) (acks : Acks c P) (Q
 
         by : (nested other routed bare : Bool) (r : Result (Option Said) Refusal) → checked (inner_standing t.known t.now packet.head) (place_in bytes packet) packet ≡ r
             → Q (if nested then noted (Drops number whys.Nested) t else if other then noted (Drops number whys.Address) t else if routed then noted (Drops number whys.Route) t else if bare then noted (Drops number whys.Unshielded) t else after_inner_checks number shield bytes packet r t)
-        by true other routed bare r is = drops number whys.Nested
-        by false true routed bare r is = drops number whys.Address
-        by false false true bare r is = drops number whys.Route
-        by false false false true r is = drops number whys.Unshielded
-        by false false false false (Err refusal) is = refusing number bytes packet.head.source refusal
+        by true other routed bare r is = drops number whys.Nested refl
+        by false true routed bare r is = drops number whys.Address refl
+        by false false true bare r is = drops number whys.Route refl
+        by false false false true r is = drops number whys.Unshielded refl
+        by false false false false (Err refusal) is =
+            refusing number bytes packet.head.source refusal (refused-right (inner_standing t.known t.now packet.head) (place_in bytes packet) packet refusal is)
         by false false false false (Ok message) is =
             let read = checked-in (inner_standing t.known t.now packet.head) (place_in bytes packet) packet message is in
             every-role number true shield packet message of read (passed message read)
@@ -191,12 +194,12 @@ module _ (c : Call) (P : Turn → Type 0) (more : Goes c P) (acks : Acks c P) (Q
       where
         opening : (agent : Address) (r : Result Packet ExitFault) → opened agent packet ≡ r → Q (opens_with number shield packet.body r t)
         opening agent (Ok inside) is = every-inner number shield packet.body inside (of agent inside is) (tells agent inside is)
-        opening agent (Err NotTunnel) is = drops number whys.Entry
-        opening agent (Err (WrongEntry seen)) is = drops number whys.Entry
-        opening agent (Err (Inner fault)) is = drops number (packet_why fault)
+        opening agent (Err NotTunnel) is = drops number whys.Entry refl
+        opening agent (Err (WrongEntry seen)) is = drops number whys.Entry refl
+        opening agent (Err (Inner fault)) is = drops number (packet_why fault) (packet_why-dropped fault)
 
         by : (agent : Option Address) → Q (opens_from agent number shield packet t)
-        by None = drops number whys.Entry
+        by None = drops number whys.Entry refl
         by (Some agent) = opening agent (opened agent packet) refl
 
     pub every-takes : (number : ℕ) (shield : Option Shield) (bytes : List ℕ) → c ≡ calls.Take number shield bytes → Q (takes number shield bytes t)
@@ -235,10 +238,11 @@ module _ (c : Call) (P : Turn → Type 0) (more : Goes c P) (acks : Acks c P) (Q
         outer packet read message is false = every-role number false shield packet message (itself packet read) is (straight packet read message is)
 
         checks : (packet : Packet) → packet_of bytes ≡ Ok packet → (r : Result (Option Said) Refusal) → checked (standing_of t.known t.now packet.head) (place_in bytes packet) packet ≡ r → Q (after_checks number shield bytes packet r t)
-        checks packet read (Err refusal) is = refusing number bytes packet.head.source refusal
+        checks packet read (Err refusal) is =
+            refusing number bytes packet.head.source refusal (refused-right (standing_of t.known t.now packet.head) (place_in bytes packet) packet refusal is)
         checks packet read (Ok message) is =
             outer packet read message (checked-in (standing_of t.known t.now packet.head) (place_in bytes packet) packet message is) (packet.head.proto == ipv6)
 
         by : (r : Result Packet NotPacket) → packet_of bytes ≡ r → Q (receives number shield bytes r t)
-        by (Err fault) read = drops number (packet_why fault)
+        by (Err fault) read = drops number (packet_why fault) (packet_why-dropped fault)
         by (Ok packet) read = checks packet read (checked (standing_of t.known t.now packet.head) (place_in bytes packet) packet) refl

@@ -329,5 +329,5 @@ refused-keeps k now number shield bytes some =
     let c : Call = calls.Take number shield bytes in
     let t = noted (Called c) (begun now k) in
     let quiet : IsQuiet t = quiet-noted (Called c) (begun now k) refl refl in
-    let kept = every-takes c IsQuiet (goes-quiet c) (acks-quiet c) (Keeps c t quiet) (quiet-keeps c t quiet) t quiet (drop-keeps c t quiet) (refuse-keeps c t quiet) (part-keeps c t quiet) number shield bytes refl in
+    let kept = every-takes c IsQuiet (goes-quiet c) (acks-quiet c) (Keeps c t quiet) (quiet-keeps c t quiet) t quiet (λ number why right. drop-keeps c t quiet number why) (λ number bytes source refusal right. refuse-keeps c t quiet number bytes source refusal) (part-keeps c t quiet) number shield bytes refl in
     kept some ∙ called-tables c k now

@@ -2,7 +2,6 @@
 -- past.
 use Rattle.std.proofs.Common.{◌≡◌, ℕ, List, [], ◌∷◌, ◌++◌, Bool, true, false, refl, ◌∙◌, subst}
 use Rattle.std.specs.Prelude.{fold, Option, None, if◌then◌else◌}
-use Rattle.std.specs.List.{AllByRecursion}
 use Rattle.mip_words.specs.declared.address.Address.{Address}
 use Rattle.mip_nonce.specs.Secrets.{Life}
 use Rattle.mip_entries.specs.declared.answer.Answer.{Answer}

@@ -1,8 +1,6 @@
 -- The timers of a mobile: they stand in order of due moment, and due work leaves none that is due.
 use Rattle.std.proofs.Common.{◌≡◌, ℕ, zero, suc, ◌+◌, ◌<◌, ◌≤◌, Bool, true, false, sym, subst, ap, ◌∙◌, List, [], ◌∷◌, ◌++◌, length, take, drop, arith, take-append-drop, refl, nat_lt}
-use Rattle.std.specs.Prelude.{not, cond, filter, insert, unwrap_or, if◌then◌else◌, Option, Some, None, fold}
-use Rattle.std.specs.List.{position_or_len}
-use Rattle.std.proofs.lemmas.List.Sums.{prefix_len-le-length}
+use Rattle.std.specs.Prelude.{not, cond, filter, if◌then◌else◌, Option, Some, None, fold}
 use Rattle.std.proofs.lemmas.Bool.Decides.{nat_tests}
 use Rattle.mip_words.specs.declared.address.Address.{Address}
 use Rattle.mip_words.specs.declared.moment.Moment.{Moment}
@@ -11,7 +9,7 @@ use Rattle.mip_bulist.specs.declared.work.Work.{Work}
 use Rattle.mip_bulist.specs.declared.work.Work.TheVariants as works
 use Rattle.mip_bulist.specs.declared.timer.Timer.{Timer}
 use Rattle.mip_bulist.specs.Timers.{is_of, without_timer, place_of, with_timer, without_due, due_work, AreDueFrom, AreInOrder}
-use Rattle.mip_bulist.proofs.TimerLaws.{none_due, filter_from, filter_order, from_earlier, put_order, due_order}
+use Rattle.mip_bulist.proofs.TimerLaws.{none_due, filter_order, put_order, due_order}
 use Rattle.mip_entries.specs.Stamped.{Stamped}
 use Rattle.mip_turns.proofs.TurnLaws.{noted-now, noted-known}
 use Rattle.mip_rules_mobile.specs.Calls as calls

@@ -7,6 +7,7 @@ use Rattle.mip_words.specs.declared.why.Why.TheVariants as whys
 use Rattle.mip_ipv6.specs.Packet.{Packet, source_of}
 use Rattle.mip_mobhdr.specs.Said.{Said}
 use Rattle.mip_reception.specs.declared.refusal.Refusal.{Refusal}
+use Rattle.mip_entries.specs.Reasons.{is_dropped_why}
 use Rattle.mip_rules_correspondent.specs.Calls as parts
 use Rattle.mip_rules_correspondent.specs.Questions.{held_of}
 use Rattle.mip_rules_mobile.specs.declared.standing.Standing.{Standing}
@@ -47,9 +48,9 @@ module _ (c : Call) (P : Turn → Type 0) (more : Goes c P) (asks : Askings P) (
     where
       by : (s : Standing) (agent : Option Address) → t.known.standing ≡ s → P (solicits_from s agent t)
       by (Away careof) (Some agent) here = more (Sends (Solicits (home_of t.known) careof agent t.known.solicitations)) t refl (here, refl) p
-      by (Away careof) None here = more (Unsends whys.Unregistered) t refl tt p
-      by Detached agent here = more (Unsends whys.Unregistered) t refl tt p
-      by AtHome agent here = more (Unsends whys.Unregistered) t refl tt p
+      by (Away careof) None here = more (Unsends whys.Unregistered) t refl refl p
+      by Detached agent here = more (Unsends whys.Unregistered) t refl refl p
+      by AtHome agent here = more (Unsends whys.Unregistered) t refl refl p
 
   -- the correspondent part, and a peer that is met
   pub every-for_part : (number : ℕ) (tunnelled : Bool) (packet : Packet) (message : Option Said) (t : Turn) → P t → P (takes_for_part number tunnelled packet message t)
@@ -68,13 +69,13 @@ module _ (c : Call) (P : Turn → Type 0) (more : Goes c P) (asks : Askings P) (
 
 -- a packet may be dropped
 abbrev pub Dropping : (Turn → Type 0) → Type 0
-Dropping P = (number : ℕ) (why : Why) (t : Turn) → P t → P (noted (Drops number why) t)
+Dropping P = (number : ℕ) (why : Why) (t : Turn) → is_dropped_why why ≡ true → P t → P (noted (Drops number why) t)
 
 module _ (c : Call) (P : Turn → Type 0) (more : Goes c P) (asks : Askings P) (notes : Notings P) (acks : Acks c P) (moves : Moves c P) (drops : Dropping P) where
-  every-refuses : (number : ℕ) (bytes : List ℕ) (source : Address) (refusal : Refusal) (t : Turn) → P t → P (refuses number bytes source refusal t)
+  every-refuses : (number : ℕ) (bytes : List ℕ) (source : Address) (refusal : Refusal) (t : Turn) → is_dropped_why refusal.why ≡ true → P t → P (refuses number bytes source refusal t)
   unfolding refuses
-  every-refuses number bytes source refusal t p =
-      every-replies c P more source bytes refusal.reply (noted (Drops number refusal.why) t) (drops number refusal.why t p)
+  every-refuses number bytes source refusal t right p =
+      every-replies c P more source bytes refusal.reply (noted (Drops number refusal.why) t) (drops number refusal.why t right p)
 
   -- of the call that it is
   pub every-handles : (t : Turn) → P t → P (handles c t)
@@ -84,8 +85,8 @@ module _ (c : Call) (P : Turn → Type 0) (more : Goes c P) (asks : Askings P) (
       by (calls.Attach prefix of_home of_address) is = every-attaches c P more moves prefix of_home of_address t p
       by (calls.Leave of_home) is = every-leaves c P more moves of_home t p
       by (calls.Take number shield packet) is =
-          every-takes c P more acks P (λ u q. q) t p (λ number why. drops number why t p)
-          (λ number bytes source refusal. every-refuses number bytes source refusal t p)
+          every-takes c P more acks P (λ u q. q) t p (λ number why right. drops number why t right p)
+          (λ number bytes source refusal right. every-refuses number bytes source refusal t right p)
           (λ number tunnelled packet message of read mine. every-for_part c P more asks notes number tunnelled packet message t p)
           number shield packet is
       by calls.Tick is = every-ticks_all c P more t p

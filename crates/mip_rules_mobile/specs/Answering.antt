@@ -10,6 +10,7 @@ use Rattle.mip_entries.specs.declared.answer.Answer.{Answer}
 use Rattle.mip_entries.specs.declared.answer.Answer.TheVariants.{Send, Note}
 use Rattle.mip_entries.specs.declared.entry.Entry.{Entry}
 use Rattle.mip_entries.specs.declared.entry.Entry.TheVariants as entries
+use Rattle.mip_entries.specs.Reasons.{is_unsent_why}
 use Rattle.mip_rules_correspondent.specs.declared.identity.Identity.{Identity}
 use Rattle.mip_rules_correspondent.specs.Rules.{home_test, careof_test, is_data}
 use Rattle.mip_rules_correspondent.specs.Wholes as parts
@@ -52,7 +53,7 @@ is_mobiles (entries.Prefixes node valid preferred) = true
 is_mobiles (entries.Made node peer number home careof) = true
 is_mobiles (entries.Bound node peer end) = true
 is_mobiles (entries.Unbound node peer) = true
-is_mobiles (entries.Unsent node why) = true
+is_mobiles (entries.Unsent node why) = is_unsent_why why
 is_mobiles (entries.Restarted node) = true
 is_mobiles _ = false
 

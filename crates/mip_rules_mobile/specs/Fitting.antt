@@ -1,11 +1,13 @@
 -- What is true of each step of a mobile where it is taken: a packet leaves from the address that the mobile stands at, a
--- packet of the correspondent part is one that a correspondent sends, and an update is the one that its trial makes.
+-- packet of the correspondent part is one that a correspondent sends, and an update is the one that its trial makes. What is
+-- not sent, or is dropped, is so for a reason of that kind.
 -- RFC 6275 sections 11.3, 11.6 and 11.7
 use Rattle.std.specs.Prelude.{◌≡◌, ℕ, ◌<◌, List, [], ◌∷◌, Option, Some, true, Ok}
 use Rattle.mip_words.specs.declared.address.Address.{Address}
 use Rattle.mip_words.specs.declared.shield.Shield.{Shield}
 use Rattle.mip_says.specs.Says.{carried, Test as Told}
 use Rattle.mip_bulist.specs.declared.tested.Test.{Test}
+use Rattle.mip_entries.specs.Reasons.{is_dropped_why, is_unsent_why}
 use Rattle.mip_rules_correspondent.specs.declared.identity.Identity.{Identity}
 use Rattle.mip_rules_correspondent.specs.Calls as part_calls
 use Rattle.mip_rules_correspondent.specs.Sendings as parts
@@ -16,7 +18,7 @@ use Rattle.mip_rules_mobile.specs.Calls as calls
 use Rattle.mip_rules_mobile.specs.Calls.{Call}
 use Rattle.mip_rules_mobile.specs.Trials.{Change, HomeTest, CareofTest, makes}
 use Rattle.mip_rules_mobile.specs.Sendings.{Inner, OfPart, AsksHome, Given, Sending, FromHome, ByTunnel, AsksCareof, RegistersHome, DeregistersHome, SendsData, Discovers, Solicits, PeerUpdate}
-use Rattle.mip_rules_mobile.specs.Steps.{Step, Called, Parts, Notes, Sends, Drops, FindsTaken, Arrives, Detaches, Restarts, Registers, Tries, Updates, Binds, Waits}
+use Rattle.mip_rules_mobile.specs.Steps.{Step, Called, Parts, Notes, Sends, Unsends, Drops, FindsTaken, Arrives, Detaches, Restarts, Registers, Tries, Updates, Binds, Waits}
 use Rattle.mip_rules_mobile.specs.Known.{Known}
 use Rattle.mip_rules_mobile.specs.HomeQuestions.{home_of}
 use Rattle.mip_rules_mobile.specs.RowQuestions.{peer_of_row, trial_of}
@@ -85,6 +87,8 @@ Fits c now k (Called call) = c ≡ call
 Fits c now k (Notes entry) = is_own entry ≡ true
 Fits c now k (Restarts secrets) = c ≡ calls.Restart secrets
 Fits c now k (Sends sending) = IsSentBy c now k sending
+Fits c now k (Unsends why) = is_unsent_why why ≡ true
+Fits c now k (Drops number why) = is_dropped_why why ≡ true
 Fits c now k (Updates row update) = IsUpdateOf now k row update
 Fits c now k (Tries row change) = IsChangedBy c now change
 Fits c now k (Waits work wait) = 0 < wait

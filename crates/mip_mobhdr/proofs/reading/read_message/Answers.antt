@@ -15,7 +15,7 @@ is_found source destination body (Ok m) are e = message_spelled source destinati
 is_found source destination body (Err bad) are e = tt
 
 pub returns-clause-found : goal.returns-clause-found
-returns-clause-found c = is_found c.args.source c.args.destination c.args.body.now c.message_in.result (λ i. omega (arith, c.type_inv.body i)) c.message_in.ensures
+returns-clause-found c = is_found c.args.source c.args.destination c.args.body.now c.message_in.result (λ i. omega (arith, c.type_inv.body i)) c.message_in.ensures.exact
 
 pub returns-clause-only : goal.returns-clause-only
-returns-clause-only c = λ m is. subst (Gives said c.message_in.result) (message_read c.args.source c.args.destination c.args.body.now m is) c.message_in.ensures
+returns-clause-only c = λ m is. subst (Gives said c.message_in.result) (message_read c.args.source c.args.destination c.args.body.now m is) c.message_in.ensures.exact
