@@ -34,9 +34,9 @@ use Rattle.mip_rules_mobile.specs.Steps as mobiles
 use Rattle.mip_rules_mobile.specs.Calls as mobile_calls
 use Rattle.mip_rules_mobile.specs.Doing as mobile_doing
 use Rattle.mip_schedule.specs.Lawful.{IsLink, IsNode, IsOutsider}
-use Rattle.mip_schedule.specs.Places.{members}
-use Rattle.mip_schedule.specs.declared.declaration.Declaration.{Declaration}
-use Rattle.mip_schedule.specs.declared.places.Sort.TheVariants as sorts
+use Rattle.mip_declared.specs.Places.{members}
+use Rattle.mip_declared.specs.declared.declaration.Declaration.{Declaration}
+use Rattle.mip_declared.specs.declared.places.Sort.TheVariants as sorts
 use Rattle.mip_links.specs.Table.{Post, Asked, link_from, link_of, is_node, is_address, held_by, at_holder, at_link, delivery, outsider_of, destination_in}
 use Rattle.mip_links.specs.Nets.{is_held_by}
 use Rattle.mip_links.specs.declared.delivery.Delivery.{Delivery}

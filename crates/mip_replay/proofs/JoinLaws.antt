@@ -14,11 +14,11 @@ use Rattle.mip_links.specs.Table.{Asked, link_from, link_of}
 use Rattle.mip_schedule.specs.Contents.{Content}
 use Rattle.mip_schedule.specs.DeclarationTimes.{interface_of, has_interface, is_interface_taken, gives_prefix, is_on_link, is_full, has_no_room, misplaced, undeclared}
 use Rattle.mip_schedule.specs.Lawful.{IsLawful}
-use Rattle.mip_schedule.specs.Places.{AreFew, members}
-use Rattle.mip_schedule.specs.declared.declaration.Declaration.{Declaration}
-use Rattle.mip_schedule.specs.declared.declaration.Declaration.TheVariants as declare
-use Rattle.mip_schedule.specs.declared.places.Sort.TheVariants as sorts
-use Rattle.mip_schedule.specs.declared.reason.Reason.TheVariants as reasons
+use Rattle.mip_declared.specs.Places.{AreFew, members}
+use Rattle.mip_declared.specs.declared.declaration.Declaration.{Declaration}
+use Rattle.mip_declared.specs.declared.declaration.Declaration.TheVariants as declare
+use Rattle.mip_declared.specs.declared.places.Sort.TheVariants as sorts
+use Rattle.mip_declared.specs.declared.reason.Reason.TheVariants as reasons
 use Rattle.mip_history.specs.Setup.{Setup, Host, links_in, addresses_in, with_any, served_by, hosts_from, hosts_in, outsiders_in}
 use Rattle.mip_history.specs.Setup.Kind.{Correspondent as OfCorrespondent, Agent as OfAgent, Mobile as OfMobile}
 use Rattle.mip_history.specs.Runs.{Run}

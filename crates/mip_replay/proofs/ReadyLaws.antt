@@ -10,14 +10,14 @@ use Rattle.mip_links.specs.Table.{Asked}
 use Rattle.mip_schedule.specs.Contents.{Content, holding}
 use Rattle.mip_schedule.specs.EventTimes.{wait_of, waited, carried, is_reserved, is_packet, misfit, untimely}
 use Rattle.mip_schedule.specs.Lawful.{IsEvent, IsLawful, IsLink, IsOutsider}
-use Rattle.mip_schedule.specs.Places.{AreFew, members}
-use Rattle.mip_schedule.specs.declared.declaration.Declaration.{Declaration}
-use Rattle.mip_schedule.specs.declared.declaration.Declaration.TheVariants as declare
+use Rattle.mip_declared.specs.Places.{AreFew, members}
+use Rattle.mip_declared.specs.declared.declaration.Declaration.{Declaration}
+use Rattle.mip_declared.specs.declared.declaration.Declaration.TheVariants as declare
 use Rattle.mip_schedule.specs.declared.event.Event.{Event}
 use Rattle.mip_schedule.specs.declared.event.Event.TheVariants.{Wait, Advertise, Payload, Inject, Bind, Listen, Deaf, Squat, Yield, Restart}
-use Rattle.mip_schedule.specs.declared.places.Sort.TheVariants as sorts
-use Rattle.mip_schedule.specs.declared.reason.Reason.{Reason}
-use Rattle.mip_schedule.specs.declared.reason.Reason.TheVariants as reasons
+use Rattle.mip_declared.specs.declared.places.Sort.TheVariants as sorts
+use Rattle.mip_declared.specs.declared.reason.Reason.{Reason}
+use Rattle.mip_declared.specs.declared.reason.Reason.TheVariants as reasons
 use Rattle.mip_history.specs.Setup.{setup_of, links_in}
 use Rattle.mip_history.specs.Questions.{moment_in, life_in}
 use Rattle.mip_history.specs.Permitted.{permitted, run_of}

@@ -9,11 +9,11 @@ use Rattle.mip_lines.specs.Cutting.{texts}
 use Rattle.mip_schedule.specs.BindParts.{bind_ends, bind_numbers}
 use Rattle.mip_schedule.specs.DeclarationRows.{u16}
 use Rattle.mip_schedule.specs.EventRows.{u32, bind_row}
-use Rattle.mip_schedule.specs.Kinds as kinds
-use Rattle.mip_schedule.specs.declared.declaration.Declaration.{Declaration}
+use Rattle.mip_declared.specs.Kinds as kinds
+use Rattle.mip_declared.specs.declared.declaration.Declaration.{Declaration}
 use Rattle.mip_schedule.specs.declared.event.Event.TheVariants as events
 use Rattle.mip_schedule.specs.declared.ends.Ends.{Ends}
-use Rattle.mip_schedule.specs.declared.reason.Reason.{Reason}
+use Rattle.mip_declared.specs.declared.reason.Reason.{Reason}
 
 abbrev ends : ℕ → LinkId → Address → Address → Address → Address → Ends
 ends a b x y z w = record { outsider = a; link = b; source = x; peer = y; home = z; careof = w }

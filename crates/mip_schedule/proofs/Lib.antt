@@ -1,14 +1,10 @@
-pub mod PlaceLaws
-pub mod Members
 pub mod FewLaws
 pub mod Walking
-pub mod KindLaws
 pub mod DeclarationLaws
 pub mod EventLaws
 pub mod TextLaws
 pub mod BindLaws
 pub mod AcceptedLaws
-pub mod NameLaws
 pub mod StandingLaws
 pub mod WritingLaws
 pub mod LongLaws

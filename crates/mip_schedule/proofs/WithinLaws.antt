@@ -15,22 +15,22 @@ use Rattle.mip_lines.specs.Rows.{row1, row2, row3, row4, row6}
 use Rattle.mip_lines.proofs.HexFieldLaws.{hex_field-spelled}
 use Rattle.mip_schedule.specs.BindParts.{bind_ends, bind_numbers}
 use Rattle.mip_schedule.specs.EventRows.{wait_row, move_row, advertise_row, data_row, inject_row, probe_row, bind_row, tell_row, listen_row, deaf_row, squat_row, yield_row, carry_row, restart_row, refresh_row, plan_row, ask_row, show_row, settle_row, node_fields, packet_fields, outsider_fields, event_fields}
-use Rattle.mip_schedule.specs.Kinds as kinds
-use Rattle.mip_schedule.specs.Kinds.{to_host, address, bytes, place, link, node, outsider, some_link}
+use Rattle.mip_declared.specs.Kinds as kinds
+use Rattle.mip_declared.specs.Kinds.{to_host, address, bytes, place, link, node, outsider, some_link}
 use Rattle.mip_schedule.specs.Lawful.{IsLink, IsNode, IsOutsider, IsLinkIfAny, IsHost, IsWithin}
-use Rattle.mip_schedule.specs.Places.{members}
+use Rattle.mip_declared.specs.Places.{members}
 use Rattle.mip_schedule.specs.Spelling.{event_text}
-use Rattle.mip_schedule.specs.declared.declaration.Declaration.{Declaration}
+use Rattle.mip_declared.specs.declared.declaration.Declaration.{Declaration}
 use Rattle.mip_schedule.specs.declared.ends.Ends.{Ends}
 use Rattle.mip_schedule.specs.declared.event.Event.{Event}
 use Rattle.mip_schedule.specs.declared.event.Event.TheVariants as events
-use Rattle.mip_schedule.specs.declared.places.Sort.{Sort}
-use Rattle.mip_schedule.specs.declared.places.Sort.TheVariants as sorts
-use Rattle.mip_schedule.specs.declared.reason.Reason.{Reason}
-use Rattle.mip_schedule.specs.declared.reason.Reason.TheVariants as reasons
+use Rattle.mip_declared.specs.declared.places.Sort.{Sort}
+use Rattle.mip_declared.specs.declared.places.Sort.TheVariants as sorts
+use Rattle.mip_declared.specs.declared.reason.Reason.{Reason}
+use Rattle.mip_declared.specs.declared.reason.Reason.TheVariants as reasons
 use Rattle.mip_schedule.proofs.BindLaws.{bind_split}
-use Rattle.mip_schedule.proofs.KindLaws.{number-within, option_is}
-use Rattle.mip_schedule.proofs.PlaceLaws.{place_within}
+use Rattle.mip_declared.proofs.KindLaws.{number-within, option_is}
+use Rattle.mip_declared.proofs.PlaceLaws.{place_within}
 
 -- what a reading of a field accepts keeps to Q
 abbrev Keeps : {A : Type 0} → (List ℕ → Result A Reason) → (A → Type 0) → Type 0

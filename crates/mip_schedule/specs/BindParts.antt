@@ -3,12 +3,12 @@ use Rattle.std.specs.Prelude.{ℕ, List, Result, Ok}
 use Rattle.mip_words.specs.Steps.{◌>>=◌}
 use Rattle.mip_schedule.specs.DeclarationRows.{u16}
 use Rattle.mip_schedule.specs.EventRows.{u32}
-use Rattle.mip_schedule.specs.Kinds as kinds
-use Rattle.mip_schedule.specs.declared.declaration.Declaration.{Declaration}
+use Rattle.mip_declared.specs.Kinds as kinds
+use Rattle.mip_declared.specs.declared.declaration.Declaration.{Declaration}
 use Rattle.mip_schedule.specs.declared.event.Event.{Event}
 use Rattle.mip_schedule.specs.declared.event.Event.TheVariants as events
 use Rattle.mip_schedule.specs.declared.ends.Ends.{Ends}
-use Rattle.mip_schedule.specs.declared.reason.Reason.{Reason}
+use Rattle.mip_declared.specs.declared.reason.Reason.{Reason}
 
 unfoldable pub bind_ends : List Declaration → (by on source peer home careof : List ℕ) → Result Ends Reason
 bind_ends ds by on source peer home careof = do

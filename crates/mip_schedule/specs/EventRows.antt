@@ -3,13 +3,13 @@ use Rattle.std.specs.Prelude.{ℕ, List, [], ◌∷◌, if◌then◌else◌, Res
 use Rattle.std.specs.Str.{bytes_eq}
 use Rattle.mip_lines.specs.Rows.{row1, row2, row3, row4, row6, row10}
 use Rattle.mip_schedule.specs.DeclarationRows.{u16}
-use Rattle.mip_schedule.specs.Kinds as kinds
-use Rattle.mip_schedule.specs.declared.declaration.Declaration.{Declaration}
+use Rattle.mip_declared.specs.Kinds as kinds
+use Rattle.mip_declared.specs.declared.declaration.Declaration.{Declaration}
 use Rattle.mip_schedule.specs.declared.event.Event.{Event}
 use Rattle.mip_schedule.specs.declared.event.Event.TheVariants as events
-use Rattle.mip_schedule.specs.declared.places.Sort.TheVariants as sorts
-use Rattle.mip_schedule.specs.declared.reason.Reason.{Reason}
-use Rattle.mip_schedule.specs.declared.reason.Reason.TheVariants as reasons
+use Rattle.mip_declared.specs.declared.places.Sort.TheVariants as sorts
+use Rattle.mip_declared.specs.declared.reason.Reason.{Reason}
+use Rattle.mip_declared.specs.declared.reason.Reason.TheVariants as reasons
 
 abbrev pub u32 : List ℕ → Result ℕ Reason
 u32 field = kinds.number 0 4294967295 field

@@ -1,6 +1,3 @@
-pub mod Names
-pub mod Places
-pub mod Kinds
 pub mod Faults
 pub mod DeclarationRows
 pub mod DeclarationTimes

@@ -3,37 +3,17 @@ use Rattle.std.specs.Prelude.{ℕ, List, [], ◌∷◌, ◌++◌, Bool, true, fa
 use Rattle.mip_words.specs.Hex.{hex_of}
 use Rattle.mip_words.specs.declared.address.Address.{Address}
 use Rattle.mip_words.specs.declared.ids.LinkId.{LinkId}
-use Rattle.mip_words.specs.declared.ids.NodeId.{NodeId}
 use Rattle.mip_words.specs.declared.moment.Moment.{Moment}
 use Rattle.mip_words.specs.declared.token.Cookie.{Cookie}
 use Rattle.mip_lines.specs.HexFields.{address_hex, number_hex, hex_text}
 use Rattle.mip_lines.specs.Lines.{lines_text}
 use Rattle.mip_schedule.specs.Contents.{Content}
-use Rattle.mip_schedule.specs.Names.{name_bytes}
-use Rattle.mip_schedule.specs.Places.{name_at}
-use Rattle.mip_schedule.specs.declared.declaration.Declaration.{Declaration}
-use Rattle.mip_schedule.specs.declared.declaration.Declaration.TheVariants as declare
+use Rattle.mip_declared.specs.Names.{name_bytes}
+use Rattle.mip_declared.specs.Spelled.{link_text, node_text, outsider_text, or_word, careof_text}
+use Rattle.mip_declared.specs.declared.declaration.Declaration.{Declaration}
+use Rattle.mip_declared.specs.declared.declaration.Declaration.TheVariants as declare
 use Rattle.mip_schedule.specs.declared.event.Event.{Event}
 use Rattle.mip_schedule.specs.declared.event.Event.TheVariants as events
-use Rattle.mip_schedule.specs.declared.places.Sort.TheVariants as sorts
-
-abbrev pub link_text : List Declaration → LinkId → List ℕ
-link_text ds l = name_at sorts.Link l.0 ds
-
-abbrev pub node_text : List Declaration → NodeId → List ℕ
-node_text ds n = name_at sorts.Node n.0 ds
-
-abbrev pub outsider_text : List Declaration → ℕ → List ℕ
-outsider_text ds o = name_at sorts.Outsider o ds
-
--- a word for none
-abbrev pub or_word : {A : Type 0} → List ℕ → (A → List ℕ) → Option A → List ℕ
-or_word word text None = word
-or_word word text (Some x) = text x
-
-abbrev pub careof_text : Bool → List ℕ
-careof_text true = codes "careof"
-careof_text false = codes "home"
 
 -- the line of a declaration after these
 abbrev pub declaration_text : List Declaration → Declaration → List (List ℕ)

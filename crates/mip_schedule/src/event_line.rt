@@ -3,15 +3,13 @@
 ghost use Rattle.std.specs.Prelude.{◌≡◌, ◌+◌, ◌≤◌, length, IfNone, IfOk};
 ghost use Rattle.mip_lines.specs.Cutting.{texts};
 ghost use Rattle.mip_schedule.specs.EventTimes as rows;
-ghost use Rattle.mip_schedule.specs.Faults.{GivesLine};
-ghost use Rattle.mip_schedule.specs.Places.{AreFew};
+ghost use Rattle.mip_declared.specs.Faults.{GivesLine};
+ghost use Rattle.mip_declared.specs.Places.{AreFew};
 
-use crate::declaration::Declaration;
 use crate::declaration_line::is_prefix_taken;
 use crate::event::Event;
 use crate::event_rows::event_fields;
-use crate::fault::LineFault;
-use crate::reason::{Reason, refused, too_many};
+use mip_declared::{Declaration, LineFault, Reason, refused, too_many};
 use mip_words::Address;
 use std::alloc::Global;
 

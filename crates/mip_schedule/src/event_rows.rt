@@ -3,18 +3,15 @@
 ghost use Rattle.std.specs.Prelude.{◌≡◌};
 ghost use Rattle.mip_lines.specs.Cutting.{texts};
 ghost use Rattle.mip_schedule.specs.EventRows as rows;
-ghost use Rattle.mip_schedule.specs.Faults.{GivesLine};
-ghost use Rattle.mip_schedule.specs.Places.{AreFew};
+ghost use Rattle.mip_declared.specs.Faults.{GivesLine};
+ghost use Rattle.mip_declared.specs.Places.{AreFew};
 
-use crate::declaration::Declaration;
 use crate::event::Event;
-use crate::fault::LineFault;
-use crate::kinds::{address, bytes, link, node, some_link, u8_in, u32_in};
 use crate::outsider_rows::{
     bind_row, deaf_row, inject_row, listen_row, probe_row, squat_row, tell_row, yield_row,
 };
-use crate::places::Sort;
-use crate::reason::Reason;
+use mip_declared::kinds::{address, bytes, link, node, some_link, u8_in, u32_in};
+use mip_declared::{Declaration, LineFault, Reason, Sort};
 use std::alloc::Global;
 
 #[tactic(auto, unfolding(crate::specs::EventRows::wait_row))]

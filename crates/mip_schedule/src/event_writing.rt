@@ -6,12 +6,11 @@ ghost use Rattle.mip_schedule.specs.Groups.{is_delivery, is_of_node};
 ghost use Rattle.mip_schedule.specs.Spelling.{event_text};
 ghost use Rattle.mip_schedule.specs.declared.event.Event.TheVariants as events;
 
-use crate::declaration::Declaration;
 use crate::event::Event;
 use crate::field_writing::{put_number_line, some_link_name};
-use crate::numbered::{link_name, node_name};
 use crate::outsider_writing::{put_outside, put_posted};
 use itoa::Buffer;
+use mip_declared::{Declaration, link_name, node_name};
 use mip_lines::{put_line, put_line_hex};
 use mip_words::{Address, Bytes, Memory, NodeId};
 

@@ -8,8 +8,8 @@ ghost use Rattle.mip_schedule.specs.Heads.{head_seen};
 ghost use Rattle.mip_schedule.specs.Reading as reading;
 
 use crate::fault::ScheduleFault;
-use crate::kinds::{seed, u8_in, u64_in};
-use crate::reason::Reason;
+use mip_declared::Reason;
+use mip_declared::kinds::{seed, u8_in, u64_in};
 use mip_lines::{cut_at, few_fields};
 use mip_words::Moment;
 

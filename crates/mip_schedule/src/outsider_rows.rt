@@ -4,15 +4,15 @@ ghost use Rattle.std.specs.Prelude.{◌≡◌};
 ghost use Rattle.mip_lines.specs.Cutting.{texts};
 ghost use Rattle.mip_schedule.specs.BindParts.{bind_ends, bind_numbers};
 ghost use Rattle.mip_schedule.specs.EventRows as rows;
-ghost use Rattle.mip_schedule.specs.Faults.{GivesLine};
-ghost use Rattle.mip_schedule.specs.Places.{AreFew};
+ghost use Rattle.mip_declared.specs.Faults.{GivesLine};
+ghost use Rattle.mip_declared.specs.Places.{AreFew};
 
-use crate::declaration::Declaration;
 use crate::ends::Ends;
 use crate::event::Event;
-use crate::fault::LineFault;
-use crate::kinds::{address, bytes, careof, cookie, link, outsider, some_packet, u16_in, u32_in};
-use crate::reason::Reason;
+use mip_declared::kinds::{
+    address, bytes, careof, cookie, link, outsider, some_packet, u16_in, u32_in,
+};
+use mip_declared::{Declaration, LineFault, Reason};
 use std::alloc::Global;
 
 #[tactic(auto, unfolding(crate::specs::EventRows::inject_row))]

@@ -6,12 +6,11 @@ ghost use Rattle.mip_schedule.specs.Groups.{is_bind, is_outside, is_posted};
 ghost use Rattle.mip_schedule.specs.Spelling.{event_text, probe_text};
 ghost use Rattle.mip_schedule.specs.declared.event.Event.TheVariants as events;
 
-use crate::declaration::Declaration;
 use crate::ends::Ends;
 use crate::event::Event;
 use crate::field_writing::{careof_word, digits_16, some_digits};
-use crate::numbered::{link_name, outsider_name};
 use itoa::Buffer;
+use mip_declared::{Declaration, link_name, outsider_name};
 use mip_lines::{put_line, put_line_hex};
 use mip_words::{Address, Bytes, Cookie, LinkId, Memory};
 

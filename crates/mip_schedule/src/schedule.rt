@@ -3,8 +3,8 @@ ghost use Rattle.std.specs.Coded.{Coded-set};
 ghost use Rattle.mip_schedule.specs.Accepted.{again, is_accepted};
 ghost use Rattle.mip_schedule.specs.Contents.{holding};
 
-use crate::declarations::Declarations;
 use crate::events::Events;
+use mip_declared::Declarations;
 use mip_words::Moment;
 
 /// A schedule: the seed of all secrets, the moment of the start, who there is, and what happens. What it

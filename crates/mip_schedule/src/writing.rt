@@ -6,12 +6,12 @@ ghost use Rattle.mip_schedule.specs.Reading.{reading};
 ghost use Rattle.mip_schedule.specs.Schedules.{content};
 ghost use Rattle.mip_schedule.specs.Spelling.{event_text, head_rows, spelling};
 
-use crate::declaration::Declaration;
 use crate::declaration_writing::put_declarations;
 use crate::event::Event;
 use crate::event_writing::put_event;
 use crate::schedule::Schedule;
 use itoa::Buffer;
+use mip_declared::Declaration;
 use mip_lines::put_line;
 use mip_words::{Bytes, Memory, Moment, hex_into};
 use std::alloc::Global;

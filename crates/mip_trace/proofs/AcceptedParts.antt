@@ -5,7 +5,7 @@ use Rattle.std.specs.Borrow.{Bor}
 use Rattle.mip_words.specs.declared.address.Address.{Address}
 use Rattle.mip_words.specs.declared.ids.NodeId.{NodeId}
 use Rattle.mip_lines.specs.Cutting.{texts}
-use Rattle.mip_schedule.specs.declared.declaration.Declaration.{Declaration}
+use Rattle.mip_declared.specs.declared.declaration.Declaration.{Declaration}
 use Rattle.mip_trace.specs.EntryRows.{accepted_row, accepted_end}
 use Rattle.mip_trace.specs.Fields as kinds
 

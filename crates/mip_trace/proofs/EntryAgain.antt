@@ -6,8 +6,8 @@ use Rattle.std.proofs.lemmas.Slice.Eq.{bytes_eq-Decides}
 use Rattle.mip_words.specs.Steps.{◌>>=◌}
 use Rattle.mip_lines.specs.HexFields.{address_hex, hex_text}
 use Rattle.mip_lines.proofs.RowReadings.{row1-again, row2-again, row3-again, row4-again, row5-again, row6-again, row7-again, row9-again}
-use Rattle.mip_schedule.specs.Places.{AreFew, NamesFound}
-use Rattle.mip_schedule.specs.declared.declaration.Declaration.{Declaration}
+use Rattle.mip_declared.specs.Places.{AreFew, NamesFound}
+use Rattle.mip_declared.specs.declared.declaration.Declaration.{Declaration}
 use Rattle.mip_entries.specs.declared.entry.Entry.{Entry}
 use Rattle.mip_entries.specs.declared.entry.Entry.TheVariants as entries
 use Rattle.mip_trace.specs.EntryRows.{bad, of_kind, sent_of_kind, injected_of_kind, at_row, moved_row, advertised_row, listening_row, deafened_row, careof_row, restarted_row, settled_row, claimed_row, released_row, taken_row, sent_row, injected_row, heard_row, handed_row, gone_row, lost_row, unsent_row, idle_row, registered_row, unregistered_row, refused_row, chosen_row, prefixes_row, made_row, bound_row, unbound_row, home_row, accepted_row, origin_row, forged_row, denied_row, dropped_row, up_row, row_row, place_fields, claim_fields, packet_fields, mobile_fields, answer_fields, entry_of}

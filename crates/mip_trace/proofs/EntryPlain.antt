@@ -21,10 +21,10 @@ use Rattle.mip_says.specs.Says.{message_in}
 use Rattle.mip_lines.specs.HexFields.{address_hex}
 use Rattle.mip_lines.specs.Lines.{is_plain, is_row}
 use Rattle.mip_lines.proofs.LineLaws.{decimal_plain, hex_plain, hex_text_plain}
-use Rattle.mip_schedule.specs.Names.{is_letter, is_name}
-use Rattle.mip_schedule.specs.Places.{AreFew, NamesFound, name_at}
-use Rattle.mip_schedule.specs.declared.declaration.Declaration.{Declaration}
-use Rattle.mip_schedule.specs.declared.places.Sort.TheVariants as sorts
+use Rattle.mip_declared.specs.Names.{is_letter, is_name}
+use Rattle.mip_declared.specs.Places.{AreFew, NamesFound, name_at}
+use Rattle.mip_declared.specs.declared.declaration.Declaration.{Declaration}
+use Rattle.mip_declared.specs.declared.places.Sort.TheVariants as sorts
 use Rattle.mip_entries.specs.declared.entry.Entry.{Entry}
 use Rattle.mip_entries.specs.declared.entry.Entry.TheVariants as entries
 use Rattle.mip_trace.specs.Lines.{or_dash, token_hex, shield_mark, yes_or_no, entry_row}

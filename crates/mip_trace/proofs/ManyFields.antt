@@ -3,7 +3,7 @@ use Rattle.std.proofs.Common.{◌≡◌, ℕ, ◌<◌, List, [], ◌∷◌, leng
 use Rattle.std.specs.Prelude.{Result, Err, codes}
 use Rattle.std.specs.Str.{bytes_eq}
 use Rattle.std.proofs.lemmas.Bool.{cond_both}
-use Rattle.mip_schedule.specs.declared.declaration.Declaration.{Declaration}
+use Rattle.mip_declared.specs.declared.declaration.Declaration.{Declaration}
 use Rattle.mip_entries.specs.declared.entry.Entry.{Entry}
 use Rattle.mip_trace.specs.EntryRows.{bad, at_row, moved_row, advertised_row, listening_row, deafened_row, careof_row, restarted_row, settled_row, claimed_row, released_row, taken_row, sent_row, injected_row, heard_row, handed_row, gone_row, lost_row, unsent_row, idle_row, registered_row, unregistered_row, refused_row, chosen_row, prefixes_row, made_row, bound_row, unbound_row, home_row, accepted_row, origin_row, forged_row, denied_row, dropped_row, up_row, row_row, place_fields, claim_fields, packet_fields, mobile_fields, answer_fields, entry_of}
 use Rattle.mip_trace.specs.declared.fault.NotEntry.{NotEntry}

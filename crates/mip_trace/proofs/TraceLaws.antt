@@ -10,8 +10,8 @@ use Rattle.mip_words.proofs.StepLaws.{bind_ok, ok_is}
 use Rattle.mip_lines.specs.Cutting.{rows_of}
 use Rattle.mip_lines.specs.Lines.{is_row, lines_text}
 use Rattle.mip_lines.proofs.LineLaws.{text-spelled, text-again}
-use Rattle.mip_schedule.specs.Places.{AreFew, NamesFound}
-use Rattle.mip_schedule.specs.declared.declaration.Declaration.{Declaration}
+use Rattle.mip_declared.specs.Places.{AreFew, NamesFound}
+use Rattle.mip_declared.specs.declared.declaration.Declaration.{Declaration}
 use Rattle.mip_entries.specs.declared.entry.Entry.{Entry}
 use Rattle.mip_trace.specs.EntryRows.{entry_of}
 use Rattle.mip_trace.specs.Lines.{entry_row, trace_text}

@@ -8,7 +8,7 @@ use Rattle.mip_words.specs.declared.ids.NodeId.{NodeId}
 use Rattle.mip_lines.specs.Rows.{row1, row2, row3, row4, row5, row6, row7, row9}
 use Rattle.mip_entries.specs.declared.entry.Entry.{Entry}
 use Rattle.mip_entries.specs.declared.entry.Entry.TheVariants as entries
-use Rattle.mip_schedule.specs.declared.declaration.Declaration.{Declaration}
+use Rattle.mip_declared.specs.declared.declaration.Declaration.{Declaration}
 use Rattle.mip_trace.specs.Fields as kinds
 use Rattle.mip_trace.specs.PacketKinds.{kind_of}
 use Rattle.mip_trace.specs.Whys.{gone_whys, unsent_whys, dropped_whys}

@@ -11,10 +11,10 @@ use Rattle.mip_words.specs.declared.token.Token.{Token}
 use Rattle.mip_words.specs.declared.why.Why.{Why}
 use Rattle.mip_lines.specs.Decimals.{number_in}
 use Rattle.mip_lines.specs.HexFields.{address_in, hex_field}
-use Rattle.mip_schedule.specs.Places.{place_of}
-use Rattle.mip_schedule.specs.declared.declaration.Declaration.{Declaration}
-use Rattle.mip_schedule.specs.declared.places.Sort.{Sort}
-use Rattle.mip_schedule.specs.declared.places.Sort.TheVariants as sorts
+use Rattle.mip_declared.specs.Places.{place_of}
+use Rattle.mip_declared.specs.declared.declaration.Declaration.{Declaration}
+use Rattle.mip_declared.specs.declared.places.Sort.{Sort}
+use Rattle.mip_declared.specs.declared.places.Sort.TheVariants as sorts
 use Rattle.mip_trace.specs.Whys.{why_among}
 use Rattle.mip_trace.specs.declared.fault.NotEntry.{NotEntry}
 

@@ -3,7 +3,7 @@ use Rattle.std.specs.Prelude.{ℕ, ◌+◌, List, [], ◌∷◌, ◌++◌, Resul
 use Rattle.mip_words.specs.Steps.{◌>>=◌}
 use Rattle.mip_lines.specs.Cutting.{rows_of}
 use Rattle.mip_entries.specs.declared.entry.Entry.{Entry}
-use Rattle.mip_schedule.specs.declared.declaration.Declaration.{Declaration}
+use Rattle.mip_declared.specs.declared.declaration.Declaration.{Declaration}
 use Rattle.mip_trace.specs.EntryRows.{entry_of}
 use Rattle.mip_trace.specs.declared.fault.NotEntry.{NotEntry}
 

@@ -2,7 +2,7 @@
 
 ghost use Rattle.std.specs.Prelude.{◌≡◌};
 ghost use Rattle.mip_lines.specs.Cutting.{texts};
-ghost use Rattle.mip_schedule.specs.Places.{AreFew};
+ghost use Rattle.mip_declared.specs.Places.{AreFew};
 ghost use Rattle.mip_trace.specs.EntryRows as rows;
 ghost use Rattle.mip_trace.specs.Faults.{GivesLine};
 

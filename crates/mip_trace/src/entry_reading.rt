@@ -2,7 +2,7 @@
 
 ghost use Rattle.std.specs.Prelude.{◌≡◌};
 ghost use Rattle.mip_lines.specs.Cutting.{fields_of, texts};
-ghost use Rattle.mip_schedule.specs.Places.{AreFew};
+ghost use Rattle.mip_declared.specs.Places.{AreFew};
 ghost use Rattle.mip_trace.specs.EntryRows.{entry_of};
 ghost use Rattle.mip_trace.specs.Faults.{GivesLine};
 

@@ -1,7 +1,7 @@
 //! Kinds of field of a line of a trace, as they are read.
 
 ghost use Rattle.std.specs.Prelude.{◌≡◌, ◌≤◌, IfOk};
-ghost use Rattle.mip_schedule.specs.Places.{AreFew};
+ghost use Rattle.mip_declared.specs.Places.{AreFew};
 ghost use Rattle.mip_trace.specs.Faults.{GivesLine};
 ghost use Rattle.mip_trace.specs.Fields as kinds;
 ghost use Rattle.mip_trace.specs.Whys.{why_among};
@@ -93,7 +93,7 @@ pub fn bytes(alloc: Global, field: &[u8]) -> Result<Bytes, LineFault>
 }
 
 /// The place of what is of this sort and has this name.
-#[tactic(auto, unfolding(crate::specs::Fields::place), using(mip_schedule::proofs::PlaceLaws::place_small))]
+#[tactic(auto, unfolding(crate::specs::Fields::place), using(mip_declared::proofs::PlaceLaws::place_small))]
 fn place(sort: Sort, ds: &[Declaration], field: &[u8]) -> Result<u8, NotEntry>
     requires { AreFew ds.now }
     ensures value { result ≡ kinds.place sort ds.now field.now }

@@ -3,7 +3,7 @@
 ghost use Rattle.std.specs.Prelude.{◌≡◌};
 ghost use Rattle.std.specs.Str.{bytes_eq};
 ghost use Rattle.mip_lines.specs.Cutting.{texts};
-ghost use Rattle.mip_schedule.specs.Places.{AreFew};
+ghost use Rattle.mip_declared.specs.Places.{AreFew};
 ghost use Rattle.mip_trace.specs.EntryRows as rows;
 ghost use Rattle.mip_trace.specs.Faults.{GivesLine};
 ghost use Rattle.mip_trace.specs.PacketKinds.{kind_of};

@@ -1,8 +1,8 @@
 use Rattle.std.proofs.Common.{◌≡◌, ℕ, List, length, map, sym, ap, ◌∙◌, subst, arith}
 use Rattle.mip_words.specs.declared.prefix.Prefix.{Prefix}
-use Rattle.mip_schedule.specs.Places.{AreFew}
+use Rattle.mip_declared.specs.Places.{AreFew}
 use Rattle.mip_schedule.specs.Schedules.{content}
-use Rattle.mip_schedule.specs.declared.declaration.Declaration.{Declaration}
+use Rattle.mip_declared.specs.declared.declaration.Declaration.{Declaration}
 use Rattle.mip_history.specs.Setup.{Host, setup_of, links_in, hosts_in, outsiders_in}
 use Rattle.mip_replay.specs.Engines.{EngineSeen, new_engine}
 use Rattle.mip_replay.specs.Joining.{ArePlaced}

@@ -1,6 +1,6 @@
 ghost use Rattle.std.specs.Prelude.{◌≡◌, ◌≤◌, length, true};
 ghost use Rattle.std.specs.List.{list_all};
-ghost use Rattle.mip_schedule.specs.Names.{is_letter, is_name, name_bytes, name_of};
+ghost use Rattle.mip_declared.specs.Names.{is_letter, is_name, name_bytes, name_of};
 
 /// The name of a link, a node or an outsider: 1 to 8 of a to z and 0 to 9, and not `find`. The letters
 /// past its length are 0.

@@ -2,7 +2,7 @@
 
 ghost use Rattle.std.specs.Prelude.{◌≡◌, length, slice_get};
 ghost use Rattle.std.specs.Option.{option_copied};
-ghost use Rattle.mip_schedule.specs.Places.{is_link, is_outsider, is_agent, is_mobile, is_host, is_node, counts, fits, is_named, is_taken, members, place_of};
+ghost use Rattle.mip_declared.specs.Places.{is_link, is_outsider, is_agent, is_mobile, is_host, is_node, counts, fits, is_named, is_taken, members, place_of};
 
 use crate::declaration::Declaration;
 

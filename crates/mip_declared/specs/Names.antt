@@ -2,7 +2,7 @@
 use Rattle.std.specs.Prelude.{ℕ, ◌-◌, List, ◌++◌, length, take, Bool, false, not, ◌&&◌, ◌||◌, ◌==◌, nat_le, nat_lt, if◌then◌else◌, Option, Some, None, codes, replicate}
 use Rattle.std.specs.List.{list_all}
 use Rattle.std.specs.Str.{bytes_eq}
-use Rattle.mip_schedule.specs.declared.name.Name.{Name}
+use Rattle.mip_declared.specs.declared.name.Name.{Name}
 
 -- a to z, or 0 to 9
 abbrev pub is_letter : ℕ → Bool

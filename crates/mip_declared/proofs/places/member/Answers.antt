@@ -1,9 +1,9 @@
 use Rattle.std.proofs.Common.{◌∙◌, sym, ap, arith, drop}
 use Rattle.std.specs.Prelude.{slice_get}
-use Rattle.mip_schedule.specs.Places.{members}
-use Rattle.mip_schedule.proofs.Members.{member_here, member_behind, member_past, member_none}
-use Rattle.mip_schedule.proofs.places.member.Goals.{then-counts+else-left-eq0, else-counts}
-use Rattle.mip_schedule.proofs.places.member.Goals as goal
+use Rattle.mip_declared.specs.Places.{members}
+use Rattle.mip_declared.proofs.Members.{member_here, member_behind, member_past, member_none}
+use Rattle.mip_declared.proofs.places.member.Goals.{then-counts+else-left-eq0, else-counts}
+use Rattle.mip_declared.proofs.places.member.Goals as goal
 
 pub returns-then-left-eq0 : goal.returns-then-left-eq0
 returns-then-left-eq0 c =

@@ -11,14 +11,14 @@ use Rattle.mip_words.specs.declared.ids.NodeId.{NodeId}
 use Rattle.mip_words.specs.declared.token.Cookie.{Cookie}
 use Rattle.mip_lines.specs.Decimals.{number_in}
 use Rattle.mip_lines.specs.HexFields.{hex_number, address_in, hex_field}
-use Rattle.mip_schedule.specs.Names.{name_of}
-use Rattle.mip_schedule.specs.Places.{is_taken, place_of}
-use Rattle.mip_schedule.specs.declared.declaration.Declaration.{Declaration}
-use Rattle.mip_schedule.specs.declared.name.Name.{Name}
-use Rattle.mip_schedule.specs.declared.places.Sort.{Sort}
-use Rattle.mip_schedule.specs.declared.places.Sort.TheVariants as sorts
-use Rattle.mip_schedule.specs.declared.reason.Reason.{Reason}
-use Rattle.mip_schedule.specs.declared.reason.Reason.TheVariants as reasons
+use Rattle.mip_declared.specs.Names.{name_of}
+use Rattle.mip_declared.specs.Places.{is_taken, place_of}
+use Rattle.mip_declared.specs.declared.declaration.Declaration.{Declaration}
+use Rattle.mip_declared.specs.declared.name.Name.{Name}
+use Rattle.mip_declared.specs.declared.places.Sort.{Sort}
+use Rattle.mip_declared.specs.declared.places.Sort.TheVariants as sorts
+use Rattle.mip_declared.specs.declared.reason.Reason.{Reason}
+use Rattle.mip_declared.specs.declared.reason.Reason.TheVariants as reasons
 
 abbrev pub or_reason : {A : Type 0} → Reason → Option A → Result A Reason
 or_reason why (Some x) = Ok x

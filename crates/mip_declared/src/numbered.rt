@@ -1,8 +1,8 @@
 //! Names by number.
 
 ghost use Rattle.std.specs.Prelude.{◌≡◌};
-ghost use Rattle.mip_schedule.specs.Places.{declared_name, name_at};
-ghost use Rattle.mip_schedule.specs.Spelling.{link_text, node_text, outsider_text};
+ghost use Rattle.mip_declared.specs.Places.{declared_name, name_at};
+ghost use Rattle.mip_declared.specs.Spelled.{link_text, node_text, outsider_text};
 
 use crate::declaration::Declaration;
 use crate::declarations::Declarations;

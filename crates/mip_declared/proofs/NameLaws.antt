@@ -7,12 +7,12 @@ use Rattle.std.proofs.lemmas.List.{append-nil}
 use Rattle.std.proofs.lemmas.List.Elements.{filter-append}
 use Rattle.std.proofs.lemmas.List.Folds.{position_or_len_push, list_any-append}
 use Rattle.std.proofs.lemmas.Slice.Eq.{bytes_eq-Decides}
-use Rattle.mip_schedule.specs.Names.{is_name, name_bytes}
-use Rattle.mip_schedule.specs.Places.{members, counts, fits, is_named, is_taken, place_of, declared_name, name_text, name_at, NamesFound}
-use Rattle.mip_schedule.specs.declared.declaration.Declaration.{Declaration}
-use Rattle.mip_schedule.specs.declared.declaration.Declaration.TheVariants as declare
-use Rattle.mip_schedule.specs.declared.places.Sort.{Sort}
-use Rattle.mip_schedule.specs.declared.places.Sort.TheVariants.{Link, Outsider, Node, Agent, Mobile, Host}
+use Rattle.mip_declared.specs.Names.{is_name, name_bytes}
+use Rattle.mip_declared.specs.Places.{members, counts, fits, is_named, is_taken, place_of, declared_name, name_text, name_at, NamesFound}
+use Rattle.mip_declared.specs.declared.declaration.Declaration.{Declaration}
+use Rattle.mip_declared.specs.declared.declaration.Declaration.TheVariants as declare
+use Rattle.mip_declared.specs.declared.places.Sort.{Sort}
+use Rattle.mip_declared.specs.declared.places.Sort.TheVariants.{Link, Outsider, Node, Agent, Mobile, Host}
 
 -- the name that a declaration gives is one, and nothing among these has it
 pub record IsFresh (ds : List Declaration) (d : Declaration) : Type 0 where

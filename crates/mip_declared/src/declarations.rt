@@ -14,7 +14,7 @@ pub struct Declarations {
 
 impl Model for Declarations {
     ghost use Rattle.std.specs.Prelude.{List};
-    ghost use Rattle.mip_schedule.specs.declared.declaration.Declaration.{Declaration};
+    ghost use Rattle.mip_declared.specs.declared.declaration.Declaration.{Declaration};
 
     ghost Value = { List Declaration };
 

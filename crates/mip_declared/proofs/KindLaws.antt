@@ -18,18 +18,18 @@ use Rattle.mip_lines.specs.HexFields.{hex_number, number_hex, address_in, addres
 use Rattle.mip_lines.specs.Rows.{Spells}
 use Rattle.mip_lines.proofs.HexFieldLaws.{unhex_exact-spelled, hex_number-spelled, address_in-spelled, hex_field-spelled}
 use Rattle.mip_lines.proofs.Numbers.{number-spelled}
-use Rattle.mip_schedule.specs.Kinds as kinds
-use Rattle.mip_schedule.specs.Kinds.{or_reason, to_host, or_none, number, address, prefix, cookie, seed, bytes, new_name, place, link, node, outsider, some_link, some_agent, some_packet, careof}
-use Rattle.mip_schedule.specs.Names.{is_name, name_bytes, name_of}
-use Rattle.mip_schedule.specs.Places.{members, fits, is_named, is_taken, place_of, declared_name, name_text, name_at}
-use Rattle.mip_schedule.specs.Spelling.{link_text, node_text, outsider_text, or_word, careof_text}
-use Rattle.mip_schedule.specs.declared.declaration.Declaration.{Declaration}
-use Rattle.mip_schedule.specs.declared.declaration.Declaration.TheVariants as declare
-use Rattle.mip_schedule.specs.declared.name.Name.{Name}
-use Rattle.mip_schedule.specs.declared.places.Sort.{Sort}
-use Rattle.mip_schedule.specs.declared.places.Sort.TheVariants as sorts
-use Rattle.mip_schedule.specs.declared.reason.Reason.{Reason}
-use Rattle.mip_schedule.specs.declared.reason.Reason.TheVariants as reasons
+use Rattle.mip_declared.specs.Kinds as kinds
+use Rattle.mip_declared.specs.Kinds.{or_reason, to_host, or_none, number, address, prefix, cookie, seed, bytes, new_name, place, link, node, outsider, some_link, some_agent, some_packet, careof}
+use Rattle.mip_declared.specs.Names.{is_name, name_bytes, name_of}
+use Rattle.mip_declared.specs.Places.{members, fits, is_named, is_taken, place_of, declared_name, name_text, name_at}
+use Rattle.mip_declared.specs.Spelled.{link_text, node_text, outsider_text, or_word, careof_text}
+use Rattle.mip_declared.specs.declared.declaration.Declaration.{Declaration}
+use Rattle.mip_declared.specs.declared.declaration.Declaration.TheVariants as declare
+use Rattle.mip_declared.specs.declared.name.Name.{Name}
+use Rattle.mip_declared.specs.declared.places.Sort.{Sort}
+use Rattle.mip_declared.specs.declared.places.Sort.TheVariants as sorts
+use Rattle.mip_declared.specs.declared.reason.Reason.{Reason}
+use Rattle.mip_declared.specs.declared.reason.Reason.TheVariants as reasons
 
 same : (xs ys : List ℕ) → bytes_eq xs ys ≡ true → xs ≡ ys
 same xs ys test = (bytes_eq-Decides xs ys).0 test

@@ -2,11 +2,11 @@
 use Rattle.std.specs.Prelude.{ℕ, ◌≡◌, ◌<◌, ◌≤◌, List, [], length, Bool, true, false, ◌&&◌, Option, Some, None, slice_get}
 use Rattle.std.specs.List.{filter, position, list_any}
 use Rattle.std.specs.Str.{bytes_eq}
-use Rattle.mip_schedule.specs.Names.{is_name, name_bytes}
-use Rattle.mip_schedule.specs.declared.declaration.Declaration.{Declaration}
-use Rattle.mip_schedule.specs.declared.declaration.Declaration.TheVariants as declare
-use Rattle.mip_schedule.specs.declared.places.Sort.{Sort}
-use Rattle.mip_schedule.specs.declared.places.Sort.TheVariants.{Link, Outsider, Node, Agent, Mobile, Host}
+use Rattle.mip_declared.specs.Names.{is_name, name_bytes}
+use Rattle.mip_declared.specs.declared.declaration.Declaration.{Declaration}
+use Rattle.mip_declared.specs.declared.declaration.Declaration.TheVariants as declare
+use Rattle.mip_declared.specs.declared.places.Sort.{Sort}
+use Rattle.mip_declared.specs.declared.places.Sort.TheVariants.{Link, Outsider, Node, Agent, Mobile, Host}
 
 abbrev pub is_link : Declaration → Bool
 is_link (declare.Link name prefix) = true

@@ -1,12 +1,12 @@
 //! Kinds of field: each reads a field, or refuses it for its own reason.
 
 ghost use Rattle.std.specs.Prelude.{◌≡◌, ◌<◌, ◌≤◌, ◌^◌, IfOk};
-ghost use Rattle.mip_schedule.specs.Faults.{GivesLine};
-ghost use Rattle.mip_schedule.specs.Places.{AreFew, members};
-ghost use Rattle.mip_schedule.specs.Kinds as kinds;
+ghost use Rattle.mip_declared.specs.Faults.{GivesLine};
+ghost use Rattle.mip_declared.specs.Places.{AreFew, members};
+ghost use Rattle.mip_declared.specs.Kinds as kinds;
 
 use crate::declaration::Declaration;
-use crate::fault::LineFault;
+use crate::line_fault::LineFault;
 use crate::name::Name;
 use crate::places::{Sort, is_taken, place_of};
 use crate::reason::Reason;

@@ -3,10 +3,10 @@ use Rattle.std.proofs.Common.{◌≡◌, Bool, nat_lt, ℕ, ◌<◌, ◌≤◌, 
 use Rattle.std.specs.Prelude.{Option, Some, ◌&&◌}
 use Rattle.std.specs.List.{position, position_or_len}
 use Rattle.std.proofs.lemmas.Bool.{cond_both, ltb-true}
-use Rattle.mip_schedule.specs.Places.{AreFew, members, place_of, fits, is_named}
-use Rattle.mip_schedule.specs.declared.declaration.Declaration.{Declaration}
-use Rattle.mip_schedule.specs.declared.places.Sort.{Sort}
-use Rattle.mip_schedule.specs.declared.places.Sort.TheVariants.{Link, Outsider, Node, Agent, Mobile, Host}
+use Rattle.mip_declared.specs.Places.{AreFew, members, place_of, fits, is_named}
+use Rattle.mip_declared.specs.declared.declaration.Declaration.{Declaration}
+use Rattle.mip_declared.specs.declared.places.Sort.{Sort}
+use Rattle.mip_declared.specs.declared.places.Sort.TheVariants.{Link, Outsider, Node, Agent, Mobile, Host}
 
 position_lt : {X : Type 0} (p : X → Bool) (xs : List X) (i : ℕ) → position p xs ≡ Some i → i < length xs
 position_lt p xs i =

@@ -1,0 +1,4 @@
+pub mod NameLaws
+pub mod PlaceLaws
+pub mod Members
+pub mod KindLaws
