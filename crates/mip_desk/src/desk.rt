@@ -8,9 +8,9 @@ ghost use Rattle.mip_bulist.specs.Rows.{given_row};
 ghost use Rattle.mip_rules_mobile.specs.Turns.{Turn, begun, noted};
 ghost use Rattle.mip_desk.specs.Seen.{Shows};
 
-use mip_kept::Kept;
 use mip_bulist::ListFull;
 use mip_entries::Answers;
+use mip_kept::Kept;
 use mip_nonce::Secrets;
 use mip_words::{Address, LinkId, Memory, Moment, NodeId};
 use std::alloc::Global;

@@ -6,8 +6,8 @@ ghost use Rattle.mip_rules_mobile.specs.Turns.{Turn, noted};
 ghost use Rattle.mip_desk.specs.Seen.{Shows};
 
 use crate::desk::{Desk, MYSELF};
-use mip_kept::peers;
 use mip_entries::{Answer, Entry};
+use mip_kept::peers;
 use mip_nonce::Secrets;
 use mip_rules_mobile::Standing;
 use mip_words::Memory;

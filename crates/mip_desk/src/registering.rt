@@ -9,11 +9,11 @@ ghost use Rattle.mip_rules_mobile.specs.Turns.{Turn, noted};
 ghost use Rattle.mip_rules_mobile.specs.Sendings.{Sending, RegistersHome, DeregistersHome, packet_of_sending, shield_of, shield_to, Solicits, registration_packet, deregistration_packet, solicitation_packet};
 ghost use Rattle.mip_desk.specs.Seen.{Shows, IsNeutral};
 
-use mip_kept::Agents;
 use crate::desk::{Desk, ENDING, MYSELF, RENEWING, RESENDING};
 use mip_bulist::Work;
 use mip_discovery::Discovery;
 use mip_entries::{Answer, Entry};
+use mip_kept::Agents;
 use mip_rules_mobile::{HomeUpdate, Registered};
 use mip_words::{Address, Bytes, Memory, Moment, Shield};
 
