@@ -2,19 +2,19 @@
 use Rattle.std.proofs.Common.{◌≡◌, ℕ, List, [], ◌∷◌, ◌++◌, length, Bool, false, refl, sym, ap, ◌∙◌, subst, arith}
 use Rattle.std.specs.Prelude.{Option, Some, None, ◌||◌, option_map}
 use Rattle.std.specs.List.{list_any, filter_map, cons_option}
-use Rattle.std.specs.Option.{option_or, option_and_then, option_map_or}
+use Rattle.std.specs.Option.{option_or, option_map_or}
 use Rattle.std.specs.Str.{bytes_eq}
 use Rattle.std.proofs.lemmas.List.Sums.{fold-append}
 use Rattle.mip_words.specs.declared.address.Address.{Address}
 use Rattle.mip_words.specs.declared.ids.NodeId.{NodeId}
 use Rattle.mip_words.specs.declared.token.Token.{Token}
 use Rattle.mip_lists.specs.Last.{or_else}
-use Rattle.mip_says.specs.Says.{Key, carried}
+use Rattle.mip_says.specs.Says.{Key}
 use Rattle.mip_entries.specs.declared.entry.Entry.{Entry}
 use Rattle.mip_entries.specs.declared.entry.Entry.TheVariants as entries
 use Rattle.mip_marks.specs.Lists.{first_some, along}
 use Rattle.mip_marks.specs.Entries.{claims, declared_in}
-use Rattle.mip_marks.specs.Sights.{Sight, token_in, token_at, sight}
+use Rattle.mip_marks.specs.Sights.{Sight, token_at, sight}
 use Rattle.mip_marks.specs.Sights.Sight.{Heard, Handed}
 use Rattle.mip_marks.specs.Reached.{is_heard, values}
 use Rattle.mip_marks.specs.Names.{Naming, naming, namings}

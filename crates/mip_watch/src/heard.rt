@@ -52,13 +52,11 @@ impl Heard {
         ensures known { OnOk result ((o : ℕ) (t : List ℕ) → has_come self.new o t ≡ (has_come self.old o t || is_heard o t (OfHeard outsider (Some token.0)))) }
         ensures list { OnOk result (self.new.list.items ≡ self.old.list.items ++ (if has_come self.old outsider token.0 then [] else record { outsider = outsider; token = token } ∷ [])) }
     {
-        if self.has_come(outsider, token) {
-            return Ok(());
-        }
-        self.list.push(Arrival { outsider, token })?;
         let bytes = token.0;
         let coming = (outsider, bytes);
-        self.known.insert(coming)?;
+        if self.known.insert(coming)? {
+            self.list.push(Arrival { outsider, token })?;
+        }
         Ok(())
     }
 
