@@ -49,7 +49,7 @@ module _ (s : Setup) (n home : ℕ) where
       and_true (n == node.0) (of.0 == home) (binding == 0) (numbered_zero front node k of binding careof sequence end i j is) none
   not_accepted front _ is none = refl
 
-  none_accepted : (front es : List Entry) → EachAfter (Meets s) front es → list_any (is_numbered_for n home 0) es ≡ false → list_any (is_accepted_for n home) es ≡ false
+  pub none_accepted : (front es : List Entry) → EachAfter (Meets s) front es → list_any (is_numbered_for n home 0) es ≡ false → list_any (is_accepted_for n home) es ≡ false
   none_accepted front [] each none = refl
   none_accepted front (e ∷ es) each none =
       let parts = or_parts (is_numbered_for n home 0 e) (list_any (is_numbered_for n home 0) es) none in
@@ -57,7 +57,7 @@ module _ (s : Setup) (n home : ℕ) where
       ∙ none_accepted (front ++ e ∷ []) es each.1 parts.1
 
 module _ (s : Setup) (past : List Entry) (each : EachAfter (Meets s) [] past) (n home careof : ℕ) where
-  bound_at : (f : HeldFrom (accepted_by s.start past n) home (moment_in s.start past) careof) → IsPlaced n home f.acceptance.number f.acceptance past → IsBound s past n home careof
+  bound_at : (f : HeldFrom (accepted_by s.start past n) home (moment_in s.start past) careof) → IsPlaced n home f.acceptance.number f.acceptance s.start past → IsBound s past n home careof
   bound_at f p =
       record {
         before = p.before;

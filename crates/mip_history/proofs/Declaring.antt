@@ -52,7 +52,7 @@ use Rattle.mip_history.specs.Claims.{link_id, claim_entry, claimed_on, claims}
 use Rattle.mip_history.specs.Homes.{lives_at, first_below, resident, passes_to, left_on, given_up_on, gives_up}
 use Rattle.mip_history.specs.Posting.{heards, is_other, overheard, posted}
 use Rattle.mip_history.specs.Nodes.{marks_of, marked, left_by, answered_one, answered, asks, by_kind, by_host, acts}
-use Rattle.mip_history.specs.Declared.{IsWho, IsDeclared}
+use Rattle.mip_history.specs.Naming.{IsWho, IsDeclared}
 use Rattle.mip_history.proofs.Reasons.{HasReason, HasReasons, part_reasons, agent_reasons, mobile_reasons, all_append, HasCause, mark_cause}
 
 -- a setup has what these declarations say: so many links, nodes and outsiders, no more nodes than there may be, and a link where
@@ -66,7 +66,7 @@ pub record IsOf (ds : List Declaration) (s : Setup) : Type 0 where
 
 -- a link that is found
 link_within : (n : ℕ) (links : List ℕ) (prefix l : ℕ) → link_from n links prefix ≡ Some l → l < n + length links
-link_within n [] prefix l e = absurd cc
+link_within n [] prefix l = λ e. absurd cc
 link_within n (p ∷ links) prefix l =
     cond_both (p == prefix) _ _ (λ (o : Option ℕ). o ≡ Some l → l < n + suc (length links)) (λ here e. let same : n ≡ l = cc in omega arith) (λ other e.
     let more = link_within (suc n) links prefix l e in omega arith)
@@ -131,15 +131,15 @@ module _ (ds : List Declaration) (s : Setup) (of : IsOf ds s) where
 
   below_is : (is : ℕ → Bool) (n m : ℕ) → first_below is n ≡ Some m → m < n
   below_is is zero m e = absurd cc
-  below_is is (suc n) m e = by (first_below is n) refl e
+  below_is is (suc n) m e = by (first_below is n) refl (below_is is n) e
     where
       here : (b : Bool) → (if b then Some n else None) ≡ Some m → m < suc n
       here true e = let same : n ≡ m = cc in omega arith
       here false e = absurd cc
 
-      by : (o : Option ℕ) → first_below is n ≡ o → or_else o (if is n then Some n else None) ≡ Some m → m < suc n
-      by None none e = here (is n) e
-      by (Some k) found e = let less = below_is is n m (found ∙ e) in omega arith
+      by : (o : Option ℕ) → first_below is n ≡ o → ((k : ℕ) → first_below is n ≡ Some k → k < n) → or_else o (if is n then Some n else None) ≡ Some m → m < suc n
+      by None none before e = here (is n) e
+      by (Some k) found before e = let less = before m (found ∙ e) in omega arith
 
   pub d-gives_up : (who : ℕ) (address : Address) (run : Run) → IsWho ds who → P run → P (gives_up s who address run)
   d-gives_up who address run is p = by (link_of s.links address.0) refl

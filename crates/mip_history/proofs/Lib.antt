@@ -34,3 +34,7 @@ mod HomedRuns
 mod Registrations
 pub mod Reasons
 pub mod Declaring
+pub mod DeclaringRuns
+pub mod Declarations
+pub mod ShownRows
+pub mod ShownRuns

@@ -1,9 +1,9 @@
 -- Where an acceptance that counts stands among the entries.
-use Rattle.std.proofs.Common.{◌≡◌, ℕ, List, [], ◌∷◌, ◌++◌, Bool, true, false, ◌⊎◌, inl, inr, refl, sym, ap, ◌∙◌}
-use Rattle.std.specs.Prelude.{fold, ◌==◌, ◌&&◌, ◌||◌, if◌then◌else◌, Option}
+use Rattle.std.proofs.Common.{◌≡◌, ℕ, List, [], ◌∷◌, ◌++◌, Bool, true, false, ◌⊎◌, inl, inr, refl, sym, ap, ◌∙◌, subst}
+use Rattle.std.specs.Prelude.{fold, unwrap_or, ◌==◌, ◌&&◌, ◌||◌, if◌then◌else◌, Option}
 use Rattle.std.specs.List.{list_any}
 use Rattle.std.proofs.lemmas.List.Folds.{list_any-append}
-use Rattle.std.proofs.lemmas.Bool.{or_parts, eqb-true}
+use Rattle.std.proofs.lemmas.Bool.{cond_both, or_parts, eqb-true}
 use Rattle.mip_words.specs.declared.address.Address.{Address}
 use Rattle.mip_words.specs.declared.ids.NodeId.{NodeId}
 use Rattle.mip_words.specs.declared.moment.Moment.{Moment}
@@ -11,6 +11,7 @@ use Rattle.mip_binding.specs.Acceptance.{Acceptance}
 use Rattle.mip_binding.specs.Held.{is_of}
 use Rattle.mip_entries.specs.declared.entry.Entry.{Entry}
 use Rattle.mip_entries.specs.declared.entry.Entry.TheVariants as entries
+use Rattle.mip_history.specs.Questions.{moment_says, moment_in}
 use Rattle.mip_history.specs.Bound.{Lived, lived, is_restart_of}
 
 -- the acceptance that an entry made, at a moment
@@ -52,8 +53,8 @@ module _ (n home number : ℕ) (a : Acceptance) where
     this_life : list_any (is_restart_of n) past ≡ false
     none_after : list_any (is_numbered_for n home number) past ≡ false
 
-  -- or its entry is one of these
-  pub record IsPlaced (past : List Entry) : Type 0 where
+  -- or its entry is one of these, which begin at a moment
+  pub record IsPlaced (m : ℕ) (past : List Entry) : Type 0 where
     pub before : List Entry
     pub node : NodeId
     pub k : ℕ
@@ -68,12 +69,13 @@ module _ (n home number : ℕ) (a : Acceptance) where
     pub after : List Entry
     pub whole : past ≡ before ++ entries.Accepted node k of binding careof sequence end i j ∷ after
     pub of_node : n ≡ node.0
+    pub moment : at ≡ moment_in m before
     pub is : acceptance_at at of binding careof sequence end ≡ a
     pub this_life : list_any (is_restart_of n) after ≡ false
     pub none_after : list_any (is_numbered_for n home number) after ≡ false
 
-  further : (e : Entry) (past : List Entry) → IsPlaced past → IsPlaced (e ∷ past)
-  further e past p = record {
+  further : (m : ℕ) (e : Entry) (past : List Entry) → IsPlaced (unwrap_or (moment_says e) m) past → IsPlaced m (e ∷ past)
+  further m e past p = record {
     before = e ∷ p.before;
     node = p.node;
     k = p.k;
@@ -88,6 +90,7 @@ module _ (n home number : ℕ) (a : Acceptance) where
     after = p.after;
     whole = ap (λ (es : List Entry). e ∷ es) p.whole;
     of_node = p.of_node;
+    moment = p.moment;
     is = p.is;
     this_life = p.this_life;
     none_after = p.none_after;
@@ -107,12 +110,12 @@ module _ (n home number : ℕ) (a : Acceptance) where
 
   accepted_before : (same : Bool) (l : Lived) (past : List Entry) (node : NodeId) (k : ℕ) (of : Address) (binding : ℕ) (careof : Address) (sequence : ℕ) (end : Moment) (i : ℕ) (j : Option ℕ) → (n == node.0) ≡ same
       → WasBefore (let x : Lived = (if same then record { at = l.at; accepted = l.accepted ++ acceptance_at l.at of binding careof sequence end ∷ [] } else l) in x.accepted) past
-      → WasBefore l.accepted (entries.Accepted node k of binding careof sequence end i j ∷ past) ⊎ IsPlaced (entries.Accepted node k of binding careof sequence end i j ∷ past)
+      → WasBefore l.accepted (entries.Accepted node k of binding careof sequence end i j ∷ past) ⊎ IsPlaced l.at (entries.Accepted node k of binding careof sequence end i j ∷ past)
   accepted_before true l past node k of binding careof sequence end i j is w =
       by (last_of l.accepted (acceptance_at l.at of binding careof sequence end) w.before a w.after w.whole)
     where
       by : (acceptance_at l.at of binding careof sequence end ≡ a) ⊎ EndsWith l.accepted (acceptance_at l.at of binding careof sequence end) w.before a w.after
-          → WasBefore l.accepted (entries.Accepted node k of binding careof sequence end i j ∷ past) ⊎ IsPlaced (entries.Accepted node k of binding careof sequence end i j ∷ past)
+          → WasBefore l.accepted (entries.Accepted node k of binding careof sequence end i j ∷ past) ⊎ IsPlaced l.at (entries.Accepted node k of binding careof sequence end i j ∷ past)
       by (inl same) = inr (record {
         before = [];
         node = node;
@@ -128,6 +131,7 @@ module _ (n home number : ℕ) (a : Acceptance) where
         after = past;
         whole = refl;
         of_node = eqb-true n node.0 is;
+        moment = refl;
         is = same;
         this_life = w.this_life;
         none_after = w.none_after;
@@ -156,25 +160,33 @@ module _ (n home number : ℕ) (a : Acceptance) where
     none_after = ap (λ (b : Bool). (b && ((of.0 == home) && (binding == number))) || list_any (is_numbered_for n home number) past) is ∙ w.none_after;
   })
 
-  entry_before : (l : Lived) (e : Entry) (past : List Entry) → WasBefore (lived n l e).accepted past → WasBefore l.accepted (e ∷ past) ⊎ IsPlaced (e ∷ past)
+  entry_before : (l : Lived) (e : Entry) (past : List Entry) → WasBefore (lived n l e).accepted past → WasBefore l.accepted (e ∷ past) ⊎ IsPlaced l.at (e ∷ past)
   entry_before l (entries.Restarted node) past w = inl (restarted_before (n == node.0) l.accepted past node refl w)
   entry_before l (entries.Accepted node k of binding careof sequence end i j) past w = accepted_before (n == node.0) l past node k of binding careof sequence end i j refl w
   entry_before l _ past w = inl (record { before = w.before; after = w.after; whole = w.whole; last = w.last; this_life = w.this_life; none_after = w.none_after })
 
+  -- the moment goes on with the entries
+  lived_at : (l : Lived) (e : Entry) → (lived n l e).at ≡ unwrap_or (moment_says e) l.at
+  lived_at l (entries.At moment) = refl
+  lived_at l (entries.Restarted node) = refl
+  lived_at l (entries.Accepted node k of binding careof sequence end i j) =
+      cond_both (n == node.0) (record { at = l.at; accepted = l.accepted ++ acceptance_at l.at of binding careof sequence end ∷ [] }) l (λ (x : Lived). x.at ≡ l.at) (λ _. refl) (λ _. refl)
+  lived_at l _ = refl
+
   placed_from : (l : Lived) (past : List Entry) (before after : List Acceptance) → (fold (lived n) l past).accepted ≡ before ++ a ∷ after → list_any (is_of home number) after ≡ false
-      → WasBefore l.accepted past ⊎ IsPlaced past
+      → WasBefore l.accepted past ⊎ IsPlaced l.at past
   placed_from l [] before after whole last = inl (record { before = before; after = after; whole = whole; last = last; this_life = refl; none_after = refl })
   placed_from l (e ∷ past) before after whole last = by (placed_from (lived n l e) past before after whole last)
     where
-      by : WasBefore (lived n l e).accepted past ⊎ IsPlaced past → WasBefore l.accepted (e ∷ past) ⊎ IsPlaced (e ∷ past)
+      by : WasBefore (lived n l e).accepted past ⊎ IsPlaced (lived n l e).at past → WasBefore l.accepted (e ∷ past) ⊎ IsPlaced l.at (e ∷ past)
       by (inl w) = entry_before l e past w
-      by (inr p) = inr (further e past p)
+      by (inr p) = inr (further l.at e past (subst (λ (m : ℕ). IsPlaced m past) (lived_at l e) p))
 
   -- what a life that began with nothing has accepted, stands among its entries
   pub placed : (at : ℕ) (past : List Entry) (before after : List Acceptance) → (fold (lived n) (record { at = at; accepted = [] }) past).accepted ≡ before ++ a ∷ after
-      → list_any (is_of home number) after ≡ false → IsPlaced past
+      → list_any (is_of home number) after ≡ false → IsPlaced at past
   placed at past before after whole last = by (placed_from (record { at = at; accepted = [] }) past before after whole last)
     where
-      by : WasBefore [] past ⊎ IsPlaced past → IsPlaced past
+      by : WasBefore [] past ⊎ IsPlaced at past → IsPlaced at past
       by (inl w) = absurd (not_empty w.before a w.after w.whole)
       by (inr p) = p

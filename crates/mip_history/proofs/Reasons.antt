@@ -30,7 +30,7 @@ use Rattle.mip_rules_mobile.specs.Doing.{turn_of}
 use Rattle.mip_rules_mobile.specs.Answering.{EachAnswer, is_mobiles}
 use Rattle.mip_rules_mobile.proofs.Answers.{each-answer}
 use Rattle.mip_rules_mobile.proofs.Fits.{call-fits}
-use Rattle.mip_history.specs.Declared.{IsCause}
+use Rattle.mip_history.specs.Naming.{IsCause}
 
 -- an entry has a reason that stands in it, if it has one
 abbrev pub HasReason : Entry → Type 0

@@ -69,7 +69,7 @@ option_goes place type v rest x e none =
     cond_both (not (is_length_of type size)) _ _ P (λ wrong e. absurd cc) (λ right.
     cond_both (is_seen type v) _ _ P (λ again e. absurd cc) (λ first.
     cond_both (eqb type 5 && ltb 13 (length rest)) _ _ P (λ behind e. absurd cc) (λ last e.
-    by (eqb type 5) refl whole right last (ok_is _ x e))))) e
+    by (eqb type 5) refl whole right last (ok_is _ x e)))))) e
   where
     five_goes : length rest ≡ 13 → slice_index rest 0 ≡ 12 → (with_value 5 v rest, 1 + slice_index rest 0) ≡ x → Goes 5 rest x
     five_goes long size is = Last long (ap (λ (y : Values × ℕ). y.1) (sym is) ∙ ap (λ (n : ℕ). 1 + n) size) (ap (λ (y : Values × ℕ). y.0.authorization) (sym is) ∙ last_value v rest long)
@@ -101,13 +101,12 @@ after_ends (suc n) place v [] w a e none some = absurd (let same : v.authorizati
 after_ends (suc n) place v (b ∷ rest) w a e none some = after_ends n (place + 1) v rest w a e none some
 after_ends zero place v (type ∷ rest) w a e none some =
     let b = bind_ok (option_at place type v rest) (λ x. options_after x.1 (place + 1) x.0 rest) w e in
-    by b.0 b.2 (option_goes place type v rest b.0 b.1 none)
+    by b.0 b.2 (λ still. after_ends b.0.1 (place + 1) b.0.0 rest w a b.2 still some) (option_goes place type v rest b.0 b.1 none)
   where
-    by : (x : Values × ℕ) → options_after x.1 (place + 1) x.0 rest ≡ Ok w → Goes type rest x → EndsWith (type ∷ rest) a
-    by x more (None_yet still) =
-        subst (λ (l : List ℕ). EndsWith (type ∷ l) a) (take-append-drop x.1 rest)
-        (behind (type ∷ take x.1 rest) (drop x.1 rest) a (after_ends x.1 (place + 1) x.0 rest w a more still some))
-    by x more (Last long all is) =
+    by : (x : Values × ℕ) → options_after x.1 (place + 1) x.0 rest ≡ Ok w → (x.0.authorization ≡ None → EndsWith (drop x.1 rest) a) → Goes type rest x → EndsWith (type ∷ rest) a
+    by x more ends (None_yet still) =
+        subst (λ (l : List ℕ). EndsWith (type ∷ l) a) (take-append-drop x.1 rest) (behind (type ∷ take x.1 rest) (drop x.1 rest) a (ends still))
+    by x more ends (Last long all is) =
         let end : x.0 ≡ w = ok_is x.0 w (sym (nothing_after x.1 (place + 1) x.0 rest (omega (arith, long, all))) ∙ more) in
         let same : Some (drop 1 rest) ≡ Some a = sym is ∙ ap authorization_of end ∙ some in
         let it : drop 1 rest ≡ a = cc in

@@ -17,4 +17,5 @@ pub mod Passing
 pub mod Bound
 pub mod Again
 pub mod Registered
-pub mod Declared
+pub mod Naming
+pub mod Shown

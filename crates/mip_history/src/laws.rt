@@ -1,7 +1,7 @@
 //! Laws of the permitted history.
 
-ghost use Rattle.std.specs.Prelude.{◌≡◌, ◌≢◌, ℕ, ◌+◌, ◌<◌, ◌≤◌, max, List, [], ◌∷◌, ◌++◌, length, Bool, true, false, Option, Some, None, option_map, slice_get};
-ghost use Rattle.std.specs.List.{list_any, sum_by};
+ghost use Rattle.std.specs.Prelude.{◌≡◌, ◌≢◌, ℕ, ◌+◌, ◌<◌, ◌≤◌, max, List, [], ◌∷◌, ◌++◌, length, map, Bool, true, false, Option, Some, None, option_map, slice_get};
+ghost use Rattle.std.specs.List.{list_any, sum_by, AllByRecursion};
 ghost use Rattle.mip_words.specs.declared.address.Address.{Address};
 ghost use Rattle.mip_words.specs.declared.moment.Moment.{Moment};
 ghost use Rattle.mip_words.specs.declared.ids.NodeId.{NodeId};
@@ -11,9 +11,13 @@ ghost use Rattle.mip_entries.specs.declared.entry.Entry.TheVariants.{At, Sent, I
 ghost use Rattle.mip_rules_agent.specs.declared.home_binding.HomeBinding.{HomeBinding};
 ghost use Rattle.mip_rules_agent.specs.Questions.{careof_at, kept_of};
 ghost use Rattle.mip_schedule.specs.Contents.{Content};
+ghost use Rattle.mip_schedule.specs.Lawful.{IsLawful};
+ghost use Rattle.mip_declared.specs.Places.{AreFew};
 ghost use Rattle.mip_schedule.specs.declared.event.Event.{Event};
 ghost use Rattle.mip_bcache.specs.declared.accepted.Accepted.{Accepted};
 ghost use Rattle.mip_binding.specs.Held.{floor, is_full};
+ghost use Rattle.mip_binding.specs.Rows.{kept_rows, table};
+ghost use Rattle.mip_bcache.specs.Seen.{kept_at, seen_row};
 ghost use Rattle.mip_rules_correspondent.specs.Questions.{held_of, floor_of, is_full_for};
 ghost use Rattle.mip_rules_mobile.specs.Questions.{part_room};
 ghost use Rattle.mip_history.specs.Setup.{Setup, setup_of};
@@ -28,6 +32,9 @@ ghost use Rattle.mip_history.specs.Permitted.{opening_claims, run_of, happens, p
 ghost use Rattle.mip_history.specs.Claims.{is_free_for};
 ghost use Rattle.mip_history.specs.Passing.{waited_by, restarted_by};
 ghost use Rattle.mip_history.specs.Again.{RepeatsAfterRounds};
+ghost use Rattle.mip_history.specs.Naming.{IsDeclared};
+ghost use Rattle.mip_history.specs.Nodes.{rows_by_kind};
+ghost use Rattle.mip_history.specs.Shown.{IsLastAcceptance};
 ghost use Rattle.mip_history.specs.Registered.{is_agent_at, registration_entry, last_registration, registered_in, IsRegistration, IsRegistered, HomeChange};
 ghost use Rattle.mip_history.specs.Bound.{accepted_by, held_in, packet_in, packets_of, accepted_entry, is_accepted, is_restart_of, is_accepted_for, HasAccepted, IsBound};
 
@@ -81,6 +88,19 @@ pub fn nodes_keep_what_was_accepted()
         → is_full_for (mobile_known_in s (run_of s events) n own agent).part.known (now_in s (run_of s events)) home ≡ is_full part_room (accepted_by s.start (run_of s events).past n) home.0 (now_in s (run_of s events)) }
 {}
 
+/// Each row that a correspondent shows, or a mobile of its correspondent part, is that of the last update of its home which the
+/// node accepted in its present life, whose sequence is still kept; and the rows are all that the table of its acceptances keeps.
+pub fn rows_are_last_acceptances()
+    ensures rows { (s : Setup) (events : List Event) (n : ℕ) (own : Address) (room : ℕ) → slice_get s.hosts n ≡ Some (record { address = own; kind = Correspondent room })
+        → AllByRecursion (IsLastAcceptance s (run_of s events).past n) (rows_by_kind s n own (run_of s events) (Correspondent room)) }
+    ensures table { (s : Setup) (events : List Event) (n : ℕ) (own : Address) (room : ℕ) → slice_get s.hosts n ≡ Some (record { address = own; kind = Correspondent room })
+        → map seen_row (kept_at (known_in (run_of s events) n room).cache (now_in s (run_of s events))) ≡ kept_rows (now_in s (run_of s events)) (table (accepted_by s.start (run_of s events).past n)) }
+    ensures part_rows { (s : Setup) (events : List Event) (n : ℕ) (own : Address) (agent : Option Address) → slice_get s.hosts n ≡ Some (record { address = own; kind = Mobile agent })
+        → AllByRecursion (IsLastAcceptance s (run_of s events).past n) (rows_by_kind s n own (run_of s events) (Mobile agent)) }
+    ensures part_table { (s : Setup) (events : List Event) (n : ℕ) (own : Address) (agent : Option Address) → slice_get s.hosts n ≡ Some (record { address = own; kind = Mobile agent })
+        → map seen_row (kept_at (mobile_known_in s (run_of s events) n own agent).part.known.cache (now_in s (run_of s events))) ≡ kept_rows (now_in s (run_of s events)) (table (accepted_by s.start (run_of s events).past n)) }
+{}
+
 /// Moments do not fall, and time goes on by what the schedule waits.
 pub fn moments_rise()
     ensures at { (c : Content) (before : List Entry) (moment : Moment) (after : List Entry) → permitted c ≡ before ++ At moment ∷ after → moment_in (setup_of c).start before ≤ moment.0 }
@@ -129,6 +149,12 @@ pub fn homes_pass_to_their_mobiles()
         → holder_in (gives_up s who home run).past home.0 ≡ Some m }
     ensures free { (s : Setup) (run : Run) (who link : ℕ) (home : Address) → link_of s.links home.0 ≡ Some link → holder_in run.past home.0 ≡ Some who
         → ((k : ℕ) → k < length s.hosts → lives_at s run home.0 k ≡ false) → holder_in (gives_up s who home run).past home.0 ≡ None }
+{}
+
+/// In the permitted history of every schedule that keeps to its declarations, as one that was read does, each entry names what is
+/// declared, and has a reason of its kind where it has one.
+pub fn entries_name_what_is_declared()
+    ensures { (c : Content) → IsLawful c → AreFew c.declarations → AllByRecursion (IsDeclared c.declarations) (permitted c) }
 {}
 
 /// In the permitted history of every schedule whose waits are at most 36,000 s together, as those of one that was read

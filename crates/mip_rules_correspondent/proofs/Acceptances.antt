@@ -70,7 +70,7 @@ module _ (room : ℕ) (past : List (Stamped Step)) (rises : RisesFrom 0 past) wh
   cache-stands = follows.stands
 
   module _ (now : ℕ) (home : Address) (all : AllByRecursion (λ s. s.at ≤ now) past) where
-    early : (known room past).cache.last ≤ now
+    pub early : (known room past).cache.last ≤ now
     early = let e = follows.early in let l = last_early now 0 past (omega arith) all in omega arith
 
     pub held-answers : option_map (λ a. a.0) (held_of (known room past) now home) ≡ held (accepted_in past) home.0 now

@@ -56,7 +56,7 @@ unfoldable pub dropped_whys : List Why
 dropped_whys =
     whys.Short ∷ whys.Version ∷ whys.Length ∷ whys.Header ∷ whys.Route ∷ whys.Option ∷ whys.Size ∷ whys.Checksum ∷ whys.Kind ∷ whys.Proto
     ∷ whys.HeaderLen ∷ whys.MobilityOption ∷ whys.Address ∷ whys.Probe ∷ whys.HomeOption ∷ whys.Unroutable ∷ whys.Options ∷ whys.Authenticator
-    ∷ whys.Role ∷ whys.Icmp ∷ whys.NoNext ∷ whys.Unshielded ∷ whys.Entry ∷ whys.Nested ∷ whys.Cookie ∷ whys.Ack ∷ whys.Error ∷ whys.Refresh
+    ∷ whys.Role ∷ whys.Icmp ∷ whys.NoNext ∷ whys.Unshielded ∷ whys.Entry ∷ whys.Nested ∷ whys.Hop ∷ whys.Cookie ∷ whys.Ack ∷ whys.Error ∷ whys.Refresh
     ∷ whys.Frame ∷ []
 
 -- one of these

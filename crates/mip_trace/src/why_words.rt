@@ -94,7 +94,7 @@ pub fn unsent_whys() -> [Why; 4]
 
 /// Why a node did nothing with a packet.
 #[tactic(auto, unfolding(crate::specs::Whys::dropped_whys))]
-pub fn dropped_whys() -> [Why; 29]
+pub fn dropped_whys() -> [Why; 30]
     ensures { result ≡ dropped_whys }
 {
     [
@@ -122,6 +122,7 @@ pub fn dropped_whys() -> [Why; 29]
         Why::Unshielded,
         Why::Entry,
         Why::Nested,
+        Why::Hop,
         Why::Cookie,
         Why::Ack,
         Why::Error,
