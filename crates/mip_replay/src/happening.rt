@@ -4,7 +4,7 @@ ghost use Rattle.std.specs.Prelude.{◌≡◌, true, false, OnOk};
 ghost use Rattle.mip_history.specs.Setup.{Setup};
 ghost use Rattle.mip_history.specs.Runs.{Run};
 ghost use Rattle.mip_history.specs.Permitted.{happens, is_built_event};
-ghost use Rattle.mip_replay.specs.Groups.{is_bind, is_posting};
+ghost use Rattle.mip_replay.specs.Groups.{is_bind, is_call, is_posting};
 ghost use Rattle.mip_replay.specs.Ready.{IsReady};
 ghost use Rattle.mip_engine.specs.Standing.{IsAt};
 
@@ -104,6 +104,45 @@ fn outsider_posts(alloc: Global, engine: &mut Engine, event: &Event) -> Result<(
     }
 }
 
+/// A node is asked something, and does it.
+fn node_is_asked(alloc: Global, engine: &mut Engine, event: &Event) -> Result<(), Memory>
+    requires kind { is_call event.now ≡ true }
+    requires ready { IsReady engine.old event.now }
+    ensures { (s : Setup) (run : Run) → IsAt engine.old s run → OnOk result (IsAt engine.new s (happens s run event.now)) }
+{
+    match event {
+        Event::Payload {
+            node,
+            to,
+            proto,
+            payload,
+        } => engine.act(
+            alloc,
+            *node,
+            Call::Send {
+                to: *to,
+                proto: *proto,
+                payload: payload.as_slice(),
+            },
+        ),
+        Event::Refresh { node, home } => engine.act(alloc, *node, Call::Refresh { home: *home }),
+        Event::Plan {
+            node,
+            valid,
+            preferred,
+        } => engine.act(
+            alloc,
+            *node,
+            Call::Plan {
+                valid: *valid,
+                preferred: *preferred,
+            },
+        ),
+        Event::Ask { node } => engine.act(alloc, *node, Call::Ask),
+        _ => unreachable!(),
+    }
+}
+
 /// Events that do nothing yet.
 fn nothing_happens(engine: &mut Engine, event: &Event) -> Result<(), Memory>
     requires { is_built_event event.now ≡ false }
@@ -132,36 +171,11 @@ pub(crate) fn happen(alloc: Global, engine: &mut Engine, event: &Event) -> Resul
         Event::Carry { count } => carry(alloc, engine, *count),
         Event::Wait { ms } => wait(alloc, engine, *ms),
         Event::Advertise { link } => advertise(alloc, engine, *link),
-        Event::Payload {
-            node,
-            to,
-            proto,
-            payload,
-        } => engine.act(
-            alloc,
-            *node,
-            Call::Send {
-                to: *to,
-                proto: *proto,
-                payload: payload.as_slice(),
-            },
-        ),
         Event::Restart { node } => restart(alloc, engine, *node),
-        Event::Refresh { node, home } => { engine.act(alloc, *node, Call::Refresh { home: *home }) }
         Event::Move { node, link } => engine.move_to(alloc, *node, *link),
-        Event::Plan {
-            node,
-            valid,
-            preferred,
-        } => engine.act(
-            alloc,
-            *node,
-            Call::Plan {
-                valid: *valid,
-                preferred: *preferred,
-            },
-        ),
-        Event::Ask { node } => engine.act(alloc, *node, Call::Ask),
+        Event::Payload { .. } | Event::Refresh { .. } | Event::Plan { .. } | Event::Ask { .. } => {
+            node_is_asked(alloc, engine, event)
+        }
         Event::Show { node } => engine.show(*node),
         _ => nothing_happens(engine, event),
     }
