@@ -1,7 +1,5 @@
-pub mod Early
 pub mod Entering
 pub mod Lengths
 pub mod Noted
 pub mod Outs
 pub mod PartSteps
-pub mod Rows

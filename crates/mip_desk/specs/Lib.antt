@@ -1,4 +1,2 @@
 pub mod Seen
-pub mod Mine
 pub mod Outgoing
-pub mod Early

@@ -7,33 +7,8 @@ use Rattle.mip_rules_mobile.specs.Sendings.{Sending, FromHome, ByTunnel, AsksCar
 use Rattle.mip_rules_mobile.specs.Known.{Known}
 use Rattle.mip_rules_mobile.specs.HomeQuestions.{home_of}
 use Rattle.mip_rules_mobile.specs.Turns.{Turn, ShowsAt}
-use Rattle.mip_desk.specs.declared.kept.Kept.{Kept}
-use Rattle.mip_desk.specs.Mine.{AreMine}
-use Rattle.mip_desk.specs.Early.{AreEarly}
-
--- what is kept, as the rules know it
-abbrev pub seen : Kept → Known
-seen k = record {
-  last = k.last;
-  part = k.part;
-  declared = k.declared;
-  standing = k.standing;
-  registered = k.registered;
-  latest = k.latest;
-  agent = k.agent;
-  owes = k.owes;
-  numberings = k.numberings;
-  wait = k.wait;
-  discovery = k.discovery;
-  discoveries = k.discoveries;
-  found = k.found;
-  tried = k.tried;
-  chosen = k.chosen;
-  solicitations = k.solicitations;
-  cookies = k.cookies;
-  list = k.list;
-  peers = k.peers;
-}
+use Rattle.mip_kept.specs.Mine.{AreMine}
+use Rattle.mip_kept.specs.Early.{AreEarly}
 
 -- a call under way: its moment, what is known, and the answers so far
 pub record DeskSeen : Type 0 where

@@ -8,7 +8,7 @@ ghost use Rattle.mip_bulist.specs.Rows.{given_row};
 ghost use Rattle.mip_rules_mobile.specs.Turns.{Turn, begun, noted};
 ghost use Rattle.mip_desk.specs.Seen.{Shows};
 
-use crate::kept::Kept;
+use mip_kept::Kept;
 use mip_bulist::ListFull;
 use mip_entries::Answers;
 use mip_nonce::Secrets;
@@ -39,7 +39,8 @@ pub struct Desk {
 }
 
 impl Model for Desk {
-    ghost use Rattle.mip_desk.specs.Seen.{DeskSeen, IsSound, seen};
+    ghost use Rattle.mip_desk.specs.Seen.{DeskSeen, IsSound};
+    ghost use Rattle.mip_kept.specs.Seen.{seen};
 
     ghost Value = { DeskSeen };
 

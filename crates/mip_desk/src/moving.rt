@@ -6,7 +6,7 @@ ghost use Rattle.mip_rules_mobile.specs.Turns.{Turn, noted};
 ghost use Rattle.mip_desk.specs.Seen.{Shows};
 
 use crate::desk::{Desk, MYSELF};
-use crate::peers;
+use mip_kept::peers;
 use mip_entries::{Answer, Entry};
 use mip_nonce::Secrets;
 use mip_rules_mobile::Standing;

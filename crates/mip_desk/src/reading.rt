@@ -20,7 +20,7 @@ ghost use Rattle.mip_rules_mobile.specs.IcmpRules.{is_matched};
 ghost use Rattle.std.specs.Option.{option_or, option_map_or};
 
 use crate::desk::Desk;
-use crate::peers;
+use mip_kept::peers;
 use mip_bcache::Row;
 use mip_bulist::{Any, Made, Refused};
 use mip_rules_mobile::{HomeUpdate, Registered, Standing};

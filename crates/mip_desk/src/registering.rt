@@ -9,7 +9,7 @@ ghost use Rattle.mip_rules_mobile.specs.Turns.{Turn, noted};
 ghost use Rattle.mip_rules_mobile.specs.Sendings.{Sending, RegistersHome, DeregistersHome, packet_of_sending, shield_of, shield_to, Solicits, registration_packet, deregistration_packet, solicitation_packet};
 ghost use Rattle.mip_desk.specs.Seen.{Shows, IsNeutral};
 
-use crate::agents::Agents;
+use mip_kept::Agents;
 use crate::desk::{Desk, ENDING, MYSELF, RENEWING, RESENDING};
 use mip_bulist::Work;
 use mip_discovery::Discovery;

@@ -12,8 +12,8 @@ ghost use Rattle.mip_rules_mobile.specs.Turns.{Turn, noted};
 ghost use Rattle.mip_desk.specs.Seen.{Shows};
 
 use crate::desk::Desk;
-use crate::heard::Heard;
-use crate::{peers, trial};
+use mip_kept::Heard;
+use mip_kept::{peers, trial};
 use mip_bulist::{Aim, Work};
 use mip_entries::{Answer, Entry};
 use mip_words::{Address, Cookie, Memory, Moment, NodeId};

@@ -9,7 +9,7 @@ ghost use Rattle.mip_rules_mobile.specs.Turns.{Turn, noted};
 ghost use Rattle.mip_desk.specs.Seen.{Shows};
 
 use crate::desk::{Desk, MYSELF};
-use crate::{peers, trial};
+use mip_kept::{peers, trial};
 use mip_bulist::Made;
 use mip_entries::{Answer, Entry};
 use mip_words::{Address, Bytes, Memory};

@@ -1,7 +1,7 @@
 use Rattle.std.proofs.Common.{ap, ◌∙◌}
 use Rattle.mip_rules_mobile.specs.Questions.{after}
 use Rattle.mip_rules_mobile.specs.Steps.{Arrives}
-use Rattle.mip_desk.specs.Seen.{seen}
+use Rattle.mip_kept.specs.Seen.{seen}
 use Rattle.mip_desk.proofs.Noted.{shown}
 use Rattle.std.specs.Prelude.{None}
 use Rattle.mip_words.specs.declared.address.Address.{Address}

@@ -7,12 +7,12 @@ use Rattle.mip_rules_mobile.specs.declared.peer.Peer.{Peer}
 use Rattle.mip_rules_mobile.specs.declared.standing.Standing.TheVariants.{Detached}
 use Rattle.mip_rules_mobile.specs.Questions.{after}
 use Rattle.mip_rules_mobile.specs.Steps.{Detaches}
-use Rattle.mip_desk.specs.Seen.{seen}
-use Rattle.mip_desk.specs.Mine.{AreMine}
-use Rattle.mip_desk.specs.Early.{AreEarly}
+use Rattle.mip_kept.specs.Seen.{seen}
+use Rattle.mip_kept.specs.Mine.{AreMine}
+use Rattle.mip_kept.specs.Early.{AreEarly}
 use Rattle.mip_desk.proofs.Noted.{shown}
-use Rattle.mip_desk.proofs.Rows.{mine-rested}
-use Rattle.mip_desk.proofs.Early.{early-rested}
+use Rattle.mip_kept.proofs.Rows.{mine-rested}
+use Rattle.mip_kept.proofs.Early.{early-rested}
 use Rattle.mip_desk.proofs.desk.Desk.detach.Goals as goal
 
 pub invariant_of-self : goal.invariant_of-self

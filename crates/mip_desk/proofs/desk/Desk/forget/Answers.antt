@@ -3,7 +3,7 @@ use Rattle.std.proofs.lemmas.List.{append-nil}
 use Rattle.mip_rules_mobile.specs.declared.peer.Peer.{Peer}
 use Rattle.mip_rules_mobile.specs.Questions.{after}
 use Rattle.mip_rules_mobile.specs.Steps.{Forgets}
-use Rattle.mip_desk.specs.Seen.{seen}
+use Rattle.mip_kept.specs.Seen.{seen}
 use Rattle.mip_desk.proofs.Noted.{shown}
 use Rattle.mip_desk.proofs.desk.Desk.forget.Goals as goal
 

@@ -4,12 +4,13 @@ use Rattle.mip_bulist.specs.Lists.{ListSeen}
 use Rattle.mip_rules_mobile.specs.Trials.{CareofTest}
 use Rattle.mip_rules_mobile.specs.Questions.{after}
 use Rattle.mip_rules_mobile.specs.Steps.{Tries}
-use Rattle.mip_desk.specs.Seen.{DeskSeen, seen}
-use Rattle.mip_desk.specs.Mine.{AreMine}
-use Rattle.mip_desk.specs.Early.{AreEarly}
+use Rattle.mip_desk.specs.Seen.{DeskSeen}
+use Rattle.mip_kept.specs.Seen.{seen}
+use Rattle.mip_kept.specs.Mine.{AreMine}
+use Rattle.mip_kept.specs.Early.{AreEarly}
 use Rattle.mip_desk.proofs.Noted.{shown}
-use Rattle.mip_desk.proofs.Rows.{mine-changed}
-use Rattle.mip_desk.proofs.Early.{early-changed}
+use Rattle.mip_kept.proofs.Rows.{mine-changed}
+use Rattle.mip_kept.proofs.Early.{early-changed}
 use Rattle.mip_rules_mobile.specs.Turns.{noted, ShowsAt}
 use Rattle.mip_desk.proofs.desk.Desk.keep_careof.Goals as goal
 

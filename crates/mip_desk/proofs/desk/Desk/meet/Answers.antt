@@ -3,11 +3,11 @@ use Rattle.std.proofs.lemmas.List.{append-nil}
 use Rattle.mip_bulist.specs.Lists.{ListSeen}
 use Rattle.mip_rules_mobile.specs.Questions.{after}
 use Rattle.mip_rules_mobile.specs.Steps.{Meets}
-use Rattle.mip_desk.specs.Seen.{seen}
-use Rattle.mip_desk.specs.Mine.{AreMine}
-use Rattle.mip_desk.specs.Early.{AreEarly}
-use Rattle.mip_desk.proofs.Rows.{mine-met}
-use Rattle.mip_desk.proofs.Early.{early-met}
+use Rattle.mip_kept.specs.Seen.{seen}
+use Rattle.mip_kept.specs.Mine.{AreMine}
+use Rattle.mip_kept.specs.Early.{AreEarly}
+use Rattle.mip_kept.proofs.Rows.{mine-met}
+use Rattle.mip_kept.proofs.Early.{early-met}
 use Rattle.mip_desk.proofs.Noted.{shown}
 use Rattle.mip_desk.proofs.desk.Desk.meet.Goals as goal
 

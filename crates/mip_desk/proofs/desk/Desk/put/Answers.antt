@@ -4,7 +4,7 @@ use Rattle.mip_words.specs.declared.shield.Shield.{Shield}
 use Rattle.mip_entries.specs.declared.answer.Answer.TheVariants.{Send}
 use Rattle.mip_rules_mobile.specs.Sendings.{shield_of}
 use Rattle.mip_rules_mobile.specs.Steps.{Sends}
-use Rattle.mip_desk.specs.Seen.{seen}
+use Rattle.mip_kept.specs.Seen.{seen}
 use Rattle.mip_desk.proofs.Noted.{shown, neutral-same}
 use Rattle.mip_desk.proofs.desk.Desk.put.Goals as goal
 

@@ -8,7 +8,8 @@ use Rattle.mip_rules_mobile.specs.Sendings.{RegistersHome, shield_to}
 use Rattle.mip_rules_mobile.specs.HomeQuestions.{home_of, sent_home}
 use Rattle.mip_rules_mobile.specs.Questions.{after}
 use Rattle.mip_rules_mobile.specs.Steps.{Sends}
-use Rattle.mip_desk.specs.Seen.{DeskSeen, seen}
+use Rattle.mip_desk.specs.Seen.{DeskSeen}
+use Rattle.mip_kept.specs.Seen.{seen}
 use Rattle.mip_desk.proofs.Noted.{shown}
 use Rattle.mip_desk.proofs.desk.Desk.put_registration.Goals as goal
 

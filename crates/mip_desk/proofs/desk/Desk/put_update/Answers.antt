@@ -13,12 +13,12 @@ use Rattle.mip_rules_mobile.specs.RowQuestions.{with_peer, touched}
 use Rattle.mip_rules_mobile.specs.Sendings.{PeerUpdate}
 use Rattle.mip_rules_mobile.specs.Steps.{Updates, myself}
 use Rattle.mip_rules_mobile.specs.Trials.{Make}
-use Rattle.mip_desk.specs.Seen.{seen}
-use Rattle.mip_desk.specs.Mine.{AreMine}
-use Rattle.mip_desk.specs.Early.{AreEarly}
+use Rattle.mip_kept.specs.Seen.{seen}
+use Rattle.mip_kept.specs.Mine.{AreMine}
+use Rattle.mip_kept.specs.Early.{AreEarly}
 use Rattle.mip_desk.proofs.Noted.{shown}
-use Rattle.mip_desk.proofs.Rows.{mine-changed}
-use Rattle.mip_desk.proofs.Early.{early-changed}
+use Rattle.mip_kept.proofs.Rows.{mine-changed}
+use Rattle.mip_kept.proofs.Early.{early-changed}
 use Rattle.mip_desk.proofs.desk.Desk.put_update.Goals as goal
 
 pub invariant_of-self-2 : goal.invariant_of-self-2

@@ -2,7 +2,7 @@ use Rattle.std.proofs.Common.{◌∙◌, ap}
 use Rattle.mip_words.specs.declared.address.Address.{Address}
 use Rattle.mip_rules_mobile.specs.Questions.{after, fresh}
 use Rattle.mip_rules_mobile.specs.Steps.{Restarts}
-use Rattle.mip_desk.specs.Seen.{seen}
+use Rattle.mip_kept.specs.Seen.{seen}
 use Rattle.mip_desk.proofs.Noted.{shown}
 use Rattle.mip_desk.proofs.desk.Desk.restart.Goals as goal
 

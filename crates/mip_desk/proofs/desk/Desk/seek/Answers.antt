@@ -2,7 +2,7 @@ use Rattle.std.proofs.Common.{sym, ap}
 use Rattle.std.proofs.lemmas.List.{append-nil}
 use Rattle.mip_rules_mobile.specs.Questions.{after}
 use Rattle.mip_rules_mobile.specs.Steps.{Seeks}
-use Rattle.mip_desk.specs.Seen.{seen}
+use Rattle.mip_kept.specs.Seen.{seen}
 use Rattle.mip_desk.proofs.Noted.{shown}
 use Rattle.std.specs.Prelude.{Some, ◌+◌, ◌%◌}
 use Rattle.mip_discovery.specs.Retries.{DiscoverySeen}

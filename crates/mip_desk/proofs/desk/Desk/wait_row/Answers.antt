@@ -6,7 +6,7 @@ use Rattle.mip_rules_mobile.specs.declared.peer.Peer.{Peer}
 use Rattle.mip_rules_mobile.specs.RowQuestions.{with_peer, waiting}
 use Rattle.mip_rules_mobile.specs.Questions.{after}
 use Rattle.mip_rules_mobile.specs.Steps.{Waits}
-use Rattle.mip_desk.specs.Seen.{seen}
+use Rattle.mip_kept.specs.Seen.{seen}
 use Rattle.mip_desk.proofs.Noted.{shown}
 use Rattle.mip_desk.proofs.desk.Desk.wait_row.Goals as goal
 
