@@ -15,10 +15,10 @@ use Rattle.mip_history.specs.Nodes.{acts}
 use Rattle.mip_history.specs.Advertising.{Router, is_link, router_by_host, router_at, roams_by_host, roams_on, hears_of_node, hears_of_first, mobile_told, mobiles_told}
 use Rattle.mip_nodes.specs.Nodes.{NodeSeen, router_of}
 use Rattle.mip_nodes.specs.Roles.{is_roaming}
-use Rattle.mip_replay.specs.Engines.{EngineSeen, with_entry}
-use Rattle.mip_replay.specs.Quiet.{IsQuiet}
-use Rattle.mip_replay.specs.Standing.{IsAt, node_in}
-use Rattle.mip_replay.proofs.QuietLaws.{at_note, quiet_by}
+use Rattle.mip_engine.specs.Engines.{EngineSeen, with_entry}
+use Rattle.mip_engine.specs.Quiet.{IsQuiet}
+use Rattle.mip_engine.specs.Standing.{IsAt, node_in}
+use Rattle.mip_engine.proofs.QuietLaws.{at_note, quiet_by}
 
 -- an agent, if it is one of this link
 abbrev pub on_link : List ℕ → ℕ → Option Router → Option Router

@@ -23,13 +23,14 @@ use Rattle.mip_history.specs.Questions.{moment_in, life_in}
 use Rattle.mip_history.specs.Permitted.{permitted, run_of}
 use Rattle.mip_history.specs.Passing.{waited_by, restarted_by}
 use Rattle.mip_nodes.specs.Nodes.{NodeSeen}
-use Rattle.mip_replay.specs.Engines.{EngineSeen}
+use Rattle.mip_engine.specs.Engines.{EngineSeen}
 use Rattle.mip_words.specs.declared.ids.NodeId.{NodeId}
 use Rattle.mip_words.specs.declared.address.Address.{Address}
 use Rattle.mip_nodes.specs.Payloads.{is_payload}
 use Rattle.mip_replay.specs.Ready.{IsReady, IsEar}
-use Rattle.mip_replay.specs.Standing.{IsAt}
-use Rattle.mip_replay.proofs.NodeLaws.{host_of}
+use Rattle.mip_engine.specs.Standing.{IsAt}
+use Rattle.mip_engine.proofs.JoinLaws.{passed, many_links}
+use Rattle.mip_engine.proofs.NodeLaws.{host_of}
 
 -- what is known of every history
 abbrev pub AreWaits : Type 0
@@ -37,11 +38,6 @@ AreWaits = (c : Content) → moment_in (setup_of c).start (permitted c) ≡ c.st
 
 abbrev pub AreRestarts : Type 0
 AreRestarts = (c : Content) (n : ℕ) → life_in (permitted c) n ≡ sum_by (restarted_by n) c.events
-
--- nothing keeps an event from standing
-pub passed : (b : Bool) (why : Reason) (o : Option Reason) → (if b then Some why else o) ≡ None → (b ≡ false) × (o ≡ None)
-passed true why o e = absurd cc
-passed false why o e = (refl, e)
 
 timely : (ds : List Declaration) (count waits carries : ℕ) (event : Event) → untimely ds count waits carries event ≡ None
     → (count < 20000) × (misfit ds waits carries event ≡ None)
@@ -84,17 +80,6 @@ packet_fits packet e = by (nat_lt (length packet) 40) _ refl e
     by : (short rest : Bool) → nat_lt (length packet) 40 ≡ short → (if (if short then false else rest) then None else Some reasons.Packet) ≡ None → 40 ≤ length packet
     by true rest is e = absurd cc
     by false rest is e = let long = leb-false (suc (length packet)) 40 is in omega arith
-
--- links are counted as they are declared
-pub many_links : (ds : List Declaration) → length (members sorts.Link ds) ≡ length (links_in ds)
-unfolding members
-many_links [] = refl
-many_links (declare.Link name prefix ∷ ds) = ap suc (many_links ds)
-many_links (declare.Agent name link address preference life room ∷ ds) = many_links ds
-many_links (declare.Correspondent name link address room ∷ ds) = many_links ds
-many_links (declare.Mobile name link address agent ∷ ds) = many_links ds
-many_links (declare.Serve agent mobile ∷ ds) = many_links ds
-many_links (declare.Outsider name ∷ ds) = many_links ds
 
 -- waits and restarts, event by event
 wait_is : (event : Event) → waited_by event ≡ wait_of event

@@ -23,13 +23,13 @@ use Rattle.mip_nodes.specs.Nodes as nodes
 use Rattle.mip_nodes.specs.Nodes.{NodeSeen}
 use Rattle.mip_nodes.specs.Roles.{is_roaming, homes_of}
 use Rattle.mip_nodes.proofs.RoleLaws.{known_first, agent_known_first}
-use Rattle.mip_replay.specs.Engines.{EngineSeen, with_entry, with_node, reborn}
+use Rattle.mip_engine.specs.Engines.{EngineSeen, with_entry, with_node, reborn}
 use Rattle.mip_replay.specs.Renewals.{emptied, renewed, begun_anew}
-use Rattle.mip_replay.specs.Standing.{IsAt, role_in, node_in}
-use Rattle.mip_replay.proofs.ItemLaws.{set_again}
-use Rattle.mip_replay.proofs.QuietLaws.{life-push, spot-push}
-use Rattle.mip_replay.proofs.EntryLaws.{of_restart, at_entry_here, at_entry_nowhere}
-use Rattle.mip_replay.proofs.NodeLaws.{DiffersAt, host_of, no_host, at_node, differs_past, differs_agent_past, differs_same}
+use Rattle.mip_engine.specs.Standing.{IsAt, role_in, node_in}
+use Rattle.mip_engine.proofs.ItemLaws.{set_again}
+use Rattle.mip_engine.proofs.QuietLaws.{life-push, spot-push}
+use Rattle.mip_engine.proofs.EntryLaws.{of_restart, at_entry_here, at_entry_nowhere}
+use Rattle.mip_engine.proofs.NodeLaws.{DiffersAt, host_of, no_host, at_node, differs_past, differs_agent_past, differs_same}
 
 module _ (e : EngineSeen) (s : Setup) (run : Run) (at : IsAt e s run) (n : ℕ) where
   differs : (kind : Kind) → DiffersAt n run (emptied n run kind)

@@ -15,9 +15,9 @@ use Rattle.mip_history.specs.Nodes.{acts}
 use Rattle.mip_history.specs.Waiting.{due_by_kind, due_by_host, due_of, earliest, is_due, Waiting, comes_to, ticks_one, works, works_on, works_until, waited}
 use Rattle.mip_nodes.specs.Nodes.{NodeSeen}
 use Rattle.mip_nodes.specs.Roles.{due_of as role_due}
-use Rattle.mip_replay.specs.Engines.{EngineSeen, with_entry, at_moment}
-use Rattle.mip_replay.specs.Standing.{IsAt, node_in}
-use Rattle.mip_replay.proofs.QuietLaws.{asked-same, hears-same, nodes-same, history-same, moment-push}
+use Rattle.mip_engine.specs.Engines.{EngineSeen, with_entry, at_moment}
+use Rattle.mip_engine.specs.Standing.{IsAt, node_in}
+use Rattle.mip_engine.proofs.QuietLaws.{asked-same, hears-same, nodes-same, history-same, moment-push}
 
 -- a moment comes
 pub at_come : (e : EngineSeen) (s : Setup) (run : Run) (moment : Moment) → IsAt e s run → IsAt (with_entry (At moment) (at_moment moment.0 e)) s (note (At moment) run)

@@ -1,12 +1,6 @@
-pub mod Engines
-pub mod Standing
-pub mod Arrivals
-pub mod Quiet
 pub mod Forged
 pub mod Bindings
 pub mod Homes
 pub mod Ready
-pub mod Joining
 pub mod Groups
 pub mod Renewals
-pub mod Openings

@@ -6,9 +6,9 @@ use Rattle.mip_words.specs.declared.ids.LinkId.{LinkId}
 use Rattle.mip_schedule.specs.declared.event.Event.{Event}
 use Rattle.mip_schedule.specs.declared.event.Event.TheVariants.{Wait, Advertise, Payload, Inject, Bind, Listen, Deaf, Squat, Yield, Restart}
 use Rattle.mip_nodes.specs.Nodes.{NodeSeen}
-use Rattle.mip_replay.specs.Engines.{EngineSeen}
+use Rattle.mip_engine.specs.Engines.{EngineSeen}
 use Rattle.mip_nodes.specs.Payloads.{is_payload}
-use Rattle.mip_replay.specs.Standing.{IsOfRun}
+use Rattle.mip_engine.specs.Standing.{IsOfRun}
 
 -- the outsider and the link are there
 abbrev pub IsEar : EngineSeen → ℕ → LinkId → Type 0

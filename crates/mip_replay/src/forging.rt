@@ -7,13 +7,13 @@ ghost use Rattle.mip_history.specs.Setup.{Setup};
 ghost use Rattle.mip_history.specs.Runs.{Run};
 ghost use Rattle.mip_history.specs.Outsiders.{asking_in, injected, injected_if, probe_packet, tell_of, tell_with, test_in, test_packet, update_packet};
 ghost use Rattle.mip_replay.specs.Forged as seen;
-ghost use Rattle.mip_replay.specs.Standing.{IsAt};
+ghost use Rattle.mip_engine.specs.Standing.{IsAt};
 
 use crate::asking::{Asking, asking_in};
 use crate::binding::{Binding, bind_packet};
-use crate::engine::Engine;
-use crate::limits::{DESTINATION, SOURCE};
 use crate::told::{Told, told_in};
+use mip_engine::Engine;
+use mip_engine::header::{DESTINATION, SOURCE};
 use mip_entries::Entry;
 use mip_says::TestKind;
 use mip_signals::{write_careof_init, write_careof_test, write_home_init, write_home_test};
@@ -53,135 +53,133 @@ fn tell_packet(alloc: Global, init: &[u8], asking: Asking, told: Told) -> Result
     }
 }
 
-impl Engine {
-    /// What the test in a posted packet says.
-    fn told_at(&self, kind: TestKind, number: u64) -> Option<Told>
-        ensures { option_map seen.told result ≡ test_in (kind_of kind) self.now.net.posts number }
-    {
-        match self.packet(number) {
-            Some(packet) => told_in(kind, packet),
-            None => None,
+/// What the test in a posted packet says.
+fn told_at(engine: &Engine, kind: TestKind, number: u64) -> Option<Told>
+    ensures { option_map seen.told result ≡ test_in (kind_of kind) engine.now.net.posts number }
+{
+    match engine.packet(number) {
+        Some(packet) => told_in(kind, packet),
+        None => None,
+    }
+}
+
+/// The update from the tests in two packets.
+#[tactic(auto, unfolding(mip_history::specs::Outsiders::update_packet))]
+fn update_from(
+    alloc: Global,
+    engine: &Engine,
+    binding: Binding,
+    home: u64,
+    careof: Option<u64>,
+) -> Result<Option<Bytes>, Memory>
+    requires { is_routable binding.home.0 ≡ true }
+    ensures is { IfOk result (λ b. b ≡ update_packet (seen.binding binding) engine.now.net.posts home careof) }
+    ensures long { IfOk result (λ b. IfSome b (λ p. 40 ≤ length p)) }
+{
+    let Some(home) = told_at(engine, TestKind::Home, home) else {
+        return Ok(None);
+    };
+    let Some(careof) = careof else {
+        let packet = bind_packet(alloc, binding, home, None)?;
+        return Ok(Some(packet));
+    };
+    match told_at(engine, TestKind::Careof, careof) {
+        Some(careof) => {
+            let packet = bind_packet(alloc, binding, home, Some(careof))?;
+            Ok(Some(packet))
         }
+        None => Ok(None),
     }
+}
 
-    /// The update from the tests in two packets.
-    #[tactic(auto, unfolding(mip_history::specs::Outsiders::update_packet))]
-    fn update(
-        &self,
-        alloc: Global,
-        binding: Binding,
-        home: u64,
-        careof: Option<u64>,
-    ) -> Result<Option<Bytes>, Memory>
-        requires { is_routable binding.home.0 ≡ true }
-        ensures is { IfOk result (λ b. b ≡ update_packet (seen.binding binding) self.now.net.posts home careof) }
-        ensures long { IfOk result (λ b. IfSome b (λ p. 40 ≤ length p)) }
-    {
-        let Some(home) = self.told_at(TestKind::Home, home) else {
-            return Ok(None);
-        };
-        let Some(careof) = careof else {
-            let packet = bind_packet(alloc, binding, home, None)?;
-            return Ok(Some(packet));
-        };
-        match self.told_at(TestKind::Careof, careof) {
-            Some(careof) => {
-                let packet = bind_packet(alloc, binding, home, Some(careof))?;
-                Ok(Some(packet))
-            }
-            None => Ok(None),
-        }
+/// The test with the token of one packet that answers the init in another.
+#[tactic(auto, unfolding(mip_history::specs::Outsiders::test_packet))]
+fn test_from(alloc: Global, engine: &Engine, test: u64, init: u64) -> Result<Option<Bytes>, Memory>
+    ensures is { IfOk result (λ b. b ≡ test_packet engine.now.net.posts test init) }
+    ensures long { IfOk result (λ b. IfSome b (λ p. 40 ≤ length p)) }
+{
+    match engine.packet(init) {
+        Some(init) => test_for(alloc, engine, test, init),
+        None => Ok(None),
     }
+}
 
-    /// The test with the token of one packet that answers the init in another.
-    #[tactic(auto, unfolding(mip_history::specs::Outsiders::test_packet))]
-    fn test(&self, alloc: Global, test: u64, init: u64) -> Result<Option<Bytes>, Memory>
-        ensures is { IfOk result (λ b. b ≡ test_packet self.now.net.posts test init) }
-        ensures long { IfOk result (λ b. IfSome b (λ p. 40 ≤ length p)) }
-    {
-        match self.packet(init) {
-            Some(init) => self.test_for(alloc, test, init),
-            None => Ok(None),
-        }
-    }
+fn test_for(alloc: Global, engine: &Engine, test: u64, init: &[u8]) -> Result<Option<Bytes>, Memory>
+    requires { 40 ≤ length init.now }
+    ensures is { IfOk result (λ b. b ≡ tell_of engine.now.net.posts test init.now (asking_in init.now)) }
+    ensures long { IfOk result (λ b. IfSome b (λ p. 40 ≤ length p)) }
+{
+    let Some(asking) = asking_in(init) else {
+        return Ok(None);
+    };
+    let Some(told) = told_at(engine, asking.kind, test) else {
+        return Ok(None);
+    };
+    let packet = tell_packet(alloc, init, asking, told)?;
+    Ok(Some(packet))
+}
 
-    fn test_for(&self, alloc: Global, test: u64, init: &[u8]) -> Result<Option<Bytes>, Memory>
-        requires { 40 ≤ length init.now }
-        ensures is { IfOk result (λ b. b ≡ tell_of self.now.net.posts test init.now (asking_in init.now)) }
-        ensures long { IfOk result (λ b. IfSome b (λ p. 40 ≤ length p)) }
-    {
-        let Some(asking) = asking_in(init) else {
-            return Ok(None);
-        };
-        let Some(told) = self.told_at(asking.kind, test) else {
-            return Ok(None);
-        };
-        let packet = tell_packet(alloc, init, asking, told)?;
-        Ok(Some(packet))
+fn inject_if(
+    alloc: Global,
+    engine: &mut Engine,
+    outsider: u8,
+    link: LinkId,
+    packet: Option<Bytes>,
+) -> Result<(), Memory>
+    requires { IfSome packet (λ p. 40 ≤ length p) }
+    ensures { (s : Setup) (run : Run) → IsAt engine.old s run → OnOk result (IsAt engine.new s (injected_if s run outsider link.0 packet)) }
+{
+    match packet {
+        Some(packet) => engine.inject(alloc, outsider, link, packet.as_slice()),
+        None => engine.note(Entry::Idle),
     }
+}
 
-    fn inject_if(
-        &mut self,
-        alloc: Global,
-        outsider: u8,
-        link: LinkId,
-        packet: Option<Bytes>,
-    ) -> Result<(), Memory>
-        requires { IfSome packet (λ p. 40 ≤ length p) }
-        ensures { (s : Setup) (run : Run) → IsAt self.old s run → OnOk result (IsAt self.new s (injected_if s run outsider link.0 packet)) }
-    {
-        match packet {
-            Some(packet) => self.inject(alloc, outsider, link, packet.as_slice()),
-            None => self.note(Entry::Idle),
-        }
-    }
+/// An outsider posts the init of a test.
+pub(crate) fn probe(
+    alloc: Global,
+    engine: &mut Engine,
+    outsider: u8,
+    link: LinkId,
+    careof: bool,
+    source: Address,
+    peer: Address,
+    cookie: Cookie,
+) -> Result<(), Memory>
+    ensures { (s : Setup) (run : Run) → IsAt engine.old s run → OnOk result (IsAt engine.new s (injected s run outsider link.0 (probe_packet careof source peer cookie.0))) }
+{
+    let packet = probe_packet(alloc, careof, source, peer, cookie)?;
+    engine.inject(alloc, outsider, link, packet.as_slice())
+}
 
-    /// An outsider posts the init of a test.
-    pub(crate) fn probe(
-        &mut self,
-        alloc: Global,
-        outsider: u8,
-        link: LinkId,
-        careof: bool,
-        source: Address,
-        peer: Address,
-        cookie: Cookie,
-    ) -> Result<(), Memory>
-        ensures { (s : Setup) (run : Run) → IsAt self.old s run → OnOk result (IsAt self.new s (injected s run outsider link.0 (probe_packet careof source peer cookie.0))) }
-    {
-        let packet = probe_packet(alloc, careof, source, peer, cookie)?;
-        self.inject(alloc, outsider, link, packet.as_slice())
-    }
+/// An outsider posts an update with the tokens of two packets, nothing where they have none.
+pub(crate) fn bind(
+    alloc: Global,
+    engine: &mut Engine,
+    outsider: u8,
+    link: LinkId,
+    binding: Binding,
+    home: u64,
+    careof: Option<u64>,
+) -> Result<(), Memory>
+    requires { is_routable binding.home.0 ≡ true }
+    ensures { (s : Setup) (run : Run) → IsAt engine.old s run → OnOk result (IsAt engine.new s (injected_if s run outsider link.0 (update_packet (seen.binding binding) run.posts home careof))) }
+{
+    let packet = update_from(alloc, engine, binding, home, careof)?;
+    inject_if(alloc, engine, outsider, link, packet)
+}
 
-    /// An outsider posts an update with the tokens of two packets, nothing where they have none.
-    pub(crate) fn bind(
-        &mut self,
-        alloc: Global,
-        outsider: u8,
-        link: LinkId,
-        binding: Binding,
-        home: u64,
-        careof: Option<u64>,
-    ) -> Result<(), Memory>
-        requires { is_routable binding.home.0 ≡ true }
-        ensures { (s : Setup) (run : Run) → IsAt self.old s run → OnOk result (IsAt self.new s (injected_if s run outsider link.0 (update_packet (seen.binding binding) run.posts home careof))) }
-    {
-        let packet = self.update(alloc, binding, home, careof)?;
-        self.inject_if(alloc, outsider, link, packet)
-    }
-
-    /// An outsider posts a test with the token of one packet that answers the init in another.
-    pub(crate) fn tell(
-        &mut self,
-        alloc: Global,
-        outsider: u8,
-        link: LinkId,
-        test: u64,
-        init: u64,
-    ) -> Result<(), Memory>
-        ensures { (s : Setup) (run : Run) → IsAt self.old s run → OnOk result (IsAt self.new s (injected_if s run outsider link.0 (test_packet run.posts test init))) }
-    {
-        let packet = self.test(alloc, test, init)?;
-        self.inject_if(alloc, outsider, link, packet)
-    }
+/// An outsider posts a test with the token of one packet that answers the init in another.
+pub(crate) fn tell(
+    alloc: Global,
+    engine: &mut Engine,
+    outsider: u8,
+    link: LinkId,
+    test: u64,
+    init: u64,
+) -> Result<(), Memory>
+    ensures { (s : Setup) (run : Run) → IsAt engine.old s run → OnOk result (IsAt engine.new s (injected_if s run outsider link.0 (test_packet run.posts test init))) }
+{
+    let packet = test_from(alloc, engine, test, init)?;
+    inject_if(alloc, engine, outsider, link, packet)
 }

@@ -1,27 +1,16 @@
 //! The run of a schedule: its permitted history.
 #![tactic(auto)]
 
-mod acting;
 mod advertising;
-mod answering;
-mod arrival;
 mod asking;
 mod binding;
 mod built;
-mod claiming;
-mod claims;
 mod delivering;
-mod engine;
 mod forging;
 mod happening;
-mod hosts;
 mod laws;
-mod limits;
-mod outsiders;
-mod posting;
 mod restarting;
 mod run;
-mod setup;
 mod told;
 mod waiting;
 

@@ -9,9 +9,10 @@ ghost use Rattle.mip_schedule.specs.Schedules.{content};
 ghost use Rattle.mip_origin.specs.Marked.{EachIsMarked};
 ghost use Rattle.mip_replay.specs.Bindings.{EachIsBound, EachRepeatIsLate};
 ghost use Rattle.mip_replay.specs.Homes.{HomesAreSent};
-ghost use Rattle.mip_replay.specs.Standing.{IsAt};
+ghost use Rattle.mip_engine.specs.Standing.{IsAt};
 
-use crate::engine::Engine;
+use crate::happening::happen;
+use mip_engine::Engine;
 use mip_entries::History;
 use mip_history::{
     held_was_accepted, homes_change_by_updates_or_time, lives_are_restarts, moments_rise,
@@ -32,7 +33,7 @@ fn run(alloc: Global, engine: &mut Engine, schedule: &Schedule) -> Result<(), Me
     moments_rise();
     lives_are_restarts();
     for event in schedule.events.as_slice() {
-        engine.happen(alloc, event)?;
+        happen(alloc, engine, event)?;
     }
     Ok(())
 }

@@ -6,9 +6,9 @@ ghost use Rattle.mip_history.specs.Setup.{Setup};
 ghost use Rattle.mip_history.specs.Runs.{Run};
 ghost use Rattle.mip_history.specs.Waiting.{due_of, sooner, earliest, is_due, comes_to, ticks_one, ticked, works, works_on, works_until, waited};
 ghost use Rattle.mip_nodes.specs.Roles.{due_of as role_due};
-ghost use Rattle.mip_replay.specs.Standing.{IsAt, IsOfRun};
+ghost use Rattle.mip_engine.specs.Standing.{IsAt, IsOfRun};
 
-use crate::engine::Engine;
+use mip_engine::Engine;
 use mip_history::work_stays_within_its_wait;
 use mip_nodes::Call;
 use mip_words::{Memory, Moment, NodeId};
@@ -44,127 +44,130 @@ fn is_due(due: Option<Moment>, now: Moment) -> bool
     }
 }
 
-impl Engine {
-    /// Whether an `at` of this moment stands in this event, where one stands in it or none.
-    fn is_told(&self, moment: Moment, told: bool) -> bool
-        ensures { result ≡ told && (self.now.moment == moment.0) }
-    {
-        told && self.moment().0 == moment.0
-    }
+/// Whether an `at` of this moment stands in this event, where one stands in it or none.
+fn is_told(engine: &Engine, moment: Moment, told: bool) -> bool
+    ensures { result ≡ told && (engine.now.moment == moment.0) }
+{
+    told && engine.moment().0 == moment.0
+}
 
-    /// The moment is this one from here on, and an `at` says so, unless one has said so in this event.
-    fn come_to(&mut self, moment: Moment, told: bool) -> Result<(), Memory>
-        requires later { self.old.moment ≤ moment.0 }
-        requires early { moment.0 < 2 ^ 62 }
-        ensures { (s : Setup) (run : Run) → IsAt self.old s run → OnOk result (IsAt self.new s (comes_to s moment.0 (record { run = run; told = told })).run) }
-    {
-        if self.is_told(moment, told) {
-            return Ok(());
+/// The moment is this one from here on, and an `at` says so, unless one has said so in this event.
+fn come_to(engine: &mut Engine, moment: Moment, told: bool) -> Result<(), Memory>
+    requires later { engine.old.moment ≤ moment.0 }
+    requires early { moment.0 < 2 ^ 62 }
+    ensures { (s : Setup) (run : Run) → IsAt engine.old s run → OnOk result (IsAt engine.new s (comes_to s moment.0 (record { run = run; told = told })).run) }
+{
+    if is_told(engine, moment, told) {
+        return Ok(());
+    }
+    engine.pass_to(moment)
+}
+
+/// A node with work due by now does it.
+fn tick_one(alloc: Global, engine: &mut Engine, node: NodeId) -> Result<(), Memory>
+    ensures { (s : Setup) (run : Run) → IsAt engine.old s run → OnOk result (IsAt engine.new s (ticks_one s node.0 run)) }
+{
+    if is_due(engine.due(node), engine.moment()) {
+        return engine.act(alloc, node, Call::Tick);
+    }
+    Ok(())
+}
+
+/// So do the first so many nodes, in order of declaration.
+#[tactic(auto, unfolding(mip_history::specs::Waiting::ticked))]
+fn tick_first(alloc: Global, engine: &mut Engine, count: u8) -> Result<(), Memory>
+    ensures { (s : Setup) (run : Run) → IsAt engine.old s run → OnOk result (IsAt engine.new s (ticked s count run)) }
+{
+    for node in 0..count {
+        tick_one(alloc, engine, NodeId(node))?;
+    }
+    Ok(())
+}
+
+/// The earliest moment at which a node has work due.
+fn first_due(engine: &Engine) -> Option<Moment>
+    ensures { option_map (λ m. m.0) result ≡ earliest (λ n. option_map_or (λ c. role_due c.role) (slice_get engine.now.nodes n) None) (length engine.now.nodes) }
+{
+    let mut first = None;
+    for node in 0..engine.count() {
+        first = sooner(first, engine.due(NodeId(node)));
+    }
+    first
+}
+
+/// What is due is done at its moment, or now if that has passed.
+fn work(alloc: Global, engine: &mut Engine, due: Moment, told: bool) -> Result<(), Memory>
+    requires { due.0 < 2 ^ 62 }
+    ensures { (s : Setup) (run : Run) → IsAt engine.old s run → OnOk result (IsAt engine.new s (works s due.0 (record { run = run; told = told })).run) }
+{
+    let moment = later(engine.moment(), due);
+    come_to(engine, moment, told)?;
+    let count = engine.count();
+    tick_first(alloc, engine, count)
+}
+
+/// Work is done, if it is due by the target. Says whether it was.
+fn work_by(
+    alloc: Global,
+    engine: &mut Engine,
+    target: Moment,
+    due: Moment,
+    told: bool,
+) -> Result<bool, Memory>
+    requires { target.0 < 2 ^ 62 }
+    ensures more { IfOk result (λ more. more ≡ is_due (Some due.0) target.0) }
+    ensures after { (s : Setup) (run : Run) → IsAt engine.old s run → OnOk result (IsAt engine.new s (works_on (λ w. w) s target.0 (Some due.0) (record { run = run; told = told })).run) }
+{
+    if target.0 < due.0 {
+        return Ok(false);
+    }
+    work(alloc, engine, due, told)?;
+    Ok(true)
+}
+
+/// The earliest work is done, if it is due by the target. Says whether there was any.
+fn work_next(alloc: Global, engine: &mut Engine, target: Moment, told: bool) -> Result<bool, Memory>
+    requires { target.0 < 2 ^ 62 }
+    ensures more { (s : Setup) (run : Run) → IsAt engine.old s run → IfOk result (λ more. more ≡ is_due (earliest (due_of s run) (length s.hosts)) target.0) }
+    ensures after { (s : Setup) (run : Run) → IsAt engine.old s run → OnOk result (IsAt engine.new s (works_on (λ w. w) s target.0 (earliest (due_of s run) (length s.hosts)) (record { run = run; told = told })).run) }
+{
+    match first_due(engine) {
+        Some(due) => work_by(alloc, engine, target, due, told),
+        None => Ok(false),
+    }
+}
+
+/// As long as work is due by the target, the earliest is done next, at so many moments at most. Says whether an `at` stands
+/// in this event.
+fn work_until(
+    alloc: Global,
+    engine: &mut Engine,
+    target: Moment,
+    rounds: u64,
+) -> Result<bool, Memory>
+    requires { target.0 < 2 ^ 62 }
+    ensures told { (s : Setup) (run : Run) → IsAt engine.old s run → IfOk result (λ told. told ≡ (works_until s target.0 rounds (record { run = run; told = false })).told) }
+    ensures after { (s : Setup) (run : Run) → IsAt engine.old s run → OnOk result (IsAt engine.new s (works_until s target.0 rounds (record { run = run; told = false })).run) }
+{
+    let mut told = false;
+    for _round in 0..rounds {
+        let more = work_next(alloc, engine, target, told)?;
+        if !more {
+            return Ok(told);
         }
-        self.pass_to(moment)
+        told = true;
     }
+    Ok(told)
+}
 
-    /// A node with work due by now does it.
-    fn tick_one(&mut self, alloc: Global, node: NodeId) -> Result<(), Memory>
-        ensures { (s : Setup) (run : Run) → IsAt self.old s run → OnOk result (IsAt self.new s (ticks_one s node.0 run)) }
-    {
-        if is_due(self.due(node), self.moment()) {
-            return self.act(alloc, node, Call::Tick);
-        }
-        Ok(())
-    }
-
-    /// So do the first so many nodes, in order of declaration.
-    #[tactic(auto, unfolding(mip_history::specs::Waiting::ticked))]
-    fn tick_first(&mut self, alloc: Global, count: u8) -> Result<(), Memory>
-        ensures { (s : Setup) (run : Run) → IsAt self.old s run → OnOk result (IsAt self.new s (ticked s count run)) }
-    {
-        for node in 0..count {
-            self.tick_one(alloc, NodeId(node))?;
-        }
-        Ok(())
-    }
-
-    /// The earliest moment at which a node has work due.
-    fn first_due(&self) -> Option<Moment>
-        ensures { option_map (λ m. m.0) result ≡ earliest (λ n. option_map_or (λ c. role_due c.role) (slice_get self.now.nodes n) None) (length self.now.nodes) }
-    {
-        let mut first = None;
-        for node in 0..self.count() {
-            first = sooner(first, self.due(NodeId(node)));
-        }
-        first
-    }
-
-    /// What is due is done at its moment, or now if that has passed.
-    fn work(&mut self, alloc: Global, due: Moment, told: bool) -> Result<(), Memory>
-        requires { due.0 < 2 ^ 62 }
-        ensures { (s : Setup) (run : Run) → IsAt self.old s run → OnOk result (IsAt self.new s (works s due.0 (record { run = run; told = told })).run) }
-    {
-        let moment = later(self.moment(), due);
-        self.come_to(moment, told)?;
-        let count = self.count();
-        self.tick_first(alloc, count)
-    }
-
-    /// Work is done, if it is due by the target. Says whether it was.
-    fn work_by(
-        &mut self,
-        alloc: Global,
-        target: Moment,
-        due: Moment,
-        told: bool,
-    ) -> Result<bool, Memory>
-        requires { target.0 < 2 ^ 62 }
-        ensures more { IfOk result (λ more. more ≡ is_due (Some due.0) target.0) }
-        ensures after { (s : Setup) (run : Run) → IsAt self.old s run → OnOk result (IsAt self.new s (works_on (λ w. w) s target.0 (Some due.0) (record { run = run; told = told })).run) }
-    {
-        if target.0 < due.0 {
-            return Ok(false);
-        }
-        self.work(alloc, due, told)?;
-        Ok(true)
-    }
-
-    /// The earliest work is done, if it is due by the target. Says whether there was any.
-    fn work_next(&mut self, alloc: Global, target: Moment, told: bool) -> Result<bool, Memory>
-        requires { target.0 < 2 ^ 62 }
-        ensures more { (s : Setup) (run : Run) → IsAt self.old s run → IfOk result (λ more. more ≡ is_due (earliest (due_of s run) (length s.hosts)) target.0) }
-        ensures after { (s : Setup) (run : Run) → IsAt self.old s run → OnOk result (IsAt self.new s (works_on (λ w. w) s target.0 (earliest (due_of s run) (length s.hosts)) (record { run = run; told = told })).run) }
-    {
-        match self.first_due() {
-            Some(due) => self.work_by(alloc, target, due, told),
-            None => Ok(false),
-        }
-    }
-
-    /// As long as work is due by the target, the earliest is done next, at so many moments at most. Says whether an `at` stands
-    /// in this event.
-    fn work_until(&mut self, alloc: Global, target: Moment, rounds: u64) -> Result<bool, Memory>
-        requires { target.0 < 2 ^ 62 }
-        ensures told { (s : Setup) (run : Run) → IsAt self.old s run → IfOk result (λ told. told ≡ (works_until s target.0 rounds (record { run = run; told = false })).told) }
-        ensures after { (s : Setup) (run : Run) → IsAt self.old s run → OnOk result (IsAt self.new s (works_until s target.0 rounds (record { run = run; told = false })).run) }
-    {
-        let mut told = false;
-        for _round in 0..rounds {
-            let more = self.work_next(alloc, target, told)?;
-            if !more {
-                return Ok(told);
-            }
-            told = true;
-        }
-        Ok(told)
-    }
-
-    /// So many milliseconds pass.
-    pub(crate) fn wait(&mut self, alloc: Global, ms: u32) -> Result<(), Memory>
-        requires early { self.old.moment + ms < 2 ^ 62 }
-        requires of_run { IsOfRun self.old }
-        ensures { (s : Setup) (run : Run) → IsAt self.old s run → OnOk result (IsAt self.new s (waited s run ms)) }
-    {
-        work_stays_within_its_wait();
-        let target = Moment(self.moment().0 + u64::from(ms));
-        let told = self.work_until(alloc, target, u64::from(ms) + 1)?;
-        self.come_to(target, told)
-    }
+/// So many milliseconds pass.
+pub(crate) fn wait(alloc: Global, engine: &mut Engine, ms: u32) -> Result<(), Memory>
+    requires early { engine.old.moment + ms < 2 ^ 62 }
+    requires of_run { IsOfRun engine.old }
+    ensures { (s : Setup) (run : Run) → IsAt engine.old s run → OnOk result (IsAt engine.new s (waited s run ms)) }
+{
+    work_stays_within_its_wait();
+    let target = Moment(engine.moment().0 + u64::from(ms));
+    let told = work_until(alloc, engine, target, u64::from(ms) + 1)?;
+    come_to(engine, target, told)
 }

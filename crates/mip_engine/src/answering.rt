@@ -1,0 +1,76 @@
+//! What a node answers, packet by packet and entry by entry.
+
+ghost use Rattle.std.specs.Prelude.{◌≡◌, ℕ, ◌<◌, true, OnOk};
+ghost use Rattle.std.specs.List.{AllByRecursion};
+ghost use Rattle.mip_history.specs.Setup.{Setup};
+ghost use Rattle.mip_history.specs.Runs.{Run};
+ghost use Rattle.mip_history.specs.Nodes.{answered, answered_one, left_by};
+ghost use Rattle.mip_nodes.specs.Roles.{IsWhole};
+ghost use Rattle.mip_engine.specs.Groups.{is_plain};
+ghost use Rattle.mip_engine.specs.Standing.{IsAt};
+
+use crate::engine::Engine;
+use mip_entries::{Answer, Answers, Entry};
+use mip_words::{LinkId, Memory, NodeId};
+use std::alloc::Global;
+
+impl Engine {
+    /// An entry of a node is left with the node's number.
+    fn note_named(&mut self, node: NodeId, entry: Entry) -> Result<(), Memory>
+        requires { is_plain entry ≡ true }
+        ensures { (s : Setup) (run : Run) → IsAt self.old s run → OnOk result (IsAt self.new s (left_by s node.0 run entry)) }
+    {
+        let next = self.next();
+        self.note_marked(entry.named(node, LinkId(0), next))
+    }
+
+    /// An entry of a node is left. Who holds an address is decided as it is claimed, and a restart was noted as it happened.
+    fn note_left(&mut self, node: NodeId, entry: Entry) -> Result<(), Memory>
+        requires { node.0 < 40 }
+        ensures { (s : Setup) (run : Run) → IsAt self.old s run → OnOk result (IsAt self.new s (left_by s node.0 run entry)) }
+    {
+        match entry {
+            Entry::Claimed { address, .. } => self.claim(node.0, address),
+            Entry::Taken { address, .. } => self.claim(node.0, address),
+            Entry::Released { address, .. } => self.give_up(node.0, address),
+            Entry::Restarted { .. } => Ok(()),
+            entry => self.note_named(node, entry),
+        }
+    }
+
+    fn answer_one(
+        &mut self,
+        alloc: Global,
+        node: NodeId,
+        from: LinkId,
+        answer: Answer,
+    ) -> Result<(), Memory>
+        requires whole { IsWhole answer }
+        requires node { node.0 < 40 }
+        ensures { (s : Setup) (run : Run) → IsAt self.old s run → OnOk result (IsAt self.new s (answered_one s node.0 from.0 run answer)) }
+    {
+        match answer {
+            Answer::Send { shield, packet } => self.send(alloc, node, from, shield, packet),
+            Answer::Note(entry) => self.note_left(node, entry),
+        }
+    }
+
+    /// What a node does is done, in order.
+    #[tactic(auto, unfolding(mip_history::specs::Nodes::answered))]
+    pub(crate) fn answer(
+        &mut self,
+        alloc: Global,
+        node: NodeId,
+        from: LinkId,
+        answers: Answers,
+    ) -> Result<(), Memory>
+        requires whole { AllByRecursion IsWhole answers }
+        requires node { node.0 < 40 }
+        ensures { (s : Setup) (run : Run) → IsAt self.old s run → OnOk result (IsAt self.new s (answered s node.0 from.0 run answers)) }
+    {
+        for answer in answers.into_vec() {
+            self.answer_one(alloc, node, from, answer)?;
+        }
+        Ok(())
+    }
+}

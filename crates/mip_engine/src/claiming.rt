@@ -1,0 +1,98 @@
+//! Addresses are claimed and given up, by nodes and by outsiders.
+
+ghost use Rattle.std.specs.Prelude.{◌≡◌, ◌<◌, IfSome, None, Some, OnOk, option_map};
+ghost use Rattle.mip_entries.specs.declared.entry.Entry.TheVariants.{Claimed};
+ghost use Rattle.mip_links.specs.Nets.{refusal};
+ghost use Rattle.mip_links.specs.Table.{link_of};
+ghost use Rattle.mip_history.specs.Setup.{Setup};
+ghost use Rattle.mip_history.specs.Runs.{Run, note};
+ghost use Rattle.mip_history.specs.Questions.{holder_in};
+ghost use Rattle.mip_history.specs.Claims.{claim_entry, claims};
+ghost use Rattle.mip_history.specs.Homes.{given_up_on, gives_up, passes_to};
+ghost use Rattle.mip_engine.specs.Engines.{IsFree, resident_of};
+ghost use Rattle.mip_engine.specs.Standing.{IsAt};
+
+use crate::engine::Engine;
+use mip_entries::Entry;
+use mip_words::{Address, LinkId, Memory, NodeId};
+
+impl Engine {
+    fn claim_on(&mut self, who: u8, link: LinkId, address: Address) -> Result<(), Memory>
+        requires who { who < 40 }
+        requires link { link_of self.old.net.links address.0 ≡ Some link.0 }
+        ensures { (s : Setup) (run : Run) → IsAt self.old s run → link_of self.old.net.links address.0 ≡ Some link.0 → OnOk result (IsAt self.new s (note (claim_entry who address link.0 (holder_in run.past address.0)) run)) }
+    {
+        let entry = self.take_claim(who, link, address)?;
+        self.note(entry)
+    }
+
+    /// Somebody claims an address, and has it unless somebody else does.
+    pub(crate) fn claim(&mut self, who: u8, address: Address) -> Result<(), Memory>
+        requires { who < 40 }
+        ensures { (s : Setup) (run : Run) → IsAt self.old s run → OnOk result (IsAt self.new s (claims s who address run)) }
+    {
+        match self.link_of(address) {
+            Some(link) => self.claim_on(who, link, address),
+            None => self.note(Entry::Idle),
+        }
+    }
+
+    /// The mobile at home whose home address this is.
+    #[tactic(auto, using(crate::proofs::PassingLaws::none_yet, crate::proofs::PassingLaws::first_here))]
+    fn resident(&self, address: Address) -> Option<NodeId>
+        ensures is { option_map (λ n. n.0) result ≡ resident_of self.now.nodes address.0 }
+        ensures small { IfSome result (λ n. n.0 < 32) }
+    {
+        for number in 0..self.count() {
+            if self.lives_at(NodeId(number), address) {
+                return Some(NodeId(number));
+            }
+        }
+        None
+    }
+
+    /// Somebody has an address that nobody had.
+    pub(crate) fn hold(&mut self, who: u8, link: LinkId, address: Address) -> Result<(), Memory>
+        requires who { who < 40 }
+        requires free { refusal self.old.net who address.0 ≡ None }
+        ensures { (s : Setup) (run : Run) → IsAt self.old s run → OnOk result (IsAt self.new s (note (Claimed who link address) run)) }
+    {
+        self.take_free(who, address)?;
+        self.note(Entry::Claimed { who, link, address })
+    }
+
+    /// A home address that was given up is its mobile's from here on, where that is at home.
+    fn pass_on(&mut self, who: u8, link: LinkId, address: Address) -> Result<(), Memory>
+        requires free { IsFree self.old.net address.0 }
+        ensures { (s : Setup) (run : Run) → IsAt self.old s run → OnOk result (IsAt self.new s (passes_to who address link.0 run (resident_of self.old.nodes address.0))) }
+    {
+        let Some(node) = self.resident(address) else {
+            return Ok(());
+        };
+        if node.0 == who {
+            return Ok(());
+        }
+        self.hold(node.0, link, address)
+    }
+
+    fn give_up_on(&mut self, who: u8, link: LinkId, address: Address) -> Result<(), Memory>
+        requires { link_of self.old.net.links address.0 ≡ Some link.0 }
+        ensures { (s : Setup) (run : Run) → IsAt self.old s run → OnOk result (IsAt self.new s (given_up_on s who address run (Some link.0))) }
+    {
+        if self.release(who, address) {
+            self.note(Entry::Released { who, link, address })?;
+            return self.pass_on(who, link, address);
+        }
+        self.note(Entry::Idle)
+    }
+
+    /// Somebody gives an address up, if it holds it. A home address passes to its mobile, where that is at home.
+    pub fn give_up(&mut self, who: u8, address: Address) -> Result<(), Memory>
+        ensures { (s : Setup) (run : Run) → IsAt self.old s run → OnOk result (IsAt self.new s (gives_up s who address run)) }
+    {
+        match self.link_of(address) {
+            Some(link) => self.give_up_on(who, link, address),
+            None => self.note(Entry::Idle),
+        }
+    }
+}

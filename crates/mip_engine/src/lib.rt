@@ -1,0 +1,17 @@
+//! A run as it goes on: its engine, and what a call of one node or outsider does to it.
+#![tactic(auto)]
+
+mod acting;
+mod answering;
+mod arrival;
+mod claiming;
+mod claims;
+mod engine;
+pub mod header;
+mod hosts;
+mod outsiders;
+mod posting;
+mod setup;
+
+pub use arrival::Arrival;
+pub use engine::Engine;

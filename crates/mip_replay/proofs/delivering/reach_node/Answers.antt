@@ -1,0 +1,29 @@
+use Rattle.std.proofs.Common.{◌≡◌, ℕ, List, ap, ◌∙◌}
+use Rattle.std.specs.Prelude.{Option, option_map, slice_get}
+use Rattle.mip_words.specs.declared.ids.LinkId.{LinkId}
+use Rattle.mip_words.specs.declared.shield.Shield.{Shield}
+use Rattle.mip_entries.specs.Completed.{node_id}
+use Rattle.mip_entries.specs.declared.entry.Entry.TheVariants.{Handed}
+use Rattle.mip_links.specs.Table.{Post}
+use Rattle.mip_history.specs.Calls.{Take}
+use Rattle.mip_history.specs.Runs.{note}
+use Rattle.mip_history.specs.Nodes.{acts}
+use Rattle.mip_history.specs.Delivery.{handed, handed_over, overheard_at}
+use Rattle.mip_engine.proofs.QuietLaws.{at_is, at_note, at_ok_run}
+use Rattle.mip_engine.proofs.PostingLaws.{quiet_handed}
+use Rattle.mip_replay.proofs.delivering.reach_node.Goals as goal
+
+pub returns : goal.returns
+unfolding handed
+returns c = λ s run post at there same.
+    let k = c.args.number in
+    let n = c.args.by in
+    let link = option_map (λ (l : LinkId). l.0) c.args.arrival.link in
+    let heard = overheard_at s post k link run in
+    let here = note (Handed k (node_id n)) heard in
+    let packet : c.as_slice.result.now ≡ handed_over post.packet link =
+    c.as_slice.ensures ∙ c.in_ok-packet.ensures post (ap (λ (ps : List Post). slice_get ps k) at.posts ∙ there) in
+    let after = λ (shield : Option Shield) (bytes : List ℕ). acts s n (Take k shield bytes) here in
+    at_ok_run c.act.result c.act.new.self s (after c.args.arrival.shield c.as_slice.result.now) (after post.shield (handed_over post.packet link))
+    (c.act.ensures s here (at_is c.in_ok-note.ensures (at_note c.overhear_at.new.engine s heard (Handed k (node_id n)) (quiet_handed k (node_id n)) (c.in_ok-overhear_at.ensures s run post at same))))
+    (ap (λ (shield : Option Shield). after shield c.as_slice.result.now) same ∙ ap (after post.shield) packet)

@@ -1,8 +1,0 @@
-use Rattle.mip_history.specs.Setup.{Setup}
-use Rattle.mip_history.specs.Runs.{Run}
-use Rattle.mip_history.specs.Delivery.{carried}
-use Rattle.mip_replay.specs.Standing.{IsAt}
-use Rattle.mip_replay.proofs.engine.Engine.carry.Given as goal
-
-abbrev pub invariant-loop-turn : goal.invariant-loop-turn
-invariant-loop-turn l = (s : Setup) (run : Run) → IsAt l.fn.self s run → IsAt l.self s (carried s run l._turn)

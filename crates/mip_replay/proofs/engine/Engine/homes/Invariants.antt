@@ -1,7 +1,0 @@
-use Rattle.std.specs.Prelude.{◌≡◌, take, Some, slice_get}
-use Rattle.mip_nodes.specs.Nodes.{NodeSeen}
-use Rattle.mip_nodes.specs.Roles.{homes_of}
-use Rattle.mip_replay.proofs.engine.Engine.homes.Given as goal
-
-abbrev pub invariant-loop-place : goal.invariant-loop-place
-invariant-loop-place l = (c : NodeSeen) → slice_get l.self.nodes l.node.0 ≡ Some c → l.homes.items ≡ take l.place (homes_of c.role l.self.moment)

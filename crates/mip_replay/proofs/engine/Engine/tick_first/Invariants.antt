@@ -1,8 +1,0 @@
-use Rattle.mip_history.specs.Setup.{Setup}
-use Rattle.mip_history.specs.Runs.{Run}
-use Rattle.mip_history.specs.Waiting.{ticked}
-use Rattle.mip_replay.specs.Standing.{IsAt}
-use Rattle.mip_replay.proofs.engine.Engine.tick_first.Given as goal
-
-abbrev pub invariant-loop-node : goal.invariant-loop-node
-invariant-loop-node l = (s : Setup) (run : Run) → IsAt l.fn.self s run → IsAt l.self s (ticked s l.node run)
