@@ -52,6 +52,13 @@ impl Chronicle {
         })
     }
 
+    /// Makes room for this many entries more.
+    pub fn reserve(&mut self, more: usize) -> Result<(), Memory>
+        ensures { self.new ≡ self.old }
+    {
+        self.history.reserve(more)
+    }
+
     /// An entry is left.
     pub fn push(&mut self, entry: Entry) -> Result<(), Memory>
         ensures { OnOk result (self.new ≡ self.old ++ entry ∷ []) }

@@ -38,6 +38,14 @@ impl History {
         })
     }
 
+    /// Makes room for this many entries more.
+    pub fn reserve(&mut self, more: usize) -> Result<(), Memory>
+        ensures { self.new ≡ self.old }
+    {
+        self.list.reserve(more)?;
+        Ok(())
+    }
+
     /// Appends an entry.
     pub fn push(&mut self, entry: Entry) -> Result<(), Memory>
         ensures ok { OnOk result (self.new ≡ self.old ++ entry ∷ []) }

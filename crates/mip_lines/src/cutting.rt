@@ -89,20 +89,23 @@ pub fn fields_up_to(alloc: Global, most: usize, line: &[u8]) -> Result<Option<Ve
 }
 
 /// The fields of a line that has at most eleven; none where it has more. No memory is taken for them.
-#[tactic(auto, using(crate::proofs::Parts::some_field))]
 pub fn few_fields(line: &[u8]) -> Option<FewFields<'_>>
     ensures { MatchOption result (11 < length (fields_of line.now)) (λ v. texts v.items ≡ fields_of line.now) }
 {
     let mut fields = FewFields::new();
-    let mut rest = line;
-    while let Some((field, more)) = cut_at(b' ', rest) {
-        match fields.try_push(field) {
-            Ok(()) => rest = more,
-            Err(_) => return None,
+    let mut start = 0;
+    for place in 0..line.len() {
+        if line[place] == b' ' {
+            if fields.is_full() {
+                return None;
+            }
+            fields.push(&line[start..place]);
+            start = place + 1;
         }
     }
-    match fields.try_push(rest) {
-        Ok(()) => Some(fields),
-        Err(_) => None,
+    if fields.is_full() {
+        return None;
     }
+    fields.push(&line[start..]);
+    Some(fields)
 }

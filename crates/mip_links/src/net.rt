@@ -104,6 +104,15 @@ impl Net {
         }
     }
 
+    /// Makes room for this many packets more.
+    pub fn reserve_posts(&mut self, more: usize) -> Result<(), Memory>
+        ensures { self.new ≡ self.old }
+    {
+        self.flying.reserve(more)?;
+        self.posts.reserve(more)?;
+        Ok(())
+    }
+
     /// Puts a packet into the pool, and gives its number: packets are counted from 0.
     pub fn post(
         &mut self,

@@ -1,9 +1,10 @@
-use Rattle.std.proofs.Common.{◌≡◌, ◌++◌, length}
+use Rattle.std.proofs.Common.{◌≡◌, ◌-◌, ◌≤◌, ◌++◌, take, drop}
 use Rattle.mip_lines.specs.Cutting.{parts, texts}
+use Rattle.mip_lines.proofs.Parts.{glued}
 use Rattle.mip_lines.proofs.cutting.few_fields.Given as goal
 
-abbrev pub invariant-loop-field : goal.invariant-loop-field
-invariant-loop-field l = texts l.fields.items ++ parts 32 l.rest ≡ parts 32 l.line
-
-abbrev pub decreases-loop-field : goal.decreases-loop-field
-decreases-loop-field l = length l.rest
+abbrev pub invariant-loop-place : goal.invariant-loop-place
+invariant-loop-place l = record {
+  cut : texts l.fields.items ++ glued (take (l.place - l.start) (drop l.start l.line)) (parts 32 (drop l.place l.line)) ≡ parts 32 l.line;
+  before : l.start ≤ l.place;
+}
