@@ -34,7 +34,7 @@ HasPlaceWidths (entries.Released a b c) = IsAddress c
 HasPlaceWidths (entries.Taken a b c d) = IsAddress c
 HasPlaceWidths _ = Unit {0}
 
--- what becomes of packets
+-- what becomes of packets, and of the data in them
 abbrev pub HasPacketWidths : Entry → Type 0
 HasPacketWidths (entries.Sent a b c d) = IsNumber 64 a × IsBytes d
 HasPacketWidths (entries.Injected a b c d) = IsNumber 64 a × IsBytes d
@@ -43,6 +43,7 @@ HasPacketWidths (entries.Handed a b) = IsNumber 64 a
 HasPacketWidths (entries.Gone a b) = IsNumber 64 a
 HasPacketWidths (entries.Lost a) = IsNumber 64 a
 HasPacketWidths (entries.Dropped a b c) = IsNumber 64 b
+HasPacketWidths (entries.Up a b c d e f) = IsNumber 64 b × IsAddress c × IsAddress d × IsNumber 8 e × IsBytes f
 HasPacketWidths _ = Unit {0}
 
 -- what a mobile knows and does
@@ -57,15 +58,18 @@ HasMobileWidths (entries.Bound a b c) = IsAddress b × IsMoment c
 HasMobileWidths (entries.Unbound a b) = IsAddress b
 HasMobileWidths _ = Unit {0}
 
--- bindings, and what becomes of updates and of data
-abbrev pub HasBindingWidths : Entry → Type 0
-HasBindingWidths (entries.Home a b c d e) = IsAddress b × IsAddress c × IsNumber 16 d × IsMoment e
-HasBindingWidths (entries.Accepted a b c d e f g h i) = IsNumber 64 b × IsAddress c × IsNumber 8 d × IsAddress e × IsNumber 16 f × IsMoment g × IsNumber 16 h × IfPresent (IsNumber 16) i
-HasBindingWidths (entries.Origin a b c) = IsNumber 64 a × IfPresent (IsNumber 64) b × IsNumber 64 c
-HasBindingWidths (entries.Denied a b c) = IsNumber 64 b × IsNumber 8 c
-HasBindingWidths (entries.Up a b c d e f) = IsNumber 64 b × IsAddress c × IsAddress d × IsNumber 8 e × IsBytes f
-HasBindingWidths (entries.Row a b c d e f g) = IsAddress b × IsNumber 8 c × IsAddress d × IsNumber 16 e × IsMoment f × IsMoment g
-HasBindingWidths _ = Unit {0}
+-- registrations of homes, and rows of caches
+abbrev pub HasRowWidths : Entry → Type 0
+HasRowWidths (entries.Home a b c d e) = IsAddress b × IsAddress c × IsNumber 16 d × IsMoment e
+HasRowWidths (entries.Row a b c d e f g) = IsAddress b × IsNumber 8 c × IsAddress d × IsNumber 16 e × IsMoment f × IsMoment g
+HasRowWidths _ = Unit {0}
+
+-- what becomes of updates
+abbrev pub HasUpdateWidths : Entry → Type 0
+HasUpdateWidths (entries.Accepted a b c d e f g h i) = IsNumber 64 b × IsAddress c × IsNumber 8 d × IsAddress e × IsNumber 16 f × IsMoment g × IsNumber 16 h × IfPresent (IsNumber 16) i
+HasUpdateWidths (entries.Origin a b c) = IsNumber 64 a × IfPresent (IsNumber 64) b × IsNumber 64 c
+HasUpdateWidths (entries.Denied a b c) = IsNumber 64 b × IsNumber 8 c
+HasUpdateWidths _ = Unit {0}
 
 -- each number of an entry fits its bits, and what it has of bytes is of bytes; this says nothing of its places among nodes, links
 -- and outsiders
@@ -73,4 +77,5 @@ pub record HasWidths (e : Entry) : Type 0 where
   pub place : HasPlaceWidths e
   pub packet : HasPacketWidths e
   pub mobile : HasMobileWidths e
-  pub binding : HasBindingWidths e
+  pub row : HasRowWidths e
+  pub update : HasUpdateWidths e

@@ -1,7 +1,7 @@
 //! What the types of its fields say of an entry. The functions do nothing: what they ensure is the law.
 
 ghost use Rattle.mip_words.specs.Numbers.{IsBytes};
-ghost use Rattle.mip_entries.specs.Widths.{IsNumber, IsAddress, IsMoment, IsToken, IfPresent, HasWidths, HasPlaceWidths, HasPacketWidths, HasMobileWidths, HasBindingWidths};
+ghost use Rattle.mip_entries.specs.Widths.{IsNumber, IsAddress, IsMoment, IsToken, IfPresent, HasWidths, HasPlaceWidths, HasPacketWidths, HasMobileWidths, HasRowWidths, HasUpdateWidths};
 
 use crate::entry::Entry;
 use mip_words::{Address, Bytes, Moment, Token};
@@ -18,21 +18,29 @@ fn bytes_are_bytes(bytes: &Bytes)
     slice_is_of_bytes(bytes.as_slice());
 }
 
-fn byte_fits(_x: u8)
-    ensures { IsNumber 8 _x }
-{}
+fn byte_fits(x: u8)
+    ensures { IsNumber 8 x }
+{
+    let _ = x;
+}
 
-fn short_fits(_x: u16)
-    ensures { IsNumber 16 _x }
-{}
+fn short_fits(x: u16)
+    ensures { IsNumber 16 x }
+{
+    let _ = x;
+}
 
-fn seconds_fit(_x: u32)
-    ensures { IsNumber 32 _x }
-{}
+fn seconds_fit(x: u32)
+    ensures { IsNumber 32 x }
+{
+    let _ = x;
+}
 
-fn number_fits(_x: u64)
-    ensures { IsNumber 64 _x }
-{}
+fn number_fits(x: u64)
+    ensures { IsNumber 64 x }
+{
+    let _ = x;
+}
 
 fn some_short_fits(x: Option<u16>)
     ensures { IfPresent (IsNumber 16) x }
@@ -99,7 +107,7 @@ fn place_widths(entry: &Entry)
     }
 }
 
-/// What becomes of packets.
+/// What becomes of packets, and of the data in them.
 fn packet_widths(entry: &Entry)
     ensures { HasPacketWidths entry.now }
 {
@@ -113,6 +121,20 @@ fn packet_widths(entry: &Entry)
         | Entry::Gone { number, .. }
         | Entry::Lost { number }
         | Entry::Dropped { number, .. } => number_fits(*number),
+        Entry::Up {
+            number,
+            source,
+            destination,
+            proto,
+            payload,
+            ..
+        } => {
+            number_fits(*number);
+            address_fits(*source);
+            address_fits(*destination);
+            byte_fits(*proto);
+            bytes_are_bytes(payload);
+        }
         _ => {}
     }
 }
@@ -157,9 +179,9 @@ fn mobile_widths(entry: &Entry)
     }
 }
 
-/// Bindings, and what becomes of updates and of data.
-fn binding_widths(entry: &Entry)
-    ensures { HasBindingWidths entry.now }
+/// Registrations of homes, and rows of caches.
+fn row_widths(entry: &Entry)
+    ensures { HasRowWidths entry.now }
 {
     match entry {
         Entry::Home {
@@ -174,6 +196,31 @@ fn binding_widths(entry: &Entry)
             short_fits(*sequence);
             moment_fits(*end);
         }
+        Entry::Row {
+            home,
+            binding,
+            careof,
+            sequence,
+            end,
+            kept_until,
+            ..
+        } => {
+            address_fits(*home);
+            byte_fits(*binding);
+            address_fits(*careof);
+            short_fits(*sequence);
+            moment_fits(*end);
+            moment_fits(*kept_until);
+        }
+        _ => {}
+    }
+}
+
+/// What becomes of updates.
+fn update_widths(entry: &Entry)
+    ensures { HasUpdateWidths entry.now }
+{
+    match entry {
         Entry::Accepted {
             number,
             home,
@@ -203,36 +250,6 @@ fn binding_widths(entry: &Entry)
             number_fits(*number);
             byte_fits(*status);
         }
-        Entry::Up {
-            number,
-            source,
-            destination,
-            proto,
-            payload,
-            ..
-        } => {
-            number_fits(*number);
-            address_fits(*source);
-            address_fits(*destination);
-            byte_fits(*proto);
-            bytes_are_bytes(payload);
-        }
-        Entry::Row {
-            home,
-            binding,
-            careof,
-            sequence,
-            end,
-            kept_until,
-            ..
-        } => {
-            address_fits(*home);
-            byte_fits(*binding);
-            address_fits(*careof);
-            short_fits(*sequence);
-            moment_fits(*end);
-            moment_fits(*kept_until);
-        }
         _ => {}
     }
 }
@@ -244,5 +261,6 @@ pub fn widths(entry: &Entry)
     place_widths(entry);
     packet_widths(entry);
     mobile_widths(entry);
-    binding_widths(entry);
+    row_widths(entry);
+    update_widths(entry);
 }

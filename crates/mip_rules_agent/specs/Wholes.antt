@@ -1,5 +1,5 @@
 -- What a home agent gives out is whole: a packet has its fixed header (RFC 8200 section 3), and an entry is of one of
--- the kinds that a home agent leaves.
+-- the kinds that a home agent leaves, with a reason of its kind.
 use Rattle.std.specs.Prelude.{◌≡◌, ◌≤◌, length, Bool, true, false}
 use Rattle.mip_entries.specs.declared.answer.Answer.{Answer}
 use Rattle.mip_entries.specs.declared.answer.Answer.TheVariants.{Send, Note}

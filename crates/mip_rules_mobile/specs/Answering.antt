@@ -39,7 +39,7 @@ abbrev pub SendsPlainData : Call → Type 0
 SendsPlainData (calls.Send to proto payload) = (names_no_body proto ≡ false) × (proto ≡ 135 → ⊥) × (proto ≡ 41 → ⊥)
 SendsPlainData _ = Unit {0}
 
--- the entries that a mobile leaves beside those of its correspondent part
+-- the entries that a mobile leaves beside those of its correspondent part, with a reason of their kind
 abbrev pub is_mobiles : Entry → Bool
 is_mobiles (entries.Claimed who link address) = true
 is_mobiles (entries.Released who link address) = true
@@ -57,7 +57,7 @@ is_mobiles (entries.Unsent node why) = is_unsent_why why
 is_mobiles (entries.Restarted node) = true
 is_mobiles _ = false
 
--- whole: a packet has its fixed header (RFC 8200 section 3), and an entry is of a kind that a mobile leaves
+-- whole: a packet has its fixed header (RFC 8200 section 3), and an entry is of a kind that a mobile leaves, with a reason of its kind
 abbrev pub IsWhole : Known → Answer → Type 0
 IsWhole k (Send shield packet) = 40 ≤ length packet
 IsWhole k (Note entry) = (is_mobiles entry || parts.is_own entry) ≡ true
