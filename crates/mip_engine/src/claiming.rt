@@ -27,7 +27,7 @@ impl Engine {
     }
 
     /// Somebody claims an address, and has it unless somebody else does.
-    pub(crate) fn claim(&mut self, who: u8, address: Address) -> Result<(), Memory>
+    pub fn claim(&mut self, who: u8, address: Address) -> Result<(), Memory>
         requires { who < 40 }
         ensures { (s : Setup) (run : Run) → IsAt self.old s run → OnOk result (IsAt self.new s (claims s who address run)) }
     {

@@ -9,7 +9,6 @@ mod claims;
 mod engine;
 pub mod header;
 mod hosts;
-mod outsiders;
 mod posting;
 mod setup;
 

@@ -12,6 +12,7 @@ use crate::advertising::advertise;
 use crate::binding::Binding;
 use crate::delivering::{carry, deliver, drop_packet};
 use crate::forging::{bind, probe, tell};
+use crate::outsiders::{deafen, listen, squat, yield_up};
 use crate::restarting::restart;
 use crate::waiting::wait;
 use mip_engine::Engine;
@@ -157,10 +158,10 @@ pub(crate) fn happen(alloc: Global, engine: &mut Engine, event: &Event) -> Resul
     ensures { (s : Setup) (run : Run) → IsAt engine.old s run → OnOk result (IsAt engine.new s (happens s run event.now)) }
 {
     match event {
-        Event::Listen { outsider, link } => engine.listen(*outsider, *link),
-        Event::Deaf { outsider, link } => engine.deafen(*outsider, *link),
-        Event::Squat { outsider, address } => engine.squat(*outsider, *address),
-        Event::Yield { outsider, address } => engine.yield_up(*outsider, *address),
+        Event::Listen { outsider, link } => listen(engine, *outsider, *link),
+        Event::Deaf { outsider, link } => deafen(engine, *outsider, *link),
+        Event::Squat { outsider, address } => squat(engine, *outsider, *address),
+        Event::Yield { outsider, address } => yield_up(engine, *outsider, *address),
         Event::Bind { .. } => outsider_binds(alloc, engine, event),
         Event::Inject { .. } | Event::Probe { .. } | Event::Tell { .. } => {
             outsider_posts(alloc, engine, event)

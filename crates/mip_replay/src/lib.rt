@@ -9,6 +9,7 @@ mod delivering;
 mod forging;
 mod happening;
 mod laws;
+mod outsiders;
 mod restarting;
 mod run;
 mod told;

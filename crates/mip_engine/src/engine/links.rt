@@ -153,7 +153,7 @@ impl Engine {
     }
 
     /// An outsider listens on a link from now on. Says whether it did not before.
-    pub(crate) fn begin_listening(&mut self, outsider: u8, link: LinkId) -> Result<bool, Memory>
+    pub fn begin_listening(&mut self, outsider: u8, link: LinkId) -> Result<bool, Memory>
         requires outsider { outsider < 8 }
         requires link { link.0 < length self.old.net.links }
         ensures was { IfOk result (λ new. new ≡ not (hears_of self.old.net.hearing outsider link.0)) }
@@ -163,7 +163,7 @@ impl Engine {
     }
 
     /// An outsider listens on a link no more. Says whether it did before.
-    pub(crate) fn end_listening(&mut self, outsider: u8, link: LinkId) -> bool
+    pub fn end_listening(&mut self, outsider: u8, link: LinkId) -> bool
         requires outsider { outsider < 8 }
         requires link { link.0 < length self.old.net.links }
         ensures was { result ≡ hears_of self.old.net.hearing outsider link.0 }

@@ -8,11 +8,11 @@ use Rattle.mip_engine.specs.Engines.{EngineSeen, with_entry, with_net}
 use Rattle.mip_engine.specs.Standing.{IsAt}
 use Rattle.mip_engine.proofs.QuietLaws.{at_ok}
 use Rattle.mip_engine.proofs.ClaimLaws.{at_deafens}
-use Rattle.mip_engine.proofs.engine.Engine.deafen.Goals as goal
+use Rattle.mip_replay.proofs.outsiders.deafen.Goals as goal
 
 pub returns-then-end_listening : goal.returns-then-end_listening
 returns-then-end_listening c = λ s run at.
-    let e = c.args.self.now in
+    let e = c.args.engine.now in
     let o = c.args.outsider in
     let l = c.args.link.0 in
     let is : (hears_of e.net.hearing o l) ≡ true = sym c.end_listening.ensures.was ∙ c.if-end_listening.true in
@@ -22,7 +22,7 @@ returns-then-end_listening c = λ s run at.
 
 pub returns : goal.returns
 returns c = λ s run at.
-    let e = c.args.self.now in
+    let e = c.args.engine.now in
     let o = c.args.outsider in
     let l = c.args.link.0 in
     let is : (hears_of e.net.hearing o l) ≡ false = sym c.end_listening.ensures.was ∙ c.if-end_listening.false in

@@ -1,0 +1,64 @@
+//! Outsiders listen, and take addresses.
+
+ghost use Rattle.std.specs.Prelude.{◌≡◌, ◌<◌, length, OnOk};
+ghost use Rattle.mip_links.specs.Table.{holder_outside};
+ghost use Rattle.mip_history.specs.Setup.{Setup};
+ghost use Rattle.mip_history.specs.Runs.{Run};
+ghost use Rattle.mip_history.specs.Outsiders.{deafens, listens, squats, yields};
+ghost use Rattle.mip_engine.specs.Standing.{IsAt};
+
+use mip_engine::Engine;
+use mip_entries::Entry;
+use mip_links::FIRST_OUTSIDER;
+use mip_words::{Address, LinkId, Memory};
+
+/// An outsider among those that hold addresses.
+fn holder(outsider: u8) -> u8
+    requires { outsider < 8 }
+    ensures is { result ≡ holder_outside outsider }
+    ensures small { result < 40 }
+{
+    outsider + FIRST_OUTSIDER
+}
+
+/// An outsider listens on a link from now on.
+pub(crate) fn listen(engine: &mut Engine, outsider: u8, link: LinkId) -> Result<(), Memory>
+    requires outsider { outsider < 8 }
+    requires small { link.0 < 32 }
+    requires link { link.0 < length engine.old.net.links }
+    ensures { (s : Setup) (run : Run) → IsAt engine.old s run → OnOk result (IsAt engine.new s (listens run outsider link.0)) }
+{
+    if engine.begin_listening(outsider, link)? {
+        return engine.note(Entry::Listening { outsider, link });
+    }
+    engine.note(Entry::Idle)
+}
+
+/// An outsider listens on a link no more.
+pub(crate) fn deafen(engine: &mut Engine, outsider: u8, link: LinkId) -> Result<(), Memory>
+    requires outsider { outsider < 8 }
+    requires small { link.0 < 32 }
+    requires link { link.0 < length engine.old.net.links }
+    ensures { (s : Setup) (run : Run) → IsAt engine.old s run → OnOk result (IsAt engine.new s (deafens run outsider link.0)) }
+{
+    if engine.end_listening(outsider, link) {
+        return engine.note(Entry::Deafened { outsider, link });
+    }
+    engine.note(Entry::Idle)
+}
+
+/// An outsider takes an address, if nobody else has it.
+pub(crate) fn squat(engine: &mut Engine, outsider: u8, address: Address) -> Result<(), Memory>
+    requires { outsider < 8 }
+    ensures { (s : Setup) (run : Run) → IsAt engine.old s run → OnOk result (IsAt engine.new s (squats s run outsider address)) }
+{
+    engine.claim(holder(outsider), address)
+}
+
+/// An outsider gives an address up, if it has it.
+pub(crate) fn yield_up(engine: &mut Engine, outsider: u8, address: Address) -> Result<(), Memory>
+    requires { outsider < 8 }
+    ensures { (s : Setup) (run : Run) → IsAt engine.old s run → OnOk result (IsAt engine.new s (yields s run outsider address)) }
+{
+    engine.give_up(holder(outsider), address)
+}
