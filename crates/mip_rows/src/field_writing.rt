@@ -68,11 +68,7 @@ fn put_some_token(out: &mut Bytes, token: Option<Token>) -> Result<(), Memory>
     }
 }
 
-fn put_some_link(
-    out: &mut Bytes,
-    names: &NameTable<'_>,
-    link: Option<LinkId>,
-) -> Result<(), Memory>
+fn put_some_link(out: &mut Bytes, names: &NameTable<'_>, link: Option<LinkId>) -> Result<(), Memory>
     ensures { OnOk result (out.new ≡ out.old ++ or_dash (link_name names.now) link) }
 {
     match link {
@@ -84,13 +80,21 @@ fn put_some_link(
 fn put_shield(out: &mut Bytes, shielded: bool) -> Result<(), Memory>
     ensures { OnOk result (out.new ≡ out.old ++ shield_mark shielded) }
 {
-    if shielded { out.extend(b"+") } else { out.extend(b"-") }
+    if shielded {
+        out.extend(b"+")
+    } else {
+        out.extend(b"-")
+    }
 }
 
 fn put_answer(out: &mut Bytes, yes: bool) -> Result<(), Memory>
     ensures { OnOk result (out.new ≡ out.old ++ yes_or_no yes) }
 {
-    if yes { out.extend(b"yes") } else { out.extend(b"no") }
+    if yes {
+        out.extend(b"yes")
+    } else {
+        out.extend(b"no")
+    }
 }
 
 /// Appends the field of a value.

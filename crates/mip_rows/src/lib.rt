@@ -5,7 +5,6 @@ mod fault;
 mod field_kind;
 mod field_reading;
 mod field_writing;
-
 mod name_table;
 mod numbered;
 mod packet_kind;

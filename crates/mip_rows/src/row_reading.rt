@@ -9,8 +9,8 @@ ghost use Rattle.mip_rows.specs.Rows as rows;
 ghost use Rattle.mip_rows.specs.Rows.{GivesRow};
 
 use crate::fault::RowFault;
-use crate::field_reading as fields;
 use crate::field_kind::Kind;
+use crate::field_reading as fields;
 use crate::packet_kind::kind;
 use crate::row::Row;
 use crate::tail::Tail;
