@@ -15,7 +15,7 @@ use Rattle.mip_schedule.specs.declared.reason.Reason.{Reason}
 use Rattle.mip_rows.specs.Fields as fields
 use Rattle.mip_rows.specs.Names.{node_name, link_name, outsider_name, who_name}
 use Rattle.mip_rows.specs.PacketKinds.{kind_of}
-use Rattle.mip_rows.specs.Ranges.{IsNumber, IsMoment, IsAddress, IsToken, AreBytes, IsNode, IsLink, IsOutsider, IsWho, IsCause, IfPresent, IsOfKind, AreOfKinds, IsTail}
+use Rattle.mip_rows.specs.Ranges.{IsNumber, IsMoment, IsAddress, IsToken, AreBytes, IsNode, IsLink, IsOutsider, IsWho, IsCause, IfPresent, IsOfKind, AreOfKinds, IsTail, IsRow, IsRowOf}
 use Rattle.mip_rows.specs.Rows.{as_value, value_of, values_of, tail_count, of_kind, packet_in, tail_of, row_of}
 use Rattle.mip_rows.specs.Texts.{or_dash, token_hex, shield_mark, yes_or_no, value_text, tail_texts, row_texts}
 use Rattle.mip_rows.specs.Whys.{why_word, gone_whys, unsent_whys, dropped_whys, IsAmong}
@@ -159,21 +159,17 @@ tail_counted tails.Nothing b = refl
 tail_counted tails.Bytes b = refl
 tail_counted tails.Packet b = refl
 
--- a row of these kinds and this tail
-abbrev pub IsRow : List Declaration → List Kind → Tail → Row → Type 0
-IsRow ds ks t r = AreOfKinds ds ks r.values × IsTail t r.bytes
-
 -- what is read has this row
-pub row-read : (ds : List Declaration) → AreFew ds → (ks : List Kind) (t : Tail) (fs : List (List ℕ)) (r : Row) → row_of ds ks t fs ≡ Ok r → (fs ≡ row_texts (Some ds) r.values t r.bytes) × IsRow ds ks t r
+pub row-read : (ds : List Declaration) → AreFew ds → (ks : List Kind) (t : Tail) (fs : List (List ℕ)) (r : Row) → row_of ds ks t fs ≡ Ok r → IsRowOf ds ks t r fs
 unfolding row_of
 row-read ds few ks t fs r =
-    cond_both (length fs == length ks + tail_count t) _ _ (λ (x : Result Row Reason). x ≡ Ok r → (fs ≡ row_texts (Some ds) r.values t r.bytes) × IsRow ds ks t r)
+    cond_both (length fs == length ks + tail_count t) _ _ (λ (x : Result Row Reason). x ≡ Ok r → IsRowOf ds ks t r fs)
     (λ _ e.
     let p = bind_ok (values_of ds ks (take (length ks) fs)) (λ vs. tail_of t (drop (length ks) fs) >>= (λ b. Ok (record { values = vs; bytes = b }))) r e in
     let q = bind_ok (tail_of t (drop (length ks) fs)) (λ b. Ok (record { values = p.0; bytes = b })) r p.2 in
     let heads = values-read ds few ks (take (length ks) fs) p.0 p.1 in
     let ends = tail-read t (drop (length ks) fs) q.0 q.1 in
-    subst (λ (x : Row). (fs ≡ row_texts (Some ds) x.values t x.bytes) × IsRow ds ks t x) (ok_is _ r q.2)
+    subst (λ (x : Row). IsRowOf ds ks t x fs) (ok_is _ r q.2)
     (sym (take-append-drop (length ks) fs) ∙ ap (λ (gs : List (List ℕ)). gs ++ drop (length ks) fs) heads.0 ∙ ap (λ (gs : List (List ℕ)). map (value_text (Some ds)) p.0 ++ gs) ends.0, (heads.1, ends.1)))
     (λ _ e. absurd cc)
 

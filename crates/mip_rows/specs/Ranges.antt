@@ -10,9 +10,11 @@ use Rattle.mip_words.specs.declared.token.Token.{Token}
 use Rattle.mip_schedule.specs.Places.{members}
 use Rattle.mip_schedule.specs.declared.declaration.Declaration.{Declaration}
 use Rattle.mip_schedule.specs.declared.places.Sort.TheVariants as sorts
+use Rattle.mip_rows.specs.Texts.{row_texts}
 use Rattle.mip_rows.specs.Whys.{gone_whys, unsent_whys, dropped_whys, IsAmong}
 use Rattle.mip_rows.specs.declared.field_kind.Kind.{Kind}
 use Rattle.mip_rows.specs.declared.field_kind.Kind.TheVariants as kinds
+use Rattle.mip_rows.specs.declared.row.Row.{Row}
 use Rattle.mip_rows.specs.declared.tail.Tail.{Tail}
 use Rattle.mip_rows.specs.declared.tail.Tail.TheVariants as tails
 use Rattle.mip_rows.specs.declared.value.Value.{Value}
@@ -93,3 +95,11 @@ abbrev pub IsTail : Tail → List ℕ → Type 0
 IsTail tails.Nothing bytes = bytes ≡ []
 IsTail tails.Bytes bytes = AreBytes bytes
 IsTail tails.Packet bytes = AreBytes bytes
+
+-- a row of these kinds and this tail
+abbrev pub IsRow : List Declaration → List Kind → Tail → Row → Type 0
+IsRow ds ks t r = AreOfKinds ds ks r.values × IsTail t r.bytes
+
+-- and these are its fields
+abbrev pub IsRowOf : List Declaration → List Kind → Tail → Row → List (List ℕ) → Type 0
+IsRowOf ds ks t r fs = (fs ≡ row_texts (Some ds) r.values t r.bytes) × IsRow ds ks t r

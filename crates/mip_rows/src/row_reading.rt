@@ -1,12 +1,14 @@
 //! Rows, as they are read.
 
-ghost use Rattle.std.specs.Prelude.{◌≡◌, ◌≤◌, length};
+ghost use Rattle.std.specs.Prelude.{◌≡◌, ◌≤◌, length, Ok, IfOk};
 ghost use Rattle.std.specs.Str.{bytes_eq};
 ghost use Rattle.mip_lines.specs.Cutting.{texts};
-ghost use Rattle.mip_schedule.specs.Places.{AreFew};
+ghost use Rattle.mip_schedule.specs.Places.{AreFew, NamesFound};
 ghost use Rattle.mip_rows.specs.PacketKinds.{kind_of};
+ghost use Rattle.mip_rows.specs.Ranges.{IsRowOf};
 ghost use Rattle.mip_rows.specs.Rows as rows;
 ghost use Rattle.mip_rows.specs.Rows.{GivesRow};
+ghost use Rattle.mip_rows.specs.declared.row.Row.{Row as ReadRow};
 
 use crate::fault::RowFault;
 use crate::field_kind::Kind;
@@ -100,10 +102,9 @@ fn read_tail(alloc: Global, tail: Tail, row: &[&[u8]]) -> Result<Bytes, RowFault
     }
 }
 
-/// The row of these kinds and this tail that fields stand for: refused for the number of fields first, then for the first
-/// field from the left that is none of its kind.
+/// The row of these kinds and this tail that fields stand for.
 #[tactic(auto, unfolding(crate::specs::Rows::row_of))]
-pub fn read_row(
+fn row_of(
     alloc: Global,
     ds: &[Declaration],
     kinds: &[Kind],
@@ -121,4 +122,24 @@ pub fn read_row(
     let values = read_values(ds, kinds, heads)?;
     let bytes = read_tail(alloc, tail, ends)?;
     Ok(Row { values, bytes })
+}
+
+/// Reads a row of these kinds and this tail. It is refused for its number of fields first, then for the first field from
+/// the left that is none of its kind.
+pub fn read_row(
+    alloc: Global,
+    ds: &[Declaration],
+    kinds: &[Kind],
+    tail: Tail,
+    row: &[&[u8]],
+) -> Result<Row, RowFault>
+    requires few { AreFew ds.now }
+    requires room { length kinds.now ≤ 10 }
+    // The fields are those of the row read, which is one of these kinds and this tail.
+    ensures found { IfOk result (λ r. IsRowOf ds.now kinds.now tail r (texts row.now)) }
+    // The fields of such a row are read as it, where each name is found.
+    ensures only { (r : ReadRow) → NamesFound ds.now → IsRowOf ds.now kinds.now tail r (texts row.now) → GivesRow result (Ok r) }
+    ensures exact { GivesRow result (rows.row_of ds.now kinds.now tail (texts row.now)) }
+{
+    row_of(alloc, ds, kinds, tail, row)
 }

@@ -1,4 +1,4 @@
-//! The lines of what nodes keep, drop and hand up. RFC 6275 sections 9.1 and 10.1.
+//! The lines of the bindings that agents and correspondents keep. RFC 6275 sections 9.1 and 10.1.
 
 ghost use Rattle.std.specs.Prelude.{◌≡◌, ◌++◌, OnOk};
 ghost use Rattle.mip_lines.specs.Lines.{line_text};
@@ -6,7 +6,7 @@ ghost use Rattle.mip_trace.specs.EntryLines as lines;
 ghost use Rattle.mip_trace.specs.EntryLines.{line_fields};
 
 use crate::entry_word::EntryWord;
-use crate::line_writing::{put_line, put_values};
+use crate::line_writing::put_values;
 use mip_entries::Entry;
 use mip_rows::{NameTable, Value, Values};
 use mip_words::{Bytes, Memory};
@@ -31,19 +31,6 @@ pub fn kept_entry(word: EntryWord, values: &Values, bytes: Bytes) -> Entry
             sequence: values.u16(4),
             end: values.moment(5),
             kept_until: values.moment(6),
-        },
-        EntryWord::Dropped => Entry::Dropped {
-            node: values.node(0),
-            number: values.u64(1),
-            why: values.why(2),
-        },
-        EntryWord::Up => Entry::Up {
-            node: values.node(0),
-            number: values.u64(1),
-            source: values.address(2),
-            destination: values.address(3),
-            proto: values.u8(4),
-            payload: bytes,
         },
         _ => Entry::Idle,
     }
@@ -93,32 +80,6 @@ pub fn put_kept_entry(out: &mut Bytes, names: &NameTable<'_>, entry: &Entry) -> 
                 Value::Moment(*end),
                 Value::Moment(*kept_until),
             ],
-        ),
-        Entry::Dropped { node, number, why } => put_values(
-            out,
-            names,
-            EntryWord::Dropped,
-            &[Value::Node(*node), Value::U64(*number), Value::Why(*why)],
-        ),
-        Entry::Up {
-            node,
-            number,
-            source,
-            destination,
-            proto,
-            payload,
-        } => put_line(
-            out,
-            names,
-            EntryWord::Up,
-            &[
-                Value::Node(*node),
-                Value::U64(*number),
-                Value::Address(*source),
-                Value::Address(*destination),
-                Value::U8(*proto),
-            ],
-            payload.as_slice(),
         ),
         _ => put_values(out, names, EntryWord::Idle, &[]),
     }

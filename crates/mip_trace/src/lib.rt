@@ -5,13 +5,17 @@ mod claim_entries;
 mod entry_kinds;
 mod entry_reading;
 mod entry_word;
+mod fate_entries;
 mod fault;
 mod kept_entries;
 mod line_writing;
 mod mobile_entries;
+mod outsider_entries;
 mod packet_entries;
+mod peer_entries;
 mod place_entries;
 mod reading;
+mod run_entries;
 mod update_entries;
 mod writing;
 

@@ -1,4 +1,4 @@
-//! The lines of what a mobile knows and does. RFC 6275 sections 11.4 to 11.7.
+//! The lines of what a mobile knows of its agents. RFC 6275 section 11.7.1.
 
 ghost use Rattle.std.specs.Prelude.{◌≡◌, ◌++◌, OnOk};
 ghost use Rattle.mip_lines.specs.Lines.{line_text};
@@ -7,7 +7,7 @@ ghost use Rattle.mip_trace.specs.EntryLines.{line_fields};
 
 use crate::entry_word::EntryWord;
 use crate::line_writing::put_values;
-use crate::update_entries::{put_update_entry, update_entry};
+use crate::peer_entries::{peer_entry, put_peer_entry};
 use mip_entries::Entry;
 use mip_rows::{NameTable, Value, Values};
 use mip_words::{Bytes, Memory};
@@ -34,28 +34,7 @@ pub fn mobile_entry(word: EntryWord, values: &Values, bytes: Bytes) -> Entry
             node: values.node(0),
             agent: values.address(1),
         },
-        EntryWord::Prefixes => Entry::Prefixes {
-            node: values.node(0),
-            valid: values.u32(1),
-            preferred: values.u32(2),
-        },
-        EntryWord::Made => Entry::Made {
-            node: values.node(0),
-            peer: values.address(1),
-            number: values.u64(2),
-            home: values.token(3),
-            careof: values.some_token(4),
-        },
-        EntryWord::Bound => Entry::Bound {
-            node: values.node(0),
-            peer: values.address(1),
-            end: values.moment(2),
-        },
-        EntryWord::Unbound => Entry::Unbound {
-            node: values.node(0),
-            peer: values.address(1),
-        },
-        _ => update_entry(word, values, bytes),
+        _ => peer_entry(word, values, bytes),
     }
 }
 
@@ -92,54 +71,6 @@ pub fn put_mobile_entry(out: &mut Bytes, names: &NameTable<'_>, entry: &Entry) -
             EntryWord::Chosen,
             &[Value::Node(*node), Value::Address(*agent)],
         ),
-        Entry::Prefixes {
-            node,
-            valid,
-            preferred,
-        } => put_values(
-            out,
-            names,
-            EntryWord::Prefixes,
-            &[
-                Value::Node(*node),
-                Value::U32(*valid),
-                Value::U32(*preferred),
-            ],
-        ),
-        Entry::Made {
-            node,
-            peer,
-            number,
-            home,
-            careof,
-        } => put_values(
-            out,
-            names,
-            EntryWord::Made,
-            &[
-                Value::Node(*node),
-                Value::Address(*peer),
-                Value::U64(*number),
-                Value::Token(*home),
-                Value::SomeToken(*careof),
-            ],
-        ),
-        Entry::Bound { node, peer, end } => put_values(
-            out,
-            names,
-            EntryWord::Bound,
-            &[
-                Value::Node(*node),
-                Value::Address(*peer),
-                Value::Moment(*end),
-            ],
-        ),
-        Entry::Unbound { node, peer } => put_values(
-            out,
-            names,
-            EntryWord::Unbound,
-            &[Value::Node(*node), Value::Address(*peer)],
-        ),
-        _ => put_update_entry(out, names, entry),
+        _ => put_peer_entry(out, names, entry),
     }
 }

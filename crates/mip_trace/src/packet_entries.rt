@@ -1,4 +1,4 @@
-//! The lines of what becomes of packets.
+//! The lines of packets: who sent them, who got them, and which came to nothing.
 
 ghost use Rattle.std.specs.Prelude.{◌≡◌, ◌++◌, OnOk};
 ghost use Rattle.mip_lines.specs.Lines.{line_text};
@@ -6,8 +6,8 @@ ghost use Rattle.mip_trace.specs.EntryLines as lines;
 ghost use Rattle.mip_trace.specs.EntryLines.{line_fields};
 
 use crate::entry_word::EntryWord;
+use crate::fate_entries::{fate_entry, put_fate_entry};
 use crate::line_writing::{put_line, put_values};
-use crate::mobile_entries::{mobile_entry, put_mobile_entry};
 use mip_entries::Entry;
 use mip_rows::{NameTable, Value, Values};
 use mip_words::{Bytes, Memory};
@@ -22,16 +22,6 @@ pub fn packet_entry(word: EntryWord, values: &Values, bytes: Bytes) -> Entry
             node: values.node(1),
             shielded: values.shield(2),
             packet: bytes,
-        },
-        EntryWord::Injected => Entry::Injected {
-            number: values.u64(0),
-            outsider: values.outsider(1),
-            link: values.link(2),
-            packet: bytes,
-        },
-        EntryWord::Heard => Entry::Heard {
-            number: values.u64(0),
-            outsider: values.outsider(1),
         },
         EntryWord::Handed => Entry::Handed {
             number: values.u64(0),
@@ -48,8 +38,7 @@ pub fn packet_entry(word: EntryWord, values: &Values, bytes: Bytes) -> Entry
             node: values.node(0),
             why: values.why(1),
         },
-        EntryWord::Idle => Entry::Idle,
-        _ => mobile_entry(word, values, bytes),
+        _ => fate_entry(word, values, bytes),
     }
 }
 
@@ -74,28 +63,6 @@ pub fn put_packet_entry(out: &mut Bytes, names: &NameTable<'_>, entry: &Entry) -
             ],
             packet.as_slice(),
         ),
-        Entry::Injected {
-            number,
-            outsider,
-            link,
-            packet,
-        } => put_line(
-            out,
-            names,
-            EntryWord::Injected,
-            &[
-                Value::U64(*number),
-                Value::Outsider(*outsider),
-                Value::Link(*link),
-            ],
-            packet.as_slice(),
-        ),
-        Entry::Heard { number, outsider } => put_values(
-            out,
-            names,
-            EntryWord::Heard,
-            &[Value::U64(*number), Value::Outsider(*outsider)],
-        ),
         Entry::Handed { number, node } => put_values(
             out,
             names,
@@ -115,7 +82,6 @@ pub fn put_packet_entry(out: &mut Bytes, names: &NameTable<'_>, entry: &Entry) -
             EntryWord::Unsent,
             &[Value::Node(*node), Value::Why(*why)],
         ),
-        Entry::Idle => put_values(out, names, EntryWord::Idle, &[]),
-        _ => put_mobile_entry(out, names, entry),
+        _ => put_fate_entry(out, names, entry),
     }
 }

@@ -1,4 +1,4 @@
-//! The lines of what becomes of an update at a correspondent or an agent. RFC 6275 sections 9.5 and 10.3.
+//! The lines of an update that a correspondent accepts. RFC 6275 section 9.5.
 
 ghost use Rattle.std.specs.Prelude.{◌≡◌, ◌++◌, OnOk};
 ghost use Rattle.mip_lines.specs.Lines.{line_text};
@@ -35,11 +35,6 @@ pub fn update_entry(word: EntryWord, values: &Values, bytes: Bytes) -> Entry
         },
         EntryWord::Forged => Entry::Forged {
             cause: values.u8(0),
-        },
-        EntryWord::Denied => Entry::Denied {
-            node: values.node(0),
-            number: values.u64(1),
-            status: values.u8(2),
         },
         _ => kept_entry(word, values, bytes),
     }
@@ -83,16 +78,6 @@ pub fn put_update_entry(out: &mut Bytes, names: &NameTable<'_>, entry: &Entry) -
             &[Value::U64(*hot), Value::SomeU64(*cot), Value::U64(*update)],
         ),
         Entry::Forged { cause } => put_values(out, names, EntryWord::Forged, &[Value::U8(*cause)]),
-        Entry::Denied {
-            node,
-            number,
-            status,
-        } => put_values(
-            out,
-            names,
-            EntryWord::Denied,
-            &[Value::Node(*node), Value::U64(*number), Value::U8(*status)],
-        ),
         _ => put_kept_entry(out, names, entry),
     }
 }
