@@ -8,7 +8,7 @@ use Rattle.mip_lines.specs.Lines.{spaced, line_text}
 use Rattle.mip_entries.specs.declared.entry.Entry.{Entry}
 use Rattle.mip_outside.proofs.Known.{append_none, append_more}
 use Rattle.mip_trace.specs.Lines.{entry_row, trace_text}
-use Rattle.mip_trace.specs.Names.{Names}
+use Rattle.mip_rows.specs.Names.{Names}
 use Rattle.mip_trace.proofs.WrittenLaws.{text_append, text_more}
 
 -- an entry more was written

@@ -1,14 +1,6 @@
-pub mod RowReads
-pub mod PlaceReads
-pub mod FieldReads
-pub mod FieldAgain
-pub mod EntryReads
+pub mod WordLaws
+pub mod EntryLaws
 pub mod EntryAgain
-pub mod EntryPlain
 pub mod Walking
 pub mod TraceLaws
-pub mod WhyLaws
-pub mod AcceptedParts
 pub mod WrittenLaws
-pub mod ManyFields
-pub mod NameTableLaws

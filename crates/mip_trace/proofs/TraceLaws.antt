@@ -13,20 +13,18 @@ use Rattle.mip_lines.proofs.LineLaws.{text-spelled, text-again}
 use Rattle.mip_declared.specs.Places.{AreFew, NamesFound}
 use Rattle.mip_declared.specs.declared.declaration.Declaration.{Declaration}
 use Rattle.mip_entries.specs.declared.entry.Entry.{Entry}
-use Rattle.mip_trace.specs.EntryRows.{entry_of}
+use Rattle.mip_trace.specs.EntryReading.{entry_of}
 use Rattle.mip_trace.specs.Lines.{entry_row, trace_text}
 use Rattle.mip_trace.specs.Ranges.{IsOf, IsLineOf, BeginsBad, IsTraceOf, IsFirstBad}
 use Rattle.mip_trace.specs.Reading.{at_line, last_row, entries_of, reading}
-use Rattle.mip_trace.specs.declared.fault.NotEntry.{NotEntry}
-use Rattle.mip_trace.proofs.EntryReads.{entry-read}
-use Rattle.mip_trace.proofs.EntryAgain.{entry-again}
-use Rattle.mip_trace.proofs.EntryPlain.{entry-plain}
+use Rattle.mip_declared.specs.declared.reason.Reason.{Reason}
+use Rattle.mip_trace.proofs.EntryAgain.{entry-read, entry-again, entry-plain}
 use Rattle.mip_trace.proofs.Walking.{some_row}
 
 abbrev end_row : List (List ℕ)
 end_row = [] ∷ []
 
-at_line_ok : {A : Type 0} (n : ℕ) (r : Result A NotEntry) (x : A) → at_line n r ≡ Ok x → r ≡ Ok x
+at_line_ok : {A : Type 0} (n : ℕ) (r : Result A Reason) (x : A) → at_line n r ≡ Ok x → r ≡ Ok x
 at_line_ok n (Ok y) x e = ap (λ z. Ok z) (ok_is y x e)
 at_line_ok n (Err b) x e = absurd cc
 
@@ -87,7 +85,7 @@ entries-again ds few found (e ∷ h) are es n =
     let s = rest_some ds h in
     let rest : List (List (List ℕ)) = map (entry_row (Some ds)) h ++ end_row ∷ [] in
     entries_step ds es n (entry_row (Some ds) e) rest s.0 s.1 s.2
-    ∙ ap (λ (r : Result Entry NotEntry). at_line n r >>= (λ x. entries_of ds (es ++ x ∷ []) (n + 1) rest)) (entry-again ds few found e are.0)
+    ∙ ap (λ (r : Result Entry Reason). at_line n r >>= (λ x. entries_of ds (es ++ x ∷ []) (n + 1) rest)) (entry-again ds few found e are.0)
     ∙ entries-again ds few found h are.1 (es ++ e ∷ []) (n + 1)
     ∙ ap (λ (l : List Entry). Ok l) (append_assoc es (e ∷ []) h)
 
@@ -118,14 +116,14 @@ last-bad ds n k es ([] ∷ []) e = absurd cc
 last-bad ds n k es ([] ∷ f ∷ fs) e = (cc, λ is. absurd cc)
 last-bad ds n k es ((c ∷ cs) ∷ fs) e = (cc, λ is. absurd cc)
 
-abbrev bad_line : {A : Type 0} → NotEntry → Result A NotEntry
+abbrev bad_line : {A : Type 0} → Reason → Result A Reason
 bad_line b = Err b
 
-no_entry : {A : Type 0} (b : NotEntry) (x : A) → bad_line {A = A} b ≡ Ok x → ⊥
+no_entry : {A : Type 0} (b : Reason) (x : A) → bad_line {A = A} b ≡ Ok x → ⊥
 no_entry b x e = absurd cc
 
 -- a line that is bad is the first, where those before it are the lines of entries
-bad_here : (ds : List Declaration) → AreFew ds → NamesFound ds → (row next : List (List ℕ)) (rows : List (List (List ℕ))) (n k : ℕ) (b : NotEntry) → entry_of ds row ≡ Err b → k ≡ n
+bad_here : (ds : List Declaration) → AreFew ds → NamesFound ds → (row next : List (List ℕ)) (rows : List (List (List ℕ))) (n k : ℕ) (b : Reason) → entry_of ds row ≡ Err b → k ≡ n
     → IsBadBehind ds n k (row ∷ next ∷ rows)
 bad_here ds few found row next rows n k b is same = record {
   good = [];
@@ -149,7 +147,7 @@ bad_behind ds few row rows n k x is more =
       bad = more.bad;
     }
 
-err_at : (n k : ℕ) (b : NotEntry) (f : Entry → Result (List Entry) ℕ) → (at_line n (Err b) >>= f) ≡ Err k → k ≡ n
+err_at : (n k : ℕ) (b : Reason) (f : Entry → Result (List Entry) ℕ) → (at_line n (Err b) >>= f) ≡ Err k → k ≡ n
 err_at n k b f e = cc
 
 entries-bad : (ds : List Declaration) → AreFew ds → NamesFound ds → (row : List (List ℕ)) (rows : List (List (List ℕ))) (es : List Entry) (n k : ℕ)
@@ -161,7 +159,7 @@ entries-bad ds few found row [] es n k e =
 entries-bad ds few found row (next ∷ rows) es n k e =
     by (entry_of ds row) refl (λ x. entries-bad ds few found next rows (es ++ x ∷ []) (n + 1) k) e
   where
-    by : (r : Result Entry NotEntry) → entry_of ds row ≡ r → ((x : Entry) → entries_of ds (es ++ x ∷ []) (n + 1) (next ∷ rows) ≡ Err k → IsBadBehind ds (n + 1) k (next ∷ rows))
+    by : (r : Result Entry Reason) → entry_of ds row ≡ r → ((x : Entry) → entries_of ds (es ++ x ∷ []) (n + 1) (next ∷ rows) ≡ Err k → IsBadBehind ds (n + 1) k (next ∷ rows))
         → (at_line n r >>= (λ x. entries_of ds (es ++ x ∷ []) (n + 1) (next ∷ rows))) ≡ Err k → IsBadBehind ds n k (row ∷ next ∷ rows)
     by (Err b) is more e = bad_here ds few found row next rows n k b is (err_at n k b (λ x. entries_of ds (es ++ x ∷ []) (n + 1) (next ∷ rows)) e)
     by (Ok x) is more e = bad_behind ds few row (next ∷ rows) n k x is (more x e)

@@ -8,7 +8,9 @@ use Rattle.mip_words.specs.Steps.{◌>>=◌}
 use Rattle.mip_lines.specs.Cutting.{parts, fields_of, rows_of}
 use Rattle.mip_declared.specs.declared.declaration.Declaration.{Declaration}
 use Rattle.mip_entries.specs.declared.entry.Entry.{Entry}
-use Rattle.mip_trace.specs.EntryRows.{entry_of, place_fields, claim_fields, packet_fields, mobile_fields, answer_fields}
+use Rattle.mip_declared.specs.declared.reason.Reason.TheVariants as reasons
+use Rattle.mip_trace.specs.EntryLines.{entry_words}
+use Rattle.mip_trace.specs.EntryReading.{entry_of}
 use Rattle.mip_trace.specs.Faults.{GivesText}
 use Rattle.mip_trace.specs.Reading.{at_line, last_row, entries_of}
 use Rattle.mip_trace.specs.declared.fault.TraceFault.{TraceFault}
@@ -63,8 +65,8 @@ pub not_zero : (n : ℕ) → (n == 0) ≡ false → 0 < n
 not_zero n e = grind (arith, eqb-false)
 
 -- an empty line is that of no entry
-pub no_entry : (ds : List Declaration) (line : List ℕ) → length line ≡ 0 → entry_of ds (fields_of line) ≡ Err (record {})
-unfolding parts entry_of place_fields claim_fields packet_fields mobile_fields answer_fields
+pub no_entry : (ds : List Declaration) (line : List ℕ) → length line ≡ 0 → entry_of ds (fields_of line) ≡ Err reasons.Form
+unfolding parts entry_of entry_words
 no_entry ds [] none = refl
 no_entry ds (c ∷ line) none = absurd (omega arith)
 

@@ -5,7 +5,7 @@ use Rattle.std.specs.List.{flat_map}
 use Rattle.mip_lines.specs.Lines.{line_text}
 use Rattle.mip_entries.specs.declared.entry.Entry.{Entry}
 use Rattle.mip_trace.specs.Lines.{entry_row, trace_text}
-use Rattle.mip_trace.specs.Names.{Names}
+use Rattle.mip_rows.specs.Names.{Names}
 
 pub text_is : (names : Names) (history : List Entry) → flat_map (λ (e : Entry). line_text (entry_row names e)) history ≡ trace_text names history
 unfolding trace_text

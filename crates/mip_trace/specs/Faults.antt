@@ -1,18 +1,9 @@
 -- What a reader answers, seen as what is read: with memory enough it is the reading's answer.
 use Rattle.std.specs.Prelude.{◌≡◌, ℕ, Result, Ok, Err}
-use Rattle.mip_trace.specs.declared.fault.LineFault.{LineFault}
-use Rattle.mip_trace.specs.declared.fault.LineFault.TheVariants as line_faults
-use Rattle.mip_trace.specs.declared.fault.NotEntry.{NotEntry}
 use Rattle.mip_trace.specs.declared.fault.TraceFault.{TraceFault}
 use Rattle.mip_trace.specs.declared.fault.TraceFault.TheVariants as faults
 
--- what a reader of one line returned is what a reading gives, unless memory ran out
-abbrev pub GivesLine : {X : Type 0} → Result X LineFault → Result X NotEntry → Type 0
-GivesLine (Ok x) read = read ≡ Ok x
-GivesLine (Err line_faults.Bad) read = read ≡ Err (record {})
-GivesLine (Err line_faults.Memory) read = Unit {0}
-
--- the same of a reader of a text, whose reading answers the number of the first bad line
+-- what a reader of a text returned is what a reading gives, unless memory ran out; a reading answers the number of the first bad line
 abbrev pub GivesText : {X : Type 0} → Result X TraceFault → Result X ℕ → Type 0
 GivesText (Ok x) read = read ≡ Ok x
 GivesText (Err (faults.Bad line)) read = read ≡ Err line

@@ -1,10 +1,6 @@
-pub mod Whys
-pub mod PacketKinds
-pub mod Names
-pub mod NameTables
+pub mod EntryLines
+pub mod EntryReading
 pub mod Lines
 pub mod Faults
-pub mod Fields
-pub mod EntryRows
 pub mod Reading
 pub mod Ranges

@@ -1,58 +1,13 @@
 -- The entries that a trace of these declarations can have: each name in them is declared, each number within its
 -- range, and each reason one of those that may stand in the line.
-use Rattle.std.specs.Prelude.{◌≡◌, ◌⊎◌, ℕ, ◌+◌, ◌<◌, ◌≤◌, ◌^◌, List, [], ◌∷◌, ◌++◌, length, map, Option, Some, None}
+use Rattle.std.specs.Prelude.{◌≡◌, ℕ, ◌+◌, List, [], ◌∷◌, ◌++◌, length, map, Some}
 use Rattle.std.specs.List.{AllByRecursion}
-use Rattle.mip_words.specs.Numbers.{IsBytes}
-use Rattle.mip_words.specs.declared.address.Address.{Address}
-use Rattle.mip_words.specs.declared.ids.LinkId.{LinkId}
-use Rattle.mip_words.specs.declared.ids.NodeId.{NodeId}
-use Rattle.mip_words.specs.declared.moment.Moment.{Moment}
-use Rattle.mip_words.specs.declared.token.Token.{Token}
-use Rattle.mip_declared.specs.Places.{members}
 use Rattle.mip_declared.specs.declared.declaration.Declaration.{Declaration}
-use Rattle.mip_declared.specs.declared.places.Sort.TheVariants as sorts
 use Rattle.mip_entries.specs.declared.entry.Entry.{Entry}
 use Rattle.mip_entries.specs.declared.entry.Entry.TheVariants as entries
+use Rattle.mip_rows.specs.Ranges.{IsNumber, IsMoment, IsAddress, IsToken, AreBytes, IsNode, IsLink, IsOutsider, IsWho, IsCause, IfPresent}
+use Rattle.mip_rows.specs.Whys.{gone_whys, unsent_whys, dropped_whys, IsAmong}
 use Rattle.mip_trace.specs.Lines.{entry_row, trace_text}
-use Rattle.mip_trace.specs.Whys.{gone_whys, unsent_whys, dropped_whys, IsAmong}
-
--- a number of so many bits
-abbrev pub IsNumber : ℕ → ℕ → Type 0
-IsNumber bits x = x < 2 ^ bits
-
-abbrev pub IsMoment : Moment → Type 0
-IsMoment moment = IsNumber 64 moment.0
-
-abbrev pub IsAddress : Address → Type 0
-IsAddress address = IsNumber 128 address.0
-
-abbrev pub IsToken : Token → Type 0
-IsToken token = (length token.0 ≡ 8) × IsBytes token.0
-
--- bytes, fewer than a text may have
-abbrev pub AreBytes : List ℕ → Type 0
-AreBytes bytes = (length bytes < 2 ^ 32) × IsBytes bytes
-
-abbrev pub IsNode : List Declaration → NodeId → Type 0
-IsNode ds node = node.0 < length (members sorts.Node ds)
-
-abbrev pub IsLink : List Declaration → LinkId → Type 0
-IsLink ds link = link.0 < length (members sorts.Link ds)
-
-abbrev pub IsOutsider : List Declaration → ℕ → Type 0
-IsOutsider ds outsider = outsider < length (members sorts.Outsider ds)
-
--- a node by its number, or an outsider by 32 more than its number
-abbrev pub IsWho : List Declaration → ℕ → Type 0
-IsWho ds who = (who < length (members sorts.Node ds)) ⊎ ((outsider : ℕ) × IsOutsider ds outsider × (who ≡ 32 + outsider))
-
--- one of the three reasons why an acceptance is forged
-abbrev pub IsCause : ℕ → Type 0
-IsCause cause = (1 ≤ cause) × (cause ≤ 3)
-
-abbrev pub IfPresent : {A : Type 0} → (A → Type 0) → Option A → Type 0
-IfPresent Is (Some x) = Is x
-IfPresent Is None = Unit {0}
 
 -- an entry of these declarations
 abbrev pub IsOf : List Declaration → Entry → Type 0

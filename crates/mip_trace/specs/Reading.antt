@@ -4,11 +4,11 @@ use Rattle.mip_words.specs.Steps.{◌>>=◌}
 use Rattle.mip_lines.specs.Cutting.{rows_of}
 use Rattle.mip_entries.specs.declared.entry.Entry.{Entry}
 use Rattle.mip_declared.specs.declared.declaration.Declaration.{Declaration}
-use Rattle.mip_trace.specs.EntryRows.{entry_of}
-use Rattle.mip_trace.specs.declared.fault.NotEntry.{NotEntry}
+use Rattle.mip_declared.specs.declared.reason.Reason.{Reason}
+use Rattle.mip_trace.specs.EntryReading.{entry_of}
 
 -- what the line n is read as, or n where it is bad
-abbrev pub at_line : {A : Type 0} → ℕ → Result A NotEntry → Result A ℕ
+abbrev pub at_line : {A : Type 0} → ℕ → Result A Reason → Result A ℕ
 at_line n (Ok x) = Ok x
 at_line n (Err bad) = Err n
 

@@ -3,37 +3,43 @@
 ghost use Rattle.std.specs.Prelude.{◌≡◌};
 ghost use Rattle.mip_lines.specs.Cutting.{fields_of, texts};
 ghost use Rattle.mip_declared.specs.Places.{AreFew};
-ghost use Rattle.mip_trace.specs.EntryRows.{entry_of};
-ghost use Rattle.mip_trace.specs.Faults.{GivesLine};
+ghost use Rattle.mip_rows.specs.Rows.{GivesRow};
+ghost use Rattle.mip_trace.specs.EntryReading.{entry_of};
 
-use crate::fault::LineFault;
-use crate::place_rows::place_fields;
+use crate::entry_kinds::{kinds_of, tail_of};
+use crate::entry_word::word_of;
+use crate::run_entries::run_entry;
 use mip_entries::Entry;
 use mip_lines::fields_up_to;
-use mip_schedule::Declaration;
+use mip_rows::{Row, RowFault, read_row};
+use mip_schedule::{Declaration, Reason};
 use std::alloc::Global;
 
 /// The entry that fields stand for.
-#[tactic(auto, unfolding(crate::specs::EntryRows::entry_of))]
-fn entry_of(alloc: Global, ds: &[Declaration], row: &[&[u8]]) -> Result<Entry, LineFault>
+#[tactic(auto, unfolding(crate::specs::EntryReading::entry_of))]
+fn entry_of(alloc: Global, ds: &[Declaration], fields: &[&[u8]]) -> Result<Entry, RowFault>
     requires { AreFew ds.now }
-    ensures { GivesLine result (entry_of ds.now (texts row.now)) }
+    ensures { GivesRow result (entry_of ds.now (texts fields.now)) }
 {
-    let [first, fields @ ..] = row else {
-        return Err(LineFault::Bad);
+    let [first, row @ ..] = fields else {
+        return Err(RowFault::Bad(Reason::Form));
     };
-    place_fields(alloc, ds, *first, fields)
+    let Some(word) = word_of(first) else {
+        return Err(RowFault::Bad(Reason::Form));
+    };
+    let Row { values, bytes } = read_row(alloc, ds, kinds_of(word), tail_of(word), row)?;
+    Ok(run_entry(word, &values, bytes))
 }
 
 /// The entry that a line stands for. No line of an entry has more than ten fields, and of a line with more
 /// nothing is kept.
-#[tactic(auto, using(crate::proofs::ManyFields::many_fields))]
-pub fn read_entry(alloc: Global, ds: &[Declaration], line: &[u8]) -> Result<Entry, LineFault>
+#[tactic(auto, using(crate::proofs::EntryAgain::many_fields))]
+pub fn read_entry(alloc: Global, ds: &[Declaration], line: &[u8]) -> Result<Entry, RowFault>
     requires { AreFew ds.now }
-    ensures { GivesLine result (entry_of ds.now (fields_of line.now)) }
+    ensures { GivesRow result (entry_of ds.now (fields_of line.now)) }
 {
     let Some(row) = fields_up_to(alloc, 10, line)? else {
-        return Err(LineFault::Bad);
+        return Err(RowFault::Bad(Reason::Form));
     };
     entry_of(alloc, ds, row.as_slice())
 }

@@ -4,15 +4,16 @@ ghost use Rattle.std.specs.Prelude.{◌≡◌, ◌<◌, ◌^◌, List, [], lengt
 ghost use Rattle.mip_lines.specs.Cutting.{fields_of, rows_of};
 ghost use Rattle.mip_entries.specs.declared.entry.Entry.{Entry as Happened};
 ghost use Rattle.mip_declared.specs.Places.{AreFew};
-ghost use Rattle.mip_trace.specs.EntryRows as rows;
+ghost use Rattle.mip_trace.specs.EntryReading.{entry_of};
 ghost use Rattle.mip_trace.specs.Faults.{GivesText, OnBad};
 ghost use Rattle.mip_trace.specs.Ranges.{IsTraceOf, IsFirstBad};
 ghost use Rattle.mip_trace.specs.Reading.{at_line, entries_of, reading};
 
 use crate::entry_reading::read_entry;
-use crate::fault::{LineFault, TraceFault};
+use crate::fault::TraceFault;
 use mip_entries::{Entry, History};
 use mip_lines::cut_at;
+use mip_rows::RowFault;
 use mip_schedule::{Declaration, Schedule, few, names_found};
 use std::alloc::Global;
 
@@ -20,7 +21,7 @@ use std::alloc::Global;
 #[tactic(auto, using(crate::proofs::Walking::no_entry_at, crate::proofs::Walking::not_zero))]
 fn next_entry(alloc: Global, ds: &[Declaration], line: u32, row: &[u8]) -> Result<Entry, TraceFault>
     requires { AreFew ds.now }
-    ensures value { GivesText result (at_line line (rows.entry_of ds.now (fields_of row.now))) }
+    ensures value { GivesText result (at_line line (entry_of ds.now (fields_of row.now))) }
     ensures some { IfOk result (λ e. 0 < length row.now) }
 {
     if row.is_empty() {
@@ -28,8 +29,8 @@ fn next_entry(alloc: Global, ds: &[Declaration], line: u32, row: &[u8]) -> Resul
     }
     match read_entry(alloc, ds, row) {
         Ok(entry) => Ok(entry),
-        Err(LineFault::Bad) => Err(TraceFault::Bad { line }),
-        Err(LineFault::Memory) => Err(TraceFault::Memory),
+        Err(RowFault::Bad(_)) => Err(TraceFault::Bad { line }),
+        Err(RowFault::Memory) => Err(TraceFault::Memory),
     }
 }
 

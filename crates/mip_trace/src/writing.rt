@@ -4,11 +4,11 @@ ghost use Rattle.std.specs.Prelude.{◌≡◌, ◌++◌, Some, option_map, IfOk,
 ghost use Rattle.std.specs.Borrow.{Bor};
 ghost use Rattle.mip_lines.specs.Lines.{line_text};
 ghost use Rattle.mip_trace.specs.Lines.{entry_row, trace_text};
-ghost use Rattle.mip_trace.specs.Names.{names_of};
+ghost use Rattle.mip_rows.specs.Names.{names_of};
 
-use crate::name_table::NameTable;
-use crate::place_lines::put_entry;
+use crate::run_entries::put_run_entry;
 use mip_entries::{Entry, History};
+use mip_rows::NameTable;
 use mip_schedule::Schedule;
 use mip_words::{Bytes, Memory};
 use std::alloc::Global;
@@ -27,7 +27,7 @@ pub fn write_entry(
     ensures err { OnErr result (out.new ≡ out.old) }
 {
     let mut line = Bytes::new(alloc);
-    put_entry(&mut line, &NameTable::untabled(alloc, names), entry)?;
+    put_run_entry(&mut line, &NameTable::untabled(alloc, names), entry)?;
     out.extend(line.as_slice())
 }
 
@@ -37,7 +37,7 @@ pub fn entry_line(line: &mut Bytes, names: &NameTable<'_>, entry: &Entry) -> Res
     ensures { OnOk result (line.new ≡ line_text (entry_row names.now entry.now)) }
 {
     line.clear();
-    put_entry(line, names, entry)
+    put_run_entry(line, names, entry)
 }
 
 /// The trace of a history: a line for each entry, in order.
@@ -47,7 +47,7 @@ pub fn write_trace(alloc: Global, schedule: &Schedule, history: &History) -> Res
     let names = NameTable::of(alloc, schedule)?;
     let mut out = Bytes::new(alloc);
     for entry in history.as_slice() {
-        put_entry(&mut out, &names, entry)?;
+        put_run_entry(&mut out, &names, entry)?;
     }
     Ok(out)
 }

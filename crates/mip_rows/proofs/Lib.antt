@@ -1,0 +1,10 @@
+pub mod NameTableLaws
+pub mod WhyLaws
+pub mod PlaceReads
+pub mod FieldReads
+pub mod FieldAgain
+pub mod WritingLaws
+pub mod ReadingLaws
+pub mod FieldPlain
+pub mod RowLaws
+pub mod Shapes

@@ -1,0 +1,9 @@
+pub mod Whys
+pub mod PacketKinds
+pub mod Names
+pub mod NameTables
+pub mod Texts
+pub mod Ranges
+pub mod Fields
+pub mod Values
+pub mod Rows

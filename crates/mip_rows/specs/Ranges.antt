@@ -1,0 +1,105 @@
+-- The values that a field of each kind can have: each name is declared, each number within its range, and each reason
+-- one of those that may stand there.
+use Rattle.std.specs.Prelude.{◌≡◌, ◌⊎◌, ℕ, ◌+◌, ◌<◌, ◌≤◌, ◌^◌, List, [], ◌∷◌, length, Option, Some, None}
+use Rattle.mip_words.specs.Numbers.{IsBytes}
+use Rattle.mip_words.specs.declared.address.Address.{Address}
+use Rattle.mip_words.specs.declared.ids.LinkId.{LinkId}
+use Rattle.mip_words.specs.declared.ids.NodeId.{NodeId}
+use Rattle.mip_words.specs.declared.moment.Moment.{Moment}
+use Rattle.mip_words.specs.declared.token.Token.{Token}
+use Rattle.mip_declared.specs.Places.{members}
+use Rattle.mip_declared.specs.declared.declaration.Declaration.{Declaration}
+use Rattle.mip_declared.specs.declared.places.Sort.TheVariants as sorts
+use Rattle.mip_rows.specs.Texts.{row_texts}
+use Rattle.mip_rows.specs.Whys.{gone_whys, unsent_whys, dropped_whys, IsAmong}
+use Rattle.mip_rows.specs.declared.field_kind.Kind.{Kind}
+use Rattle.mip_rows.specs.declared.field_kind.Kind.TheVariants as kinds
+use Rattle.mip_rows.specs.declared.row.Row.{Row}
+use Rattle.mip_rows.specs.declared.tail.Tail.{Tail}
+use Rattle.mip_rows.specs.declared.tail.Tail.TheVariants as tails
+use Rattle.mip_rows.specs.declared.value.Value.{Value}
+use Rattle.mip_rows.specs.declared.value.Value.TheVariants as values
+
+-- a number of so many bits
+abbrev pub IsNumber : ℕ → ℕ → Type 0
+IsNumber bits x = x < 2 ^ bits
+
+abbrev pub IsMoment : Moment → Type 0
+IsMoment moment = IsNumber 64 moment.0
+
+abbrev pub IsAddress : Address → Type 0
+IsAddress address = IsNumber 128 address.0
+
+abbrev pub IsToken : Token → Type 0
+IsToken token = (length token.0 ≡ 8) × IsBytes token.0
+
+-- bytes, fewer than a text may have
+abbrev pub AreBytes : List ℕ → Type 0
+AreBytes bytes = (length bytes < 2 ^ 32) × IsBytes bytes
+
+abbrev pub IsNode : List Declaration → NodeId → Type 0
+IsNode ds node = node.0 < length (members sorts.Node ds)
+
+abbrev pub IsLink : List Declaration → LinkId → Type 0
+IsLink ds link = link.0 < length (members sorts.Link ds)
+
+abbrev pub IsOutsider : List Declaration → ℕ → Type 0
+IsOutsider ds outsider = outsider < length (members sorts.Outsider ds)
+
+-- a node by its number, or an outsider by 32 more than its number
+abbrev pub IsWho : List Declaration → ℕ → Type 0
+IsWho ds who = (who < length (members sorts.Node ds)) ⊎ ((outsider : ℕ) × IsOutsider ds outsider × (who ≡ 32 + outsider))
+
+-- one of the three reasons why an acceptance is forged
+abbrev pub IsCause : ℕ → Type 0
+IsCause cause = (1 ≤ cause) × (cause ≤ 3)
+
+abbrev pub IfPresent : {A : Type 0} → (A → Type 0) → Option A → Type 0
+IfPresent Is (Some x) = Is x
+IfPresent Is None = Unit {0}
+
+-- a value of this kind
+abbrev pub IsOfKind : List Declaration → Kind → Value → Type 0
+IsOfKind ds kinds.U8 (values.U8 x) = IsNumber 8 x
+IsOfKind ds kinds.U16 (values.U16 x) = IsNumber 16 x
+IsOfKind ds kinds.U32 (values.U32 x) = IsNumber 32 x
+IsOfKind ds kinds.U64 (values.U64 x) = IsNumber 64 x
+IsOfKind ds kinds.Cause (values.U8 x) = IsCause x
+IsOfKind ds kinds.Moment (values.Moment m) = IsMoment m
+IsOfKind ds kinds.Address (values.Address a) = IsAddress a
+IsOfKind ds kinds.Token (values.Token t) = IsToken t
+IsOfKind ds kinds.Node (values.Node n) = IsNode ds n
+IsOfKind ds kinds.Link (values.Link l) = IsLink ds l
+IsOfKind ds kinds.Outsider (values.Outsider o) = IsOutsider ds o
+IsOfKind ds kinds.Who (values.Who w) = IsWho ds w
+IsOfKind ds kinds.SomeU16 (values.SomeU16 o) = IfPresent (IsNumber 16) o
+IsOfKind ds kinds.SomeU64 (values.SomeU64 o) = IfPresent (IsNumber 64) o
+IsOfKind ds kinds.SomeAddress (values.SomeAddress o) = IfPresent IsAddress o
+IsOfKind ds kinds.SomeToken (values.SomeToken o) = IfPresent IsToken o
+IsOfKind ds kinds.SomeLink (values.SomeLink o) = IfPresent (IsLink ds) o
+IsOfKind ds kinds.Shield (values.Shield b) = Unit {0}
+IsOfKind ds kinds.Answer (values.Answer b) = Unit {0}
+IsOfKind ds kinds.Gone (values.Why w) = IsAmong gone_whys w
+IsOfKind ds kinds.Unsent (values.Why w) = IsAmong unsent_whys w
+IsOfKind ds kinds.Dropped (values.Why w) = IsAmong dropped_whys w
+IsOfKind ds _ _ = ⊥
+
+-- values of these kinds, one by one
+abbrev pub AreOfKinds : List Declaration → List Kind → List Value → Type 0
+AreOfKinds ds [] [] = Unit {0}
+AreOfKinds ds (k ∷ ks) (v ∷ vs) = IsOfKind ds k v × AreOfKinds ds ks vs
+AreOfKinds ds _ _ = ⊥
+
+-- the bytes of a row with this tail: none, where it has no tail
+abbrev pub IsTail : Tail → List ℕ → Type 0
+IsTail tails.Nothing bytes = bytes ≡ []
+IsTail tails.Bytes bytes = AreBytes bytes
+IsTail tails.Packet bytes = AreBytes bytes
+
+-- a row of these kinds and this tail
+abbrev pub IsRow : List Declaration → List Kind → Tail → Row → Type 0
+IsRow ds ks t r = AreOfKinds ds ks r.values × IsTail t r.bytes
+
+-- and these are its fields
+abbrev pub IsRowOf : List Declaration → List Kind → Tail → Row → List (List ℕ) → Type 0
+IsRowOf ds ks t r fs = (fs ≡ row_texts (Some ds) r.values t r.bytes) × IsRow ds ks t r

@@ -1,0 +1,64 @@
+//! The word for the kind of a packet.
+
+ghost use Rattle.std.specs.Prelude.{◌≡◌, ◌≤◌, length};
+ghost use Rattle.mip_ipv6.specs.Packet.{packet as tree};
+ghost use Rattle.mip_icmp.specs.Reading.{icmp_of};
+ghost use Rattle.mip_says.specs.Says.{message_in as message_of};
+ghost use Rattle.mip_rows.specs.PacketKinds.{mobility_kind, icmp_kind, body_kind, kind_of};
+
+use mip_explain::message_word;
+use mip_icmp::read_icmp;
+use mip_ipv6::{PacketRef, read_packet};
+use mip_says::message_in;
+use mip_words::Address;
+
+fn mobility_kind(packet: &PacketRef) -> &'static [u8]
+    ensures { result.now ≡ mobility_kind (message_of (tree packet.now)) }
+{
+    match message_in(packet) {
+        Some(message) => message_word(&message),
+        None => b"bad",
+    }
+}
+
+fn icmp_kind(source: Address, destination: Address, body: &[u8]) -> &'static [u8]
+    requires { length body.now ≤ 65535 }
+    ensures { result.now ≡ icmp_kind (icmp_of source destination body.now) }
+{
+    match read_icmp(source, destination, body) {
+        Ok(_) => b"icmp",
+        Err(_) => b"bad",
+    }
+}
+
+fn body_kind(packet: &PacketRef) -> &'static [u8]
+    requires { length packet.now.body.now ≤ 65535 }
+    ensures { result.now ≡ body_kind (tree packet.now) }
+{
+    match packet.head.proto {
+        135 => mobility_kind(packet),
+        58 => icmp_kind(packet.head.sender(), packet.head.receiver(), packet.body),
+        41 => b"tunnel",
+        59 => b"none",
+        _ => b"data",
+    }
+}
+
+/// The kind of packet that bytes are: `bad`, the word of a mobility message (RFC 6275 section 6.1),
+/// `icmp`, `tunnel`, `none` or `data`.
+#[tactic(auto, unfolding(crate::specs::PacketKinds::kind_of))]
+pub fn kind(bytes: &[u8]) -> &'static [u8]
+    ensures { result.now ≡ kind_of bytes.now }
+{
+    match read_packet(bytes) {
+        Ok(packet) => body_kind(&packet),
+        Err(_) => b"bad",
+    }
+}
+
+/// The same, to stand among other fields.
+pub fn kind_word<'a>(bytes: &[u8]) -> &'a [u8]
+    ensures { result.now ≡ kind_of bytes.now }
+{
+    kind(bytes)
+}

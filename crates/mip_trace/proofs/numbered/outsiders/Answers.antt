@@ -1,9 +1,0 @@
-use Rattle.std.specs.Prelude.{Some}
-use Rattle.mip_trace.specs.Names.{outsider_name}
-use Rattle.mip_trace.proofs.NameTableLaws.{named_push}
-use Rattle.mip_trace.proofs.numbered.outsiders.Goals as goal
-
-pub loop-outsider-preserved : goal.loop-outsider-preserved
-unfolding outsider_name
-loop-outsider-preserved c =
-    named_push (outsider_name (Some c.args.schedule.now.declarations)) c.loop-outsider.outsider c.loop-outsider.list.items _ c.outsider_name.result c.loop-outsider.invariant c.in_ok-push.ensures.items c.outsider_name.ensures

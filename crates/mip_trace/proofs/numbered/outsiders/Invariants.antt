@@ -1,8 +1,0 @@
-use Rattle.std.proofs.Common.{◌≡◌, length}
-use Rattle.std.specs.Prelude.{Some}
-use Rattle.mip_trace.specs.Names.{outsider_name}
-use Rattle.mip_trace.specs.NameTables.{AreNamesFrom}
-use Rattle.mip_trace.proofs.numbered.outsiders.Given as goal
-
-abbrev pub invariant-loop-outsider : goal.invariant-loop-outsider
-invariant-loop-outsider l = AreNamesFrom (outsider_name (Some l.schedule.declarations)) 0 l.list.items × (length l.list.items ≡ l.outsider)

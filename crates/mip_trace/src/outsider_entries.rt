@@ -1,0 +1,87 @@
+//! The lines of what outsiders hear and send.
+
+ghost use Rattle.std.specs.Prelude.{◌≡◌, ◌++◌, OnOk};
+ghost use Rattle.mip_lines.specs.Lines.{line_text};
+ghost use Rattle.mip_trace.specs.EntryLines as lines;
+ghost use Rattle.mip_trace.specs.EntryLines.{line_fields};
+
+use crate::claim_entries::{claim_entry, put_claim_entry};
+use crate::entry_word::EntryWord;
+use crate::line_writing::{put_line, put_values};
+use mip_entries::Entry;
+use mip_rows::{NameTable, Value, Values};
+use mip_words::{Bytes, Memory};
+
+/// The entry of a row behind a word.
+pub fn outsider_entry(word: EntryWord, values: &Values, bytes: Bytes) -> Entry
+    ensures { result ≡ lines.outsider_entry word (record { values = values.now; bytes = bytes }) }
+{
+    match word {
+        EntryWord::Listening => Entry::Listening {
+            outsider: values.outsider(0),
+            link: values.link(1),
+        },
+        EntryWord::Deafened => Entry::Deafened {
+            outsider: values.outsider(0),
+            link: values.link(1),
+        },
+        EntryWord::Injected => Entry::Injected {
+            number: values.u64(0),
+            outsider: values.outsider(1),
+            link: values.link(2),
+            packet: bytes,
+        },
+        EntryWord::Heard => Entry::Heard {
+            number: values.u64(0),
+            outsider: values.outsider(1),
+        },
+        _ => claim_entry(word, values, bytes),
+    }
+}
+
+/// Appends the line of an entry.
+pub fn put_outsider_entry(
+    out: &mut Bytes,
+    names: &NameTable<'_>,
+    entry: &Entry,
+) -> Result<(), Memory>
+    ensures { OnOk result (out.new ≡ out.old ++ line_text (line_fields names.now (lines.outsider_line entry.now))) }
+{
+    match entry {
+        Entry::Listening { outsider, link } => put_values(
+            out,
+            names,
+            EntryWord::Listening,
+            &[Value::Outsider(*outsider), Value::Link(*link)],
+        ),
+        Entry::Deafened { outsider, link } => put_values(
+            out,
+            names,
+            EntryWord::Deafened,
+            &[Value::Outsider(*outsider), Value::Link(*link)],
+        ),
+        Entry::Injected {
+            number,
+            outsider,
+            link,
+            packet,
+        } => put_line(
+            out,
+            names,
+            EntryWord::Injected,
+            &[
+                Value::U64(*number),
+                Value::Outsider(*outsider),
+                Value::Link(*link),
+            ],
+            packet.as_slice(),
+        ),
+        Entry::Heard { number, outsider } => put_values(
+            out,
+            names,
+            EntryWord::Heard,
+            &[Value::U64(*number), Value::Outsider(*outsider)],
+        ),
+        _ => put_claim_entry(out, names, entry),
+    }
+}

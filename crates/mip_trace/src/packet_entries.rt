@@ -1,0 +1,87 @@
+//! The lines of packets: who sent them, who got them, and which came to nothing.
+
+ghost use Rattle.std.specs.Prelude.{◌≡◌, ◌++◌, OnOk};
+ghost use Rattle.mip_lines.specs.Lines.{line_text};
+ghost use Rattle.mip_trace.specs.EntryLines as lines;
+ghost use Rattle.mip_trace.specs.EntryLines.{line_fields};
+
+use crate::entry_word::EntryWord;
+use crate::fate_entries::{fate_entry, put_fate_entry};
+use crate::line_writing::{put_line, put_values};
+use mip_entries::Entry;
+use mip_rows::{NameTable, Value, Values};
+use mip_words::{Bytes, Memory};
+
+/// The entry of a row behind a word.
+pub fn packet_entry(word: EntryWord, values: &Values, bytes: Bytes) -> Entry
+    ensures { result ≡ lines.packet_entry word (record { values = values.now; bytes = bytes }) }
+{
+    match word {
+        EntryWord::Sent => Entry::Sent {
+            number: values.u64(0),
+            node: values.node(1),
+            shielded: values.shield(2),
+            packet: bytes,
+        },
+        EntryWord::Handed => Entry::Handed {
+            number: values.u64(0),
+            node: values.node(1),
+        },
+        EntryWord::Gone => Entry::Gone {
+            number: values.u64(0),
+            why: values.why(1),
+        },
+        EntryWord::Lost => Entry::Lost {
+            number: values.u64(0),
+        },
+        EntryWord::Unsent => Entry::Unsent {
+            node: values.node(0),
+            why: values.why(1),
+        },
+        _ => fate_entry(word, values, bytes),
+    }
+}
+
+/// Appends the line of an entry.
+pub fn put_packet_entry(out: &mut Bytes, names: &NameTable<'_>, entry: &Entry) -> Result<(), Memory>
+    ensures { OnOk result (out.new ≡ out.old ++ line_text (line_fields names.now (lines.packet_line entry.now))) }
+{
+    match entry {
+        Entry::Sent {
+            number,
+            node,
+            shielded,
+            packet,
+        } => put_line(
+            out,
+            names,
+            EntryWord::Sent,
+            &[
+                Value::U64(*number),
+                Value::Node(*node),
+                Value::Shield(*shielded),
+            ],
+            packet.as_slice(),
+        ),
+        Entry::Handed { number, node } => put_values(
+            out,
+            names,
+            EntryWord::Handed,
+            &[Value::U64(*number), Value::Node(*node)],
+        ),
+        Entry::Gone { number, why } => put_values(
+            out,
+            names,
+            EntryWord::Gone,
+            &[Value::U64(*number), Value::Why(*why)],
+        ),
+        Entry::Lost { number } => put_values(out, names, EntryWord::Lost, &[Value::U64(*number)]),
+        Entry::Unsent { node, why } => put_values(
+            out,
+            names,
+            EntryWord::Unsent,
+            &[Value::Node(*node), Value::Why(*why)],
+        ),
+        _ => put_fate_entry(out, names, entry),
+    }
+}

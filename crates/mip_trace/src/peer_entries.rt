@@ -1,0 +1,81 @@
+//! The lines of what a mobile has with its peers. RFC 6275 sections 11.6 and 11.7.2.
+
+ghost use Rattle.std.specs.Prelude.{◌≡◌, ◌++◌, OnOk};
+ghost use Rattle.mip_lines.specs.Lines.{line_text};
+ghost use Rattle.mip_trace.specs.EntryLines as lines;
+ghost use Rattle.mip_trace.specs.EntryLines.{line_fields};
+
+use crate::entry_word::EntryWord;
+use crate::line_writing::put_values;
+use crate::update_entries::{put_update_entry, update_entry};
+use mip_entries::Entry;
+use mip_rows::{NameTable, Value, Values};
+use mip_words::{Bytes, Memory};
+
+/// The entry of a row behind a word.
+pub fn peer_entry(word: EntryWord, values: &Values, bytes: Bytes) -> Entry
+    ensures { result ≡ lines.peer_entry word (record { values = values.now; bytes = bytes }) }
+{
+    match word {
+        EntryWord::Made => Entry::Made {
+            node: values.node(0),
+            peer: values.address(1),
+            number: values.u64(2),
+            home: values.token(3),
+            careof: values.some_token(4),
+        },
+        EntryWord::Bound => Entry::Bound {
+            node: values.node(0),
+            peer: values.address(1),
+            end: values.moment(2),
+        },
+        EntryWord::Unbound => Entry::Unbound {
+            node: values.node(0),
+            peer: values.address(1),
+        },
+        _ => update_entry(word, values, bytes),
+    }
+}
+
+/// Appends the line of an entry.
+pub fn put_peer_entry(out: &mut Bytes, names: &NameTable<'_>, entry: &Entry) -> Result<(), Memory>
+    ensures { OnOk result (out.new ≡ out.old ++ line_text (line_fields names.now (lines.peer_line entry.now))) }
+{
+    match entry {
+        Entry::Made {
+            node,
+            peer,
+            number,
+            home,
+            careof,
+        } => put_values(
+            out,
+            names,
+            EntryWord::Made,
+            &[
+                Value::Node(*node),
+                Value::Address(*peer),
+                Value::U64(*number),
+                Value::Token(*home),
+                Value::SomeToken(*careof),
+            ],
+        ),
+        Entry::Bound { node, peer, end } => put_values(
+            out,
+            names,
+            EntryWord::Bound,
+            &[
+                Value::Node(*node),
+                Value::Address(*peer),
+                Value::Moment(*end),
+            ],
+        ),
+        Entry::Unbound { node, peer } => put_values(
+            out,
+            names,
+            EntryWord::Unbound,
+            &[Value::Node(*node), Value::Address(*peer)],
+        ),
+        _ => put_update_entry(out, names, entry),
+    }
+}
