@@ -117,9 +117,6 @@ module _ (s : Setup) (past : List Entry) (each : EachAfter (Meets s) [] past) (n
   abbrev xs : List Acceptance
   xs = accepted_by s.start past n
 
-
-
-
   -- the entry of the acceptance
   shown_at : (row : Row) (f : IsOfLast (accepted_by s.start past n) (seen_row row)) → moment_in s.start past < row.kept_until.0
       → IsPlaced n row.home.0 f.acceptance.number f.acceptance s.start past → IsLastAcceptance s past n (row_entry n row)

@@ -124,9 +124,14 @@ spelled ds (entries.Origin a b c) d w short = (w.update.0, w.update.1, w.update.
 spelled ds (entries.Forged a) d w short = d
 spelled ds (entries.Denied a b c) d w short = (d, w.update.0, w.update.1)
 spelled ds (entries.Dropped a b c) d w short = (d.0, w.packet, dropped_among c d.1)
-spelled ds (entries.Up a b c x e f) d w short =
-    (d, w.packet.0, w.packet.1, w.packet.2, w.packet.3,
-     (short_end f (codes "up" ∷ node_name (Some ds) a ∷ decimal b ∷ address_hex c ∷ address_hex x ∷ decimal e ∷ []) short, w.packet.4))
+spelled ds (entries.Up a b c x e f) d w short = (
+  d,
+  w.packet.0,
+  w.packet.1,
+  w.packet.2,
+  w.packet.3,
+  (short_end f (codes "up" ∷ node_name (Some ds) a ∷ decimal b ∷ address_hex c ∷ address_hex x ∷ decimal e ∷ []) short, w.packet.4),
+)
 spelled ds (entries.Row a b c x e f g) d w short = (d, w.row.0, w.row.1, w.row.2, w.row.3, w.row.4, w.row.5)
 
 -- a text is as long as each of its lines

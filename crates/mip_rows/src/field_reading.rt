@@ -8,8 +8,8 @@ ghost use Rattle.mip_rows.specs.Whys.{why_among};
 
 use crate::fault::RowFault;
 use crate::why_words::why_among;
-use mip_lines::{hex_address, hex_bytes};
 use mip_declared::{Declaration, Reason, Sort, place_of};
+use mip_lines::{hex_address, hex_bytes};
 use mip_words::{Address, Bytes, LinkId, Moment, NodeId, Token, Why, hex_exact};
 use std::alloc::Global;
 
