@@ -16,11 +16,13 @@ use Rattle.mip_schedule.specs.Lawful.{IsLinkIfAny}
 use Rattle.mip_declared.specs.Places.{AreFew, NamesFound}
 use Rattle.mip_declared.specs.declared.declaration.Declaration.{Declaration}
 use Rattle.mip_history.specs.Naming.{IsDeclared}
-use Rattle.mip_trace.specs.Lines.{shield_mark, entry_row, trace_text}
-use Rattle.mip_trace.specs.Names.{node_name, link_name, outsider_name}
-use Rattle.mip_trace.specs.PacketKinds.{kind_of}
-use Rattle.mip_trace.specs.Ranges.{IfPresent, IsLink, IsOf}
-use Rattle.mip_trace.specs.Whys.{gone_whys, unsent_whys, dropped_whys, IsAmong}
+use Rattle.mip_rows.specs.Texts.{shield_mark}
+use Rattle.mip_trace.specs.Lines.{entry_row, trace_text}
+use Rattle.mip_rows.specs.Names.{node_name, link_name, outsider_name}
+use Rattle.mip_rows.specs.PacketKinds.{kind_of}
+use Rattle.mip_rows.specs.Ranges.{IfPresent, IsLink}
+use Rattle.mip_trace.specs.Ranges.{IsOf}
+use Rattle.mip_rows.specs.Whys.{gone_whys, unsent_whys, dropped_whys, IsAmong}
 use Rattle.mip_trace.specs.Reading.{reading}
 use Rattle.mip_trace.proofs.TraceLaws.{trace-again}
 use Rattle.mip_reread.proofs.LongLines.{line_long, hex_long}
