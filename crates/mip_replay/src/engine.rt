@@ -70,6 +70,14 @@ impl Engine {
         })
     }
 
+    /// Makes room for what this many events leave at least.
+    pub(crate) fn reserve(&mut self, events: usize) -> Result<(), Memory>
+        ensures { self.new ≡ self.old }
+    {
+        self.net.reserve_posts(events)?;
+        self.chronicle.reserve(events)
+    }
+
     pub(crate) fn into_history(self) -> History
         ensures { result ≡ self.past }
     {
