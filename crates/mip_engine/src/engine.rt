@@ -73,6 +73,14 @@ impl Engine {
         })
     }
 
+    /// Makes room for what this many events leave at least.
+    pub fn reserve(&mut self, events: usize) -> Result<(), Memory>
+        ensures { self.new ≡ self.old }
+    {
+        self.net.reserve_posts(events)?;
+        self.chronicle.reserve(events)
+    }
+
     /// The history so far.
     pub fn into_history(self) -> History
         ensures { result ≡ self.past }

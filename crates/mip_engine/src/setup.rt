@@ -173,6 +173,7 @@ impl Engine {
             links.as_slice(),
             outsiders_in(ds),
         )?;
+        engine.reserve(schedule.events.len())?;
         engine.settle_all(alloc, hosts)?;
         Ok(engine)
     }

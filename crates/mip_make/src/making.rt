@@ -17,7 +17,7 @@ fn events(alloc: Global, seed: &[u8; 32], count: u32) -> Result<Events, Memory>
     ensures { IfOk result (λ es. es ≡ schedules.events_from seed.now 0 count) }
 {
     let mut draws = Draws::new(seed);
-    let mut events = Events::new(alloc);
+    let mut events = Events::with_capacity(alloc, count as usize)?;
     for number in 0..count {
         let draw = draws.draw();
         let event = drawn(alloc, number, draw)?;

@@ -1,12 +1,12 @@
 -- An entry of what is declared, whose numbers are as wide as their types and whose line is short enough, is one that a trace
 -- spells.
-use Rattle.std.proofs.Common.{◌≡◌, ℕ, ◌+◌, ◌<◌, ◌≤◌, ◌^◌, List, [], ◌∷◌, ◌++◌, length, true, inl, inr, refl, sym, ap, ◌∙◌, subst, arith, length-append}
-use Rattle.std.specs.Prelude.{◌⊎◌, map, codes, decimal, Option, Some, None, Ok}
-use Rattle.std.specs.List.{AllByRecursion, flat_map}
+use Rattle.std.proofs.Common.{◌≡◌, ℕ, ◌+◌, ◌<◌, ◌≤◌, ◌^◌, List, [], ◌∷◌, ◌++◌, length, true, inl, inr, refl, arith, length-append}
+use Rattle.std.specs.Prelude.{map, Option, Some, None, Ok}
+use Rattle.std.specs.List.{AllByRecursion}
 use Rattle.mip_words.specs.declared.ids.LinkId.{LinkId}
 use Rattle.mip_words.specs.declared.why.Why.{Why}
 use Rattle.mip_words.specs.declared.why.Why.TheVariants as whys
-use Rattle.mip_lines.specs.HexFields.{address_hex, hex_text}
+use Rattle.mip_lines.specs.HexFields.{hex_text}
 use Rattle.mip_lines.specs.Lines.{line_text, lines_text}
 use Rattle.mip_entries.specs.declared.entry.Entry.{Entry}
 use Rattle.mip_entries.specs.declared.entry.Entry.TheVariants as entries
@@ -16,10 +16,7 @@ use Rattle.mip_schedule.specs.Lawful.{IsLinkIfAny}
 use Rattle.mip_declared.specs.Places.{AreFew, NamesFound}
 use Rattle.mip_declared.specs.declared.declaration.Declaration.{Declaration}
 use Rattle.mip_history.specs.Naming.{IsDeclared}
-use Rattle.mip_rows.specs.Texts.{shield_mark}
 use Rattle.mip_trace.specs.Lines.{entry_row, trace_text}
-use Rattle.mip_rows.specs.Names.{node_name, link_name, outsider_name}
-use Rattle.mip_rows.specs.PacketKinds.{kind_of}
 use Rattle.mip_rows.specs.Ranges.{IfPresent, IsLink}
 use Rattle.mip_trace.specs.Ranges.{IsOf}
 use Rattle.mip_rows.specs.Whys.{gone_whys, unsent_whys, dropped_whys, IsAmong}
@@ -86,8 +83,8 @@ link_present ds (Some link) is = is
 abbrev IsShort : List Declaration → Entry → Type 0
 IsShort ds e = length (line_text (entry_row (Some ds) e)) < 2 ^ 32
 
-short_end : (bytes : List ℕ) (front : List (List ℕ)) → length (line_text (front ++ hex_text bytes ∷ [])) < 2 ^ 32 → length bytes < 2 ^ 32
-short_end bytes front short = omega (arith, short, line_long front (hex_text bytes), hex_long bytes)
+short_bytes : (bytes : List ℕ) (line : ℕ) → length (hex_text bytes) ≤ line → line < 2 ^ 32 → length bytes < 2 ^ 32
+short_bytes bytes line within short = omega (arith, within, short, hex_long bytes)
 
 spelled : (ds : List Declaration) (e : Entry) → IsDeclared ds e → HasWidths e → IsShort ds e → IsOf ds e
 spelled ds (entries.At a) d w short = w.place
@@ -102,9 +99,11 @@ spelled ds (entries.Claimed a b c) d w short = (d.0, d.1, w.place)
 spelled ds (entries.Released a b c) d w short = (d.0, d.1, w.place)
 spelled ds (entries.Taken a b c e) d w short = (d.0, d.1, w.place, d.2)
 spelled ds (entries.Sent a b c p) d w short =
-    (w.packet.0, d, (short_end p (codes "sent" ∷ decimal a ∷ node_name (Some ds) b ∷ shield_mark c ∷ kind_of p ∷ []) short, w.packet.1))
+    let row = line_long (entry_row (Some ds) (entries.Sent a b c p)) in
+    (w.packet.0, d, (short_bytes p (length (line_text (entry_row (Some ds) (entries.Sent a b c p)))) row.1.1.1.1.1.0 short, w.packet.1))
 spelled ds (entries.Injected a b c p) d w short =
-    (w.packet.0, d.0, d.1, (short_end p (codes "injected" ∷ decimal a ∷ outsider_name (Some ds) b ∷ link_name (Some ds) c ∷ kind_of p ∷ []) short, w.packet.1))
+    let row = line_long (entry_row (Some ds) (entries.Injected a b c p)) in
+    (w.packet.0, d.0, d.1, (short_bytes p (length (line_text (entry_row (Some ds) (entries.Injected a b c p)))) row.1.1.1.1.1.0 short, w.packet.1))
 spelled ds (entries.Heard a b) d w short = (w.packet, d)
 spelled ds (entries.Handed a b) d w short = (w.packet, d)
 spelled ds (entries.Gone a b) d w short = (w.packet, gone_among b d)
@@ -126,14 +125,9 @@ spelled ds (entries.Origin a b c) d w short = (w.update.0, w.update.1, w.update.
 spelled ds (entries.Forged a) d w short = d
 spelled ds (entries.Denied a b c) d w short = (d, w.update.0, w.update.1)
 spelled ds (entries.Dropped a b c) d w short = (d.0, w.packet, dropped_among c d.1)
-spelled ds (entries.Up a b c x e f) d w short = (
-  d,
-  w.packet.0,
-  w.packet.1,
-  w.packet.2,
-  w.packet.3,
-  (short_end f (codes "up" ∷ node_name (Some ds) a ∷ decimal b ∷ address_hex c ∷ address_hex x ∷ decimal e ∷ []) short, w.packet.4),
-)
+spelled ds (entries.Up a b c x e f) d w short =
+    let row = line_long (entry_row (Some ds) (entries.Up a b c x e f)) in
+    (d, w.packet.0, w.packet.1, w.packet.2, w.packet.3, (short_bytes f (length (line_text (entry_row (Some ds) (entries.Up a b c x e f)))) row.1.1.1.1.1.1.0 short, w.packet.4))
 spelled ds (entries.Row a b c x e f g) d w short = (d, w.row.0, w.row.1, w.row.2, w.row.3, w.row.4, w.row.5)
 
 -- a text is as long as each of its lines

@@ -1,6 +1,6 @@
 -- The field of a value has no space and no line end in it, nor have those of a tail.
 use Rattle.std.proofs.Common.{◌≡◌, ℕ, ◌-◌, ◌<◌, ◌≤◌, List, [], ◌∷◌, length, Bool, true, false, not, refl, ap, ◌∙◌, subst, inl, inr, arith, nat_lt}
-use Rattle.std.specs.Prelude.{◌++◌, map, Option, Some, None, Result, Ok, Err, decimal, ◌&&◌, ◌||◌, ◌==◌}
+use Rattle.std.specs.Prelude.{Option, Some, None, Result, Ok, Err, decimal, ◌&&◌, ◌||◌, ◌==◌}
 use Rattle.std.specs.List.{list_all}
 use Rattle.std.proofs.lemmas.Bool.{cond_both, cond-true, cond-false, and_parts, and_from, not_from_false, ne_eqb, lt-ltb, le-ltb}
 use Rattle.mip_words.specs.Addresses.{address_bytes}
@@ -18,7 +18,7 @@ use Rattle.mip_icmp.specs.Reading.{icmp_of}
 use Rattle.mip_icmp.specs.Said as icmp
 use Rattle.mip_icmp.specs.declared.fault.IcmpFault.{IcmpFault}
 use Rattle.mip_says.specs.Says.{message_in}
-use Rattle.mip_lines.specs.Lines.{is_plain, is_row}
+use Rattle.mip_lines.specs.Lines.{is_plain}
 use Rattle.mip_lines.proofs.LineLaws.{decimal_plain, hex_plain, hex_text_plain}
 use Rattle.mip_declared.specs.Names.{is_letter, is_name}
 use Rattle.mip_declared.specs.Places.{AreFew, NamesFound, name_at}
@@ -27,8 +27,8 @@ use Rattle.mip_declared.specs.declared.places.Sort.TheVariants as sorts
 use Rattle.mip_rows.specs.Names.{node_name, link_name, outsider_name, who_name}
 use Rattle.mip_rows.specs.PacketKinds.{mobility_kind, icmp_kind, packet_kind, kind_of}
 use Rattle.mip_rows.specs.Whys.{why_word}
-use Rattle.mip_lines.specs.HexFields.{address_hex, hex_text}
-use Rattle.mip_rows.specs.Ranges.{IsNumber, IsNode, IsLink, IsOutsider, IsWho, IfPresent, IsOfKind, AreOfKinds, IsTail}
+use Rattle.mip_lines.specs.HexFields.{address_hex}
+use Rattle.mip_rows.specs.Ranges.{IsNumber, IsNode, IsLink, IsOutsider, IsWho, IfPresent, IsOfKind, AreOfKinds}
 use Rattle.mip_rows.specs.Texts.{or_dash, token_hex, shield_mark, yes_or_no, value_text, tail_texts, row_texts}
 use Rattle.mip_rows.specs.declared.field_kind.Kind.{Kind}
 use Rattle.mip_rows.specs.declared.field_kind.Kind.TheVariants as kinds

@@ -1,22 +1,22 @@
 -- A row that is read has these fields and is within its kinds; and a row within its kinds is read from its fields.
-use Rattle.std.proofs.Common.{◌≡◌, ℕ, suc, ◌+◌, List, [], ◌∷◌, ◌++◌, length, Bool, true, refl, sym, ap, ◌∙◌, subst, arith}
+use Rattle.std.proofs.Common.{◌≡◌, ℕ, suc, ◌+◌, List, [], ◌∷◌, ◌++◌, length, refl, sym, ap, ◌∙◌, subst, arith}
 use Rattle.std.specs.Prelude.{Some, Result, Ok, Err, decimal, map, take, drop, ◌==◌}
 use Rattle.std.specs.Str.{bytes_eq}
-use Rattle.std.proofs.lemmas.Bool.{cond_both, cond-true, eq-eqb, eqb-true}
+use Rattle.std.proofs.lemmas.Bool.{cond_both, cond-true, eq-eqb}
 use Rattle.std.proofs.Math.Seq.{take-append_seam, drop-append_seam}
 use Rattle.std.proofs.lemmas.List.{length-append, take-append-drop}
 use Rattle.std.proofs.lemmas.Slice.Eq.{bytes_eq-Decides}
 use Rattle.mip_words.specs.Steps.{◌>>=◌}
 use Rattle.mip_words.proofs.StepLaws.{bind_ok, ok_is}
-use Rattle.mip_lines.specs.HexFields.{address_hex, hex_text}
+use Rattle.mip_lines.specs.HexFields.{address_hex}
 use Rattle.mip_declared.specs.Places.{AreFew, NamesFound}
 use Rattle.mip_declared.specs.declared.declaration.Declaration.{Declaration}
 use Rattle.mip_declared.specs.declared.reason.Reason.{Reason}
 use Rattle.mip_rows.specs.Fields as fields
 use Rattle.mip_rows.specs.Names.{node_name, link_name, outsider_name, who_name}
 use Rattle.mip_rows.specs.PacketKinds.{kind_of}
-use Rattle.mip_rows.specs.Ranges.{IsNumber, IsMoment, IsAddress, IsToken, AreBytes, IsNode, IsLink, IsOutsider, IsWho, IsCause, IfPresent, IsOfKind, AreOfKinds, IsTail, IsRow, IsRowOf}
-use Rattle.mip_rows.specs.Rows.{as_value, value_of, values_of, tail_count, of_kind, packet_in, tail_of, row_of}
+use Rattle.mip_rows.specs.Ranges.{IsNumber, IsMoment, IsAddress, IsToken, IsNode, IsLink, IsOutsider, IsWho, IsCause, IfPresent, IsOfKind, AreOfKinds, IsTail, IsRowOf}
+use Rattle.mip_rows.specs.Rows.{as_value, value_of, values_of, tail_count, of_kind, tail_of, row_of}
 use Rattle.mip_rows.specs.Texts.{or_dash, token_hex, shield_mark, yes_or_no, value_text, tail_texts, row_texts}
 use Rattle.mip_rows.specs.Whys.{why_word, gone_whys, unsent_whys, dropped_whys, IsAmong}
 use Rattle.mip_rows.specs.declared.field_kind.Kind.{Kind}

@@ -1,5 +1,5 @@
-use Rattle.std.proofs.Common.{◌≡◌, ℕ, List, ap, ◌∙◌, subst, sym}
-use Rattle.std.specs.Prelude.{Some, Result, Ok, Err, IfOk}
+use Rattle.std.proofs.Common.{◌≡◌, ℕ, List, ap, ◌∙◌, subst}
+use Rattle.std.specs.Prelude.{Result, Ok, Err, IfOk}
 use Rattle.mip_lines.specs.Cutting.{texts}
 use Rattle.mip_declared.specs.Places.{AreFew, NamesFound}
 use Rattle.mip_declared.specs.declared.declaration.Declaration.{Declaration}
