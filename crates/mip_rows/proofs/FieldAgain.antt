@@ -190,7 +190,7 @@ unsent_again = (refl, (refl, (refl, (refl, tt))))
 
 pub dropped_again : ReadAgain dropped_whys
 unfolding dropped_whys why_word
-dropped_again = (refl, (refl, (refl, (refl, (refl, (refl, (refl, (refl, (refl, (refl, (refl, (refl, (refl, (refl, (refl, (refl, (refl, (refl, (refl, (refl, (refl, (refl, (refl, (refl, (refl, (refl, (refl, (refl, (refl, tt)))))))))))))))))))))))))))))
+dropped_again = (refl, (refl, (refl, (refl, (refl, (refl, (refl, (refl, (refl, (refl, (refl, (refl, (refl, (refl, (refl, (refl, (refl, (refl, (refl, (refl, (refl, (refl, (refl, (refl, (refl, (refl, (refl, (refl, (refl, (refl, tt))))))))))))))))))))))))))))))
 
 pub why-again : (some : List Why) → ReadAgain some → (w : Why) → IsAmong some w → kinds.why some (why_word w) ≡ Ok w
 unfolding why
