@@ -3,20 +3,17 @@ use Rattle.std.proofs.Common.{◌≡◌, ℕ, suc, ◌+◌, ◌<◌, ◌≤◌, 
 use Rattle.std.proofs.lemmas.Bool.{leb-false}
 use Rattle.std.proofs.lemmas.List.Sums.{sum_by-cons}
 use Rattle.std.proofs.Math.Seq.{split_at}
-use Rattle.std.specs.Prelude.{Option, Some, None, not, ◌&&◌, ◌||◌, ◌==◌, nat_le, nat_lt, take, get_or, slice_get, if◌then◌else◌}
+use Rattle.std.specs.Prelude.{Some, None, not, ◌&&◌, ◌||◌, ◌==◌, nat_le, nat_lt, take, get_or, slice_get, if◌then◌else◌}
 use Rattle.std.specs.List.{sum_by}
 use Rattle.mip_words.specs.declared.ids.LinkId.{LinkId}
 use Rattle.mip_links.specs.Table.{Asked}
 use Rattle.mip_schedule.specs.Contents.{Content, holding}
 use Rattle.mip_schedule.specs.EventTimes.{wait_of, waited, carried, is_reserved, is_packet, misfit, untimely}
 use Rattle.mip_schedule.specs.Lawful.{IsEvent, IsLawful, IsLink, IsOutsider}
-use Rattle.mip_declared.specs.Places.{AreFew, members}
+use Rattle.mip_declared.specs.Places.{AreFew}
 use Rattle.mip_declared.specs.declared.declaration.Declaration.{Declaration}
-use Rattle.mip_declared.specs.declared.declaration.Declaration.TheVariants as declare
 use Rattle.mip_schedule.specs.declared.event.Event.{Event}
 use Rattle.mip_schedule.specs.declared.event.Event.TheVariants.{Wait, Advertise, Payload, Inject, Bind, Listen, Deaf, Squat, Yield, Restart}
-use Rattle.mip_declared.specs.declared.places.Sort.TheVariants as sorts
-use Rattle.mip_declared.specs.declared.reason.Reason.{Reason}
 use Rattle.mip_declared.specs.declared.reason.Reason.TheVariants as reasons
 use Rattle.mip_history.specs.Setup.{setup_of, links_in}
 use Rattle.mip_history.specs.Questions.{moment_in, life_in}
