@@ -1,9 +1,10 @@
 -- A watch stands for a history and one more entry.
-use Rattle.std.proofs.Common.{◌≡◌, ℕ, List, [], ◌∷◌, ◌++◌, length, Bool, false, refl, sym, ap, ◌∙◌, subst, arith}
+use Rattle.std.proofs.Common.{◌≡◌, ℕ, List, [], ◌∷◌, ◌++◌, length, Bool, true, false, refl, sym, ap, ◌∙◌, subst, arith}
 use Rattle.std.specs.Prelude.{Option, Some, None, ◌||◌, option_map}
 use Rattle.std.specs.List.{list_any, filter_map, cons_option}
 use Rattle.std.specs.Option.{option_or, option_map_or}
 use Rattle.std.specs.Str.{bytes_eq}
+use Rattle.std.proofs.lemmas.List.{append-nil}
 use Rattle.std.proofs.lemmas.List.Sums.{fold-append}
 use Rattle.mip_words.specs.declared.address.Address.{Address}
 use Rattle.mip_words.specs.declared.ids.NodeId.{NodeId}
@@ -15,7 +16,7 @@ use Rattle.mip_entries.specs.declared.entry.Entry.TheVariants as entries
 use Rattle.mip_marks.specs.Lists.{first_some, along}
 use Rattle.mip_marks.specs.Entries.{claims, declared_in}
 use Rattle.mip_marks.specs.Sights.{Sight, token_at, sight}
-use Rattle.mip_marks.specs.Sights.Sight.{Heard, Handed}
+use Rattle.mip_marks.specs.Sights.Sight.{Heard, Handed, Quiet}
 use Rattle.mip_marks.specs.Reached.{is_heard, values}
 use Rattle.mip_marks.specs.Names.{Naming, naming, namings}
 use Rattle.mip_marks.specs.Firsts.{number_of, first_update}
@@ -23,10 +24,11 @@ use Rattle.mip_marks.specs.Pairs.{made_with}
 use Rattle.mip_marks.specs.Causes.{early, is_early}
 use Rattle.mip_watch.specs.declared.arrival.Arrival.{Arrival}
 use Rattle.mip_watch.specs.declared.first.First.{First}
+use Rattle.mip_watch.specs.declared.known.Known.{Known}
 use Rattle.mip_watch.specs.declared.sight.Sight.{Sight as Seen}
 use Rattle.mip_watch.specs.declared.sight.Sight.TheVariants as seen
 use Rattle.mip_watch.specs.declared.watch.Watch.{Watch}
-use Rattle.mip_watch.specs.Sights.{sight_of, token_posted, token_sighted, glimpse, seen_behind, seen_in}
+use Rattle.mip_watch.specs.Sights.{sight_of, token_posted, token_sighted, glimpse, is_mute, seen_behind, seen_in}
 use Rattle.mip_watch.specs.Nodes.{stranger, known_at, known_step}
 use Rattle.mip_watch.specs.Names.{kept_of, named_at, kept_at, naming_known, kept_step}
 use Rattle.mip_watch.specs.Heard.{has_come, heard_by, arrivals_new}
@@ -175,6 +177,63 @@ stands_more w v past (entries.Handed number node) found packet old next bytes to
     by (Some t) = refl
 stands_more w v past e found packet old next bytes told is =
     stands_seen w v past e found old next (told ∙ sight_told past e packet bytes (λ number node handed. absurd cc)) is
+
+-- an entry that tells nothing changes no index
+abbrev sight_muted : Entry → Seen
+sight_muted (entries.Handed number node) = seen.Handed node None
+sight_muted _ = seen.Quiet
+
+none_or : (b : Bool) → b ≡ (b || false)
+none_or true = refl
+none_or false = refl
+
+none_more : {A : Type 0} (o : Option A) → o ≡ option_or o None
+none_more None = refl
+none_more (Some x) = refl
+
+none_else : {A : Type 0} (o : Option A) → o ≡ or_else o None
+none_else None = refl
+none_else (Some x) = refl
+
+same_known : (n : ℕ) (k : Known) → k ≡ known_step n Quiet k
+same_known n k = λ i. record { is_agent = none_or k.is_agent i; life = k.life }
+
+noted_mute : (w : Watch) (e : Entry) → is_mute e ≡ true → Noted w w (sight_muted e) e
+noted_mute w (entries.Sent number node shielded packet) is = absurd cc
+noted_mute w (entries.Injected number outsider link packet) is = absurd cc
+noted_mute w (entries.Heard number outsider) is = absurd cc
+noted_mute w (entries.Home node home careof sequence end) is = absurd cc
+noted_mute w (entries.Made node peer number home careof) is = absurd cc
+noted_mute w (entries.Restarted node) is = absurd cc
+noted_mute w (entries.Claimed who link address) is = absurd cc
+noted_mute w _ is = record {
+  names = λ t. refl;
+  early = λ t. none_or (is_used w.early t);
+  keys = λ look are. are;
+  numbers = λ look are k. refl;
+  made = λ n k. none_more (made_at w.made n k);
+  heard = λ o t. none_or (has_come w.heard o t);
+  list = sym (append-nil w.heard.list.items);
+  nodes = λ n. same_known n (known_at w.nodes n);
+  addresses = λ n. none_else (address_at w.addresses n);
+}
+
+told_mute : (packet : Option (List ℕ)) (e : Entry) → is_mute e ≡ true → sight_of (sight_muted e) ≡ glimpse packet e
+told_mute packet (entries.Sent number node shielded bytes) is = absurd cc
+told_mute packet (entries.Injected number outsider link bytes) is = absurd cc
+told_mute packet (entries.Heard number outsider) is = absurd cc
+told_mute packet (entries.Home node home careof sequence end) is = absurd cc
+told_mute packet (entries.Made node peer number home careof) is = absurd cc
+told_mute packet (entries.Restarted node) is = absurd cc
+told_mute packet _ is = refl
+
+pub token_mute : (e : Entry) → is_mute e ≡ true → None ≡ token_posted e
+token_mute (entries.Sent number node shielded bytes) is = absurd cc
+token_mute (entries.Injected number outsider link bytes) is = absurd cc
+token_mute _ is = refl
+
+pub stands_mute : (w : Watch) (past : List Entry) (e : Entry) (packet : Option (List ℕ)) → is_mute e ≡ true → StandsFor w past → IsNext past e → IsHeard past e packet → StandsFor w (past ++ e ∷ [])
+stands_mute w past e packet is old next bytes = stands_more w w past e (sight_muted e) packet old next bytes (told_mute packet e is) (noted_mute w e is)
 
 -- a new watch
 pub stands_new : (w : Watch) → ((n : ℕ) → address_at w.addresses n ≡ None) → ((n : ℕ) → known_at w.nodes n ≡ stranger) → ((t : List ℕ) → named_at w.names t ≡ None)

@@ -1,5 +1,5 @@
 -- The sights of a history that goes on: each entry with those before it.
-use Rattle.std.specs.Prelude.{ℕ, List, [], Option, Some, None, option_map}
+use Rattle.std.specs.Prelude.{ℕ, List, [], Bool, true, false, Option, Some, None, option_map}
 use Rattle.std.specs.Option.{option_and_then}
 use Rattle.mip_says.specs.Says.{carried, carried_of}
 use Rattle.mip_entries.specs.declared.entry.Entry.{Entry}
@@ -40,6 +40,17 @@ token_sighted _ = None
 abbrev pub glimpse : Option (List ℕ) → Entry → Sight
 glimpse token (entries.Handed number node) = Handed node.0 None
 glimpse token entry = sight_with (λ k. token) entry
+
+-- an entry that tells nothing of tokens, updates, agents, lives or addresses
+abbrev pub is_mute : Entry → Bool
+is_mute (entries.Sent number node shielded packet) = false
+is_mute (entries.Injected number outsider link packet) = false
+is_mute (entries.Heard number outsider) = false
+is_mute (entries.Home node home careof sequence end) = false
+is_mute (entries.Made node peer number home careof) = false
+is_mute (entries.Restarted node) = false
+is_mute (entries.Claimed who link address) = false
+is_mute _ = true
 
 abbrev pub seen_behind : List Entry → Entry → Option Sight
 seen_behind front entry = Some (sight front entry)

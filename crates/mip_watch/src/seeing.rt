@@ -1,7 +1,7 @@
 ghost use Rattle.std.specs.Prelude.{◌≡◌, option_map};
 ghost use Rattle.mip_says.specs.Says.{carried_of};
 ghost use Rattle.mip_marks.specs.Sights.{token_in};
-ghost use Rattle.mip_watch.specs.Sights.{sight_of, token_sighted, glimpse};
+ghost use Rattle.mip_watch.specs.Sights.{sight_of, token_sighted, glimpse, is_mute};
 
 use crate::sight::Sight;
 use mip_entries::Entry;
@@ -26,6 +26,22 @@ pub fn token_sighted(sight: &Sight) -> Option<Token>
         Sight::Sent { carried, .. } => token_in(carried),
         Sight::Injected { carried, .. } => token_in(carried),
         _ => None,
+    }
+}
+
+/// Whether an entry tells nothing of tokens, updates, agents, lives or addresses.
+pub fn is_mute(entry: &Entry) -> bool
+    ensures { result ≡ is_mute entry.now }
+{
+    match entry {
+        Entry::Sent { .. }
+        | Entry::Injected { .. }
+        | Entry::Heard { .. }
+        | Entry::Home { .. }
+        | Entry::Made { .. }
+        | Entry::Restarted { .. }
+        | Entry::Claimed { .. } => false,
+        _ => true,
     }
 }
 

@@ -19,7 +19,7 @@ use crate::heard::{Heard, first_alone, first_both};
 use crate::made::Made;
 use crate::names::Names;
 use crate::nodes::Nodes;
-use crate::seeing::{sight, token_sighted};
+use crate::seeing::{is_mute, sight, token_sighted};
 use crate::updates::Updates;
 use mip_entries::Entry;
 use mip_marks::{AcceptedUpdate, Claim, Maker, Mark, Pair, Signed, key_said};
@@ -77,6 +77,9 @@ impl Watch {
             → OnOk result (StandsFor self.new (past ++ entry.now ∷ [])) }
         ensures token { IfOk result (λ token. option_map (λ t. t.0) token ≡ token_posted entry.now) }
     {
+        if is_mute(entry) {
+            return Ok(None);
+        }
         let sight = sight(entry, heard);
         self.names.note(&self.nodes, &sight)?;
         self.early.note(&self.heard, &sight)?;

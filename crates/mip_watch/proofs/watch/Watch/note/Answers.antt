@@ -1,11 +1,18 @@
-use Rattle.std.proofs.Common.{◌≡◌, ◌∙◌, ℕ, ap, subst}
+use Rattle.std.proofs.Common.{◌≡◌, ◌∙◌, ℕ, ap, sym, subst}
 use Rattle.std.specs.Prelude.{option_map}
 use Rattle.mip_words.specs.declared.token.Token.{Token}
 use Rattle.mip_watch.specs.declared.watch.Watch.{Watch}
 use Rattle.mip_watch.specs.Sights.{sight_of, token_sighted}
 use Rattle.mip_watch.specs.Updates.{AreOf, update_at, update_posted, look_step, at_step}
-use Rattle.mip_watch.proofs.Noting.{Noted, posted_token, stands_more}
+use Rattle.mip_watch.proofs.Noting.{Noted, posted_token, token_mute, stands_more, stands_mute}
 use Rattle.mip_watch.proofs.watch.Watch.note.Goals as goal
+
+pub returns-then-is_mute-clause-stands : goal.returns-then-is_mute-clause-stands
+returns-then-is_mute-clause-stands c = λ past stands next bytes.
+    stands_mute c.args.self.now past c.args.entry.now _ (sym c.is_mute.ensures ∙ c.if-is_mute.true) stands next bytes
+
+pub returns-then-is_mute-clause-token : goal.returns-then-is_mute-clause-token
+returns-then-is_mute-clause-token c = token_mute c.args.entry.now (sym c.is_mute.ensures ∙ c.if-is_mute.true)
 
 pub returns-clause-token : goal.returns-clause-token
 returns-clause-token c = c.token_sighted.ensures ∙ ap token_sighted c.sight-sight.ensures ∙ posted_token (option_map (λ (t : Token). t.0) c.args.heard) c.args.entry.now
