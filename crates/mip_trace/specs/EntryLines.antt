@@ -17,6 +17,21 @@ use Rattle.mip_trace.specs.declared.entry_word.EntryWord.{EntryWord}
 use Rattle.mip_trace.specs.declared.entry_word.EntryWord.TheVariants as words
 
 abbrev pub word_text : EntryWord → List ℕ
+word_text words.Sent = codes "sent"
+word_text words.Handed = codes "handed"
+word_text words.Gone = codes "gone"
+word_text words.Lost = codes "lost"
+word_text words.Unsent = codes "unsent"
+word_text words.Listening = codes "listening"
+word_text words.Deafened = codes "deafened"
+word_text words.Injected = codes "injected"
+word_text words.Heard = codes "heard"
+word_text words.Claimed = codes "claimed"
+word_text words.Released = codes "released"
+word_text words.Taken = codes "taken"
+word_text words.Denied = codes "denied"
+word_text words.Dropped = codes "dropped"
+word_text words.Up = codes "up"
 word_text words.At = codes "at"
 word_text words.Idle = codes "idle"
 word_text words.Restarted = codes "restarted"
@@ -25,21 +40,6 @@ word_text words.Moved = codes "moved"
 word_text words.Advertised = codes "advertised"
 word_text words.Careof = codes "careof"
 word_text words.Prefixes = codes "prefixes"
-word_text words.Listening = codes "listening"
-word_text words.Deafened = codes "deafened"
-word_text words.Injected = codes "injected"
-word_text words.Heard = codes "heard"
-word_text words.Claimed = codes "claimed"
-word_text words.Released = codes "released"
-word_text words.Taken = codes "taken"
-word_text words.Sent = codes "sent"
-word_text words.Handed = codes "handed"
-word_text words.Gone = codes "gone"
-word_text words.Lost = codes "lost"
-word_text words.Unsent = codes "unsent"
-word_text words.Denied = codes "denied"
-word_text words.Dropped = codes "dropped"
-word_text words.Up = codes "up"
 word_text words.Registered = codes "registered"
 word_text words.Unregistered = codes "unregistered"
 word_text words.Refused = codes "refused"
@@ -57,12 +57,27 @@ word_text words.Row = codes "row"
 unfoldable pub entry_words : List EntryWord
 entry_words =
     words.Sent ∷ words.Handed ∷ words.At ∷ words.Gone ∷ words.Lost ∷ words.Heard ∷ words.Moved ∷ words.Careof ∷ words.Claimed
-    ∷ words.Released ∷ words.Idle ∷ words.Restarted ∷ words.Settled ∷ words.Advertised ∷ words.Prefixes ∷ words.Listening ∷ words.Deafened ∷ words.Injected
-    ∷ words.Taken ∷ words.Unsent ∷ words.Denied ∷ words.Dropped ∷ words.Up ∷ words.Registered ∷ words.Unregistered ∷ words.Refused ∷ words.Chosen
+    ∷ words.Released ∷ words.Unsent ∷ words.Listening ∷ words.Deafened ∷ words.Injected ∷ words.Taken ∷ words.Denied ∷ words.Dropped ∷ words.Up
+    ∷ words.Idle ∷ words.Restarted ∷ words.Settled ∷ words.Advertised ∷ words.Prefixes ∷ words.Registered ∷ words.Unregistered ∷ words.Refused ∷ words.Chosen
     ∷ words.Made ∷ words.Bound ∷ words.Unbound ∷ words.Accepted ∷ words.Origin ∷ words.Forged ∷ words.Home ∷ words.Row ∷ []
 
 -- the kinds of the values behind a word
 abbrev pub kinds_of : EntryWord → List Kind
+kinds_of words.Sent = kinds.U64 ∷ kinds.Node ∷ kinds.Shield ∷ []
+kinds_of words.Handed = kinds.U64 ∷ kinds.Node ∷ []
+kinds_of words.Gone = kinds.U64 ∷ kinds.Gone ∷ []
+kinds_of words.Lost = kinds.U64 ∷ []
+kinds_of words.Unsent = kinds.Node ∷ kinds.Unsent ∷ []
+kinds_of words.Listening = kinds.Outsider ∷ kinds.Link ∷ []
+kinds_of words.Deafened = kinds.Outsider ∷ kinds.Link ∷ []
+kinds_of words.Injected = kinds.U64 ∷ kinds.Outsider ∷ kinds.Link ∷ []
+kinds_of words.Heard = kinds.U64 ∷ kinds.Outsider ∷ []
+kinds_of words.Claimed = kinds.Who ∷ kinds.Link ∷ kinds.Address ∷ []
+kinds_of words.Released = kinds.Who ∷ kinds.Link ∷ kinds.Address ∷ []
+kinds_of words.Taken = kinds.Who ∷ kinds.Link ∷ kinds.Address ∷ kinds.Who ∷ []
+kinds_of words.Denied = kinds.Node ∷ kinds.U64 ∷ kinds.U8 ∷ []
+kinds_of words.Dropped = kinds.Node ∷ kinds.U64 ∷ kinds.Dropped ∷ []
+kinds_of words.Up = kinds.Node ∷ kinds.U64 ∷ kinds.Address ∷ kinds.Address ∷ kinds.U8 ∷ []
 kinds_of words.At = kinds.Moment ∷ []
 kinds_of words.Idle = []
 kinds_of words.Restarted = kinds.Node ∷ []
@@ -71,21 +86,6 @@ kinds_of words.Moved = kinds.Node ∷ kinds.SomeLink ∷ []
 kinds_of words.Advertised = kinds.Node ∷ kinds.Link ∷ kinds.SomeAddress ∷ []
 kinds_of words.Careof = kinds.Node ∷ kinds.Address ∷ []
 kinds_of words.Prefixes = kinds.Node ∷ kinds.U32 ∷ kinds.U32 ∷ []
-kinds_of words.Listening = kinds.Outsider ∷ kinds.Link ∷ []
-kinds_of words.Deafened = kinds.Outsider ∷ kinds.Link ∷ []
-kinds_of words.Injected = kinds.U64 ∷ kinds.Outsider ∷ kinds.Link ∷ []
-kinds_of words.Heard = kinds.U64 ∷ kinds.Outsider ∷ []
-kinds_of words.Claimed = kinds.Who ∷ kinds.Link ∷ kinds.Address ∷ []
-kinds_of words.Released = kinds.Who ∷ kinds.Link ∷ kinds.Address ∷ []
-kinds_of words.Taken = kinds.Who ∷ kinds.Link ∷ kinds.Address ∷ kinds.Who ∷ []
-kinds_of words.Sent = kinds.U64 ∷ kinds.Node ∷ kinds.Shield ∷ []
-kinds_of words.Handed = kinds.U64 ∷ kinds.Node ∷ []
-kinds_of words.Gone = kinds.U64 ∷ kinds.Gone ∷ []
-kinds_of words.Lost = kinds.U64 ∷ []
-kinds_of words.Unsent = kinds.Node ∷ kinds.Unsent ∷ []
-kinds_of words.Denied = kinds.Node ∷ kinds.U64 ∷ kinds.U8 ∷ []
-kinds_of words.Dropped = kinds.Node ∷ kinds.U64 ∷ kinds.Dropped ∷ []
-kinds_of words.Up = kinds.Node ∷ kinds.U64 ∷ kinds.Address ∷ kinds.Address ∷ kinds.U8 ∷ []
 kinds_of words.Registered = kinds.Node ∷ kinds.Address ∷ kinds.Moment ∷ []
 kinds_of words.Unregistered = kinds.Node ∷ kinds.Address ∷ []
 kinds_of words.Refused = kinds.Node ∷ kinds.U8 ∷ []
@@ -101,8 +101,8 @@ kinds_of words.Row = kinds.Node ∷ kinds.Address ∷ kinds.U8 ∷ kinds.Address
 
 -- and what stands behind these
 abbrev pub tail_kind : EntryWord → Tail
-tail_kind words.Injected = tails.Packet
 tail_kind words.Sent = tails.Packet
+tail_kind words.Injected = tails.Packet
 tail_kind words.Up = tails.Bytes
 tail_kind _ = tails.Nothing
 
@@ -134,44 +134,13 @@ mobile_entry words.Refused r = entries.Refused (node_at r.values 0) (u8_at r.val
 mobile_entry words.Chosen r = entries.Chosen (node_at r.values 0) (address_at r.values 1)
 mobile_entry word r = peer_entry word r
 
--- what a node denied, dropped or handed up
-abbrev pub fate_entry : EntryWord → Row → Entry
-fate_entry words.Denied r = entries.Denied (node_at r.values 0) (u64_at r.values 1) (u8_at r.values 2)
-fate_entry words.Dropped r = entries.Dropped (node_at r.values 0) (u64_at r.values 1) (why_at r.values 2)
-fate_entry words.Up r = entries.Up (node_at r.values 0) (u64_at r.values 1) (address_at r.values 2) (address_at r.values 3) (u8_at r.values 4) r.bytes
-fate_entry word r = mobile_entry word r
-
--- packets: who sent them, who got them, and which came to nothing
-abbrev pub packet_entry : EntryWord → Row → Entry
-packet_entry words.Sent r = entries.Sent (u64_at r.values 0) (node_at r.values 1) (shield_at r.values 2) r.bytes
-packet_entry words.Handed r = entries.Handed (u64_at r.values 0) (node_at r.values 1)
-packet_entry words.Gone r = entries.Gone (u64_at r.values 0) (why_at r.values 1)
-packet_entry words.Lost r = entries.Lost (u64_at r.values 0)
-packet_entry words.Unsent r = entries.Unsent (node_at r.values 0) (why_at r.values 1)
-packet_entry word r = fate_entry word r
-
--- the claims of addresses
-abbrev pub claim_entry : EntryWord → Row → Entry
-claim_entry words.Claimed r = entries.Claimed (who_at r.values 0) (link_at r.values 1) (address_at r.values 2)
-claim_entry words.Released r = entries.Released (who_at r.values 0) (link_at r.values 1) (address_at r.values 2)
-claim_entry words.Taken r = entries.Taken (who_at r.values 0) (link_at r.values 1) (address_at r.values 2) (who_at r.values 3)
-claim_entry word r = packet_entry word r
-
--- what outsiders hear and send
-abbrev pub outsider_entry : EntryWord → Row → Entry
-outsider_entry words.Listening r = entries.Listening (outsider_at r.values 0) (link_at r.values 1)
-outsider_entry words.Deafened r = entries.Deafened (outsider_at r.values 0) (link_at r.values 1)
-outsider_entry words.Injected r = entries.Injected (u64_at r.values 0) (outsider_at r.values 1) (link_at r.values 2) r.bytes
-outsider_entry words.Heard r = entries.Heard (u64_at r.values 0) (outsider_at r.values 1)
-outsider_entry word r = claim_entry word r
-
 -- where mobiles stand, and what nodes learn there
 abbrev pub place_entry : EntryWord → Row → Entry
 place_entry words.Moved r = entries.Moved (node_at r.values 0) (some_link_at r.values 1)
 place_entry words.Advertised r = entries.Advertised (node_at r.values 0) (link_at r.values 1) (some_address_at r.values 2)
 place_entry words.Careof r = entries.Careof (node_at r.values 0) (address_at r.values 1)
 place_entry words.Prefixes r = entries.Prefixes (node_at r.values 0) (u32_at r.values 1) (u32_at r.values 2)
-place_entry word r = outsider_entry word r
+place_entry word r = mobile_entry word r
 
 -- a run as a whole: time, events without effect, restarts, and which nodes can exchange data
 abbrev pub run_entry : EntryWord → Row → Entry
@@ -181,9 +150,40 @@ run_entry words.Restarted r = entries.Restarted (node_at r.values 0)
 run_entry words.Settled r = entries.Settled (node_at r.values 0) (node_at r.values 1) (answer_at r.values 2)
 run_entry word r = place_entry word r
 
+-- what a node denied, dropped or handed up
+abbrev pub fate_entry : EntryWord → Row → Entry
+fate_entry words.Denied r = entries.Denied (node_at r.values 0) (u64_at r.values 1) (u8_at r.values 2)
+fate_entry words.Dropped r = entries.Dropped (node_at r.values 0) (u64_at r.values 1) (why_at r.values 2)
+fate_entry words.Up r = entries.Up (node_at r.values 0) (u64_at r.values 1) (address_at r.values 2) (address_at r.values 3) (u8_at r.values 4) r.bytes
+fate_entry word r = run_entry word r
+
+-- the claims of addresses
+abbrev pub claim_entry : EntryWord → Row → Entry
+claim_entry words.Claimed r = entries.Claimed (who_at r.values 0) (link_at r.values 1) (address_at r.values 2)
+claim_entry words.Released r = entries.Released (who_at r.values 0) (link_at r.values 1) (address_at r.values 2)
+claim_entry words.Taken r = entries.Taken (who_at r.values 0) (link_at r.values 1) (address_at r.values 2) (who_at r.values 3)
+claim_entry word r = fate_entry word r
+
+-- what outsiders hear and send
+abbrev pub outsider_entry : EntryWord → Row → Entry
+outsider_entry words.Listening r = entries.Listening (outsider_at r.values 0) (link_at r.values 1)
+outsider_entry words.Deafened r = entries.Deafened (outsider_at r.values 0) (link_at r.values 1)
+outsider_entry words.Injected r = entries.Injected (u64_at r.values 0) (outsider_at r.values 1) (link_at r.values 2) r.bytes
+outsider_entry words.Heard r = entries.Heard (u64_at r.values 0) (outsider_at r.values 1)
+outsider_entry word r = claim_entry word r
+
+-- packets: who sent them, who got them, and which came to nothing
+abbrev pub packet_entry : EntryWord → Row → Entry
+packet_entry words.Sent r = entries.Sent (u64_at r.values 0) (node_at r.values 1) (shield_at r.values 2) r.bytes
+packet_entry words.Handed r = entries.Handed (u64_at r.values 0) (node_at r.values 1)
+packet_entry words.Gone r = entries.Gone (u64_at r.values 0) (why_at r.values 1)
+packet_entry words.Lost r = entries.Lost (u64_at r.values 0)
+packet_entry words.Unsent r = entries.Unsent (node_at r.values 0) (why_at r.values 1)
+packet_entry word r = outsider_entry word r
+
 -- the entry that a row behind a word stands for
 abbrev pub entry_at : EntryWord → Row → Entry
-entry_at word r = run_entry word r
+entry_at word r = packet_entry word r
 
 -- a line: a word, values and the bytes of its tail
 pub record Line : Type 0 where
@@ -227,44 +227,13 @@ mobile_line (entries.Refused a b) = line words.Refused (values.Node a ∷ values
 mobile_line (entries.Chosen a b) = line words.Chosen (values.Node a ∷ values.Address b ∷ [])
 mobile_line other = peer_line other
 
--- what a node denied, dropped or handed up
-abbrev pub fate_line : Entry → Line
-fate_line (entries.Denied a b c) = line words.Denied (values.Node a ∷ values.U64 b ∷ values.U8 c ∷ [])
-fate_line (entries.Dropped a b c) = line words.Dropped (values.Node a ∷ values.U64 b ∷ values.Why c ∷ [])
-fate_line (entries.Up a b c d e f) = tailed words.Up (values.Node a ∷ values.U64 b ∷ values.Address c ∷ values.Address d ∷ values.U8 e ∷ []) f
-fate_line other = mobile_line other
-
--- packets: who sent them, who got them, and which came to nothing
-abbrev pub packet_line : Entry → Line
-packet_line (entries.Sent a b c d) = tailed words.Sent (values.U64 a ∷ values.Node b ∷ values.Shield c ∷ []) d
-packet_line (entries.Handed a b) = line words.Handed (values.U64 a ∷ values.Node b ∷ [])
-packet_line (entries.Gone a b) = line words.Gone (values.U64 a ∷ values.Why b ∷ [])
-packet_line (entries.Lost a) = line words.Lost (values.U64 a ∷ [])
-packet_line (entries.Unsent a b) = line words.Unsent (values.Node a ∷ values.Why b ∷ [])
-packet_line other = fate_line other
-
--- the claims of addresses
-abbrev pub claim_line : Entry → Line
-claim_line (entries.Claimed a b c) = line words.Claimed (values.Who a ∷ values.Link b ∷ values.Address c ∷ [])
-claim_line (entries.Released a b c) = line words.Released (values.Who a ∷ values.Link b ∷ values.Address c ∷ [])
-claim_line (entries.Taken a b c d) = line words.Taken (values.Who a ∷ values.Link b ∷ values.Address c ∷ values.Who d ∷ [])
-claim_line other = packet_line other
-
--- what outsiders hear and send
-abbrev pub outsider_line : Entry → Line
-outsider_line (entries.Listening a b) = line words.Listening (values.Outsider a ∷ values.Link b ∷ [])
-outsider_line (entries.Deafened a b) = line words.Deafened (values.Outsider a ∷ values.Link b ∷ [])
-outsider_line (entries.Injected a b c d) = tailed words.Injected (values.U64 a ∷ values.Outsider b ∷ values.Link c ∷ []) d
-outsider_line (entries.Heard a b) = line words.Heard (values.U64 a ∷ values.Outsider b ∷ [])
-outsider_line other = claim_line other
-
 -- where mobiles stand, and what nodes learn there
 abbrev pub place_line : Entry → Line
 place_line (entries.Moved a b) = line words.Moved (values.Node a ∷ values.SomeLink b ∷ [])
 place_line (entries.Advertised a b c) = line words.Advertised (values.Node a ∷ values.Link b ∷ values.SomeAddress c ∷ [])
 place_line (entries.Careof a b) = line words.Careof (values.Node a ∷ values.Address b ∷ [])
 place_line (entries.Prefixes a b c) = line words.Prefixes (values.Node a ∷ values.U32 b ∷ values.U32 c ∷ [])
-place_line other = outsider_line other
+place_line other = mobile_line other
 
 -- a run as a whole: time, events without effect, restarts, and which nodes can exchange data
 abbrev pub run_line : Entry → Line
@@ -274,9 +243,40 @@ run_line (entries.Restarted a) = line words.Restarted (values.Node a ∷ [])
 run_line (entries.Settled a b c) = line words.Settled (values.Node a ∷ values.Node b ∷ values.Answer c ∷ [])
 run_line other = place_line other
 
+-- what a node denied, dropped or handed up
+abbrev pub fate_line : Entry → Line
+fate_line (entries.Denied a b c) = line words.Denied (values.Node a ∷ values.U64 b ∷ values.U8 c ∷ [])
+fate_line (entries.Dropped a b c) = line words.Dropped (values.Node a ∷ values.U64 b ∷ values.Why c ∷ [])
+fate_line (entries.Up a b c d e f) = tailed words.Up (values.Node a ∷ values.U64 b ∷ values.Address c ∷ values.Address d ∷ values.U8 e ∷ []) f
+fate_line other = run_line other
+
+-- the claims of addresses
+abbrev pub claim_line : Entry → Line
+claim_line (entries.Claimed a b c) = line words.Claimed (values.Who a ∷ values.Link b ∷ values.Address c ∷ [])
+claim_line (entries.Released a b c) = line words.Released (values.Who a ∷ values.Link b ∷ values.Address c ∷ [])
+claim_line (entries.Taken a b c d) = line words.Taken (values.Who a ∷ values.Link b ∷ values.Address c ∷ values.Who d ∷ [])
+claim_line other = fate_line other
+
+-- what outsiders hear and send
+abbrev pub outsider_line : Entry → Line
+outsider_line (entries.Listening a b) = line words.Listening (values.Outsider a ∷ values.Link b ∷ [])
+outsider_line (entries.Deafened a b) = line words.Deafened (values.Outsider a ∷ values.Link b ∷ [])
+outsider_line (entries.Injected a b c d) = tailed words.Injected (values.U64 a ∷ values.Outsider b ∷ values.Link c ∷ []) d
+outsider_line (entries.Heard a b) = line words.Heard (values.U64 a ∷ values.Outsider b ∷ [])
+outsider_line other = claim_line other
+
+-- packets: who sent them, who got them, and which came to nothing
+abbrev pub packet_line : Entry → Line
+packet_line (entries.Sent a b c d) = tailed words.Sent (values.U64 a ∷ values.Node b ∷ values.Shield c ∷ []) d
+packet_line (entries.Handed a b) = line words.Handed (values.U64 a ∷ values.Node b ∷ [])
+packet_line (entries.Gone a b) = line words.Gone (values.U64 a ∷ values.Why b ∷ [])
+packet_line (entries.Lost a) = line words.Lost (values.U64 a ∷ [])
+packet_line (entries.Unsent a b) = line words.Unsent (values.Node a ∷ values.Why b ∷ [])
+packet_line other = outsider_line other
+
 -- the line of an entry
 abbrev pub line_of : Entry → Line
-line_of entry = run_line entry
+line_of entry = packet_line entry
 
 -- the fields of a line, whose first is its word
 abbrev pub line_fields : Names → Line → List (List ℕ)

@@ -1,16 +1,17 @@
 //! The lines of the claims of addresses.
 
-ghost use Rattle.std.specs.Prelude.{◌≡◌, ◌++◌, OnOk};
+ghost use Rattle.std.specs.Prelude.{◌≡◌, [], ◌∷◌, ◌++◌, OnOk};
 ghost use Rattle.mip_lines.specs.Lines.{line_text};
+ghost use Rattle.mip_rows.specs.declared.value.Value.TheVariants as values;
 ghost use Rattle.mip_trace.specs.EntryLines as lines;
-ghost use Rattle.mip_trace.specs.EntryLines.{line_fields};
+ghost use Rattle.mip_trace.specs.EntryLines.{line, line_fields};
 
 use crate::entry_word::EntryWord;
+use crate::fate_entries::{fate_entry, put_fate_entry};
 use crate::line_writing::put_values;
-use crate::packet_entries::{packet_entry, put_packet_entry};
 use mip_entries::Entry;
 use mip_rows::{NameTable, Value, Values};
-use mip_words::{Bytes, Memory};
+use mip_words::{Address, Bytes, LinkId, Memory};
 
 /// The entry of a row behind a word.
 pub fn claim_entry(word: EntryWord, values: &Values, bytes: Bytes) -> Entry
@@ -33,8 +34,27 @@ pub fn claim_entry(word: EntryWord, values: &Values, bytes: Bytes) -> Entry
             address: values.address(2),
             holder: values.who(3),
         },
-        _ => packet_entry(word, values, bytes),
+        _ => fate_entry(word, values, bytes),
     }
+}
+
+/// Appends the line of a claim that was made or given up.
+fn put_claim(
+    out: &mut Bytes,
+    names: &NameTable<'_>,
+    word: EntryWord,
+    who: u8,
+    link: LinkId,
+    address: Address,
+) -> Result<(), Memory>
+    ensures { OnOk result (out.new ≡ out.old ++ line_text (line_fields names.now (line word (values.Who who ∷ values.Link link ∷ values.Address address ∷ [])))) }
+{
+    put_values(
+        out,
+        names,
+        word,
+        &[Value::Who(who), Value::Link(link), Value::Address(address)],
+    )
 }
 
 /// Appends the line of an entry.
@@ -42,25 +62,21 @@ pub fn put_claim_entry(out: &mut Bytes, names: &NameTable<'_>, entry: &Entry) ->
     ensures { OnOk result (out.new ≡ out.old ++ line_text (line_fields names.now (lines.claim_line entry.now))) }
 {
     match entry {
-        Entry::Claimed { who, link, address } => put_values(
+        Entry::Claimed { who, link, address } => put_claim(
             out,
             names,
             EntryWord::Claimed,
-            &[
-                Value::Who(*who),
-                Value::Link(*link),
-                Value::Address(*address),
-            ],
+            *who,
+            *link,
+            *address,
         ),
-        Entry::Released { who, link, address } => put_values(
+        Entry::Released { who, link, address } => put_claim(
             out,
             names,
             EntryWord::Released,
-            &[
-                Value::Who(*who),
-                Value::Link(*link),
-                Value::Address(*address),
-            ],
+            *who,
+            *link,
+            *address,
         ),
         Entry::Taken {
             who,
@@ -78,6 +94,6 @@ pub fn put_claim_entry(out: &mut Bytes, names: &NameTable<'_>, entry: &Entry) ->
                 Value::Who(*holder),
             ],
         ),
-        _ => put_packet_entry(out, names, entry),
+        _ => put_fate_entry(out, names, entry),
     }
 }

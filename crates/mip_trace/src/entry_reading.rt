@@ -8,7 +8,7 @@ ghost use Rattle.mip_trace.specs.EntryReading.{entry_of};
 
 use crate::entry_kinds::{kinds_of, tail_of};
 use crate::entry_word::word_of;
-use crate::run_entries::run_entry;
+use crate::packet_entries::packet_entry;
 use mip_entries::Entry;
 use mip_lines::fields_up_to;
 use mip_rows::{Row, RowFault, read_row};
@@ -28,7 +28,7 @@ fn entry_of(alloc: Global, ds: &[Declaration], fields: &[&[u8]]) -> Result<Entry
         return Err(RowFault::Bad(Reason::Form));
     };
     let Row { values, bytes } = read_row(alloc, ds, kinds_of(word), tail_of(word), row)?;
-    Ok(run_entry(word, &values, bytes))
+    Ok(packet_entry(word, &values, bytes))
 }
 
 /// The entry that a line stands for. No line of an entry has more than ten fields, and of a line with more

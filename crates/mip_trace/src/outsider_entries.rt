@@ -1,16 +1,18 @@
 //! The lines of what outsiders hear and send.
 
-ghost use Rattle.std.specs.Prelude.{◌≡◌, ◌++◌, OnOk};
+ghost use Rattle.std.specs.Prelude.{◌≡◌, [], ◌∷◌, ◌++◌, OnOk};
 ghost use Rattle.mip_lines.specs.Lines.{line_text};
+ghost use Rattle.mip_rows.specs.declared.value.Value.TheVariants as values;
 ghost use Rattle.mip_trace.specs.EntryLines as lines;
-ghost use Rattle.mip_trace.specs.EntryLines.{line_fields};
+ghost use Rattle.mip_trace.specs.EntryLines.{line, line_fields, tailed};
+ghost use Rattle.mip_trace.specs.declared.entry_word.EntryWord.TheVariants as words;
 
 use crate::claim_entries::{claim_entry, put_claim_entry};
 use crate::entry_word::EntryWord;
 use crate::line_writing::{put_line, put_values};
 use mip_entries::Entry;
 use mip_rows::{NameTable, Value, Values};
-use mip_words::{Bytes, Memory};
+use mip_words::{Bytes, LinkId, Memory};
 
 /// The entry of a row behind a word.
 pub fn outsider_entry(word: EntryWord, values: &Values, bytes: Bytes) -> Entry
@@ -39,6 +41,63 @@ pub fn outsider_entry(word: EntryWord, values: &Values, bytes: Bytes) -> Entry
     }
 }
 
+fn put_injected(
+    out: &mut Bytes,
+    names: &NameTable<'_>,
+    number: u64,
+    outsider: u8,
+    link: LinkId,
+    packet: &[u8],
+) -> Result<(), Memory>
+    ensures { OnOk result (out.new ≡ out.old ++ line_text (line_fields names.now (tailed words.Injected (values.U64 number ∷ values.Outsider outsider ∷ values.Link link ∷ []) packet.now))) }
+{
+    put_line(
+        out,
+        names,
+        EntryWord::Injected,
+        &[
+            Value::U64(number),
+            Value::Outsider(outsider),
+            Value::Link(link),
+        ],
+        packet,
+    )
+}
+
+fn put_heard(
+    out: &mut Bytes,
+    names: &NameTable<'_>,
+    number: u64,
+    outsider: u8,
+) -> Result<(), Memory>
+    ensures { OnOk result (out.new ≡ out.old ++ line_text (line_fields names.now (line words.Heard (values.U64 number ∷ values.Outsider outsider ∷ [])))) }
+{
+    put_values(
+        out,
+        names,
+        EntryWord::Heard,
+        &[Value::U64(number), Value::Outsider(outsider)],
+    )
+}
+
+/// Appends the line of an outsider on a link.
+fn put_listener(
+    out: &mut Bytes,
+    names: &NameTable<'_>,
+    word: EntryWord,
+    outsider: u8,
+    link: LinkId,
+) -> Result<(), Memory>
+    ensures { OnOk result (out.new ≡ out.old ++ line_text (line_fields names.now (line word (values.Outsider outsider ∷ values.Link link ∷ [])))) }
+{
+    put_values(
+        out,
+        names,
+        word,
+        &[Value::Outsider(outsider), Value::Link(link)],
+    )
+}
+
 /// Appends the line of an entry.
 pub fn put_outsider_entry(
     out: &mut Bytes,
@@ -48,40 +107,27 @@ pub fn put_outsider_entry(
     ensures { OnOk result (out.new ≡ out.old ++ line_text (line_fields names.now (lines.outsider_line entry.now))) }
 {
     match entry {
-        Entry::Listening { outsider, link } => put_values(
+        Entry::Listening { outsider, link } => put_listener(
             out,
             names,
             EntryWord::Listening,
-            &[Value::Outsider(*outsider), Value::Link(*link)],
+            *outsider,
+            *link,
         ),
-        Entry::Deafened { outsider, link } => put_values(
+        Entry::Deafened { outsider, link } => put_listener(
             out,
             names,
             EntryWord::Deafened,
-            &[Value::Outsider(*outsider), Value::Link(*link)],
+            *outsider,
+            *link,
         ),
         Entry::Injected {
             number,
             outsider,
             link,
             packet,
-        } => put_line(
-            out,
-            names,
-            EntryWord::Injected,
-            &[
-                Value::U64(*number),
-                Value::Outsider(*outsider),
-                Value::Link(*link),
-            ],
-            packet.as_slice(),
-        ),
-        Entry::Heard { number, outsider } => put_values(
-            out,
-            names,
-            EntryWord::Heard,
-            &[Value::U64(*number), Value::Outsider(*outsider)],
-        ),
+        } => put_injected(out, names, *number, *outsider, *link, packet.as_slice()),
+        Entry::Heard { number, outsider } => put_heard(out, names, *number, *outsider),
         _ => put_claim_entry(out, names, entry),
     }
 }

@@ -1,16 +1,18 @@
 //! The lines of packets: who sent them, who got them, and which came to nothing.
 
-ghost use Rattle.std.specs.Prelude.{◌≡◌, ◌++◌, OnOk};
+ghost use Rattle.std.specs.Prelude.{◌≡◌, [], ◌∷◌, ◌++◌, OnOk};
 ghost use Rattle.mip_lines.specs.Lines.{line_text};
+ghost use Rattle.mip_rows.specs.declared.value.Value.TheVariants as values;
 ghost use Rattle.mip_trace.specs.EntryLines as lines;
-ghost use Rattle.mip_trace.specs.EntryLines.{line_fields};
+ghost use Rattle.mip_trace.specs.EntryLines.{line, line_fields, tailed};
+ghost use Rattle.mip_trace.specs.declared.entry_word.EntryWord.TheVariants as words;
 
 use crate::entry_word::EntryWord;
-use crate::fate_entries::{fate_entry, put_fate_entry};
 use crate::line_writing::{put_line, put_values};
+use crate::outsider_entries::{outsider_entry, put_outsider_entry};
 use mip_entries::Entry;
 use mip_rows::{NameTable, Value, Values};
-use mip_words::{Bytes, Memory};
+use mip_words::{Bytes, Memory, NodeId, Why};
 
 /// The entry of a row behind a word.
 pub fn packet_entry(word: EntryWord, values: &Values, bytes: Bytes) -> Entry
@@ -38,8 +40,64 @@ pub fn packet_entry(word: EntryWord, values: &Values, bytes: Bytes) -> Entry
             node: values.node(0),
             why: values.why(1),
         },
-        _ => fate_entry(word, values, bytes),
+        _ => outsider_entry(word, values, bytes),
     }
+}
+
+fn put_lost(out: &mut Bytes, names: &NameTable<'_>, number: u64) -> Result<(), Memory>
+    ensures { OnOk result (out.new ≡ out.old ++ line_text (line_fields names.now (line words.Lost (values.U64 number ∷ [])))) }
+{
+    put_values(out, names, EntryWord::Lost, &[Value::U64(number)])
+}
+
+fn put_sent(
+    out: &mut Bytes,
+    names: &NameTable<'_>,
+    number: u64,
+    node: NodeId,
+    shielded: bool,
+    packet: &[u8],
+) -> Result<(), Memory>
+    ensures { OnOk result (out.new ≡ out.old ++ line_text (line_fields names.now (tailed words.Sent (values.U64 number ∷ values.Node node ∷ values.Shield shielded ∷ []) packet.now))) }
+{
+    put_line(
+        out,
+        names,
+        EntryWord::Sent,
+        &[
+            Value::U64(number),
+            Value::Node(node),
+            Value::Shield(shielded),
+        ],
+        packet,
+    )
+}
+
+fn put_handed(
+    out: &mut Bytes,
+    names: &NameTable<'_>,
+    number: u64,
+    node: NodeId,
+) -> Result<(), Memory>
+    ensures { OnOk result (out.new ≡ out.old ++ line_text (line_fields names.now (line words.Handed (values.U64 number ∷ values.Node node ∷ [])))) }
+{
+    put_values(
+        out,
+        names,
+        EntryWord::Handed,
+        &[Value::U64(number), Value::Node(node)],
+    )
+}
+
+fn put_gone(out: &mut Bytes, names: &NameTable<'_>, number: u64, why: Why) -> Result<(), Memory>
+    ensures { OnOk result (out.new ≡ out.old ++ line_text (line_fields names.now (line words.Gone (values.U64 number ∷ values.Why why ∷ [])))) }
+{
+    put_values(
+        out,
+        names,
+        EntryWord::Gone,
+        &[Value::U64(number), Value::Why(why)],
+    )
 }
 
 /// Appends the line of an entry.
@@ -52,36 +110,16 @@ pub fn put_packet_entry(out: &mut Bytes, names: &NameTable<'_>, entry: &Entry) -
             node,
             shielded,
             packet,
-        } => put_line(
-            out,
-            names,
-            EntryWord::Sent,
-            &[
-                Value::U64(*number),
-                Value::Node(*node),
-                Value::Shield(*shielded),
-            ],
-            packet.as_slice(),
-        ),
-        Entry::Handed { number, node } => put_values(
-            out,
-            names,
-            EntryWord::Handed,
-            &[Value::U64(*number), Value::Node(*node)],
-        ),
-        Entry::Gone { number, why } => put_values(
-            out,
-            names,
-            EntryWord::Gone,
-            &[Value::U64(*number), Value::Why(*why)],
-        ),
-        Entry::Lost { number } => put_values(out, names, EntryWord::Lost, &[Value::U64(*number)]),
+        } => put_sent(out, names, *number, *node, *shielded, packet.as_slice()),
+        Entry::Handed { number, node } => put_handed(out, names, *number, *node),
+        Entry::Gone { number, why } => put_gone(out, names, *number, *why),
+        Entry::Lost { number } => put_lost(out, names, *number),
         Entry::Unsent { node, why } => put_values(
             out,
             names,
             EntryWord::Unsent,
             &[Value::Node(*node), Value::Why(*why)],
         ),
-        _ => put_fate_entry(out, names, entry),
+        _ => put_outsider_entry(out, names, entry),
     }
 }

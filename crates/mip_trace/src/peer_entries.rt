@@ -1,16 +1,20 @@
 //! The lines of what a mobile has with its peers. RFC 6275 sections 11.6 and 11.7.2.
 
-ghost use Rattle.std.specs.Prelude.{◌≡◌, ◌++◌, OnOk};
+ghost use Rattle.std.specs.Prelude.{◌≡◌, [], ◌∷◌, ◌++◌, OnOk};
 ghost use Rattle.mip_lines.specs.Lines.{line_text};
+ghost use Rattle.mip_rows.specs.declared.value.Value.TheVariants as values;
 ghost use Rattle.mip_trace.specs.EntryLines as lines;
-ghost use Rattle.mip_trace.specs.EntryLines.{line_fields};
+ghost use Rattle.mip_trace.specs.EntryLines.{line, line_fields};
+ghost use Rattle.mip_trace.specs.declared.entry_word.EntryWord.TheVariants as words;
 
 use crate::entry_word::EntryWord;
 use crate::line_writing::put_values;
+use crate::mobile_entries::put_until;
+use crate::place_entries::put_node_address;
 use crate::update_entries::{put_update_entry, update_entry};
 use mip_entries::Entry;
 use mip_rows::{NameTable, Value, Values};
-use mip_words::{Bytes, Memory};
+use mip_words::{Address, Bytes, Memory, NodeId, Token};
 
 /// The entry of a row behind a word.
 pub fn peer_entry(word: EntryWord, values: &Values, bytes: Bytes) -> Entry
@@ -37,6 +41,31 @@ pub fn peer_entry(word: EntryWord, values: &Values, bytes: Bytes) -> Entry
     }
 }
 
+fn put_made(
+    out: &mut Bytes,
+    names: &NameTable<'_>,
+    node: NodeId,
+    peer: Address,
+    number: u64,
+    home: Token,
+    careof: Option<Token>,
+) -> Result<(), Memory>
+    ensures { OnOk result (out.new ≡ out.old ++ line_text (line_fields names.now (line words.Made (values.Node node ∷ values.Address peer ∷ values.U64 number ∷ values.Token home ∷ values.SomeToken careof ∷ [])))) }
+{
+    put_values(
+        out,
+        names,
+        EntryWord::Made,
+        &[
+            Value::Node(node),
+            Value::Address(peer),
+            Value::U64(number),
+            Value::Token(home),
+            Value::SomeToken(careof),
+        ],
+    )
+}
+
 /// Appends the line of an entry.
 pub fn put_peer_entry(out: &mut Bytes, names: &NameTable<'_>, entry: &Entry) -> Result<(), Memory>
     ensures { OnOk result (out.new ≡ out.old ++ line_text (line_fields names.now (lines.peer_line entry.now))) }
@@ -48,33 +77,21 @@ pub fn put_peer_entry(out: &mut Bytes, names: &NameTable<'_>, entry: &Entry) -> 
             number,
             home,
             careof,
-        } => put_values(
-            out,
-            names,
-            EntryWord::Made,
-            &[
-                Value::Node(*node),
-                Value::Address(*peer),
-                Value::U64(*number),
-                Value::Token(*home),
-                Value::SomeToken(*careof),
-            ],
-        ),
-        Entry::Bound { node, peer, end } => put_values(
+        } => put_made(out, names, *node, *peer, *number, *home, *careof),
+        Entry::Bound { node, peer, end } => put_until(
             out,
             names,
             EntryWord::Bound,
-            &[
-                Value::Node(*node),
-                Value::Address(*peer),
-                Value::Moment(*end),
-            ],
+            *node,
+            *peer,
+            *end,
         ),
-        Entry::Unbound { node, peer } => put_values(
+        Entry::Unbound { node, peer } => put_node_address(
             out,
             names,
             EntryWord::Unbound,
-            &[Value::Node(*node), Value::Address(*peer)],
+            *node,
+            *peer,
         ),
         _ => put_update_entry(out, names, entry),
     }

@@ -1,16 +1,18 @@
 //! The lines of where mobiles stand, and what nodes learn there.
 
-ghost use Rattle.std.specs.Prelude.{◌≡◌, ◌++◌, OnOk};
+ghost use Rattle.std.specs.Prelude.{◌≡◌, [], ◌∷◌, ◌++◌, OnOk};
 ghost use Rattle.mip_lines.specs.Lines.{line_text};
+ghost use Rattle.mip_rows.specs.declared.value.Value.TheVariants as values;
 ghost use Rattle.mip_trace.specs.EntryLines as lines;
-ghost use Rattle.mip_trace.specs.EntryLines.{line_fields};
+ghost use Rattle.mip_trace.specs.EntryLines.{line, line_fields};
+ghost use Rattle.mip_trace.specs.declared.entry_word.EntryWord.TheVariants as words;
 
 use crate::entry_word::EntryWord;
 use crate::line_writing::put_values;
-use crate::outsider_entries::{outsider_entry, put_outsider_entry};
+use crate::mobile_entries::{mobile_entry, put_mobile_entry};
 use mip_entries::Entry;
 use mip_rows::{NameTable, Value, Values};
-use mip_words::{Bytes, Memory};
+use mip_words::{Address, Bytes, LinkId, Memory, NodeId};
 
 /// The entry of a row behind a word.
 pub fn place_entry(word: EntryWord, values: &Values, bytes: Bytes) -> Entry
@@ -35,8 +37,42 @@ pub fn place_entry(word: EntryWord, values: &Values, bytes: Bytes) -> Entry
             valid: values.u32(1),
             preferred: values.u32(2),
         },
-        _ => outsider_entry(word, values, bytes),
+        _ => mobile_entry(word, values, bytes),
     }
+}
+
+/// Appends the line of a node and an address.
+pub fn put_node_address(
+    out: &mut Bytes,
+    names: &NameTable<'_>,
+    word: EntryWord,
+    node: NodeId,
+    address: Address,
+) -> Result<(), Memory>
+    ensures { OnOk result (out.new ≡ out.old ++ line_text (line_fields names.now (line word (values.Node node ∷ values.Address address ∷ [])))) }
+{
+    put_values(
+        out,
+        names,
+        word,
+        &[Value::Node(node), Value::Address(address)],
+    )
+}
+
+fn put_moved(
+    out: &mut Bytes,
+    names: &NameTable<'_>,
+    node: NodeId,
+    link: Option<LinkId>,
+) -> Result<(), Memory>
+    ensures { OnOk result (out.new ≡ out.old ++ line_text (line_fields names.now (line words.Moved (values.Node node ∷ values.SomeLink link ∷ [])))) }
+{
+    put_values(
+        out,
+        names,
+        EntryWord::Moved,
+        &[Value::Node(node), Value::SomeLink(link)],
+    )
 }
 
 /// Appends the line of an entry.
@@ -44,12 +80,7 @@ pub fn put_place_entry(out: &mut Bytes, names: &NameTable<'_>, entry: &Entry) ->
     ensures { OnOk result (out.new ≡ out.old ++ line_text (line_fields names.now (lines.place_line entry.now))) }
 {
     match entry {
-        Entry::Moved { node, link } => put_values(
-            out,
-            names,
-            EntryWord::Moved,
-            &[Value::Node(*node), Value::SomeLink(*link)],
-        ),
+        Entry::Moved { node, link } => put_moved(out, names, *node, *link),
         Entry::Advertised { node, link, agent } => put_values(
             out,
             names,
@@ -60,11 +91,12 @@ pub fn put_place_entry(out: &mut Bytes, names: &NameTable<'_>, entry: &Entry) ->
                 Value::SomeAddress(*agent),
             ],
         ),
-        Entry::Careof { node, address } => put_values(
+        Entry::Careof { node, address } => put_node_address(
             out,
             names,
             EntryWord::Careof,
-            &[Value::Node(*node), Value::Address(*address)],
+            *node,
+            *address,
         ),
         Entry::Prefixes {
             node,
@@ -80,6 +112,6 @@ pub fn put_place_entry(out: &mut Bytes, names: &NameTable<'_>, entry: &Entry) ->
                 Value::U32(*preferred),
             ],
         ),
-        _ => put_outsider_entry(out, names, entry),
+        _ => put_mobile_entry(out, names, entry),
     }
 }

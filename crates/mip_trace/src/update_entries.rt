@@ -1,16 +1,18 @@
 //! The lines of an update that a correspondent accepts. RFC 6275 section 9.5.
 
-ghost use Rattle.std.specs.Prelude.{◌≡◌, ◌++◌, OnOk};
+ghost use Rattle.std.specs.Prelude.{◌≡◌, [], ◌∷◌, ◌++◌, OnOk};
 ghost use Rattle.mip_lines.specs.Lines.{line_text};
+ghost use Rattle.mip_rows.specs.declared.value.Value.TheVariants as values;
 ghost use Rattle.mip_trace.specs.EntryLines as lines;
-ghost use Rattle.mip_trace.specs.EntryLines.{line_fields};
+ghost use Rattle.mip_trace.specs.EntryLines.{line, line_fields};
+ghost use Rattle.mip_trace.specs.declared.entry_word.EntryWord.TheVariants as words;
 
 use crate::entry_word::EntryWord;
 use crate::kept_entries::{kept_entry, put_kept_entry};
 use crate::line_writing::put_values;
 use mip_entries::Entry;
 use mip_rows::{NameTable, Value, Values};
-use mip_words::{Bytes, Memory};
+use mip_words::{Address, Bytes, Memory, Moment, NodeId};
 
 /// The entry of a row behind a word.
 pub fn update_entry(word: EntryWord, values: &Values, bytes: Bytes) -> Entry
@@ -40,6 +42,39 @@ pub fn update_entry(word: EntryWord, values: &Values, bytes: Bytes) -> Entry
     }
 }
 
+fn put_accepted(
+    out: &mut Bytes,
+    names: &NameTable<'_>,
+    node: NodeId,
+    number: u64,
+    home: Address,
+    binding: u8,
+    careof: Address,
+    sequence: u16,
+    end: Moment,
+    home_index: u16,
+    careof_index: Option<u16>,
+) -> Result<(), Memory>
+    ensures { OnOk result (out.new ≡ out.old ++ line_text (line_fields names.now (line words.Accepted (values.Node node ∷ values.U64 number ∷ values.Address home ∷ values.U8 binding ∷ values.Address careof ∷ values.U16 sequence ∷ values.Moment end ∷ values.U16 home_index ∷ values.SomeU16 careof_index ∷ [])))) }
+{
+    put_values(
+        out,
+        names,
+        EntryWord::Accepted,
+        &[
+            Value::Node(node),
+            Value::U64(number),
+            Value::Address(home),
+            Value::U8(binding),
+            Value::Address(careof),
+            Value::U16(sequence),
+            Value::Moment(end),
+            Value::U16(home_index),
+            Value::SomeU16(careof_index),
+        ],
+    )
+}
+
 /// Appends the line of an entry.
 pub fn put_update_entry(out: &mut Bytes, names: &NameTable<'_>, entry: &Entry) -> Result<(), Memory>
     ensures { OnOk result (out.new ≡ out.old ++ line_text (line_fields names.now (lines.update_line entry.now))) }
@@ -55,21 +90,18 @@ pub fn put_update_entry(out: &mut Bytes, names: &NameTable<'_>, entry: &Entry) -
             end,
             home_index,
             careof_index,
-        } => put_values(
+        } => put_accepted(
             out,
             names,
-            EntryWord::Accepted,
-            &[
-                Value::Node(*node),
-                Value::U64(*number),
-                Value::Address(*home),
-                Value::U8(*binding),
-                Value::Address(*careof),
-                Value::U16(*sequence),
-                Value::Moment(*end),
-                Value::U16(*home_index),
-                Value::SomeU16(*careof_index),
-            ],
+            *node,
+            *number,
+            *home,
+            *binding,
+            *careof,
+            *sequence,
+            *end,
+            *home_index,
+            *careof_index,
         ),
         Entry::Origin { hot, cot, update } => put_values(
             out,
