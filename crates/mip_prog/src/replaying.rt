@@ -13,6 +13,7 @@ use crate::status::Status;
 use crate::text::Text;
 use itoa::Buffer;
 use mip_replay::unbuilt;
+use mip_reread::trace_is_read_back;
 use mip_schedule::{Reason, Schedule, ScheduleFault, read_schedule};
 use mip_words::{Bytes, Memory};
 use std::alloc::Global;
@@ -49,13 +50,14 @@ fn run(alloc: Global, schedule: Schedule) -> Result<Reply, Memory>
     }
 }
 
-/// The trace of a schedule that runs. It is spelled only as it is written.
+/// The trace of a schedule that runs. It is spelled only as it is written, and is read as the history that it tells.
 fn trace(alloc: Global, schedule: Schedule) -> Result<Reply, Memory>
     requires { unbuilt_line (content schedule) ≡ None }
     ensures answers { IfOk result (λ reply. reply ≡ run_answer (content schedule) None) }
     ensures settled { IfOk result (λ reply. IsSettled reply.status) }
 {
     let history = mip_replay::replay(alloc, &schedule)?;
+    trace_is_read_back(&schedule, &history);
     Ok(Reply {
         status: Status::OK,
         text: Text::Trace { schedule, history },

@@ -14,7 +14,7 @@ use mip_words::{Address, Bytes, LinkId, Memory, Token, hex_into};
 fn put_none(out: &mut Bytes) -> Result<(), Memory>
     ensures { OnOk result (out.new ≡ out.old ++ codes "-") }
 {
-    out.extend(b"-")
+    out.push(b'-')
 }
 
 fn put_some_number(out: &mut Bytes, number: Option<u64>) -> Result<(), Memory>
@@ -81,9 +81,9 @@ fn put_shield(out: &mut Bytes, shielded: bool) -> Result<(), Memory>
     ensures { OnOk result (out.new ≡ out.old ++ shield_mark shielded) }
 {
     if shielded {
-        out.extend(b"+")
+        out.push(b'+')
     } else {
-        out.extend(b"-")
+        out.push(b'-')
     }
 }
 

@@ -19,7 +19,7 @@ fn put_values(out: &mut Bytes, names: &NameTable<'_>, values: &[Value]) -> Resul
     ensures { OnOk result (out.new ≡ out.old ++ spaced (map (value_text names.now) values.now)) }
 {
     for value in values {
-        out.extend(b" ")?;
+        out.push(b' ')?;
         put_value(out, names, *value)?;
     }
     Ok(())
@@ -29,14 +29,14 @@ fn put_values(out: &mut Bytes, names: &NameTable<'_>, values: &[Value]) -> Resul
 fn put_bytes(out: &mut Bytes, bytes: &[u8]) -> Result<(), Memory>
     ensures { OnOk result (out.new ≡ out.old ++ spaced (hex_text bytes.now ∷ [])) }
 {
-    out.extend(b" ")?;
+    out.push(b' ')?;
     put_hex_text(out, bytes)
 }
 
 fn put_packet(out: &mut Bytes, packet: &[u8]) -> Result<(), Memory>
     ensures { OnOk result (out.new ≡ out.old ++ spaced (kind_of packet.now ∷ hex_text packet.now ∷ [])) }
 {
-    out.extend(b" ")?;
+    out.push(b' ')?;
     out.extend(kind_word(packet))?;
     put_bytes(out, packet)
 }
@@ -67,5 +67,5 @@ pub fn put_row(
     out.extend(word)?;
     put_values(out, names, values)?;
     put_tail(out, tail, bytes)?;
-    out.extend(b"\n")
+    out.push(b'\n')
 }
