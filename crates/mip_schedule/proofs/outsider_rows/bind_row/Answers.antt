@@ -3,7 +3,7 @@ use Rattle.std.specs.Prelude.{Result}
 use Rattle.mip_words.specs.Steps.{◌>>=◌}
 use Rattle.mip_schedule.specs.BindParts.{bind_numbers}
 use Rattle.mip_schedule.specs.declared.ends.Ends.{Ends}
-use Rattle.mip_schedule.specs.declared.reason.Reason.{Reason}
+use Rattle.mip_declared.specs.declared.reason.Reason.{Reason}
 use Rattle.mip_schedule.proofs.BindLaws.{bind_parts, field}
 use Rattle.mip_schedule.proofs.outsider_rows.bind_row.Goals as goal
 
