@@ -91,10 +91,6 @@ some_link_plain : (ds : List Declaration) → NamesFound ds → (o : Option Link
 some_link_plain ds found None is = refl
 some_link_plain ds found (Some l) is = link_plain ds found l is
 
-address_plain : (o : Option Address) → IsPlain (or_dash address_hex o)
-address_plain None = refl
-address_plain (Some a) = hex_plain (address_bytes a)
-
 token_plain : (o : Option Token) → IsPlain (or_dash token_hex o)
 token_plain None = refl
 token_plain (Some t) = hex_plain t.0
@@ -196,7 +192,8 @@ value-plain ds few found kinds.Outsider (values.Outsider o) is = outsider_plain 
 value-plain ds few found kinds.Who (values.Who w) is = who_plain ds few found w is
 value-plain ds few found kinds.SomeU16 (values.SomeU16 o) is = u16_plain o is
 value-plain ds few found kinds.SomeU64 (values.SomeU64 o) is = u64_plain o is
-value-plain ds few found kinds.SomeAddress (values.SomeAddress o) is = address_plain o
+value-plain ds few found kinds.SomeAddress (values.Address a) is = hex_plain (address_bytes a)
+value-plain ds few found kinds.SomeAddress values.NoAddress is = refl
 value-plain ds few found kinds.SomeToken (values.SomeToken o) is = token_plain o
 value-plain ds few found kinds.SomeLink (values.SomeLink o) is = some_link_plain ds found o is
 value-plain ds few found kinds.Shield (values.Shield b) is = shield_plain b

@@ -1,6 +1,6 @@
 -- A row that is read has these fields and is within its kinds; and a row within its kinds is read from its fields.
 use Rattle.std.proofs.Common.{◌≡◌, ℕ, suc, ◌+◌, List, [], ◌∷◌, ◌++◌, length, refl, sym, ap, ◌∙◌, subst, arith}
-use Rattle.std.specs.Prelude.{Some, Result, Ok, Err, decimal, map, take, drop, ◌==◌}
+use Rattle.std.specs.Prelude.{Option, Some, None, Result, Ok, Err, decimal, map, take, drop, ◌==◌}
 use Rattle.std.specs.Str.{bytes_eq}
 use Rattle.std.proofs.lemmas.Bool.{cond_both, cond-true, eq-eqb}
 use Rattle.std.proofs.Math.Seq.{take-append_seam, drop-append_seam}
@@ -18,6 +18,8 @@ use Rattle.mip_rows.specs.PacketKinds.{kind_of}
 use Rattle.mip_rows.specs.Ranges.{IsNumber, IsMoment, IsAddress, IsToken, IsNode, IsLink, IsOutsider, IsWho, IsCause, IfPresent, IsOfKind, AreOfKinds, IsTail, IsRowOf}
 use Rattle.mip_rows.specs.Rows.{as_value, value_of, values_of, tail_count, of_kind, tail_of, row_of}
 use Rattle.mip_rows.specs.Texts.{or_dash, token_hex, shield_mark, yes_or_no, value_text, tail_texts, row_texts}
+use Rattle.mip_words.specs.declared.address.Address.{Address}
+use Rattle.mip_rows.specs.Values.{address_value}
 use Rattle.mip_rows.specs.Whys.{why_word, gone_whys, unsent_whys, dropped_whys, IsAmong}
 use Rattle.mip_rows.specs.declared.field_kind.Kind.{Kind}
 use Rattle.mip_rows.specs.declared.field_kind.Kind.TheVariants as kinds
@@ -59,7 +61,11 @@ value-read ds few kinds.Outsider = read_as (λ x. values.Outsider x) (fields.out
 value-read ds few kinds.Who = read_as (λ x. values.Who x) (fields.who ds) (who_name (Some ds)) (IsWho ds) (who-reads ds few) (IsField ds kinds.Who) (λ f x e p. (e, p))
 value-read ds few kinds.SomeU16 = read_as (λ x. values.SomeU16 x) (fields.some_u16) (or_dash decimal) (IfPresent (IsNumber 16)) (some_u16-reads) (IsField ds kinds.SomeU16) (λ f x e p. (e, p))
 value-read ds few kinds.SomeU64 = read_as (λ x. values.SomeU64 x) (fields.some_u64) (or_dash decimal) (IfPresent (IsNumber 64)) (some_u64-reads) (IsField ds kinds.SomeU64) (λ f x e p. (e, p))
-value-read ds few kinds.SomeAddress = read_as (λ x. values.SomeAddress x) (fields.some_address) (or_dash address_hex) (IfPresent IsAddress) (some_address-reads) (IsField ds kinds.SomeAddress) (λ f x e p. (e, p))
+value-read ds few kinds.SomeAddress = read_as address_value (fields.some_address) (or_dash address_hex) (IfPresent IsAddress) (some_address-reads) (IsField ds kinds.SomeAddress) give
+  where
+    give : (f : List ℕ) (x : Option Address) → f ≡ or_dash address_hex x → IfPresent IsAddress x → IsField ds kinds.SomeAddress f (address_value x)
+    give f (Some a) e p = (e, p)
+    give f None e p = (e, tt)
 value-read ds few kinds.SomeToken = read_as (λ x. values.SomeToken x) (fields.some_token) (or_dash token_hex) (IfPresent IsToken) (some_token-reads) (IsField ds kinds.SomeToken) (λ f x e p. (e, p))
 value-read ds few kinds.SomeLink = read_as (λ x. values.SomeLink x) (fields.some_link ds) (or_dash (link_name (Some ds))) (IfPresent (IsLink ds)) (some_link-reads ds) (IsField ds kinds.SomeLink) (λ f x e p. (e, p))
 value-read ds few kinds.Shield = read_as (λ x. values.Shield x) (fields.shield) (shield_mark) (Any) (shield-reads) (IsField ds kinds.Shield) (λ f x e p. (e, p))
@@ -83,7 +89,8 @@ value-again ds few found kinds.Outsider (values.Outsider x) is = ap (as_value (�
 value-again ds few found kinds.Who (values.Who x) is = ap (as_value (λ y. values.Who y)) (who-again ds few found x is)
 value-again ds few found kinds.SomeU16 (values.SomeU16 x) is = ap (as_value (λ y. values.SomeU16 y)) (some_u16-again x is)
 value-again ds few found kinds.SomeU64 (values.SomeU64 x) is = ap (as_value (λ y. values.SomeU64 y)) (some_u64-again x is)
-value-again ds few found kinds.SomeAddress (values.SomeAddress x) is = ap (as_value (λ y. values.SomeAddress y)) (some_address-again x is)
+value-again ds few found kinds.SomeAddress (values.Address a) is = ap (as_value address_value) (some_address-again (Some a) is)
+value-again ds few found kinds.SomeAddress values.NoAddress is = ap (as_value address_value) (some_address-again None is)
 value-again ds few found kinds.SomeToken (values.SomeToken x) is = ap (as_value (λ y. values.SomeToken y)) (some_token-again x is)
 value-again ds few found kinds.SomeLink (values.SomeLink x) is = ap (as_value (λ y. values.SomeLink y)) (some_link-again ds found x is)
 value-again ds few found kinds.Shield (values.Shield x) is = ap (as_value (λ y. values.Shield y)) (shield-again x)

@@ -1,6 +1,6 @@
 -- Rows by their types: what a row of these kinds is made of. A table of lines is inverted at such rows, where it computes.
 use Rattle.std.proofs.Common.{◌≡◌, ℕ, List, [], ◌∷◌, Bool, refl, ap, ◌∙◌}
-use Rattle.std.specs.Prelude.{Option}
+use Rattle.std.specs.Prelude.{Option, Some, None}
 use Rattle.mip_words.specs.declared.address.Address.{Address}
 use Rattle.mip_words.specs.declared.ids.LinkId.{LinkId}
 use Rattle.mip_words.specs.declared.ids.NodeId.{NodeId}
@@ -8,6 +8,7 @@ use Rattle.mip_words.specs.declared.moment.Moment.{Moment}
 use Rattle.mip_words.specs.declared.token.Token.{Token}
 use Rattle.mip_words.specs.declared.why.Why.{Why}
 use Rattle.mip_declared.specs.declared.declaration.Declaration.{Declaration}
+use Rattle.mip_rows.specs.Values.{address_value}
 use Rattle.mip_rows.specs.Ranges.{IsOfKind, AreOfKinds}
 use Rattle.mip_rows.specs.declared.field_kind.Kind.{Kind}
 use Rattle.mip_rows.specs.declared.field_kind.Kind.TheVariants as kinds
@@ -54,7 +55,7 @@ pack kinds.Outsider x = values.Outsider x
 pack kinds.Who x = values.Who x
 pack kinds.SomeU16 x = values.SomeU16 x
 pack kinds.SomeU64 x = values.SomeU64 x
-pack kinds.SomeAddress x = values.SomeAddress x
+pack kinds.SomeAddress x = address_value x
 pack kinds.SomeToken x = values.SomeToken x
 pack kinds.SomeLink x = values.SomeLink x
 pack kinds.Shield x = values.Shield x
@@ -86,7 +87,8 @@ shaped_one ds kinds.Outsider (values.Outsider x) is = (x, refl)
 shaped_one ds kinds.Who (values.Who x) is = (x, refl)
 shaped_one ds kinds.SomeU16 (values.SomeU16 x) is = (x, refl)
 shaped_one ds kinds.SomeU64 (values.SomeU64 x) is = (x, refl)
-shaped_one ds kinds.SomeAddress (values.SomeAddress x) is = (x, refl)
+shaped_one ds kinds.SomeAddress (values.Address a) is = (Some a, refl)
+shaped_one ds kinds.SomeAddress values.NoAddress is = (None, refl)
 shaped_one ds kinds.SomeToken (values.SomeToken x) is = (x, refl)
 shaped_one ds kinds.SomeLink (values.SomeLink x) is = (x, refl)
 shaped_one ds kinds.Shield (values.Shield x) is = (x, refl)

@@ -7,6 +7,7 @@ use Rattle.mip_declared.specs.declared.reason.Reason.{Reason}
 use Rattle.mip_declared.specs.declared.reason.Reason.TheVariants as reasons
 use Rattle.mip_rows.specs.Fields as fields
 use Rattle.mip_rows.specs.PacketKinds.{kind_of}
+use Rattle.mip_rows.specs.Values.{address_value}
 use Rattle.mip_rows.specs.Whys.{gone_whys, unsent_whys, dropped_whys}
 use Rattle.mip_rows.specs.declared.fault.RowFault.{RowFault}
 use Rattle.mip_rows.specs.declared.fault.RowFault.TheVariants as faults
@@ -39,7 +40,7 @@ value_of ds kinds.Outsider f = as_value (λ x. values.Outsider x) (fields.outsid
 value_of ds kinds.Who f = as_value (λ x. values.Who x) (fields.who ds f)
 value_of ds kinds.SomeU16 f = as_value (λ x. values.SomeU16 x) (fields.some_u16 f)
 value_of ds kinds.SomeU64 f = as_value (λ x. values.SomeU64 x) (fields.some_u64 f)
-value_of ds kinds.SomeAddress f = as_value (λ x. values.SomeAddress x) (fields.some_address f)
+value_of ds kinds.SomeAddress f = as_value address_value (fields.some_address f)
 value_of ds kinds.SomeToken f = as_value (λ x. values.SomeToken x) (fields.some_token f)
 value_of ds kinds.SomeLink f = as_value (λ x. values.SomeLink x) (fields.some_link ds f)
 value_of ds kinds.Shield f = as_value (λ x. values.Shield x) (fields.shield f)

@@ -101,8 +101,13 @@ some_u64_in _ = None
 abbrev pub some_u64_at : List Value → ℕ → Option ℕ
 some_u64_at vs place = some_u64_in (slice_get vs place)
 
+-- an address, or none, as a value
+abbrev pub address_value : Option Address → Value
+address_value (Some a) = values.Address a
+address_value None = values.NoAddress
+
 abbrev some_address_in : Option Value → Option Address
-some_address_in (Some (values.SomeAddress x)) = x
+some_address_in (Some (values.Address a)) = Some a
 some_address_in _ = None
 
 abbrev pub some_address_at : List Value → ℕ → Option Address

@@ -8,8 +8,16 @@ ghost use Rattle.mip_rows.specs.Texts.{or_dash, token_hex, shield_mark, yes_or_n
 use crate::name_table::NameTable;
 use crate::value::Value;
 use crate::why_words::why_word;
-use mip_lines::put_number;
+use itoa::Buffer;
 use mip_words::{Address, Bytes, LinkId, Memory, Token, hex_into};
+
+/// Appends the digits of a number.
+#[inline]
+fn put_number(out: &mut Bytes, number: u64) -> Result<(), Memory>
+    ensures { OnOk result (out.new ≡ out.old ++ decimal number) }
+{
+    out.extend(Buffer::new().format(number).as_bytes())
+}
 
 fn put_none(out: &mut Bytes) -> Result<(), Memory>
     ensures { OnOk result (out.new ≡ out.old ++ codes "-") }
@@ -39,15 +47,6 @@ fn put_address(out: &mut Bytes, address: Address) -> Result<(), Memory>
     ensures { OnOk result (out.new ≡ out.old ++ address_hex address) }
 {
     out.extend(&address.digits())
-}
-
-fn put_some_address(out: &mut Bytes, address: Option<Address>) -> Result<(), Memory>
-    ensures { OnOk result (out.new ≡ out.old ++ or_dash address_hex address) }
-{
-    match address {
-        Some(address) => put_address(out, address),
-        None => put_none(out),
-    }
 }
 
 /// The 16 digits of a token.
@@ -115,7 +114,7 @@ pub fn put_value(out: &mut Bytes, names: &NameTable<'_>, value: Value) -> Result
         Value::Who(who) => out.extend(names.who_name(who)),
         Value::SomeU16(index) => put_some_index(out, index),
         Value::SomeU64(number) => put_some_number(out, number),
-        Value::SomeAddress(address) => put_some_address(out, address),
+        Value::NoAddress => put_none(out),
         Value::SomeToken(token) => put_some_token(out, token),
         Value::SomeLink(link) => put_some_link(out, names, link),
         Value::Shield(shielded) => put_shield(out, shielded),

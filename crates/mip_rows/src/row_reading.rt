@@ -43,7 +43,7 @@ fn read_value(ds: &[Declaration], kind: Kind, field: &[u8]) -> Result<Value, Rea
         Kind::Who => Ok(Value::Who(fields::who(ds, field)?)),
         Kind::SomeU16 => Ok(Value::SomeU16(fields::some_u16(field)?)),
         Kind::SomeU64 => Ok(Value::SomeU64(fields::some_u64(field)?)),
-        Kind::SomeAddress => Ok(Value::SomeAddress(fields::some_address(field)?)),
+        Kind::SomeAddress => Ok(Value::some_address(fields::some_address(field)?)),
         Kind::SomeToken => Ok(Value::SomeToken(fields::some_token(field)?)),
         Kind::SomeLink => Ok(Value::SomeLink(fields::some_link(ds, field)?)),
         Kind::Shield => Ok(Value::Shield(fields::shield(field)?)),

@@ -1,3 +1,6 @@
+ghost use Rattle.std.specs.Prelude.{◌≡◌};
+ghost use Rattle.mip_rows.specs.Values.{address_value};
+
 use mip_words::{Address, LinkId, Moment, NodeId, Token, Why};
 
 /// What a field says. Numbers are written in digits, addresses and tokens in hexadecimal digits, nodes, links and outsiders
@@ -19,7 +22,8 @@ pub enum Value {
     Who(u8),
     SomeU16(Option<u16>),
     SomeU64(Option<u64>),
-    SomeAddress(Option<Address>),
+    /// `-` in place of an address.
+    NoAddress,
     SomeToken(Option<Token>),
     SomeLink(Option<LinkId>),
     /// `+` where a packet is shielded, else `-`.
@@ -28,6 +32,18 @@ pub enum Value {
     Answer(bool),
     /// The word of a reason.
     Why(Why),
+}
+
+impl Value {
+    /// An address, or none.
+    pub fn some_address(address: Option<Address>) -> Value
+        ensures { result ≡ address_value address }
+    {
+        match address {
+            Some(address) => Value::Address(address),
+            None => Value::NoAddress,
+        }
+    }
 }
 
 impl Default for Value {

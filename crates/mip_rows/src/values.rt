@@ -170,7 +170,7 @@ impl Values {
         ensures { result ≡ some_address_at self.now place }
     {
         match self.at(place) {
-            Some(Value::SomeAddress(x)) => x,
+            Some(Value::Address(x)) => Some(x),
             _ => None,
         }
     }

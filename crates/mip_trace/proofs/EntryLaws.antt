@@ -1,7 +1,7 @@
 -- What is known of the table of lines: words are told apart, a line has few fields, the entry of an entry's line is the
 -- entry, and the line of a row's entry is the row.
 use Rattle.std.proofs.Common.{◌≡◌, ℕ, ◌+◌, List, [], ◌∷◌, length, true, nat_le, refl, arith}
-use Rattle.std.specs.Prelude.{Option, Some}
+use Rattle.std.specs.Prelude.{Option, Some, None}
 use Rattle.mip_lines.specs.Lines.{is_plain}
 use Rattle.mip_entries.specs.declared.entry.Entry.{Entry}
 use Rattle.mip_entries.specs.declared.entry.Entry.TheVariants as entries
@@ -84,7 +84,8 @@ entry-kept ds entries.Idle is = (refl, tt, refl)
 entry-kept ds (entries.Restarted a) is = (refl, (is, tt), refl)
 entry-kept ds (entries.Settled a b c) is = (refl, (is.0, (is.1, (tt, tt))), refl)
 entry-kept ds (entries.Moved a b) is = (refl, (is.0, (is.1, tt)), refl)
-entry-kept ds (entries.Advertised a b c) is = (refl, (is.0, (is.1, (is.2, tt))), refl)
+entry-kept ds (entries.Advertised a b (Some c)) is = (refl, (is.0, (is.1, (is.2, tt))), refl)
+entry-kept ds (entries.Advertised a b None) is = (refl, (is.0, (is.1, (tt, tt))), refl)
 entry-kept ds (entries.Careof a b) is = (refl, (is.0, (is.1, tt)), refl)
 entry-kept ds (entries.Prefixes a b c) is = (refl, (is.0, (is.1, (is.2, tt))), refl)
 entry-kept ds (entries.Registered a b c) is = (refl, (is.0, (is.1, (is.2, tt))), refl)
@@ -128,7 +129,8 @@ line-kept ds words.Idle xs b are is = (refl, tt)
 line-kept ds words.Restarted xs b are is = (refl, are.0)
 line-kept ds words.Settled xs b are is = (refl, (are.0, are.1.0))
 line-kept ds words.Moved xs b are is = (refl, (are.0, are.1.0))
-line-kept ds words.Advertised xs b are is = (refl, (are.0, are.1.0, are.1.1.0))
+line-kept ds words.Advertised (x, (y, (Some z, u))) b are is = (refl, (are.0, are.1.0, are.1.1.0))
+line-kept ds words.Advertised (x, (y, (None, u))) b are is = (refl, (are.0, are.1.0, tt))
 line-kept ds words.Careof xs b are is = (refl, (are.0, are.1.0))
 line-kept ds words.Prefixes xs b are is = (refl, (are.0, are.1.0, are.1.1.0))
 line-kept ds words.Registered xs b are is = (refl, (are.0, are.1.0, are.1.1.0))

@@ -5,7 +5,7 @@ use Rattle.mip_entries.specs.declared.entry.Entry.{Entry}
 use Rattle.mip_entries.specs.declared.entry.Entry.TheVariants as entries
 use Rattle.mip_rows.specs.Texts.{row_texts}
 use Rattle.mip_rows.specs.Names.{Names}
-use Rattle.mip_rows.specs.Values.{address_at, answer_at, link_at, moment_at, node_at, outsider_at, shield_at, some_address_at, some_link_at, some_token_at, some_u16_at, some_u64_at, token_at, u16_at, u32_at, u64_at, u8_at, who_at, why_at}
+use Rattle.mip_rows.specs.Values.{address_value, address_at, answer_at, link_at, moment_at, node_at, outsider_at, shield_at, some_address_at, some_link_at, some_token_at, some_u16_at, some_u64_at, token_at, u16_at, u32_at, u64_at, u8_at, who_at, why_at}
 use Rattle.mip_rows.specs.declared.field_kind.Kind.{Kind}
 use Rattle.mip_rows.specs.declared.field_kind.Kind.TheVariants as kinds
 use Rattle.mip_rows.specs.declared.row.Row.{Row}
@@ -230,7 +230,7 @@ mobile_line other = peer_line other
 -- where mobiles stand, and what nodes learn there
 abbrev pub place_line : Entry → Line
 place_line (entries.Moved a b) = line words.Moved (values.Node a ∷ values.SomeLink b ∷ [])
-place_line (entries.Advertised a b c) = line words.Advertised (values.Node a ∷ values.Link b ∷ values.SomeAddress c ∷ [])
+place_line (entries.Advertised a b c) = line words.Advertised (values.Node a ∷ values.Link b ∷ address_value c ∷ [])
 place_line (entries.Careof a b) = line words.Careof (values.Node a ∷ values.Address b ∷ [])
 place_line (entries.Prefixes a b c) = line words.Prefixes (values.Node a ∷ values.U32 b ∷ values.U32 c ∷ [])
 place_line other = mobile_line other

@@ -88,7 +88,7 @@ pub fn put_place_entry(out: &mut Bytes, names: &NameTable<'_>, entry: &Entry) ->
             &[
                 Value::Node(*node),
                 Value::Link(*link),
-                Value::SomeAddress(*agent),
+                Value::some_address(*agent),
             ],
         ),
         Entry::Careof { node, address } => put_node_address(
