@@ -25,7 +25,7 @@ call-now k now c =
     (λ entry t own is. noted-now after (Notes entry) t ∙ is)
     (λ step t ack fits is. noted-now after step t ∙ is)
     (λ step t move fits is. noted-now after step t ∙ is)
-    (λ number why t is. noted-now after (Drops number why) t ∙ is)
+    (λ number why t kind is. noted-now after (Drops number why) t ∙ is)
     (λ t is. noted-now after (Called c) t ∙ is)
     (begun now k) refl
 
