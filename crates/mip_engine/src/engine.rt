@@ -51,30 +51,33 @@ impl Model for Engine {
 }
 
 impl Engine {
-    /// A run in which nothing has happened.
+    /// A run in which nothing has happened, with room for what this many events leave at least.
     pub(crate) fn new(
         alloc: Global,
         seed: &[u8; 32],
         start: Moment,
         links: &[Prefix],
         outsiders: u8,
+        events: usize,
     ) -> Result<Engine, Memory>
         requires few { length links.now ≤ 32 }
         requires early { start.0 < 2 ^ 62 }
         ensures { IfOk result (λ e. e ≡ new_engine seed.now start.0 (map (λ p. p.0) links.now) outsiders) }
     {
-        Ok(Engine {
+        let mut engine = Engine {
             seed: *seed,
             net: Net::new(alloc, links)?,
             nodes: Vec::new(alloc),
             outsiders,
             moment: start,
             chronicle: Chronicle::new(alloc)?,
-        })
+        };
+        engine.reserve(events)?;
+        Ok(engine)
     }
 
     /// Makes room for what this many events leave at least.
-    pub fn reserve(&mut self, events: usize) -> Result<(), Memory>
+    fn reserve(&mut self, events: usize) -> Result<(), Memory>
         ensures { self.new ≡ self.old }
     {
         self.net.reserve_posts(events)?;

@@ -172,8 +172,8 @@ impl Engine {
             schedule.start,
             links.as_slice(),
             outsiders_in(ds),
+            schedule.events.len(),
         )?;
-        engine.reserve(schedule.events.len())?;
         engine.settle_all(alloc, hosts)?;
         Ok(engine)
     }
