@@ -4,12 +4,13 @@ use Rattle.std.specs.Prelude.{Option, Some, None, ◌==◌, nat_lt, if◌then◌
 use Rattle.std.specs.List.{filter_map, cons_option}
 use Rattle.std.specs.Option.{option_and_then, option_map_or}
 use Rattle.std.proofs.lemmas.Bool.{and_parts, eqb-true, ltb-true, ne_eqb, eq-eqb, cases_eq, cases_order}
-use Rattle.std.proofs.lemmas.List.{append-nil}
+use Rattle.std.proofs.lemmas.List.{append_assoc, append-nil}
 use Rattle.std.proofs.lemmas.List.Sums.{fold-append}
 use Rattle.std.proofs.lemmas.List.Elements.{filter_map-append}
 use Rattle.std.proofs.lemmas.Option.{slice_get_past, slice_get_within}
 use Rattle.mip_lists.specs.Last.{or_else}
-use Rattle.mip_lists.proofs.EachLaws.{each-append}
+use Rattle.mip_lists.specs.EachAfter.{EachAfter}
+use Rattle.mip_lists.proofs.EachLaws.{each-append, each_at}
 use Rattle.mip_entries.specs.declared.entry.Entry.{Entry}
 use Rattle.mip_entries.specs.declared.entry.Entry.TheVariants as entries
 use Rattle.mip_marks.specs.Entries.{packet_told, packet_in}
@@ -17,51 +18,47 @@ use Rattle.mip_watch.specs.declared.watch.Watch.{Watch}
 use Rattle.mip_watch.specs.Stands.{StandsFor, IsNumber, number_posted, IsNext, IsHeard}
 use Rattle.mip_watch.specs.Sights.{token_of, token_posted}
 use Rattle.mip_words.specs.declared.token.Token.{Token}
-use Rattle.mip_watch.specs.Told.{IsTold}
-use Rattle.mip_chronicle.specs.Packets.{bytes_posted, number_reached, bytes_at, token_at, comes_next, heard_at}
+use Rattle.mip_watch.specs.Told.{IsTold, AreTold}
+use Rattle.mip_chronicle.specs.Packets.{bytes_posted, number_reached, token_at, comes_next, ComesNext, IsInOrder, heard_at}
+use Rattle.mip_chronicle.specs.Given.{joined}
 use Rattle.mip_chronicle.specs.Watched.{IsWatched}
 
 -- items of a list with one more
-get_front : {X : Type 0} (xs : List X) (y : X) (i : ℕ) → i < length xs → slice_get (xs ++ y ∷ []) i ≡ slice_get xs i
+pub get_front : {X : Type 0} (xs : List X) (y : X) (i : ℕ) → i < length xs → slice_get (xs ++ y ∷ []) i ≡ slice_get xs i
 get_front [] y i inside = absurd (omega (arith, inside))
 get_front (x ∷ xs) y zero inside = refl
 get_front (x ∷ xs) y (suc i) inside = get_front xs y i (omega (arith, inside))
 
-get_seam : {X : Type 0} (xs : List X) (y : X) (i : ℕ) → i ≡ length xs → slice_get (xs ++ y ∷ []) i ≡ Some y
+pub get_seam : {X : Type 0} (xs : List X) (y : X) (i : ℕ) → i ≡ length xs → slice_get (xs ++ y ∷ []) i ≡ Some y
 get_seam [] y zero is = refl
 get_seam [] y (suc i) is = absurd (omega (arith, is))
 get_seam (x ∷ xs) y zero is = absurd (omega (arith, is))
 get_seam (x ∷ xs) y (suc i) is = get_seam xs y i (omega (arith, is))
 
 -- the packets of a history with one more entry
-packet_more : (past : List Entry) (e : Entry) (k : ℕ) → packet_in (past ++ e ∷ []) k ≡ or_else (packet_in past k) (packet_told k e)
+pub packet_more : (past : List Entry) (e : Entry) (k : ℕ) → packet_in (past ++ e ∷ []) k ≡ or_else (packet_in past k) (packet_told k e)
 packet_more past e k = fold-append (λ (o : Option (List ℕ)) (x : Entry). or_else o (packet_told k x)) None past (e ∷ [])
 
-or_none : (o : Option (List ℕ)) → or_else o None ≡ o
+pub or_none : (o : Option (List ℕ)) → or_else o None ≡ o
 or_none (Some a) = refl
 or_none None = refl
 
-some_or : (o p : Option (List ℕ)) → o ≢ None → or_else o p ≢ None
-some_or None p some = absurd (some refl)
-some_or (Some a) p some = λ e. absurd cc
-
-or_some : (o : Option (List ℕ)) (x : List ℕ) → or_else o (Some x) ≢ None
-or_some None x = λ e. absurd cc
-or_some (Some a) x = λ e. absurd cc
+some_is : (x : List ℕ) → Some x ≢ None
+some_is x = λ e. absurd cc
 
 -- an entry that posts no packet
-told_none : (e : Entry) (k : ℕ) → number_posted e ≡ None → packet_told k e ≡ None
+pub told_none : (e : Entry) (k : ℕ) → number_posted e ≡ None → packet_told k e ≡ None
 told_none (entries.Sent number node shielded packet) k none = absurd cc
 told_none (entries.Injected number outsider link packet) k none = absurd cc
 told_none _ k none = refl
 
 -- one that posts packet n
-told_here : (e : Entry) (n : ℕ) → number_posted e ≡ Some n → packet_told n e ≡ bytes_posted e
+pub told_here : (e : Entry) (n : ℕ) → number_posted e ≡ Some n → packet_told n e ≡ bytes_posted e
 told_here (entries.Sent number node shielded packet) n is = let same : number ≡ n = cc in ap (λ (b : Bool). if b then Some packet else None) (eq-eqb number n same)
 told_here (entries.Injected number outsider link packet) n is = let same : number ≡ n = cc in ap (λ (b : Bool). if b then Some packet else None) (eq-eqb number n same)
 told_here _ n is = absurd cc
 
-told_there : (e : Entry) (n k : ℕ) → number_posted e ≡ Some n → n ≢ k → packet_told k e ≡ None
+pub told_there : (e : Entry) (n k : ℕ) → number_posted e ≡ Some n → n ≢ k → packet_told k e ≡ None
 told_there (entries.Sent number node shielded packet) n k is other =
     let same : number ≡ n = cc in ap (λ (b : Bool). if b then Some packet else None) (ne_eqb number k (λ x. other (sym same ∙ x)))
 told_there (entries.Injected number outsider link packet) n k is other =
@@ -73,16 +70,16 @@ posts_some (entries.Sent number node shielded packet) n is = (packet, refl)
 posts_some (entries.Injected number outsider link packet) n is = (packet, refl)
 posts_some _ n is = absurd cc
 
-module _ (w : Watch) (past : List Entry) (places : List ℕ) (kept : List (Option Token)) (is : IsWatched w past places kept) (e : Entry) (next : comes_next (length places) e ≡ true) where
-  parts : (option_map_or (λ number. number == length places) (number_posted e) true ≡ true) × (option_map_or (λ number. nat_lt number (length places)) (number_reached e) true ≡ true)
+module _ (w : Watch) (past : List Entry) (kept : List (Option Token)) (is : IsWatched w past kept) (e : Entry) (next : comes_next (length kept) e ≡ true) where
+  parts : (option_map_or (λ number. number == length kept) (number_posted e) true ≡ true) × (option_map_or (λ number. nat_lt number (length kept)) (number_reached e) true ≡ true)
   parts = and_parts _ _ next
 
   pub is_next : IsNext past e
   is_next = by (number_posted e) parts.0
     where
-      by : (o : Option ℕ) → option_map_or (λ number. number == length places) o true ≡ true → IsNumber o (length (filter_map number_posted past))
+      by : (o : Option ℕ) → option_map_or (λ number. number == length kept) o true ≡ true → IsNumber o (length (filter_map number_posted past))
       by None e = tt
-      by (Some k) e = eqb-true k (length places) e ∙ is.count
+      by (Some k) e = eqb-true k (length kept) e ∙ is.count
 
   pub is_heard : IsHeard past e (heard_at kept e)
   is_heard = by e
@@ -94,79 +91,54 @@ module _ (w : Watch) (past : List Entry) (places : List ℕ) (kept : List (Optio
   is_told : IsTold past e
   is_told = by e parts.1
     where
-      by : (e : Entry) → option_map_or (λ number. nat_lt number (length places)) (number_reached e) true ≡ true → IsTold past e
-      by (entries.Heard number outsider) test = is.posted number (ltb-true number (length places) test)
-      by (entries.Handed number node) test = is.posted number (ltb-true number (length places) test)
+      by : (e : Entry) → option_map_or (λ number. nat_lt number (length kept)) (number_reached e) true ≡ true → IsTold past e
+      by (entries.Heard number outsider) test = is.posted number (ltb-true number (length kept) test)
+      by (entries.Handed number node) test = is.posted number (ltb-true number (length kept) test)
       by _ test = tt
 
-  -- the bytes at a place stay
-  bytes_stay : (k place : ℕ) → slice_get places k ≡ Some place → option_and_then bytes_posted (slice_get (past ++ e ∷ []) place) ≡ option_and_then bytes_posted (slice_get past place)
-  bytes_stay k place there = ap (option_and_then bytes_posted) (get_front past e place (is.inside k place there))
+  all_told : AreTold (past ++ e ∷ [])
+  all_told = each-append IsTold [] past (e ∷ []) is.told (is_told, tt)
 
-  at_stays : (k : ℕ) → bytes_at (past ++ e ∷ []) places k ≡ bytes_at past places k
-  at_stays k = by (slice_get places k) refl
-    where
-      by : (o : Option ℕ) → slice_get places k ≡ o → option_and_then (λ place. option_and_then bytes_posted (slice_get (past ++ e ∷ []) place)) o ≡ option_and_then (λ place. option_and_then bytes_posted (slice_get past place)) o
-      by None there = refl
-      by (Some place) there = bytes_stay k place there
-
-  longer : length (past ++ e ∷ []) ≡ length past + 1
-  longer = length-append past (e ∷ [])
+  posted_more : filter_map number_posted (past ++ e ∷ []) ≡ filter_map number_posted past ++ cons_option (number_posted e) []
+  posted_more = filter_map-append number_posted past (e ∷ [])
 
   -- an entry that posts no packet
-  pub watched_on : (v : Watch) → StandsFor v (past ++ e ∷ []) → number_posted e ≡ None → IsWatched v (past ++ e ∷ []) places kept
+  pub watched_on : (v : Watch) → StandsFor v (past ++ e ∷ []) → number_posted e ≡ None → IsWatched v (past ++ e ∷ []) kept
   watched_on v stands none = record {
     stands = stands;
-    told = each-append IsTold [] past (e ∷ []) is.told (is_told, tt);
-    placed = λ k. at_stays k ∙ is.placed k ∙ sym (packet_more past e k ∙ ap (or_else (packet_in past k)) (told_none e k none) ∙ or_none (packet_in past k));
-    inside = λ k place there. omega (arith, is.inside k place there, longer);
-    posted = λ k inside. subst (λ (o : Option (List ℕ)). o ≢ None) (sym (packet_more past e k)) (some_or (packet_in past k) (packet_told k e) (is.posted k inside));
-    count = is.count ∙ sym (ap (λ (l : List ℕ). length l) (filter_map-append number_posted past (e ∷ []) ∙ ap (λ (o : Option ℕ). filter_map number_posted past ++ cons_option o []) none ∙ append-nil (filter_map number_posted past)));
-    tokens = λ k. is.tokens k ∙ sym (ap token_of (packet_more past e k ∙ ap (or_else (packet_in past k)) (told_none e k none) ∙ or_none (packet_in past k)));
-    pairs = is.pairs;
+    told = all_told;
+    posted = λ k inside. subst (λ (o : Option (List ℕ)). o ≢ None) (sym (stays k)) (is.posted k inside);
+    ahead = λ k beyond. stays k ∙ is.ahead k beyond;
+    count = is.count ∙ sym (ap (λ (l : List ℕ). length l) (posted_more ∙ ap (λ (o : Option ℕ). filter_map number_posted past ++ cons_option o []) none ∙ append-nil (filter_map number_posted past)));
+    tokens = λ k. is.tokens k ∙ sym (ap token_of (stays k));
   }
+    where
+      stays : (k : ℕ) → packet_in (past ++ e ∷ []) k ≡ packet_in past k
+      stays k = packet_more past e k ∙ ap (or_else (packet_in past k)) (told_none e k none) ∙ or_none (packet_in past k)
 
   -- one that posts the next packet
   module _ (n : ℕ) (posts : number_posted e ≡ Some n) where
-    more : List ℕ
-    more = places ++ length past ∷ []
-
-    n_is : n ≡ length places
+    n_is : n ≡ length kept
     n_is = by (number_posted e) posts parts.0
       where
-        by : (o : Option ℕ) → o ≡ Some n → option_map_or (λ number. number == length places) o true ≡ true → n ≡ length places
+        by : (o : Option ℕ) → o ≡ Some n → option_map_or (λ number. number == length kept) o true ≡ true → n ≡ length kept
         by None e test = absurd cc
-        by (Some k) e test = let same : k ≡ n = cc in sym same ∙ eqb-true k (length places) test
+        by (Some k) e test = let same : k ≡ n = cc in sym same ∙ eqb-true k (length kept) test
 
     none_yet : packet_in past n ≡ None
-    none_yet = sym (is.placed n) ∙ ap (λ (o : Option ℕ). option_and_then (λ place. option_and_then bytes_posted (slice_get past place)) o) (slice_get_past places n (omega (arith, n_is)))
+    none_yet = is.ahead n (omega (arith, n_is))
 
-    placed_here : bytes_at (past ++ e ∷ []) (places ++ length past ∷ []) n ≡ packet_in (past ++ e ∷ []) n
-    placed_here =
-        ap (λ (o : Option ℕ). option_and_then (λ place. option_and_then bytes_posted (slice_get (past ++ e ∷ []) place)) o) (get_seam places (length past) n n_is)
-        ∙ ap (option_and_then bytes_posted) (get_seam past e (length past) refl)
-        ∙ sym (packet_more past e n ∙ ap (λ (o : Option (List ℕ)). or_else o (packet_told n e)) none_yet ∙ told_here e n posts)
+    here : packet_in (past ++ e ∷ []) n ≡ bytes_posted e
+    here = packet_more past e n ∙ ap (λ (o : Option (List ℕ)). or_else o (packet_told n e)) none_yet ∙ told_here e n posts
 
-    placed_there : (k : ℕ) → n ≢ k → bytes_at (past ++ e ∷ []) (places ++ length past ∷ []) k ≡ packet_in (past ++ e ∷ []) k
-    placed_there k other =
-        ap (λ (o : Option ℕ). option_and_then (λ place. option_and_then bytes_posted (slice_get (past ++ e ∷ []) place)) o) (same k other)
-        ∙ at_stays k ∙ is.placed k
-        ∙ sym (packet_more past e k ∙ ap (or_else (packet_in past k)) (told_there e n k posts other) ∙ or_none (packet_in past k))
-      where
-        same : (k : ℕ) → n ≢ k → slice_get (places ++ length past ∷ []) k ≡ slice_get places k
-        same k other = elim (cases_order k (length places)) as (λ _. slice_get (places ++ length past ∷ []) k ≡ slice_get places k) [
-          | inl at ↦ absurd (other (n_is ∙ sym at))
-          | inr (inl below) ↦ get_front places (length past) k below
-          | inr (inr above) ↦
-              slice_get_past (places ++ length past ∷ []) k (omega (arith, length-append places (length past ∷ []), above))
-              ∙ sym (slice_get_past places k (omega (arith, above)))
-        ]
+    there : (k : ℕ) → n ≢ k → packet_in (past ++ e ∷ []) k ≡ packet_in past k
+    there k other = packet_more past e k ∙ ap (or_else (packet_in past k)) (told_there e n k posts other) ∙ or_none (packet_in past k)
 
     token_here : (t : Option Token) → option_map (λ (x : Token). x.0) t ≡ token_posted e → token_at (kept ++ t ∷ []) n ≡ token_of (packet_in (past ++ e ∷ []) n)
     token_here t same =
-        ap (λ (o : Option (Option Token)). option_and_then (option_map (λ (x : Token). x.0)) o) (get_seam kept t n (n_is ∙ sym is.pairs))
+        ap (λ (o : Option (Option Token)). option_and_then (option_map (λ (x : Token). x.0)) o) (get_seam kept t n n_is)
         ∙ same ∙ sym (by e)
-        ∙ ap token_of (sym (packet_more past e n ∙ ap (λ (o : Option (List ℕ)). or_else o (packet_told n e)) none_yet ∙ told_here e n posts))
+        ∙ ap token_of (sym here)
       where
         by : (x : Entry) → token_of (bytes_posted x) ≡ token_posted x
         by (entries.Sent number node shielded packet) = refl
@@ -177,11 +149,11 @@ module _ (w : Watch) (past : List Entry) (places : List ℕ) (kept : List (Optio
     token_there t k other =
         ap (λ (o : Option (Option Token)). option_and_then (option_map (λ (x : Token). x.0)) o) (same k other)
         ∙ is.tokens k
-        ∙ ap token_of (sym (packet_more past e k ∙ ap (or_else (packet_in past k)) (told_there e n k posts other) ∙ or_none (packet_in past k)))
+        ∙ ap token_of (sym (there k other))
       where
         same : (k : ℕ) → n ≢ k → slice_get (kept ++ t ∷ []) k ≡ slice_get kept k
         same k other = elim (cases_order k (length kept)) as (λ _. slice_get (kept ++ t ∷ []) k ≡ slice_get kept k) [
-          | inl at ↦ absurd (other (n_is ∙ sym is.pairs ∙ sym at))
+          | inl at ↦ absurd (other (n_is ∙ sym at))
           | inr (inl below) ↦ get_front kept t k below
           | inr (inr above) ↦
               slice_get_past (kept ++ t ∷ []) k (omega (arith, length-append kept (t ∷ []), above))
@@ -189,47 +161,49 @@ module _ (w : Watch) (past : List Entry) (places : List ℕ) (kept : List (Optio
         ]
 
     pub watched_more : (v : Watch) (t : Option Token) → StandsFor v (past ++ e ∷ []) → option_map (λ (x : Token). x.0) t ≡ token_posted e
-        → IsWatched v (past ++ e ∷ []) (places ++ length past ∷ []) (kept ++ t ∷ [])
+        → IsWatched v (past ++ e ∷ []) (kept ++ t ∷ [])
     watched_more v t stands token = record {
       stands = stands;
-      told = each-append IsTold [] past (e ∷ []) is.told (is_told, tt);
-      placed = λ k. elim (cases_eq n k) as (λ _. bytes_at (past ++ e ∷ []) (places ++ length past ∷ []) k ≡ packet_in (past ++ e ∷ []) k) [
-        | inl same ↦ subst (λ (m : ℕ). bytes_at (past ++ e ∷ []) (places ++ length past ∷ []) m ≡ packet_in (past ++ e ∷ []) m) same placed_here
-        | inr other ↦ placed_there k other
-      ];
-      inside = λ k place there. within k place there;
+      told = all_told;
       posted = λ k inside. elim (cases_eq n k) as (λ _. packet_in (past ++ e ∷ []) k ≢ None) [
-        | inl same ↦ subst (λ (m : ℕ). packet_in (past ++ e ∷ []) m ≢ None) same here
-        | inr other ↦
-            subst (λ (o : Option (List ℕ)). o ≢ None) (sym (packet_more past e k))
-            (some_or (packet_in past k) (packet_told k e) (is.posted k (below k inside other)))
+        | inl same ↦ subst (λ (m : ℕ). packet_in (past ++ e ∷ []) m ≢ None) same some_here
+        | inr other ↦ subst (λ (o : Option (List ℕ)). o ≢ None) (sym (there k other)) (is.posted k (below k inside other))
       ];
+      ahead = λ k beyond. there k (λ same. absurd (omega (arith, n_is, same, beyond, longer))) ∙ is.ahead k (omega (arith, beyond, longer));
       count =
-          length-append places (length past ∷ [])
+          longer
           ∙ ap (λ (m : ℕ). m + 1) is.count
-          ∙ sym (ap (λ (l : List ℕ). length l) (filter_map-append number_posted past (e ∷ []) ∙ ap (λ (o : Option ℕ). filter_map number_posted past ++ cons_option o []) posts) ∙ length-append (filter_map number_posted past) (n ∷ []));
+          ∙ sym (ap (λ (l : List ℕ). length l) (posted_more ∙ ap (λ (o : Option ℕ). filter_map number_posted past ++ cons_option o []) posts) ∙ length-append (filter_map number_posted past) (n ∷ []));
       tokens = λ k. elim (cases_eq n k) as (λ _. token_at (kept ++ t ∷ []) k ≡ token_of (packet_in (past ++ e ∷ []) k)) [
         | inl same ↦ subst (λ (m : ℕ). token_at (kept ++ t ∷ []) m ≡ token_of (packet_in (past ++ e ∷ []) m)) same (token_here t token)
         | inr other ↦ token_there t k other
       ];
-      pairs = length-append kept (t ∷ []) ∙ ap (λ (m : ℕ). m + 1) is.pairs ∙ sym (length-append places (length past ∷ []));
     }
       where
-        here : packet_in (past ++ e ∷ []) n ≢ None
-        here =
-            let b = posts_some e n posts in
-            subst (λ (o : Option (List ℕ)). o ≢ None) (sym (packet_more past e n ∙ ap (or_else (packet_in past n)) (told_here e n posts ∙ b.1))) (or_some (packet_in past n) b.0)
+        longer : length (kept ++ t ∷ []) ≡ length kept + 1
+        longer = length-append kept (t ∷ [])
 
-        below : (k : ℕ) → k < length (places ++ length past ∷ []) → n ≢ k → k < length places
-        below k inside other = elim (cases_order k (length places)) as (λ _. k < length places) [
+        some_here : packet_in (past ++ e ∷ []) n ≢ None
+        some_here =
+            let b = posts_some e n posts in
+            subst (λ (o : Option (List ℕ)). o ≢ None) (sym (here ∙ b.1)) (some_is b.0)
+
+        below : (k : ℕ) → k < length (kept ++ t ∷ []) → n ≢ k → k < length kept
+        below k inside other = elim (cases_order k (length kept)) as (λ _. k < length kept) [
           | inl at ↦ absurd (other (n_is ∙ sym at))
           | inr (inl under) ↦ under
-          | inr (inr above) ↦ absurd (omega (arith, above, inside, length-append places (length past ∷ [])))
+          | inr (inr above) ↦ absurd (omega (arith, above, inside, longer))
         ]
 
-        within : (k place : ℕ) → slice_get (places ++ length past ∷ []) k ≡ Some place → place < length (past ++ e ∷ [])
-        within k place there = elim (cases_order k (length places)) as (λ _. place < length (past ++ e ∷ [])) [
-          | inl at ↦ (let same : Some (length past) ≡ Some place = sym (get_seam places (length past) k at) ∙ there in let is_place : length past ≡ place = cc in omega (arith, is_place, longer))
-          | inr (inl under) ↦ omega (arith, is.inside k place (sym (get_front places (length past) k under) ∙ there), longer)
-          | inr (inr above) ↦ absurd (omega (arith, above, slice_get_within (places ++ length past ∷ []) k place there, length-append places (length past ∷ [])))
-        ]
+-- a history in order, with one more entry
+pub in_order_front : (front past : List Entry) (e : Entry) → EachAfter ComesNext front (past ++ e ∷ []) → EachAfter ComesNext front past
+in_order_front front [] e each = tt
+in_order_front front (x ∷ past) e each = (each.0, in_order_front (front ++ x ∷ []) past e each.1)
+
+pub in_order_next : (past : List Entry) (e : Entry) → IsInOrder (past ++ e ∷ []) → ComesNext past e
+in_order_next past e order = each_at ComesNext [] past e [] order
+
+-- one piece more
+pub joined-push : (pieces : List (List Entry)) (piece : List Entry) → joined (pieces ++ piece ∷ []) ≡ joined pieces ++ piece
+joined-push [] piece = append-nil piece
+joined-push (x ∷ pieces) piece = ap (λ (l : List Entry). x ++ l) (joined-push pieces piece) ∙ sym (append_assoc x (joined pieces) piece)

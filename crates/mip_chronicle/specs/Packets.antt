@@ -1,7 +1,9 @@
--- The packets of a history by their places.
-use Rattle.std.specs.Prelude.{ℕ, List, Bool, true, ◌==◌, nat_lt, ◌&&◌, Option, Some, None, option_map, slice_get}
+-- The packets of a history, in the order in which they are posted.
+use Rattle.std.specs.Prelude.{◌≡◌, ℕ, List, [], length, Bool, true, ◌==◌, nat_lt, ◌&&◌, Option, Some, None, option_map, slice_get}
+use Rattle.std.specs.List.{filter_map}
 use Rattle.std.specs.Option.{option_and_then, option_map_or}
 use Rattle.mip_words.specs.declared.token.Token.{Token}
+use Rattle.mip_lists.specs.EachAfter.{EachAfter}
 use Rattle.mip_entries.specs.declared.entry.Entry.{Entry}
 use Rattle.mip_entries.specs.declared.entry.Entry.TheVariants as entries
 use Rattle.mip_watch.specs.Stands.{number_posted}
@@ -18,14 +20,17 @@ number_reached (entries.Heard number outsider) = Some number
 number_reached (entries.Handed number node) = Some number
 number_reached _ = None
 
--- the bytes of packet k, whose entry stands at the place that the list has for it
-abbrev pub bytes_at : List Entry → List ℕ → ℕ → Option (List ℕ)
-bytes_at past places k = option_and_then (λ place. option_and_then bytes_posted (slice_get past place)) (slice_get places k)
-
--- an entry comes next: a packet takes the next number, and is heard and handed over when it was posted
+-- an entry comes next where so many packets were posted: a packet takes the next number, and is heard and handed over when it was posted
 abbrev pub comes_next : ℕ → Entry → Bool
 comes_next count e =
     option_map_or (λ number. number == count) (number_posted e) true && option_map_or (λ number. nat_lt number count) (number_reached e) true
+
+abbrev pub ComesNext : List Entry → Entry → Type 0
+ComesNext front e = comes_next (length (filter_map number_posted front)) e ≡ true
+
+-- each entry came next
+abbrev pub IsInOrder : List Entry → Type 0
+IsInOrder past = EachAfter ComesNext [] past
 
 -- the token of packet k, where there is one and it is a test
 abbrev pub token_at : List (Option Token) → ℕ → Option (List ℕ)

@@ -1,5 +1,5 @@
--- A history that is watched: the watch, the places and the tokens of the packets go along with it.
-use Rattle.std.specs.Prelude.{◌≡◌, ◌≢◌, ◌<◌, ℕ, List, Option, Some, None, length, slice_get}
+-- A history that is watched: the watch and the tokens of the packets go along with it.
+use Rattle.std.specs.Prelude.{◌≡◌, ◌≢◌, ◌<◌, ◌≤◌, ℕ, List, Option, None, length}
 use Rattle.std.specs.List.{filter_map}
 use Rattle.mip_entries.specs.declared.entry.Entry.{Entry}
 use Rattle.mip_marks.specs.Entries.{packet_in}
@@ -8,17 +8,14 @@ use Rattle.mip_watch.specs.Stands.{StandsFor, number_posted}
 use Rattle.mip_watch.specs.Told.{AreTold}
 use Rattle.mip_words.specs.declared.token.Token.{Token}
 use Rattle.mip_watch.specs.Sights.{token_of}
-use Rattle.mip_chronicle.specs.Packets.{bytes_at, token_at}
+use Rattle.mip_chronicle.specs.Packets.{token_at}
 
-pub record IsWatched (watch : Watch) (past : List Entry) (places : List ℕ) (kept : List (Option Token)) : Type 0 where
+pub record IsWatched (watch : Watch) (past : List Entry) (kept : List (Option Token)) : Type 0 where
   pub stands : StandsFor watch past
   -- packets are heard and handed over once they were posted
   pub told : AreTold past
-  -- the entry of each packet stands at its place
-  pub placed : (k : ℕ) → bytes_at past places k ≡ packet_in past k
-  pub inside : (k place : ℕ) → slice_get places k ≡ Some place → place < length past
-  pub posted : (k : ℕ) → k < length places → packet_in past k ≢ None
-  pub count : length places ≡ length (filter_map number_posted past)
+  pub posted : (k : ℕ) → k < length kept → packet_in past k ≢ None
+  pub ahead : (k : ℕ) → length kept ≤ k → packet_in past k ≡ None
+  pub count : length kept ≡ length (filter_map number_posted past)
   -- the token of each packet stands at its number
   pub tokens : (k : ℕ) → token_at kept k ≡ token_of (packet_in past k)
-  pub pairs : length kept ≡ length places

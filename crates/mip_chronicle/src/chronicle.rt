@@ -1,139 +1,139 @@
-ghost use Rattle.std.specs.Prelude.{◌≡◌, ◌∷◌, ◌++◌, [], length, true, IfOk, OnOk};
+ghost use Rattle.std.specs.Prelude.{◌≡◌, ◌∷◌, ◌++◌, [], List, length, true, IfOk, OnOk, option_map};
+ghost use Rattle.mip_entries.specs.declared.entry.Entry.{Entry};
+ghost use Rattle.mip_marks.specs.Entries.{packet_in};
 ghost use Rattle.mip_marks.specs.Marks.{mark_in};
-ghost use Rattle.mip_chronicle.specs.Packets.{bytes_at, comes_next};
+ghost use Rattle.mip_chronicle.specs.Packets.{comes_next, IsInOrder};
+ghost use Rattle.mip_chronicle.specs.Given.{past_of, with_entry, all_told};
 ghost use Rattle.mip_chronicle.specs.Watched.{IsWatched};
 
-use crate::packets::{bytes_at, heard, number_posted, number_reached};
+use crate::packets::{heard, is_posting};
 use mip_entries::{Entry, History};
-use mip_marks::{AcceptedUpdate, Mark, mark_behind};
+use mip_marks::{AcceptedUpdate, Mark};
+use mip_trail::Trail;
 use mip_watch::Watch;
 use mip_words::{Memory, Token};
 use std::alloc::Global;
 use std::marker::Model;
+use std::mem;
 
-/// A history as it goes on.
+/// Room for the entries of one piece.
+const PIECE: usize = 512;
+
+/// A history as it goes on. It keeps what marks are found by, and gives its entries away.
 ///
-/// As long as packets are numbered from 0 in the order in which they are posted, and are heard and handed over only then,
-/// marks are looked up. In any other history a mark is found by a walk over all entries.
+/// Clauses see the entries that were given away, and those that were not (`ChronicleSeen`). Where a call ran out of memory, no
+/// mark is found any more.
 #[derive(Drop)]
 pub struct Chronicle {
     alloc: Global,
-    history: History,
     watch: Watch,
-    places: Vec<usize>,
     tokens: Vec<Option<Token>>,
-    is_watched: bool,
+    is_whole: bool,
+    told: Trail<History>,
+    fresh: History,
 }
 
 impl Model for Chronicle {
-    ghost use Rattle.std.specs.Prelude.{◌≡◌, List, true};
+    ghost use Rattle.std.specs.Prelude.{◌≡◌, ◌++◌, List, true};
     ghost use Rattle.mip_entries.specs.declared.entry.Entry.{Entry};
+    ghost use Rattle.mip_chronicle.specs.Packets.{IsInOrder};
+    ghost use Rattle.mip_chronicle.specs.Given.{ChronicleSeen, joined};
     ghost use Rattle.mip_chronicle.specs.Watched.{IsWatched};
 
-    ghost Value = { List Entry };
+    ghost Value = { ChronicleSeen };
 
-    ghost view = { λ c. c.history };
+    ghost view = { λ c. record { told = joined c.told.items; fresh = c.fresh } };
 
-    ghost invariant = { λ c. c.is_watched ≡ true → IsWatched c.watch c.history c.places.items c.tokens.items };
+    ghost invariant = { λ c. c.is_whole ≡ true → IsInOrder (joined c.told.items ++ c.fresh) → IsWatched c.watch (joined c.told.items ++ c.fresh) c.tokens.items };
 }
 
 impl Chronicle {
     /// Nothing has happened.
     pub fn new(alloc: Global) -> Result<Chronicle, Memory>
-        ensures { IfOk result (λ c. c ≡ []) }
+        ensures { IfOk result (λ c. c ≡ record { told = []; fresh = [] }) }
     {
         Ok(Chronicle {
             alloc,
-            history: History::new(alloc)?,
             watch: Watch::new(alloc),
-            places: Vec::new(alloc),
             tokens: Vec::new(alloc),
-            is_watched: true,
+            is_whole: true,
+            told: Trail::new(),
+            fresh: piece(alloc)?,
         })
-    }
-
-    /// Makes room for this many entries more.
-    pub fn reserve(&mut self, more: usize) -> Result<(), Memory>
-        ensures { self.new ≡ self.old }
-    {
-        self.history.reserve(more)
     }
 
     /// An entry is left.
     pub fn push(&mut self, entry: Entry) -> Result<(), Memory>
-        ensures { OnOk result (self.new ≡ self.old ++ entry ∷ []) }
+        ensures { OnOk result (self.new ≡ with_entry entry self.old) }
     {
-        let was_watched = self.is_watched;
-        self.is_watched = false;
-        let mut is_watched = false;
-        if was_watched {
-            is_watched = follow(
-                self.alloc,
-                &mut self.watch,
-                &mut self.places,
-                &mut self.tokens,
-                &self.history,
-                &entry,
-            )?;
-        }
-        self.history.push(entry)?;
-        self.is_watched = is_watched;
+        let was_whole = self.is_whole;
+        self.is_whole = false;
+        follow(self.alloc, &mut self.watch, &mut self.tokens, &entry)?;
+        self.fresh.push(entry)?;
+        self.is_whole = was_whole;
         Ok(())
     }
 
-    /// The mark of an update that is accepted next.
-    pub fn mark(&self, accepted: &AcceptedUpdate) -> Mark
-        ensures { result ≡ mark_in self.now accepted.now }
+    /// The mark of an update that is accepted next, where the packet that carried it has these bytes.
+    ///
+    /// Packets are numbered from 0 in the order in which they are posted, and are heard and handed over only then.
+    pub fn mark(&self, accepted: &AcceptedUpdate, packet: Option<&[u8]>) -> Result<Mark, Memory>
+        ensures { IsInOrder (past_of self.now) → option_map (λ p. p.now) packet.entry ≡ packet_in (past_of self.now) accepted.now.number
+            → IfOk result (λ m. m ≡ mark_in (past_of self.now) accepted.now) }
     {
-        if !self.is_watched {
-            return mark_behind(self.history.as_slice(), accepted);
+        if !self.is_whole {
+            return Err(Memory);
         }
-        let packet = bytes_at(&self.history, self.places.as_slice(), accepted.number);
-        self.watch.mark(accepted, packet)
+        Ok(self.watch.mark(accepted, packet))
     }
 
-    pub fn into_history(self) -> History
-        ensures { result ≡ self }
+    /// How many entries were not given away.
+    pub fn waiting(&self) -> usize
+        ensures { result ≡ length self.now.fresh }
     {
-        self.history
+        self.fresh.len()
+    }
+
+    /// The entries that were not given away. From here on they are.
+    pub fn take(&mut self) -> Result<History, Memory>
+        ensures given { IfOk result (λ h. h ≡ self.old.fresh) }
+        ensures after { OnOk result (self.new ≡ all_told self.old) }
+    {
+        let next = piece(self.alloc)?;
+        self.told = self.told.with(&self.fresh);
+        Ok(mem::replace(&mut self.fresh, next))
+    }
+
+    /// The entries that were not given away.
+    pub fn into_history(self) -> History
+        ensures { result ≡ self.fresh }
+    {
+        self.fresh
     }
 }
 
-/// Whether an entry comes next: a packet takes the next number, and is heard and handed over when it was posted.
-fn is_next(count: usize, entry: &Entry) -> bool
-    ensures { result ≡ comes_next count entry.now }
+/// An empty history with room for a piece.
+fn piece(alloc: Global) -> Result<History, Memory>
+    ensures { IfOk result (λ h. h ≡ []) }
 {
-    let count = count as u64;
-    let posted = match number_posted(entry) {
-        Some(number) => number == count,
-        None => true,
-    };
-    let reached = match number_reached(entry) {
-        Some(number) => number < count,
-        None => true,
-    };
-    posted && reached
+    let mut history = History::new(alloc)?;
+    history.reserve(PIECE)?;
+    Ok(history)
 }
 
-/// The watch, the places and the tokens go along with one more entry, where it comes next.
+/// The watch and the tokens go along with one more entry.
 fn follow(
     alloc: Global,
     watch: &mut Watch,
-    places: &mut Vec<usize>,
     tokens: &mut Vec<Option<Token>>,
-    history: &History,
     entry: &Entry,
-) -> Result<bool, Memory>
-    ensures { IsWatched watch.old history.now places.old.items tokens.old.items → IfOk result (λ is. is ≡ true → IsWatched watch.new (history.now ++ entry.now ∷ []) places.new.items tokens.new.items) }
+) -> Result<(), Memory>
+    ensures { (past : List Entry) → IsWatched watch.old past tokens.old.items → comes_next (length tokens.old.items) entry.now ≡ true → OnOk result (IsWatched watch.new (past ++ entry.now ∷ []) tokens.new.items) }
 {
-    if !is_next(places.len(), entry) {
-        return Ok(false);
-    }
     let heard = heard(tokens.as_slice(), entry);
     let token = watch.note(alloc, entry, heard)?;
-    if number_posted(entry).is_some() {
-        places.push(history.len())?;
+    if is_posting(entry) {
         tokens.push(token)?;
     }
-    Ok(true)
+    Ok(())
 }

@@ -20,6 +20,8 @@ use Rattle.mip_engine.specs.Engines.{EngineSeen, with_entry, with_net, tried, cl
 use Rattle.mip_engine.specs.Standing.{IsAt}
 use Rattle.mip_engine.specs.Quiet.{IsQuiet, IsNoClaim, IsTimeless}
 use Rattle.mip_engine.proofs.QuietLaws.{holder-push, declared-push, hears-push, asked-same, hears-same, nodes-same, now-same, history-same, at_note, quiet_by}
+use Rattle.mip_nodes.specs.Roles.{is_apart}
+use Rattle.mip_engine.proofs.NumberLaws.{numbered_apart}
 use Rattle.mip_engine.proofs.PostingLaws.{quiet_idle}
 
 timeless_claimed : (who l : ℕ) (a : Address) → IsTimeless (Claimed who (link_id l) a)
@@ -35,7 +37,7 @@ timeless_deafened : (o l : ℕ) → IsTimeless (Deafened o (link_id l))
 timeless_deafened o l = record { moment = refl; unmoved = record { life = λ n count. refl; spot = λ n. refl } }
 
 quiet_taken : (who l : ℕ) (a : Address) (holder : ℕ) → IsQuiet (Taken who (link_id l) a holder)
-quiet_taken who l a holder = quiet_by (Taken who (link_id l) a holder) refl
+quiet_taken who l a holder = quiet_by (Taken who (link_id l) a holder) refl refl
 
 holds_after : (b a : ℕ) (v : Option ℕ) (o : Option ℕ) → (if b == a then v else o) ≡ unwrap_or (if b == a then Some v else None) o
 holds_after b a v o = by (b == a)
@@ -108,6 +110,7 @@ at_claimed e s run who l a small at =
       outsiders = at.outsiders;
       now = now-same e s run x (timeless_claimed who l a) at;
       history = history-same e s run x at;
+      numbered = numbered_apart run.posts run.past x refl at.numbered;
     }
 
 -- an address has no holder from here on
@@ -136,6 +139,7 @@ at_released e s run who l a at =
       outsiders = at.outsiders;
       now = now-same e s run x (timeless_released who l a) at;
       history = history-same e s run x at;
+      numbered = numbered_apart run.posts run.past x refl at.numbered;
     }
   where
     none : (p : Option Address) → p ≡ or_else p None
@@ -154,9 +158,9 @@ module _ (e : EngineSeen) (s : Setup) (run : Run) (o l : ℕ) (small : o < 8) (f
       ∙ says p m
       ∙ sym (hears-push run.past x p m)))
 
-  at_ears : (x : Entry) (v : Bool) → IsNoClaim x → IsTimeless x → SaysIt x v
+  at_ears : (x : Entry) (v : Bool) → IsNoClaim x → IsTimeless x → is_apart x ≡ true → SaysIt x v
       → IsAt (with_entry x (with_net (with_hearing e.net o l v) e)) s (note x run)
-  at_ears x v no_claim timeless says = record {
+  at_ears x v no_claim timeless apart says = record {
     seed = at.seed;
     asked = at.asked ∙ sym (asked-same s run.past x no_claim);
     hears = ears x v says;
@@ -172,6 +176,7 @@ module _ (e : EngineSeen) (s : Setup) (run : Run) (o l : ℕ) (small : o < 8) (f
     outsiders = at.outsiders;
     now = now-same e s run x timeless at;
     history = history-same e s run x at;
+    numbered = numbered_apart run.posts run.past x apart at.numbered;
   }
 
   says_new : (x : Entry) (v : Bool) → ((p m : ℕ) → listen_says p m x ≡ (if (p == o) && (m == l) then Some v else None)) → SaysIt x v
@@ -193,16 +198,16 @@ module _ (e : EngineSeen) (s : Setup) (run : Run) (o l : ℕ) (small : o < 8) (f
     where
       by : (b : Bool) → hears_in run.past o l ≡ b
           → IsAt (with_entry (if not b then Listening o (link_id l) else Idle) (with_net (with_hearing e.net o l true) e)) s (note (if b then Idle else Listening o (link_id l)) run)
-      by true is = at_ears Idle true quiet_idle.claim quiet_idle.timeless (says_same true is)
-      by false is = at_ears (Listening o (link_id l)) true (record { holder = λ a. refl; declared = λ by. refl }) (timeless_listening o l) (says_new (Listening o (link_id l)) true (λ p m. refl))
+      by true is = at_ears Idle true quiet_idle.silent.claim quiet_idle.silent.timeless refl (says_same true is)
+      by false is = at_ears (Listening o (link_id l)) true (record { holder = λ a. refl; declared = λ by. refl }) (timeless_listening o l) refl (says_new (Listening o (link_id l)) true (λ p m. refl))
 
   pub at_deafens : IsAt (with_entry (if hears_of e.net.hearing o l then Deafened o (link_id l) else Idle) (with_net (with_hearing e.net o l false) e)) s (deafens run o l)
   at_deafens = rw hears_is (by (hears_in run.past o l) refl)
     where
       by : (b : Bool) → hears_in run.past o l ≡ b
           → IsAt (with_entry (if b then Deafened o (link_id l) else Idle) (with_net (with_hearing e.net o l false) e)) s (note (if b then Deafened o (link_id l) else Idle) run)
-      by true is = at_ears (Deafened o (link_id l)) false (record { holder = λ a. refl; declared = λ by. refl }) (timeless_deafened o l) (says_new (Deafened o (link_id l)) false (λ p m. refl))
-      by false is = at_ears Idle false quiet_idle.claim quiet_idle.timeless (says_same false is)
+      by true is = at_ears (Deafened o (link_id l)) false (record { holder = λ a. refl; declared = λ by. refl }) (timeless_deafened o l) refl (says_new (Deafened o (link_id l)) false (λ p m. refl))
+      by false is = at_ears Idle false quiet_idle.silent.claim quiet_idle.silent.timeless refl (says_same false is)
 
 -- what is noted of a claim
 pub claimed_entry : (net : NetSeen) (who l : ℕ) (a : Address) → refusal net who a.0 ≡ None → Claimed who (link_id l) a ≡ claim_entry who a l (holder_of net.rows a.0)

@@ -1,5 +1,5 @@
 -- Entries that say something of one node: it restarts, or moves.
-use Rattle.std.proofs.Common.{◌≡◌, ◌≢◌, ℕ, ◌<◌, List, [], ◌∷◌, ◌++◌, length, ◌⊎◌, inl, inr, refl, sym, ap, ◌∙◌, subst, arith, length-set}
+use Rattle.std.proofs.Common.{◌≡◌, ◌≢◌, true, ℕ, ◌<◌, List, [], ◌∷◌, ◌++◌, length, ◌⊎◌, inl, inr, refl, sym, ap, ◌∙◌, subst, arith, length-set}
 use Rattle.std.proofs.lemmas.Bool.{cases_eq}
 use Rattle.std.proofs.lemmas.Bool.Decides.{nat_tests}
 use Rattle.std.proofs.lemmas.Option.{slice_get_within}
@@ -16,7 +16,9 @@ use Rattle.mip_history.specs.Questions.{moment_says, moment_in, listen_says, res
 use Rattle.mip_links.specs.Table.{link_of}
 use Rattle.mip_nodes.specs.Nodes.{NodeSeen, with_spot}
 use Rattle.mip_engine.specs.Engines.{EngineSeen, with_entry, with_node, stood, stood_by}
+use Rattle.mip_nodes.specs.Roles.{is_apart}
 use Rattle.mip_engine.specs.Quiet.{IsNoClaim}
+use Rattle.mip_engine.proofs.NumberLaws.{numbered_apart}
 use Rattle.mip_engine.specs.Standing.{IsAt, role_in, node_in}
 use Rattle.mip_engine.proofs.ItemLaws.{set_here, set_there}
 use Rattle.mip_engine.proofs.QuietLaws.{life-push, spot-push, moment-push, asked-same, hears-same, history-same, mapped_same}
@@ -27,6 +29,7 @@ pub record IsOf (n : ℕ) (x : Entry) : Type 0 where
   pub claim : IsNoClaim x
   pub moment : moment_says x ≡ None
   pub listening : (o l : ℕ) → listen_says o l x ≡ None
+  pub apart : is_apart x ≡ true
   pub life : (m count : ℕ) → m ≢ n → restarts m count x ≡ count
   pub spot : (m : ℕ) → m ≢ n → moved_says m x ≡ None
 
@@ -38,6 +41,7 @@ of_restart n = record {
   claim = record { holder = λ a. refl; declared = λ by. refl };
   moment = refl;
   listening = λ o l. refl;
+  apart = refl;
   life = λ m count other. lived_on n m count other;
   spot = λ m other. refl;
 }
@@ -50,6 +54,7 @@ of_move n link = record {
   claim = record { holder = λ a. refl; declared = λ by. refl };
   moment = refl;
   listening = λ o l. refl;
+  apart = refl;
   life = λ m count other. refl;
   spot = λ m other. stayed n m link other;
 }
@@ -92,6 +97,7 @@ module _ (e : EngineSeen) (s : Setup) (run : Run) (n : ℕ) (x : Entry) (of : Is
     outsiders = at.outsiders;
     now = at.now ∙ sym (moment-push s.start run.past x ∙ ap (λ (o : Option ℕ). unwrap_or o (moment_in s.start run.past)) of.moment);
     history = history-same e s run x at;
+    numbered = numbered_apart run.posts run.past x of.apart at.numbered;
   }
 
   -- where there is no node n

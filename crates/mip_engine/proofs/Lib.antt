@@ -12,6 +12,7 @@ pub mod ShowLaws
 pub mod DeliveryLaws
 pub mod WholeLaws
 pub mod MarkLaws
+pub mod NumberLaws
 pub mod HostLaws
 pub mod AgentLaws
 pub mod RoutableLaws

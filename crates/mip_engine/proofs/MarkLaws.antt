@@ -30,8 +30,8 @@ marks_one entry e (Some a) m is =
     with_more (entry ∷ []) (mark_entry m ∷ []) e ∙ ap (λ (x : Mark). with_entries (entry ∷ mark_entry x ∷ []) e) same
 
 quiet_mark : (m : Mark) → IsQuiet (mark_entry m)
-quiet_mark (Origin hot cot update) = quiet_by (mark_entry (Origin hot cot update)) refl
-quiet_mark (Forged cause) = quiet_by (mark_entry (Forged cause)) refl
+quiet_mark (Origin hot cot update) = quiet_by (mark_entry (Origin hot cot update)) refl refl
+quiet_mark (Forged cause) = quiet_by (mark_entry (Forged cause)) refl refl
 
 quiet_marks : (past : List Entry) (o : Option AcceptedUpdate) → AllByRecursion IsQuiet (marks_of past o)
 quiet_marks past None = tt

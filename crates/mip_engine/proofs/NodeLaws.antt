@@ -146,6 +146,7 @@ module _ (e : EngineSeen) (s : Setup) (run : Run) (at : IsAt e s run) (n : ℕ) 
         outsiders = at.outsiders;
         now = rw d.past at.now;
         history = at.history ∙ sym d.past;
+        numbered = rw (d.posts, d.past) at.numbered;
       }
     where
       by : (m : ℕ) → n < length s.hosts → (m ≡ n) ⊎ (m ≢ n) → slice_get (slice_set e.nodes n c) m ≡ option_map (node_in s after m) (slice_get s.hosts m)

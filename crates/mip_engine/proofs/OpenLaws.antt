@@ -1,5 +1,5 @@
 -- Nodes join, each with its address, before the first event.
-use Rattle.std.proofs.Common.{◌≡◌, ℕ, zero, suc, ◌+◌, ◌<◌, List, [], ◌∷◌, ◌++◌, length, replicate, Bool, true, false, refl, sym, ap, ◌∙◌, arith}
+use Rattle.std.proofs.Common.{◌≡◌, ℕ, zero, suc, ◌+◌, ◌<◌, List, [], ◌∷◌, ◌++◌, length, replicate, Bool, true, false, refl, sym, ap, ◌∙◌, subst, arith}
 use Rattle.std.proofs.Math.Path.{fun_ext}
 use Rattle.std.proofs.lemmas.List.{length_push, append_assoc, append-nil, length-map}
 use Rattle.std.specs.Prelude.{fold, Option, Some, None, option_map, slice_get, slice_index_or, unwrap_or, map, ◌&&◌, nat_lt, if◌then◌else◌}
@@ -34,6 +34,8 @@ use Rattle.mip_nodes.proofs.RoleLaws.{known_first, agent_known_first, mobile_kno
 use Rattle.mip_engine.specs.Engines.{EngineSeen, new_engine, joined, with_entry, with_net}
 use Rattle.mip_engine.specs.Openings.{with_hosts}
 use Rattle.mip_engine.specs.Standing.{IsAt, role_in, node_in}
+use Rattle.mip_engine.specs.Numbering.{IsNumbered}
+use Rattle.mip_engine.proofs.NumberLaws.{numbered_none}
 use Rattle.mip_engine.proofs.ClaimLaws.{at_claimed}
 
 none_first : (n by : ℕ) → declared_of (replicate n None) by ≡ None
@@ -77,6 +79,7 @@ at_new s =
       outsiders = refl;
       now = refl;
       history = refl;
+      numbered = numbered_none;
     }
   where
     asked_with : (ℕ → Option Address) → Asked
@@ -218,6 +221,7 @@ module _ (e : EngineSeen) (s : Setup) (hosts : List Host) (host : Host) (small :
     outsiders = at.outsiders;
     now = claims.now ∙ ap (λ (past : List Entry). moment_in s.start past) past_is;
     history = claims.history ∙ past_is;
+    numbered = subst (λ (past : List Entry). IsNumbered [] past) past_is claims.numbered;
   }
 
   -- with the anycast address, if it is the first agent of its link, the node has what it is to have

@@ -1,5 +1,5 @@
 -- Entries that say nothing to the questions of a run, and what they leave as it was.
-use Rattle.std.proofs.Common.{◌≡◌, ℕ, List, [], ◌∷◌, ◌++◌, Bool, true, false, refl, sym, ap, ◌∙◌, subst}
+use Rattle.std.proofs.Common.{◌≡◌, ℕ, ◌<◌, length, List, [], ◌∷◌, ◌++◌, Bool, true, false, refl, sym, ap, ◌∙◌, subst}
 use Rattle.std.proofs.Math.Path.{fun_ext}
 use Rattle.std.proofs.lemmas.List.{take_more}
 use Rattle.std.proofs.lemmas.Option.{slice_get_within, get_or_from_slice_get}
@@ -14,10 +14,15 @@ use Rattle.mip_history.specs.Setup.{Setup, Host, Kind}
 use Rattle.mip_history.specs.Setup.Kind.{Correspondent as OfCorrespondent, Agent as OfAgent, Mobile as OfMobile}
 use Rattle.mip_history.specs.Runs.{Run, note}
 use Rattle.mip_links.specs.Table.{link_of}
+use Rattle.mip_watch.specs.Stands.{number_posted}
+use Rattle.mip_chronicle.specs.Packets.{number_reached}
+use Rattle.mip_nodes.specs.Roles.{is_apart}
 use Rattle.mip_history.specs.Knowing.{stands_on}
 use Rattle.mip_history.specs.Questions.{moment_says, moment_in, holder_says, holder_in, claims, declared_in, listen_says, hears_in, restarts, life_in, moved_says, spot_in, asked_in}
 use Rattle.mip_engine.specs.Engines.{EngineSeen, with_entry}
-use Rattle.mip_engine.specs.Quiet.{IsNoClaim, IsUnmoved, IsTimeless, IsQuiet}
+use Rattle.mip_engine.specs.Quiet.{IsNoClaim, IsUnmoved, IsTimeless, IsSilent, IsQuiet}
+use Rattle.mip_engine.specs.Numbering.{IsNumbered}
+use Rattle.mip_engine.proofs.NumberLaws.{numbered_apart, numbered_reached}
 use Rattle.mip_engine.specs.Standing.{IsAt, role_in, node_in}
 
 -- one entry more
@@ -105,23 +110,26 @@ is_quiet (Deafened outsider link) = false
 is_quiet (Restarted node) = false
 is_quiet _ = true
 
-pub quiet_by : (x : Entry) → is_quiet x ≡ true → IsQuiet x
-quiet_by (At moment) is = absurd cc
-quiet_by (Moved node link) is = absurd cc
-quiet_by (Claimed who link address) is = absurd cc
-quiet_by (Released who link address) is = absurd cc
-quiet_by (Listening outsider link) is = absurd cc
-quiet_by (Deafened outsider link) is = absurd cc
-quiet_by (Restarted node) is = absurd cc
-quiet_by _ is = record {
+pub silent_by : (x : Entry) → is_quiet x ≡ true → IsSilent x
+silent_by (At moment) is = absurd cc
+silent_by (Moved node link) is = absurd cc
+silent_by (Claimed who link address) is = absurd cc
+silent_by (Released who link address) is = absurd cc
+silent_by (Listening outsider link) is = absurd cc
+silent_by (Deafened outsider link) is = absurd cc
+silent_by (Restarted node) is = absurd cc
+silent_by _ is = record {
   claim = record { holder = λ a. refl; declared = λ by. refl };
   timeless = record { moment = refl; unmoved = record { life = λ n count. refl; spot = λ n. refl } };
   listening = λ o l. refl;
 }
 
+pub quiet_by : (x : Entry) → is_quiet x ≡ true → is_apart x ≡ true → IsQuiet x
+quiet_by x is apart = record { silent = silent_by x is; apart = apart }
+
 -- an entry is left that says nothing
-pub at_note : (e : EngineSeen) (s : Setup) (run : Run) (x : Entry) → IsQuiet x → IsAt e s run → IsAt (with_entry x e) s (note x run)
-at_note e s run x quiet at = record {
+at_silent : (e : EngineSeen) (s : Setup) (run : Run) (x : Entry) → IsSilent x → IsNumbered run.posts (run.past ++ x ∷ []) → IsAt e s run → IsAt (with_entry x e) s (note x run)
+at_silent e s run x quiet numbered at = record {
   seed = at.seed;
   asked = at.asked ∙ sym (asked-same s run.past x quiet.claim);
   hears = at.hears ∙ sym (hears-same run.past x quiet.listening);
@@ -137,7 +145,16 @@ at_note e s run x quiet at = record {
   outsiders = at.outsiders;
   now = now-same e s run x quiet.timeless at;
   history = history-same e s run x at;
+  numbered = numbered;
 }
+
+pub at_note : (e : EngineSeen) (s : Setup) (run : Run) (x : Entry) → IsQuiet x → IsAt e s run → IsAt (with_entry x e) s (note x run)
+at_note e s run x quiet at = at_silent e s run x quiet.silent (numbered_apart run.posts run.past x quiet.apart at.numbered) at
+
+-- a packet that was posted is heard, or handed over
+pub at_reached : (e : EngineSeen) (s : Setup) (run : Run) (x : Entry) (k : ℕ) → IsSilent x → number_posted x ≡ None → number_reached x ≡ Some k → k < length run.posts
+    → IsAt e s run → IsAt (with_entry x e) s (note x run)
+at_reached e s run x k silent none some inside at = at_silent e s run x silent (numbered_reached run.posts run.past x k none some inside at.numbered) at
 
 -- the same engine, and the same run, under another name
 pub at_is : {e f : EngineSeen} {s : Setup} {run : Run} → e ≡ f → IsAt f s run → IsAt e s run

@@ -27,11 +27,11 @@ use Rattle.mip_engine.proofs.NodeLaws.{host_of, no_host}
 
 quiet_rows : (n : ℕ) (rows : List Row) → AllByRecursion IsQuiet (map (row_entry n) rows)
 quiet_rows n [] = tt
-quiet_rows n (r ∷ rows) = (quiet_by (row_entry n r) refl, quiet_rows n rows)
+quiet_rows n (r ∷ rows) = (quiet_by (row_entry n r) refl refl, quiet_rows n rows)
 
 quiet_homes : (n : ℕ) (rows : List HomeRow) → AllByRecursion IsQuiet (map (home_entry n) rows)
 quiet_homes n [] = tt
-quiet_homes n (r ∷ rows) = (quiet_by (home_entry n r) refl, quiet_homes n rows)
+quiet_homes n (r ∷ rows) = (quiet_by (home_entry n r) refl refl, quiet_homes n rows)
 
 quiet_shown : (n : ℕ) (role : Role) (now : ℕ) → AllByRecursion IsQuiet (rows_of n role now)
 quiet_shown n (Correspondent c) now = quiet_rows n (kept_at c.known.cache now)

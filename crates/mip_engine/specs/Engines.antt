@@ -23,7 +23,9 @@ pub record EngineSeen : Type 0 where
   pub nodes : List NodeSeen
   pub outsiders : ℕ
   pub moment : ℕ
+  -- the history so far, and what was given away of it
   pub past : List Entry
+  pub told : List Entry
 
 -- there are few nodes, none was called at a later moment, and moments stay far from the last one
 pub record IsCalm (nodes : List NodeSeen) (now : ℕ) : Type 0 where
@@ -37,6 +39,10 @@ with_entries entries e =
 
 abbrev pub with_entry : Entry → EngineSeen → EngineSeen
 with_entry entry e = with_entries (entry ∷ []) e
+
+-- all that was not given away is
+abbrev pub all_told : EngineSeen → EngineSeen
+all_told e = record e { told = e.past }
 
 abbrev pub with_net : NetSeen → EngineSeen → EngineSeen
 with_net net e = record e { net = net }
@@ -69,6 +75,7 @@ joined host e = record {
   outsiders = e.outsiders;
   moment = e.moment;
   past = e.past ++ Claimed (length e.nodes) (record { 0 = unwrap_or (link_of e.net.links host.address.0) 0 }) host.address ∷ [];
+  told = e.told;
 }
 
 -- what node n answers to what it is asked
@@ -95,7 +102,7 @@ heard_by shield by link k e =
 -- before the first node: nothing has happened
 abbrev pub new_engine : List ℕ → ℕ → List ℕ → ℕ → EngineSeen
 new_engine seed start links outsiders =
-    record { seed = seed; net = new_net links; nodes = []; outsiders = outsiders; moment = start; past = [] }
+    record { seed = seed; net = new_net links; nodes = []; outsiders = outsiders; moment = start; past = []; told = [] }
 
 -- a claim is tried
 abbrev pub tried : NetSeen → ℕ → Address → Option ClaimFault → NetSeen

@@ -5,3 +5,4 @@ pub mod Quiet
 pub mod Joining
 pub mod Openings
 pub mod Groups
+pub mod Numbering

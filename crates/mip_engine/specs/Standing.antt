@@ -13,6 +13,7 @@ use Rattle.mip_nodes.specs.declared.role.Role.{Role}
 use Rattle.mip_nodes.specs.declared.role.Role.TheVariants.{Correspondent, Agent, Mobile}
 use Rattle.mip_nodes.specs.Nodes.{NodeSeen}
 use Rattle.mip_engine.specs.Engines.{EngineSeen}
+use Rattle.mip_engine.specs.Numbering.{IsNumbered}
 
 -- node n of a run, as it knows what its past leaves known
 abbrev pub role_in : Setup → Run → ℕ → Address → Kind → Role
@@ -47,6 +48,7 @@ pub record IsAt (e : EngineSeen) (s : Setup) (run : Run) : Type 0 where
   pub outsiders : e.outsiders ≡ s.outsiders
   pub now : e.moment ≡ moment_in s.start run.past
   pub history : e.past ≡ run.past
+  pub numbered : IsNumbered run.posts run.past
 
 -- it stands for the run of some events
 pub record IsOfRun (e : EngineSeen) : Type 0 where

@@ -21,7 +21,8 @@ impl Engine {
     /// A node is asked something, and does it.
     pub fn act(&mut self, alloc: Global, node: NodeId, call: Call<'_>) -> Result<(), Memory>
         requires { IsAskable call }
-        ensures { (s : Setup) (run : Run) → IsAt self.old s run → OnOk result (IsAt self.new s (acts s node.0 (asked call.entry) run)) }
+        ensures stands { (s : Setup) (run : Run) → IsAt self.old s run → OnOk result (IsAt self.new s (acts s node.0 (asked call.entry) run)) }
+        ensures kept { OnOk result (self.new.told ≡ self.old.told) }
     {
         let from = match self.station(node) {
             Some(from) => from,
@@ -38,7 +39,8 @@ impl Engine {
         node: NodeId,
         link: Option<LinkId>,
     ) -> Result<(), Memory>
-        ensures { (s : Setup) (run : Run) → IsAt self.old s run → OnOk result (IsAt self.new s (moves s run node.0 link)) }
+        ensures stands { (s : Setup) (run : Run) → IsAt self.old s run → OnOk result (IsAt self.new s (moves s run node.0 link)) }
+        ensures kept { OnOk result (self.new.told ≡ self.old.told) }
     {
         self.act(alloc, node, Call::Leave)?;
         self.stand(node, link);
@@ -46,7 +48,8 @@ impl Engine {
     }
 
     fn show_rows(&mut self, node: NodeId) -> Result<(), Memory>
-        ensures { (c : NodeSeen) → slice_get self.old.nodes node.0 ≡ Some c → OnOk result (self.new ≡ with_entries (rows_of node.0 c.role self.old.moment) self.old) }
+        ensures shown { (c : NodeSeen) → slice_get self.old.nodes node.0 ≡ Some c → OnOk result (self.new ≡ with_entries (rows_of node.0 c.role self.old.moment) self.old) }
+        ensures kept { OnOk result (self.new.told ≡ self.old.told) }
     {
         for place in 0..u32::MAX {
             match self.row(node, place) {
@@ -59,7 +62,8 @@ impl Engine {
 
     /// The rows that a node keeps are shown.
     pub fn show(&mut self, node: NodeId) -> Result<(), Memory>
-        ensures { (s : Setup) (run : Run) → IsAt self.old s run → OnOk result (IsAt self.new s (shown s node.0 run)) }
+        ensures stands { (s : Setup) (run : Run) → IsAt self.old s run → OnOk result (IsAt self.new s (shown s node.0 run)) }
+        ensures kept { OnOk result (self.new.told ≡ self.old.told) }
     {
         match self.station(node) {
             Some(_) => self.show_rows(node),

@@ -5,7 +5,7 @@ ghost use Rattle.std.specs.List.{AllByRecursion};
 ghost use Rattle.mip_history.specs.Setup.{Setup};
 ghost use Rattle.mip_history.specs.Runs.{Run};
 ghost use Rattle.mip_history.specs.Nodes.{answered, answered_one, left_by};
-ghost use Rattle.mip_nodes.specs.Roles.{IsWhole};
+ghost use Rattle.mip_nodes.specs.Roles.{IsWhole, is_apart};
 ghost use Rattle.mip_engine.specs.Groups.{is_plain};
 ghost use Rattle.mip_engine.specs.Standing.{IsAt};
 
@@ -17,8 +17,10 @@ use std::alloc::Global;
 impl Engine {
     /// An entry of a node is left with the node's number.
     fn note_named(&mut self, node: NodeId, entry: Entry) -> Result<(), Memory>
-        requires { is_plain entry ≡ true }
-        ensures { (s : Setup) (run : Run) → IsAt self.old s run → OnOk result (IsAt self.new s (left_by s node.0 run entry)) }
+        requires plain { is_plain entry ≡ true }
+        requires apart { is_apart entry ≡ true }
+        ensures stands { (s : Setup) (run : Run) → IsAt self.old s run → OnOk result (IsAt self.new s (left_by s node.0 run entry)) }
+        ensures kept { OnOk result (self.new.told ≡ self.old.told) }
     {
         let next = self.next();
         self.note_marked(entry.named(node, LinkId(0), next))
@@ -26,8 +28,10 @@ impl Engine {
 
     /// An entry of a node is left. Who holds an address is decided as it is claimed, and a restart was noted as it happened.
     fn note_left(&mut self, node: NodeId, entry: Entry) -> Result<(), Memory>
-        requires { node.0 < 40 }
-        ensures { (s : Setup) (run : Run) → IsAt self.old s run → OnOk result (IsAt self.new s (left_by s node.0 run entry)) }
+        requires node { node.0 < 40 }
+        requires apart { is_apart entry ≡ true }
+        ensures stands { (s : Setup) (run : Run) → IsAt self.old s run → OnOk result (IsAt self.new s (left_by s node.0 run entry)) }
+        ensures kept { OnOk result (self.new.told ≡ self.old.told) }
     {
         match entry {
             Entry::Claimed { address, .. } => self.claim(node.0, address),
@@ -47,7 +51,8 @@ impl Engine {
     ) -> Result<(), Memory>
         requires whole { IsWhole answer }
         requires node { node.0 < 40 }
-        ensures { (s : Setup) (run : Run) → IsAt self.old s run → OnOk result (IsAt self.new s (answered_one s node.0 from.0 run answer)) }
+        ensures stands { (s : Setup) (run : Run) → IsAt self.old s run → OnOk result (IsAt self.new s (answered_one s node.0 from.0 run answer)) }
+        ensures kept { OnOk result (self.new.told ≡ self.old.told) }
     {
         match answer {
             Answer::Send { shield, packet } => self.send(alloc, node, from, shield, packet),
@@ -66,7 +71,8 @@ impl Engine {
     ) -> Result<(), Memory>
         requires whole { AllByRecursion IsWhole answers }
         requires node { node.0 < 40 }
-        ensures { (s : Setup) (run : Run) → IsAt self.old s run → OnOk result (IsAt self.new s (answered s node.0 from.0 run answers)) }
+        ensures stands { (s : Setup) (run : Run) → IsAt self.old s run → OnOk result (IsAt self.new s (answered s node.0 from.0 run answers)) }
+        ensures kept { OnOk result (self.new.told ≡ self.old.told) }
     {
         for answer in answers.into_vec() {
             self.answer_one(alloc, node, from, answer)?;

@@ -20,7 +20,8 @@ impl Engine {
     fn claim_on(&mut self, who: u8, link: LinkId, address: Address) -> Result<(), Memory>
         requires who { who < 40 }
         requires link { link_of self.old.net.links address.0 ≡ Some link.0 }
-        ensures { (s : Setup) (run : Run) → IsAt self.old s run → link_of self.old.net.links address.0 ≡ Some link.0 → OnOk result (IsAt self.new s (note (claim_entry who address link.0 (holder_in run.past address.0)) run)) }
+        ensures stands { (s : Setup) (run : Run) → IsAt self.old s run → link_of self.old.net.links address.0 ≡ Some link.0 → OnOk result (IsAt self.new s (note (claim_entry who address link.0 (holder_in run.past address.0)) run)) }
+        ensures kept { OnOk result (self.new.told ≡ self.old.told) }
     {
         let entry = self.take_claim(who, link, address)?;
         self.note(entry)
@@ -29,7 +30,8 @@ impl Engine {
     /// Somebody claims an address, and has it unless somebody else does.
     pub fn claim(&mut self, who: u8, address: Address) -> Result<(), Memory>
         requires { who < 40 }
-        ensures { (s : Setup) (run : Run) → IsAt self.old s run → OnOk result (IsAt self.new s (claims s who address run)) }
+        ensures stands { (s : Setup) (run : Run) → IsAt self.old s run → OnOk result (IsAt self.new s (claims s who address run)) }
+        ensures kept { OnOk result (self.new.told ≡ self.old.told) }
     {
         match self.link_of(address) {
             Some(link) => self.claim_on(who, link, address),
@@ -55,7 +57,8 @@ impl Engine {
     pub(crate) fn hold(&mut self, who: u8, link: LinkId, address: Address) -> Result<(), Memory>
         requires who { who < 40 }
         requires free { refusal self.old.net who address.0 ≡ None }
-        ensures { (s : Setup) (run : Run) → IsAt self.old s run → OnOk result (IsAt self.new s (note (Claimed who link address) run)) }
+        ensures stands { (s : Setup) (run : Run) → IsAt self.old s run → OnOk result (IsAt self.new s (note (Claimed who link address) run)) }
+        ensures kept { OnOk result (self.new.told ≡ self.old.told) }
     {
         self.take_free(who, address)?;
         self.note(Entry::Claimed { who, link, address })
@@ -64,7 +67,8 @@ impl Engine {
     /// A home address that was given up is its mobile's from here on, where that is at home.
     fn pass_on(&mut self, who: u8, link: LinkId, address: Address) -> Result<(), Memory>
         requires free { IsFree self.old.net address.0 }
-        ensures { (s : Setup) (run : Run) → IsAt self.old s run → OnOk result (IsAt self.new s (passes_to who address link.0 run (resident_of self.old.nodes address.0))) }
+        ensures stands { (s : Setup) (run : Run) → IsAt self.old s run → OnOk result (IsAt self.new s (passes_to who address link.0 run (resident_of self.old.nodes address.0))) }
+        ensures kept { OnOk result (self.new.told ≡ self.old.told) }
     {
         let Some(node) = self.resident(address) else {
             return Ok(());
@@ -77,7 +81,8 @@ impl Engine {
 
     fn give_up_on(&mut self, who: u8, link: LinkId, address: Address) -> Result<(), Memory>
         requires { link_of self.old.net.links address.0 ≡ Some link.0 }
-        ensures { (s : Setup) (run : Run) → IsAt self.old s run → OnOk result (IsAt self.new s (given_up_on s who address run (Some link.0))) }
+        ensures stands { (s : Setup) (run : Run) → IsAt self.old s run → OnOk result (IsAt self.new s (given_up_on s who address run (Some link.0))) }
+        ensures kept { OnOk result (self.new.told ≡ self.old.told) }
     {
         if self.release(who, address) {
             self.note(Entry::Released { who, link, address })?;
@@ -88,7 +93,8 @@ impl Engine {
 
     /// Somebody gives an address up, if it holds it. A home address passes to its mobile, where that is at home.
     pub fn give_up(&mut self, who: u8, address: Address) -> Result<(), Memory>
-        ensures { (s : Setup) (run : Run) → IsAt self.old s run → OnOk result (IsAt self.new s (gives_up s who address run)) }
+        ensures stands { (s : Setup) (run : Run) → IsAt self.old s run → OnOk result (IsAt self.new s (gives_up s who address run)) }
+        ensures kept { OnOk result (self.new.told ≡ self.old.told) }
     {
         match self.link_of(address) {
             Some(link) => self.give_up_on(who, link, address),

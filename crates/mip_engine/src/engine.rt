@@ -1,11 +1,12 @@
 //! The run of a schedule, as it goes on.
 
-ghost use Rattle.std.specs.Prelude.{◌≡◌, ◌<◌, ◌≤◌, ◌^◌, ◌∷◌, if◌then◌else◌, length, map, IfOk, OnOk, Option, None, Some, option_map};
+ghost use Rattle.std.specs.Prelude.{◌≡◌, ◌+◌, ◌<◌, ◌≤◌, ◌^◌, ◌∷◌, ◌++◌, if◌then◌else◌, length, map, IfOk, OnOk, Option, None, Some, option_map};
 ghost use Rattle.mip_entries.specs.declared.entry.Entry.TheVariants.{At};
 ghost use Rattle.mip_history.specs.Nodes.{marks_of};
 ghost use Rattle.mip_marks.specs.Entries.{update_accepted};
 ghost use Rattle.mip_marks.specs.Marks.{mark_in};
-ghost use Rattle.mip_engine.specs.Engines.{new_engine, with_entry, with_entries, at_moment};
+ghost use Rattle.mip_engine.specs.Engines.{new_engine, with_entry, with_entries, all_told, at_moment};
+ghost use Rattle.mip_engine.specs.Numbering.{IsNumbered};
 
 mod links;
 mod members;
@@ -34,6 +35,7 @@ pub struct Engine {
 }
 
 impl Model for Engine {
+    ghost use Rattle.mip_chronicle.specs.Given.{past_of};
     ghost use Rattle.mip_engine.specs.Engines.{EngineSeen, IsCalm};
 
     ghost Value = { EngineSeen };
@@ -44,7 +46,8 @@ impl Model for Engine {
       nodes = e.nodes.items;
       outsiders = e.outsiders;
       moment = e.moment.0;
-      past = e.chronicle;
+      past = past_of e.chronicle;
+      told = e.chronicle.told;
     } };
 
     ghost invariant = { λ e. IsCalm e.nodes.items e.moment.0 };
@@ -64,31 +67,39 @@ impl Engine {
         requires early { start.0 < 2 ^ 62 }
         ensures { IfOk result (λ e. e ≡ new_engine seed.now start.0 (map (λ p. p.0) links.now) outsiders) }
     {
-        let mut engine = Engine {
+        let mut net = Net::new(alloc, links)?;
+        net.reserve_posts(events)?;
+        Ok(Engine {
             seed: *seed,
-            net: Net::new(alloc, links)?,
+            net,
             nodes: Vec::new(alloc),
             outsiders,
             moment: start,
             chronicle: Chronicle::new(alloc)?,
-        };
-        engine.reserve(events)?;
-        Ok(engine)
+        })
     }
 
-    /// Makes room for what this many events leave at least.
-    fn reserve(&mut self, events: usize) -> Result<(), Memory>
-        ensures { self.new ≡ self.old }
-    {
-        self.net.reserve_posts(events)?;
-        self.chronicle.reserve(events)
-    }
-
-    /// The history so far.
+    /// What was not given away of the history so far.
     pub fn into_history(self) -> History
-        ensures { result ≡ self.past }
+        ensures { self.past ≡ self.told ++ result }
     {
         self.chronicle.into_history()
+    }
+
+    /// How many entries were not given away.
+    pub fn waiting(&self) -> usize
+        ensures is { length self.now.past ≡ length self.now.told + result }
+        ensures none { result ≡ 0 → self.now.told ≡ self.now.past }
+    {
+        self.chronicle.waiting()
+    }
+
+    /// The entries that were not given away. From here on they are.
+    pub fn take(&mut self) -> Result<History, Memory>
+        ensures given { IfOk result (λ h. self.old.past ≡ self.old.told ++ h) }
+        ensures after { OnOk result (self.new ≡ all_told self.old) }
+    {
+        self.chronicle.take()
     }
 
     /// An entry is left.
@@ -99,21 +110,24 @@ impl Engine {
     }
 
     /// The mark of the update that an entry accepts, if it accepts one.
-    fn mark_of(&self, entry: &Entry) -> Option<Mark>
-        ensures { result ≡ option_map (mark_in self.now.past) (update_accepted entry.now) }
+    fn mark_of(&self, entry: &Entry) -> Result<Option<Mark>, Memory>
+        ensures { IsNumbered self.now.net.posts self.now.past → IfOk result (λ o. o ≡ option_map (mark_in self.now.past) (update_accepted entry.now)) }
     {
-        match AcceptedUpdate::of(entry) {
-            Some(accepted) => Some(self.chronicle.mark(&accepted)),
-            None => None,
-        }
+        let Some(accepted) = AcceptedUpdate::of(entry) else {
+            return Ok(None);
+        };
+        let packet = self.packet(accepted.number);
+        let mark = self.chronicle.mark(&accepted, packet)?;
+        Ok(Some(mark))
     }
 
     /// An entry is left, and behind an `accepted` the mark of its origin.
     #[tactic(auto, using(crate::proofs::MarkLaws::marks_none, crate::proofs::MarkLaws::marks_one))]
     pub(crate) fn note_marked(&mut self, entry: Entry) -> Result<(), Memory>
-        ensures { OnOk result (self.new ≡ with_entries (entry ∷ marks_of self.old.past (update_accepted entry)) self.old) }
+        ensures marked { IsNumbered self.old.net.posts self.old.past → OnOk result (self.new ≡ with_entries (entry ∷ marks_of self.old.past (update_accepted entry)) self.old) }
+        ensures kept { OnOk result (self.new.told ≡ self.old.told) }
     {
-        let mark = self.mark_of(&entry);
+        let mark = self.mark_of(&entry)?;
         self.note(entry)?;
         match mark {
             Some(mark) => self.note(mark.entry()),

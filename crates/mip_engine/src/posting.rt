@@ -1,6 +1,6 @@
 //! Packets are posted, and outsiders hear them.
 
-ghost use Rattle.std.specs.Prelude.{◌≡◌, ◌≤◌, [], ◌∷◌, length, if◌then◌else◌, None, Some, is_some, OnOk};
+ghost use Rattle.std.specs.Prelude.{◌≡◌, ◌<◌, ◌≤◌, [], ◌∷◌, length, if◌then◌else◌, None, Some, is_some, OnOk};
 ghost use Rattle.mip_entries.specs.declared.entry.Entry.TheVariants.{Heard, Sent};
 ghost use Rattle.mip_history.specs.Setup.{Setup};
 ghost use Rattle.mip_history.specs.Runs.{Run};
@@ -60,7 +60,9 @@ impl Engine {
         link: LinkId,
         number: u64,
     ) -> Result<(), Memory>
-        ensures { (s : Setup) (run : Run) → IsAt self.old s run → OnOk result (IsAt self.new s (overheard s link.0 shield except number run)) }
+        requires { number < length self.old.net.posts }
+        ensures stands { (s : Setup) (run : Run) → IsAt self.old s run → OnOk result (IsAt self.new s (overheard s link.0 shield except number run)) }
+        ensures kept { OnOk result (self.new.told ≡ self.old.told) }
     {
         if shield.is_some() {
             return Ok(());
@@ -78,7 +80,8 @@ impl Engine {
         packet: Bytes,
     ) -> Result<(), Memory>
         requires { 40 ≤ length packet }
-        ensures { (s : Setup) (run : Run) → IsAt self.old s run → OnOk result (IsAt self.new s (posted s (record { from = from.0; shield = shield; packet = packet }) None (Sent (length run.posts) node (is_some shield) packet) run)) }
+        ensures stands { (s : Setup) (run : Run) → IsAt self.old s run → OnOk result (IsAt self.new s (posted s (record { from = from.0; shield = shield; packet = packet }) None (Sent (length run.posts) node (is_some shield) packet) run)) }
+        ensures kept { OnOk result (self.new.told ≡ self.old.told) }
     {
         let posted = Bytes::copy(alloc, packet.as_slice())?;
         let number = self.post(from, shield, posted)?;
@@ -100,7 +103,8 @@ impl Engine {
         packet: &[u8],
     ) -> Result<(), Memory>
         requires { 40 ≤ length packet.now }
-        ensures { (s : Setup) (run : Run) → IsAt self.old s run → OnOk result (IsAt self.new s (injected s run outsider link.0 packet.now)) }
+        ensures stands { (s : Setup) (run : Run) → IsAt self.old s run → OnOk result (IsAt self.new s (injected s run outsider link.0 packet.now)) }
+        ensures kept { OnOk result (self.new.told ≡ self.old.told) }
     {
         let posted = Bytes::copy(alloc, packet)?;
         let number = self.post(link, None, posted)?;

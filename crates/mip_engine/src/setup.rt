@@ -118,7 +118,8 @@ impl Engine {
     fn share(&mut self, who: u8, address: Address) -> Result<(), Memory>
         requires who { who < 40 }
         requires free { IsFree self.old.net address.0 }
-        ensures { (s : Setup) (run : Run) → IsAt self.old s run → OnOk result (IsAt self.new s (note (claimed_entry s.links who address) run)) }
+        ensures stands { (s : Setup) (run : Run) → IsAt self.old s run → OnOk result (IsAt self.new s (note (claimed_entry s.links who address) run)) }
+        ensures kept { OnOk result (self.new.told ≡ self.old.told) }
     {
         let Some(link) = self.link_of(address) else {
             unreachable!()
@@ -132,8 +133,9 @@ impl Engine {
         requires fit { IsFit host }
         requires free { IsFree self.old.net host.address.0 }
         requires share { CanShare self.old.net host.address.0 (anycast_for self.old.net.links (hosts_of self.old.nodes) host) }
-        ensures { (s : Setup) (hosts : List Host) → IsAt self.old (with_hosts hosts s) (opened (with_hosts hosts s))
+        ensures stands { (s : Setup) (hosts : List Host) → IsAt self.old (with_hosts hosts s) (opened (with_hosts hosts s))
             → OnOk result (IsAt self.new (with_hosts (hosts ++ host ∷ []) s) (opened (with_hosts (hosts ++ host ∷ []) s))) }
+        ensures kept { OnOk result (self.new.told ≡ self.old.told) }
     {
         let anycast = self.anycast_of(&host);
         let number = self.count();
@@ -148,7 +150,8 @@ impl Engine {
     fn settle_all(&mut self, alloc: Global, hosts: Vec<Host>) -> Result<(), Memory>
         requires placed { ArePlaced self.old.net.links hosts.items }
         requires new { self.old ≡ new_engine self.old.seed self.old.moment self.old.net.links self.old.outsiders }
-        ensures { (s : Setup) → s.hosts ≡ hosts.items → self.old ≡ new_engine s.seed s.start s.links s.outsiders → OnOk result (IsAt self.new s (opened s)) }
+        ensures stands { (s : Setup) → s.hosts ≡ hosts.items → self.old ≡ new_engine s.seed s.start s.links s.outsiders → OnOk result (IsAt self.new s (opened s)) }
+        ensures kept { OnOk result (self.new.told ≡ self.old.told) }
     {
         for host in hosts {
             self.settle(alloc, host)?;
@@ -161,7 +164,9 @@ impl Engine {
     pub fn open(alloc: Global, schedule: &Schedule) -> Result<Engine, Memory>
         requires lawful { IsLawful (content schedule.now) }
         requires few { AreFew schedule.now.declarations }
-        ensures { IfOk result (λ e. IsAt e (setup_of (content schedule.now)) (opened (setup_of (content schedule.now)))) }
+        ensures stands { IfOk result (λ e. IsAt e (setup_of (content schedule.now)) (opened (setup_of (content schedule.now)))) }
+        // Nothing of it was given away.
+        ensures none { IfOk result (λ e. e.told ≡ []) }
     {
         let ds = schedule.declarations.as_slice();
         let links = links_in(alloc, ds)?;

@@ -38,3 +38,4 @@ pub mod DeclaringRuns
 pub mod Declarations
 pub mod ShownRows
 pub mod ShownRuns
+pub mod Fronts

@@ -278,7 +278,7 @@ module _ (s : Setup) (P : Run → Type 0) (keeps : Keeps s P) where
   walk_happens run (Show node) p = walk_shown node.0 run p
   walk_happens run (Settle a b) p = one run entries.Idle refl p
 
-  walk_all : (run : Run) (events : List Event) → P run → P (fold (λ run event. happens s run event) run events)
+  pub walk_all : (run : Run) (events : List Event) → P run → P (fold (λ run event. happens s run event) run events)
   walk_all run [] p = p
   walk_all run (event ∷ events) p = walk_all (happens s run event) events (walk_happens run event p)
 

@@ -1,9 +1,11 @@
 -- The schedule that a seed and a count make.
 use Rattle.std.specs.Prelude.{ℕ, List, Bool, true, false, map}
 use Rattle.std.specs.List.{range_with_len}
+use Rattle.mip_lines.specs.Lines.{line_text, lines_text}
 use Rattle.mip_schedule.specs.Contents.{Content}
 use Rattle.mip_schedule.specs.declared.event.Event.{Event}
 use Rattle.mip_schedule.specs.declared.event.Event.TheVariants as events
+use Rattle.mip_schedule.specs.Spelling.{event_text}
 use Rattle.mip_make.specs.Draws.{draw_of}
 use Rattle.mip_make.specs.Drawn.{drawn}
 use Rattle.mip_make.specs.Network.{network}
@@ -23,3 +25,11 @@ made seed count = record { seed = seed; start = record { 0 = 0 }; declarations =
 abbrev pub is_settle : Event → Bool
 is_settle (events.Settle a b) = true
 is_settle _ = false
+
+-- the line of an event
+abbrev pub event_line : Event → List ℕ
+event_line e = line_text (event_text network e)
+
+-- the lines of so many events
+abbrev pub events_text : List ℕ → ℕ → List ℕ
+events_text seed count = lines_text (map (event_text network) (events_from seed 0 count))

@@ -14,7 +14,7 @@ use mip_words::{Address, Bytes, LinkId, Memory, NodeId, u32_bytes};
 use std::alloc::Global;
 
 /// The protocol of all data: UDP.
-const PROTO: u8 = 17;
+pub const PROTO: u8 = 17;
 
 fn mobile_by(y: u32) -> NodeId
     ensures { result ≡ events.mobile_by y }
@@ -22,7 +22,7 @@ fn mobile_by(y: u32) -> NodeId
     if y % 2 == 0 { FIRST } else { SECOND }
 }
 
-fn home_by(y: u32) -> Address
+pub fn home_by(y: u32) -> Address
     ensures { result ≡ events.home_by y }
 {
     if y % 2 == 0 { FIRST_HOME } else { SECOND_HOME }
@@ -79,7 +79,7 @@ fn answers(alloc: Global, y: u32) -> Result<Event, Memory>
 }
 
 /// A packet whose number is that of the event at most.
-fn packet_by(number: u32, y: u32) -> u32
+pub fn packet_by(number: u32, y: u32) -> u32
     requires { number < 20000 }
     ensures { result ≡ events.packet_by number y }
 {

@@ -3,13 +3,16 @@
 
 mod draw;
 mod drawn;
+mod drawn_line;
 mod draws;
 mod laws;
 mod making;
 mod network;
+mod spelling;
 mod summing;
 mod word;
 
 pub use laws::{each_is_lawful, each_is_valid, none_settles};
 pub use making::make;
+pub use spelling::spell;
 pub use summing::summary;

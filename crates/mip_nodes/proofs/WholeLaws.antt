@@ -1,11 +1,13 @@
 -- Whatever a role answers is whole.
 use Rattle.std.proofs.Common.{◌≡◌, ℕ, List, [], ◌∷◌, ◌++◌, Bool, true, false, refl}
-use Rattle.std.specs.Prelude.{Option, Some, None, IfSome, ◌&&◌, not}
+use Rattle.std.specs.Prelude.{Option, Some, None, IfSome, ◌&&◌, ◌||◌, not}
 use Rattle.std.specs.List.{AllByRecursion}
 use Rattle.mip_words.specs.declared.address.Address.{Address}
 use Rattle.mip_ipv6.specs.Packet.{names_no_body}
 use Rattle.mip_entries.specs.declared.answer.Answer.{Answer}
 use Rattle.mip_entries.specs.declared.answer.Answer.TheVariants.{Send, Note}
+use Rattle.mip_entries.specs.declared.entry.Entry.{Entry}
+use Rattle.mip_entries.specs.declared.entry.Entry.TheVariants.{Sent, Injected, Heard, Handed}
 use Rattle.mip_outside.specs.Places.{Around}
 use Rattle.mip_rules_correspondent.specs.Rules.{is_data}
 use Rattle.mip_rules_correspondent.specs.Steps as correspondent_steps
@@ -31,7 +33,7 @@ use Rattle.mip_nodes.specs.declared.role.Role.{Role}
 use Rattle.mip_nodes.specs.declared.role.Role.TheVariants.{Correspondent, Agent, Mobile}
 use Rattle.mip_nodes.specs.Payloads.{is_payload}
 use Rattle.mip_nodes.specs.Calls.{asked, IsAskable, CanAsk}
-use Rattle.mip_nodes.specs.Roles.{IsWhole, or_idle, answers_to}
+use Rattle.mip_nodes.specs.Roles.{IsWhole, is_apart, or_idle, answers_to}
 
 weaker : (P : Answer → Type 0) → ((a : Answer) → P a → IsWhole a) → (answers : List Answer) → AllByRecursion P answers → AllByRecursion IsWhole answers
 weaker P f [] all = tt
@@ -41,17 +43,39 @@ both : (a b : List Answer) → AllByRecursion IsWhole a → AllByRecursion IsWho
 both [] b first then = then
 both (x ∷ a) b first then = (first.0, both a b first.1 then)
 
+-- no role leaves an entry of the network
+apart-correspondents : (entry : Entry) → correspondent_wholes.is_own entry ≡ true → is_apart entry ≡ true
+apart-correspondents (Sent number node shielded packet) own = absurd cc
+apart-correspondents (Injected number outsider link packet) own = absurd cc
+apart-correspondents (Heard number outsider) own = absurd cc
+apart-correspondents (Handed number node) own = absurd cc
+apart-correspondents _ own = refl
+
+apart-agents : (entry : Entry) → agent_wholes.is_own entry ≡ true → is_apart entry ≡ true
+apart-agents (Sent number node shielded packet) own = absurd cc
+apart-agents (Injected number outsider link packet) own = absurd cc
+apart-agents (Heard number outsider) own = absurd cc
+apart-agents (Handed number node) own = absurd cc
+apart-agents _ own = refl
+
+apart-mobiles : (entry : Entry) → (answering.is_mobiles entry || correspondent_wholes.is_own entry) ≡ true → is_apart entry ≡ true
+apart-mobiles (Sent number node shielded packet) own = absurd cc
+apart-mobiles (Injected number outsider link packet) own = absurd cc
+apart-mobiles (Heard number outsider) own = absurd cc
+apart-mobiles (Handed number node) own = absurd cc
+apart-mobiles _ own = refl
+
 of-correspondent : (a : Answer) → correspondent_wholes.IsWhole a → IsWhole a
 of-correspondent (Send shield packet) whole = whole
-of-correspondent (Note entry) whole = tt
+of-correspondent (Note entry) whole = apart-correspondents entry whole
 
 of-agent : (a : Answer) → agent_wholes.IsWhole a → IsWhole a
 of-agent (Send shield packet) whole = whole
-of-agent (Note entry) whole = tt
+of-agent (Note entry) whole = apart-agents entry whole
 
 of-mobile : (k : Known) (a : Answer) → answering.IsWhole k a → IsWhole a
 of-mobile k (Send shield packet) whole = whole
-of-mobile k (Note entry) whole = tt
+of-mobile k (Note entry) whole = apart-mobiles entry whole
 
 each : (now : ℕ) (k : Known) (steps : List mobile_steps.Step) → EachAnswer answering.IsWhole now k steps → AllByRecursion IsWhole (mobile_steps.answers_of steps)
 each now k [] all = tt
@@ -60,7 +84,7 @@ each now k (step ∷ steps) all =
     (each now (after k (record { at = now; step = step })) steps all.1)
 
 idle-or : {C : Type 0} (answers : C → List Answer) (o : Option C) (R : C → Type 0) → IfSome o R → ((x : C) → R x → AllByRecursion IsWhole (answers x)) → AllByRecursion IsWhole (or_idle answers o)
-idle-or answers None R can whole = (tt, tt)
+idle-or answers None R can whole = (refl, tt)
 idle-or answers (Some x) R can whole = whole x can
 
 some : {C : Type 0} (o : Option C) → IfSome o (λ _. Unit {0})

@@ -1,3 +1,4 @@
 pub mod Bound
 pub mod TraceTold
-pub mod WordLaws
+pub mod FlagLaws
+pub mod FormLaws

@@ -1,12 +1,18 @@
--- A trace that is written entry by entry.
-use Rattle.std.proofs.Common.{◌≡◌, ℕ, suc, ◌+◌, ◌<◌, ◌≤◌, refl, sym, ap, ◌∙◌, arith, List, [], ◌∷◌, ◌++◌, length, take, drop, get_or, append_assoc, length-append}
+-- A trace that is written entry by entry and piece by piece.
+use Rattle.std.proofs.Common.{◌≡◌, ℕ, suc, ◌+◌, ◌-◌, ◌<◌, ◌≤◌, refl, sym, ap, ◌∙◌, arith, List, [], ◌∷◌, ◌++◌, length, take, drop, get_or, append_assoc, length-append, subst}
 use Rattle.std.proofs.Math.Seq.{take-append-add, take-suc, drop-cons}
-use Rattle.std.proofs.lemmas.List.{take-append-drop, take-append-le}
-use Rattle.std.specs.declared.option.Option.{Option}
+use Rattle.std.proofs.lemmas.List.{take-append-drop, take-append-le, take_all}
+use Rattle.std.specs.Prelude.{Option, Some, unwrap_or}
+use Rattle.std.specs.List.{AllByRecursion}
 use Rattle.std.specs.Io.KnownBytes.{append_known}
 use Rattle.mip_lines.specs.Lines.{spaced, line_text}
 use Rattle.mip_entries.specs.declared.entry.Entry.{Entry}
+use Rattle.mip_entries.specs.Widths.{HasWidths}
 use Rattle.mip_outside.proofs.Known.{append_none, append_more}
+use Rattle.mip_schedule.specs.Contents.{Content}
+use Rattle.mip_history.specs.Permitted.{permitted}
+use Rattle.mip_replay.specs.Pieces.{RunSeen, IsRunOf}
+use Rattle.mip_replay.proofs.RunLaws.{told_front}
 use Rattle.mip_trace.specs.Lines.{entry_row, trace_text}
 use Rattle.mip_rows.specs.Names.{Names}
 use Rattle.mip_trace.proofs.WrittenLaws.{text_append, text_more}
@@ -18,6 +24,14 @@ entry_more a b c names es i e lt is first next =
     let one : i + 1 ≡ suc i = omega arith in
     let front : take (i + 1) es ≡ take i es ++ e ∷ [] = ap (λ n. take n es) one ∙ take-suc es i e lt ∙ ap (λ x. take i es ++ x ∷ []) (sym is) in
     append_more a b c _ _ first next ∙ ap (append_known a) (sym (ap (trace_text names) front ∙ text_more names (take i es) e))
+
+-- a part of a text that stands in a longer one was written
+part_of : (a b c : Option (List ℕ)) (A L R : List ℕ) (k : ℕ) → b ≡ append_known a A → k < length L → c ≡ append_known b (take k L)
+    → (count : ℕ) × (count < length (A ++ (L ++ R))) × (c ≡ append_known a (take count (A ++ (L ++ R))))
+part_of a b c A L R k first below next =
+    let le : k ≤ length L = omega arith in
+    let cut : take (length A + k) (A ++ (L ++ R)) ≡ A ++ take k L = take-append-add A (L ++ R) k ∙ ap (λ t. A ++ t) (take-append-le k L R le) in
+    (length A + k, omega (arith, below, length-append A (L ++ R), length-append L R), append_more a b c A (take k L) first next ∙ ap (append_known a) (sym cut))
 
 -- a part of an entry's line was written
 pub entry_part : (a b c : Option (List ℕ)) (names : Names) (es : List Entry) (i : ℕ) (e : Entry) (k : ℕ) → i < length es → e ≡ get_or es i e
@@ -31,9 +45,7 @@ entry_part a b c names es i e k lt is first below next =
     sym (take-append-drop i es) ∙ ap (λ r. take i es ++ r) (drop-cons es i e lt ∙ ap (λ x. x ∷ drop (suc i) es) (sym is)) ∙ sym (append_assoc (take i es) (e ∷ []) (drop (suc i) es)) in
     let whole : trace_text names es ≡ A ++ (L ++ R) =
     ap (trace_text names) split ∙ text_append names (take i es ++ e ∷ []) (drop (suc i) es) ∙ ap (λ t. t ++ R) (text_more names (take i es) e) ∙ append_assoc A L R in
-    let le : k ≤ length L = omega arith in
-    let cut : take (length A + k) (trace_text names es) ≡ A ++ take k L = ap (take (length A + k)) whole ∙ take-append-add A (L ++ R) k ∙ ap (λ t. A ++ t) (take-append-le k L R le) in
-    (length A + k, omega (arith, below, ap length whole, length-append A (L ++ R), length-append L R), append_more a b c A (take k L) first next ∙ ap (append_known a) (sym cut))
+    subst (λ (t : List ℕ). (count : ℕ) × (count < length t) × (c ≡ append_known a (take count t))) (sym whole) (part_of a b c A L R k first below next)
 
 -- a line has a byte
 pub line_has_one : (fields : List (List ℕ)) → 0 < length (line_text fields)
@@ -44,3 +56,52 @@ line_has_one (field ∷ fields) = omega (arith, length-append field (spaced fiel
 -- nothing of a line was written
 pub none_of : (a : Option (List ℕ)) (fields : List (List ℕ)) → (count : ℕ) × (count < length (line_text fields)) × (a ≡ append_known a (take count (line_text fields)))
 none_of a fields = (0, line_has_one fields, append_none a a refl)
+
+-- what is told once a piece was given away
+pub told_more : (next told items piece : List Entry) (given : Option (List Entry)) → next ≡ told ++ unwrap_or given [] → given ≡ Some piece → items ≡ piece → next ≡ told ++ items
+told_more next told items piece given more some are =
+    more ∙ ap (λ (o : Option (List Entry)). told ++ unwrap_or o []) some ∙ ap (λ (l : List Entry). told ++ l) (sym are)
+
+-- a piece more was written, under the names `own`
+pub piece_more : (a b c : Option (List ℕ)) (names own : Names) (next told items : List Entry) → own ≡ names → next ≡ told ++ items
+    → b ≡ append_known a (trace_text names told) → c ≡ append_known b (trace_text own items) → c ≡ append_known a (trace_text names next)
+piece_more a b c names own next told items same more first put =
+    append_more a b c _ _ first (put ∙ ap (λ (n : Names). append_known b (trace_text n items)) same)
+    ∙ ap (append_known a) (sym (ap (trace_text names) more ∙ text_append names told items))
+
+-- a part of a piece was written
+pub piece_part : (a b c : Option (List ℕ)) (names own : Names) (whole next told items rest : List Entry) (k : ℕ) → own ≡ names → whole ≡ next ++ rest
+    → next ≡ told ++ items → b ≡ append_known a (trace_text names told) → k < length (trace_text own items) → c ≡ append_known b (take k (trace_text own items))
+    → (count : ℕ) × (count < length (trace_text names whole)) × (c ≡ append_known a (take count (trace_text names whole)))
+piece_part a b c names own whole next told items rest k same is more first below put =
+    let T = trace_text names told in
+    let I = trace_text names items in
+    let R = trace_text names rest in
+    let text : trace_text names whole ≡ T ++ (I ++ R) =
+    ap (trace_text names) is ∙ text_append names next rest ∙ ap (λ (l : List Entry). trace_text names l ++ R) more
+    ∙ ap (λ t. t ++ R) (text_append names told items) ∙ append_assoc T I R in
+    subst (λ (t : List ℕ). (count : ℕ) × (count < length t) × (c ≡ append_known a (take count t))) (sym text)
+    (part_of a b c T I R k first (omega (arith, below, ap (λ (n : Names). length (trace_text n items)) same))
+    (put ∙ ap (λ (n : Names). append_known b (take k (trace_text n items))) same))
+
+-- the text of what was told is a front of the trace
+pub told_part : (a b : Option (List ℕ)) (names : Names) (whole told rest : List Entry) → whole ≡ told ++ rest → b ≡ append_known a (trace_text names told)
+    → (count : ℕ) × (b ≡ append_known a (take count (trace_text names whole)))
+told_part a b names whole told rest is first =
+    let T = trace_text names told in
+    let le : length T ≤ length T = omega arith in
+    let cut : take (length T) (trace_text names whole) ≡ T =
+    ap (take (length T)) (ap (trace_text names) is ∙ text_append names told rest) ∙ take-append-le (length T) T (trace_text names rest) le ∙ take_all (length T) T le in
+    (length T, first ∙ ap (append_known a) (sym cut))
+
+-- the numbers of entries fit their fields, and those of more entries
+pub widths_more : (told items : List Entry) → AllByRecursion HasWidths told → AllByRecursion HasWidths items → AllByRecursion HasWidths (told ++ items)
+widths_more [] items first next = next
+widths_more (e ∷ told) items first next = (first.0, widths_more told items first.1 next)
+
+-- with each piece less is left
+pub less_left : (r : RunSeen) (c : Content) (told items : List Entry) → IsRunOf r c → r.told ≡ told ++ items → 0 < length items
+    → length (permitted c) - length r.told < length (permitted c) - length told
+less_left r c told items is more some =
+    let front = told_front r c is in
+    omega (arith, ap (λ (l : List Entry). length l) front.1, length-append r.told front.0, ap (λ (l : List Entry). length l) more, length-append told items, some)

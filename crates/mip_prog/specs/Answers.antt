@@ -45,10 +45,14 @@ bad_text line why = line_text (codes "bad" ∷ decimal line ∷ reason_word why 
 abbrev pub bad_answer : ℕ → Reason → Answer
 bad_answer line why = record { status = 2; text = bad_text line why }
 
--- the text of the permitted history; a line that does not run yet is bad
+-- the trace of a schedule: the text of its permitted history
+abbrev pub trace_of : Content → List ℕ
+trace_of c = trace_text (Some c.declarations) (permitted c)
+
+-- a line that does not run yet is bad
 abbrev pub run_answer : Content → Option ℕ → Answer
 run_answer c (Some line) = bad_answer line reasons.Form
-run_answer c None = record { status = 0; text = trace_text (Some c.declarations) (permitted c) }
+run_answer c None = record { status = 0; text = trace_of c }
 
 abbrev pub schedule_answer : Result Content Wrong → Answer
 schedule_answer (Ok c) = run_answer c (unbuilt_line c)

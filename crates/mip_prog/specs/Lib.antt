@@ -5,3 +5,4 @@ pub mod Answers
 pub mod Told
 pub mod Texts
 pub mod Given
+pub mod Forms

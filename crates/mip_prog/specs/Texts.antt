@@ -1,10 +1,11 @@
 -- A text that is to be written, as it is kept.
-use Rattle.std.specs.Prelude.{ℕ, List, Some}
-use Rattle.mip_trace.specs.Lines.{trace_text}
+use Rattle.std.specs.Prelude.{ℕ, List}
+use Rattle.mip_schedule.specs.Schedules.{content}
+use Rattle.mip_prog.specs.Answers.{trace_of}
 use Rattle.mip_prog.specs.declared.text.Text.{Text}
 use Rattle.mip_prog.specs.declared.text.Text.TheVariants.{Whole, Trace}
 
--- a text that stands in memory, or that of a history
+-- a text that stands in memory, or the trace of a schedule
 abbrev pub text_of : Text → List ℕ
 text_of (Whole bytes) = bytes
-text_of (Trace schedule history) = trace_text (Some schedule.declarations) history
+text_of (Trace schedule) = trace_of (content schedule)

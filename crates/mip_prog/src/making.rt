@@ -3,6 +3,7 @@
 ghost use Rattle.std.specs.Prelude.{◌≡◌, ◌≤◌, ◌⊎◌, IfOk};
 ghost use Rattle.mip_outside.specs.Cause.{Rose};
 ghost use Rattle.mip_schedule.specs.Schedules.{content};
+ghost use Rattle.mip_make.specs.Made.{made as schedule_of};
 ghost use Rattle.mip_prog.specs.Answers.{made_answer, product_text};
 ghost use Rattle.mip_prog.specs.declared.product.Product.TheVariants as products;
 ghost use Rattle.mip_prog.specs.Told.{Told};
@@ -12,9 +13,9 @@ use crate::product::Product;
 use crate::reply::Reply;
 use crate::status::Status;
 use crate::telling::tell_reply;
-use mip_make::{make, summary};
+use mip_make::{make, spell, summary};
 use mip_outside::Sink;
-use mip_schedule::{Schedule, write_schedule};
+use mip_schedule::Schedule;
 use mip_words::{Bytes, Memory};
 use std::alloc::Global;
 
@@ -26,12 +27,16 @@ fn summary_of_run(alloc: Global, schedule: &Schedule) -> Result<Bytes, Memory>
     summary(alloc, schedule, &history)
 }
 
-fn text_of(alloc: Global, product: Product, schedule: &Schedule) -> Result<Bytes, Memory>
-    ensures { IfOk result (λ text. text ≡ product_text product (content schedule.now)) }
+fn text_of(alloc: Global, product: Product, draft: &Draft) -> Result<Bytes, Memory>
+    requires { draft.now.count ≤ 20000 }
+    ensures { IfOk result (λ text. text ≡ product_text product (schedule_of draft.now.seed draft.now.count)) }
 {
     match product {
-        Product::Schedule => write_schedule(alloc, schedule),
-        Product::Summary => summary_of_run(alloc, schedule),
+        Product::Schedule => spell(alloc, &draft.seed, draft.count),
+        Product::Summary => {
+            let schedule = make(alloc, &draft.seed, draft.count)?;
+            summary_of_run(alloc, &schedule)
+        }
     }
 }
 
@@ -42,8 +47,7 @@ fn made(alloc: Global, product: Product, draft: &Draft) -> Result<Reply, Memory>
     ensures answers { IfOk result (λ reply. reply ≡ made_answer product draft.now) }
     ensures settled { IfOk result (λ reply. reply.status ≡ 0) }
 {
-    let schedule = make(alloc, &draft.seed, draft.count)?;
-    let text = text_of(alloc, product, &schedule)?;
+    let text = text_of(alloc, product, draft)?;
     Ok(Reply::whole(Status::OK, text))
 }
 

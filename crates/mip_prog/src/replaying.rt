@@ -1,6 +1,6 @@
 //! What `replay` answers to a schedule.
 
-ghost use Rattle.std.specs.Prelude.{◌≡◌, ◌≤◌, IfOk, None, length};
+ghost use Rattle.std.specs.Prelude.{◌≡◌, ◌≤◌, IfOk, length};
 ghost use Rattle.mip_schedule.specs.Schedules.{content};
 ghost use Rattle.mip_history.specs.Permitted.{unbuilt_line};
 ghost use Rattle.mip_prog.specs.Answers.{replay_answer, run_answer, bad_answer};
@@ -13,7 +13,6 @@ use crate::status::Status;
 use crate::text::Text;
 use itoa::Buffer;
 use mip_replay::unbuilt;
-use mip_reread::trace_is_read_back;
 use mip_schedule::{Reason, Schedule, ScheduleFault, read_schedule};
 use mip_words::{Bytes, Memory};
 use std::alloc::Global;
@@ -21,7 +20,7 @@ use std::alloc::Global;
 /// The greatest number of events.
 const EVENTS: usize = 20_000;
 
-/// The trace of a schedule, or its first bad line and why. The input is given up before the schedule runs.
+/// The trace of a schedule, or its first bad line and why. The input is given up, and the schedule runs as its trace is written.
 pub fn replay(alloc: Global, input: Bytes) -> Result<Reply, Memory>
     requires { length input ≤ 16777216 }
     ensures answers { IfOk result (λ reply. reply ≡ replay_answer input) }
@@ -46,22 +45,11 @@ fn run(alloc: Global, schedule: Schedule) -> Result<Reply, Memory>
 {
     match unbuilt(&schedule) {
         Some(line) => bad(alloc, line, Reason::Form),
-        None => trace(alloc, schedule),
+        None => Ok(Reply {
+            status: Status::OK,
+            text: Text::Trace(schedule),
+        }),
     }
-}
-
-/// The trace of a schedule that runs. It is spelled only as it is written, and is read as the history that it tells.
-fn trace(alloc: Global, schedule: Schedule) -> Result<Reply, Memory>
-    requires { unbuilt_line (content schedule) ≡ None }
-    ensures answers { IfOk result (λ reply. reply ≡ run_answer (content schedule) None) }
-    ensures settled { IfOk result (λ reply. IsSettled reply.status) }
-{
-    let history = mip_replay::replay(alloc, &schedule)?;
-    trace_is_read_back(&schedule, &history);
-    Ok(Reply {
-        status: Status::OK,
-        text: Text::Trace { schedule, history },
-    })
 }
 
 /// The line that tells a bad line.

@@ -1,4 +1,3 @@
-use mip_entries::History;
 use mip_schedule::Schedule;
 use mip_words::Bytes;
 
@@ -7,9 +6,6 @@ use mip_words::Bytes;
 pub enum Text {
     /// A text that stands in memory.
     Whole(Bytes),
-    /// The trace of a schedule's history, which is spelled only as it is written.
-    Trace {
-        schedule: Schedule,
-        history: History,
-    },
+    /// The trace of a schedule, which runs only as its trace is written.
+    Trace(Schedule),
 }

@@ -76,7 +76,10 @@ pub fn mip<S: Source, K: Sink, C: Clock, L: Link>(
     each_repeat_is_late();
     each_home_is_sent();
     each_acceptance_is_marked();
-    match parse(words) {
+    let Ok(command) = parse(alloc, words) else {
+        return Status::MEMORY;
+    };
+    match command {
         None => tell(sink, b"usage: mip COMMAND\n", Status::USAGE),
         Some(Command::Reads(form)) => answer_input(alloc, form, source, sink),
         Some(Command::Makes(product, draft)) => tell_made(alloc, product, &draft, sink),

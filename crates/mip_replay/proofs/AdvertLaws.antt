@@ -68,7 +68,7 @@ prefix_is e s run at link = ap (λ (q : Asked). slice_index_or q.links link 0) a
 
 -- what is advertised is noted
 pub quiet_advertised : (n link : ℕ) (agent : Option Address) → IsQuiet (Advertised (node_id n) (link_id link) agent)
-quiet_advertised n link agent = quiet_by (Advertised (node_id n) (link_id link) agent) refl
+quiet_advertised n link agent = quiet_by (Advertised (node_id n) (link_id link) agent) refl refl
 
 pub at_advertised : (e : EngineSeen) (s : Setup) (run : Run) (n link : ℕ) (agent : Option Address) → IsAt e s run
     → IsAt (with_entry (Advertised (node_id n) (link_id link) agent) e) s (note (Advertised (node_id n) (link_id link) agent) run)

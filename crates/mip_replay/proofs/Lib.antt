@@ -7,3 +7,5 @@ pub mod PlainLaws
 pub mod WaitLaws
 pub mod AdvertLaws
 pub mod RegisteredLaws
+pub mod DeliveredLaws
+pub mod RunLaws

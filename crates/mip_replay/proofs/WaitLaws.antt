@@ -17,6 +17,7 @@ use Rattle.mip_nodes.specs.Nodes.{NodeSeen}
 use Rattle.mip_nodes.specs.Roles.{due_of as role_due}
 use Rattle.mip_engine.specs.Engines.{EngineSeen, with_entry, at_moment}
 use Rattle.mip_engine.specs.Standing.{IsAt, node_in}
+use Rattle.mip_engine.proofs.NumberLaws.{numbered_apart}
 use Rattle.mip_engine.proofs.QuietLaws.{asked-same, hears-same, nodes-same, history-same, moment-push}
 
 -- a moment comes
@@ -37,6 +38,7 @@ at_come e s run moment at = record {
   outsiders = at.outsiders;
   now = sym (moment-push s.start run.past (At moment));
   history = history-same e s run (At moment) at;
+  numbered = numbered_apart run.posts run.past (At moment) refl at.numbered;
 }
 
 -- when a node has work due

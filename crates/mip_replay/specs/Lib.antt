@@ -4,3 +4,4 @@ pub mod Homes
 pub mod Ready
 pub mod Groups
 pub mod Renewals
+pub mod Pieces

@@ -46,7 +46,8 @@ fn hear_router(
     node: NodeId,
     router: Router,
 ) -> Result<(), Memory>
-    ensures { (s : Setup) (run : Run) → IsAt engine.old s run → OnOk result (IsAt engine.new s (hears_of_router s link.0 node.0 run (Some (seen_router router)))) }
+    ensures stands { (s : Setup) (run : Run) → IsAt engine.old s run → OnOk result (IsAt engine.new s (hears_of_router s link.0 node.0 run (Some (seen_router router)))) }
+    ensures kept { OnOk result (engine.new.told ≡ engine.old.told) }
 {
     engine.note(Entry::Advertised {
         node,
@@ -69,7 +70,8 @@ fn hear_other(
     node: NodeId,
     other: u8,
 ) -> Result<(), Memory>
-    ensures { (s : Setup) (run : Run) → IsAt engine.old s run → OnOk result (IsAt engine.new s (hears_of_router s link.0 node.0 run (router_at s link.0 other))) }
+    ensures stands { (s : Setup) (run : Run) → IsAt engine.old s run → OnOk result (IsAt engine.new s (hears_of_router s link.0 node.0 run (router_at s link.0 other))) }
+    ensures kept { OnOk result (engine.new.told ≡ engine.old.told) }
 {
     match router_on(engine, link, NodeId(other)) {
         Some(router) => hear_router(alloc, engine, link, node, router),
@@ -84,7 +86,8 @@ fn hear_node(
     node: NodeId,
     other: u8,
 ) -> Result<(), Memory>
-    ensures { (s : Setup) (run : Run) → IsAt engine.old s run → OnOk result (IsAt engine.new s (hears_of_node s link.0 node.0 other run)) }
+    ensures stands { (s : Setup) (run : Run) → IsAt engine.old s run → OnOk result (IsAt engine.new s (hears_of_node s link.0 node.0 other run)) }
+    ensures kept { OnOk result (engine.new.told ≡ engine.old.told) }
 {
     if other == node.0 {
         return Ok(());
@@ -101,7 +104,8 @@ fn hear_first(
     node: NodeId,
     count: u8,
 ) -> Result<(), Memory>
-    ensures { (s : Setup) (run : Run) → IsAt engine.old s run → OnOk result (IsAt engine.new s (hears_of_first s link.0 node.0 count run)) }
+    ensures stands { (s : Setup) (run : Run) → IsAt engine.old s run → OnOk result (IsAt engine.new s (hears_of_first s link.0 node.0 count run)) }
+    ensures kept { OnOk result (engine.new.told ≡ engine.old.told) }
 {
     for other in 0..count {
         hear_node(alloc, engine, link, node, other)?;
@@ -111,7 +115,8 @@ fn hear_first(
 
 /// An agent hears of every node that is one on its link.
 fn hear_others(alloc: Global, engine: &mut Engine, link: LinkId, node: NodeId) -> Result<(), Memory>
-    ensures { (s : Setup) (run : Run) → IsAt engine.old s run → OnOk result (IsAt engine.new s (hears_of_first s link.0 node.0 (length s.hosts) run)) }
+    ensures stands { (s : Setup) (run : Run) → IsAt engine.old s run → OnOk result (IsAt engine.new s (hears_of_first s link.0 node.0 (length s.hosts) run)) }
+    ensures kept { OnOk result (engine.new.told ≡ engine.old.told) }
 {
     let count = engine.count();
     hear_first(alloc, engine, link, node, count)
@@ -119,7 +124,8 @@ fn hear_others(alloc: Global, engine: &mut Engine, link: LinkId, node: NodeId) -
 
 /// A node that is an agent of the link hears of each other one.
 fn hear_all(alloc: Global, engine: &mut Engine, link: LinkId, node: NodeId) -> Result<(), Memory>
-    ensures { (s : Setup) (run : Run) → IsAt engine.old s run → OnOk result (IsAt engine.new s (hears_of_all s link.0 node.0 run (router_at s link.0 node.0))) }
+    ensures stands { (s : Setup) (run : Run) → IsAt engine.old s run → OnOk result (IsAt engine.new s (hears_of_all s link.0 node.0 run (router_at s link.0 node.0))) }
+    ensures kept { OnOk result (engine.new.told ≡ engine.old.told) }
 {
     match router_on(engine, link, node) {
         Some(_) => hear_others(alloc, engine, link, node),
@@ -130,7 +136,8 @@ fn hear_all(alloc: Global, engine: &mut Engine, link: LinkId, node: NodeId) -> R
 /// Each agent of the first so many nodes does so.
 #[tactic(auto, unfolding(mip_history::specs::Advertising::agents_hear))]
 fn tell_agents(alloc: Global, engine: &mut Engine, link: LinkId, count: u8) -> Result<(), Memory>
-    ensures { (s : Setup) (run : Run) → IsAt engine.old s run → OnOk result (IsAt engine.new s (agents_hear s link.0 count run)) }
+    ensures stands { (s : Setup) (run : Run) → IsAt engine.old s run → OnOk result (IsAt engine.new s (agents_hear s link.0 count run)) }
+    ensures kept { OnOk result (engine.new.told ≡ engine.old.told) }
 {
     for node in 0..count {
         hear_all(alloc, engine, link, NodeId(node))?;
@@ -153,7 +160,8 @@ fn attach(
     prefix: Prefix,
     node: NodeId,
 ) -> Result<(), Memory>
-    ensures { (s : Setup) (run : Run) → IsAt engine.old s run → prefix.0 ≡ slice_index_or s.links link.0 0 → OnOk result (IsAt engine.new s (acts s node.0 (Attach (slice_index_or s.links link.0 0)) (note (Advertised node link None) run))) }
+    ensures stands { (s : Setup) (run : Run) → IsAt engine.old s run → prefix.0 ≡ slice_index_or s.links link.0 0 → OnOk result (IsAt engine.new s (acts s node.0 (Attach (slice_index_or s.links link.0 0)) (note (Advertised node link None) run))) }
+    ensures kept { OnOk result (engine.new.told ≡ engine.old.told) }
 {
     engine.note(Entry::Advertised {
         node,
@@ -171,7 +179,8 @@ fn tell_mobile(
     prefix: Prefix,
     node: NodeId,
 ) -> Result<(), Memory>
-    ensures { (s : Setup) (run : Run) → IsAt engine.old s run → prefix.0 ≡ slice_index_or s.links link.0 0 → OnOk result (IsAt engine.new s (mobile_told s link.0 node.0 run)) }
+    ensures stands { (s : Setup) (run : Run) → IsAt engine.old s run → prefix.0 ≡ slice_index_or s.links link.0 0 → OnOk result (IsAt engine.new s (mobile_told s link.0 node.0 run)) }
+    ensures kept { OnOk result (engine.new.told ≡ engine.old.told) }
 {
     if roams_on(engine, link, node) {
         return attach(alloc, engine, link, prefix, node);
@@ -188,7 +197,8 @@ fn tell_mobiles(
     prefix: Prefix,
     count: u8,
 ) -> Result<(), Memory>
-    ensures { (s : Setup) (run : Run) → IsAt engine.old s run → prefix.0 ≡ slice_index_or s.links link.0 0 → OnOk result (IsAt engine.new s (mobiles_told s link.0 count run)) }
+    ensures stands { (s : Setup) (run : Run) → IsAt engine.old s run → prefix.0 ≡ slice_index_or s.links link.0 0 → OnOk result (IsAt engine.new s (mobiles_told s link.0 count run)) }
+    ensures kept { OnOk result (engine.new.told ≡ engine.old.told) }
 {
     for node in 0..count {
         tell_mobile(alloc, engine, link, prefix, NodeId(node))?;
@@ -199,7 +209,8 @@ fn tell_mobiles(
 /// The routers of a link advertise themselves.
 pub(crate) fn advertise(alloc: Global, engine: &mut Engine, link: LinkId) -> Result<(), Memory>
     requires { link.0 < length engine.old.net.links }
-    ensures { (s : Setup) (run : Run) → IsAt engine.old s run → OnOk result (IsAt engine.new s (advertised s run link.0)) }
+    ensures stands { (s : Setup) (run : Run) → IsAt engine.old s run → OnOk result (IsAt engine.new s (advertised s run link.0)) }
+    ensures kept { OnOk result (engine.new.told ≡ engine.old.told) }
 {
     let prefix = engine.prefix(link);
     let count = engine.count();

@@ -7,7 +7,7 @@ use mip_says::{TestKind, innermost, message_in};
 use mip_words::Cookie;
 
 /// What the init of a test asks for: a test of this kind, with this cookie.
-#[derive(Clone, Copy, Debug, PartialEq, Eq)]
+#[derive(Clone, Copy)]
 pub(crate) struct Asking {
     pub kind: TestKind,
     pub cookie: Cookie,

@@ -17,7 +17,7 @@ use mip_words::{Address, Bytes, Memory};
 use std::alloc::Global;
 
 /// What the update of an outsider says: its addresses, its sequence, and its lifetime in units of 4 s.
-#[derive(Clone, Copy, Debug, PartialEq, Eq)]
+#[derive(Clone, Copy)]
 pub(crate) struct Binding {
     pub source: Address,
     pub peer: Address,

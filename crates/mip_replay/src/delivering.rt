@@ -30,7 +30,9 @@ fn overhear_at(
     shield: Option<Shield>,
     link: Option<LinkId>,
 ) -> Result<(), Memory>
-    ensures { (s : Setup) (run : Run) (post : Post) → IsAt engine.old s run → shield ≡ post.shield → OnOk result (IsAt engine.new s (overheard_at s post number (option_map (λ l. l.0) link) run)) }
+    requires { number < length engine.old.net.posts }
+    ensures stands { (s : Setup) (run : Run) (post : Post) → IsAt engine.old s run → shield ≡ post.shield → OnOk result (IsAt engine.new s (overheard_at s post number (option_map (λ l. l.0) link) run)) }
+    ensures kept { OnOk result (engine.new.told ≡ engine.old.told) }
 {
     match link {
         Some(link) => engine.overhear(shield, None, link, number),
@@ -40,7 +42,9 @@ fn overhear_at(
 
 /// A packet comes to nobody.
 fn vanish(engine: &mut Engine, number: u64, why: Why, arrival: Arrival) -> Result<(), Memory>
-    ensures { (s : Setup) (run : Run) (post : Post) → IsAt engine.old s run → arrival.shield ≡ post.shield → OnOk result (IsAt engine.new s (became s number post (option_map (λ l. l.0) arrival.link) run (Gone why))) }
+    requires { number < length engine.old.net.posts }
+    ensures stands { (s : Setup) (run : Run) (post : Post) → IsAt engine.old s run → arrival.shield ≡ post.shield → OnOk result (IsAt engine.new s (became s number post (option_map (λ l. l.0) arrival.link) run (Gone why))) }
+    ensures kept { OnOk result (engine.new.told ≡ engine.old.told) }
 {
     if is_no_holder(why) {
         overhear_at(engine, number, arrival.shield, arrival.link)?;
@@ -60,7 +64,9 @@ fn hears_at(engine: &Engine, outsider: u8, link: Option<LinkId>) -> bool
 
 /// A packet comes to an outsider, which hears it once.
 fn reach_outsider(engine: &mut Engine, number: u64, by: u8, arrival: Arrival) -> Result<(), Memory>
-    ensures { (s : Setup) (run : Run) (post : Post) → IsAt engine.old s run → arrival.shield ≡ post.shield → OnOk result (IsAt engine.new s (became s number post (option_map (λ l. l.0) arrival.link) run (Outsider by))) }
+    requires { number < length engine.old.net.posts }
+    ensures stands { (s : Setup) (run : Run) (post : Post) → IsAt engine.old s run → arrival.shield ≡ post.shield → OnOk result (IsAt engine.new s (became s number post (option_map (λ l. l.0) arrival.link) run (Outsider by))) }
+    ensures kept { OnOk result (engine.new.told ≡ engine.old.told) }
 {
     let outsider = by.saturating_sub(FIRST_OUTSIDER);
     overhear_at(engine, number, arrival.shield, arrival.link)?;
@@ -79,7 +85,8 @@ fn reach_node(
     arrival: Arrival,
 ) -> Result<(), Memory>
     requires { number < length engine.old.net.posts }
-    ensures { (s : Setup) (run : Run) (post : Post) → IsAt engine.old s run → slice_get run.posts number ≡ Some post → arrival.shield ≡ post.shield → OnOk result (IsAt engine.new s (became s number post (option_map (λ l. l.0) arrival.link) run (Node by))) }
+    ensures stands { (s : Setup) (run : Run) (post : Post) → IsAt engine.old s run → slice_get run.posts number ≡ Some post → arrival.shield ≡ post.shield → OnOk result (IsAt engine.new s (became s number post (option_map (λ l. l.0) arrival.link) run (Node by))) }
+    ensures kept { OnOk result (engine.new.told ≡ engine.old.told) }
 {
     let node = NodeId(by);
     let packet = engine.handed_packet(alloc, number, arrival.link)?;
@@ -95,7 +102,8 @@ fn reach_node(
 
 fn reach(alloc: Global, engine: &mut Engine, number: u64, arrival: Arrival) -> Result<(), Memory>
     requires { number < length engine.old.net.posts }
-    ensures { (s : Setup) (run : Run) (post : Post) → IsAt engine.old s run → slice_get run.posts number ≡ Some post → arrival.shield ≡ post.shield → OnOk result (IsAt engine.new s (became s number post (option_map (λ l. l.0) arrival.link) run arrival.delivery)) }
+    ensures stands { (s : Setup) (run : Run) (post : Post) → IsAt engine.old s run → slice_get run.posts number ≡ Some post → arrival.shield ≡ post.shield → OnOk result (IsAt engine.new s (became s number post (option_map (λ l. l.0) arrival.link) run arrival.delivery)) }
+    ensures kept { OnOk result (engine.new.told ≡ engine.old.told) }
 {
     match arrival.delivery {
         Delivery::Idle => engine.note(Entry::Idle),
@@ -112,7 +120,8 @@ pub(crate) fn deliver(
     number: u64,
     keep: bool,
 ) -> Result<(), Memory>
-    ensures { (s : Setup) (run : Run) → IsAt engine.old s run → OnOk result (IsAt engine.new s (delivered s run number keep)) }
+    ensures stands { (s : Setup) (run : Run) → IsAt engine.old s run → OnOk result (IsAt engine.new s (delivered s run number keep)) }
+    ensures kept { OnOk result (engine.new.told ≡ engine.old.told) }
 {
     match engine.lift(number, keep) {
         Some(arrival) => reach(alloc, engine, number, arrival),
@@ -121,7 +130,8 @@ pub(crate) fn deliver(
 }
 
 fn carry_one(alloc: Global, engine: &mut Engine) -> Result<(), Memory>
-    ensures { (s : Setup) (run : Run) → IsAt engine.old s run → OnOk result (IsAt engine.new s (carried_one s run (lowest_of run.flying))) }
+    ensures stands { (s : Setup) (run : Run) → IsAt engine.old s run → OnOk result (IsAt engine.new s (carried_one s run (lowest_of run.flying))) }
+    ensures kept { OnOk result (engine.new.told ≡ engine.old.told) }
 {
     match engine.lowest() {
         Some(number) => deliver(alloc, engine, number, false),
@@ -132,7 +142,8 @@ fn carry_one(alloc: Global, engine: &mut Engine) -> Result<(), Memory>
 /// The lowest packet of the pool is delivered, so many times.
 #[tactic(auto, unfolding(mip_history::specs::Delivery::carried))]
 pub(crate) fn carry(alloc: Global, engine: &mut Engine, count: u32) -> Result<(), Memory>
-    ensures { (s : Setup) (run : Run) → IsAt engine.old s run → OnOk result (IsAt engine.new s (carried s run count)) }
+    ensures stands { (s : Setup) (run : Run) → IsAt engine.old s run → OnOk result (IsAt engine.new s (carried s run count)) }
+    ensures kept { OnOk result (engine.new.told ≡ engine.old.told) }
 {
     for _turn in 0..count {
         carry_one(alloc, engine)?;
@@ -142,7 +153,8 @@ pub(crate) fn carry(alloc: Global, engine: &mut Engine, count: u32) -> Result<()
 
 /// A packet is lost.
 pub(crate) fn drop_packet(engine: &mut Engine, number: u64) -> Result<(), Memory>
-    ensures { (s : Setup) (run : Run) → IsAt engine.old s run → OnOk result (IsAt engine.new s (lost run number)) }
+    ensures stands { (s : Setup) (run : Run) → IsAt engine.old s run → OnOk result (IsAt engine.new s (lost run number)) }
+    ensures kept { OnOk result (engine.new.told ≡ engine.old.told) }
 {
     if engine.lose(number) {
         return engine.note(Entry::Lost { number });

@@ -127,7 +127,8 @@ fn inject_if(
     packet: Option<Bytes>,
 ) -> Result<(), Memory>
     requires { IfSome packet (λ p. 40 ≤ length p) }
-    ensures { (s : Setup) (run : Run) → IsAt engine.old s run → OnOk result (IsAt engine.new s (injected_if s run outsider link.0 packet)) }
+    ensures stands { (s : Setup) (run : Run) → IsAt engine.old s run → OnOk result (IsAt engine.new s (injected_if s run outsider link.0 packet)) }
+    ensures kept { OnOk result (engine.new.told ≡ engine.old.told) }
 {
     match packet {
         Some(packet) => engine.inject(alloc, outsider, link, packet.as_slice()),
@@ -146,7 +147,8 @@ pub(crate) fn probe(
     peer: Address,
     cookie: Cookie,
 ) -> Result<(), Memory>
-    ensures { (s : Setup) (run : Run) → IsAt engine.old s run → OnOk result (IsAt engine.new s (injected s run outsider link.0 (probe_packet careof source peer cookie.0))) }
+    ensures stands { (s : Setup) (run : Run) → IsAt engine.old s run → OnOk result (IsAt engine.new s (injected s run outsider link.0 (probe_packet careof source peer cookie.0))) }
+    ensures kept { OnOk result (engine.new.told ≡ engine.old.told) }
 {
     let packet = probe_packet(alloc, careof, source, peer, cookie)?;
     engine.inject(alloc, outsider, link, packet.as_slice())
@@ -163,7 +165,8 @@ pub(crate) fn bind(
     careof: Option<u64>,
 ) -> Result<(), Memory>
     requires { is_routable binding.home.0 ≡ true }
-    ensures { (s : Setup) (run : Run) → IsAt engine.old s run → OnOk result (IsAt engine.new s (injected_if s run outsider link.0 (update_packet (seen.binding binding) run.posts home careof))) }
+    ensures stands { (s : Setup) (run : Run) → IsAt engine.old s run → OnOk result (IsAt engine.new s (injected_if s run outsider link.0 (update_packet (seen.binding binding) run.posts home careof))) }
+    ensures kept { OnOk result (engine.new.told ≡ engine.old.told) }
 {
     let packet = update_from(alloc, engine, binding, home, careof)?;
     inject_if(alloc, engine, outsider, link, packet)
@@ -178,7 +181,8 @@ pub(crate) fn tell(
     test: u64,
     init: u64,
 ) -> Result<(), Memory>
-    ensures { (s : Setup) (run : Run) → IsAt engine.old s run → OnOk result (IsAt engine.new s (injected_if s run outsider link.0 (test_packet run.posts test init))) }
+    ensures stands { (s : Setup) (run : Run) → IsAt engine.old s run → OnOk result (IsAt engine.new s (injected_if s run outsider link.0 (test_packet run.posts test init))) }
+    ensures kept { OnOk result (engine.new.told ≡ engine.old.told) }
 {
     let packet = test_from(alloc, engine, test, init)?;
     inject_if(alloc, engine, outsider, link, packet)

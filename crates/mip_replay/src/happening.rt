@@ -26,7 +26,8 @@ use std::alloc::Global;
 fn outsider_binds(alloc: Global, engine: &mut Engine, event: &Event) -> Result<(), Memory>
     requires kind { is_bind event.now ≡ true }
     requires ready { IsReady engine.old event.now }
-    ensures { (s : Setup) (run : Run) → IsAt engine.old s run → OnOk result (IsAt engine.new s (happens s run event.now)) }
+    ensures stands { (s : Setup) (run : Run) → IsAt engine.old s run → OnOk result (IsAt engine.new s (happens s run event.now)) }
+    ensures kept { OnOk result (engine.new.told ≡ engine.old.told) }
 {
     let Event::Bind {
         outsider,
@@ -70,7 +71,8 @@ fn outsider_binds(alloc: Global, engine: &mut Engine, event: &Event) -> Result<(
 fn outsider_posts(alloc: Global, engine: &mut Engine, event: &Event) -> Result<(), Memory>
     requires kind { is_posting event.now ≡ true }
     requires ready { IsReady engine.old event.now }
-    ensures { (s : Setup) (run : Run) → IsAt engine.old s run → OnOk result (IsAt engine.new s (happens s run event.now)) }
+    ensures stands { (s : Setup) (run : Run) → IsAt engine.old s run → OnOk result (IsAt engine.new s (happens s run event.now)) }
+    ensures kept { OnOk result (engine.new.told ≡ engine.old.told) }
 {
     match event {
         Event::Inject {
@@ -109,7 +111,8 @@ fn outsider_posts(alloc: Global, engine: &mut Engine, event: &Event) -> Result<(
 fn node_is_asked(alloc: Global, engine: &mut Engine, event: &Event) -> Result<(), Memory>
     requires kind { is_call event.now ≡ true }
     requires ready { IsReady engine.old event.now }
-    ensures { (s : Setup) (run : Run) → IsAt engine.old s run → OnOk result (IsAt engine.new s (happens s run event.now)) }
+    ensures stands { (s : Setup) (run : Run) → IsAt engine.old s run → OnOk result (IsAt engine.new s (happens s run event.now)) }
+    ensures kept { OnOk result (engine.new.told ≡ engine.old.told) }
 {
     match event {
         Event::Payload {
@@ -147,7 +150,8 @@ fn node_is_asked(alloc: Global, engine: &mut Engine, event: &Event) -> Result<()
 /// Events that do nothing yet.
 fn nothing_happens(engine: &mut Engine, event: &Event) -> Result<(), Memory>
     requires { is_built_event event.now ≡ false }
-    ensures { (s : Setup) (run : Run) → IsAt engine.old s run → OnOk result (IsAt engine.new s (happens s run event.now)) }
+    ensures stands { (s : Setup) (run : Run) → IsAt engine.old s run → OnOk result (IsAt engine.new s (happens s run event.now)) }
+    ensures kept { OnOk result (engine.new.told ≡ engine.old.told) }
 {
     engine.note(Entry::Idle)
 }
@@ -155,7 +159,8 @@ fn nothing_happens(engine: &mut Engine, event: &Event) -> Result<(), Memory>
 /// An event happens that finds the engine ready.
 pub(crate) fn happen(alloc: Global, engine: &mut Engine, event: &Event) -> Result<(), Memory>
     requires ready { IsReady engine.old event.now }
-    ensures { (s : Setup) (run : Run) → IsAt engine.old s run → OnOk result (IsAt engine.new s (happens s run event.now)) }
+    ensures stands { (s : Setup) (run : Run) → IsAt engine.old s run → OnOk result (IsAt engine.new s (happens s run event.now)) }
+    ensures kept { OnOk result (engine.new.told ≡ engine.old.told) }
 {
     match event {
         Event::Listen { outsider, link } => listen(engine, *outsider, *link),

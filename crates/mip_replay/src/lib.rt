@@ -12,9 +12,11 @@ mod laws;
 mod outsiders;
 mod restarting;
 mod run;
+mod run_in_pieces;
 mod told;
 mod waiting;
 
 pub use built::unbuilt;
 pub use laws::{each_acceptance_is_marked, each_home_is_sent, each_is_bound, each_repeat_is_late};
 pub use run::replay;
+pub use run_in_pieces::Run;

@@ -26,7 +26,8 @@ pub(crate) fn listen(engine: &mut Engine, outsider: u8, link: LinkId) -> Result<
     requires outsider { outsider < 8 }
     requires small { link.0 < 32 }
     requires link { link.0 < length engine.old.net.links }
-    ensures { (s : Setup) (run : Run) → IsAt engine.old s run → OnOk result (IsAt engine.new s (listens run outsider link.0)) }
+    ensures stands { (s : Setup) (run : Run) → IsAt engine.old s run → OnOk result (IsAt engine.new s (listens run outsider link.0)) }
+    ensures kept { OnOk result (engine.new.told ≡ engine.old.told) }
 {
     if engine.begin_listening(outsider, link)? {
         return engine.note(Entry::Listening { outsider, link });
@@ -39,7 +40,8 @@ pub(crate) fn deafen(engine: &mut Engine, outsider: u8, link: LinkId) -> Result<
     requires outsider { outsider < 8 }
     requires small { link.0 < 32 }
     requires link { link.0 < length engine.old.net.links }
-    ensures { (s : Setup) (run : Run) → IsAt engine.old s run → OnOk result (IsAt engine.new s (deafens run outsider link.0)) }
+    ensures stands { (s : Setup) (run : Run) → IsAt engine.old s run → OnOk result (IsAt engine.new s (deafens run outsider link.0)) }
+    ensures kept { OnOk result (engine.new.told ≡ engine.old.told) }
 {
     if engine.end_listening(outsider, link) {
         return engine.note(Entry::Deafened { outsider, link });
@@ -50,7 +52,8 @@ pub(crate) fn deafen(engine: &mut Engine, outsider: u8, link: LinkId) -> Result<
 /// An outsider takes an address, if nobody else has it.
 pub(crate) fn squat(engine: &mut Engine, outsider: u8, address: Address) -> Result<(), Memory>
     requires { outsider < 8 }
-    ensures { (s : Setup) (run : Run) → IsAt engine.old s run → OnOk result (IsAt engine.new s (squats s run outsider address)) }
+    ensures stands { (s : Setup) (run : Run) → IsAt engine.old s run → OnOk result (IsAt engine.new s (squats s run outsider address)) }
+    ensures kept { OnOk result (engine.new.told ≡ engine.old.told) }
 {
     engine.claim(holder(outsider), address)
 }
@@ -58,7 +61,8 @@ pub(crate) fn squat(engine: &mut Engine, outsider: u8, address: Address) -> Resu
 /// An outsider gives an address up, if it has it.
 pub(crate) fn yield_up(engine: &mut Engine, outsider: u8, address: Address) -> Result<(), Memory>
     requires { outsider < 8 }
-    ensures { (s : Setup) (run : Run) → IsAt engine.old s run → OnOk result (IsAt engine.new s (yields s run outsider address)) }
+    ensures stands { (s : Setup) (run : Run) → IsAt engine.old s run → OnOk result (IsAt engine.new s (yields s run outsider address)) }
+    ensures kept { OnOk result (engine.new.told ≡ engine.old.told) }
 {
     engine.give_up(holder(outsider), address)
 }

@@ -32,7 +32,8 @@ fn registered_homes(alloc: Global, engine: &Engine, node: NodeId) -> Result<Vec<
 }
 
 fn leave_home(engine: &mut Engine, node: NodeId, row: &HomeRow) -> Result<(), Memory>
-    ensures { (s : Setup) (run : Run) → IsAt engine.old s run → OnOk result (IsAt engine.new s (gives_up s node.0 row.now.home run)) }
+    ensures stands { (s : Setup) (run : Run) → IsAt engine.old s run → OnOk result (IsAt engine.new s (gives_up s node.0 row.now.home run)) }
+    ensures kept { OnOk result (engine.new.told ≡ engine.old.told) }
 {
     engine.give_up(node.0, row.home)
 }
@@ -40,7 +41,8 @@ fn leave_home(engine: &mut Engine, node: NodeId, row: &HomeRow) -> Result<(), Me
 /// An agent gives up the homes that it had registered.
 #[tactic(auto, unfolding(mip_history::specs::Restarting::homes_left))]
 fn leave_homes(engine: &mut Engine, node: NodeId, homes: &[HomeRow]) -> Result<(), Memory>
-    ensures { (s : Setup) (run : Run) → IsAt engine.old s run → OnOk result (IsAt engine.new s (homes_left s node.0 homes.now run)) }
+    ensures stands { (s : Setup) (run : Run) → IsAt engine.old s run → OnOk result (IsAt engine.new s (homes_left s node.0 homes.now run)) }
+    ensures kept { OnOk result (engine.new.told ≡ engine.old.told) }
 {
     for row in homes {
         leave_home(engine, node, row)?;
@@ -56,7 +58,8 @@ fn begin_anew(
     homes: &[HomeRow],
 ) -> Result<(), Memory>
     requires { node.0 < length engine.old.nodes }
-    ensures { (s : Setup) (run : Run) (c : NodeSeen) → IsAt engine.old s run → slice_get engine.old.nodes node.0 ≡ Some c → OnOk result (IsAt engine.new s (begun_anew s node.0 homes.now run c.host.kind)) }
+    ensures stands { (s : Setup) (run : Run) (c : NodeSeen) → IsAt engine.old s run → slice_get engine.old.nodes node.0 ≡ Some c → OnOk result (IsAt engine.new s (begun_anew s node.0 homes.now run c.host.kind)) }
+    ensures kept { OnOk result (engine.new.told ≡ engine.old.told) }
 {
     if engine.is_roaming(node) {
         let secrets = engine.secrets(node);
@@ -68,7 +71,8 @@ fn begin_anew(
 fn begin_life(alloc: Global, engine: &mut Engine, node: NodeId) -> Result<(), Memory>
     requires node { node.0 < length engine.old.nodes }
     requires life { (c : NodeSeen) → slice_get engine.old.nodes node.0 ≡ Some c → c.life + 1 < 2 ^ 32 }
-    ensures { (s : Setup) (run : Run) (c : NodeSeen) → IsAt engine.old s run → slice_get engine.old.nodes node.0 ≡ Some c → OnOk result (IsAt engine.new s (restarted s run node.0)) }
+    ensures stands { (s : Setup) (run : Run) (c : NodeSeen) → IsAt engine.old s run → slice_get engine.old.nodes node.0 ≡ Some c → OnOk result (IsAt engine.new s (restarted s run node.0)) }
+    ensures kept { OnOk result (engine.new.told ≡ engine.old.told) }
 {
     let homes = registered_homes(alloc, engine, node)?;
     engine.renew(alloc, node)?;
@@ -79,7 +83,8 @@ fn begin_life(alloc: Global, engine: &mut Engine, node: NodeId) -> Result<(), Me
 /// A node restarts. That is noted also of a node that is not there.
 pub(crate) fn restart(alloc: Global, engine: &mut Engine, node: NodeId) -> Result<(), Memory>
     requires { (c : NodeSeen) → slice_get engine.old.nodes node.0 ≡ Some c → c.life + 1 < 2 ^ 32 }
-    ensures { (s : Setup) (run : Run) → IsAt engine.old s run → OnOk result (IsAt engine.new s (restarted s run node.0)) }
+    ensures stands { (s : Setup) (run : Run) → IsAt engine.old s run → OnOk result (IsAt engine.new s (restarted s run node.0)) }
+    ensures kept { OnOk result (engine.new.told ≡ engine.old.told) }
 {
     match engine.station(node) {
         Some(_) => begin_life(alloc, engine, node),

@@ -28,7 +28,8 @@ fn run(alloc: Global, engine: &mut Engine, schedule: &Schedule) -> Result<(), Me
     requires lawful { IsLawful (content schedule.now) }
     requires few { AreFew schedule.now.declarations }
     requires opened { IsAt engine.old (setup_of (content schedule.now)) (run_of (setup_of (content schedule.now)) []) }
-    ensures { OnOk result (IsAt engine.new (setup_of (content schedule.now)) (run_of (setup_of (content schedule.now)) schedule.now.events)) }
+    ensures stands { OnOk result (IsAt engine.new (setup_of (content schedule.now)) (run_of (setup_of (content schedule.now)) schedule.now.events)) }
+    ensures kept { OnOk result (engine.new.told ≡ engine.old.told) }
 {
     moments_rise();
     lives_are_restarts();

@@ -7,7 +7,7 @@ use mip_says::{Carried, TestKind, carried_in};
 use mip_words::Token;
 
 /// What a test says: its nonce index and its token.
-#[derive(Clone, Copy, Debug, PartialEq, Eq)]
+#[derive(Clone, Copy)]
 pub(crate) struct Told {
     pub index: u16,
     pub token: Token,

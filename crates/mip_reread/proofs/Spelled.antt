@@ -1,6 +1,6 @@
 -- An entry of what is declared, whose numbers are as wide as their types and whose line is short enough, is one that a trace
 -- spells.
-use Rattle.std.proofs.Common.{◌≡◌, ℕ, ◌+◌, ◌<◌, ◌≤◌, ◌^◌, List, [], ◌∷◌, ◌++◌, length, true, inl, inr, refl, arith, length-append}
+use Rattle.std.proofs.Common.{◌≡◌, ℕ, ◌<◌, ◌≤◌, ◌^◌, List, [], ◌∷◌, length, true, inl, inr, refl, arith, length-append}
 use Rattle.std.specs.Prelude.{map, Option, Some, None, Ok}
 use Rattle.std.specs.List.{AllByRecursion}
 use Rattle.mip_words.specs.declared.ids.LinkId.{LinkId}

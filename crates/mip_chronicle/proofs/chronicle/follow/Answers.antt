@@ -15,32 +15,25 @@ posted_some : (o : Option ℕ) → is_some o ≡ true → (n : ℕ) × (o ≡ So
 posted_some None is = absurd cc
 posted_some (Some n) is = (n, refl)
 
-pub returns-in_ok-push-2 : goal.returns-in_ok-push-2
-returns-in_ok-push-2 c = λ is _.
+pub returns-in_ok-push : goal.returns-in_ok-push
+returns-in_ok-push c = λ past is next.
     let w = c.args.watch.now in
-    let past = c.args.history.now in
-    let places = c.args.places.now.items in
     let kept = c.args.tokens.now.items in
     let e = c.args.entry.now in
-    let next : comes_next (length places) e ≡ true = subst (λ (n : ℕ). comes_next n e ≡ true) (c.len.ensures ∙ c.args.places.now.ok.0) (sym c.is_next.ensures ∙ c.if-not-is_next.false) in
     let heard = c.heard-heard.ensures ∙ ap (λ (l : List (Option Token)). heard_at l e) c.as_slice.ensures.value in
-    let bytes = subst (IsHeard past e) (sym heard) (is_heard w past places kept is e next) in
-    let stands = c.in_ok-token.ensures.stands past is.stands (is_next w past places kept is e next) bytes in
-    let posts = posted_some (number_posted e) (ap (λ (o : Option ℕ). is_some o) (sym c.number_posted.ensures) ∙ sym c.is_some.ensures ∙ c.if-is_some.true) in
-    let more = watched_more w past places kept is e next posts.0 posts.1 c.note.new.self c.in_ok-token.token stands c.in_ok-token.ensures.token in
-    subst (λ (l : List ℕ). IsWatched c.note.new.self (past ++ e ∷ []) l c.push-then-is_some.new.self.items) (sym (c.in_ok-push.ensures.items ∙ ap (λ (n : ℕ). places ++ n ∷ []) c.len-then-is_some.ensures))
-    (subst (λ (l : List (Option Token)). IsWatched c.note.new.self (past ++ e ∷ []) (places ++ length past ∷ []) l) (sym c.in_ok-push-2.ensures.items) more)
+    let bytes = subst (IsHeard past e) (sym heard) (is_heard w past kept is e next) in
+    let stands = c.in_ok-token.ensures.stands past is.stands (is_next w past kept is e next) bytes in
+    let posts = posted_some (number_posted e) (sym c.is_posting.ensures ∙ c.if-is_posting.true) in
+    let more = watched_more w past kept is e next posts.0 posts.1 c.note.new.self c.in_ok-token.token stands c.in_ok-token.ensures.token in
+    subst (λ (l : List (Option Token)). IsWatched c.note.new.self (past ++ e ∷ []) l) (sym c.in_ok-push.ensures.items) more
 
-pub returns-else-is_some : goal.returns-else-is_some
-returns-else-is_some c = λ is _.
+pub returns-else-is_posting : goal.returns-else-is_posting
+returns-else-is_posting c = λ past is next.
     let w = c.args.watch.now in
-    let past = c.args.history.now in
-    let places = c.args.places.now.items in
     let kept = c.args.tokens.now.items in
     let e = c.args.entry.now in
-    let next : comes_next (length places) e ≡ true = subst (λ (n : ℕ). comes_next n e ≡ true) (c.len.ensures ∙ c.args.places.now.ok.0) (sym c.is_next.ensures ∙ c.if-not-is_next.false) in
     let heard = c.heard-heard.ensures ∙ ap (λ (l : List (Option Token)). heard_at l e) c.as_slice.ensures.value in
-    let bytes = subst (IsHeard past e) (sym heard) (is_heard w past places kept is e next) in
-    let stands = c.in_ok-token.ensures.stands past is.stands (is_next w past places kept is e next) bytes in
-    let posts = posted_none (number_posted e) (ap (λ (o : Option ℕ). is_some o) (sym c.number_posted.ensures) ∙ sym c.is_some.ensures ∙ c.if-is_some.false) in
-    watched_on w past places kept is e next c.note.new.self stands posts
+    let bytes = subst (IsHeard past e) (sym heard) (is_heard w past kept is e next) in
+    let stands = c.in_ok-token.ensures.stands past is.stands (is_next w past kept is e next) bytes in
+    let posts = posted_none (number_posted e) (sym c.is_posting.ensures ∙ c.if-is_posting.false) in
+    watched_on w past kept is e next c.note.new.self stands posts

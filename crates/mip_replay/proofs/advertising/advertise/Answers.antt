@@ -5,8 +5,8 @@ use Rattle.mip_engine.specs.Standing.{IsAt}
 use Rattle.mip_replay.proofs.AdvertLaws.{prefix_is}
 use Rattle.mip_replay.proofs.advertising.advertise.Goals as goal
 
-pub returns : goal.returns
-returns c = λ s run at.
+pub returns-clause-stands : goal.returns-clause-stands
+returns-clause-stands c = λ s run at.
     let l = c.args.link.0 in
     subst (λ (n : ℕ). OnOk c.tell_mobiles.result (IsAt c.tell_mobiles.new.engine s (mobiles_told s l n (agents_hear s l n run)))) (c.count-count.ensures.is ∙ at.count)
-    (c.tell_mobiles.ensures s (agents_hear s l c.count-count.result run) (c.in_ok-tell_agents.ensures s run at) (c.prefix-prefix.ensures ∙ prefix_is c.args.engine.now s run at l))
+    (c.tell_mobiles.ensures.stands s (agents_hear s l c.count-count.result run) (c.in_ok-tell_agents.ensures.stands s run at) (c.prefix-prefix.ensures ∙ prefix_is c.args.engine.now s run at l))

@@ -9,8 +9,8 @@ use Rattle.mip_engine.proofs.QuietLaws.{at_is}
 use Rattle.mip_replay.proofs.AdvertLaws.{at_advertised}
 use Rattle.mip_replay.proofs.advertising.attach.Goals as goal
 
-pub returns : goal.returns
-returns c = λ s run at is.
+pub returns-clause-stands : goal.returns-clause-stands
+returns-clause-stands c = λ s run at is.
     let here = note (Advertised c.args.node c.args.link None) run in
     subst (λ (p : ℕ). OnOk c.act.result (IsAt c.act.new.self s (acts s c.args.node.0 (Attach p) here))) is
-    (c.act.ensures s here (at_is c.in_ok-note.ensures (at_advertised c.args.engine.now s run c.args.node.0 c.args.link.0 None at)))
+    (c.act.ensures.stands s here (at_is c.in_ok-note.ensures (at_advertised c.args.engine.now s run c.args.node.0 c.args.link.0 None at)))

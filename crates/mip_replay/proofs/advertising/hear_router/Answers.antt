@@ -5,8 +5,8 @@ use Rattle.mip_engine.proofs.QuietLaws.{at_is}
 use Rattle.mip_replay.proofs.AdvertLaws.{at_advertised}
 use Rattle.mip_replay.proofs.advertising.hear_router.Goals as goal
 
-pub returns : goal.returns
-returns c = λ s run at.
+pub returns-clause-stands : goal.returns-clause-stands
+returns-clause-stands c = λ s run at.
     let agent = Some c.args.router.address in
-    c.act.ensures s (note (Advertised c.args.node c.args.link agent) run)
+    c.act.ensures.stands s (note (Advertised c.args.node c.args.link agent) run)
     (at_is c.in_ok-note.ensures (at_advertised c.args.engine.now s run c.args.node.0 c.args.link.0 agent at))

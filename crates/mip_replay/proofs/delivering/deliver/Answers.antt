@@ -10,19 +10,19 @@ use Rattle.mip_engine.proofs.PostingLaws.{quiet_idle}
 use Rattle.mip_engine.proofs.DeliveryLaws.{lifted, at_lifted, delivered_none, comes}
 use Rattle.mip_replay.proofs.delivering.deliver.Goals as goal
 
-pub returns-in-Some : goal.returns-in-Some
-returns-in-Some c = λ s run at.
+pub returns-in-Some-clause-stands : goal.returns-in-Some-clause-stands
+returns-in-Some-clause-stands c = λ s run at.
     let e = c.args.engine.now in
     let k = c.args.number in
     let keep = c.args.keep in
     let a = c.in-Some.arrival in
     let come = comes e s run k keep at a c.in-Some.ensures.found in
     at_ok_run c.reach.result c.reach.new.engine s (became s k come.post (option_map (λ (l : LinkId). l.0) a.link) (lifted k keep run) a.delivery) (delivered s run k keep)
-    (c.reach.ensures s (lifted k keep run) come.post (at_is c.in-Some.ensures.after (at_lifted e s run k keep at)) come.posted come.shield)
+    (c.reach.ensures.stands s (lifted k keep run) come.post (at_is c.in-Some.ensures.after (at_lifted e s run k keep at)) come.posted come.shield)
     come.became_is
 
-pub returns-in-None : goal.returns-in-None
-returns-in-None c = λ s run at.
+pub returns-in-None-clause-stands : goal.returns-in-None-clause-stands
+returns-in-None-clause-stands c = λ s run at.
     let e = c.args.engine.now in
     let k = c.args.number in
     let keep = c.args.keep in

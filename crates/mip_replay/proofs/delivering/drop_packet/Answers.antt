@@ -9,8 +9,8 @@ use Rattle.mip_engine.proofs.QuietLaws.{at_ok}
 use Rattle.mip_engine.proofs.PostingLaws.{at_lost}
 use Rattle.mip_replay.proofs.delivering.drop_packet.Goals as goal
 
-pub returns-then-lose : goal.returns-then-lose
-returns-then-lose c = λ s run at.
+pub returns-then-lose-clause-stands : goal.returns-then-lose-clause-stands
+returns-then-lose-clause-stands c = λ s run at.
     let e = c.args.engine.now in
     let k = c.args.number in
     let was : slice_index_or e.net.flying k false ≡ true = sym c.lose.ensures.was ∙ c.if-lose.true in
@@ -18,8 +18,8 @@ returns-then-lose c = λ s run at.
     (subst (λ (x : EngineSeen). IsAt (with_entry (Lost k) x) s (lost run k)) (sym c.lose.ensures.after)
     (subst (λ (b : Bool). IsAt (with_entry (if b then Lost k else Idle) (with_net (left e.net k) e)) s (lost run k)) was (at_lost e s run k at)))
 
-pub returns : goal.returns
-returns c = λ s run at.
+pub returns-clause-stands : goal.returns-clause-stands
+returns-clause-stands c = λ s run at.
     let e = c.args.engine.now in
     let k = c.args.number in
     let was : slice_index_or e.net.flying k false ≡ false = sym c.lose.ensures.was ∙ c.if-lose.false in

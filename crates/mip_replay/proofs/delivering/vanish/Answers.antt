@@ -10,18 +10,18 @@ use Rattle.mip_engine.proofs.QuietLaws.{at_note, at_ok}
 use Rattle.mip_engine.proofs.PostingLaws.{quiet_gone}
 use Rattle.mip_replay.proofs.delivering.vanish.Goals as goal
 
-pub returns-then-is_no_holder : goal.returns-then-is_no_holder
-returns-then-is_no_holder c = λ s run post at same.
+pub returns-then-is_no_holder-clause-stands : goal.returns-then-is_no_holder-clause-stands
+returns-then-is_no_holder-clause-stands c = λ s run post at same.
     let k = c.args.number in
     let why = c.args.why in
     let heard = overheard_at s post k (option_map (λ (l : LinkId). l.0) c.args.arrival.link) run in
     let none : is_no_holder why ≡ true = sym c.is_no_holder.ensures ∙ c.if-is_no_holder.true in
     subst (λ (b : Bool). OnOk c.note.result (IsAt c.note.new.self s (note (Gone k why) (if b then heard else run)))) (sym none)
     (at_ok c.note.result c.note.new.self (with_entry (Gone k why) c.overhear_at.new.engine) s (note (Gone k why) heard) c.note.ensures
-    (at_note c.overhear_at.new.engine s heard (Gone k why) (quiet_gone k why) (c.in_ok-overhear_at.ensures s run post at same)))
+    (at_note c.overhear_at.new.engine s heard (Gone k why) (quiet_gone k why) (c.in_ok-overhear_at.ensures.stands s run post at same)))
 
-pub returns : goal.returns
-returns c = λ s run post at same.
+pub returns-clause-stands : goal.returns-clause-stands
+returns-clause-stands c = λ s run post at same.
     let k = c.args.number in
     let why = c.args.why in
     let heard = overheard_at s post k (option_map (λ (l : LinkId). l.0) c.args.arrival.link) run in

@@ -1,7 +1,7 @@
 use Rattle.mip_replay.proofs.happening.happen.Goals as goal
 
-pub returns-in-Listen : goal.returns-in-Listen
-returns-in-Listen c = λ s run at. rw c.in-Listen.is (c.listen.ensures s run at)
+pub returns-in-Listen-clause-stands : goal.returns-in-Listen-clause-stands
+returns-in-Listen-clause-stands c = λ s run at. rw c.in-Listen.is (c.listen.ensures.stands s run at)
 
-pub returns-in-Deaf : goal.returns-in-Deaf
-returns-in-Deaf c = λ s run at. rw c.in-Deaf.is (c.deafen.ensures s run at)
+pub returns-in-Deaf-clause-stands : goal.returns-in-Deaf-clause-stands
+returns-in-Deaf-clause-stands c = λ s run at. rw c.in-Deaf.is (c.deafen.ensures.stands s run at)

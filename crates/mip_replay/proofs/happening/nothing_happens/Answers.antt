@@ -8,8 +8,8 @@ use Rattle.mip_engine.proofs.PostingLaws.{quiet_idle}
 use Rattle.mip_replay.proofs.EventLaws.{unbuilt_idle}
 use Rattle.mip_replay.proofs.happening.nothing_happens.Goals as goal
 
-pub returns : goal.returns
-returns c = λ s run at.
+pub returns-clause-stands : goal.returns-clause-stands
+returns-clause-stands c = λ s run at.
     let e = c.args.engine.now in
     let event = c.args.event.now in
     at_ok_run c.note.result c.note.new.self s (note Idle run) (happens s run event)

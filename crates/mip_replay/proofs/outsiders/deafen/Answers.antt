@@ -10,8 +10,8 @@ use Rattle.mip_engine.proofs.QuietLaws.{at_ok}
 use Rattle.mip_engine.proofs.ClaimLaws.{at_deafens}
 use Rattle.mip_replay.proofs.outsiders.deafen.Goals as goal
 
-pub returns-then-end_listening : goal.returns-then-end_listening
-returns-then-end_listening c = λ s run at.
+pub returns-then-end_listening-clause-stands : goal.returns-then-end_listening-clause-stands
+returns-then-end_listening-clause-stands c = λ s run at.
     let e = c.args.engine.now in
     let o = c.args.outsider in
     let l = c.args.link.0 in
@@ -20,8 +20,8 @@ returns-then-end_listening c = λ s run at.
     (subst (λ (x : EngineSeen). IsAt (with_entry (Deafened o (link_id l)) x) s (deafens run o l)) (sym c.end_listening.ensures.after)
     (subst (λ (b : Bool). IsAt (with_entry (if b then Deafened o (link_id l) else Idle) (with_net (with_hearing e.net o l false) e)) s (deafens run o l)) is (at_deafens e s run o l c.requires.outsider c.requires.small at)))
 
-pub returns : goal.returns
-returns c = λ s run at.
+pub returns-clause-stands : goal.returns-clause-stands
+returns-clause-stands c = λ s run at.
     let e = c.args.engine.now in
     let o = c.args.outsider in
     let l = c.args.link.0 in

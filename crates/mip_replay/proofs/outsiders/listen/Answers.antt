@@ -10,8 +10,8 @@ use Rattle.mip_engine.proofs.QuietLaws.{at_ok}
 use Rattle.mip_engine.proofs.ClaimLaws.{at_listens}
 use Rattle.mip_replay.proofs.outsiders.listen.Goals as goal
 
-pub returns-then-branch : goal.returns-then-branch
-returns-then-branch c = λ s run at.
+pub returns-then-branch-clause-stands : goal.returns-then-branch-clause-stands
+returns-then-branch-clause-stands c = λ s run at.
     let e = c.args.engine.now in
     let o = c.args.outsider in
     let l = c.args.link.0 in
@@ -20,8 +20,8 @@ returns-then-branch c = λ s run at.
     (subst (λ (x : EngineSeen). IsAt (with_entry (Listening o (link_id l)) x) s (listens run o l)) (sym c.in_ok-begin_listening.ensures.after)
     (subst (λ (b : Bool). IsAt (with_entry (if b then Listening o (link_id l) else Idle) (with_net (with_hearing e.net o l true) e)) s (listens run o l)) is (at_listens e s run o l c.requires.outsider c.requires.small at)))
 
-pub returns : goal.returns
-returns c = λ s run at.
+pub returns-clause-stands : goal.returns-clause-stands
+returns-clause-stands c = λ s run at.
     let e = c.args.engine.now in
     let o = c.args.outsider in
     let l = c.args.link.0 in

@@ -11,20 +11,20 @@ use Rattle.mip_engine.proofs.QuietLaws.{at_ok_run}
 use Rattle.mip_replay.proofs.RestartLaws.{anew_roaming, anew_still}
 use Rattle.mip_replay.proofs.restarting.begin_anew.Goals as goal
 
-pub returns-then-is_roaming : goal.returns-then-is_roaming
-returns-then-is_roaming c = λ s run node at there.
+pub returns-then-is_roaming-clause-stands : goal.returns-then-is_roaming-clause-stands
+returns-then-is_roaming-clause-stands c = λ s run node at there.
     let e = c.args.engine.now in
     let n = c.args.node.0 in
     let roams : is_roaming node.role ≡ true = ap (λ (o : Option NodeSeen). option_map_or (λ (x : NodeSeen). is_roaming x.role) o false) (sym there) ∙ sym c.is_roaming.ensures ∙ c.if-is_roaming.true in
     at_ok_run c.act.result c.act.new.self s (acts s n (Restart c.secrets-secrets.result) run) (begun_anew s n c.args.homes.now run node.host.kind)
-    (c.act.ensures s run at)
+    (c.act.ensures.stands s run at)
     (anew_roaming e s run at n node c.args.homes.now c.secrets-secrets.result there roams (c.secrets-secrets.ensures node there))
 
-pub returns : goal.returns
-returns c = λ s run node at there.
+pub returns-clause-stands : goal.returns-clause-stands
+returns-clause-stands c = λ s run node at there.
     let e = c.args.engine.now in
     let n = c.args.node.0 in
     let still : is_roaming node.role ≡ false = ap (λ (o : Option NodeSeen). option_map_or (λ (x : NodeSeen). is_roaming x.role) o false) (sym there) ∙ sym c.is_roaming.ensures ∙ c.if-is_roaming.false in
     at_ok_run c.leave_homes.result c.leave_homes.new.engine s (homes_left s n c.args.homes.now run) (begun_anew s n c.args.homes.now run node.host.kind)
-    (c.leave_homes.ensures s run at)
+    (c.leave_homes.ensures.stands s run at)
     (anew_still e s run at n node c.args.homes.now there still)

@@ -17,5 +17,5 @@ happen-requires c =
     let is : event ≡ get_or s.events i event = c.event-item.is ∙ ap (λ (l : List Event). get_or l i event) are in
     record {
       ready = subst (λ (x : Event). IsReady e x) (sym is)
-          (finds_ready c.moments_rise.ensures.waited c.lives_are_restarts.ensures s c.requires.lawful c.requires.few i event inside e c.loop-event.invariant);
+          (finds_ready c.moments_rise.ensures.waited c.lives_are_restarts.ensures s c.requires.lawful c.requires.few i event inside e c.loop-event.invariant.stands);
     }

@@ -6,11 +6,11 @@ use Rattle.mip_engine.proofs.QuietLaws.{at_ok}
 use Rattle.mip_replay.proofs.WaitLaws.{come_stays, come_passes}
 use Rattle.mip_replay.proofs.waiting.come_to.Goals as goal
 
-pub returns-then-is_told : goal.returns-then-is_told
-returns-then-is_told c = λ s run at. come_stays c.args.engine.now s run at c.args.moment.0 c.args.told (sym c.is_told.ensures ∙ c.if-is_told.true)
+pub returns-then-is_told-clause-stands : goal.returns-then-is_told-clause-stands
+returns-then-is_told-clause-stands c = λ s run at. come_stays c.args.engine.now s run at c.args.moment.0 c.args.told (sym c.is_told.ensures ∙ c.if-is_told.true)
 
-pub returns : goal.returns
-returns c = λ s run at.
+pub returns-clause-stands : goal.returns-clause-stands
+returns-clause-stands c = λ s run at.
     let e = c.args.engine.now in
     let w : Waiting = comes_to s c.args.moment.0 (record { run = run; told = c.args.told }) in
     at_ok c.pass_to.result c.pass_to.new.self (with_entry (At c.args.moment) (at_moment c.args.moment.0 e)) s w.run c.pass_to.ensures

@@ -23,8 +23,8 @@ come_to-requires c =
       early = omega (arith, c.moment.ensures.is, c.from.ensures, c.requires.early);
     }
 
-pub returns : goal.returns
-returns c = λ s run at.
+pub returns-clause-stands : goal.returns-clause-stands
+returns-clause-stands c = λ s run at.
     let ms = c.args.ms in
     let target = c.moment.result.0 + c.from.result in
     let rounds = c.from-2.result + 1 in
@@ -32,5 +32,5 @@ returns c = λ s run at.
     let target_is : target ≡ now_in s run + ms = ap (λ (now : ℕ). now + c.from.result) (c.moment.ensures.is ∙ at.now) ∙ ap (λ (d : ℕ). now_in s run + d) c.from.ensures in
     let rounds_is : rounds ≡ suc ms = omega (arith, c.from-2.ensures) in
     at_ok_run c.come_to.result c.come_to.new.engine s (run_come s target w.run c.in_ok-told.told) (waited s run ms)
-    (c.come_to.ensures s w.run (c.in_ok-told.ensures.after s run at))
+    (c.come_to.ensures.stands s w.run (c.in_ok-told.ensures.after s run at))
     (waited_is s run ms target rounds c.in_ok-told.told target_is rounds_is (c.in_ok-told.ensures.told s run at))

@@ -9,8 +9,8 @@ use Rattle.mip_engine.proofs.QuietLaws.{at_is, at_ok}
 use Rattle.mip_engine.proofs.ClaimLaws.{at_squatted}
 use Rattle.mip_engine.proofs.engine.Engine.claim_on.Goals as goal
 
-pub returns : goal.returns
-returns c = λ s run at link.
+pub returns-clause-stands : goal.returns-clause-stands
+returns-clause-stands c = λ s run at link.
     let e = c.args.self.now in
     let who = c.args.who in
     let a = c.args.address in

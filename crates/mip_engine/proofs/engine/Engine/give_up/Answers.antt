@@ -9,8 +9,8 @@ use Rattle.mip_engine.proofs.QuietLaws.{at_note, at_ok, at_ok_run}
 use Rattle.mip_engine.proofs.PostingLaws.{quiet_idle}
 use Rattle.mip_engine.proofs.engine.Engine.give_up.Goals as goal
 
-pub returns-in-None : goal.returns-in-None
-returns-in-None c = λ s run at.
+pub returns-in-None-clause-stands : goal.returns-in-None-clause-stands
+returns-in-None-clause-stands c = λ s run at.
     let e = c.args.self.now in
     let a = c.args.address in
     let none : link_of s.links a.0 ≡ None = ap (λ (q : Asked). link_of q.links a.0) (sym at.asked) ∙ sym c.in-None.ensures in
@@ -18,11 +18,11 @@ returns-in-None c = λ s run at.
     (at_ok c.note.result c.note.new.self (with_entry Idle e) s (note Idle run) c.note.ensures (at_note e s run Idle quiet_idle at))
     (ap (λ (o : Option ℕ). given_up_on s c.args.who a run o) (sym none))
 
-pub returns-in-Some : goal.returns-in-Some
-returns-in-Some c = λ s run at.
+pub returns-in-Some-clause-stands : goal.returns-in-Some-clause-stands
+returns-in-Some-clause-stands c = λ s run at.
     let a = c.args.address in
     let l = c.in-Some.link.0 in
     let some : link_of s.links a.0 ≡ Some l = ap (λ (q : Asked). link_of q.links a.0) (sym at.asked) ∙ sym c.in-Some.ensures in
     at_ok_run c.give_up_on.result c.give_up_on.new.self s (given_up_on s c.args.who a run (Some l)) (gives_up s c.args.who a run)
-    (c.give_up_on.ensures s run at)
+    (c.give_up_on.ensures.stands s run at)
     (ap (λ (o : Option ℕ). given_up_on s c.args.who a run o) (sym some))

@@ -21,8 +21,8 @@ pass_on-requires c =
           (freed e.net c.args.who c.args.link.0 c.args.address c.requires held);
     }
 
-pub returns-then-release : goal.returns-then-release
-returns-then-release c = λ s run at.
+pub returns-then-release-clause-stands : goal.returns-then-release-clause-stands
+returns-then-release-clause-stands c = λ s run at.
     let e = c.args.self.now in
     let who = c.args.who in
     let a = c.args.address in
@@ -32,12 +32,12 @@ returns-then-release c = λ s run at.
     let here : IsAt c.note.new.self s (note x run) =
     at_is (c.in_ok-note.ensures ∙ ap (λ (y : EngineSeen). with_entry x y) c.release.ensures.after) (at_given_up e s run who l a held at) in
     at_ok_run c.pass_on.result c.pass_on.new.self s (passes_to who a l (note x run) (resident_of c.note.new.self.nodes a.0)) (given_up_on s who a run (Some l))
-    (c.pass_on.ensures s (note x run) here)
+    (c.pass_on.ensures.stands s (note x run) here)
     (ap (λ (o : Option ℕ). passes_to who a l (note x run) o) (resident_same c.note.new.self s (note x run) here a.0)
     ∙ sym (given_up_is e s run who l a true held at))
 
-pub returns : goal.returns
-returns c = λ s run at.
+pub returns-clause-stands : goal.returns-clause-stands
+returns-clause-stands c = λ s run at.
     let e = c.args.self.now in
     let who = c.args.who in
     let a = c.args.address in

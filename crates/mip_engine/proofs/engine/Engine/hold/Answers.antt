@@ -7,8 +7,8 @@ use Rattle.mip_engine.proofs.QuietLaws.{at_ok}
 use Rattle.mip_engine.proofs.ClaimLaws.{at_claimed}
 use Rattle.mip_engine.proofs.engine.Engine.hold.Goals as goal
 
-pub returns : goal.returns
-returns c = λ s run at.
+pub returns-clause-stands : goal.returns-clause-stands
+returns-clause-stands c = λ s run at.
     let x = Claimed c.args.who c.args.link c.args.address in
     at_ok c.note.result c.note.new.self (with_entry x c.take_free.new.self) s (note x run) c.note.ensures
     (subst (λ (y : EngineSeen). IsAt (with_entry x y) s (note x run)) (sym c.in_ok-take_free.ensures)

@@ -1,4 +1,4 @@
-use Rattle.std.proofs.Common.{◌≡◌, ℕ, List, length, ap, ◌∙◌, subst}
+use Rattle.std.proofs.Common.{◌≡◌, ℕ, List, length, refl, ap, ◌∙◌, subst}
 use Rattle.std.specs.Prelude.{Some, None, OnOk}
 use Rattle.mip_entries.specs.declared.entry.Entry.TheVariants.{Injected}
 use Rattle.mip_links.specs.Table.{Post}
@@ -8,11 +8,11 @@ use Rattle.mip_history.specs.Posting.{overheard}
 use Rattle.mip_engine.specs.Engines.{EngineSeen, with_entry, with_net}
 use Rattle.mip_engine.specs.Standing.{IsAt}
 use Rattle.mip_engine.proofs.QuietLaws.{at_is}
-use Rattle.mip_engine.proofs.PostingLaws.{at_posting, quiet_injected}
+use Rattle.mip_engine.proofs.PostingLaws.{at_posting, silent_injected}
 use Rattle.mip_engine.proofs.engine.Engine.inject.Goals as goal
 
-pub returns : goal.returns
-returns c = λ s run at.
+pub returns-clause-stands : goal.returns-clause-stands
+returns-clause-stands c = λ s run at.
     let e = c.args.self.now in
     let o = c.args.outsider in
     let packet = c.args.packet.now in
@@ -26,4 +26,4 @@ returns c = λ s run at.
     ∙ ap (λ (k : ℕ). with_entry (Injected k o c.args.link c.in_ok-packet.packet) (with_net (posted e.net post) e)) number
     ∙ ap (λ (b : List ℕ). with_entry (Injected (length run.posts) o c.args.link b) (with_net (posted e.net post) e)) c.in_ok-packet.ensures in
     subst (λ (k : ℕ). OnOk c.overhear.result (IsAt c.overhear.new.self s (overheard s c.args.link.0 None (Some o) k (entered post (note x run))))) number
-    (c.overhear.ensures s (entered post (note x run)) (at_is here (at_posting e s run post x (quiet_injected (length run.posts) o c.args.link packet) at)))
+    (c.overhear.ensures.stands s (entered post (note x run)) (at_is here (at_posting e s run post x (silent_injected (length run.posts) o c.args.link packet) refl refl at)))

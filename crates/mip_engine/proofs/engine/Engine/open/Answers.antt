@@ -31,15 +31,15 @@ settle_all-requires c =
       new = is_new c.in_ok-engine.engine s.seed s.start.0 (map (λ (p : Prefix). p.0) c.as_slice.result.now) c.outsiders_in.result c.in_ok-engine.ensures;
     }
 
-pub returns : goal.returns
-returns c =
+pub returns-clause-stands : goal.returns-clause-stands
+returns-clause-stands c =
     let s = setup_of (content c.args.schedule.now) in
     let ds = c.as_slice-ds.ensures in
     let hosts : s.hosts ≡ c.in_ok-hosts.hosts.items = sym (c.in_ok-hosts.ensures ∙ ap hosts_in ds) in
     let links : map (λ (p : Prefix). p.0) c.as_slice.result.now ≡ s.links =
     ap (λ (l : List Prefix). map (λ (p : Prefix). p.0) l) c.as_slice.ensures.value ∙ c.in_ok-links.ensures ∙ ap links_in ds in
     let outsiders : c.outsiders_in.result ≡ s.outsiders = c.outsiders_in.ensures ∙ ap outsiders_in ds in
-    c.in_ok-settle_all.ensures s hosts
+    c.in_ok-settle_all.ensures.stands s hosts
     (c.in_ok-engine.ensures
     ∙ ap (λ (l : List ℕ). new_engine s.seed s.start l c.outsiders_in.result) links
     ∙ ap (λ (n : ℕ). new_engine s.seed s.start s.links n) outsiders)

@@ -1,4 +1,4 @@
-use Rattle.std.proofs.Common.{◌≡◌, ℕ, List, Bool, length, ap, ◌∙◌, subst}
+use Rattle.std.proofs.Common.{◌≡◌, ℕ, List, Bool, length, refl, ap, ◌∙◌, subst}
 use Rattle.std.specs.Prelude.{None, is_some, OnOk}
 use Rattle.mip_entries.specs.declared.entry.Entry.TheVariants.{Sent}
 use Rattle.mip_links.specs.Table.{Post}
@@ -8,11 +8,11 @@ use Rattle.mip_history.specs.Posting.{overheard}
 use Rattle.mip_engine.specs.Engines.{EngineSeen, with_entry, with_net}
 use Rattle.mip_engine.specs.Standing.{IsAt}
 use Rattle.mip_engine.proofs.QuietLaws.{at_is}
-use Rattle.mip_engine.proofs.PostingLaws.{at_posting, quiet_sent}
+use Rattle.mip_engine.proofs.PostingLaws.{at_posting, silent_sent}
 use Rattle.mip_engine.proofs.engine.Engine.send.Goals as goal
 
-pub returns : goal.returns
-returns c = λ s run at.
+pub returns-clause-stands : goal.returns-clause-stands
+returns-clause-stands c = λ s run at.
     let e = c.args.self.now in
     let n = c.args.node in
     let packet = c.args.packet in
@@ -26,4 +26,4 @@ returns c = λ s run at.
     ∙ ap (λ (k : ℕ). with_entry (Sent k n c.is_some.result packet) (with_net (posted e.net post) e)) number
     ∙ ap (λ (b : Bool). with_entry (Sent (length run.posts) n b packet) (with_net (posted e.net post) e)) c.is_some.ensures in
     subst (λ (k : ℕ). OnOk c.overhear.result (IsAt c.overhear.new.self s (overheard s c.args.from.0 c.args.shield None k (entered post (note x run))))) number
-    (c.overhear.ensures s (entered post (note x run)) (at_is here (at_posting e s run post x (quiet_sent (length run.posts) n (is_some c.args.shield) packet) at)))
+    (c.overhear.ensures.stands s (entered post (note x run)) (at_is here (at_posting e s run post x (silent_sent (length run.posts) n (is_some c.args.shield) packet) refl refl at)))

@@ -17,18 +17,18 @@ share-requires-clause-free c =
     let can = can_share e.net host.address.0 _ c.in-Some.address c.requires.share c.in-Some.ensures in
     subst (λ (x : EngineSeen). IsFree x.net c.in-Some.address.0) (sym c.in_ok-join.ensures) (share_free e.net _ host.address c.in-Some.address can.0 can.1)
 
-pub returns-in-Some : goal.returns-in-Some
-returns-in-Some c = λ s hosts at.
+pub returns-in-Some-clause-stands : goal.returns-in-Some-clause-stands
+returns-in-Some-clause-stands c = λ s hosts at.
     let e = c.args.self.now in
     let host = c.args.host in
     let after = with_hosts (hosts ++ host ∷ []) s in
     let run = arrived e s hosts host c.requires.few at in
     let joined = at_is c.in_ok-join.ensures (at_joined e s hosts host c.requires.few at) in
     let whole = ap (λ (n : ℕ). note (claimed_entry s.links n c.in-Some.address) run) c.count-number.ensures.is ∙ settled_some e s hosts host c.requires.few at c.in-Some.address c.in-Some.ensures in
-    subst (λ (r : Run). OnOk c.share.result (IsAt c.share.new.self after r)) whole (c.share.ensures after run joined)
+    subst (λ (r : Run). OnOk c.share.result (IsAt c.share.new.self after r)) whole (c.share.ensures.stands after run joined)
 
-pub returns-in-None : goal.returns-in-None
-returns-in-None c = λ s hosts at.
+pub returns-in-None-clause-stands : goal.returns-in-None-clause-stands
+returns-in-None-clause-stands c = λ s hosts at.
     let e = c.args.self.now in
     let host = c.args.host in
     let joined = at_is c.in_ok-join.ensures (at_joined e s hosts host c.requires.few at) in

@@ -15,7 +15,7 @@ nothing_left [] e = refl
 nothing_left (x ∷ xs) e = absurd cc
 
 pub loop-host-init : goal.loop-host-init
-loop-host-init c = record { runs = λ s is. at_is is (at_new s); split = sym c.into_iter-host-iterator.ensures.into_iter_gives.0 }
+loop-host-init c = record { runs = λ s is. at_is is (at_new s); kept = refl; split = sym c.into_iter-host-iterator.ensures.into_iter_gives.0 }
 
 pub settle-requires-clause-few : goal.settle-requires-clause-few
 settle-requires-clause-few c =
@@ -54,12 +54,13 @@ loop-host-preserved c =
     let front = c.loop-host.yielded in
     let rest = c.next.new.self.rest.items in
     record {
-      runs = λ s is. c.in_ok-settle.ensures s front (c.loop-host.invariant.runs s is);
+      runs = λ s is. c.in_ok-settle.ensures.stands s front (c.loop-host.invariant.runs s is);
+      kept = c.in_ok-settle.ensures.kept ∙ c.loop-host.invariant.kept;
       split = c.loop-host.invariant.split ∙ ap (λ (l : List Host). front ++ l) c.in-Some.ensures.steps.0 ∙ sym (append_assoc front (c.in-Some.host ∷ []) rest);
     }
 
-pub returns : goal.returns
-returns c = λ s hosts is.
+pub returns-clause-stands : goal.returns-clause-stands
+returns-clause-stands c = λ s hosts is.
     let none : c.loop-host.host-iterator.rest.items ≡ [] = nothing_left c.loop-host.host-iterator.rest.items (omega (arith, c.loop-host.host-iterator.rest.ok.0, c.in-None.ensures.steps.0)) in
     let all : c.loop-host.yielded ≡ s.hosts = sym (append-nil c.loop-host.yielded) ∙ ap (λ (l : List Host). c.loop-host.yielded ++ l) (sym none) ∙ sym c.loop-host.invariant.split ∙ sym hosts in
     subst (λ (hs : List Host). IsAt c.loop-host.self (with_hosts hs s) (opened (with_hosts hs s))) all (c.loop-host.invariant.runs s is)

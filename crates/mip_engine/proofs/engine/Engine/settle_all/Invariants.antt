@@ -9,5 +9,6 @@ use Rattle.mip_engine.proofs.engine.Engine.settle_all.Given as goal
 abbrev pub invariant-loop-host : goal.invariant-loop-host
 invariant-loop-host l = record {
   runs : (s : Setup) → l.fn.self ≡ new_engine s.seed s.start s.links s.outsiders → IsAt l.self (with_hosts l.yielded s) (opened (with_hosts l.yielded s));
+  kept : l.self.told ≡ l.fn.self.told;
   split : l.fn.hosts.items ≡ l.yielded ++ l.host-iterator.rest.items;
 }

@@ -12,18 +12,18 @@ use Rattle.mip_engine.proofs.PostingLaws.{quiet_idle}
 use Rattle.mip_engine.proofs.ShowLaws.{shown_none, shown_some, at_shown}
 use Rattle.mip_engine.proofs.engine.Engine.show.Goals as goal
 
-pub returns-in-Some : goal.returns-in-Some
-returns-in-Some c = λ s run at.
+pub returns-in-Some-clause-stands : goal.returns-in-Some-clause-stands
+returns-in-Some-clause-stands c = λ s run at.
     let e = c.args.self.now in
     let n = c.args.node.0 in
     let found = map_some (λ (x : NodeSeen). station_of e.net.links x) (slice_get e.nodes n) _ (sym c.in-Some.ensures.found) in
     let rows = rows_of n found.0.role e.moment in
     at_ok_run c.show_rows.result c.show_rows.new.self s (notes rows run) (shown s n run)
-    (at_ok c.show_rows.result c.show_rows.new.self (with_entries rows e) s (notes rows run) (c.show_rows.ensures found.0 found.1) (at_shown e s run at n found.0.role))
+    (at_ok c.show_rows.result c.show_rows.new.self (with_entries rows e) s (notes rows run) (c.show_rows.ensures.shown found.0 found.1) (at_shown e s run at n found.0.role))
     (sym (shown_some e s run at n found.0 found.1))
 
-pub returns-in-None : goal.returns-in-None
-returns-in-None c = λ s run at.
+pub returns-in-None-clause-stands : goal.returns-in-None-clause-stands
+returns-in-None-clause-stands c = λ s run at.
     let e = c.args.self.now in
     let n = c.args.node.0 in
     let none = map_none (λ (x : NodeSeen). station_of e.net.links x) (slice_get e.nodes n) (sym c.in-None.ensures.found) in

@@ -1,0 +1,38 @@
+//! The text of a schedule made from a seed.
+
+ghost use Rattle.std.specs.Prelude.{◌≡◌, ◌≤◌, ◌++◌, IfOk, OnOk};
+ghost use Rattle.mip_schedule.specs.Spelling.{spelling};
+ghost use Rattle.mip_make.specs.Made.{events_text, made};
+
+use crate::drawn_line::put_drawn;
+use crate::draws::Draws;
+use crate::making::make;
+use mip_schedule::write_schedule;
+use mip_words::{Bytes, Memory};
+use std::alloc::Global;
+
+/// Appends the lines of so many events, each as it is drawn.
+fn put_events(out: &mut Bytes, seed: &[u8; 32], count: u32) -> Result<(), Memory>
+    requires { count ≤ 20000 }
+    ensures { OnOk result (out.new ≡ out.old ++ events_text seed.now count) }
+{
+    let mut draws = Draws::new(seed);
+    for number in 0..count {
+        let draw = draws.draw();
+        put_drawn(out, number, draw)?;
+    }
+    Ok(())
+}
+
+/// The text of the schedule of a seed, with so many events. No event stands in memory: the text before the events is that of a
+/// schedule with none.
+#[tactic(auto, using(crate::proofs::SpellingLaws::whole_text))]
+pub fn spell(alloc: Global, seed: &[u8; 32], count: u32) -> Result<Bytes, Memory>
+    requires { count ≤ 20000 }
+    ensures { IfOk result (λ text. text ≡ spelling (made seed.now count)) }
+{
+    let bare = make(alloc, seed, 0)?;
+    let mut text = write_schedule(alloc, &bare)?;
+    put_events(&mut text, seed, count)?;
+    Ok(text)
+}

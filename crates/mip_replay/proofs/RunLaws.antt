@@ -1,0 +1,61 @@
+-- What a run has told is a front of the permitted history.
+use Rattle.std.proofs.Common.{◌≡◌, ℕ, List, [], ◌∷◌, ◌++◌, length, take, refl, sym, ap, ◌∙◌, subst}
+use Rattle.mip_entries.specs.declared.entry.Entry.{Entry}
+use Rattle.mip_schedule.specs.Contents.{Content}
+use Rattle.mip_schedule.specs.declared.event.Event.{Event}
+use Rattle.mip_history.specs.Setup.{Setup, setup_of}
+use Rattle.mip_history.specs.Runs.{Run}
+use Rattle.mip_history.specs.Permitted.{permitted, run_of}
+use Rattle.mip_history.proofs.Fronts.{front_of_run}
+use Rattle.mip_engine.specs.Engines.{EngineSeen, all_told}
+use Rattle.mip_engine.specs.Standing.{IsAt}
+use Rattle.mip_replay.specs.Pieces.{RunSeen, IsRunOf}
+
+pub told_front : (r : RunSeen) (c : Content) → IsRunOf r c → (rest : List Entry) × (permitted c ≡ r.told ++ rest)
+told_front r c is = (is.rest, is.front)
+
+take_length : {X : Type 0} (xs : List X) → take (length xs) xs ≡ xs
+take_length [] = refl
+take_length (x ∷ xs) = ap (λ l. x ∷ l) (take_length xs)
+
+-- at the end all of it is told
+pub told_whole : (r : RunSeen) (c : Content) → IsRunOf r c → r.engine.told ≡ r.engine.past → r.next ≡ length c.events → r.told ≡ permitted c
+unfolding permitted
+told_whole r c is same next =
+    is.told ∙ same ∙ is.stands.history
+    ∙ ap (λ (n : ℕ). let run : Run = run_of (setup_of c) (take n c.events) in run.past) next
+    ∙ ap (λ (events : List Event). let run : Run = run_of (setup_of c) events in run.past) (take_length c.events)
+
+-- an engine that has given away what waited
+at_told : (e : EngineSeen) (s : Setup) (run : Run) → IsAt e s run → IsAt (all_told e) s run
+at_told e s run at = record {
+  seed = at.seed;
+  asked = at.asked;
+  hears = at.hears;
+  posts = at.posts;
+  flying = at.flying;
+  spots = at.spots;
+  firsts = at.firsts;
+  nodes = at.nodes;
+  count = at.count;
+  pasts = at.pasts;
+  agent_pasts = at.agent_pasts;
+  mobile_pasts = at.mobile_pasts;
+  outsiders = at.outsiders;
+  now = at.now;
+  history = at.history;
+  numbered = at.numbered;
+}
+
+pub given_away : (r : RunSeen) (c : Content) → IsRunOf r c → (after : EngineSeen) → after ≡ all_told r.engine → IsRunOf (record { engine = after; next = r.next; told = after.told }) c
+unfolding permitted
+given_away r c is after same =
+    let front = front_of_run (setup_of c) c.events r.next in
+    subst (λ (e : EngineSeen). IsRunOf (record { engine = e; next = r.next; told = e.told }) c) (sym same)
+    (record {
+      stands = at_told r.engine (setup_of c) (run_of (setup_of c) (take r.next c.events)) is.stands;
+      within = is.within;
+      told = refl;
+      rest = front.rest;
+      front = front.whole ∙ ap (λ (l : List Entry). l ++ front.rest) (sym is.stands.history);
+    })

@@ -1,0 +1,21 @@
+use Rattle.std.proofs.Common.{◌≡◌, ◌<◌, List, length, sym, ap, ◌∙◌, subst, arith}
+use Rattle.std.specs.Prelude.{get_or}
+use Rattle.mip_schedule.specs.Schedules.{content}
+use Rattle.mip_schedule.specs.declared.event.Event.{Event}
+use Rattle.mip_replay.specs.Ready.{IsReady}
+use Rattle.mip_replay.proofs.ReadyLaws.{finds_ready}
+use Rattle.mip_replay.proofs.run_in_pieces.Run.go_on.Goals as goal
+
+pub happen-requires : goal.happen-requires
+happen-requires c =
+    let e = c.loop-self.self-inside.engine in
+    let s = content c.args.schedule.now in
+    let i = c.loop-self.self-inside.next in
+    let event = c.index-events-self.result in
+    let are : c.as_slice-events.result.now ≡ s.events = c.as_slice-events.ensures in
+    let inside : i < length s.events = omega (arith, c.loop-self-test.true, ap (λ (l : List Event). length l) are) in
+    let is : event ≡ get_or s.events i event = c.index-events-self.is ∙ ap (λ (l : List Event). get_or l i event) are in
+    record {
+      ready = subst (λ (x : Event). IsReady e x) (sym is)
+          (finds_ready c.moments_rise.ensures.waited c.lives_are_restarts.ensures s c.lawful.ensures c.few.ensures i event inside e c.loop-self.invariant.stands.stands);
+    }
