@@ -19,3 +19,4 @@ pub use correspondent::Correspondent;
 pub use laws::what_was_read_has_a_routable_home;
 pub use mip_rules_correspondent::Verdict;
 pub use mip_verdict::judge;
+pub use part::is_for_part;

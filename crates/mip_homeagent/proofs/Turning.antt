@@ -14,7 +14,7 @@ use Rattle.mip_words.specs.declared.shield.Shield.{Shield}
 use Rattle.mip_ipv6.specs.Reading.{packet_of}
 use Rattle.mip_outside.specs.declared.claim.Claim.{Claim}
 use Rattle.mip_entries.specs.declared.answer.Answer.{Answer}
-use Rattle.mip_turns.specs.Turns.{noted_by}
+use Rattle.mip_turns.proofs.TurnLaws.{noted_all-is}
 use Rattle.mip_rules_agent.specs.Known.{Known}
 use Rattle.mip_rules_agent.specs.Calls as calls
 use Rattle.mip_rules_agent.specs.Calls.{Call}
@@ -49,9 +49,13 @@ ends_shown old new now c k claiming answers shows is = record {
 pub take_shown : (s : AgentSeen) (now number : ℕ) (shield : Option Shield) (bytes : List ℕ) (claim : Claim) (change : Option Change) (answers : List Answer)
     → Leads (receives (handing s.identity now (opened now s.known) number shield bytes claim) (packet_of bytes)) now (opened now s.known) [] answers change
     → Shows now (with_change change (opened now s.known)) (claims_with change) answers (turn_at s now (calls.Take number shield bytes claim))
-unfolding does takes noted_by after
+unfolding does takes after
 take_shown s now number shield bytes claim change answers leads =
-    leads (noted (Called (calls.Take number shield bytes claim)) (begun now s.known)) (shows_begun (calls.Take number shield bytes claim) now s.known)
+    let c : Call = calls.Take number shield bytes claim in
+    let t : Turn = noted (Called c) (begun now s.known) in
+    subst (λ (u : Turn). Shows now (with_change change (opened now s.known)) (claims_with change) answers (receives (handing s.identity u.now u.known number shield bytes claim) (packet_of bytes) t))
+    (sym (noted_all-is after (Called c ∷ []) (begun now s.known)))
+    (leads t (shows_begun c now s.known))
 
 -- each registered home is told of the prefix
 pub told : (own : Address) (k : Known) (now : ℕ) (rows : List HomeRow) (known : Known) (claiming : Claiming) (old : List Answer) (t : Turn) → Shows now known claiming old t
@@ -69,14 +73,18 @@ told own k now (r ∷ rows) known claiming old t s =
 pub plan_shown : (s : AgentSeen) (now valid preferred : ℕ)
     → Shows now (planned_at now (record { valid = valid; preferred = preferred; since = record { 0 = now } }) s.known) unclaimed
     (answers_told s.identity.own (left_of valid now now) (left_of preferred now now) (rows_at now s.known.homes)) (turn_at s now (calls.Plan valid preferred))
-unfolding does plans noted_by after
+unfolding does plans after
 plan_shown s now valid preferred =
-    let t : Turn = noted (Called (calls.Plan valid preferred)) (begun now s.known) in
-    told s.identity.own t.known now (rows_at now s.known.homes) t.known unclaimed [] t (shows_begun (calls.Plan valid preferred) now s.known)
+    let c : Call = calls.Plan valid preferred in
+    let t : Turn = noted (Called c) (begun now s.known) in
+    let k : Known = after s.known (record { at = now; step = Called c }) in
+    subst (λ (u : Turn). Shows now k unclaimed (answers_told s.identity.own (left_of valid now now) (left_of preferred now now) (rows_at now s.known.homes)) (advertises_all s.identity.own u.known u.now (rows_at u.now u.known.homes) t))
+    (sym (noted_all-is after (Called c ∷ []) (begun now s.known)))
+    (told s.identity.own k now (rows_at now s.known.homes) k unclaimed [] t (shows_begun c now s.known))
 
 -- an advertisement of another agent
 pub hear_shown : (s : AgentSeen) (now : ℕ) (agent : Address) (preference life : ℕ) → Shows now (heard_at now (calls.Hear agent preference life) s.known) unclaimed [] (turn_at s now (calls.Hear agent preference life))
-unfolding does noted_by after
+unfolding does after
 hear_shown s now agent preference life = shows_begun (calls.Hear agent preference life) now s.known
 
 -- ends that are due
@@ -94,10 +102,12 @@ released (e ∷ es) now known claiming old t s =
 
 pub tick_shown : (s : AgentSeen) (now : ℕ)
     → Shows now (given_up now (due_ends now s.known.ends) s.known) (claims_released (due_ends now s.known.ends)) (answers_released (due_ends now s.known.ends)) (turn_at s now calls.Tick)
-unfolding does ticks noted_by after
+unfolding does ticks after
 tick_shown s now =
     let t : Turn = noted (Called calls.Tick) (begun now s.known) in
     let due = due_ends now s.known.ends in
-    let gone = released due now t.known unclaimed [] t (shows_begun calls.Tick now s.known) in
+    let gone = released due now (after s.known (record { at = now; step = Called calls.Tick })) unclaimed [] t (shows_begun calls.Tick now s.known) in
     let known : Known = record { last = now; homes = homes_released due s.known.homes; ends = s.known.ends; agents = s.known.agents; plan = s.known.plan } in
-    shown Rang now known (claims_released due) (answers_released due) (answers_released due) (releases_all due t) (sym (append-nil (answers_released due))) gone
+    subst (λ (u : Turn). Shows now (given_up now due s.known) (claims_released due) (answers_released due) (noted Rang (releases_all (due_ends u.now u.known.ends) t)))
+    (sym (noted_all-is after (Called calls.Tick ∷ []) (begun now s.known)))
+    (shown Rang now known (claims_released due) (answers_released due) (answers_released due) (releases_all due t) (sym (append-nil (answers_released due))) gone)

@@ -1,5 +1,5 @@
 -- A turn by what a desk shows of it.
-use Rattle.std.proofs.Common.{◌≡◌, ℕ, List, refl, sym, ap, ◌∙◌, subst}
+use Rattle.std.proofs.Common.{◌≡◌, ℕ, List, sym, ap, ◌∙◌, subst}
 use Rattle.mip_rules_mobile.specs.Steps.{Step}
 use Rattle.mip_rules_mobile.specs.Known.{Known}
 use Rattle.mip_rules_mobile.specs.Turns.{Turn}

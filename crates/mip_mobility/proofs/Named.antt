@@ -5,7 +5,7 @@ use Rattle.std.proofs.lemmas.List.{drop-drop}
 use Rattle.mip_words.specs.Numbers.{number_at}
 use Rattle.mip_words.specs.Addresses.{address_at}
 use Rattle.mip_words.specs.declared.address.Address.{Address}
-use Rattle.mip_turns.specs.Turns.{noted_by}
+use Rattle.mip_turns.proofs.TurnLaws.{noted_all-is}
 use Rattle.mip_rules_mobile.specs.DiscoveryQuestions.{next_found}
 use Rattle.mip_rules_mobile.specs.Known.{Known}
 use Rattle.mip_rules_mobile.specs.Questions.{after}
@@ -36,8 +36,8 @@ addresses_next n bytes = let more : n + 1 ≡ suc n = omega arith in ap (λ (k :
 
 -- the first agent that was named is the next one to be tried
 found-first : (first : Address) (others : List Address) (t : Turn) → next_found (noted (Stops seeking) (noted (Finds (first ∷ others)) t)).known ≡ Some first
-unfolding after noted_by
-found-first first others t = refl
+unfolding after
+found-first first others t = ap (λ (u : Turn). next_found u.known) (noted_all-is after (Finds (first ∷ others) ∷ Stops seeking ∷ []) t)
 
 pub first-found : (first : Address) (others agents : List Address) (t : Turn) (k : Known) (o : Option Address) → agents ≡ first ∷ others
     → (noted (Stops seeking) (noted (Finds agents) t)).known ≡ k → o ≡ next_found k → o ≡ Some first

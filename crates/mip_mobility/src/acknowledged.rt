@@ -12,14 +12,11 @@ use mip_bulist::Work;
 use mip_constants::LIFETIME_UNIT;
 use mip_desk::{Desk, RESENDING};
 use mip_registration::{catch_up, turn_away};
-use mip_routability::{start_deletions, start_unbound};
+use mip_routability::{REFRESH_UNIT, start_deletions, start_unbound};
 use mip_rules_mobile::{HomeUpdate, Standing};
 use mip_updates::status::SEQUENCE_OUT_OF_WINDOW;
 use mip_words::{Address, Memory, Moment};
 use std::alloc::Global;
-
-/// For each unit of its lifetime, a registration is renewed so many milliseconds after its sending.
-const REFRESH_UNIT: u64 = 3000;
 
 /// At home only a deregistration is answered.
 fn is_answered_at(standing: Standing, update: &HomeUpdate) -> bool

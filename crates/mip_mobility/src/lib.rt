@@ -14,3 +14,4 @@ mod sending;
 mod tunnelled;
 
 pub use calls::{ask, attach, leave, refresh, restart, send, take, tick, tunnel};
+pub use moving::uses_prefix;

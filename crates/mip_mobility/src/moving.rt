@@ -95,7 +95,7 @@ pub fn detach(desk: &mut Desk, of_home: Claim) -> Result<(), Memory>
 }
 
 /// The prefix is the one that it uses.
-fn uses_prefix(standing: Standing, home: Address, prefix: Prefix) -> bool
+pub fn uses_prefix(standing: Standing, home: Address, prefix: Prefix) -> bool
     ensures { result ≡ uses_prefix standing home prefix.0 }
 {
     match standing {

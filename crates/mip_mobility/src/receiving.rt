@@ -1,4 +1,4 @@
-//! What a mobile does about a packet that it is handed (RFC 6275 sections 9.2, 9.3.1, 11.3.3 and 11.3.4).
+//! What a mobile does about a packet that it is handed (RFC 6275 sections 9.2, 9.3.1 and 11.3.3).
 
 ghost use Rattle.std.specs.Prelude.{◌≡◌, ◌≤◌, ◌<◌, ◌-◌, ◌^◌, List, ℕ, length, OnOk, IsTrue, false, Ok, option_map};
 ghost use Rattle.mip_words.specs.Numbers.{number_at};

@@ -1,11 +1,11 @@
-//! What a mobile does about a packet that passed the checks (RFC 6275 sections 11.3.3 to 11.3.6, 11.6.2 and 11.7.3).
+//! What a mobile does about a packet that passed the checks (RFC 6275 sections 11.3.3, 11.3.6, 11.6.2, 11.7.3 and 11.7.4).
 
 ghost use Rattle.std.specs.Prelude.{◌≡◌, ◌≤◌, length, OnOk, IsTrue, Some, option_map};
 ghost use Rattle.mip_ipv6.specs.Packet.{packet as tree, is_routable_if_any};
 ghost use Rattle.mip_mobhdr.specs.Said.{said};
 ghost use Rattle.mip_options.specs.Values.{values};
 ghost use Rattle.mip_says.specs.Says.{message_in};
-ghost use Rattle.mip_rules_correspondent.specs.Rules.{is_data, is_for_part};
+ghost use Rattle.mip_rules_correspondent.specs.Rules.{is_for_part};
 ghost use Rattle.mip_rules_mobile.specs.ReceivingRules.{then_meets, takes_for_part, takes_ack, by_proto, by_message, by_role};
 ghost use Rattle.mip_rules_mobile.specs.Turns.{Turn};
 ghost use Rattle.mip_desk.specs.Seen.{Shows};
@@ -14,7 +14,8 @@ use crate::ack::Ack;
 use crate::acknowledged::{answered, take_home_ack};
 use crate::handed::Handed;
 use crate::icmp::take_icmp;
-use mip_constants::protocol::{ICMPV6, IPV6, MOBILITY_HEADER, NO_NEXT_HEADER};
+use mip_constants::protocol::{ICMPV6, NO_NEXT_HEADER};
+use mip_correspondent::is_for_part;
 use mip_desk::{Desk, ask_part};
 use mip_ipv6::PacketRef;
 use mip_kept::Heard;
@@ -25,25 +26,6 @@ use mip_routability::{
 };
 use mip_words::{Memory, Why};
 use std::alloc::Global;
-
-/// Data is what is neither a tunnel, nor ICMPv6, nor nothing, nor a mobility message.
-fn is_data(proto: u8) -> bool
-    ensures { result ≡ is_data proto }
-{
-    proto != IPV6 && proto != ICMPV6 && proto != NO_NEXT_HEADER && proto != MOBILITY_HEADER
-}
-
-/// What is for the correspondent part.
-fn is_for_part(proto: u8, message: &Option<Message<'_>>) -> bool
-    ensures { result ≡ is_for_part proto (option_map said message.now) }
-{
-    match message {
-        None => is_data(proto),
-        Some(Message::HomeInit { .. } | Message::CareofInit { .. } | Message::Update { .. }) =>
-            true,
-        Some(_) => false,
-    }
-}
 
 /// After data from a tunnel its peer is met.
 fn then_meet(
@@ -79,7 +61,7 @@ fn take_for_part(
     then_meet(alloc, desk, meets, packet)
 }
 
-/// What is no packet for anybody: ICMPv6 that is not understood, nothing, a tunnel in a tunnel.
+/// What the correspondent part does not take: ICMPv6, a packet with no next header, and what is left, which has no taker.
 fn take_other(
     alloc: Global,
     desk: &mut Desk,

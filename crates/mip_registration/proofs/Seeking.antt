@@ -1,11 +1,11 @@
 -- A discovery that goes on, by what the desk knows.
-use Rattle.std.proofs.Common.{◌≡◌, ℕ, refl, sym, ap, ◌∙◌}
+use Rattle.std.proofs.Common.{◌≡◌, ℕ, [], ◌∷◌, refl, sym, ap, ◌∙◌}
 use Rattle.std.specs.Prelude.{◌*◌, ◌^◌, Option, Some, None, option_map, option_and_then}
 use Rattle.std.proofs.lemmas.List.{append-nil}
 use Rattle.mip_constants.specs.Constants.{initial_dhaad_timeout}
 use Rattle.mip_words.specs.declared.address.Address.{Address}
-use Rattle.mip_turns.specs.Turns.{noted_by}
 use Rattle.mip_turns.specs.Shows.{ShowsBy}
+use Rattle.mip_turns.proofs.TurnLaws.{noted-now, noted-known, noted_all-is}
 use Rattle.mip_turns.proofs.ShowLaws.{answers-noted}
 use Rattle.mip_discovery.specs.Retries.{DiscoverySeen, retried}
 use Rattle.mip_rules_mobile.specs.declared.standing.Standing.{Standing}
@@ -22,8 +22,8 @@ use Rattle.mip_desk.specs.Seen.{DeskSeen, Shows}
 
 -- what is left of the discovery after a retry
 pub discovery-again : (t : Turn) → (noted SeeksAgain t).known.discovery ≡ option_and_then (retried t.now) t.known.discovery
-unfolding after noted_by
-discovery-again t = refl
+unfolding after
+discovery-again t = ap (λ (k : Known). k.discovery) (noted-known after SeeksAgain t)
 
 again-for : (careof : Address) (identifier wait : ℕ) (t : Turn) (o : Option DiscoverySeen) → option_map (λ d. initial_dhaad_timeout * 2 ^ d.retries) o ≡ Some wait
     → noted (Waits seeking wait) (noted (Sends (Discovers (home_of t.known) careof identifier)) (noted SeeksAgain t)) ≡ seeks_again_from careof o identifier t
@@ -58,10 +58,10 @@ again-none careof identifier now t k l d known moment is again none =
 
 -- a discovery that is over is over, whether it was tried again before or not
 pub given-up : (d : DeskSeen) (t : Turn) → Shows d (noted GivesUp (noted SeeksAgain t)) → Shows d (noted GivesUp t)
-unfolding ShowsBy noted_by after
+unfolding ShowsBy after
 given-up d t s = (
-  s.0,
-  s.1,
+  noted-now after GivesUp t ∙ sym (ap (λ (u : Turn). u.now) (noted_all-is after (SeeksAgain ∷ GivesUp ∷ []) t)) ∙ s.0,
+  noted-known after GivesUp t ∙ sym (ap (λ (u : Turn). u.known) (noted_all-is after (SeeksAgain ∷ GivesUp ∷ []) t)) ∙ s.1,
   answers-noted answer_of after GivesUp t ∙ sym (answers-noted answer_of after SeeksAgain t)
       ∙ sym (append-nil _) ∙ sym (answers-noted answer_of after GivesUp (noted SeeksAgain t)) ∙ s.2,
 )

@@ -23,9 +23,9 @@ use mip_updates::status;
 use mip_words::{Address, Memory, Moment, Why};
 use std::alloc::Global;
 
-/// A binding is refreshed when three quarters of its lifetime have passed: for each unit of 4 s, after so many
-/// milliseconds.
-const REFRESH_UNIT: u64 = 3_000;
+/// A binding or a registration is refreshed when three quarters of its lifetime have passed: for each unit of 4 s, so
+/// many milliseconds after the sending of its update.
+pub const REFRESH_UNIT: u64 = 3_000;
 
 /// An acknowledgement of a peer.
 pub fn take_ack_of(

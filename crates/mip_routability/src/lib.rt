@@ -1,4 +1,4 @@
-//! Return routability of a mobile node (RFC 6275 sections 11.3.5, 11.3.6, 11.6 and 11.7), as rules over the desk of a call.
+//! Return routability of a mobile node (RFC 6275 sections 11.3.6, 11.6, 11.7 and 11.8), as rules over the desk of a call.
 #![tactic(auto)]
 
 mod acks;
@@ -10,7 +10,7 @@ mod rows;
 mod trials;
 mod waiting;
 
-pub use acks::take_ack_of;
+pub use acks::{REFRESH_UNIT, take_ack_of};
 pub use peer_ack::PeerAck;
 pub use peers::{meet, take_careof_test, take_error, take_home_test, take_refresh};
 pub use rows::{start_deletions, start_unbound};

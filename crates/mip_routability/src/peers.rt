@@ -1,4 +1,4 @@
-//! What a mobile does about the messages of a peer (RFC 6275 sections 11.3.5, 11.6.2 and 11.7.4).
+//! What a mobile does about the messages of a peer (RFC 6275 sections 11.3.6, 11.6.2 and 11.7.4).
 
 ghost use Rattle.std.specs.Prelude.{◌≡◌, ◌==◌, ◌&&◌, not, is_some, Ok, OnOk};
 ghost use Rattle.mip_rules_mobile.specs.HomeQuestions.{home_of, registration_of};
@@ -54,7 +54,8 @@ pub fn is_idle(desk: &Desk, row: u8) -> bool
     matches!(desk.trial(row), Some(Any::Idle(_)))
 }
 
-/// Away, a Home Test comes through the tunnel, and a Care-of Test does not.
+/// Away, a Home Test comes through the tunnel, and a Care-of Test does not, for which `through` is that it came outside.
+/// Elsewhere either way is right.
 fn comes_right(standing: Standing, through: bool) -> bool
     ensures { result ≡ comes_right standing through }
 {

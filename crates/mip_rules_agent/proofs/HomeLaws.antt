@@ -2,7 +2,6 @@
 use Rattle.std.proofs.Common.{◌≡◌, ℕ, ◌≤◌, List, [], ◌∷◌, Bool, true, false, ◌⊎◌, inl, inr, refl, sym, ap, ◌∙◌, subst, arith, nat_lt}
 use Rattle.std.specs.Prelude.{Option, Some, None, option_map, not, ◌&&◌, ◌||◌, ◌==◌, if◌then◌else◌}
 use Rattle.std.specs.List.{list_any}
-use Rattle.std.proofs.lemmas.List.Folds.{list_any-append}
 use Rattle.std.proofs.lemmas.Bool.{eqb-true}
 use Rattle.std.proofs.lemmas.Bool.Decides.{nat_tests}
 use Rattle.mip_words.specs.declared.address.Address.{Address}
@@ -10,7 +9,7 @@ use Rattle.mip_words.specs.declared.shield.Shield.{Shield}
 use Rattle.mip_lists.specs.Last.{or_else, last_where}
 use Rattle.mip_lists.proofs.LastLaws.{last_where-push, last_where-none}
 use Rattle.mip_outside.specs.declared.claim.Claim.{Claim}
-use Rattle.mip_turns.proofs.TurnLaws.{noted-known, noted-steps}
+use Rattle.mip_turns.proofs.TurnLaws.{noted-known, noted-steps, none-noted, none-parts}
 use Rattle.mip_updates.specs.Registrations.{home_of, registered_of}
 use Rattle.mip_rules_agent.specs.declared.home_binding.HomeBinding.{HomeBinding}
 use Rattle.mip_rules_agent.specs.declared.home_row.HomeRow.{HomeRow}
@@ -34,26 +33,6 @@ use Rattle.mip_rules_agent.proofs.Pasts.{row_after, served-after, served-same, b
 use Rattle.mip_rules_agent.proofs.VerdictLaws.{sound}
 use Rattle.mip_rules_agent.proofs.Taken.{taken_is}
 use Rattle.mip_rules_agent.proofs.Walks.{every-call}
-
-first_of : (a b : Bool) → (a || (b || false)) ≡ false → a ≡ false
-first_of true b e = absurd cc
-first_of false b e = refl
-
-second_of : (a b : Bool) → (a || (b || false)) ≡ false → b ≡ false
-second_of true b e = absurd cc
-second_of false true e = absurd cc
-second_of false false e = refl
-
--- of no step so far, and not of one more
-none-noted : (p : Step → Bool) (step : Step) (t : Turn) → list_any p t.steps ≡ false → p step ≡ false → list_any p (noted step t).steps ≡ false
-none-noted p step t before last =
-    ap (list_any p) (noted-steps after step t) ∙ list_any-append p t.steps (step ∷ [])
-    ∙ ap (λ (b : Bool). b || (p step || false)) before ∙ ap (λ (b : Bool). b || false) last
-
-none-parts : (p : Step → Bool) (step : Step) (t : Turn) → list_any p (noted step t).steps ≡ false → (list_any p t.steps ≡ false) × (p step ≡ false)
-none-parts p step t none =
-    let both = sym (list_any-append p t.steps (step ∷ [])) ∙ sym (ap (list_any p) (noted-steps after step t)) ∙ none in
-    (first_of (list_any p t.steps) (p step) both, second_of (list_any p t.steps) (p step) both)
 
 module _ (home : Address) where
   same-found : (change : Served → Served) → ((s : Served) → (change s).binding ≡ s.binding) → (same : Bool) (o : Option Served) → binding_in home (found_if change same o) ≡ binding_in home o
@@ -83,7 +62,7 @@ module _ (home : Address) where
 
   keeps-noted : (k : Known) (step : Step) (u : Turn) → Keeps k u → Keeps k (noted step u)
   keeps-noted k step u keeps none =
-      let parts = none-parts (is_registration_of home) step u none in
+      let parts = none-parts after (is_registration_of home) step u none in
       binding-noted step u parts.1 ∙ keeps parts.0
 
   pub keeps-call : (me : Identity) (k : Known) (now : ℕ) (c : Call) → Keeps k (turn_of me k now c)
@@ -128,21 +107,21 @@ Quiet t = list_any is_registration t.steps ≡ false
 
 released-quiet : (es : List Ending) (t : Turn) → Quiet t → Quiet (releases_all es t)
 released-quiet [] t none = none
-released-quiet (e ∷ es) t none = released-quiet es (noted (Releases e.home) t) (none-noted is_registration (Releases e.home) t none refl)
+released-quiet (e ∷ es) t none = released-quiet es (noted (Releases e.home) t) (none-noted after is_registration (Releases e.home) t none refl)
 
 advertised-quiet : (own : Address) (m : Known) (at : ℕ) (rows : List HomeRow) (t : Turn) → Quiet t → Quiet (advertises_all own m at rows t)
 unfolding advertises
 advertised-quiet own m at [] t none = none
-advertised-quiet own m at (r ∷ rows) t none = advertised-quiet own m at rows _ (none-noted is_registration _ t none refl)
+advertised-quiet own m at (r ∷ rows) t none = advertised-quiet own m at rows _ (none-noted after is_registration _ t none refl)
 
 called-quiet : (now : ℕ) (k : Known) (c : Call) → Quiet (noted (Called c) (begun now k))
-called-quiet now k c = none-noted is_registration (Called c) (begun now k) refl refl
+called-quiet now k c = none-noted after is_registration (Called c) (begun now k) refl refl
 
 pub tick-quiet : (me : Identity) (k : Known) (now : ℕ) → Quiet (turn_of me k now calls.Tick)
 unfolding does ticks
 tick-quiet me k now =
     let t : Turn = noted (Called calls.Tick) (begun now k) in
-    none-noted is_registration Rang (releases_all (due_ends t.now t.known.ends) t)
+    none-noted after is_registration Rang (releases_all (due_ends t.now t.known.ends) t)
     (released-quiet (due_ends t.now t.known.ends) t (called-quiet now k calls.Tick)) refl
 
 pub plan-quiet : (me : Identity) (k : Known) (now valid preferred : ℕ) → Quiet (turn_of me k now (calls.Plan valid preferred))

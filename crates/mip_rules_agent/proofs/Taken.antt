@@ -1,6 +1,6 @@
 -- What a home agent does about a packet that it is handed: it registers nothing, or at once the update in the packet, with
 -- the verdict Accept; where it registers nothing, its homes and their ends stay.
-use Rattle.std.proofs.Common.{◌≡◌, ℕ, List, ◌∷◌, Bool, true, false, ◌⊎◌, inl, inr, refl, sym, ap, length}
+use Rattle.std.proofs.Common.{◌≡◌, ℕ, List, [], ◌∷◌, Bool, true, false, ◌⊎◌, inl, inr, refl, sym, ap, subst, length}
 use Rattle.std.specs.Prelude.{Option, Some, None, Result, Ok, Err, not, ◌==◌, ◌||◌, ◌&&◌, nat_lt, if◌then◌else◌, is_some, slice_index}
 use Rattle.std.specs.List.{list_any}
 use Rattle.std.proofs.lemmas.Bool.{cond_both, eqb-true}
@@ -22,19 +22,24 @@ use Rattle.mip_mobhdr.specs.Reading.{type_in, options_in, refresh_of, home_init_
 use Rattle.mip_written.proofs.Messages.{message_reads}
 use Rattle.mip_tunnel.specs.Tunnel.{hop_of}
 use Rattle.mip_outside.specs.declared.claim.Claim.{Claim}
-use Rattle.mip_turns.specs.Turns.{noted_by}
+use Rattle.mip_entries.specs.Stamped.{stamped}
+use Rattle.mip_turns.specs.Turns.{known_by}
+use Rattle.mip_turns.proofs.TurnLaws.{noted_all, noted_all-is}
 use Rattle.mip_reception.specs.declared.refusal.Refusal.{Refusal}
 use Rattle.mip_reception.specs.declared.standing.Standing.{Standing}
 use Rattle.mip_reception.specs.Checks.{message_or_refusal, message_at, then_home, is_probe, is_update, checked}
 use Rattle.mip_reception.specs.Replies.{reply_packet}
 use Rattle.mip_updates.specs.declared.registration.Registration.{Registration}
 use Rattle.mip_updates.specs.Registrations.{registration, registration_said, home_of, deletes}
+use Rattle.mip_updates.specs.Acks.{ack_packet}
+use Rattle.mip_updates.specs.Statuses as statuses
 use Rattle.mip_rules_agent.specs.declared.identity.Identity.{Identity}
 use Rattle.mip_rules_agent.specs.declared.home_verdict.HomeVerdict.{HomeVerdict}
 use Rattle.mip_rules_agent.specs.declared.home_verdict.HomeVerdict.TheVariants.{Refuse, Deny, Accept}
 use Rattle.mip_rules_agent.specs.Known.{Known}
 use Rattle.mip_rules_agent.specs.Calls as calls
-use Rattle.mip_rules_agent.specs.Steps.{Step, Called, Sends, Registers, Drops, is_registration}
+use Rattle.mip_rules_agent.specs.Messages.{shield_to}
+use Rattle.mip_rules_agent.specs.Steps.{Step, Called, Sends, Registers, Claims, Releases, Denies, Drops, is_registration}
 use Rattle.mip_rules_agent.specs.Questions.{careof_at, holds, after}
 use Rattle.mip_rules_agent.specs.Turns.{Turn, begun, noted}
 use Rattle.mip_rules_agent.specs.Verdicts.{is_from, verdict, binding_for}
@@ -115,23 +120,34 @@ module _ (me : Identity) (k : Known) (now number : ℕ) (shield : Option Shield)
   abbrev pub Is : Turn → Type 0
   Is t = IsQuiet t ⊎ IsUpdateTaken me k now number shield bytes claim t.steps
 
+  abbrev call : Step
+  call = Called (calls.Take number shield bytes claim)
+
   abbrev given : Turn
-  given = noted (Called (calls.Take number shield bytes claim)) (begun now k)
+  given = noted call (begun now k)
 
   abbrev h : Handing
   h = handing me given.now given.known number shield bytes claim
+
+  -- the same, where what the call leaves known is written out
+  abbrev opened : Handing
+  opened = handing me now (after k (record { at = now; step = call })) number shield bytes claim
 
   quiet : (b : Bool) (x y : Turn) → Is x → Is y → Is (if b then x else y)
   quiet true x y first second = first
   quiet false x y first second = second
 
   dropped : (why : Why) → Is (noted (Drops number why) given)
-  unfolding noted_by after
-  dropped why = inl (refl, refl, refl)
+  unfolding after
+  dropped why = subst Is (sym (noted_all-is after (call ∷ Drops number why ∷ []) (begun now k))) (inl (refl, refl, refl))
 
   sent : (under : Option Shield) (packet : List ℕ) → Is (noted (Sends under packet) given)
-  unfolding noted_by after
-  sent under packet = inl (refl, refl, refl)
+  unfolding after
+  sent under packet = subst Is (sym (noted_all-is after (call ∷ Sends under packet ∷ []) (begun now k))) (inl (refl, refl, refl))
+
+  -- two steps that register nothing and leave homes and ends as they are
+  two : (first last : Step) → IsQuiet (record { now = now; known = known_by after k (stamped now (call ∷ first ∷ last ∷ [])); steps = call ∷ first ∷ last ∷ [] }) → Is (noted last (noted first given))
+  two first last quiet = subst Is (sym (noted_all-is after (call ∷ first ∷ last ∷ []) (begun now k))) (inl quiet)
 
   -- the update is accepted
   module _ (update : Registration) (is_in : IsUpdateIn bytes update) (home careof : Address) (sequence granted : ℕ)
@@ -139,10 +155,9 @@ module _ (me : Identity) (k : Known) (now number : ℕ) (shield : Option Shield)
     abbrev first : Turn
     first = noted (Registers number home (binding_for now careof sequence granted)) given
 
-    taken : (t : Turn) (rest : List Step)
-        → t.steps ≡ Called (calls.Take number shield bytes claim) ∷ Registers number home (binding_for now careof sequence granted) ∷ rest
-        → list_any is_registration rest ≡ false → Is t
-    taken t rest same none = inr (record {
+    -- behind it, steps that register nothing
+    taken : (rest : List Step) → list_any is_registration rest ≡ false → Is (noted_all after rest first)
+    taken rest none = inr (record {
       update = update;
       is_in = is_in;
       home = home;
@@ -151,35 +166,40 @@ module _ (me : Identity) (k : Known) (now number : ℕ) (shield : Option Shield)
       granted = granted;
       verdict_is = is;
       rest = rest;
-      steps_are = same;
+      steps_are = ap (λ (t : Turn). t.steps) (noted_all-is after (call ∷ Registers number home (binding_for now careof sequence granted) ∷ rest) (begun now k));
       none = none;
     })
+
+    abbrev tells : Step
+    tells = Sends (shield_to me.own (home_of update)) (ack_packet me.own update statuses.accepted update.sequence granted None)
 
     abbrev behind : (held ends ack : Bool) → Turn
     behind held ends ack = answers_if ack me update granted (claims_if held ends home first)
 
     answered : (held ends ack : Bool) → Is (behind held ends ack)
-    unfolding noted_by after acknowledges
-    answered true true true = taken (behind true true true) _ refl refl
-    answered true true false = taken (behind true true false) _ refl refl
-    answered true false true = taken (behind true false true) _ refl refl
-    answered true false false = taken (behind true false false) _ refl refl
-    answered false true true = taken (behind false true true) _ refl refl
-    answered false true false = taken (behind false true false) _ refl refl
-    answered false false true = taken (behind false false true) _ refl refl
-    answered false false false = taken (behind false false false) _ refl refl
+    unfolding acknowledges
+    answered true true true = taken (Releases home ∷ tells ∷ []) refl
+    answered true true false = taken (Releases home ∷ []) refl
+    answered true false true = taken (tells ∷ []) refl
+    answered true false false = taken [] refl
+    answered false true true = taken (tells ∷ []) refl
+    answered false true false = taken [] refl
+    answered false false true = taken (Claims home ∷ tells ∷ []) refl
+    answered false false false = taken (Claims home ∷ []) refl
 
   of_verdict : (r : Registration) → IsUpdateIn bytes r → (v : HomeVerdict)
-      → verdict (bench me k now r) shield (claim_with (holds k (home_of r)) claim) r ≡ v → Is (judged h r (holds k (home_of r)) v given)
-  unfolding noted_by after denies accepts acknowledges
-  of_verdict r is_in (Refuse why) is = inl (refl, refl, refl)
-  of_verdict r is_in (Deny status last) is = inl (refl, refl, refl)
+      → verdict (bench me k now r) shield (claim_with (holds k (home_of r)) claim) r ≡ v → Is (judged opened r (holds k (home_of r)) v given)
+  unfolding after denies accepts acknowledges
+  of_verdict r is_in (Refuse why) is = dropped why
+  of_verdict r is_in (Deny status last) is = two (Denies number status) (Sends (shield_to me.own (home_of r)) (ack_packet me.own r status last 0 None)) (refl, refl, refl)
   of_verdict r is_in (Accept home careof sequence granted) is =
       answered r is_in home careof sequence granted is (holds k (home_of r)) (deletes r) r.ack
 
   of_update : (r : Registration) → IsUpdateIn bytes r → Is (takes_update h r given)
-  unfolding takes_update noted_by after
-  of_update r is_in = of_verdict r is_in (verdict (bench me k now r) shield (claim_with (holds k (home_of r)) claim) r) refl
+  unfolding takes_update after
+  of_update r is_in =
+      subst (λ (u : Turn). Is (takes_update (handing me u.now u.known number shield bytes claim) r given)) (sym (noted_all-is after (call ∷ []) (begun now k)))
+      (of_verdict r is_in (verdict (bench me k now r) shield (claim_with (holds k (home_of r)) claim) r) refl)
 
   of_interception : (home careof : Address) (proto : ℕ) → Is (intercepts h home careof proto given)
   unfolding intercepts
@@ -237,9 +257,9 @@ module _ (me : Identity) (k : Known) (now number : ℕ) (shield : Option Shield)
   of_role p place (Some (Error s home options)) read is = dropped _
 
   of_reply : (reply : Option (List ℕ)) (why : Why) → Is (replies reply (noted (Drops number why) given))
-  unfolding noted_by after
-  of_reply None why = inl (refl, refl, refl)
-  of_reply (Some packet) why = inl (refl, refl, refl)
+  unfolding after
+  of_reply None why = dropped why
+  of_reply (Some packet) why = two (Drops number why) (Sends None packet) (refl, refl, refl)
 
   of_checks : (p : Packet) (place : ℕ) (r : Result (Option Said) Refusal) → packet_of bytes ≡ Ok p → ((m : Option Said) → r ≡ Ok m → message_at place p ≡ Ok m) → Is (after_checks h p r given)
   unfolding refuses

@@ -1,6 +1,6 @@
 -- What the correspondent part of a mobile does about a packet: it accepts nothing, or at once the update in the packet, with
 -- the verdict Accept.
-use Rattle.std.proofs.Common.{◌≡◌, ℕ, [], ◌∷◌, Bool, true, false, ◌⊎◌, inl, inr, refl, ap}
+use Rattle.std.proofs.Common.{◌≡◌, ℕ, List, [], ◌∷◌, Bool, true, false, ◌⊎◌, inl, inr, refl, sym, ap, subst}
 use Rattle.std.specs.Prelude.{Option, Some, None, Result, Ok, Err, ◌==◌, if◌then◌else◌}
 use Rattle.std.specs.Result.{result_ok}
 use Rattle.std.specs.List.{list_any}
@@ -11,7 +11,7 @@ use Rattle.mip_mobhdr.specs.Said.{Said}
 use Rattle.mip_mobhdr.specs.Said.Said.{Refresh, HomeInit, CareofInit, HomeTest, CareofTest, Update, Acknowledgement, Error}
 use Rattle.mip_mobhdr.specs.Reading.{message_of}
 use Rattle.mip_says.specs.Says.{message_in}
-use Rattle.mip_turns.specs.Turns.{noted_by}
+use Rattle.mip_turns.proofs.TurnLaws.{noted_all, noted_all-is}
 use Rattle.mip_updates.specs.declared.registration.Registration.{Registration}
 use Rattle.mip_updates.specs.Registrations.{registration, registration_said, registration_in}
 use Rattle.mip_updates.specs.Acks.{ack_packet}
@@ -20,14 +20,14 @@ use Rattle.mip_rules_correspondent.specs.declared.known.Known.{Known}
 use Rattle.mip_rules_correspondent.specs.declared.verdict.Verdict.{Verdict}
 use Rattle.mip_rules_correspondent.specs.declared.verdict.Verdict.TheVariants.{Refuse, Deny, Accept}
 use Rattle.mip_rules_correspondent.specs.Calls as calls
-use Rattle.mip_rules_correspondent.specs.Steps.{Called, Sends, Accepts, is_acceptance}
+use Rattle.mip_rules_correspondent.specs.Steps.{Step, Called, Sends, Accepts, is_acceptance}
 use Rattle.mip_rules_correspondent.specs.Questions.{after}
 use Rattle.mip_rules_correspondent.specs.Turns.{Turn, begun, noted}
 use Rattle.mip_rules_correspondent.specs.Verdicts.{verdict}
 use Rattle.mip_rules_correspondent.specs.Rules.{answers_home_init, answers_careof_init, bench, denies, accepts, judged, takes_update, hands_up, by_message}
 use Rattle.mip_rules_correspondent.specs.Doing.{parts, does, turn_of}
 use Rattle.mip_rules_correspondent.specs.Taken.{IsUpdateParted}
-use Rattle.mip_rules_correspondent.proofs.Taken.{update_read}
+use Rattle.mip_rules_correspondent.proofs.Taken.{update_read, AcceptsNone, none_called, none_more}
 
 -- a packet with a message has a mobility header, and the message is read from it
 parted_proto : (p : Packet) (m : Said) → message_in p ≡ Some m → p.head.proto ≡ 135
@@ -52,68 +52,71 @@ module _ (me : Identity) (k : Known) (now number : ℕ) (p : Packet) where
   abbrev given : Turn
   given = noted (Called (calls.Part number p)) (begun now k)
 
+  calm : (t : Turn) → AcceptsNone now t → Is t
+  calm t none = (none.0, inl none.1)
+
+  -- nothing behind the call, or one step or two, none of them an acceptance
+  still : Is given
+  still = calm given (none_called k now (calls.Part number p))
+
+  one : (step : Step) → is_acceptance step ≡ false → Is (noted step given)
+  one step silent = calm (noted step given) (none_more now step given silent (none_called k now (calls.Part number p)))
+
+  two : (first last : Step) → is_acceptance first ≡ false → is_acceptance last ≡ false → Is (noted last (noted first given))
+  two first last silent also = calm (noted last (noted first given)) (none_more now last (noted first given) also (none_more now first given silent (none_called k now (calls.Part number p))))
+
   of_verdict : (r : Registration) → p.head.proto ≡ 135 → registration_in p.head.source p.head.home p.body ≡ Some r
       → (v : Verdict) → verdict (bench me k now r) r p.body ≡ v → Is (judged me number r v given)
-  unfolding noted_by denies accepts
-  of_verdict r mobility asks (Refuse why) is = (refl, inl refl)
-  of_verdict r mobility asks (Deny status last kbm) is = (refl, inl refl)
+  unfolding denies accepts
+  of_verdict r mobility asks (Refuse why) is = one _ refl
+  of_verdict r mobility asks (Deny status last kbm) is = two _ _ refl refl
   of_verdict r mobility asks (Accept home a granted kbm) is = by r.ack
     where
       first : Turn
       first = noted (Accepts number home a) given
 
+      taken : (rest : List Step) → list_any is_acceptance rest ≡ false → Is (noted_all after rest first)
+      taken rest none = subst Is (sym (noted_all-is after (Called (calls.Part number p) ∷ Accepts number home a ∷ rest) (begun now k))) (
+        refl,
+        inr (record {
+          mobility = mobility;
+          registration = r;
+          asks = asks;
+          home = home;
+          accepted = a;
+          granted = granted;
+          kbm = kbm;
+          verdict_is = is;
+          rest = rest;
+          steps_are = refl;
+          none = none;
+        }),
+      )
+
       by : (ack : Bool) → Is (let t : Turn = (if ack then noted (Sends (ack_packet me.own r 0 r.sequence granted (Some kbm))) first else first) in t)
-      by true = (
-        refl,
-        inr (record {
-          mobility = mobility;
-          registration = r;
-          asks = asks;
-          home = home;
-          accepted = a;
-          granted = granted;
-          kbm = kbm;
-          verdict_is = is;
-          rest = Sends (ack_packet me.own r 0 r.sequence granted (Some kbm)) ∷ [];
-          steps_are = refl;
-          none = refl;
-        }),
-      )
-      by false = (
-        refl,
-        inr (record {
-          mobility = mobility;
-          registration = r;
-          asks = asks;
-          home = home;
-          accepted = a;
-          granted = granted;
-          kbm = kbm;
-          verdict_is = is;
-          rest = [];
-          steps_are = refl;
-          none = refl;
-        }),
-      )
+      by true = taken (Sends (ack_packet me.own r 0 r.sequence granted (Some kbm)) ∷ []) refl
+      by false = taken [] refl
 
   of_update : (r : Registration) → p.head.proto ≡ 135 → registration_in p.head.source p.head.home p.body ≡ Some r → Is (takes_update me number r p.body given)
-  unfolding takes_update noted_by after
-  of_update r mobility asks = of_verdict r mobility asks (verdict (bench me k now r) r p.body) refl
+  unfolding takes_update after
+  of_update r mobility asks =
+      subst (λ (u : Turn). Is (judged me number r (verdict (bench me u.known u.now r) r p.body) given)) (sym (noted_all-is after (Called (calls.Part number p) ∷ []) (begun now k)))
+      (of_verdict r mobility asks (verdict (bench me k now r) r p.body) refl)
 
   of_message : (m : Option Said) → message_in p ≡ m → Is (by_message me number p m given)
-  unfolding noted_by hands_up answers_home_init answers_careof_init
-  of_message None is = (refl, inl refl)
-  of_message (Some (HomeInit cookie options)) is = (refl, inl refl)
-  of_message (Some (CareofInit cookie options)) is = (refl, inl refl)
+  unfolding hands_up answers_home_init answers_careof_init
+  of_message None is = one _ refl
+  of_message (Some (HomeInit cookie options)) is = one _ refl
+  of_message (Some (CareofInit cookie options)) is = one _ refl
   of_message (Some (Update s a h l key t o)) is =
       of_update (registration p.head.source p.head.home s a h t o) (parted_proto p (Update s a h l key t o) is)
       (ap (registration_said p.head.source p.head.home)
       (update_read p.body s a h l key t o (source_of p.head) (destination_of p.head) (parted_read p (Update s a h l key t o) is)))
-  of_message (Some (Refresh options)) is = (refl, inl refl)
-  of_message (Some (HomeTest index cookie token options)) is = (refl, inl refl)
-  of_message (Some (CareofTest index cookie token options)) is = (refl, inl refl)
-  of_message (Some (Acknowledgement s key q t o)) is = (refl, inl refl)
-  of_message (Some (Error s home options)) is = (refl, inl refl)
+  of_message (Some (Refresh options)) is = still
+  of_message (Some (HomeTest index cookie token options)) is = still
+  of_message (Some (CareofTest index cookie token options)) is = still
+  of_message (Some (Acknowledgement s key q t o)) is = still
+  of_message (Some (Error s home options)) is = still
 
   pub parted_is : Is (turn_of me k now (calls.Part number p))
   unfolding does parts

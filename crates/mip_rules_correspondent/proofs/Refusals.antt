@@ -1,10 +1,9 @@
 -- A turn in which no update is accepted leaves the binding cache as it was.
-use Rattle.std.proofs.Common.{◌≡◌, ℕ, [], ◌∷◌, refl, sym, ap, ◌∙◌}
-use Rattle.std.specs.Prelude.{Bool, true, false, ◌||◌, if◌then◌else◌}
+use Rattle.std.proofs.Common.{◌≡◌, ℕ, refl, ap, ◌∙◌}
+use Rattle.std.specs.Prelude.{Bool, false, if◌then◌else◌}
 use Rattle.std.specs.List.{list_any}
-use Rattle.std.proofs.lemmas.List.Folds.{list_any-append}
 use Rattle.mip_bcache.specs.Seen.{CacheSeen, expired}
-use Rattle.mip_turns.proofs.TurnLaws.{noted-known, noted-steps}
+use Rattle.mip_turns.proofs.TurnLaws.{noted-known, none-parts}
 use Rattle.mip_rules_correspondent.specs.declared.identity.Identity.{Identity}
 use Rattle.mip_rules_correspondent.specs.declared.known.Known.{Known}
 use Rattle.mip_rules_correspondent.specs.Calls.{Call, is_tick}
@@ -17,15 +16,6 @@ use Rattle.mip_rules_correspondent.proofs.Walks.{every-handles}
 -- unless an update is accepted on the way from one turn to another, the cache is the same
 abbrev pub Keeps : Turn → Turn → Type 0
 Keeps t u = list_any is_acceptance u.steps ≡ false → u.known.cache ≡ t.known.cache
-
-first_of : (a b : Bool) → (a || (b || false)) ≡ false → a ≡ false
-first_of true b e = absurd cc
-first_of false b e = refl
-
-second_of : (a b : Bool) → (a || (b || false)) ≡ false → b ≡ false
-second_of true b e = absurd cc
-second_of false true e = absurd cc
-second_of false false e = refl
 
 -- only an acceptance and a call for the passing of time change the cache
 same-cache : (step : Step) (cache : CacheSeen) (at : ℕ) → is_call step ≡ false → is_acceptance step ≡ false → cache_after cache at step ≡ cache
@@ -44,10 +34,8 @@ cache-noted step t = ap (λ (k : Known). k.cache) (noted-known after step t)
 
 keeps-noted : (t : Turn) (step : Step) (u : Turn) → (is_acceptance step ≡ false → cache_after u.known.cache u.now step ≡ u.known.cache) → Keeps t u → Keeps t (noted step u)
 keeps-noted t step u same keeps none =
-    let both = sym (list_any-append is_acceptance u.steps (step ∷ [])) ∙ sym (ap (list_any is_acceptance) (noted-steps after step u)) ∙ none in
-    cache-noted step u
-    ∙ same (second_of (list_any is_acceptance u.steps) (is_acceptance step) both)
-    ∙ keeps (first_of (list_any is_acceptance u.steps) (is_acceptance step) both)
+    let both = none-parts after is_acceptance step u none in
+    cache-noted step u ∙ same both.1 ∙ keeps both.0
 
 -- of a call that is not for the passing of time
 pub keeps-call : (me : Identity) (c : Call) (t : Turn) → is_tick c ≡ false → Keeps t (does me c t)

@@ -1,6 +1,6 @@
 -- What a correspondent does about a packet that it is handed: it accepts nothing, or at once the update in the packet, with
 -- the verdict Accept.
-use Rattle.std.proofs.Common.{◌≡◌, ℕ, List, [], ◌∷◌, Bool, true, false, ◌⊎◌, inl, inr, refl, ap}
+use Rattle.std.proofs.Common.{◌≡◌, ℕ, List, [], ◌∷◌, Bool, true, false, ◌⊎◌, inl, inr, refl, sym, ap, ◌∙◌, subst}
 use Rattle.std.specs.Prelude.{Option, Some, None, Result, Ok, Err, not, ◌==◌, ◌||◌, ◌&&◌, if◌then◌else◌, is_some}
 use Rattle.std.specs.List.{list_any}
 use Rattle.std.proofs.lemmas.Bool.{cond_both, eqb-true}
@@ -23,7 +23,7 @@ use Rattle.mip_nonce.specs.Window.{number_named}
 use Rattle.mip_tokens.specs.Token.{is_authentic}
 use Rattle.mip_tokens.specs.declared.kbm.Kbm.{Kbm}
 use Rattle.mip_bcache.specs.declared.accepted.Accepted.{Accepted}
-use Rattle.mip_turns.specs.Turns.{noted_by}
+use Rattle.mip_turns.proofs.TurnLaws.{noted-now, noted_all, noted_all-is, none-noted}
 use Rattle.mip_reception.specs.declared.refusal.Refusal.{Refusal}
 use Rattle.mip_reception.specs.declared.standing.Standing.{Standing}
 use Rattle.mip_reception.specs.Checks.{message_or_refusal, message_at, then_home, is_probe, is_update, checked}
@@ -34,7 +34,8 @@ use Rattle.mip_updates.specs.declared.registration.Registration.{Registration}
 use Rattle.mip_rules_correspondent.specs.declared.verdict.Verdict.{Verdict}
 use Rattle.mip_rules_correspondent.specs.declared.verdict.Verdict.TheVariants.{Refuse, Deny, Accept}
 use Rattle.mip_rules_correspondent.specs.Calls as calls
-use Rattle.mip_rules_correspondent.specs.Steps.{Called, Sends, Accepts, Drops, is_acceptance}
+use Rattle.mip_rules_correspondent.specs.Calls.{Call}
+use Rattle.mip_rules_correspondent.specs.Steps.{Step, Called, Sends, Accepts, Drops, is_acceptance}
 use Rattle.mip_rules_correspondent.specs.Questions.{held_of, after}
 use Rattle.mip_rules_correspondent.specs.Turns.{Turn, begun, noted}
 use Rattle.mip_updates.specs.Registrations.{registration, registration_said, registration_in, home_of, careof_of, registered_of}
@@ -136,6 +137,16 @@ unfolding message_at
 message_proto place p m =
     cond_both (p.head.proto == 135) _ _ (λ (r : Result (Option Said) Refusal). r ≡ Ok (Some m) → p.head.proto ≡ 135) (λ is e. eqb-true p.head.proto 135 is) (λ other e. absurd cc)
 
+-- a call at a moment in which nothing is accepted so far: when it begins, and behind one more step
+abbrev pub AcceptsNone : ℕ → Turn → Type 0
+AcceptsNone now t = (t.now ≡ now) × (list_any is_acceptance t.steps ≡ false)
+
+pub none_called : (k : Known) (now : ℕ) (c : Call) → AcceptsNone now (noted (Called c) (begun now k))
+none_called k now c = (noted-now after (Called c) (begun now k), none-noted after is_acceptance (Called c) (begun now k) refl refl)
+
+pub none_more : (now : ℕ) (step : Step) (t : Turn) → is_acceptance step ≡ false → AcceptsNone now t → AcceptsNone now (noted step t)
+none_more now step t silent none = (noted-now after step t ∙ none.0, none-noted after is_acceptance step t none.1 silent)
+
 module _ (me : Identity) (k : Known) (now number : ℕ) (shield : Option Shield) (bytes : List ℕ) where
   abbrev Is : Turn → Type 0
   Is t = (t.now ≡ now) × ((list_any is_acceptance t.steps ≡ false) ⊎ IsUpdateTaken me k now number shield bytes t.steps)
@@ -143,85 +154,85 @@ module _ (me : Identity) (k : Known) (now number : ℕ) (shield : Option Shield)
   abbrev given : Turn
   given = noted (Called (calls.Take number shield bytes)) (begun now k)
 
+  calm : (t : Turn) → AcceptsNone now t → Is t
+  calm t none = (none.0, inl none.1)
+
+  -- nothing behind the call, or one step or two, none of them an acceptance
+  still : Is given
+  still = calm given (none_called k now (calls.Take number shield bytes))
+
+  one : (step : Step) → is_acceptance step ≡ false → Is (noted step given)
+  one step silent = calm (noted step given) (none_more now step given silent (none_called k now (calls.Take number shield bytes)))
+
+  two : (first last : Step) → is_acceptance first ≡ false → is_acceptance last ≡ false → Is (noted last (noted first given))
+  two first last silent also = calm (noted last (noted first given)) (none_more now last (noted first given) also (none_more now first given silent (none_called k now (calls.Take number shield bytes))))
+
   of_verdict : (p : Packet) (r : Registration) → packet_of bytes ≡ Ok p → p.head.proto ≡ 135 → registration_in p.head.source p.head.home p.body ≡ Some r
       → (v : Verdict) → verdict (bench me k now r) r p.body ≡ v → Is (judged me number r v given)
-  unfolding noted_by denies accepts
-  of_verdict p r read mobility asks (Refuse why) is = (refl, inl refl)
-  of_verdict p r read mobility asks (Deny status last kbm) is = (refl, inl refl)
+  unfolding denies accepts
+  of_verdict p r read mobility asks (Refuse why) is = one _ refl
+  of_verdict p r read mobility asks (Deny status last kbm) is = two _ _ refl refl
   of_verdict p r read mobility asks (Accept home a granted kbm) is = by r.ack
     where
       first : Turn
       first = noted (Accepts number home a) given
 
+      taken : (rest : List Step) → list_any is_acceptance rest ≡ false → Is (noted_all after rest first)
+      taken rest none = subst Is (sym (noted_all-is after (Called (calls.Take number shield bytes) ∷ Accepts number home a ∷ rest) (begun now k))) (
+        refl,
+        inr (record {
+          packet = p;
+          read = read;
+          mobility = mobility;
+          registration = r;
+          asks = asks;
+          home = home;
+          accepted = a;
+          granted = granted;
+          kbm = kbm;
+          verdict_is = is;
+          rest = rest;
+          steps_are = refl;
+          none = none;
+        }),
+      )
+
       by : (ack : Bool) → Is (let t : Turn = (if ack then noted (Sends (ack_packet me.own r 0 r.sequence granted (Some kbm))) first else first) in t)
-      by true = (
-        refl,
-        inr (record {
-          packet = p;
-          read = read;
-          mobility = mobility;
-          registration = r;
-          asks = asks;
-          home = home;
-          accepted = a;
-          granted = granted;
-          kbm = kbm;
-          verdict_is = is;
-          rest = Sends (ack_packet me.own r 0 r.sequence granted (Some kbm)) ∷ [];
-          steps_are = refl;
-          none = refl;
-        }),
-      )
-      by false = (
-        refl,
-        inr (record {
-          packet = p;
-          read = read;
-          mobility = mobility;
-          registration = r;
-          asks = asks;
-          home = home;
-          accepted = a;
-          granted = granted;
-          kbm = kbm;
-          verdict_is = is;
-          rest = [];
-          steps_are = refl;
-          none = refl;
-        }),
-      )
+      by true = taken (Sends (ack_packet me.own r 0 r.sequence granted (Some kbm)) ∷ []) refl
+      by false = taken [] refl
 
   of_update : (p : Packet) (r : Registration) → packet_of bytes ≡ Ok p → p.head.proto ≡ 135 → registration_in p.head.source p.head.home p.body ≡ Some r → Is (takes_update me number r p.body given)
-  unfolding takes_update noted_by after
-  of_update p r read mobility asks = of_verdict p r read mobility asks (verdict (bench me k now r) r p.body) refl
+  unfolding takes_update after
+  of_update p r read mobility asks =
+      subst (λ (u : Turn). Is (judged me number r (verdict (bench me u.known u.now r) r p.body) given)) (sym (noted_all-is after (Called (calls.Take number shield bytes) ∷ []) (begun now k)))
+      (of_verdict p r read mobility asks (verdict (bench me k now r) r p.body) refl)
 
   of_message : (p : Packet) (place : ℕ) (m : Option Said) → packet_of bytes ≡ Ok p → message_at place p ≡ Ok m → Is (by_message me number p m given)
-  unfolding noted_by hands_up answers_home_init answers_careof_init
-  of_message p place None read is = (refl, inl refl)
-  of_message p place (Some (HomeInit cookie options)) read is = (refl, inl refl)
-  of_message p place (Some (CareofInit cookie options)) read is = (refl, inl refl)
+  unfolding hands_up answers_home_init answers_careof_init
+  of_message p place None read is = one _ refl
+  of_message p place (Some (HomeInit cookie options)) read is = one _ refl
+  of_message p place (Some (CareofInit cookie options)) read is = one _ refl
   of_message p place (Some (Update s a h l key t o)) read is =
       of_update p (registration p.head.source p.head.home s a h t o) read (message_proto place p (Update s a h l key t o) is)
       (ap (registration_said p.head.source p.head.home)
       (update_read p.body s a h l key t o (source_of p.head) (destination_of p.head) (message_read place p (Update s a h l key t o) is)))
-  of_message p place (Some (Refresh options)) read is = (refl, inl refl)
-  of_message p place (Some (HomeTest index cookie token options)) read is = (refl, inl refl)
-  of_message p place (Some (CareofTest index cookie token options)) read is = (refl, inl refl)
-  of_message p place (Some (Acknowledgement s key q t o)) read is = (refl, inl refl)
-  of_message p place (Some (Error s home options)) read is = (refl, inl refl)
+  of_message p place (Some (Refresh options)) read is = still
+  of_message p place (Some (HomeTest index cookie token options)) read is = still
+  of_message p place (Some (CareofTest index cookie token options)) read is = still
+  of_message p place (Some (Acknowledgement s key q t o)) read is = still
+  of_message p place (Some (Error s home options)) read is = still
 
   of_role : (p : Packet) (place : ℕ) (m : Option Said) → packet_of bytes ≡ Ok p → message_at place p ≡ Ok m → Is (by_role me number p m given)
-  unfolding by_role noted_by
+  unfolding by_role
   of_role p place m read is = by (is_for_part p.head.proto m)
     where
       by : (mine : Bool) → Is (let t : Turn = (if mine then by_message me number p m given else noted (Drops number (other_why p.head.proto)) given) in t)
       by true = of_message p place m read is
-      by false = (refl, inl refl)
+      by false = one _ refl
 
   of_reply : (reply : Option (List ℕ)) (why : Why) → Is (replies reply (noted (Drops number why) given))
-  unfolding noted_by
-  of_reply None why = (refl, inl refl)
-  of_reply (Some packet) why = (refl, inl refl)
+  of_reply None why = one _ refl
+  of_reply (Some packet) why = two _ _ refl refl
 
   of_checks : (p : Packet) (place : ℕ) (r : Result (Option Said) Refusal) → packet_of bytes ≡ Ok p → ((m : Option Said) → r ≡ Ok m → message_at place p ≡ Ok m) → Is (after_checks me number bytes p r given)
   unfolding refuses
@@ -229,8 +240,7 @@ module _ (me : Identity) (k : Known) (now number : ℕ) (shield : Option Shield)
   of_checks p place (Ok m) read is = of_role p place m read (is m refl)
 
   of_packet : (r : Result Packet NotPacket) → packet_of bytes ≡ r → Is (receives me number bytes r given)
-  unfolding noted_by
-  of_packet (Err fault) read = (refl, inl refl)
+  of_packet (Err fault) read = one _ refl
   of_packet (Ok p) read =
       let standing = standing_of me given.known given.now p.head in
       let place = place_in bytes p in
@@ -240,22 +250,21 @@ module _ (me : Identity) (k : Known) (now number : ℕ) (shield : Option Shield)
   unfolding does takes
   taken_is = of_packet (packet_of bytes) refl
 
--- a call at a moment in which nothing is accepted
-abbrev AcceptsNone : ℕ → Turn → Type 0
-AcceptsNone now t = (t.now ≡ now) × (list_any is_acceptance t.steps ≡ false)
-
 pub refreshed_none : (me : Identity) (k : Known) (now : ℕ) (home : Address) → AcceptsNone now (turn_of me k now (calls.Refresh home))
-unfolding does refreshes noted_by
-refreshed_none me k now home = by (held_of (noted (Called (calls.Refresh home)) (begun now k)).known now home)
+unfolding does refreshes
+refreshed_none me k now home = by (held_of first.known first.now home)
   where
-    by : (held : Option Address) → AcceptsNone now (request_refresh me home held (noted (Called (calls.Refresh home)) (begun now k)))
-    by None = (refl, refl)
-    by (Some careof) = (refl, refl)
+    first : Turn
+    first = noted (Called (calls.Refresh home)) (begun now k)
+
+    by : (held : Option Address) → AcceptsNone now (request_refresh me home held first)
+    by None = none_more now _ first refl (none_called k now (calls.Refresh home))
+    by (Some careof) = none_more now _ first refl (none_called k now (calls.Refresh home))
 
 pub sent_none : (me : Identity) (k : Known) (now : ℕ) (to : Address) (proto : ℕ) (payload : List ℕ) → AcceptsNone now (turn_of me k now (calls.Send to proto payload))
-unfolding does transmits noted_by
-sent_none me k now to proto payload = (refl, refl)
+unfolding does transmits
+sent_none me k now to proto payload = none_more now _ _ refl (none_called k now (calls.Send to proto payload))
 
 pub ticked_none : (me : Identity) (k : Known) (now : ℕ) → AcceptsNone now (turn_of me k now calls.Tick)
-unfolding does noted_by
-ticked_none me k now = (refl, refl)
+unfolding does
+ticked_none me k now = none_called k now calls.Tick

@@ -1,21 +1,19 @@
 -- A packet that is dropped, and an update that is denied, change nothing but the moments of the last calls.
 use Rattle.std.proofs.Common.{◌≡◌, ℕ, List, [], ◌∷◌, Bool, true, false, ◌⊎◌, inl, inr, refl, sym, ap, ◌∙◌, subst}
-use Rattle.std.specs.Prelude.{Option, Some, None, ◌||◌, ◌&&◌, is_none, if◌then◌else◌}
+use Rattle.std.specs.Prelude.{Option, Some, None, ◌&&◌, is_none, if◌then◌else◌}
 use Rattle.std.specs.List.{list_any, AllByRecursion}
-use Rattle.std.proofs.lemmas.List.Folds.{list_any-append}
 use Rattle.mip_words.specs.declared.address.Address.{Address}
 use Rattle.mip_words.specs.declared.shield.Shield.{Shield}
 use Rattle.mip_words.specs.declared.why.Why.{Why}
 use Rattle.mip_words.specs.declared.why.Why.TheVariants as whys
-use Rattle.mip_ipv6.specs.Packet.{Packet, source_of}
+use Rattle.mip_ipv6.specs.Packet.{Packet, source_of, destination_of}
 use Rattle.mip_mobhdr.specs.Said.{Said}
 use Rattle.mip_mobhdr.specs.Said.Said.{Refresh, HomeInit, CareofInit, HomeTest, CareofTest, Update, Acknowledgement, Error}
 use Rattle.mip_says.specs.Says.{message_in}
 use Rattle.mip_entries.specs.declared.answer.Answer.{Answer}
 use Rattle.mip_entries.specs.declared.answer.Answer.TheVariants.{Send, Note}
 use Rattle.mip_entries.specs.declared.entry.Entry.{Entry}
-use Rattle.mip_turns.specs.Turns.{noted_by}
-use Rattle.mip_turns.proofs.TurnLaws.{noted-known, noted-steps}
+use Rattle.mip_turns.proofs.TurnLaws.{noted-known, noted_all, noted_all-is, none-noted}
 use Rattle.mip_reception.specs.declared.reply.Reply.{Reply}
 use Rattle.mip_reception.specs.declared.refusal.Refusal.{Refusal}
 use Rattle.mip_reception.specs.Replies.{reply_packet}
@@ -30,6 +28,7 @@ use Rattle.mip_rules_correspondent.specs.Verdicts.{verdict}
 use Rattle.mip_bcache.specs.Seen.{CacheSeen}
 use Rattle.mip_rules_correspondent.specs.Seen.{called}
 use Rattle.mip_rules_correspondent.specs.Steps as part_steps
+use Rattle.mip_rules_correspondent.specs.Questions as part_questions
 use Rattle.mip_rules_correspondent.specs.Turns as part_turns
 use Rattle.mip_rules_correspondent.specs.Rules as part_rules
 use Rattle.mip_rules_correspondent.specs.Doing as part_doing
@@ -61,11 +60,7 @@ abbrev IsQuiet : Turn → Type 0
 IsQuiet t = list_any is_refusal t.steps ≡ false
 
 quiet-noted : (step : Step) (t : Turn) → is_refusal step ≡ false → IsQuiet t → IsQuiet (noted step t)
-quiet-noted step t is quiet =
-    ap (list_any is_refusal) (noted-steps after step t)
-    ∙ list_any-append is_refusal t.steps (step ∷ [])
-    ∙ ap (λ (b : Bool). b || (is_refusal step || false)) quiet
-    ∙ ap (λ (b : Bool). b || false) is
+quiet-noted step t is quiet = none-noted after is_refusal step t quiet is
 
 steady-quiet : (step : Step) → kind_of step ≡ Steady → is_refusal step ≡ false
 steady-quiet (Called call) is = absurd cc
@@ -214,8 +209,11 @@ passes-quiet (Note entry ∷ answers) all t quiet = passes-quiet answers all.1 (
 -- what the correspondent part does about a packet that is for it: it accepts an update, or its cache stays; where it accepts
 -- one, and where it hands up data, it refuses nothing
 module _ (me : Identity) (k : kept.Known) (now number : ℕ) (packet : Packet) where
+  abbrev call : part_steps.Step
+  call = part_steps.Called (parts.Part number packet)
+
   abbrev given : part_turns.Turn
-  given = part_turns.noted (part_steps.Called (parts.Part number packet)) (part_turns.begun now k)
+  given = part_turns.noted call (part_turns.begun now k)
 
   abbrev AnswersOf : part_turns.Turn → Type 0
   AnswersOf u = AllByRecursion AnswersQuietly (part_steps.answers_of u.steps)
@@ -223,24 +221,36 @@ module _ (me : Identity) (k : kept.Known) (now number : ℕ) (packet : Packet) w
   abbrev Decides : part_turns.Turn → Type 0
   Decides u = (list_any part_steps.is_acceptance u.steps ≡ false) ⊎ AnswersOf u
 
+  -- steps behind the call, none of them an acceptance
+  none : (steps : List part_steps.Step) → list_any part_steps.is_acceptance steps ≡ false → Decides (noted_all part_questions.after steps given)
+  none steps calm = inl (ap (λ (u : part_turns.Turn). list_any part_steps.is_acceptance u.steps) (noted_all-is part_questions.after (call ∷ steps) (part_turns.begun now k)) ∙ calm)
+
+  -- steps behind the call, whose answers tell of no refusal
+  told : (steps : List part_steps.Step) → AllByRecursion AnswersQuietly (part_steps.answers_of steps) → AnswersOf (noted_all part_questions.after steps given)
+  told steps all = subst AnswersOf (sym (noted_all-is part_questions.after (call ∷ steps) (part_turns.begun now k))) all
+
   of-verdict : (r : Registration) (v : Verdict) → Decides (part_rules.judged me number r v given)
-  unfolding noted_by part_rules.denies part_rules.accepts
-  of-verdict r (Refuse why) = inl refl
-  of-verdict r (Deny status last kbm) = inl refl
+  unfolding part_rules.denies part_rules.accepts
+  of-verdict r (Refuse why) = none (part_steps.Drops number why ∷ []) refl
+  of-verdict r (Deny status last kbm) = none (part_steps.Denies number status ∷ part_steps.Sends (ack_packet me.own r status last 0 kbm) ∷ []) refl
   of-verdict r (Accept home accepted granted kbm) = by r.ack
     where
       first : part_turns.Turn
       first = part_turns.noted (part_steps.Accepts number home accepted) given
 
       by : (ack : Bool) → Decides (let u : part_turns.Turn = (if ack then part_turns.noted (part_steps.Sends (ack_packet me.own r 0 r.sequence granted (Some kbm))) first else first) in u)
-      by true = inr (refl, (tt, tt))
-      by false = inr (refl, tt)
+      by true = inr (told (part_steps.Accepts number home accepted ∷ part_steps.Sends (ack_packet me.own r 0 r.sequence granted (Some kbm)) ∷ []) (refl, (tt, tt)))
+      by false = inr (told (part_steps.Accepts number home accepted ∷ []) (refl, tt))
+
+  -- data is handed up
+  abbrev up : part_steps.Step
+  up = part_steps.HandsUp number (source_of packet.head) (destination_of packet.head) packet.head.proto packet.body
 
   of-message : (message : Option Said) → is_for_part packet.head.proto message ≡ true → Decides (part_rules.by_message me number packet message given)
-  unfolding noted_by part_rules.hands_up part_rules.answers_home_init part_rules.answers_careof_init part_rules.takes_update
-  of-message None is = inl refl
-  of-message (Some (HomeInit cookie options)) is = inl refl
-  of-message (Some (CareofInit cookie options)) is = inl refl
+  unfolding part_rules.hands_up part_rules.answers_home_init part_rules.answers_careof_init part_rules.takes_update
+  of-message None is = none (up ∷ []) refl
+  of-message (Some (HomeInit cookie options)) is = none (part_steps.Sends (part_rules.home_test me given.now packet.head.source cookie) ∷ []) refl
+  of-message (Some (CareofInit cookie options)) is = none (part_steps.Sends (part_rules.careof_test me given.now packet.head.source cookie) ∷ []) refl
   of-message (Some (Update s a h l k' t' o)) is =
       let r = registration packet.head.source packet.head.home s a h t' o in
       of-verdict r (verdict (part_rules.bench me given.known given.now r) r packet.body)
@@ -254,10 +264,10 @@ module _ (me : Identity) (k : kept.Known) (now number : ℕ) (packet : Packet) w
   unfolding part_doing.does part_doing.parts
   decides message read mine = subst (λ (o : Option Said). Decides (part_rules.by_message me number packet o given)) (sym read) (of-message message mine)
 
-  -- data is handed up, and nothing is refused
+  -- where data is handed up, nothing is refused
   data-quiet : message_in packet ≡ None → AnswersOf (part_doing.turn_of me k now (parts.Part number packet))
-  unfolding noted_by part_doing.does part_doing.parts part_rules.hands_up
-  data-quiet read = subst (λ (o : Option Said). AnswersOf (part_rules.by_message me number packet o given)) (sym read) (refl, tt)
+  unfolding part_doing.does part_doing.parts part_rules.hands_up
+  data-quiet read = subst (λ (o : Option Said). AnswersOf (part_rules.by_message me number packet o given)) (sym read) (told (up ∷ []) (refl, tt))
 
 -- the tables with this cache
 abbrev with_cache : Known → CacheSeen → Known

@@ -1,9 +1,9 @@
-use Rattle.std.proofs.Common.{sym, ap, ◌∙◌, List, ◌∷◌, subst, OnOk}
+use Rattle.std.proofs.Common.{sym, ◌∙◌, List, subst, OnOk}
 use Rattle.mip_words.specs.declared.address.Address.{Address}
 use Rattle.mip_bulist.specs.declared.work.Work.TheVariants.{Own}
 use Rattle.mip_rules_mobile.specs.HomeRules.{registers}
 use Rattle.mip_rules_mobile.specs.Steps.{Finds, Chooses, Stops}
-use Rattle.mip_rules_mobile.specs.Turns.{Turn, noted}
+use Rattle.mip_rules_mobile.specs.Turns.{noted}
 use Rattle.mip_desk.specs.Seen.{Shows}
 use Rattle.mip_desk.proofs.Noted.{shows-known}
 use Rattle.mip_mobility.proofs.Named.{first-found, same_first, not-none}

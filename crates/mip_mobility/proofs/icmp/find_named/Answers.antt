@@ -3,7 +3,6 @@ use Rattle.mip_words.specs.declared.address.Address.{Address}
 use Rattle.mip_rules_mobile.specs.declared.standing.Standing.{Standing}
 use Rattle.mip_mobility.proofs.Desks.{turn_at, from-desk}
 use Rattle.mip_desk.specs.Seen.{Shows}
-use Rattle.mip_rules_mobile.specs.Turns.{Turn, noted}
 use Rattle.mip_rules_mobile.specs.IcmpRules.{finds, agents_named}
 use Rattle.mip_mobility.proofs.icmp.find_named.Goals as goal
 

@@ -2,7 +2,6 @@ use Rattle.std.proofs.Common.{sym, ap, ◌∙◌, subst, OnOk}
 use Rattle.std.specs.Prelude.{Bool, if◌then◌else◌}
 use Rattle.mip_words.specs.declared.address.Address.{Address}
 use Rattle.mip_rules_mobile.specs.declared.standing.Standing.{Standing}
-use Rattle.mip_rules_mobile.specs.HomeQuestions.{home_of}
 use Rattle.mip_rules_mobile.specs.MovingRules.{uses_prefix, leaves_first, arrives, attaches}
 use Rattle.mip_mobility.proofs.Desks.{turn_at, from-desk}
 use Rattle.mip_desk.specs.Seen.{Shows}

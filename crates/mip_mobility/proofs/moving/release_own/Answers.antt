@@ -2,7 +2,7 @@ use Rattle.std.proofs.Common.{subst, OnOk}
 use Rattle.mip_words.specs.declared.address.Address.{Address}
 use Rattle.mip_mobility.proofs.Desks.{turn_at, from-desk}
 use Rattle.mip_desk.specs.Seen.{Shows}
-use Rattle.mip_rules_mobile.specs.Turns.{Turn, noted}
+use Rattle.mip_rules_mobile.specs.Turns.{noted}
 use Rattle.mip_rules_mobile.specs.HomeQuestions.{home_of}
 use Rattle.mip_rules_mobile.specs.Steps.{Releases}
 use Rattle.mip_mobility.proofs.moving.release_own.Goals as goal

@@ -2,7 +2,7 @@ use Rattle.std.proofs.Common.{subst, OnOk}
 use Rattle.mip_rules_mobile.specs.declared.standing.Standing.{Standing}
 use Rattle.mip_mobility.proofs.Desks.{turn_at, from-desk}
 use Rattle.mip_desk.specs.Seen.{Shows}
-use Rattle.mip_rules_mobile.specs.Turns.{Turn, noted}
+use Rattle.mip_rules_mobile.specs.Turns.{noted}
 use Rattle.mip_rules_mobile.specs.Steps.{Restarts}
 use Rattle.mip_rules_mobile.specs.MovingRules.{registers_if_away, restarts}
 use Rattle.mip_mobility.proofs.moving.restart.Goals as goal

@@ -3,7 +3,6 @@ use Rattle.std.specs.Prelude.{Bool, Option}
 use Rattle.mip_words.specs.declared.address.Address.{Address}
 use Rattle.mip_mobility.proofs.Desks.{turn_at, from-desk}
 use Rattle.mip_desk.specs.Seen.{Shows}
-use Rattle.mip_rules_mobile.specs.Turns.{Turn, noted}
 use Rattle.mip_rules_mobile.specs.RowQuestions.{peer_of_row}
 use Rattle.mip_rules_mobile.specs.MovingRules.{unbinds_with, unbinds}
 use Rattle.mip_mobility.proofs.moving.unbind.Goals as goal

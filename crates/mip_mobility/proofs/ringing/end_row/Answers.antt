@@ -3,7 +3,6 @@ use Rattle.std.specs.Prelude.{Option}
 use Rattle.mip_words.specs.declared.address.Address.{Address}
 use Rattle.mip_mobility.proofs.Desks.{turn_at, from-desk}
 use Rattle.mip_desk.specs.Seen.{Shows}
-use Rattle.mip_rules_mobile.specs.Turns.{Turn, noted}
 use Rattle.mip_rules_mobile.specs.RingingRules.{ends_at, ends_row}
 use Rattle.mip_mobility.proofs.ringing.end_row.Goals as goal
 

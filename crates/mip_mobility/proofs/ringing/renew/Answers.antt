@@ -2,7 +2,6 @@ use Rattle.std.proofs.Common.{subst, OnOk}
 use Rattle.mip_rules_mobile.specs.declared.standing.Standing.{Standing}
 use Rattle.mip_mobility.proofs.Desks.{turn_at, from-desk}
 use Rattle.mip_desk.specs.Seen.{Shows}
-use Rattle.mip_rules_mobile.specs.Turns.{Turn, noted}
 use Rattle.mip_rules_mobile.specs.RingingRules.{renews_home}
 use Rattle.mip_mobility.proofs.ringing.renew.Goals as goal
 

@@ -9,7 +9,6 @@ use Rattle.mip_rules_mobile.specs.PeerRules.{takes_ack_of}
 use Rattle.mip_rules_mobile.specs.ReceivingRules.{acks_by, takes_ack}
 use Rattle.mip_mobility.proofs.Desks.{turn_at, from-desk}
 use Rattle.mip_desk.specs.Seen.{Shows}
-use Rattle.mip_rules_mobile.specs.Turns.{Turn, noted}
 use Rattle.mip_mobility.proofs.roles.take_ack.Goals as goal
 
 pub returns-in-Some : goal.returns-in-Some

@@ -1,4 +1,4 @@
-use Rattle.std.proofs.Common.{ap, ◌∙◌, refl, subst, OnOk}
+use Rattle.std.proofs.Common.{ap, ◌∙◌, refl, OnOk}
 use Rattle.std.specs.Prelude.{Option, Some}
 use Rattle.mip_words.specs.declared.address.Address.{Address}
 use Rattle.mip_ipv6.specs.declared.head.Head.{Head}
@@ -7,7 +7,6 @@ use Rattle.mip_rules_correspondent.specs.Questions.{held_of}
 use Rattle.mip_rules_mobile.specs.declared.standing.Standing.TheVariants.{Away}
 use Rattle.mip_mobility.proofs.Desks.{turn_at, from-desk}
 use Rattle.mip_desk.specs.Seen.{Shows}
-use Rattle.mip_rules_mobile.specs.Turns.{Turn, noted}
 use Rattle.mip_rules_mobile.specs.HomeQuestions.{home_of}
 use Rattle.mip_rules_mobile.specs.Sendings.{SendsData, data_head}
 use Rattle.mip_rules_mobile.specs.Doing.{transmits_from}

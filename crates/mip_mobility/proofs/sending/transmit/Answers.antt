@@ -3,7 +3,6 @@ use Rattle.std.specs.Prelude.{Option}
 use Rattle.mip_rules_mobile.specs.declared.standing.Standing.{Standing}
 use Rattle.mip_mobility.proofs.Desks.{turn_at, from-desk}
 use Rattle.mip_desk.specs.Seen.{Shows}
-use Rattle.mip_rules_mobile.specs.Turns.{Turn, noted}
 use Rattle.mip_rules_mobile.specs.RowQuestions.{bound_row_of}
 use Rattle.mip_rules_mobile.specs.Doing.{transmits_from, transmits}
 use Rattle.mip_mobility.proofs.sending.transmit.Goals as goal
