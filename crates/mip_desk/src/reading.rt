@@ -67,6 +67,7 @@ impl Desk {
     /// When the last update of a row was made, where its trial waits for an acknowledgement; else this moment.
     pub fn sent_at(&self, row: u8) -> Moment
         ensures value { (u : Trial pending.Pending) → trial_of self.now.known row ≡ Some (Pending u) → result.0 ≡ option_map_or (λ m. m.0) (sent_at u) self.now.moment }
+        ensures other { ((u : Trial pending.Pending) → trial_of self.now.known row ≡ Some (Pending u) → ⊥) → result.0 ≡ self.now.moment }
         ensures early { result.0 < 2 ^ 62 }
     {
         match self.trial(row) {

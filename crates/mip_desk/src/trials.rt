@@ -1,6 +1,6 @@
 //! The steps of a call that change a row: its trial, and what else is kept of its peer.
 
-ghost use Rattle.std.specs.Prelude.{◌≡◌, ◌+◌, ◌%◌, ◌<◌, ◌^◌, OnOk, Some};
+ghost use Rattle.std.specs.Prelude.{◌≡◌, ◌+◌, ◌%◌, ◌<◌, ◌^◌, OnOk, None, Some};
 ghost use Rattle.mip_bulist.specs.declared.work.Work.{Work};
 ghost use Rattle.mip_bulist.specs.declared.work.Work.TheVariants.{Resend};
 ghost use Rattle.mip_rules_mobile.specs.Trials.{Start, HomeTest, CareofTest, Resequence, Acknowledge, Rest};
@@ -68,6 +68,7 @@ impl Desk {
     pub fn ring(&mut self) -> Option<Work>
         ensures work { result ≡ due_work (moment self.old.moment) self.old.known.list.timers }
         ensures shows { (work : Work) (t : Turn) → result ≡ Some work → Shows self.old t → Shows self.new (noted (Rings work) t) }
+        ensures none { result ≡ None → self.new ≡ self.old }
     {
         self.known.list.pop(self.moment)
     }

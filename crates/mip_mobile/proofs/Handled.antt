@@ -1,6 +1,6 @@
 -- A call whose desk shows the definition's turn is handled, once its answers are settled.
-use Rattle.std.proofs.Common.{◌≡◌, ℕ, List, [], ◌∷◌, ◌++◌, Bool, sym, subst, ◌∙◌}
-use Rattle.std.specs.Prelude.{Option, Result, Ok, Err, IfOk, option_map}
+use Rattle.std.proofs.Common.{◌≡◌, ℕ, zero, suc, List, [], ◌∷◌, ◌++◌, take, Bool, sym, subst, ◌∙◌}
+use Rattle.std.specs.Prelude.{Option, Result, Ok, Err, IfOk, OnErr, option_map}
 use Rattle.mip_outside.specs.declared.put.Put.{Put}
 use Rattle.mip_outside.specs.declared.put.Put.TheVariants.{Sent, NoRoute, Oversize}
 use Rattle.mip_words.specs.declared.address.Address.{Address}
@@ -18,12 +18,17 @@ use Rattle.mip_rules_mobile.proofs.Away.{away-call}
 use Rattle.mip_rules_mobile.proofs.Calls.{call-stands}
 use Rattle.mip_desk.specs.Seen.{DeskSeen, Shows}
 use Rattle.mip_desk.proofs.Noted.{shows-known}
-use Rattle.mip_mobile.specs.Settling.{settled, Settles, SettlesAll, sends_of}
-use Rattle.mip_mobile.specs.Handling.{Told, Handles}
+use Rattle.mip_mobile.specs.Settling.{settled, Settles, SettlesAll, SettlesFront, Told, sends_of}
+use Rattle.mip_mobile.specs.Handling.{Handles, BreaksOff}
+use Rattle.mip_mobile.proofs.Settled.{out-none}
 
 pub if-both : {A E : Type 0} (P Q R : A → Type 0) (r : Result A E) → ((x : A) → P x → Q x → R x) → IfOk r P → IfOk r Q → IfOk r R
 if-both P Q R (Ok x) f p q = f x p q
 if-both P Q R (Err e) f p q = tt
+
+pub on-errs : {A E P Q : Type 0} (r : Result A E) → (P → Q) → OnErr r P → OnErr r Q
+on-errs (Ok x) f p = tt
+on-errs (Err e) f p = f p
 
 -- a packet that the wire took leaves from where it left before
 from-settled : (gives : Put → Bool) (careof : Address) (asked bs : List Answer) → SettlesAll gives asked bs → AreFrom careof asked → AreFrom careof bs
@@ -55,4 +60,28 @@ handled gives k now call desk asked left out told answers shows is known settles
       stands = λ home declared secrets past stands.
           subst (λ (l : Known). Stands home declared secrets (with_turn past (turn_of k now call)) l) (sym same) (call-stands home declared secrets past k now call stands);
       sent = sent;
+    }
+
+-- where nothing was handed to the wire, it sent nothing
+pub breaks-none : (gives : Put → Bool) (k : Known) (now : ℕ) (call : Call) (out : Told) → BreaksOff gives k now call out out
+breaks-none gives k now call out = record { count = 0; answers = []; taken = tt; away = λ careof here elsewhere stays. tt; sent = out-none out }
+
+from-front : (careof : Address) (n : ℕ) (asked : List Answer) → AreFrom careof asked → AreFrom careof (take n asked)
+from-front careof zero asked from = tt
+from-front careof (suc n) [] from = tt
+from-front careof (suc n) (a ∷ asked) from = (from.0, from-front careof n asked from.1)
+
+-- a call whose desk shows the definition's turn breaks off in it, where its wire took a front of its answers
+pub breaks-off : (gives : Put → Bool) (k : Known) (now : ℕ) (call : Call) (desk : DeskSeen) (asked : List Answer) (out told : Told)
+    → Shows desk (turn_of k now call) → asked ≡ desk.answers → SettlesFront gives asked out told → BreaksOff gives k now call out told
+breaks-off gives k now call desk asked out told shows is front =
+    let own : List Answer = answers_of (turn_of k now call).steps in
+    let all : SettlesAll gives (take front.count own) front.answers =
+    subst (λ (xs : List Answer). SettlesAll gives (take front.count xs) front.answers) (is ∙ sym (shows-answers answer_of desk.moment desk.known desk.answers (turn_of k now call) shows)) front.taken in
+    record {
+      count = front.count;
+      answers = front.answers;
+      taken = all;
+      away = λ careof here elsewhere stays. from-settled gives careof (take front.count own) front.answers all (from-front careof front.count own (away-call k now call careof here elsewhere stays));
+      sent = front.sent;
     }

@@ -1,12 +1,11 @@
 -- Answers that are settled one by one.
-use Rattle.std.proofs.Common.{◌≡◌, ℕ, List, [], ◌∷◌, ◌++◌, Bool, refl, sym, ap, ◌∙◌}
-use Rattle.std.specs.Prelude.{Option, Some, None, option_map}
-use Rattle.std.proofs.lemmas.List.{append-nil, append_assoc}
+use Rattle.std.proofs.Common.{◌≡◌, ℕ, ◌<◌, List, [], ◌∷◌, ◌++◌, length, take, get_or, Bool, refl, sym, ap, ◌∙◌, subst}
+use Rattle.std.specs.Prelude.{Option, Some, None, option_map, Result, Ok, Err, OnErr}
+use Rattle.std.proofs.lemmas.List.{append-nil, append_assoc, take_more, length_push}
 use Rattle.mip_words.specs.declared.shield.Shield.{Shield}
 use Rattle.mip_outside.specs.declared.put.Put.{Put}
 use Rattle.mip_entries.specs.declared.answer.Answer.{Answer}
-use Rattle.mip_mobile.specs.Settling.{Settles, SettlesAll, sends_in, sends_of}
-use Rattle.mip_mobile.specs.Handling.{Told}
+use Rattle.mip_mobile.specs.Settling.{Settles, SettlesAll, SettlesFront, Told, sends_in, sends_of}
 
 pub settles-more : (gives : Put → Bool) (asked bs : List Answer) (a b : Answer) → SettlesAll gives asked bs → Settles gives a b → SettlesAll gives (asked ++ a ∷ []) (bs ++ b ∷ [])
 settles-more gives [] [] a b all one = (one, tt)
@@ -30,3 +29,22 @@ out-more first then last bs b one two = two ∙ ap (λ (o : Told). option_map (�
 pub out-none : (o : Told) → o ≡ option_map (λ items. items ++ sends_of []) o
 out-none None = refl
 out-none (Some items) = ap (λ (l : List (Option Shield × List ℕ)). Some l) (sym (append-nil items))
+
+pub on-err : {A E P : Type 0} (r : Result A E) → P → OnErr r P
+on-err (Ok x) p = tt
+on-err (Err e) p = p
+
+-- the answers so far are the first of all, and stay so with the next one
+pub first-more : (all : List Answer) (xs : List Answer) (a : Answer) → take (length xs) all ≡ xs → (length xs < length all) × (a ≡ get_or all (length xs) a)
+    → take (length (xs ++ a ∷ [])) all ≡ xs ++ a ∷ []
+first-more all xs a first turn =
+    ap (λ (n : ℕ). take n all) (length_push xs a) ∙ take_more all (length xs) a turn.0 ∙ ap (λ (l : List Answer). l ++ get_or all (length xs) a ∷ []) first ∙ ap (λ (b : Answer). xs ++ b ∷ []) (sym turn.1)
+
+pub front-settles : (gives : Put → Bool) (asked xs answers : List Answer) (out left : Told) → take (length xs) asked ≡ xs → SettlesAll gives xs answers → left ≡ option_map (λ items. items ++ sends_of answers) out
+    → SettlesFront gives asked out left
+front-settles gives asked xs answers out left first all sent = record {
+  count = length xs;
+  answers = answers;
+  taken = subst (λ (l : List Answer). SettlesAll gives l answers) (sym first) all;
+  sent = sent;
+}

@@ -1,7 +1,6 @@
 -- What a call of a station answers, and what it leaves.
-use Rattle.std.specs.Prelude.{◌≡◌, ℕ, Bool, true, max, List, ◌++◌, Option, option_map}
+use Rattle.std.specs.Prelude.{◌≡◌, ℕ, Bool, true, max, List, ◌++◌, take, Option, option_map}
 use Rattle.mip_words.specs.declared.address.Address.{Address}
-use Rattle.mip_words.specs.declared.shield.Shield.{Shield}
 use Rattle.mip_nonce.specs.Secrets.{Life}
 use Rattle.mip_outside.specs.declared.put.Put.{Put}
 use Rattle.mip_entries.specs.Stamped.{Stamped}
@@ -13,15 +12,11 @@ use Rattle.mip_rules_mobile.specs.Steps.{Step, answers_of}
 use Rattle.mip_rules_mobile.specs.Known.{Known}
 use Rattle.mip_rules_mobile.specs.Turns.{Stands, with_turn}
 use Rattle.mip_rules_mobile.specs.Doing.{turn_of}
-use Rattle.mip_mobile.specs.Settling.{SettlesAll, sends_of}
+use Rattle.mip_mobile.specs.Settling.{SettlesAll, Told, sends_of}
 
 -- the moment of a call: what the clock says, or the moment of the last call where that is later
 abbrev pub moment_of : (clock last : ℕ) → ℕ
 moment_of clock last = max clock last
-
--- the packets that a wire sent, each with its shield, where they are told
-abbrev pub Told : Type 0
-Told = Option (List (Option Shield × List ℕ))
 
 -- a station that knew this was called at a moment: its answers are those of the definition's turn, as its wire took them;
 -- it stands for each past for which it stood before, with the turn behind it; where it is away, and stays, each packet leaves
@@ -31,5 +26,14 @@ pub record Handles (gives : Put → Bool) (before : Known) (now : ℕ) (call : C
   pub known : after ≡ (turn_of before now call).known
   pub stands : (home : Address) (declared : Option Address) (secrets : Life) (past : List (Stamped Step)) → Stands home declared secrets past before
       → Stands home declared secrets (with_turn past (turn_of before now call)) after
+  pub away : (careof : Address) → before.standing ≡ Away careof → IsElsewhere before → stays_put call ≡ true → AreFrom careof answers
+  pub sent : left ≡ option_map (λ items. items ++ sends_of answers) out
+
+-- a station that knew this was called at a moment, and answered a fault: its wire took a front of the answers of the
+-- definition's turn, and sent their packets and no others; where it was away, and stays, each left from its care-of address
+pub record BreaksOff (gives : Put → Bool) (before : Known) (now : ℕ) (call : Call) (out left : Told) : Type 0 where
+  pub count : ℕ
+  pub answers : List Answer
+  pub taken : SettlesAll gives (take count (answers_of (turn_of before now call).steps)) answers
   pub away : (careof : Address) → before.standing ≡ Away careof → IsElsewhere before → stays_put call ≡ true → AreFrom careof answers
   pub sent : left ≡ option_map (λ items. items ++ sends_of answers) out

@@ -1,5 +1,5 @@
 -- What becomes of a mobile's answers once its wire took its packets.
-use Rattle.std.specs.Prelude.{◌≡◌, ℕ, Bool, IsTrue, List, [], ◌∷◌, ◌++◌, Option}
+use Rattle.std.specs.Prelude.{◌≡◌, ℕ, Bool, IsTrue, List, [], ◌∷◌, ◌++◌, take, Option, option_map}
 use Rattle.mip_words.specs.declared.shield.Shield.{Shield}
 use Rattle.mip_words.specs.declared.why.Why.TheVariants as whys
 use Rattle.mip_outside.specs.declared.put.Put.{Put}
@@ -39,6 +39,18 @@ sends_in (Note entry) = []
 abbrev pub sends_of : List Answer → List (Option Shield × List ℕ)
 sends_of [] = []
 sends_of (a ∷ more) = sends_in a ++ sends_of more
+
+-- the packets that a wire sent, each with its shield, where they are told
+abbrev pub Told : Type 0
+Told = Option (List (Option Shield × List ℕ))
+
+-- a wire took so many of these answers, from the first one on, and sent the packets of those that came of them; of the others
+-- it sent nothing
+pub record SettlesFront (gives : Put → Bool) (asked : List Answer) (out left : Told) : Type 0 where
+  pub count : ℕ
+  pub answers : List Answer
+  pub taken : SettlesAll gives (take count asked) answers
+  pub sent : left ≡ option_map (λ items. items ++ sends_of answers) out
 
 -- what a fault of the wire is to the station
 abbrev pub station_fault : PutFault → StationFault

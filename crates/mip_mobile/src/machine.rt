@@ -1,6 +1,6 @@
 //! A mobile with its clock and its wire, wherever it stands.
 
-ghost use Rattle.std.specs.Prelude.{◌≡◌, ℕ, ◌≤◌, ◌<◌, ◌^◌, [], None, Some, Err, IfOk, IfSome, IfErr, OnOk, OnErr, IsErrOf, IsTrue, IsFalse, length, option_copied, slice_get};
+ghost use Rattle.std.specs.Prelude.{◌≡◌, ℕ, ◌≤◌, ◌<◌, ◌^◌, [], None, Some, Err, IfOk, IfSome, IfErr, OnOk, OnErr, IsErrOf, IsTrue, IsFalse, length, option_copied, option_map, slice_get};
 ghost use Rattle.mip_words.specs.Addresses.{is_routable};
 ghost use Rattle.mip_ipv6.specs.Packet.{names_no_body};
 ghost use Rattle.mip_rules_correspondent.specs.Rules.{is_data};
@@ -8,6 +8,7 @@ ghost use Rattle.mip_bcache.specs.Seen.{kept_at};
 ghost use Rattle.mip_bulist.specs.Timers.{first_due};
 ghost use Rattle.mip_tunnel.specs.Tunnel.{hop_of};
 ghost use Rattle.mip_outside.specs.Cause.{Rose};
+ghost use Rattle.mip_outside.specs.Moments.{moments_after};
 ghost use Rattle.mip_rules_mobile.specs.Calls as calls;
 ghost use Rattle.mip_rules_mobile.specs.Calls.{Call};
 ghost use Rattle.mip_rules_mobile.specs.Steps.{Called};
@@ -16,7 +17,7 @@ ghost use Rattle.mip_rules_mobile.specs.Questions.{fresh};
 ghost use Rattle.mip_rules_mobile.specs.Turns.{begun, noted};
 ghost use Rattle.mip_rules_mobile.specs.Doing.{turn_of};
 ghost use Rattle.mip_desk.specs.Seen.{Shows};
-ghost use Rattle.mip_mobile.specs.Handling.{Handles, moment_of};
+ghost use Rattle.mip_mobile.specs.Handling.{Handles, BreaksOff, moment_of};
 ghost use Rattle.mip_mobile.specs.Stations.{with_clock, with_wire};
 ghost use Rattle.mip_mobile.specs.contracts.machine.Machine.{the_row};
 ghost use Rattle.std.specs.Borrow.{Lends, sem};
@@ -104,6 +105,7 @@ impl<C: Clock + Drop, W: Wire + Drop> Machine<C, W> {
     pub fn begin(&mut self, alloc: Global) -> Result<(), Memory>
         ensures shows { (call : Call) → OnOk result (Shows self.new.desk (noted (Called call) (begun (moment_of (C.last self.new.clock) self.old.desk.moment) self.old.desk.known))) }
         ensures rest { (self.new.wire ≡ self.old.wire) × (self.new.fault ≡ self.old.fault) }
+        ensures read { C.ahead self.new.clock ≡ option_map moments_after (C.ahead self.old.clock) }
     {
         let now = self.clock.now().max(self.desk.moment().0);
         self.desk.call(alloc, Moment(now))
@@ -118,6 +120,8 @@ impl<C: Clock + Drop, W: Wire + Drop> Machine<C, W> {
         requires { self.old.fault ≡ None }
         ensures handles { (k : Known) (now : ℕ) (call : Call) → OnOk done (Shows self.old.desk (turn_of k now call))
             → IfOk result (λ answers. Handles W.gives k now call (W.out self.old.wire) answers self.new.desk.known (W.out self.new.wire)) }
+        ensures front { (k : Known) (now : ℕ) (call : Call) → OnOk done (Shows self.old.desk (turn_of k now call))
+            → OnErr result (BreaksOff W.gives k now call (W.out self.old.wire) (W.out self.new.wire)) }
         ensures clock { self.new.clock ≡ self.old.clock }
         ensures well { OnOk result (self.new.fault ≡ None) }
         ensures kept { IfErr result (λ fault. self.new.fault ≡ Some fault) }
@@ -134,6 +138,8 @@ impl<C: Clock + Drop, W: Wire + Drop> Machine<C, W> {
     fn settle(&mut self, alloc: Global, done: Result<(), Memory>) -> Result<Answers, StationFault>
         ensures handles { (k : Known) (now : ℕ) (call : Call) → OnOk done (Shows self.old.desk (turn_of k now call))
             → IfOk result (λ answers. Handles W.gives k now call (W.out self.old.wire) answers self.new.desk.known (W.out self.new.wire)) }
+        ensures front { (k : Known) (now : ℕ) (call : Call) → OnOk done (Shows self.old.desk (turn_of k now call))
+            → OnErr result (BreaksOff W.gives k now call (W.out self.old.wire) (W.out self.new.wire)) }
         ensures rest { (self.new.clock ≡ self.old.clock) × (self.new.fault ≡ self.old.fault) }
         ensures failed { IsErrOf result StationFault.Failed → Rose (W.faults self.old.wire) (W.faults self.new.wire) }
         ensures wire { (W.faults self.old.wire ≤ W.faults self.new.wire) × W.is_same self.old.wire self.new.wire }
@@ -152,7 +158,9 @@ impl<C: Clock + Drop, W: Wire + Drop> Machine<C, W> {
         packet: &[u8],
     ) -> Result<Answers, StationFault>
         ensures faulted { IfSome self.old.fault (λ fault. (result ≡ Err fault) × (self.new ≡ self.old)) }
+        ensures read { self.old.fault ≡ None → C.ahead self.new.clock ≡ option_map moments_after (C.ahead self.old.clock) }
         ensures handles { IfOk result (λ answers. Handles W.gives self.old.desk.known (moment_of (C.last self.new.clock) self.old.desk.moment) (calls.Take number shield packet.now) (W.out self.old.wire) answers self.new.desk.known (W.out self.new.wire)) }
+        ensures front { self.old.fault ≡ None → OnErr result (BreaksOff W.gives self.old.desk.known (moment_of (C.last self.new.clock) self.old.desk.moment) (calls.Take number shield packet.now) (W.out self.old.wire) (W.out self.new.wire)) }
         ensures well { OnOk result (self.new.fault ≡ None) }
         ensures kept { IfErr result (λ fault. self.new.fault ≡ Some fault) }
         ensures failed { self.old.fault ≡ None → IsErrOf result StationFault.Failed → Rose (W.faults self.old.wire) (W.faults self.new.wire) }
@@ -175,6 +183,7 @@ impl<C: Clock + Drop, W: Wire + Drop> Machine<C, W> {
     ) -> Result<(), Memory>
         ensures shows { OnOk result (Shows self.new.desk (turn_of self.old.desk.known (moment_of (C.last self.new.clock) self.old.desk.moment) (calls.Take number shield packet.now))) }
         ensures rest { (self.new.wire ≡ self.old.wire) × (self.new.fault ≡ self.old.fault) }
+        ensures read { C.ahead self.new.clock ≡ option_map moments_after (C.ahead self.old.clock) }
     {
         self.begin(alloc)?;
         mip_mobility::take(alloc, &mut self.desk, number, shield, packet)
@@ -183,7 +192,9 @@ impl<C: Clock + Drop, W: Wire + Drop> Machine<C, W> {
     /// Time goes on, and due work is done.
     pub fn tick(&mut self, alloc: Global) -> Result<Answers, StationFault>
         ensures faulted { IfSome self.old.fault (λ fault. (result ≡ Err fault) × (self.new ≡ self.old)) }
+        ensures read { self.old.fault ≡ None → C.ahead self.new.clock ≡ option_map moments_after (C.ahead self.old.clock) }
         ensures handles { IfOk result (λ answers. Handles W.gives self.old.desk.known (moment_of (C.last self.new.clock) self.old.desk.moment) calls.Tick (W.out self.old.wire) answers self.new.desk.known (W.out self.new.wire)) }
+        ensures front { self.old.fault ≡ None → OnErr result (BreaksOff W.gives self.old.desk.known (moment_of (C.last self.new.clock) self.old.desk.moment) calls.Tick (W.out self.old.wire) (W.out self.new.wire)) }
         ensures well { OnOk result (self.new.fault ≡ None) }
         ensures kept { IfErr result (λ fault. self.new.fault ≡ Some fault) }
         ensures failed { self.old.fault ≡ None → IsErrOf result StationFault.Failed → Rose (W.faults self.old.wire) (W.faults self.new.wire) }
@@ -200,6 +211,7 @@ impl<C: Clock + Drop, W: Wire + Drop> Machine<C, W> {
     fn tick_desk(&mut self, alloc: Global) -> Result<(), Memory>
         ensures shows { OnOk result (Shows self.new.desk (turn_of self.old.desk.known (moment_of (C.last self.new.clock) self.old.desk.moment) calls.Tick)) }
         ensures rest { (self.new.wire ≡ self.old.wire) × (self.new.fault ≡ self.old.fault) }
+        ensures read { C.ahead self.new.clock ≡ option_map moments_after (C.ahead self.old.clock) }
     {
         self.begin(alloc)?;
         mip_mobility::tick(alloc, &mut self.desk)
@@ -217,7 +229,9 @@ impl<C: Clock + Drop, W: Wire + Drop> Machine<C, W> {
         requires proto { IsFalse (names_no_body proto) }
         requires short { length payload.now ≤ 512 }
         ensures faulted { IfSome self.old.fault (λ fault. (result ≡ Err fault) × (self.new ≡ self.old)) }
+        ensures read { self.old.fault ≡ None → C.ahead self.new.clock ≡ option_map moments_after (C.ahead self.old.clock) }
         ensures handles { IfOk result (λ answers. Handles W.gives self.old.desk.known (moment_of (C.last self.new.clock) self.old.desk.moment) (calls.Send to proto payload.now) (W.out self.old.wire) answers self.new.desk.known (W.out self.new.wire)) }
+        ensures front { self.old.fault ≡ None → OnErr result (BreaksOff W.gives self.old.desk.known (moment_of (C.last self.new.clock) self.old.desk.moment) (calls.Send to proto payload.now) (W.out self.old.wire) (W.out self.new.wire)) }
         ensures well { OnOk result (self.new.fault ≡ None) }
         ensures kept { IfErr result (λ fault. self.new.fault ≡ Some fault) }
         ensures failed { self.old.fault ≡ None → IsErrOf result StationFault.Failed → Rose (W.faults self.old.wire) (W.faults self.new.wire) }
@@ -243,6 +257,7 @@ impl<C: Clock + Drop, W: Wire + Drop> Machine<C, W> {
         requires short { length payload.now ≤ 512 }
         ensures shows { OnOk result (Shows self.new.desk (turn_of self.old.desk.known (moment_of (C.last self.new.clock) self.old.desk.moment) (calls.Send to proto payload.now))) }
         ensures rest { (self.new.wire ≡ self.old.wire) × (self.new.fault ≡ self.old.fault) }
+        ensures read { C.ahead self.new.clock ≡ option_map moments_after (C.ahead self.old.clock) }
     {
         self.begin(alloc)?;
         mip_mobility::send(alloc, &mut self.desk, to, proto, payload)
@@ -251,7 +266,9 @@ impl<C: Clock + Drop, W: Wire + Drop> Machine<C, W> {
     /// Asks for a Binding Refresh Request to a home.
     pub fn refresh(&mut self, alloc: Global, home: Address) -> Result<Answers, StationFault>
         ensures faulted { IfSome self.old.fault (λ fault. (result ≡ Err fault) × (self.new ≡ self.old)) }
+        ensures read { self.old.fault ≡ None → C.ahead self.new.clock ≡ option_map moments_after (C.ahead self.old.clock) }
         ensures handles { IfOk result (λ answers. Handles W.gives self.old.desk.known (moment_of (C.last self.new.clock) self.old.desk.moment) (calls.Refresh home) (W.out self.old.wire) answers self.new.desk.known (W.out self.new.wire)) }
+        ensures front { self.old.fault ≡ None → OnErr result (BreaksOff W.gives self.old.desk.known (moment_of (C.last self.new.clock) self.old.desk.moment) (calls.Refresh home) (W.out self.old.wire) (W.out self.new.wire)) }
         ensures well { OnOk result (self.new.fault ≡ None) }
         ensures kept { IfErr result (λ fault. self.new.fault ≡ Some fault) }
         ensures failed { self.old.fault ≡ None → IsErrOf result StationFault.Failed → Rose (W.faults self.old.wire) (W.faults self.new.wire) }
@@ -268,6 +285,7 @@ impl<C: Clock + Drop, W: Wire + Drop> Machine<C, W> {
     fn refresh_desk(&mut self, alloc: Global, home: Address) -> Result<(), Memory>
         ensures shows { OnOk result (Shows self.new.desk (turn_of self.old.desk.known (moment_of (C.last self.new.clock) self.old.desk.moment) (calls.Refresh home))) }
         ensures rest { (self.new.wire ≡ self.old.wire) × (self.new.fault ≡ self.old.fault) }
+        ensures read { C.ahead self.new.clock ≡ option_map moments_after (C.ahead self.old.clock) }
     {
         self.begin(alloc)?;
         mip_mobility::refresh(alloc, &mut self.desk, home)
@@ -276,7 +294,9 @@ impl<C: Clock + Drop, W: Wire + Drop> Machine<C, W> {
     /// Solicits the prefixes of its home link.
     pub fn ask(&mut self, alloc: Global) -> Result<Answers, StationFault>
         ensures faulted { IfSome self.old.fault (λ fault. (result ≡ Err fault) × (self.new ≡ self.old)) }
+        ensures read { self.old.fault ≡ None → C.ahead self.new.clock ≡ option_map moments_after (C.ahead self.old.clock) }
         ensures handles { IfOk result (λ answers. Handles W.gives self.old.desk.known (moment_of (C.last self.new.clock) self.old.desk.moment) calls.Ask (W.out self.old.wire) answers self.new.desk.known (W.out self.new.wire)) }
+        ensures front { self.old.fault ≡ None → OnErr result (BreaksOff W.gives self.old.desk.known (moment_of (C.last self.new.clock) self.old.desk.moment) calls.Ask (W.out self.old.wire) (W.out self.new.wire)) }
         ensures well { OnOk result (self.new.fault ≡ None) }
         ensures kept { IfErr result (λ fault. self.new.fault ≡ Some fault) }
         ensures failed { self.old.fault ≡ None → IsErrOf result StationFault.Failed → Rose (W.faults self.old.wire) (W.faults self.new.wire) }
@@ -293,6 +313,7 @@ impl<C: Clock + Drop, W: Wire + Drop> Machine<C, W> {
     fn ask_desk(&mut self, alloc: Global) -> Result<(), Memory>
         ensures shows { OnOk result (Shows self.new.desk (turn_of self.old.desk.known (moment_of (C.last self.new.clock) self.old.desk.moment) calls.Ask)) }
         ensures rest { (self.new.wire ≡ self.old.wire) × (self.new.fault ≡ self.old.fault) }
+        ensures read { C.ahead self.new.clock ≡ option_map moments_after (C.ahead self.old.clock) }
     {
         self.begin(alloc)?;
         mip_mobility::ask(alloc, &mut self.desk)
@@ -301,7 +322,9 @@ impl<C: Clock + Drop, W: Wire + Drop> Machine<C, W> {
     /// Loses all that it keeps, and goes on with these secrets.
     pub fn restart(&mut self, alloc: Global, secrets: Secrets) -> Result<Answers, StationFault>
         ensures faulted { IfSome self.old.fault (λ fault. (result ≡ Err fault) × (self.new ≡ self.old)) }
+        ensures read { self.old.fault ≡ None → C.ahead self.new.clock ≡ option_map moments_after (C.ahead self.old.clock) }
         ensures handles { IfOk result (λ answers. Handles W.gives self.old.desk.known (moment_of (C.last self.new.clock) self.old.desk.moment) (calls.Restart secrets) (W.out self.old.wire) answers self.new.desk.known (W.out self.new.wire)) }
+        ensures front { self.old.fault ≡ None → OnErr result (BreaksOff W.gives self.old.desk.known (moment_of (C.last self.new.clock) self.old.desk.moment) (calls.Restart secrets) (W.out self.old.wire) (W.out self.new.wire)) }
         ensures well { OnOk result (self.new.fault ≡ None) }
         ensures kept { IfErr result (λ fault. self.new.fault ≡ Some fault) }
         ensures failed { self.old.fault ≡ None → IsErrOf result StationFault.Failed → Rose (W.faults self.old.wire) (W.faults self.new.wire) }
@@ -318,6 +341,7 @@ impl<C: Clock + Drop, W: Wire + Drop> Machine<C, W> {
     fn restart_desk(&mut self, alloc: Global, secrets: Secrets) -> Result<(), Memory>
         ensures shows { OnOk result (Shows self.new.desk (turn_of self.old.desk.known (moment_of (C.last self.new.clock) self.old.desk.moment) (calls.Restart secrets))) }
         ensures rest { (self.new.wire ≡ self.old.wire) × (self.new.fault ≡ self.old.fault) }
+        ensures read { C.ahead self.new.clock ≡ option_map moments_after (C.ahead self.old.clock) }
     {
         self.begin(alloc)?;
         mip_mobility::restart(alloc, &mut self.desk, secrets)
@@ -329,7 +353,9 @@ impl<C: Clock + Drop, W: Wire + Drop> Machine<C, W> {
         requires hop { 2 ≤ hop_of inner.now }
         requires fits { length inner.now ≤ 65535 }
         ensures faulted { IfSome self.old.fault (λ fault. (result ≡ Err fault) × (self.new ≡ self.old)) }
+        ensures read { self.old.fault ≡ None → C.ahead self.new.clock ≡ option_map moments_after (C.ahead self.old.clock) }
         ensures handles { IfOk result (λ answers. Handles W.gives self.old.desk.known (moment_of (C.last self.new.clock) self.old.desk.moment) (calls.Tunnel inner.now) (W.out self.old.wire) answers self.new.desk.known (W.out self.new.wire)) }
+        ensures front { self.old.fault ≡ None → OnErr result (BreaksOff W.gives self.old.desk.known (moment_of (C.last self.new.clock) self.old.desk.moment) (calls.Tunnel inner.now) (W.out self.old.wire) (W.out self.new.wire)) }
         ensures well { OnOk result (self.new.fault ≡ None) }
         ensures kept { IfErr result (λ fault. self.new.fault ≡ Some fault) }
         ensures failed { self.old.fault ≡ None → IsErrOf result StationFault.Failed → Rose (W.faults self.old.wire) (W.faults self.new.wire) }
@@ -349,6 +375,7 @@ impl<C: Clock + Drop, W: Wire + Drop> Machine<C, W> {
         requires fits { length inner.now ≤ 65535 }
         ensures shows { OnOk result (Shows self.new.desk (turn_of self.old.desk.known (moment_of (C.last self.new.clock) self.old.desk.moment) (calls.Tunnel inner.now))) }
         ensures rest { (self.new.wire ≡ self.old.wire) × (self.new.fault ≡ self.old.fault) }
+        ensures read { C.ahead self.new.clock ≡ option_map moments_after (C.ahead self.old.clock) }
     {
         self.begin(alloc)?;
         mip_mobility::tunnel(alloc, &mut self.desk, inner)

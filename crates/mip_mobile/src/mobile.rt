@@ -1,9 +1,10 @@
-ghost use Rattle.std.specs.Prelude.{◌≡◌, ◌≤◌, [], true, None, Some, Err, IfOk, IfSome, IfErr, OnOk, IsErrOf, IsTrue, IsFalse, length, option_copied, slice_get};
+ghost use Rattle.std.specs.Prelude.{◌≡◌, ◌≤◌, [], true, None, Some, Err, IfOk, IfSome, IfErr, OnOk, OnErr, IsErrOf, IsTrue, IsFalse, length, option_copied, slice_get};
 ghost use Rattle.std.specs.Option.{option_map};
 ghost use Rattle.std.specs.Borrow.{Lends, sem};
 ghost use Rattle.mip_words.specs.Addresses.{is_routable};
 ghost use Rattle.mip_ipv6.specs.Packet.{names_no_body};
 ghost use Rattle.mip_outside.specs.Cause.{Rose};
+ghost use Rattle.mip_outside.specs.Moments.{moments_after};
 ghost use Rattle.mip_bcache.specs.Seen.{kept_at};
 ghost use Rattle.mip_bulist.specs.Timers.{first_due};
 ghost use Rattle.mip_rules_correspondent.specs.Rules.{is_data};
@@ -11,7 +12,7 @@ ghost use Rattle.mip_rules_mobile.specs.Calls as calls;
 ghost use Rattle.mip_rules_mobile.specs.HomeQuestions.{home_of};
 ghost use Rattle.mip_rules_mobile.specs.Questions.{fresh};
 ghost use Rattle.mip_rules_mobile.specs.MovingRules.{address_under};
-ghost use Rattle.mip_mobile.specs.Handling.{Handles, moment_of};
+ghost use Rattle.mip_mobile.specs.Handling.{Handles, BreaksOff, moment_of};
 ghost use Rattle.mip_mobile.specs.Placing.{attach_at, leave_at, claims_attached, claims_after_leaving};
 ghost use Rattle.mip_mobile.specs.Stations.{machine_of, IsTyped, with_clock_in, with_wire_in};
 ghost use Rattle.mip_mobile.specs.contracts.mobile.Mobile.{the_row};
@@ -37,8 +38,8 @@ pub enum Mobile<C: Clock, W: Wire> {
     Away(Station<Away, C, W>),
 }
 
-/// What a call leaves: the mobile, and its answers. Each call reads the clock once. After a fault it answers that fault from then
-/// on, and puts nothing on its wire.
+/// What a call leaves: the mobile, and its answers. A call reads the clock once, unless there was a fault before. After a fault
+/// it answers that fault from then on, and puts nothing on its wire.
 pub type Turned<C, W> = (Mobile<C, W>, Result<Answers, StationFault>);
 
 impl<C: Clock + Drop, W: Wire + Drop> Mobile<C, W> {
@@ -143,7 +144,9 @@ impl<C: Clock + Drop, W: Wire + Drop> Mobile<C, W> {
         requires home { (P.around place.old).room (home_of (machine_of self).desk.known).0 ≡ true }
         requires address { (P.around place.old).room (address_under (home_of (machine_of self).desk.known) prefix.0).0 ≡ true }
         ensures faulted { IfSome (machine_of self).fault (λ fault. (result.1 ≡ Err fault) × (machine_of result.0 ≡ machine_of self) × (P.claims place.new ≡ P.claims place.old)) }
+        ensures read { (machine_of self).fault ≡ None → C.ahead (machine_of result.0).clock ≡ option_map moments_after (C.ahead (machine_of self).clock) }
         ensures handles { IfOk result.1 (λ answers. Handles W.gives (machine_of self).desk.known (moment_of (C.last (machine_of result.0).clock) (machine_of self).desk.moment) (attach_at (P.around place.old) (home_of (machine_of self).desk.known) prefix.0) (W.out (machine_of self).wire) answers (machine_of result.0).desk.known (W.out (machine_of result.0).wire)) }
+        ensures front { (machine_of self).fault ≡ None → OnErr result.1 (BreaksOff W.gives (machine_of self).desk.known (moment_of (C.last (machine_of result.0).clock) (machine_of self).desk.moment) (attach_at (P.around place.old) (home_of (machine_of self).desk.known) prefix.0) (W.out (machine_of self).wire) (W.out (machine_of result.0).wire)) }
         ensures typed { IsTyped result.0 }
         ensures well { OnOk result.1 ((machine_of result.0).fault ≡ None) }
         ensures kept { IfErr result.1 (λ fault. (machine_of result.0).fault ≡ Some fault) }
@@ -161,7 +164,9 @@ impl<C: Clock + Drop, W: Wire + Drop> Mobile<C, W> {
     pub fn leave<P: Place>(self, alloc: Global, place: &mut P) -> Turned<C, W>
         requires home { (P.around place.old).room (home_of (machine_of self).desk.known).0 ≡ true }
         ensures faulted { IfSome (machine_of self).fault (λ fault. (result.1 ≡ Err fault) × (machine_of result.0 ≡ machine_of self) × (P.claims place.new ≡ P.claims place.old)) }
+        ensures read { (machine_of self).fault ≡ None → C.ahead (machine_of result.0).clock ≡ option_map moments_after (C.ahead (machine_of self).clock) }
         ensures handles { IfOk result.1 (λ answers. Handles W.gives (machine_of self).desk.known (moment_of (C.last (machine_of result.0).clock) (machine_of self).desk.moment) (leave_at (P.around place.old) (home_of (machine_of self).desk.known)) (W.out (machine_of self).wire) answers (machine_of result.0).desk.known (W.out (machine_of result.0).wire)) }
+        ensures front { (machine_of self).fault ≡ None → OnErr result.1 (BreaksOff W.gives (machine_of self).desk.known (moment_of (C.last (machine_of result.0).clock) (machine_of self).desk.moment) (leave_at (P.around place.old) (home_of (machine_of self).desk.known)) (W.out (machine_of self).wire) (W.out (machine_of result.0).wire)) }
         ensures typed { IsTyped result.0 }
         ensures well { OnOk result.1 ((machine_of result.0).fault ≡ None) }
         ensures kept { IfErr result.1 (λ fault. (machine_of result.0).fault ≡ Some fault) }
@@ -184,7 +189,9 @@ impl<C: Clock + Drop, W: Wire + Drop> Mobile<C, W> {
         packet: &[u8],
     ) -> Turned<C, W>
         ensures faulted { IfSome (machine_of self).fault (λ fault. (result.1 ≡ Err fault) × (machine_of result.0 ≡ machine_of self)) }
+        ensures read { (machine_of self).fault ≡ None → C.ahead (machine_of result.0).clock ≡ option_map moments_after (C.ahead (machine_of self).clock) }
         ensures handles { IfOk result.1 (λ answers. Handles W.gives (machine_of self).desk.known (moment_of (C.last (machine_of result.0).clock) (machine_of self).desk.moment) (calls.Take number shield packet.now) (W.out (machine_of self).wire) answers (machine_of result.0).desk.known (W.out (machine_of result.0).wire)) }
+        ensures front { (machine_of self).fault ≡ None → OnErr result.1 (BreaksOff W.gives (machine_of self).desk.known (moment_of (C.last (machine_of result.0).clock) (machine_of self).desk.moment) (calls.Take number shield packet.now) (W.out (machine_of self).wire) (W.out (machine_of result.0).wire)) }
         ensures typed { IsTyped result.0 }
         ensures well { OnOk result.1 ((machine_of result.0).fault ≡ None) }
         ensures kept { IfErr result.1 (λ fault. (machine_of result.0).fault ≡ Some fault) }
@@ -199,7 +206,9 @@ impl<C: Clock + Drop, W: Wire + Drop> Mobile<C, W> {
     /// Time goes on, and due work is done.
     pub fn tick(self, alloc: Global) -> Turned<C, W>
         ensures faulted { IfSome (machine_of self).fault (λ fault. (result.1 ≡ Err fault) × (machine_of result.0 ≡ machine_of self)) }
+        ensures read { (machine_of self).fault ≡ None → C.ahead (machine_of result.0).clock ≡ option_map moments_after (C.ahead (machine_of self).clock) }
         ensures handles { IfOk result.1 (λ answers. Handles W.gives (machine_of self).desk.known (moment_of (C.last (machine_of result.0).clock) (machine_of self).desk.moment) calls.Tick (W.out (machine_of self).wire) answers (machine_of result.0).desk.known (W.out (machine_of result.0).wire)) }
+        ensures front { (machine_of self).fault ≡ None → OnErr result.1 (BreaksOff W.gives (machine_of self).desk.known (moment_of (C.last (machine_of result.0).clock) (machine_of self).desk.moment) calls.Tick (W.out (machine_of self).wire) (W.out (machine_of result.0).wire)) }
         ensures typed { IsTyped result.0 }
         ensures well { OnOk result.1 ((machine_of result.0).fault ≡ None) }
         ensures kept { IfErr result.1 (λ fault. (machine_of result.0).fault ≡ Some fault) }
@@ -218,7 +227,9 @@ impl<C: Clock + Drop, W: Wire + Drop> Mobile<C, W> {
         requires proto { IsFalse (names_no_body proto) }
         requires short { length payload.now ≤ 512 }
         ensures faulted { IfSome (machine_of self).fault (λ fault. (result.1 ≡ Err fault) × (machine_of result.0 ≡ machine_of self)) }
+        ensures read { (machine_of self).fault ≡ None → C.ahead (machine_of result.0).clock ≡ option_map moments_after (C.ahead (machine_of self).clock) }
         ensures handles { IfOk result.1 (λ answers. Handles W.gives (machine_of self).desk.known (moment_of (C.last (machine_of result.0).clock) (machine_of self).desk.moment) (calls.Send to proto payload.now) (W.out (machine_of self).wire) answers (machine_of result.0).desk.known (W.out (machine_of result.0).wire)) }
+        ensures front { (machine_of self).fault ≡ None → OnErr result.1 (BreaksOff W.gives (machine_of self).desk.known (moment_of (C.last (machine_of result.0).clock) (machine_of self).desk.moment) (calls.Send to proto payload.now) (W.out (machine_of self).wire) (W.out (machine_of result.0).wire)) }
         ensures typed { IsTyped result.0 }
         ensures well { OnOk result.1 ((machine_of result.0).fault ≡ None) }
         ensures kept { IfErr result.1 (λ fault. (machine_of result.0).fault ≡ Some fault) }
@@ -233,7 +244,9 @@ impl<C: Clock + Drop, W: Wire + Drop> Mobile<C, W> {
     /// Asks the care-of address that is held for a home for a Binding Update; `idle` where none is held.
     pub fn refresh(self, alloc: Global, home: Address) -> Turned<C, W>
         ensures faulted { IfSome (machine_of self).fault (λ fault. (result.1 ≡ Err fault) × (machine_of result.0 ≡ machine_of self)) }
+        ensures read { (machine_of self).fault ≡ None → C.ahead (machine_of result.0).clock ≡ option_map moments_after (C.ahead (machine_of self).clock) }
         ensures handles { IfOk result.1 (λ answers. Handles W.gives (machine_of self).desk.known (moment_of (C.last (machine_of result.0).clock) (machine_of self).desk.moment) (calls.Refresh home) (W.out (machine_of self).wire) answers (machine_of result.0).desk.known (W.out (machine_of result.0).wire)) }
+        ensures front { (machine_of self).fault ≡ None → OnErr result.1 (BreaksOff W.gives (machine_of self).desk.known (moment_of (C.last (machine_of result.0).clock) (machine_of self).desk.moment) (calls.Refresh home) (W.out (machine_of self).wire) (W.out (machine_of result.0).wire)) }
         ensures typed { IsTyped result.0 }
         ensures well { OnOk result.1 ((machine_of result.0).fault ≡ None) }
         ensures kept { IfErr result.1 (λ fault. (machine_of result.0).fault ≡ Some fault) }
@@ -248,7 +261,9 @@ impl<C: Clock + Drop, W: Wire + Drop> Mobile<C, W> {
     /// Solicits the prefixes of its home link (RFC 6275 section 11.4.2).
     pub fn ask(self, alloc: Global) -> Turned<C, W>
         ensures faulted { IfSome (machine_of self).fault (λ fault. (result.1 ≡ Err fault) × (machine_of result.0 ≡ machine_of self)) }
+        ensures read { (machine_of self).fault ≡ None → C.ahead (machine_of result.0).clock ≡ option_map moments_after (C.ahead (machine_of self).clock) }
         ensures handles { IfOk result.1 (λ answers. Handles W.gives (machine_of self).desk.known (moment_of (C.last (machine_of result.0).clock) (machine_of self).desk.moment) calls.Ask (W.out (machine_of self).wire) answers (machine_of result.0).desk.known (W.out (machine_of result.0).wire)) }
+        ensures front { (machine_of self).fault ≡ None → OnErr result.1 (BreaksOff W.gives (machine_of self).desk.known (moment_of (C.last (machine_of result.0).clock) (machine_of self).desk.moment) calls.Ask (W.out (machine_of self).wire) (W.out (machine_of result.0).wire)) }
         ensures typed { IsTyped result.0 }
         ensures well { OnOk result.1 ((machine_of result.0).fault ≡ None) }
         ensures kept { IfErr result.1 (λ fault. (machine_of result.0).fault ≡ Some fault) }
@@ -263,7 +278,9 @@ impl<C: Clock + Drop, W: Wire + Drop> Mobile<C, W> {
     /// Loses all that it keeps, and goes on with these secrets.
     pub fn restart(self, alloc: Global, secrets: Secrets) -> Turned<C, W>
         ensures faulted { IfSome (machine_of self).fault (λ fault. (result.1 ≡ Err fault) × (machine_of result.0 ≡ machine_of self)) }
+        ensures read { (machine_of self).fault ≡ None → C.ahead (machine_of result.0).clock ≡ option_map moments_after (C.ahead (machine_of self).clock) }
         ensures handles { IfOk result.1 (λ answers. Handles W.gives (machine_of self).desk.known (moment_of (C.last (machine_of result.0).clock) (machine_of self).desk.moment) (calls.Restart secrets) (W.out (machine_of self).wire) answers (machine_of result.0).desk.known (W.out (machine_of result.0).wire)) }
+        ensures front { (machine_of self).fault ≡ None → OnErr result.1 (BreaksOff W.gives (machine_of self).desk.known (moment_of (C.last (machine_of result.0).clock) (machine_of self).desk.moment) (calls.Restart secrets) (W.out (machine_of self).wire) (W.out (machine_of result.0).wire)) }
         ensures typed { IsTyped result.0 }
         ensures well { OnOk result.1 ((machine_of result.0).fault ≡ None) }
         ensures kept { IfErr result.1 (λ fault. (machine_of result.0).fault ≡ Some fault) }

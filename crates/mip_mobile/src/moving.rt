@@ -1,8 +1,9 @@
 //! How a mobile comes to a link and leaves one, over its place (RFC 6275 sections 11.5.1 to 11.5.5).
 
-ghost use Rattle.std.specs.Prelude.{◌≡◌, ◌≤◌, true, false, None, Some, Err, IfOk, IfSome, IfErr, OnOk, IsErrOf, if◌then◌else◌};
+ghost use Rattle.std.specs.Prelude.{◌≡◌, ◌≤◌, true, false, None, Some, Err, IfOk, IfSome, IfErr, OnOk, OnErr, IsErrOf, if◌then◌else◌};
 ghost use Rattle.std.specs.Option.{option_map};
 ghost use Rattle.mip_outside.specs.Cause.{Rose};
+ghost use Rattle.mip_outside.specs.Moments.{moments_after};
 ghost use Rattle.mip_outside.specs.Places.{Around, claim_in, is_held};
 ghost use Rattle.mip_rules_mobile.specs.declared.standing.Standing.TheVariants.{AtHome};
 ghost use Rattle.mip_rules_mobile.specs.HomeQuestions.{home_of};
@@ -10,11 +11,11 @@ ghost use Rattle.mip_rules_mobile.specs.MovingRules.{address_under, uses_prefix}
 ghost use Rattle.mip_rules_mobile.specs.Doing.{turn_of};
 ghost use Rattle.mip_desk.specs.Seen.{Shows};
 ghost use Rattle.mip_mobile.specs.Placing.{attach_at, leave_at, claims_attached, claims_after_leaving, AreAnswered};
-ghost use Rattle.mip_mobile.specs.Handling.{Handles, moment_of};
+ghost use Rattle.mip_mobile.specs.Handling.{Handles, BreaksOff, moment_of};
 
 use crate::fault::StationFault;
 use crate::machine::Machine;
-use crate::placing::{come, release_held, uses_prefix};
+use crate::placing::{come, release_held};
 use mip_entries::Answers;
 use mip_outside::{Claim, Clock, Place, Wire};
 use mip_words::{Memory, Prefix};
@@ -31,7 +32,9 @@ impl<C: Clock + Drop, W: Wire + Drop> Machine<C, W> {
         requires home { (P.around place.old).room (home_of self.old.desk.known).0 ≡ true }
         requires address { (P.around place.old).room (address_under (home_of self.old.desk.known) prefix.0).0 ≡ true }
         ensures faulted { IfSome self.old.fault (λ fault. (result ≡ Err fault) × (self.new ≡ self.old) × (P.claims place.new ≡ P.claims place.old)) }
+        ensures read { self.old.fault ≡ None → C.ahead self.new.clock ≡ option_map moments_after (C.ahead self.old.clock) }
         ensures handles { IfOk result (λ answers. Handles W.gives self.old.desk.known (moment_of (C.last self.new.clock) self.old.desk.moment) (attach_at (P.around place.old) (home_of self.old.desk.known) prefix.0) (W.out self.old.wire) answers self.new.desk.known (W.out self.new.wire)) }
+        ensures front { self.old.fault ≡ None → OnErr result (BreaksOff W.gives self.old.desk.known (moment_of (C.last self.new.clock) self.old.desk.moment) (attach_at (P.around place.old) (home_of self.old.desk.known) prefix.0) (W.out self.old.wire) (W.out self.new.wire)) }
         ensures claims { self.old.fault ≡ None → P.claims place.new ≡ option_map (claims_attached (P.around place.old) self.old.desk.known.standing (home_of self.old.desk.known) prefix.0) (P.claims place.old) }
         ensures place { (P.around place.new ≡ P.around place.old) × P.is_same place.old place.new }
         ensures well { OnOk result (self.new.fault ≡ None) }
@@ -57,7 +60,7 @@ impl<C: Clock + Drop, W: Wire + Drop> Machine<C, W> {
     {
         let standing = self.desk.standing();
         let home = self.desk.home();
-        if uses_prefix(standing, home, prefix) {
+        if mip_mobility::uses_prefix(standing, home, prefix) {
             (Claim::Held, Claim::Held)
         } else {
             come(place, standing, home, prefix)
@@ -74,6 +77,7 @@ impl<C: Clock + Drop, W: Wire + Drop> Machine<C, W> {
         ensures shows { (around : Around) → AreAnswered around self.old.desk.known prefix.0 of_home of_address
             → OnOk result (Shows self.new.desk (turn_of self.old.desk.known (moment_of (C.last self.new.clock) self.old.desk.moment) (attach_at around (home_of self.old.desk.known) prefix.0))) }
         ensures rest { (self.new.wire ≡ self.old.wire) × (self.new.fault ≡ self.old.fault) }
+        ensures read { C.ahead self.new.clock ≡ option_map moments_after (C.ahead self.old.clock) }
     {
         self.begin(alloc)?;
         mip_mobility::attach(alloc, &mut self.desk, prefix, of_home, of_address)
@@ -83,7 +87,9 @@ impl<C: Clock + Drop, W: Wire + Drop> Machine<C, W> {
     pub fn leave<P: Place>(&mut self, alloc: Global, place: &mut P) -> Result<Answers, StationFault>
         requires home { (P.around place.old).room (home_of self.old.desk.known).0 ≡ true }
         ensures faulted { IfSome self.old.fault (λ fault. (result ≡ Err fault) × (self.new ≡ self.old) × (P.claims place.new ≡ P.claims place.old)) }
+        ensures read { self.old.fault ≡ None → C.ahead self.new.clock ≡ option_map moments_after (C.ahead self.old.clock) }
         ensures handles { IfOk result (λ answers. Handles W.gives self.old.desk.known (moment_of (C.last self.new.clock) self.old.desk.moment) (leave_at (P.around place.old) (home_of self.old.desk.known)) (W.out self.old.wire) answers self.new.desk.known (W.out self.new.wire)) }
+        ensures front { self.old.fault ≡ None → OnErr result (BreaksOff W.gives self.old.desk.known (moment_of (C.last self.new.clock) self.old.desk.moment) (leave_at (P.around place.old) (home_of self.old.desk.known)) (W.out self.old.wire) (W.out self.new.wire)) }
         ensures claims { self.old.fault ≡ None → P.claims place.new ≡ option_map (claims_after_leaving (P.around place.old) self.old.desk.known.standing (home_of self.old.desk.known)) (P.claims place.old) }
         ensures place { (P.around place.new ≡ P.around place.old) × P.is_same place.old place.new }
         ensures well { OnOk result (self.new.fault ≡ None) }
@@ -103,6 +109,7 @@ impl<C: Clock + Drop, W: Wire + Drop> Machine<C, W> {
         ensures shows { (around : Around) → (self.old.desk.known.standing ≡ AtHome → of_home ≡ claim_in around (home_of self.old.desk.known).0)
             → OnOk result (Shows self.new.desk (turn_of self.old.desk.known (moment_of (C.last self.new.clock) self.old.desk.moment) (leave_at around (home_of self.old.desk.known)))) }
         ensures rest { (self.new.wire ≡ self.old.wire) × (self.new.fault ≡ self.old.fault) }
+        ensures read { C.ahead self.new.clock ≡ option_map moments_after (C.ahead self.old.clock) }
     {
         self.begin(alloc)?;
         mip_mobility::leave(&mut self.desk, of_home)

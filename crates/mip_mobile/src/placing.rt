@@ -5,7 +5,7 @@ ghost use Rattle.std.specs.Option.{option_map};
 ghost use Rattle.mip_outside.specs.declared.claim.Claim.{Claim};
 ghost use Rattle.mip_outside.specs.Places.{claim_in, is_held};
 ghost use Rattle.mip_rules_mobile.specs.declared.standing.Standing.TheVariants.{AtHome};
-ghost use Rattle.mip_rules_mobile.specs.MovingRules.{address_under, uses_prefix};
+ghost use Rattle.mip_rules_mobile.specs.MovingRules.{address_under};
 ghost use Rattle.mip_mobile.specs.Placing.{claims_left, claims_come};
 
 use mip_outside::{Claim, Place};
@@ -43,17 +43,6 @@ pub fn release_held<P: Place>(place: &mut P, standing: Standing, home: Address) 
             place.release(careof);
             Claim::Held
         }
-    }
-}
-
-/// Whether it uses a prefix.
-pub fn uses_prefix(standing: Standing, home: Address, prefix: Prefix) -> bool
-    ensures { result ≡ uses_prefix standing home prefix.0 }
-{
-    match standing {
-        Standing::Detached => false,
-        Standing::AtHome => prefix.0 == home.prefix().0,
-        Standing::Away { careof } => prefix.0 == careof.prefix().0,
     }
 }
 

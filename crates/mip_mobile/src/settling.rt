@@ -5,7 +5,7 @@ ghost use Rattle.mip_outside.specs.Cause.{Rose};
 ghost use Rattle.mip_words.specs.declared.why.Why.{Why};
 ghost use Rattle.mip_entries.specs.declared.answer.Answer.TheVariants.{Note};
 ghost use Rattle.mip_entries.specs.declared.entry.Entry.TheVariants.{Unsent};
-ghost use Rattle.mip_mobile.specs.Settling.{settled, Settles, SettlesAll, sends_in, sends_of};
+ghost use Rattle.mip_mobile.specs.Settling.{settled, Settles, SettlesAll, SettlesFront, sends_in, sends_of};
 
 use crate::fault::StationFault;
 use mip_entries::{Answer, Answers, Entry};
@@ -37,6 +37,7 @@ fn unsent(why: Why) -> Answer
 pub fn settle_one<W: Wire>(wire: &mut W, answer: Answer) -> Result<Answer, StationFault>
     ensures settles { IfOk result (λ b. Settles W.gives answer b) }
     ensures out { IfOk result (λ b. W.out wire.new ≡ option_map (λ items. items ++ sends_in b) (W.out wire.old)) }
+    ensures err { OnErr result (W.out wire.new ≡ W.out wire.old) }
     ensures no_fewer { W.faults wire.old ≤ W.faults wire.new }
     ensures failed { IsErrOf result StationFault.Failed → Rose (W.faults wire.old) (W.faults wire.new) }
     ensures same { W.is_same wire.old wire.new }
@@ -50,10 +51,11 @@ pub fn settle_one<W: Wire>(wire: &mut W, answer: Answer) -> Result<Answer, Stati
     }
 }
 
-/// All answers in order. After a fault the packets before it were sent.
+/// All answers in order. After a fault the wire sent a front of their packets, and no more.
 pub fn settle<W: Wire>(alloc: Global, wire: &mut W, asked: Answers) -> Result<Answers, StationFault>
     ensures settles { IfOk result (λ answers. SettlesAll W.gives asked answers) }
     ensures out { IfOk result (λ answers. W.out wire.new ≡ option_map (λ items. items ++ sends_of answers) (W.out wire.old)) }
+    ensures front { OnErr result (SettlesFront W.gives asked (W.out wire.old) (W.out wire.new)) }
     ensures no_fewer { W.faults wire.old ≤ W.faults wire.new }
     ensures failed { IsErrOf result StationFault.Failed → Rose (W.faults wire.old) (W.faults wire.new) }
     ensures same { W.is_same wire.old wire.new }

@@ -1,8 +1,10 @@
-use Rattle.std.proofs.Common.{◌≡◌, ◌++◌, ◌∷◌, [], ◌≤◌, List, sym, subst, arith}
+use Rattle.std.proofs.Common.{◌≡◌, ◌++◌, ◌∷◌, [], ◌≤◌, ◌∙◌, List, sym, subst, arith, rules}
 use Rattle.std.specs.Prelude.{option_map}
+use Rattle.std.proofs.lemmas.Iterator.Consumers.{YieldsList-turn}
+use Rattle.std.proofs.lemmas.Iterator.Adapters.{YieldsList-from_vec}
 use Rattle.mip_entries.specs.declared.answer.Answer.{Answer}
 use Rattle.mip_mobile.specs.Settling.{SettlesAll, sends_of}
-use Rattle.mip_mobile.proofs.Settled.{settles-more, out-more}
+use Rattle.mip_mobile.proofs.Settled.{settles-more, out-more, on-err, first-more, front-settles}
 use Rattle.mip_mobile.proofs.settling.settle.Goals as goal
 
 pub loop-answer-preserved : goal.loop-answer-preserved
@@ -13,12 +15,38 @@ loop-answer-preserved g c =
     let a : Answer = c.in-Some.answer in
     let b : Answer = c.in_ok-settle_one.field-0 in
     let inv = c.loop-answer.invariant in
+    let turn = YieldsList-turn (YieldsList-from_vec {s = c.into_iter-answer-iterator.result} c.args.asked (search rules) (search rules))
+    asked c.loop-answer.answer-iterator c.loop-answer.yielded_by c.next.result c.next.new.self a c.in-Some.is c.next.ensures.steps in
     let pushed : c.push.new.self ≡ before ++ b ∷ [] = c.in_ok-push.ensures.ok in (
-      subst (λ (bs : List Answer). SettlesAll gives (asked ++ a ∷ []) bs) (sym pushed) (settles-more gives asked before a b inv.0 c.in_ok-settle_one.ensures.settles),
+      first-more c.args.asked asked a inv.0 turn,
+      subst (λ (bs : List Answer). SettlesAll gives (asked ++ a ∷ []) bs) (sym pushed) (settles-more gives asked before a b inv.1 c.in_ok-settle_one.ensures.settles),
       subst (λ (bs : List Answer). g.W.Wire.out c.settle_one.new.wire ≡ option_map (λ items. items ++ sends_of bs) (g.W.Wire.out c.args.wire.now)) (sym pushed)
-          (out-more (g.W.Wire.out c.args.wire.now) (g.W.Wire.out c.loop-answer.wire) (g.W.Wire.out c.settle_one.new.wire) before b inv.1 c.in_ok-settle_one.ensures.out),
-      (let low : g.W.Wire.faults c.args.wire.now ≤ g.W.Wire.faults c.loop-answer.wire = inv.2 in
+          (out-more (g.W.Wire.out c.args.wire.now) (g.W.Wire.out c.loop-answer.wire) (g.W.Wire.out c.settle_one.new.wire) before b inv.2 c.in_ok-settle_one.ensures.out),
+      (let low : g.W.Wire.faults c.args.wire.now ≤ g.W.Wire.faults c.loop-answer.wire = inv.3 in
           let high : g.W.Wire.faults c.loop-answer.wire ≤ g.W.Wire.faults c.settle_one.new.wire = c.settle_one.ensures.no_fewer in
           omega arith),
-      g.met.W.Wire.same_since c.args.wire.now c.loop-answer.wire c.settle_one.new.wire inv.3 c.settle_one.ensures.same,
+      g.met.W.Wire.same_since c.args.wire.now c.loop-answer.wire c.settle_one.new.wire inv.4 c.settle_one.ensures.same,
     )
+
+pub returns-in_err-settle_one-clause-front : goal.returns-in_err-settle_one-clause-front
+returns-in_err-settle_one-clause-front g c =
+    let out = g.W.Wire.out in
+    let inv = c.loop-answer.invariant in
+    on-err c.from_residual-in_err-settle_one.result
+    (front-settles g.W.Wire.gives c.args.asked c.loop-answer.yielded c.loop-answer.answers (out c.args.wire.now) (out c.settle_one.new.wire) inv.0 inv.1 (c.in_err-settle_one.ensures.err ∙ inv.2))
+
+pub returns-in_err-push-clause-front : goal.returns-in_err-push-clause-front
+returns-in_err-push-clause-front g c =
+    let gives = g.W.Wire.gives in
+    let out = g.W.Wire.out in
+    let asked : List Answer = c.loop-answer.yielded in
+    let before : List Answer = c.loop-answer.answers in
+    let a : Answer = c.in-Some.answer in
+    let b : Answer = c.in_ok-settle_one.field-0 in
+    let inv = c.loop-answer.invariant in
+    let turn = YieldsList-turn (YieldsList-from_vec {s = c.into_iter-answer-iterator.result} c.args.asked (search rules) (search rules))
+    asked c.loop-answer.answer-iterator c.loop-answer.yielded_by c.next.result c.next.new.self a c.in-Some.is c.next.ensures.steps in
+    on-err c.from_residual-in_err-push.result
+    (front-settles gives c.args.asked (asked ++ a ∷ []) (before ++ b ∷ []) (out c.args.wire.now) (out c.settle_one.new.wire) (first-more c.args.asked asked a inv.0 turn)
+    (settles-more gives asked before a b inv.1 c.in_ok-settle_one.ensures.settles)
+    (out-more (out c.args.wire.now) (out c.loop-answer.wire) (out c.settle_one.new.wire) before b inv.2 c.in_ok-settle_one.ensures.out))

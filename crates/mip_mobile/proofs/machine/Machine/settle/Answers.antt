@@ -1,11 +1,11 @@
-use Rattle.std.proofs.Common.{◌≡◌, List, ◌++◌, subst, ap}
-use Rattle.std.specs.Prelude.{Result, OnOk, option_map}
-use Rattle.mip_entries.specs.declared.answer.Answer.{Answer}
+use Rattle.std.proofs.Common.{◌≡◌, ◌++◌, subst, ap}
+use Rattle.std.specs.Prelude.{OnOk, option_map}
 use Rattle.mip_rules_mobile.specs.Doing.{turn_of}
 use Rattle.mip_desk.specs.Seen.{DeskSeen, Shows}
-use Rattle.mip_mobile.specs.Settling.{SettlesAll, sends_of}
-use Rattle.mip_mobile.specs.Handling.{Handles}
-use Rattle.mip_mobile.proofs.Handled.{if-both, handled}
+use Rattle.mip_mobile.specs.Settling.{SettlesAll, SettlesFront, sends_of}
+use Rattle.mip_mobile.specs.Handling.{Handles, BreaksOff}
+use Rattle.mip_mobile.proofs.Settled.{on-err}
+use Rattle.mip_mobile.proofs.Handled.{if-both, handled, on-errs, breaks-off, breaks-none}
 use Rattle.mip_mobile.proofs.machine.Machine.settle.Goals as goal
 
 pub returns-clause-handles : goal.returns-clause-handles
@@ -20,3 +20,19 @@ returns-clause-handles g c = λ k now call shown.
     (λ answers settles sent.
     handled gives k now call desk c.in_ok-asked.asked c.take_answers.new.self.known out told answers shows c.in_ok-asked.ensures.answers (ap (λ (d : DeskSeen). d.known) c.in_ok-asked.ensures.desk) settles sent)
     c.settle.ensures.settles c.settle.ensures.out
+
+pub returns-clause-front : goal.returns-clause-front
+returns-clause-front g c = λ k now call shown.
+    let desk : DeskSeen = c.args.self.now.desk in
+    let gives = g.W.Wire.gives in
+    let out = g.W.Wire.out c.args.self.now.wire in
+    let told = g.W.Wire.out c.settle.new.wire in
+    let shows : Shows desk (turn_of k now call) = subst (λ r. OnOk r (Shows desk (turn_of k now call))) c.in_ok-done.was shown in
+    on-errs {P = SettlesFront gives c.in_ok-asked.asked out told} {Q = BreaksOff gives k now call out told} c.settle.result
+    (λ front. breaks-off gives k now call desk c.in_ok-asked.asked out told shows c.in_ok-asked.ensures.answers front) c.settle.ensures.front
+
+pub returns-in_err-done-clause-front : goal.returns-in_err-done-clause-front
+returns-in_err-done-clause-front g c = λ k now call shown. on-err c.from_residual.result (breaks-none g.W.Wire.gives k now call (g.W.Wire.out c.args.self.now.wire))
+
+pub returns-in_err-asked-clause-front : goal.returns-in_err-asked-clause-front
+returns-in_err-asked-clause-front g c = λ k now call shown. on-err c.from_residual-in_err-asked.result (breaks-none g.W.Wire.gives k now call (g.W.Wire.out c.args.self.now.wire))
