@@ -5,6 +5,7 @@
 mod claim_fault;
 mod delivery;
 mod flight;
+mod kept_flight;
 mod net;
 mod places;
 mod post;

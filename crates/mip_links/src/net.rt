@@ -26,6 +26,7 @@ const EARS: usize = 256;
 /// A network. A holder is a node by its number, or an outsider by `FIRST_OUTSIDER` and its number.
 #[derive(Drop)]
 pub struct Net {
+    alloc: Global,
     links: Vec<Prefix>,
     claims: IndexMap<u128, Option<u8>>,
     firsts: Vec<Option<Address>>,
@@ -67,6 +68,7 @@ impl Net {
         ensures { IfOk result (λ n. n ≡ new_net (map (λ p. p.0) links.now)) }
     {
         Ok(Net {
+            alloc,
             links: Vec::from_slice(alloc, links)?,
             claims: IndexMap::new(alloc),
             firsts: no_firsts(alloc)?,
@@ -126,8 +128,9 @@ impl Net {
         ensures err { OnErr result (self.new ≡ self.old) }
     {
         let number = self.posts.len();
+        let post = Post::new(self.alloc, from, shield, packet)?;
         self.flying.reserve(1)?;
-        self.posts.push(Post::new(from, shield, packet))?;
+        self.posts.push(post)?;
         self.flying.push_reserved(true);
         Ok(number as u64)
     }

@@ -9,7 +9,7 @@ use crate::draw::Draw;
 use crate::network::{
     CORRESPONDENT, CORRESPONDENT_ADDRESS, FIRST, FIRST_HOME, SECOND, SECOND_HOME,
 };
-use mip_schedule::Event;
+use mip_schedule::{Event, KeptAddress};
 use mip_words::{Address, Bytes, LinkId, Memory, NodeId, u32_bytes};
 use std::alloc::Global;
 
@@ -54,7 +54,7 @@ fn data(alloc: Global, node: NodeId, to: Address, y: u32) -> Result<Event, Memor
     let payload = Bytes::copy(alloc, &u32_bytes(y))?;
     Ok(Event::Payload {
         node,
-        to,
+        to: KeptAddress::new(to),
         proto: PROTO,
         payload,
     })

@@ -36,7 +36,8 @@ pub fn each_acceptance_is_followed()
 /// In the permitted history of a schedule of plain data, an accepted update that is not forged has its origin, whoever accepted
 /// it: the node sent both tokens in its present life, to that home and that care-of address, and both had reached the maker of
 /// the update before its first packet was posted. Where the waits add up to at most 36,000 s, both tokens are those of the
-/// nonces that were valid at the acceptance.
+/// nonces that were valid at the acceptance. `stands` speaks of any update at any place of the history, and `nonces` of the one that the
+/// entry at that place accepts.
 pub fn unforged_acceptances_have_their_origin()
     ensures stands { (c : Content) → ArePlain c → (before : List Entry) (e : Entry) (after : List Entry) → permitted c ≡ before ++ e ∷ after
         → (a : AcceptedUpdate) (hot : ℕ) (cot : Option ℕ) (update : ℕ) → mark_in before a ≡ Origin hot cot update → HasOrigin before a hot cot update }

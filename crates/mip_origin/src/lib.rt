@@ -1,4 +1,5 @@
-//! What stands behind a binding: laws on the tests that nodes send.
+//! What stands behind a binding: the theorem of return routability over every permitted history, and laws on the tests that
+//! nodes send.
 #![tactic(auto)]
 
 mod laws;

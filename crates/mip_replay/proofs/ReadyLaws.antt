@@ -155,7 +155,7 @@ module _ (waits : AreWaits) (lives : AreRestarts) (c : Content) (lawful : IsLawf
   ready (Advertise link) is = link_there link is.within
   ready (Payload node to proto payload) is = (data_fits proto (passed (is_reserved proto) reasons.Number None (fits _ is).1).0, is.within.2)
   ready (Inject o link packet) is = packet_fits packet (fits _ is).1
-  ready (Bind o link source peer home careof sequence lifetime kh kc) is = is.within.4
+  ready (Bind o link ends sequence lifetime kh kc) is = is.within.4
   ready (Listen o link) is = ear o link is.within.0 is.within.1
   ready (Deaf o link) is = ear o link is.within.0 is.within.1
   ready (Squat o address) is = outsider_there o is.within.0

@@ -6,7 +6,7 @@ ghost use Rattle.mip_schedule.specs.Schedules.{content};
 
 use mip_schedule::{Event, Schedule, lawful};
 
-/// How many lines stand besides declarations and events.
+/// The line of the first event where nothing is declared: `mip`, `seed`, `start` and `run` stand before it.
 const BESIDES: u32 = 5;
 
 pub(crate) fn is_built_event(event: &Event) -> bool

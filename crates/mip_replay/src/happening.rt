@@ -32,10 +32,7 @@ fn outsider_binds(alloc: Global, engine: &mut Engine, event: &Event) -> Result<(
     let Event::Bind {
         outsider,
         link,
-        source,
-        peer,
-        home,
-        careof,
+        ends,
         sequence,
         lifetime,
         home_test,
@@ -44,11 +41,12 @@ fn outsider_binds(alloc: Global, engine: &mut Engine, event: &Event) -> Result<(
     else {
         unreachable!();
     };
+    let ends = ends.get();
     let binding = Binding {
-        source: *source,
-        peer: *peer,
-        home: *home,
-        careof: *careof,
+        source: ends.source,
+        peer: ends.peer,
+        home: ends.home,
+        careof: ends.careof,
         sequence: *sequence,
         lifetime: *lifetime,
     };
@@ -88,7 +86,14 @@ fn outsider_posts(alloc: Global, engine: &mut Engine, event: &Event) -> Result<(
             peer,
             cookie,
         } => probe(
-            alloc, engine, *outsider, *link, *careof, *source, *peer, *cookie,
+            alloc,
+            engine,
+            *outsider,
+            *link,
+            *careof,
+            source.get(),
+            peer.get(),
+            *cookie,
         ),
         Event::Tell {
             outsider,
@@ -124,12 +129,14 @@ fn node_is_asked(alloc: Global, engine: &mut Engine, event: &Event) -> Result<()
             alloc,
             *node,
             Call::Send {
-                to: *to,
+                to: to.get(),
                 proto: *proto,
                 payload: payload.as_slice(),
             },
         ),
-        Event::Refresh { node, home } => engine.act(alloc, *node, Call::Refresh { home: *home }),
+        Event::Refresh { node, home } => {
+            engine.act(alloc, *node, Call::Refresh { home: home.get() })
+        }
         Event::Plan {
             node,
             valid,
@@ -165,8 +172,8 @@ pub(crate) fn happen(alloc: Global, engine: &mut Engine, event: &Event) -> Resul
     match event {
         Event::Listen { outsider, link } => listen(engine, *outsider, *link),
         Event::Deaf { outsider, link } => deafen(engine, *outsider, *link),
-        Event::Squat { outsider, address } => squat(engine, *outsider, *address),
-        Event::Yield { outsider, address } => yield_up(engine, *outsider, *address),
+        Event::Squat { outsider, address } => squat(engine, *outsider, address.get()),
+        Event::Yield { outsider, address } => yield_up(engine, *outsider, address.get()),
         Event::Bind { .. } => outsider_binds(alloc, engine, event),
         Event::Inject { .. } | Event::Probe { .. } | Event::Tell { .. } => {
             outsider_posts(alloc, engine, event)

@@ -13,7 +13,7 @@ use std::alloc::Global;
 use std::marker::Model;
 
 /// Entries are given away once so many wait.
-const PIECE: usize = 256;
+const PIECE: usize = 64;
 
 /// The run of a schedule, whose history is given away piece by piece.
 ///

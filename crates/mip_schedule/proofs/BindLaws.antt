@@ -1,4 +1,4 @@
--- The line of an update is its two parts.
+-- The line of an update, in its parts.
 use Rattle.std.proofs.Common.{◌≡◌, ℕ, ◌<◌, ◌≤◌, List, [], ◌∷◌, length, get_or, refl, ap, ◌∙◌, arith}
 use Rattle.std.specs.Prelude.{Result, Ok, Err}
 use Rattle.std.specs.Borrow.{Bor}
@@ -8,25 +8,22 @@ use Rattle.mip_words.specs.declared.ids.LinkId.{LinkId}
 use Rattle.mip_lines.specs.Cutting.{texts}
 use Rattle.mip_schedule.specs.BindParts.{bind_ends, bind_numbers}
 use Rattle.mip_schedule.specs.DeclarationRows.{u16}
-use Rattle.mip_schedule.specs.EventRows.{u32, bind_row}
+use Rattle.mip_schedule.specs.EventRows.{u32, update_ends, bind_row}
 use Rattle.mip_declared.specs.Kinds as kinds
 use Rattle.mip_declared.specs.declared.declaration.Declaration.{Declaration}
 use Rattle.mip_schedule.specs.declared.event.Event.TheVariants as events
-use Rattle.mip_schedule.specs.declared.ends.Ends.{Ends}
 use Rattle.mip_declared.specs.declared.reason.Reason.{Reason}
 
-abbrev ends : ℕ → LinkId → Address → Address → Address → Address → Ends
-ends a b x y z w = record { outsider = a; link = b; source = x; peer = y; home = z; careof = w }
-
 pub bind_split : (ds : List Declaration) (c1 c2 c3 c4 c5 c6 c7 c8 c9 c10 : List ℕ)
-    → bind_row ds (c1 ∷ c2 ∷ c3 ∷ c4 ∷ c5 ∷ c6 ∷ c7 ∷ c8 ∷ c9 ∷ c10 ∷ []) ≡ (bind_ends ds c1 c2 c3 c4 c5 c6 >>= (λ e. bind_numbers e c7 c8 c9 c10))
+    → bind_row ds (c1 ∷ c2 ∷ c3 ∷ c4 ∷ c5 ∷ c6 ∷ c7 ∷ c8 ∷ c9 ∷ c10 ∷ [])
+    ≡ (kinds.outsider ds c1 >>= (λ o. kinds.link ds c2 >>= (λ l. bind_ends c3 c4 c5 c6 >>= (λ e. bind_numbers o l e c7 c8 c9 c10))))
 unfolding bind_row bind_ends bind_numbers
 bind_split ds c1 c2 c3 c4 c5 c6 c7 c8 c9 c10 = by (kinds.outsider ds c1) (kinds.link ds c2) (kinds.address c3) (kinds.address c4) (kinds.address c5) (kinds.address c6)
   where
     by : (o : Result ℕ Reason) (l : Result LinkId Reason) (s p h c : Result Address Reason)
-        → (o >>= (λ a. l >>= (λ b. s >>= (λ x. p >>= (λ y. h >>= (λ z. c >>= (λ w. u16 c7 >>= (λ q. u16 c8 >>= (λ t. u32 c9 >>= (λ k. kinds.some_packet c10 >>= (λ j. Ok (events.Bind a b x y z w q t k j))))))))))))
-        ≡ ((o >>= (λ a. l >>= (λ b. s >>= (λ x. p >>= (λ y. h >>= (λ z. c >>= (λ w. Ok (ends a b x y z w))))))))
-        >>= (λ e. u16 c7 >>= (λ q. u16 c8 >>= (λ t. u32 c9 >>= (λ k. kinds.some_packet c10 >>= (λ j. Ok (events.Bind e.outsider e.link e.source e.peer e.home e.careof q t k j)))))))
+        → (o >>= (λ a. l >>= (λ b. s >>= (λ x. p >>= (λ y. h >>= (λ z. c >>= (λ w. u16 c7 >>= (λ q. u16 c8 >>= (λ t. u32 c9 >>= (λ k. kinds.some_packet c10 >>= (λ j. Ok (events.Bind a b (update_ends x y z w) q t k j))))))))))))
+        ≡ (o >>= (λ a. l >>= (λ b. (s >>= (λ x. p >>= (λ y. h >>= (λ z. c >>= (λ w. Ok (update_ends x y z w))))))
+        >>= (λ e. u16 c7 >>= (λ q. u16 c8 >>= (λ t. u32 c9 >>= (λ k. kinds.some_packet c10 >>= (λ j. Ok (events.Bind a b e q t k j)))))))))
     by (Err r) l s p h c = refl
     by (Ok a) (Err r) s p h c = refl
     by (Ok a) (Ok b) (Err r) p h c = refl
@@ -59,6 +56,7 @@ ten (a ∷ b ∷ c ∷ d ∷ e ∷ f ∷ g ∷ h ∷ i ∷ j ∷ []) long short 
 ten (a ∷ b ∷ c ∷ d ∷ e ∷ f ∷ g ∷ h ∷ i ∷ j ∷ k ∷ more) long short = absurd (omega arith)
 
 pub bind_parts : (ds : List Declaration) (fs : List (Bor (List ℕ))) → 10 ≤ length fs → length fs < 11
-    → bind_row ds (texts fs) ≡ (bind_ends ds (field fs 0) (field fs 1) (field fs 2) (field fs 3) (field fs 4) (field fs 5) >>= (λ e. bind_numbers e (field fs 6) (field fs 7) (field fs 8) (field fs 9)))
+    → bind_row ds (texts fs)
+    ≡ (kinds.outsider ds (field fs 0) >>= (λ o. kinds.link ds (field fs 1) >>= (λ l. bind_ends (field fs 2) (field fs 3) (field fs 4) (field fs 5) >>= (λ e. bind_numbers o l e (field fs 6) (field fs 7) (field fs 8) (field fs 9)))))
 bind_parts ds fs long short =
     ap (bind_row ds) (ten fs long short) ∙ bind_split ds (field fs 0) (field fs 1) (field fs 2) (field fs 3) (field fs 4) (field fs 5) (field fs 6) (field fs 7) (field fs 8) (field fs 9)

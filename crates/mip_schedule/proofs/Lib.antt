@@ -4,6 +4,7 @@ pub mod DeclarationLaws
 pub mod EventLaws
 pub mod TextLaws
 pub mod BindLaws
+pub mod KeptLaws
 pub mod AcceptedLaws
 pub mod StandingLaws
 pub mod WritingLaws

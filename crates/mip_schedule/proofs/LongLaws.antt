@@ -9,7 +9,7 @@ use Rattle.mip_schedule.specs.DeclarationRows.{u16, room, link_row, agent_row, c
 use Rattle.mip_schedule.specs.DeclarationTimes.{undeclared, judged, declaration_line}
 use Rattle.mip_schedule.specs.Declarings.{next_of}
 use Rattle.mip_schedule.specs.EventRows as events_rows
-use Rattle.mip_schedule.specs.EventRows.{u32, wait_row, move_row, advertise_row, data_row, inject_row, probe_row, bind_row, tell_row, listen_row, deaf_row, squat_row, yield_row, deliver_row, repeat_row, lose_row, carry_row, restart_row, refresh_row, plan_row, ask_row, show_row, settle_row, packet_fields, outsider_fields, event_fields}
+use Rattle.mip_schedule.specs.EventRows.{u32, update_ends, wait_row, move_row, advertise_row, data_row, inject_row, probe_row, bind_row, tell_row, listen_row, deaf_row, squat_row, yield_row, deliver_row, repeat_row, lose_row, carry_row, restart_row, refresh_row, plan_row, ask_row, show_row, settle_row, packet_fields, outsider_fields, event_fields}
 use Rattle.mip_schedule.specs.EventTimes.{untimely, timed_line}
 use Rattle.mip_declared.specs.Kinds as kinds
 use Rattle.mip_schedule.specs.Reading.{bad_form, headed, is_run}
@@ -85,7 +85,7 @@ long_outsider ds word fields long =
     let P : Result Event Reason → Type 0 = λ r. r ≡ Err reasons.Form in
     cond_both (bytes_eq word (codes "inject")) _ _ P (λ _. row3-long reasons.Form (kinds.outsider ds) (kinds.link ds) (kinds.bytes 2048) (λ a b c. events.Inject a b c) fields (omega arith)) (λ _.
     cond_both (bytes_eq word (codes "probe")) _ _ P (λ _. row6-long reasons.Form (kinds.outsider ds) (kinds.link ds) kinds.careof kinds.address kinds.address kinds.cookie (λ a b c d e f. events.Probe a b c d e f) fields (omega arith)) (λ _.
-    cond_both (bytes_eq word (codes "bind")) _ _ P (λ _. row10-long reasons.Form (kinds.outsider ds) (kinds.link ds) kinds.address kinds.address kinds.address kinds.address u16 u16 u32 kinds.some_packet (λ a b c d e f g h i j. events.Bind a b c d e f g h i j) fields long) (λ _.
+    cond_both (bytes_eq word (codes "bind")) _ _ P (λ _. row10-long reasons.Form (kinds.outsider ds) (kinds.link ds) kinds.address kinds.address kinds.address kinds.address u16 u16 u32 kinds.some_packet (λ a b c d e f g h i j. events.Bind a b (update_ends c d e f) g h i j) fields long) (λ _.
     cond_both (bytes_eq word (codes "tell")) _ _ P (λ _. row4-long reasons.Form (kinds.outsider ds) (kinds.link ds) u32 u32 (λ a b c d. events.Tell a b c d) fields (omega arith)) (λ _.
     cond_both (bytes_eq word (codes "listen")) _ _ P (λ _. row2-long reasons.Form (kinds.outsider ds) (kinds.link ds) (λ a b. events.Listen a b) fields (omega arith)) (λ _.
     cond_both (bytes_eq word (codes "deaf")) _ _ P (λ _. row2-long reasons.Form (kinds.outsider ds) (kinds.link ds) (λ a b. events.Deaf a b) fields (omega arith)) (λ _.

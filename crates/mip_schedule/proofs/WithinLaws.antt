@@ -14,14 +14,14 @@ use Rattle.mip_lines.specs.HexFields.{address_in}
 use Rattle.mip_lines.specs.Rows.{row1, row2, row3, row4, row6}
 use Rattle.mip_lines.proofs.HexFieldLaws.{hex_field-spelled}
 use Rattle.mip_schedule.specs.BindParts.{bind_ends, bind_numbers}
-use Rattle.mip_schedule.specs.EventRows.{wait_row, move_row, advertise_row, data_row, inject_row, probe_row, bind_row, tell_row, listen_row, deaf_row, squat_row, yield_row, carry_row, restart_row, refresh_row, plan_row, ask_row, show_row, settle_row, node_fields, packet_fields, outsider_fields, event_fields}
+use Rattle.mip_schedule.specs.EventRows.{update_ends, wait_row, move_row, advertise_row, data_row, inject_row, probe_row, bind_row, tell_row, listen_row, deaf_row, squat_row, yield_row, carry_row, restart_row, refresh_row, plan_row, ask_row, show_row, settle_row, node_fields, packet_fields, outsider_fields, event_fields}
 use Rattle.mip_declared.specs.Kinds as kinds
 use Rattle.mip_declared.specs.Kinds.{to_host, address, bytes, place, link, node, outsider, some_link}
 use Rattle.mip_schedule.specs.Lawful.{IsLink, IsNode, IsOutsider, IsLinkIfAny, IsHost, IsWithin}
 use Rattle.mip_declared.specs.Places.{members}
 use Rattle.mip_schedule.specs.Spelling.{event_text}
 use Rattle.mip_declared.specs.declared.declaration.Declaration.{Declaration}
-use Rattle.mip_schedule.specs.declared.ends.Ends.{Ends}
+use Rattle.mip_schedule.specs.declared.update_ends.UpdateEnds.{UpdateEnds}
 use Rattle.mip_schedule.specs.declared.event.Event.{Event}
 use Rattle.mip_schedule.specs.declared.event.Event.TheVariants as events
 use Rattle.mip_declared.specs.declared.places.Sort.{Sort}
@@ -164,9 +164,9 @@ row6-keeps e P {k2 = k2} {k3 = k3} {k4 = k4} {k5 = k5} {k6 = k6} {to = to} s1 s2
 abbrev Within : List Declaration → List (List ℕ) → (List (List ℕ) → Result Event Reason) → Type 0
 Within ds fields row = (x : Event) → row fields ≡ Ok x → IsWithin ds x
 
--- who posts an update where, and its addresses
-abbrev AreEnds : List Declaration → Ends → Type 0
-AreEnds ds e = IsOutsider ds e.outsider × IsLink ds e.link × IsHost e.source × IsHost e.peer × IsHost e.home × IsHost e.careof
+-- the ends of an update are routable
+abbrev AreHosts : UpdateEnds → Type 0
+AreHosts e = IsHost e.source × IsHost e.peer × IsHost e.home × IsHost e.careof
 
 module _ (ds : List Declaration) where
   wait-within : (f : List ℕ) → Within ds (f ∷ []) (wait_row ds)
@@ -196,12 +196,13 @@ module _ (ds : List Declaration) where
   bind-within : (c1 c2 c3 c4 c5 c6 c7 c8 c9 c10 : List ℕ) → Within ds (c1 ∷ c2 ∷ c3 ∷ c4 ∷ c5 ∷ c6 ∷ c7 ∷ c8 ∷ c9 ∷ c10 ∷ []) (bind_row ds)
   unfolding bind_ends bind_numbers
   bind-within c1 c2 c3 c4 c5 c6 c7 c8 c9 c10 x e =
-      let p = bind_ok (bind_ends ds c1 c2 c3 c4 c5 c6) (λ n. bind_numbers n c7 c8 c9 c10) x (sym (bind_split ds c1 c2 c3 c4 c5 c6 c7 c8 c9 c10) ∙ e) in
-      let are : AreEnds ds p.0 =
-      row6-keeps reasons.Form (AreEnds ds) {to = λ a b s t h c. record { outsider = a; link = b; source = s; peer = t; home = h; careof = c }}
-      (outsider-keeps ds) (link-keeps ds) address-keeps address-keeps address-keeps address-keeps (λ a b s t h c q1 q2 q3 q4 q5 q6. (q1, q2, q3, q4, q5, q6)) c1 c2 c3 c4 c5 c6 p.0 p.1 in
-      row4-keeps reasons.Form (IsWithin ds) {to = λ q t k j. events.Bind p.0.outsider p.0.link p.0.source p.0.peer p.0.home p.0.careof q t k j}
-      (any-keeps (kinds.number 0 65535)) (any-keeps (kinds.number 0 65535)) (any-keeps (kinds.number 0 4294967295)) (any-keeps kinds.some_packet) (λ q t k j _ _ _ _. are) c7 c8 c9 c10 x p.2
+      let o = bind_ok (kinds.outsider ds c1) (λ o. kinds.link ds c2 >>= (λ l. bind_ends c3 c4 c5 c6 >>= (λ n. bind_numbers o l n c7 c8 c9 c10))) x (sym (bind_split ds c1 c2 c3 c4 c5 c6 c7 c8 c9 c10) ∙ e) in
+      let l = bind_ok (kinds.link ds c2) (λ l. bind_ends c3 c4 c5 c6 >>= (λ n. bind_numbers o.0 l n c7 c8 c9 c10)) x o.2 in
+      let n = bind_ok (bind_ends c3 c4 c5 c6) (λ n. bind_numbers o.0 l.0 n c7 c8 c9 c10) x l.2 in
+      let are : AreHosts n.0 = row4-keeps reasons.Form AreHosts {to = update_ends} address-keeps address-keeps address-keeps address-keeps (λ s p h c q1 q2 q3 q4. (q1, q2, q3, q4)) c3 c4 c5 c6 n.0 n.1 in
+      row4-keeps reasons.Form (IsWithin ds) {to = λ q t k j. events.Bind o.0 l.0 n.0 q t k j}
+      (any-keeps (kinds.number 0 65535)) (any-keeps (kinds.number 0 65535)) (any-keeps (kinds.number 0 4294967295)) (any-keeps kinds.some_packet)
+      (λ q t k j _ _ _ _. (outsider-keeps ds c1 o.0 o.1, link-keeps ds c2 l.0 l.1, are.0, are.1, are.2, are.3)) c7 c8 c9 c10 x n.2
 
   tell-within : (f g h i : List ℕ) → Within ds (f ∷ g ∷ h ∷ i ∷ []) (tell_row ds)
   unfolding tell_row
@@ -260,7 +261,7 @@ event-within ds (events.Advertise a) e = advertise-within ds _ _ e
 event-within ds (events.Payload a b c d) e = data-within ds _ _ _ _ _ e
 event-within ds (events.Inject a b c) e = inject-within ds _ _ _ _ e
 event-within ds (events.Probe a b c d x f) e = probe-within ds _ _ _ _ _ _ _ e
-event-within ds (events.Bind a b c d x f g h i j) e = bind-within ds _ _ _ _ _ _ _ _ _ _ _ e
+event-within ds (events.Bind a b c d f g h) e = bind-within ds _ _ _ _ _ _ _ _ _ _ _ e
 event-within ds (events.Tell a b c d) e = tell-within ds _ _ _ _ _ e
 event-within ds (events.Listen a b) e = listen-within ds _ _ _ e
 event-within ds (events.Deaf a b) e = deaf-within ds _ _ _ e

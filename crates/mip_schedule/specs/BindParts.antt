@@ -1,29 +1,27 @@
--- The line of an update that is posted, in two parts: who posts it where and its addresses, and its numbers.
+-- The line of an update that is posted, behind who posts it where, in two parts: its ends and its numbers.
 use Rattle.std.specs.Prelude.{ℕ, List, Result, Ok}
 use Rattle.mip_words.specs.Steps.{◌>>=◌}
+use Rattle.mip_words.specs.declared.ids.LinkId.{LinkId}
 use Rattle.mip_schedule.specs.DeclarationRows.{u16}
-use Rattle.mip_schedule.specs.EventRows.{u32}
+use Rattle.mip_schedule.specs.EventRows.{u32, update_ends}
 use Rattle.mip_declared.specs.Kinds as kinds
-use Rattle.mip_declared.specs.declared.declaration.Declaration.{Declaration}
 use Rattle.mip_schedule.specs.declared.event.Event.{Event}
 use Rattle.mip_schedule.specs.declared.event.Event.TheVariants as events
-use Rattle.mip_schedule.specs.declared.ends.Ends.{Ends}
+use Rattle.mip_schedule.specs.declared.update_ends.UpdateEnds.{UpdateEnds}
 use Rattle.mip_declared.specs.declared.reason.Reason.{Reason}
 
-unfoldable pub bind_ends : List Declaration → (by on source peer home careof : List ℕ) → Result Ends Reason
-bind_ends ds by on source peer home careof = do
-  o ← kinds.outsider ds by
-  l ← kinds.link ds on
+unfoldable pub bind_ends : (source peer home careof : List ℕ) → Result UpdateEnds Reason
+bind_ends source peer home careof = do
   s ← kinds.address source
   p ← kinds.address peer
   h ← kinds.address home
   c ← kinds.address careof
-  Ok (record { outsider = o; link = l; source = s; peer = p; home = h; careof = c })
+  Ok (update_ends s p h c)
 
-unfoldable pub bind_numbers : Ends → (sequence lifetime home_test careof_test : List ℕ) → Result Event Reason
-bind_numbers e sequence lifetime home_test careof_test = do
+unfoldable pub bind_numbers : ℕ → LinkId → UpdateEnds → (sequence lifetime home_test careof_test : List ℕ) → Result Event Reason
+bind_numbers outsider link ends sequence lifetime home_test careof_test = do
   q ← u16 sequence
   t ← u16 lifetime
   k ← u32 home_test
   j ← kinds.some_packet careof_test
-  Ok (events.Bind e.outsider e.link e.source e.peer e.home e.careof q t k j)
+  Ok (events.Bind outsider link ends q t k j)

@@ -1,10 +1,12 @@
 -- The lines of events: what each reads.
 use Rattle.std.specs.Prelude.{ℕ, List, [], ◌∷◌, if◌then◌else◌, Result, Err, codes}
 use Rattle.std.specs.Str.{bytes_eq}
+use Rattle.mip_words.specs.declared.address.Address.{Address}
 use Rattle.mip_lines.specs.Rows.{row1, row2, row3, row4, row6, row10}
 use Rattle.mip_schedule.specs.DeclarationRows.{u16}
 use Rattle.mip_declared.specs.Kinds as kinds
 use Rattle.mip_declared.specs.declared.declaration.Declaration.{Declaration}
+use Rattle.mip_schedule.specs.declared.update_ends.UpdateEnds.{UpdateEnds}
 use Rattle.mip_schedule.specs.declared.event.Event.{Event}
 use Rattle.mip_schedule.specs.declared.event.Event.TheVariants as events
 use Rattle.mip_declared.specs.declared.places.Sort.TheVariants as sorts
@@ -13,6 +15,10 @@ use Rattle.mip_declared.specs.declared.reason.Reason.TheVariants as reasons
 
 abbrev pub u32 : List ℕ → Result ℕ Reason
 u32 field = kinds.number 0 4294967295 field
+
+-- the ends of an update
+abbrev pub update_ends : Address → Address → Address → Address → UpdateEnds
+update_ends source peer home careof = record { source = source; peer = peer; home = home; careof = careof }
 
 unfoldable pub wait_row : List Declaration → List (List ℕ) → Result Event Reason
 wait_row ds fields = row1 reasons.Form (kinds.number 1 600000) (λ a. events.Wait a) fields
@@ -33,7 +39,7 @@ unfoldable pub probe_row : List Declaration → List (List ℕ) → Result Event
 probe_row ds fields = row6 reasons.Form (kinds.outsider ds) (kinds.link ds) kinds.careof kinds.address kinds.address kinds.cookie (λ a b c d e f. events.Probe a b c d e f) fields
 
 unfoldable pub bind_row : List Declaration → List (List ℕ) → Result Event Reason
-bind_row ds fields = row10 reasons.Form (kinds.outsider ds) (kinds.link ds) kinds.address kinds.address kinds.address kinds.address u16 u16 u32 kinds.some_packet (λ a b c d e f g h i j. events.Bind a b c d e f g h i j) fields
+bind_row ds fields = row10 reasons.Form (kinds.outsider ds) (kinds.link ds) kinds.address kinds.address kinds.address kinds.address u16 u16 u32 kinds.some_packet (λ a b c d e f g h i j. events.Bind a b (update_ends c d e f) g h i j) fields
 
 unfoldable pub tell_row : List Declaration → List (List ℕ) → Result Event Reason
 tell_row ds fields = row4 reasons.Form (kinds.outsider ds) (kinds.link ds) u32 u32 (λ a b c d. events.Tell a b c d) fields

@@ -8,6 +8,7 @@ use Rattle.mip_words.specs.declared.prefix.Prefix.{Prefix}
 use Rattle.mip_schedule.specs.DeclarationTimes.{is_prefix_taken, judged}
 use Rattle.mip_schedule.specs.EventRows.{event_fields}
 use Rattle.mip_declared.specs.declared.declaration.Declaration.{Declaration}
+use Rattle.mip_schedule.specs.declared.update_ends.UpdateEnds.{UpdateEnds}
 use Rattle.mip_schedule.specs.declared.event.Event.{Event}
 use Rattle.mip_schedule.specs.declared.event.Event.TheVariants as events
 use Rattle.mip_declared.specs.declared.reason.Reason.{Reason}
@@ -39,9 +40,9 @@ unfoldable pub is_packet : List ℕ → Bool
 is_packet bytes = if nat_lt (length bytes) 40 then false else slice_index bytes 0 / 16 == 6
 
 -- a care-of test is named exactly where a binding to another address than the home address is asked for
-unfoldable pub is_wrong_test : ℕ → Address → Address → Option ℕ → Bool
-is_wrong_test lifetime home careof None = not ((lifetime == 0) || (careof.0 == home.0))
-is_wrong_test lifetime home careof (Some test) = (lifetime == 0) || (careof.0 == home.0)
+unfoldable pub is_wrong_test : ℕ → UpdateEnds → Option ℕ → Bool
+is_wrong_test lifetime ends None = not ((lifetime == 0) || (ends.careof.0 == ends.home.0))
+is_wrong_test lifetime ends (Some test) = (lifetime == 0) || (ends.careof.0 == ends.home.0)
 
 -- the prefix of an address
 abbrev pub prefix_at : Address → Prefix
@@ -52,8 +53,8 @@ unfoldable pub misfit : List Declaration → ℕ → ℕ → Event → Option Re
 misfit ds waits carries (events.Wait ms) = if nat_lt 36000000 (waits + ms) then Some reasons.Time else None
 misfit ds waits carries (events.Payload node to proto payload) = if is_reserved proto then Some reasons.Number else None
 misfit ds waits carries (events.Inject outsider link packet) = if is_packet packet then None else Some reasons.Packet
-misfit ds waits carries (events.Bind outsider link source peer home careof sequence lifetime home_test careof_test) =
-    if is_wrong_test lifetime home careof careof_test then Some reasons.Clash else None
+misfit ds waits carries (events.Bind outsider link ends sequence lifetime home_test careof_test) =
+    if is_wrong_test lifetime ends careof_test then Some reasons.Clash else None
 misfit ds waits carries (events.Squat outsider address) = if is_prefix_taken ds (prefix_at address) then None else Some reasons.Address
 misfit ds waits carries (events.Yield outsider address) = if is_prefix_taken ds (prefix_at address) then None else Some reasons.Address
 misfit ds waits carries (events.Carry count) = if nat_lt 200000 (carries + count) then Some reasons.Carry else None

@@ -40,8 +40,8 @@ IsWithin ds (events.Advertise link) = IsLink ds link
 IsWithin ds (events.Payload node to proto payload) = IsNode ds node × IsHost to × (length payload ≤ 512)
 IsWithin ds (events.Inject outsider link packet) = IsOutsider ds outsider × IsLink ds link × (length packet ≤ 2048)
 IsWithin ds (events.Probe outsider link careof source peer cookie) = IsOutsider ds outsider × IsLink ds link × IsHost source × IsHost peer
-IsWithin ds (events.Bind outsider link source peer home careof sequence lifetime home_test careof_test) =
-    IsOutsider ds outsider × IsLink ds link × IsHost source × IsHost peer × IsHost home × IsHost careof
+IsWithin ds (events.Bind outsider link ends sequence lifetime home_test careof_test) =
+    IsOutsider ds outsider × IsLink ds link × IsHost ends.source × IsHost ends.peer × IsHost ends.home × IsHost ends.careof
 IsWithin ds (events.Tell outsider link test probe) = IsOutsider ds outsider × IsLink ds link
 IsWithin ds (events.Listen outsider link) = IsOutsider ds outsider × IsLink ds link
 IsWithin ds (events.Deaf outsider link) = IsOutsider ds outsider × IsLink ds link

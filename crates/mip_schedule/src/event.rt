@@ -1,4 +1,7 @@
-use mip_words::{Address, Bytes, Cookie, LinkId, NodeId};
+use crate::kept_address::KeptAddress;
+use crate::kept_ends::KeptEnds;
+use mip_words::{Bytes, Cookie, LinkId, NodeId};
+use std::mem::size_of;
 
 /// An event. Packets are named by their numbers, outsiders by their places among the outsiders.
 #[derive(Drop)]
@@ -19,7 +22,7 @@ pub enum Event {
     /// A correspondent or mobile sends a payload.
     Payload {
         node: NodeId,
-        to: Address,
+        to: KeptAddress,
         proto: u8,
         payload: Bytes,
     },
@@ -34,18 +37,15 @@ pub enum Event {
         outsider: u8,
         link: LinkId,
         careof: bool,
-        source: Address,
-        peer: Address,
+        source: KeptAddress,
+        peer: KeptAddress,
         cookie: Cookie,
     },
     /// An outsider posts an update with the tokens and indices of two packets.
     Bind {
         outsider: u8,
         link: LinkId,
-        source: Address,
-        peer: Address,
-        home: Address,
-        careof: Address,
+        ends: KeptEnds,
         sequence: u16,
         lifetime: u16,
         home_test: u32,
@@ -69,12 +69,12 @@ pub enum Event {
     /// An outsider claims an address.
     Squat {
         outsider: u8,
-        address: Address,
+        address: KeptAddress,
     },
     /// An outsider gives an address up.
     Yield {
         outsider: u8,
-        address: Address,
+        address: KeptAddress,
     },
     Deliver {
         number: u32,
@@ -95,7 +95,7 @@ pub enum Event {
     /// A correspondent or mobile asks for a home's binding to be refreshed.
     Refresh {
         node: NodeId,
-        home: Address,
+        home: KeptAddress,
     },
     /// An agent is given the lifetimes, in seconds, of the prefixes that it advertises.
     Plan {
@@ -115,3 +115,6 @@ pub enum Event {
         b: NodeId,
     },
 }
+
+// A run keeps each event of its schedule.
+const _: () = prove!(size_of::<Event>() == 48);

@@ -9,8 +9,8 @@ ghost use Rattle.mip_declared.specs.Places.{AreFew};
 use crate::declaration_line::is_prefix_taken;
 use crate::event::Event;
 use crate::event_rows::event_fields;
+use crate::update_ends::UpdateEnds;
 use mip_declared::{Declaration, LineFault, Reason, refused, too_many};
-use mip_words::Address;
 use std::alloc::Global;
 
 /// How long an event waits, in milliseconds.
@@ -51,12 +51,12 @@ fn is_packet(bytes: &[u8]) -> bool
 }
 
 #[tactic(auto, unfolding(crate::specs::EventTimes::is_wrong_test))]
-fn is_wrong_test(lifetime: u16, home: Address, careof: Address, test: Option<u32>) -> bool
-    ensures { result ≡ rows.is_wrong_test lifetime home careof test }
+fn is_wrong_test(lifetime: u16, ends: UpdateEnds, test: Option<u32>) -> bool
+    ensures { result ≡ rows.is_wrong_test lifetime ends test }
 {
     match test {
-        None => !(lifetime == 0 || careof.0 == home.0),
-        Some(_) => lifetime == 0 || careof.0 == home.0,
+        None => !(lifetime == 0 || ends.careof.0 == ends.home.0),
+        Some(_) => lifetime == 0 || ends.careof.0 == ends.home.0,
     }
 }
 
@@ -74,17 +74,19 @@ fn misfit(ds: &[Declaration], waits: u32, carries: u32, e: &Event) -> Option<Rea
         Event::Payload { proto, .. } => refused(is_reserved(*proto), Reason::Number),
         Event::Inject { packet, .. } => refused(!is_packet(packet.as_slice()), Reason::Packet),
         Event::Bind {
+            ends,
             lifetime,
-            home,
-            careof,
             careof_test,
             ..
         } => refused(
-            is_wrong_test(*lifetime, *home, *careof, *careof_test),
+            is_wrong_test(*lifetime, ends.get(), *careof_test),
             Reason::Clash,
         ),
         Event::Squat { address, .. } | Event::Yield { address, .. } => {
-            refused(!is_prefix_taken(ds, address.prefix()), Reason::Address)
+            refused(
+                !is_prefix_taken(ds, address.get().prefix()),
+                Reason::Address,
+            )
         }
         Event::Carry { count } => too_many(200_000, carries, *count, Reason::Carry),
         _ => None,

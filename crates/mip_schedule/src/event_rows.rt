@@ -7,6 +7,7 @@ ghost use Rattle.mip_declared.specs.Faults.{GivesLine};
 ghost use Rattle.mip_declared.specs.Places.{AreFew};
 
 use crate::event::Event;
+use crate::kept_address::KeptAddress;
 use crate::outsider_rows::{
     bind_row, deaf_row, inject_row, listen_row, probe_row, squat_row, tell_row, yield_row,
 };
@@ -64,7 +65,7 @@ fn data_row(alloc: Global, ds: &[Declaration], fields: &[&[u8]]) -> Result<Event
     };
     Ok(Event::Payload {
         node: node(Sort::Host, ds, who)?,
-        to: address(to)?,
+        to: KeptAddress::new(address(to)?),
         proto: u8_in(0, u8::MAX, proto)?,
         payload: bytes(alloc, 512, payload)?,
     })
@@ -142,7 +143,7 @@ fn refresh_row(ds: &[Declaration], fields: &[&[u8]]) -> Result<Event, Reason>
     };
     Ok(Event::Refresh {
         node: node(Sort::Host, ds, who)?,
-        home: address(home)?,
+        home: KeptAddress::new(address(home)?),
     })
 }
 
@@ -273,7 +274,7 @@ fn outsider_fields(
     } else if word == b"probe".as_slice() {
         Ok(probe_row(ds, fields)?)
     } else if word == b"bind".as_slice() {
-        Ok(bind_row(ds, fields)?)
+        bind_row(alloc, ds, fields)
     } else if word == b"tell".as_slice() {
         Ok(tell_row(ds, fields)?)
     } else if word == b"listen".as_slice() {

@@ -86,10 +86,13 @@ fn put_of_node(out: &mut Bytes, ds: &[Declaration], e: &Event) -> Result<(), Mem
             to,
             proto,
             payload,
-        } => put_payload(out, ds, *node, *to, *proto, payload),
+        } => put_payload(out, ds, *node, to.get(), *proto, payload),
         Event::Restart { node } => put_line(out, &[b"restart", node_name(ds, *node)]),
         Event::Refresh { node, home } => {
-            put_line(out, &[b"refresh", node_name(ds, *node), &home.digits()])
+            put_line(
+                out,
+                &[b"refresh", node_name(ds, *node), &home.get().digits()],
+            )
         }
         Event::Plan {
             node,

@@ -1,6 +1,6 @@
 //! The first three lines: the version, the seed and the moment of the start.
 
-ghost use Rattle.std.specs.Prelude.{◌≡◌, ◌+◌, ◌≤◌, ◌<◌, codes, length, IfOk};
+ghost use Rattle.std.specs.Prelude.{◌≡◌, ◌≢◌, Err, ◌+◌, ◌≤◌, ◌<◌, codes, length, IfOk};
 ghost use Rattle.mip_lines.specs.Cutting.{fields_of, rows_of, texts};
 ghost use Rattle.mip_words.specs.Steps.{Gives};
 ghost use Rattle.mip_schedule.specs.Faults.{GivesText};
@@ -42,6 +42,7 @@ fn head_field<'a>(
     text: &'a [u8],
 ) -> Result<(&'a [u8], &'a [u8]), ScheduleFault>
     ensures exact { GivesText (λ p. (p.0.now, rows_of p.1.now)) result (reading.head_field word.now line (rows_of text.now)) }
+    ensures memory { result ≢ Err ScheduleFault.Memory }
     ensures short { IfOk result (λ p. length p.1.now < length text.now) }
 {
     let Some((row, rest)) = cut_at(b'\n', text) else {
@@ -65,6 +66,7 @@ fn head_field<'a>(
 #[tactic(auto, unfolding(crate::specs::Reading::version_line))]
 fn version_line(text: &[u8]) -> Result<(u8, &[u8]), ScheduleFault>
     ensures exact { GivesText (λ p. (p.0, rows_of p.1.now)) result (reading.version_line (rows_of text.now)) }
+    ensures memory { result ≢ Err ScheduleFault.Memory }
     ensures short { IfOk result (λ p. length p.1.now < length text.now) }
 {
     let (field, rest) = head_field(b"mip", 1, text)?;
@@ -77,6 +79,7 @@ fn version_line(text: &[u8]) -> Result<(u8, &[u8]), ScheduleFault>
 #[tactic(auto, unfolding(crate::specs::Reading::seed_line))]
 fn seed_line(text: &[u8]) -> Result<([u8; 32], &[u8]), ScheduleFault>
     ensures exact { GivesText (λ p. (p.0, rows_of p.1.now)) result (reading.seed_line (rows_of text.now)) }
+    ensures memory { result ≢ Err ScheduleFault.Memory }
     ensures short { IfOk result (λ p. length p.1.now < length text.now) }
 {
     let (field, rest) = head_field(b"seed", 2, text)?;
@@ -89,6 +92,7 @@ fn seed_line(text: &[u8]) -> Result<([u8; 32], &[u8]), ScheduleFault>
 #[tactic(auto, unfolding(crate::specs::Reading::start_line))]
 fn start_line(text: &[u8]) -> Result<(u64, &[u8]), ScheduleFault>
     ensures exact { GivesText (λ p. (p.0, rows_of p.1.now)) result (reading.start_line (rows_of text.now)) }
+    ensures memory { result ≢ Err ScheduleFault.Memory }
     ensures short { IfOk result (λ p. length p.1.now < length text.now) }
 {
     let (field, rest) = head_field(b"start", 3, text)?;
@@ -102,6 +106,7 @@ fn start_line(text: &[u8]) -> Result<(u64, &[u8]), ScheduleFault>
 #[tactic(auto, unfolding(crate::specs::Reading::head_of))]
 pub fn read_head(text: &[u8]) -> Result<Head<'_>, ScheduleFault>
     ensures exact { GivesText head_seen result (reading.head_of (rows_of text.now)) }
+    ensures memory { result ≢ Err ScheduleFault.Memory }
     ensures short { IfOk result (λ h. length h.rest.now + 3 ≤ length text.now) }
 {
     let (_, rest) = version_line(text)?;

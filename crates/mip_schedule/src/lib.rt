@@ -5,7 +5,6 @@ mod declaration_line;
 mod declaration_lines;
 mod declaration_rows;
 mod declaration_writing;
-mod ends;
 mod event;
 mod event_line;
 mod event_lines;
@@ -15,21 +14,27 @@ mod events;
 mod fault;
 mod field_writing;
 mod head;
+mod kept_address;
+mod kept_ends;
 mod laws;
 mod outsider_rows;
 mod outsider_writing;
 mod parts;
 mod schedule;
 mod schedule_reading;
+mod update_ends;
 mod writing;
 
 pub use event::Event;
 pub use events::Events;
 pub use fault::ScheduleFault;
+pub use kept_address::KeptAddress;
+pub use kept_ends::KeptEnds;
 pub use laws::{few, lawful, names_found, spelling_read, waits_are_short};
 pub use mip_declared::{Declaration, Declarations, Name, Reason, Sort, place_of};
 pub use schedule::Schedule;
 pub use schedule_reading::read_schedule;
+pub use update_ends::UpdateEnds;
 pub use writing::write_schedule;
 
 #[cfg(test)]

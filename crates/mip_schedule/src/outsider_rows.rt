@@ -7,12 +7,15 @@ ghost use Rattle.mip_schedule.specs.EventRows as rows;
 ghost use Rattle.mip_declared.specs.Faults.{GivesLine};
 ghost use Rattle.mip_declared.specs.Places.{AreFew};
 
-use crate::ends::Ends;
 use crate::event::Event;
+use crate::kept_address::KeptAddress;
+use crate::kept_ends::KeptEnds;
+use crate::update_ends::UpdateEnds;
 use mip_declared::kinds::{
     address, bytes, careof, cookie, link, outsider, some_packet, u16_in, u32_in,
 };
 use mip_declared::{Declaration, LineFault, Reason};
+use mip_words::LinkId;
 use std::alloc::Global;
 
 #[tactic(auto, unfolding(crate::specs::EventRows::inject_row))]
@@ -42,28 +45,17 @@ pub fn probe_row(ds: &[Declaration], fields: &[&[u8]]) -> Result<Event, Reason>
         outsider: outsider(ds, by)?,
         link: link(ds, on)?,
         careof: careof(which)?,
-        source: address(source)?,
-        peer: address(peer)?,
+        source: KeptAddress::new(address(source)?),
+        peer: KeptAddress::new(address(peer)?),
         cookie: cookie(cookie_field)?,
     })
 }
 
 #[tactic(auto, unfolding(crate::specs::BindParts::bind_ends))]
-fn bind_ends(
-    ds: &[Declaration],
-    by: &[u8],
-    on: &[u8],
-    source: &[u8],
-    peer: &[u8],
-    home: &[u8],
-    away: &[u8],
-) -> Result<Ends, Reason>
-    requires { AreFew ds.now }
-    ensures { result ≡ bind_ends ds.now by.now on.now source.now peer.now home.now away.now }
+fn bind_ends(source: &[u8], peer: &[u8], home: &[u8], away: &[u8]) -> Result<UpdateEnds, Reason>
+    ensures { result ≡ bind_ends source.now peer.now home.now away.now }
 {
-    Ok(Ends {
-        outsider: outsider(ds, by)?,
-        link: link(ds, on)?,
+    Ok(UpdateEnds {
         source: address(source)?,
         peer: address(peer)?,
         home: address(home)?,
@@ -73,21 +65,20 @@ fn bind_ends(
 
 #[tactic(auto, unfolding(crate::specs::BindParts::bind_numbers))]
 fn bind_numbers(
-    ends: Ends,
+    outsider: u8,
+    link: LinkId,
+    ends: KeptEnds,
     sequence: &[u8],
     lifetime: &[u8],
     home_test: &[u8],
     careof_test: &[u8],
 ) -> Result<Event, Reason>
-    ensures { result ≡ bind_numbers ends sequence.now lifetime.now home_test.now careof_test.now }
+    ensures { result ≡ bind_numbers outsider link ends sequence.now lifetime.now home_test.now careof_test.now }
 {
     Ok(Event::Bind {
-        outsider: ends.outsider,
-        link: ends.link,
-        source: ends.source,
-        peer: ends.peer,
-        home: ends.home,
-        careof: ends.careof,
+        outsider,
+        link,
+        ends,
         sequence: u16_in(0, u16::MAX, sequence)?,
         lifetime: u16_in(0, u16::MAX, lifetime)?,
         home_test: u32_in(0, u32::MAX, home_test)?,
@@ -95,10 +86,10 @@ fn bind_numbers(
     })
 }
 
-#[tactic(auto, unfolding(crate::specs::EventRows::bind_row))]
-pub fn bind_row(ds: &[Declaration], fields: &[&[u8]]) -> Result<Event, Reason>
+#[tactic(auto, using(crate::proofs::BindLaws::bind_parts), unfolding(crate::specs::EventRows::bind_row))]
+pub fn bind_row(alloc: Global, ds: &[Declaration], fields: &[&[u8]]) -> Result<Event, LineFault>
     requires { AreFew ds.now }
-    ensures { result ≡ rows.bind_row ds.now (texts fields.now) }
+    ensures { GivesLine (λ e. e) result (rows.bind_row ds.now (texts fields.now)) }
 {
     let [
         by,
@@ -113,12 +104,21 @@ pub fn bind_row(ds: &[Declaration], fields: &[&[u8]]) -> Result<Event, Reason>
         careof_test,
     ] = fields
     else {
-        return Err(Reason::Form);
+        return Err(LineFault::Bad(Reason::Form));
     };
-    match bind_ends(ds, by, on, source, peer, home, away) {
-        Ok(ends) => bind_numbers(ends, sequence, lifetime, home_test, careof_test),
-        Err(why) => Err(why),
-    }
+    let outsider = outsider(ds, by)?;
+    let link = link(ds, on)?;
+    let ends = KeptEnds::new(alloc, bind_ends(source, peer, home, away)?)?;
+    let event = bind_numbers(
+        outsider,
+        link,
+        ends,
+        sequence,
+        lifetime,
+        home_test,
+        careof_test,
+    )?;
+    Ok(event)
 }
 
 #[tactic(auto, unfolding(crate::specs::EventRows::tell_row))]
@@ -175,7 +175,7 @@ pub fn squat_row(ds: &[Declaration], fields: &[&[u8]]) -> Result<Event, Reason>
     };
     Ok(Event::Squat {
         outsider: outsider(ds, by)?,
-        address: address(claimed)?,
+        address: KeptAddress::new(address(claimed)?),
     })
 }
 
@@ -189,6 +189,6 @@ pub fn yield_row(ds: &[Declaration], fields: &[&[u8]]) -> Result<Event, Reason>
     };
     Ok(Event::Yield {
         outsider: outsider(ds, by)?,
-        address: address(claimed)?,
+        address: KeptAddress::new(address(claimed)?),
     })
 }

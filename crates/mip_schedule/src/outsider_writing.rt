@@ -6,7 +6,6 @@ ghost use Rattle.mip_schedule.specs.Groups.{is_bind, is_outside, is_posted};
 ghost use Rattle.mip_schedule.specs.Spelling.{event_text, probe_text};
 ghost use Rattle.mip_schedule.specs.declared.event.Event.TheVariants as events;
 
-use crate::ends::Ends;
 use crate::event::Event;
 use crate::field_writing::{careof_word, digits_16, some_digits};
 use itoa::Buffer;
@@ -40,17 +39,23 @@ fn put_probe(
     )
 }
 
-fn put_bind(
-    out: &mut Bytes,
-    ds: &[Declaration],
-    ends: Ends,
-    sequence: u16,
-    lifetime: u16,
-    home_test: u32,
-    careof_test: Option<u32>,
-) -> Result<(), Memory>
-    ensures { OnOk result (out.new ≡ out.old ++ line_text (event_text ds.now (events.Bind ends.outsider ends.link ends.source ends.peer ends.home ends.careof sequence lifetime home_test careof_test))) }
+fn put_bind(out: &mut Bytes, ds: &[Declaration], e: &Event) -> Result<(), Memory>
+    requires { is_bind e.now ≡ true }
+    ensures { OnOk result (out.new ≡ out.old ++ line_text (event_text ds.now e.now)) }
 {
+    let Event::Bind {
+        outsider,
+        link,
+        ends,
+        sequence,
+        lifetime,
+        home_test,
+        careof_test,
+    } = e
+    else {
+        return Ok(());
+    };
+    let ends = ends.get();
     let mut first = Buffer::new();
     let mut second = Buffer::new();
     let mut third = Buffer::new();
@@ -59,16 +64,16 @@ fn put_bind(
         out,
         &[
             b"bind",
-            outsider_name(ds, ends.outsider),
-            link_name(ds, ends.link),
+            outsider_name(ds, *outsider),
+            link_name(ds, *link),
             &ends.source.digits(),
             &ends.peer.digits(),
             &ends.home.digits(),
             &ends.careof.digits(),
-            first.format(sequence).as_bytes(),
-            second.format(lifetime).as_bytes(),
-            third.format(home_test).as_bytes(),
-            some_digits(&mut last, careof_test),
+            first.format(*sequence).as_bytes(),
+            second.format(*lifetime).as_bytes(),
+            third.format(*home_test).as_bytes(),
+            some_digits(&mut last, *careof_test),
         ],
     )
 }
@@ -94,44 +99,6 @@ fn put_tell(
             first.format(test).as_bytes(),
             second.format(probe).as_bytes(),
         ],
-    )
-}
-
-fn put_ends(out: &mut Bytes, ds: &[Declaration], e: &Event) -> Result<(), Memory>
-    requires { is_bind e.now ≡ true }
-    ensures { OnOk result (out.new ≡ out.old ++ line_text (event_text ds.now e.now)) }
-{
-    let Event::Bind {
-        outsider,
-        link,
-        source,
-        peer,
-        home,
-        careof,
-        sequence,
-        lifetime,
-        home_test,
-        careof_test,
-    } = e
-    else {
-        return Ok(());
-    };
-    let ends = Ends {
-        outsider: *outsider,
-        link: *link,
-        source: *source,
-        peer: *peer,
-        home: *home,
-        careof: *careof,
-    };
-    put_bind(
-        out,
-        ds,
-        ends,
-        *sequence,
-        *lifetime,
-        *home_test,
-        *careof_test,
     )
 }
 
@@ -164,11 +131,11 @@ pub fn put_posted(out: &mut Bytes, ds: &[Declaration], e: &Event) -> Result<(), 
             *outsider,
             *link,
             careof_word(*careof),
-            *source,
-            *peer,
+            source.get(),
+            peer.get(),
             *cookie,
         ),
-        Event::Bind { .. } => put_ends(out, ds, e),
+        Event::Bind { .. } => put_bind(out, ds, e),
         Event::Tell {
             outsider,
             link,
@@ -199,11 +166,19 @@ pub fn put_outside(out: &mut Bytes, ds: &[Declaration], e: &Event) -> Result<(),
         ),
         Event::Squat { outsider, address } => put_line(
             out,
-            &[b"squat", outsider_name(ds, *outsider), &address.digits()],
+            &[
+                b"squat",
+                outsider_name(ds, *outsider),
+                &address.get().digits(),
+            ],
         ),
         Event::Yield { outsider, address } => put_line(
             out,
-            &[b"yield", outsider_name(ds, *outsider), &address.digits()],
+            &[
+                b"yield",
+                outsider_name(ds, *outsider),
+                &address.get().digits(),
+            ],
         ),
         _ => Ok(()),
     }
