@@ -17,7 +17,7 @@ use std::marker::Model;
 use std::mem;
 
 /// Room for the entries of one piece.
-const PIECE: usize = 512;
+const PIECE: usize = 128;
 
 /// A history as it goes on. It keeps what marks are found by, and gives its entries away.
 ///

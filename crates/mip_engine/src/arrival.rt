@@ -8,7 +8,7 @@ use mip_links::{Delivery, Net};
 use mip_words::{Address, LinkId, Shield};
 
 /// A packet that is taken from the network: what becomes of it.
-#[derive(Clone, Copy, Debug, PartialEq, Eq)]
+#[derive(Clone, Copy)]
 pub struct Arrival {
     pub delivery: Delivery,
     /// The link that it comes to, where that is another one than it was sent from.

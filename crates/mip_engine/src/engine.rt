@@ -54,7 +54,7 @@ impl Model for Engine {
 }
 
 impl Engine {
-    /// A run in which nothing has happened, with room for what this many events leave at least.
+    /// A run in which nothing has happened, with room for one packet of each of this many events.
     pub(crate) fn new(
         alloc: Global,
         seed: &[u8; 32],

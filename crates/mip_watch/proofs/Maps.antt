@@ -1,6 +1,7 @@
 -- When keys of the indexes are the same.
-use Rattle.std.proofs.Common.{◌≡◌, ℕ, List, Bool, refl, sym, ap, ◌∙◌, arith}
-use Rattle.std.specs.Prelude.{◌&&◌, ◌||◌, ◌==◌, true, false, if◌then◌else◌}
+use Rattle.std.proofs.Common.{◌≡◌, ℕ, ◌+◌, ◌*◌, ◌^◌, ◌<◌, List, length, Bool, refl, sym, ap, ◌∙◌, subst, arith}
+use Rattle.std.proofs.lemmas.List.{take_all}
+use Rattle.std.specs.Prelude.{◌&&◌, ◌||◌, ◌==◌, true, false, if◌then◌else◌, Option, Some, None}
 use Rattle.std.proofs.lemmas.Bool.{and_parts, eqb-true}
 use Rattle.std.proofs.lemmas.Slice.Eq.{bytes_eq-Decides}
 use Rattle.std.specs.Ordering.{nat_cmp, ordering_then, is_eq}
@@ -9,10 +10,14 @@ use Rattle.std.specs.Str.{bytes_eq}
 use Rattle.std.specs.declared.cmp.Ordering.{Ordering}
 use Rattle.std.specs.declared.cmp.Ordering.TheVariants.{Less, Equal, Greater}
 use Rattle.std.proofs.lemmas.Map.Text.{is_eq-slice_cmp}
-use Rattle.std.proofs.lemmas.Bool.Decides.{nat_tests, same_from_decides, Decides-like}
+use Rattle.std.proofs.lemmas.Bool.Decides.{nat_tests, same_from_decides, Decides-like, Decides-and, Decides-eqb}
 use Rattle.mip_marks.specs.Firsts.{same_key}
 use Rattle.mip_watch.specs.Firsts.{UpdateKey, key_named, key_cmp}
-use Rattle.mip_watch.specs.Heard.{Coming, coming_cmp}
+use Rattle.mip_words.specs.Numbers.{IsBytes, number_at, number_bytes}
+use Rattle.mip_words.proofs.Fields.{number_at-lt, IsBytes-number_bytes, number_bytes-number_at}
+use Rattle.mip_watch.specs.Tokens.{token_number, is_spelled}
+use Rattle.mip_watch.specs.Heard.{coming_of}
+use Rattle.mip_watch.specs.declared.named.Named.{Named}
 use Rattle.mip_watch.specs.Made.{Making, making_cmp}
 
 pub is_eq_bytes : (a b : List ℕ) → is_eq (slice_cmp nat_cmp a b) ≡ bytes_eq a b
@@ -40,11 +45,61 @@ is_eq_keys a b =
         both : {u v w z : Bool} → u ≡ v → w ≡ z → (u && w) ≡ (v && z)
         both {u} {v} {w} {z} e f = cc
 
-pub is_eq_coming : (a b : Coming) → is_eq (coming_cmp a b) ≡ (a.0 == b.0 && bytes_eq a.1 b.1)
-is_eq_coming a b = is_eq_then (nat_cmp a.0 b.0) (slice_cmp nat_cmp a.1 b.1) ∙ both (is_eq_nat a.0 b.0) (is_eq_bytes a.1 b.1)
+-- eight bytes are those of their number
+pub spelled_bytes : (t : List ℕ) → length t ≡ 8 → IsBytes t → is_spelled t ≡ true
+spelled_bytes t e are =
+    (bytes_eq-Decides (number_bytes 8 (number_at 8 0 t)) t).1 (number_bytes-number_at 8 0 t are (omega (arith, e)) ∙ take_all 8 t (omega (arith, e)))
+
+-- so the bytes of two that have one number are the same
+spelled_same : (u t : List ℕ) → is_spelled u ≡ true → is_spelled t ≡ true → number_at 8 0 u ≡ number_at 8 0 t → u ≡ t
+spelled_same u t is too same =
+    sym ((bytes_eq-Decides (number_bytes 8 (number_at 8 0 u)) u).0 is) ∙ ap (number_bytes 8) same ∙ (bytes_eq-Decides (number_bytes 8 (number_at 8 0 t)) t).0 too
+
+spelled_small : (t : List ℕ) → is_spelled t ≡ true → number_at 8 0 t < 256 ^ 8
+spelled_small t is =
+    number_at-lt 8 0 t (subst IsBytes ((bytes_eq-Decides (number_bytes 8 (number_at 8 0 t)) t).0 is) (IsBytes-number_bytes 8 (number_at 8 0 t)))
+
+pub is_eq_coming : (x : ℕ) (u : List ℕ) (o : ℕ) (t : List ℕ) → is_spelled u ≡ true → is_spelled t ≡ true → is_eq (nat_cmp (coming_of x u) (coming_of o t)) ≡ (x == o && bytes_eq u t)
+is_eq_coming x u o t is too =
+    is_eq_nat (coming_of x u) (coming_of o t)
+    ∙ same_from_decides (coming_of x u == coming_of o t) (x == o && bytes_eq u t)
+    (Decides-like (coming_of x u == coming_of o t) parts whole (Decides-eqb (coming_of x u) (coming_of o t)))
+    (Decides-and (x == o) (bytes_eq u t) (Decides-eqb x o) (bytes_eq-Decides u t))
   where
-    both : {u v w z : Bool} → u ≡ v → w ≡ z → (u && w) ≡ (v && z)
-    both {u} {v} {w} {z} e f = cc
+    parts : coming_of x u ≡ coming_of o t → (x ≡ o) × (u ≡ t)
+    parts e =
+        let low : number_at 8 0 u < 2 ^ 64 = spelled_small u is in
+        let high : number_at 8 0 t < 2 ^ 64 = spelled_small t too in
+        (omega (arith, e, low, high), spelled_same u t is too (omega (arith, e, low, high)))
+
+    whole : (x ≡ o) × (u ≡ t) → coming_of x u ≡ coming_of o t
+    whole h = ap (λ (y : ℕ). coming_of y u) h.0 ∙ ap (coming_of o) h.1
+
+pub come_more : (b c : Bool) → (if c then true else b) ≡ (b || c)
+come_more true true = refl
+come_more true false = refl
+come_more false true = refl
+come_more false false = refl
+
+-- what has come, after one more has come
+pub come_step : (x : ℕ) (u : List ℕ) (key : ℕ) → key ≡ coming_of x u → is_spelled u ≡ true → (now before : ℕ → Bool) → ((k : ℕ) → now k ≡ (if is_eq (nat_cmp key k) then true else before k))
+    → (o : ℕ) (t : List ℕ) → (is_spelled t && now (coming_of o t)) ≡ ((is_spelled t && before (coming_of o t)) || (x == o && bytes_eq u t))
+come_step x u key k is now before steps o t = by (is_spelled t) refl
+  where
+    never : (p q : Bool) → q ≡ false → false ≡ (p && q)
+    never true q e = sym e
+    never false q e = refl
+
+    other : (q : Bool) → bytes_eq u t ≡ q → is_spelled t ≡ false → q ≡ false
+    other true e f = let same : is_spelled u ≡ is_spelled t = ap is_spelled ((bytes_eq-Decides u t).0 e) in absurd cc
+    other false e f = refl
+
+    by : (b : Bool) → is_spelled t ≡ b → (b && now (coming_of o t)) ≡ ((b && before (coming_of o t)) || (x == o && bytes_eq u t))
+    by true e =
+        steps (coming_of o t)
+        ∙ ap (λ (b : Bool). if b then true else before (coming_of o t)) (ap (λ (y : ℕ). is_eq (nat_cmp y (coming_of o t))) k ∙ is_eq_coming x u o t is e)
+        ∙ come_more (before (coming_of o t)) (x == o && bytes_eq u t)
+    by false e = never (x == o) (bytes_eq u t) (other (bytes_eq u t) refl e)
 
 pub is_eq_making : (a b : Making) → is_eq (making_cmp a b) ≡ (a.0 == b.0 && a.1 == b.1)
 is_eq_making a b = is_eq_then (nat_cmp a.0 b.0) (nat_cmp a.1 b.1) ∙ both (is_eq_nat a.0 b.0) (is_eq_nat a.1 b.1)
@@ -70,11 +125,41 @@ come_again come x u has o t = by (x == o && bytes_eq u t) refl
         none true = refl
         none false = refl
 
-pub come_more : (b c : Bool) → (if c then true else b) ≡ (b || c)
-come_more true true = refl
-come_more true false = refl
-come_more false true = refl
-come_more false false = refl
+is_eq_numbers : (u t : List ℕ) → is_spelled u ≡ true → is_spelled t ≡ true → is_eq (nat_cmp (token_number u) (token_number t)) ≡ bytes_eq u t
+is_eq_numbers u t is too =
+    is_eq_nat (token_number u) (token_number t)
+    ∙ same_from_decides (token_number u == token_number t) (bytes_eq u t)
+    (Decides-like (token_number u == token_number t) (spelled_same u t is too) (ap token_number) (Decides-eqb (token_number u) (token_number t)))
+    (bytes_eq-Decides u t)
+
+-- what is spelled is not the same as what is not
+other_spelled : (u t : List ℕ) → is_spelled u ≡ true → is_spelled t ≡ false → (q : Bool) → bytes_eq u t ≡ q → q ≡ false
+other_spelled u t is unlike true e = let same : is_spelled u ≡ is_spelled t = ap is_spelled ((bytes_eq-Decides u t).0 e) in absurd cc
+other_spelled u t is unlike false e = refl
+
+-- a set of tokens, after one more
+pub token_step : (u : List ℕ) (key : ℕ) → key ≡ token_number u → is_spelled u ≡ true → (now before : ℕ → Bool) → ((k : ℕ) → now k ≡ (if is_eq (nat_cmp key k) then true else before k))
+    → (t : List ℕ) → (is_spelled t && now (token_number t)) ≡ ((is_spelled t && before (token_number t)) || bytes_eq u t)
+token_step u key k is now before steps t = by (is_spelled t) refl
+  where
+    by : (b : Bool) → is_spelled t ≡ b → (b && now (token_number t)) ≡ ((b && before (token_number t)) || bytes_eq u t)
+    by true e =
+        steps (token_number t)
+        ∙ ap (λ (b : Bool). if b then true else before (token_number t)) (ap (λ (y : ℕ). is_eq (nat_cmp y (token_number t))) k ∙ is_eq_numbers u t is e)
+        ∙ come_more (before (token_number t)) (bytes_eq u t)
+    by false e = sym (other_spelled u t is e (bytes_eq u t) refl)
+
+-- a map of tokens, after one more
+pub named_step : (u : List ℕ) (key : ℕ) → key ≡ token_number u → is_spelled u ≡ true → (named : Named) (now before : ℕ → Option Named)
+    → ((k : ℕ) → now k ≡ (if is_eq (nat_cmp key k) then Some named else before k))
+    → (t : List ℕ) → (if is_spelled t then now (token_number t) else None) ≡ (if bytes_eq u t then Some named else (if is_spelled t then before (token_number t) else None))
+named_step u key k is named now before steps t = by (is_spelled t) refl
+  where
+    by : (b : Bool) → is_spelled t ≡ b → (if b then now (token_number t) else None) ≡ (if bytes_eq u t then Some named else (if b then before (token_number t) else None))
+    by true e =
+        steps (token_number t)
+        ∙ ap (λ (b : Bool). if b then Some named else before (token_number t)) (ap (λ (y : ℕ). is_eq (nat_cmp y (token_number t))) k ∙ is_eq_numbers u t is e)
+    by false e = sym (ap (λ (b : Bool). if b then Some named else None) (other_spelled u t is e (bytes_eq u t) refl))
 
 pub bytes_eq_back : (a b : List ℕ) → bytes_eq a b ≡ bytes_eq b a
 bytes_eq_back a b = same_from_decides (bytes_eq a b) (bytes_eq b a) (bytes_eq-Decides a b) (Decides-like (bytes_eq b a) sym sym (bytes_eq-Decides b a))

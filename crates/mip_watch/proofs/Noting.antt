@@ -24,6 +24,7 @@ use Rattle.mip_marks.specs.Pairs.{made_with}
 use Rattle.mip_marks.specs.Causes.{early, is_early}
 use Rattle.mip_watch.specs.declared.arrival.Arrival.{Arrival}
 use Rattle.mip_watch.specs.declared.first.First.{First}
+use Rattle.mip_watch.specs.declared.heard.Heard.{Heard as TheHeard}
 use Rattle.mip_watch.specs.declared.known.Known.{Known}
 use Rattle.mip_watch.specs.declared.sight.Sight.{Sight as Seen}
 use Rattle.mip_watch.specs.declared.sight.Sight.TheVariants as seen
@@ -234,6 +235,35 @@ token_mute _ is = refl
 
 pub stands_mute : (w : Watch) (past : List Entry) (e : Entry) (packet : Option (List ℕ)) → is_mute e ≡ true → StandsFor w past → IsNext past e → IsHeard past e packet → StandsFor w (past ++ e ∷ [])
 stands_mute w past e packet is old next bytes = stands_more w w past e (sight_muted e) packet old next bytes (told_mute packet e is) (noted_mute w e is)
+
+-- what an outsider hears changes nothing but the tokens that came
+stands_heard : (w : Watch) (h : TheHeard) (past : List Entry) (number outsider : ℕ) (token : Option Token)
+    → ((o : ℕ) (t : List ℕ) → has_come h o t ≡ (has_come w.heard o t || is_heard o t (sight_of (seen.Heard outsider token))))
+    → h.list.items ≡ w.heard.list.items ++ arrivals_new (has_come w.heard) (seen.Heard outsider token)
+    → StandsFor w past → IsNext past (entries.Heard number outsider) → IsHeard past (entries.Heard number outsider) (option_map (λ (t : Token). t.0) token)
+    → StandsFor (record w { heard = h }) (past ++ entries.Heard number outsider ∷ [])
+stands_heard w h past number outsider token known list old next bytes =
+    stands_more w (record w { heard = h }) past (entries.Heard number outsider) (seen.Heard outsider token) (option_map (λ (t : Token). t.0) token) old next bytes refl
+    (record {
+      names = λ t. refl;
+      early = λ t. none_or (is_used w.early t);
+      keys = λ look are. are;
+      numbers = λ look are k. refl;
+      made = λ n k. none_more (made_at w.made n k);
+      heard = known;
+      list = list;
+      nodes = λ n. same_known n (known_at w.nodes n);
+      addresses = λ n. none_else (address_at w.addresses n);
+    })
+
+pub stands_hearing : (w : Watch) (h : TheHeard) (past : List Entry) (e : Entry) (number outsider : ℕ) (token : Option Token) → e ≡ entries.Heard number outsider
+    → ((o : ℕ) (t : List ℕ) → has_come h o t ≡ (has_come w.heard o t || is_heard o t (sight_of (seen.Heard outsider token))))
+    → h.list.items ≡ w.heard.list.items ++ arrivals_new (has_come w.heard) (seen.Heard outsider token)
+    → StandsFor w past → IsNext past e → IsHeard past e (option_map (λ (t : Token). t.0) token) → StandsFor (record w { heard = h }) (past ++ e ∷ [])
+stands_hearing w h past e number outsider token is known list old next bytes =
+    subst (λ (x : Entry). StandsFor (record w { heard = h }) (past ++ x ∷ [])) (sym is)
+    (stands_heard w h past number outsider token known list old (subst (IsNext past) is next)
+    (subst (λ (x : Entry). IsHeard past x (option_map (λ (t : Token). t.0) token)) is bytes))
 
 -- a new watch
 pub stands_new : (w : Watch) → ((n : ℕ) → address_at w.addresses n ≡ None) → ((n : ℕ) → known_at w.nodes n ≡ stranger) → ((t : List ℕ) → named_at w.names t ≡ None)

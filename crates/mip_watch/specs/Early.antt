@@ -1,14 +1,14 @@
 -- The tokens that an outsider used before they came to it.
-use Rattle.std.specs.Prelude.{ℕ, List, Bool, if◌then◌else◌, Option, Some, None}
+use Rattle.std.specs.Prelude.{ℕ, List, Bool, ◌&&◌, if◌then◌else◌, Option, Some, None}
 use Rattle.std.specs.Ordering.{nat_cmp}
-use Rattle.std.specs.Cmp.Lexicographic.{slice_cmp}
 use Rattle.std.specs.BTreeSet.{contains}
 use Rattle.mip_marks.specs.Sights.{Sight, token_in}
 use Rattle.mip_marks.specs.Sights.Sight.{Injected}
 use Rattle.mip_watch.specs.declared.early.Early.{Early}
+use Rattle.mip_watch.specs.Tokens.{token_number, is_spelled}
 
 abbrev pub is_used : Early → List ℕ → Bool
-is_used e token = contains (slice_cmp nat_cmp) e.tokens token
+is_used e token = is_spelled token && contains nat_cmp e.tokens (token_number token)
 
 abbrev pub new_known : (ℕ → List ℕ → Bool) → ℕ → Option (List ℕ) → Option (List ℕ)
 new_known come outsider None = None

@@ -1,6 +1,7 @@
 pub mod Sights
 pub mod Nodes
 pub mod Names
+pub mod Tokens
 pub mod Heard
 pub mod Early
 pub mod Made

@@ -2,7 +2,6 @@
 use Rattle.std.specs.Prelude.{ℕ, List, Bool, true, false, not, ◌||◌, if◌then◌else◌, Option, Some, None, option_map}
 use Rattle.std.specs.Str.{bytes_eq}
 use Rattle.std.specs.Ordering.{nat_cmp}
-use Rattle.std.specs.Cmp.Lexicographic.{slice_cmp}
 use Rattle.std.specs.BTreeMap.{get}
 use Rattle.mip_says.specs.Says.Carried.{Test}
 use Rattle.mip_marks.specs.Sights.{Sight}
@@ -12,6 +11,7 @@ use Rattle.mip_marks.specs.Seen.{name_of}
 use Rattle.mip_watch.specs.declared.known.Known.{Known}
 use Rattle.mip_watch.specs.declared.names.Names.{Names}
 use Rattle.mip_watch.specs.declared.named.Named.{Named}
+use Rattle.mip_watch.specs.Tokens.{token_number, is_spelled}
 
 -- the first packet that named a token, the name, and whether another packet named it otherwise
 pub record Kept : Type 0 where
@@ -23,7 +23,7 @@ abbrev pub kept_of : Named → Kept
 kept_of n = record { number = n.number; name = name_of n.name; otherwise = n.otherwise }
 
 abbrev pub named_at : Names → List ℕ → Option Named
-named_at a token = get (slice_cmp nat_cmp) a.map token
+named_at a token = if is_spelled token then get nat_cmp a.map (token_number token) else None
 
 abbrev pub kept_at : Names → List ℕ → Option Kept
 kept_at a token = option_map kept_of (named_at a token)

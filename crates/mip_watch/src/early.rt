@@ -7,6 +7,7 @@ ghost use Rattle.mip_watch.specs.Early.{is_used, early_known};
 
 use crate::heard::Heard;
 use crate::sight::Sight;
+use crate::token_number::token_number;
 use mip_says::Carried;
 use mip_words::{Memory, Token};
 use std::alloc::Global;
@@ -15,7 +16,7 @@ use std::collections::BTreeSet;
 /// The tokens that an outsider used before they came to it.
 #[derive(Drop)]
 pub struct Early {
-    tokens: BTreeSet<[u8; 8]>,
+    tokens: BTreeSet<u64>,
 }
 
 impl Early {
@@ -31,16 +32,16 @@ impl Early {
     pub fn is_used(&self, token: Token) -> bool
         ensures { result ≡ is_used self.now token.0 }
     {
-        let bytes = token.0;
-        self.tokens.contains(&bytes)
+        let number = token_number(token);
+        self.tokens.contains(&number)
     }
 
     /// Takes one more token.
     fn add(&mut self, token: Token) -> Result<(), Memory>
         ensures { OnOk result ((t : List ℕ) → is_used self.new t ≡ (is_used self.old t || bytes_eq t token.0)) }
     {
-        let bytes = token.0;
-        self.tokens.insert(bytes)?;
+        let number = token_number(token);
+        self.tokens.insert(number)?;
         Ok(())
     }
 

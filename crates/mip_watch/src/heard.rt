@@ -1,23 +1,34 @@
-ghost use Rattle.std.specs.Prelude.{◌≡◌, List, [], ◌∷◌, ℕ, ◌++◌, ◌||◌, OnOk, false, Some, length, take, option_map, if◌then◌else◌};
+ghost use Rattle.std.specs.Prelude.{◌≡◌, List, [], ◌∷◌, ℕ, ◌++◌, ◌||◌, OnOk, true, false, Some, length, take, option_map, if◌then◌else◌};
 ghost use Rattle.mip_marks.specs.Lists.{first_some};
 ghost use Rattle.mip_marks.specs.Reached.{is_heard};
 ghost use Rattle.mip_marks.specs.Pairs.{first_alone, first_with};
 ghost use Rattle.mip_marks.specs.Seen.{pair_of, gives_it};
 ghost use Rattle.mip_marks.specs.Sights.Sight.{Heard as OfHeard};
 ghost use Rattle.mip_watch.specs.Sights.{sight_of};
-ghost use Rattle.mip_watch.specs.Heard.{has_come, arrival_from, heard_by, arrivals_new};
+ghost use Rattle.mip_watch.specs.declared.sight.Sight.TheVariants as seen;
+ghost use Rattle.mip_watch.specs.Tokens.{is_spelled};
+ghost use Rattle.mip_watch.specs.Heard.{coming_of, has_come, arrival_from, heard_by, arrivals_new};
 
 use crate::arrival::Arrival;
 use crate::sight::Sight;
+use crate::token_number::token_number;
 use mip_marks::{Pair, Signed};
 use mip_words::{Memory, Token};
 use std::alloc::Global;
 use std::collections::BTreeSet;
 
+/// An outsider and a token as one number, so that a look-up compares numbers.
+fn coming(outsider: u8, token: Token) -> u128
+    ensures key { result ≡ coming_of outsider token.0 }
+    ensures spelled { is_spelled token.0 ≡ true }
+{
+    u128::from(outsider) * (1 << 64) + u128::from(token_number(token))
+}
+
 /// The tokens that came to outsiders, each once, in the order in which they came.
 #[derive(Drop)]
 pub struct Heard {
-    known: BTreeSet<(u8, [u8; 8])>,
+    known: BTreeSet<u128>,
     list: Vec<Arrival>,
 }
 
@@ -42,8 +53,7 @@ impl Heard {
     pub fn has_come(&self, outsider: u8, token: Token) -> bool
         ensures { result ≡ has_come self.now outsider token.0 }
     {
-        let bytes = token.0;
-        let coming = (outsider, bytes);
+        let coming = coming(outsider, token);
         self.known.contains(&coming)
     }
 
@@ -52,12 +62,22 @@ impl Heard {
         ensures known { OnOk result ((o : ℕ) (t : List ℕ) → has_come self.new o t ≡ (has_come self.old o t || is_heard o t (OfHeard outsider (Some token.0)))) }
         ensures list { OnOk result (self.new.list.items ≡ self.old.list.items ++ (if has_come self.old outsider token.0 then [] else record { outsider = outsider; token = token } ∷ [])) }
     {
-        let bytes = token.0;
-        let coming = (outsider, bytes);
+        let coming = coming(outsider, token);
         if self.known.insert(coming)? {
             self.list.push(Arrival { outsider, token })?;
         }
         Ok(())
+    }
+
+    /// Takes what an outsider heard: a test with this token, or none.
+    pub fn hear(&mut self, outsider: u8, token: Option<Token>) -> Result<(), Memory>
+        ensures known { OnOk result ((o : ℕ) (t : List ℕ) → has_come self.new o t ≡ (has_come self.old o t || is_heard o t (sight_of (seen.Heard outsider token)))) }
+        ensures list { OnOk result (self.new.list.items ≡ self.old.list.items ++ arrivals_new (has_come self.old) (seen.Heard outsider token)) }
+    {
+        match token {
+            Some(token) => self.add(outsider, token),
+            None => Ok(()),
+        }
     }
 
     /// Takes one more sight.
@@ -66,10 +86,7 @@ impl Heard {
         ensures list { OnOk result (self.new.list.items ≡ self.old.list.items ++ arrivals_new (has_come self.old) sight.now) }
     {
         match sight {
-            Sight::Heard { outsider, token } => match token {
-                Some(token) => self.add(*outsider, *token),
-                None => Ok(()),
-            },
+            Sight::Heard { outsider, token } => self.hear(*outsider, *token),
             _ => Ok(()),
         }
     }

@@ -15,6 +15,7 @@ mod nodes;
 mod posting;
 mod seeing;
 mod sight;
+mod token_number;
 mod update_key;
 mod updates;
 mod watch;

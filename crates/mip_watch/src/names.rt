@@ -10,6 +10,7 @@ ghost use Rattle.mip_watch.specs.Names.{named_at, kept_of, kept_at, naming_known
 use crate::named::Named;
 use crate::nodes::Nodes;
 use crate::sight::Sight;
+use crate::token_number::token_number;
 use mip_marks::{Claim, Name, Naming};
 use mip_says::Carried;
 use mip_words::{Memory, NodeId, Token};
@@ -19,7 +20,7 @@ use std::collections::BTreeMap;
 /// Who named each token first.
 #[derive(Drop)]
 pub struct Names {
-    map: BTreeMap<[u8; 8], Named>,
+    map: BTreeMap<u64, Named>,
 }
 
 impl Names {
@@ -34,13 +35,15 @@ impl Names {
     pub fn named(&self, token: Token) -> Option<Named>
         ensures { result ≡ named_at self.now token.0 }
     {
-        self.map.get(&token.0).copied()
+        let number = token_number(token);
+        self.map.get(&number).copied()
     }
 
     pub fn put(&mut self, token: Token, named: Named) -> Result<(), Memory>
         ensures { OnOk result ((t : List ℕ) → named_at self.new t ≡ (if bytes_eq token.0 t then Some named else named_at self.old t)) }
     {
-        self.map.insert(token.0, named)?;
+        let number = token_number(token);
+        self.map.insert(number, named)?;
         Ok(())
     }
 

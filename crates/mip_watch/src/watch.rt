@@ -80,6 +80,10 @@ impl Watch {
         if is_mute(entry) {
             return Ok(None);
         }
+        if let Entry::Heard { outsider, .. } = entry {
+            self.heard.hear(*outsider, heard)?;
+            return Ok(None);
+        }
         let sight = sight(entry, heard);
         self.names.note(&self.nodes, &sight)?;
         self.early.note(&self.heard, &sight)?;

@@ -1,8 +1,10 @@
-use Rattle.std.proofs.Common.{Bool, ◌∙◌, ap, Some}
-use Rattle.std.specs.Prelude.{if◌then◌else◌}
-use Rattle.mip_watch.specs.Names.{named_at}
-use Rattle.mip_watch.proofs.Maps.{is_eq_bytes}
+use Rattle.std.proofs.Common.{ℕ}
+use Rattle.std.specs.Ordering.{nat_cmp}
+use Rattle.std.specs.BTreeMap.{get}
+use Rattle.mip_watch.proofs.Maps.{named_step}
 use Rattle.mip_watch.proofs.names.Names.put.Goals as goal
 
 pub returns : goal.returns
-returns c = λ t. c.in_ok-insert.ensures.updates.0 t ∙ ap (λ (b : Bool). if b then Some c.args.named else named_at c.args.self.now t) (is_eq_bytes c.args.token.0 t)
+returns c = λ t.
+    named_step c.args.token.0 c.token_number-number.result c.token_number-number.ensures.number c.token_number-number.ensures.spelled c.args.named (λ (k : ℕ). get nat_cmp c.insert.new.self k)
+    (λ (k : ℕ). get nat_cmp c.args.self.now.map k) (λ k. c.in_ok-insert.ensures.updates.0 k) t

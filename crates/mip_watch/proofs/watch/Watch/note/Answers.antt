@@ -4,7 +4,7 @@ use Rattle.mip_words.specs.declared.token.Token.{Token}
 use Rattle.mip_watch.specs.declared.watch.Watch.{Watch}
 use Rattle.mip_watch.specs.Sights.{sight_of, token_sighted}
 use Rattle.mip_watch.specs.Updates.{AreOf, update_at, update_posted, look_step, at_step}
-use Rattle.mip_watch.proofs.Noting.{Noted, posted_token, token_mute, stands_more, stands_mute}
+use Rattle.mip_watch.proofs.Noting.{Noted, posted_token, token_mute, stands_hearing, stands_more, stands_mute}
 use Rattle.mip_watch.proofs.watch.Watch.note.Goals as goal
 
 pub returns-then-is_mute-clause-stands : goal.returns-then-is_mute-clause-stands
@@ -13,6 +13,10 @@ returns-then-is_mute-clause-stands c = λ past stands next bytes.
 
 pub returns-then-is_mute-clause-token : goal.returns-then-is_mute-clause-token
 returns-then-is_mute-clause-token c = token_mute c.args.entry.now (sym c.is_mute.ensures ∙ c.if-is_mute.true)
+
+pub returns-in-Heard-clause-stands : goal.returns-in-Heard-clause-stands
+returns-in-Heard-clause-stands c = λ past stands next bytes.
+    stands_hearing c.args.self.now c.hear.new.self past c.args.entry.now _ _ c.args.heard c.in-Heard.is c.in_ok-hear.ensures.known c.in_ok-hear.ensures.list stands next bytes
 
 pub returns-clause-token : goal.returns-clause-token
 returns-clause-token c = c.token_sighted.ensures ∙ ap token_sighted c.sight-sight.ensures ∙ posted_token (option_map (λ (t : Token). t.0) c.args.heard) c.args.entry.now
