@@ -1,4 +1,3 @@
 pub mod Said
-pub mod Pointer
 pub mod Reading
 pub mod Spelling

@@ -1,4 +1,4 @@
-ghost use Rattle.std.specs.Prelude.{◌≡◌, ◌<◌, ◌^◌};
+ghost use Rattle.std.specs.Prelude.{◌≡◌};
 
 use mip_options::BadOption;
 
@@ -9,7 +9,7 @@ pub enum Fault {
     Size,
     /// The checksum does not hold.
     Checksum,
-    /// The MH Type is none of the table.
+    /// The MH Type is above 7.
     Unknown(u8),
     /// Payload Proto is not 59, No Next Header.
     Proto,
@@ -26,22 +26,5 @@ impl From<BadOption> for Fault {
 
     fn from(bad: BadOption) -> Fault {
         Fault::Option { place: bad.place }
-    }
-}
-
-impl Fault {
-    ghost use Rattle.mip_mobhdr.specs.Pointer.{pointer_of};
-
-    /// Where in the packet the field lies that an ICMPv6 Parameter Problem points to (RFC 6275
-    /// section 9.2), the message beginning at `place`; None where no such report is sent.
-    pub fn pointer(&self, place: usize) -> Option<usize>
-        requires { place < 2 ^ 16 }
-        ensures { result ≡ pointer_of place self.now }
-    {
-        match self {
-            Fault::Proto => Some(place),
-            Fault::HeaderLen => Some(place + 1),
-            _ => None,
-        }
     }
 }

@@ -2,3 +2,4 @@ pub mod Words
 pub mod Checks
 pub mod Replies
 pub mod Passing
+pub mod Pointer

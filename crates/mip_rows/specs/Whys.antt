@@ -4,7 +4,11 @@ use Rattle.std.specs.List.{find}
 use Rattle.std.specs.Str.{bytes_eq}
 use Rattle.mip_words.specs.declared.why.Why.{Why}
 use Rattle.mip_words.specs.declared.why.Why.TheVariants as whys
+use Rattle.mip_ipv6.specs.declared.not_packet.NotPacket.TheVariants as refusals
+use Rattle.mip_mobhdr.specs.declared.fault.Fault.TheVariants as faults
+use Rattle.mip_explain.specs.Words.{refusal_word, fault_word}
 
+-- a packet or message that is not read has the word of its listing
 unfoldable pub why_word : Why → List ℕ
 why_word whys.NoLink = codes "nolink"
 why_word whys.Hop = codes "hop"
@@ -13,18 +17,18 @@ why_word whys.Shield = codes "shield"
 why_word whys.Detached = codes "detached"
 why_word whys.Unregistered = codes "unregistered"
 why_word whys.NoRoute = codes "noroute"
-why_word whys.Size = codes "size"
-why_word whys.Short = codes "short"
-why_word whys.Version = codes "version"
-why_word whys.Length = codes "length"
-why_word whys.Header = codes "header"
-why_word whys.Route = codes "route"
-why_word whys.Option = codes "option"
-why_word whys.Checksum = codes "checksum"
-why_word whys.Kind = codes "type"
-why_word whys.Proto = codes "proto"
-why_word whys.HeaderLen = codes "headerlen"
-why_word whys.MobilityOption = codes "moption"
+why_word whys.Size = fault_word faults.Size
+why_word whys.Short = refusal_word refusals.Short
+why_word whys.Version = refusal_word refusals.Version
+why_word whys.Length = refusal_word refusals.Length
+why_word whys.Header = refusal_word (refusals.Header 0)
+why_word whys.Route = refusal_word refusals.Route
+why_word whys.Option = refusal_word (refusals.Option 0)
+why_word whys.Checksum = fault_word faults.Checksum
+why_word whys.Kind = fault_word (faults.Unknown 0)
+why_word whys.Proto = fault_word faults.Proto
+why_word whys.HeaderLen = fault_word faults.HeaderLen
+why_word whys.MobilityOption = fault_word (faults.Option 0)
 why_word whys.Address = codes "address"
 why_word whys.Probe = codes "probe"
 why_word whys.HomeOption = codes "homeoption"

@@ -10,7 +10,7 @@ use std::marker::Model;
 pub const ROOM: usize = 10;
 
 /// The values of a row, in order. A row's table says what stands at which place; a method that is asked for something
-/// else answers a first value of its kind.
+/// else answers a first value of its kind: 0, false, None, or the reason `nolink`.
 #[derive(Drop)]
 pub struct Values {
     list: ArrayVec<Value, ROOM>,

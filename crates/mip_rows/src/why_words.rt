@@ -5,9 +5,12 @@ ghost use Rattle.std.specs.List.{position};
 ghost use Rattle.std.specs.Str.{bytes_eq};
 ghost use Rattle.mip_rows.specs.Whys.{why_word, gone_whys, unsent_whys, dropped_whys, why_among};
 
+use mip_explain::{fault_word, refusal_word};
+use mip_ipv6::NotPacket;
+use mip_mobhdr::Fault;
 use mip_words::Why;
 
-/// The word of a refusal.
+/// The word of a refusal. A packet or message that is not read has the word of its listing.
 #[tactic(auto, unfolding(crate::specs::Whys::why_word))]
 pub fn why_word<'a>(why: Why) -> &'a [u8]
     ensures { result.now ≡ why_word why }
@@ -20,18 +23,18 @@ pub fn why_word<'a>(why: Why) -> &'a [u8]
         Why::Detached => b"detached",
         Why::Unregistered => b"unregistered",
         Why::NoRoute => b"noroute",
-        Why::Size => b"size",
-        Why::Short => b"short",
-        Why::Version => b"version",
-        Why::Length => b"length",
-        Why::Header => b"header",
-        Why::Route => b"route",
-        Why::Option => b"option",
-        Why::Checksum => b"checksum",
-        Why::Kind => b"type",
-        Why::Proto => b"proto",
-        Why::HeaderLen => b"headerlen",
-        Why::MobilityOption => b"moption",
+        Why::Size => fault_word(Fault::Size),
+        Why::Short => refusal_word(NotPacket::Short),
+        Why::Version => refusal_word(NotPacket::Version),
+        Why::Length => refusal_word(NotPacket::Length),
+        Why::Header => refusal_word(NotPacket::Header(0)),
+        Why::Route => refusal_word(NotPacket::Route),
+        Why::Option => refusal_word(NotPacket::Option(0)),
+        Why::Checksum => fault_word(Fault::Checksum),
+        Why::Kind => fault_word(Fault::Unknown(0)),
+        Why::Proto => fault_word(Fault::Proto),
+        Why::HeaderLen => fault_word(Fault::HeaderLen),
+        Why::MobilityOption => fault_word(Fault::Option { place: 0 }),
         Why::Address => b"address",
         Why::Probe => b"probe",
         Why::HomeOption => b"homeoption",
