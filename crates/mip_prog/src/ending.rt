@@ -5,7 +5,7 @@ ghost use Rattle.std.specs.Io.KnownBytes.{prepend_known};
 ghost use Rattle.mip_outside.specs.Cause.{Rose};
 ghost use Rattle.mip_outside.specs.Waiting.{held_by};
 ghost use Rattle.mip_prog.specs.Answers.{answer_of};
-ghost use Rattle.mip_prog.specs.Told.{IsSettled, IsStatus, Says};
+ghost use Rattle.mip_prog.specs.Told.{IsSettled, IsStatus, Says, HasWrittenFront};
 
 use crate::status::Status;
 use crate::top::mip;
@@ -28,6 +28,9 @@ pub fn mip_flushed<S: Source, K: Sink + Drop, C: Clock, L: Link>(
     ensures whole_of_some { IsSettled result.0 → ((bytes : List ℕ)
         × (S.left source.old ≡ prepend_known bytes (S.left source.new))
         × Says (answer_of (map string_bytes words.now) bytes) result.0 sink.old.put_on sink.new.put_on) }
+    // Whatever the status is, what was put on and what still waits make a front of the answer.
+    ensures front { (bytes : List ℕ) × (S.left source.old ≡ prepend_known bytes (S.left source.new))
+        × HasWrittenFront (answer_of (map string_bytes words.now) bytes) sink.old.put_on (held_by sink.new) }
     ensures statuses { IsStatus result.0 }
     ensures read_fault { result.0 ≡ 3 → Rose (S.faults source.old) (S.faults source.new) }
     ensures write_fault { result.0 ≡ 4 → Rose sink.old.faults sink.new.faults }

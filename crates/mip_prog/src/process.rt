@@ -1,11 +1,12 @@
 //! The process: what its words and its input come to.
 
-ghost use Rattle.std.specs.Prelude.{◌≡◌, ℕ, ◌≤◌, ◌⊎◌, List, [], map, string_bytes, IfSome, IfOk};
+ghost use Rattle.std.specs.Prelude.{◌≡◌, ℕ, ◌≤◌, ◌⊎◌, List, [], map, string_bytes, IfSome, IfOk, OnErr};
 ghost use Rattle.std.specs.Io.KnownBytes.{prepend_known};
 ghost use Rattle.mip_outside.specs.Cause.{Rose};
+ghost use Rattle.mip_outside.specs.Waiting.{held_by};
 ghost use Rattle.mip_prog.specs.Answers.{answer_of};
 ghost use Rattle.mip_prog.specs.Given.{words_behind};
-ghost use Rattle.mip_prog.specs.Told.{IsSettled, IsStatus, Says};
+ghost use Rattle.mip_prog.specs.Told.{IsSettled, IsStatus, Says, HasWrittenFront};
 
 use crate::ending::mip_flushed;
 use crate::given::words;
@@ -31,6 +32,9 @@ pub fn run<S: Source, K: Sink + Drop, C: Clock>(
     ensures whole_of_some { IsSettled result → ((bytes : List ℕ)
         × (S.left source.old ≡ prepend_known bytes (S.left source.new))
         × Says (answer_of (map string_bytes (words_behind given)) bytes) result sink.old.put_on sink.new.put_on) }
+    // Whatever the status is, what was put on and what still waits make a front of the answer.
+    ensures front { (bytes : List ℕ) × (S.left source.old ≡ prepend_known bytes (S.left source.new))
+        × HasWrittenFront (answer_of (map string_bytes (words_behind given)) bytes) sink.old.put_on (held_by sink.new) }
     ensures statuses { IsStatus result }
     ensures read_fault { result ≡ 3 → Rose (S.faults source.old) (S.faults source.new) }
     ensures write_fault { result ≡ 4 → Rose sink.old.faults sink.new.faults }
@@ -52,6 +56,10 @@ fn attempt<S: Source, K: Sink + Drop, C: Clock>(
     ensures whole_of_some { IfOk result (λ status. IsSettled status.0 → ((bytes : List ℕ)
         × (S.left source.old ≡ prepend_known bytes (S.left source.new))
         × Says (answer_of (map string_bytes (words_behind given)) bytes) status.0 sink.old.put_on sink.new.put_on)) }
+    ensures front { IfOk result (λ status. (bytes : List ℕ) × (S.left source.old ≡ prepend_known bytes (S.left source.new))
+        × HasWrittenFront (answer_of (map string_bytes (words_behind given)) bytes) sink.old.put_on (held_by sink.new)) }
+    ensures unread { OnErr result (source.new ≡ source.old) }
+    ensures unwritten { OnErr result (sink.new ≡ sink.old) }
     ensures statuses { IfOk result (λ status. IsStatus status.0) }
     ensures read_fault { IfOk result (λ status. status.0 ≡ 3 → Rose (S.faults source.old) (S.faults source.new)) }
     ensures write_fault { IfOk result (λ status. status.0 ≡ 4 → Rose sink.old.faults sink.new.faults) }

@@ -1,4 +1,4 @@
-//! Where the options of each message begin: no clause of the reader of messages says it.
+//! Where the options of each message begin, at one message of each type.
 
 use mip_mobhdr::{Message, read_message};
 use mip_options::Options;
