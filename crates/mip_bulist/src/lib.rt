@@ -1,5 +1,5 @@
-//! Return routability with one peer in typed states (RFC 6275 sections 5.2 and 11.6): an update is made
-//! only by a trial that has the tokens that its aim needs.
+//! The Binding Update List of a mobile (RFC 6275 sections 5.2, 11.1, 11.6 and 11.7.2): return routability with each peer in typed
+//! states, so that an update is made only by a trial that has the tokens that its aim needs, and the timers of the list.
 #![tactic(auto)]
 
 mod aim;

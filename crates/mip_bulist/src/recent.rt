@@ -3,7 +3,7 @@ ghost use Rattle.mip_bulist.specs.Trials.{is_too_soon, within_second};
 
 use mip_words::Moment;
 
-/// The time in which at most three updates go to a peer, in milliseconds (MAX_UPDATE_RATE a second).
+/// The time in which at most three updates go to a peer, in milliseconds (RFC 6275 section 12, MAX_UPDATE_RATE); the three are the fields of `Recent`.
 const SECOND: u64 = 1_000;
 
 /// The moments of a trial's last three updates.

@@ -5,7 +5,8 @@ ghost use Rattle.std.specs.Prelude.{◌≡◌, ◌+◌, ◌≤◌, nat_lt, if◌
 pub enum Reason {
     /// No line of that word and number of fields may stand there.
     Form,
-    /// An unknown name or one of the wrong kind, or a name to be declared that is taken or ill-formed.
+    /// An unknown name or one of the wrong kind, a name to be declared that is taken or ill-formed, or a test that is neither
+    /// `home` nor `careof`.
     Name,
     /// A number out of its range, or a protocol that no payload may have.
     Number,
@@ -15,7 +16,7 @@ pub enum Reason {
     Hex,
     /// Too many links, nodes, mobiles, outsiders or events.
     Limit,
-    /// A declaration that contradicts an earlier one, or an index that is missing or not wanted.
+    /// A declaration that contradicts an earlier one, or a Care-of Test that is missing or not wanted.
     Clash,
     /// An injected packet of fewer than 40 bytes, or not of version 6.
     Packet,

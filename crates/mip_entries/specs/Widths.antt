@@ -1,4 +1,4 @@
--- What the types of its fields say of an entry: each number fits its bits, and packets, data and tokens are of bytes.
+-- What the types of its fields say of an entry: each number but the cause of a `forged` fits its bits, and packets, data and tokens are of bytes.
 use Rattle.std.specs.Prelude.{◌≡◌, ℕ, ◌<◌, ◌^◌, length, Option, Some, None}
 use Rattle.mip_words.specs.Numbers.{IsBytes}
 use Rattle.mip_words.specs.declared.address.Address.{Address}
@@ -71,7 +71,7 @@ HasUpdateWidths (entries.Origin a b c) = IsNumber 64 a × IfPresent (IsNumber 64
 HasUpdateWidths (entries.Denied a b c) = IsNumber 64 b × IsNumber 8 c
 HasUpdateWidths _ = Unit {0}
 
--- each number of an entry fits its bits, and what it has of bytes is of bytes; this says nothing of its places among nodes, links
+-- each number of an entry fits its bits, and what it has of bytes is of bytes; this says nothing of the cause of a `forged`, nor of places among nodes, links
 -- and outsiders
 pub record HasWidths (e : Entry) : Type 0 where
   pub place : HasPlaceWidths e

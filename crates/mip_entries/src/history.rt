@@ -56,7 +56,7 @@ impl History {
         Ok(())
     }
 
-    /// A law: each number of each entry fits its bits, and packets, data and tokens are of bytes.
+    /// A law: each number of each entry, but the cause of a `forged`, fits its bits, and packets, data and tokens are of bytes.
     pub fn widths(&self)
         ensures { AllByRecursion HasWidths self.now }
     {

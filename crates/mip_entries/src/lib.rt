@@ -1,6 +1,6 @@
 //! What a history holds, and what a node answers: the entries of a trace, and the packets that a role
-//! sends. Roles stand on this crate alone, and know neither their own number nor links nor the numbers
-//! of the packets that they send: their caller completes the entries.
+//! sends. Roles stand on this crate and not on `mip_history`. They know neither their own number nor links nor the
+//! numbers of the packets that they send: their caller completes the entries.
 #![tactic(auto)]
 
 mod answer;

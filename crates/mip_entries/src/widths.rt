@@ -254,7 +254,7 @@ fn update_widths(entry: &Entry)
     }
 }
 
-/// A law: each number of an entry fits its bits, and its packets, data and tokens are of bytes.
+/// A law: each number of an entry, but the cause of a `forged`, fits its bits, and its packets, data and tokens are of bytes.
 pub fn widths(entry: &Entry)
     ensures { HasWidths entry.now }
 {

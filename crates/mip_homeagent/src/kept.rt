@@ -92,6 +92,7 @@ impl Kept {
         ensures found { result ≡ careof_at self.now now.0 home }
         ensures routable { IfSome result (λ _. is_routable home.0 ≡ true) }
     {
+        // For the prover alone: once a field is read, the facts of the whole value are at hand.
         let _last = &self.last;
         match homes::standing(home, now, self.binding(home)) {
             Some(binding) => Some(binding.careof),

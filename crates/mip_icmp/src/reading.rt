@@ -81,11 +81,8 @@ fn message_of(source: Address, destination: Address, body: &[u8]) -> Result<Icmp
 /// the destination that of the routing header, where the packet has them (RFC 8200 section 8.1).
 pub fn read_icmp(source: Address, destination: Address, body: &[u8]) -> Result<Icmp<'_>, IcmpFault>
     requires { length body.now ≤ 65535 }
-    // What is read is spelled so.
     ensures found { IfOk result (λ m. IsIcmp source destination (said m) body.now) }
-    // What is spelled so is read.
     ensures only { (m : Said) → IsIcmp source destination m body.now → Gives said result (Ok m) }
-    // Which fault it is.
     ensures exact { Gives said result (icmp_of source destination body.now) }
     ensures span { IfOk result (HasSpan body.now) }
 {

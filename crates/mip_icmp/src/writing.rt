@@ -81,7 +81,6 @@ pub fn write_icmp(
 ) -> Result<Bytes, Memory>
     requires { IsWritable (said_plain message.now) }
     ensures canonical { IfOk result (λ b. b ≡ icmp_bytes source destination (said_plain message.now)) }
-    // What is written is spelled so, and is read back.
     ensures spelled { IfOk result (IsIcmp source destination (said_plain message.now)) }
     ensures back { IfOk result (λ b. icmp_of source destination b ≡ Ok (said_plain message.now)) }
 {

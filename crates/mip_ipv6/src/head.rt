@@ -58,7 +58,7 @@ fn routable_if_any(address: Option<Address>) -> bool
     }
 }
 
-/// Whether a next-header number is that of an extension header.
+/// Whether a next-header number names no body: Hop-by-Hop, Routing, Fragment, ESP, AH and Destination Options.
 pub(crate) fn no_body(number: u8) -> bool
     ensures { result ≡ names_no_body number }
 {

@@ -1,4 +1,4 @@
--- The key of an update by its tokens. RFC 6275 section 5.2.6
+-- The key of an update by its tokens. RFC 6275 section 5.2.5
 use Rattle.std.specs.Prelude.{ℕ, List, Option, Some, None}
 use Rattle.mip_tokens.specs.Token.{kbm_both_of, kbm_home_of}
 

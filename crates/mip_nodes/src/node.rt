@@ -125,7 +125,7 @@ impl Node {
         }
     }
 
-    /// It is asked something, where its network is this one. After want of memory it is of no use any more.
+    /// It is asked something, where its network is this one. After want of memory no clause says what it is.
     pub fn act(
         &mut self,
         alloc: Global,

@@ -1,5 +1,5 @@
 //! The outside of a node: where bytes come from and go to, the clock, the link, the wire and the place, each as a trait
-//! with forms in memory and real ones.
+//! with forms in memory. Source, sink and clock have real ones too.
 #![tactic(auto)]
 
 mod buffered;

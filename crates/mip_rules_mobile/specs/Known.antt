@@ -28,9 +28,9 @@ pub record Known : Type 0 where
   pub agent : Option Address
   -- a home registration was sent that no deregistration and no end has undone
   pub owes : Bool
-  -- the sequences that the next ones take, agent by agent
+  -- the sequences that the next home registrations take, agent by agent
   pub numberings : List Numbering
-  -- how many milliseconds the resending of it that is under way waits
+  -- how many milliseconds the resending of the last home registration waits, where one is under way
   pub wait : ℕ
   -- the discovery of agents that is under way
   pub discovery : Option DiscoverySeen

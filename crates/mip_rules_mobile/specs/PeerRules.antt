@@ -1,4 +1,4 @@
--- What a mobile does about the messages of a peer. RFC 6275 sections 11.3.5, 11.3.6, 11.6.2, 11.7.3 and 11.7.4
+-- What a mobile does about the messages of a peer. RFC 6275 sections 11.3.6, 11.6.2, 11.7.3 and 11.7.4
 use Rattle.std.specs.Prelude.{ℕ, ◌*◌, List, Bool, true, ◌&&◌, ◌||◌, not, ◌==◌, nat_le, if◌then◌else◌, Option, Some, None, is_some, unwrap_or, Result, Ok, Err}
 use Rattle.std.specs.Option.{option_map_or}
 use Rattle.mip_words.specs.declared.address.Address.{Address}
@@ -38,7 +38,7 @@ begins_at (Ok row) t =
 unfoldable pub meets : Address → Turn → Turn
 meets peer t = begins_at (given_row peer t.known.list.rows) (noted (Meets peer) t)
 
--- away, a Home Test comes through the tunnel, and a Care-of Test does not
+-- away, a Home Test comes through the tunnel, and a Care-of Test does not (`through` is then that it came outside); elsewhere either way is right
 abbrev pub comes_right : Standing → (through_tunnel : Bool) → Bool
 comes_right Detached through = true
 comes_right AtHome through = true

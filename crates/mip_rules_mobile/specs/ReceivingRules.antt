@@ -1,4 +1,4 @@
--- What a mobile does about a packet that it is handed. RFC 6275 sections 9.2, 9.3.1, 11.3.3 and 11.3.4
+-- What a mobile does about a packet that it is handed. RFC 6275 sections 9.2, 9.3.1 and 11.3.3
 use Rattle.std.specs.Prelude.{ℕ, List, Bool, true, false, not, ◌&&◌, ◌==◌, if◌then◌else◌, Option, Some, None, is_some, is_none, Result, Ok, Err}
 use Rattle.mip_constants.specs.Protocols.{ipv6, icmpv6, no_next_header, mobility_header}
 use Rattle.mip_words.specs.declared.address.Address.{Address}
@@ -52,7 +52,7 @@ unfoldable pub takes_for_part : ℕ → Bool → Packet → Option Said → Turn
 takes_for_part number tunnelled p message t =
     then_meets (tunnelled && is_none message) p (asks_part (parts.Part number p) t)
 
--- what is no packet for anybody: ICMPv6 that is not understood, nothing, a tunnel in a tunnel
+-- what the correspondent part does not take: ICMPv6, a packet with no next header, and what is left, which has no taker
 abbrev pub by_proto : ℕ → Option Shield → Packet → Turn → Turn
 by_proto number shield p t =
     if p.head.proto == icmpv6 then takes_icmp number shield p t

@@ -6,7 +6,8 @@ pub struct Key<'a> {
     pub home: Address,
     /// The Alternate Care-of Address, or the packet's source.
     pub careof: Address,
-    /// The whole message.
+    /// The whole message, its checksum too. The definition of a key has what the authenticator covers in its place, so
+    /// `==` is not the sameness of the definition.
     pub body: &'a [u8],
     pub authenticator: [u8; 12],
 }

@@ -13,7 +13,8 @@ use mip_mobhdr::{Plain, write_message};
 use mip_words::{Bytes, Memory};
 use std::alloc::Global;
 
-/// Header Len, in units of 8 bytes behind the first 8.
+/// Header Len, in units of 8 bytes behind the first 8. It is one byte, which is all that bounds a message's length: so it is
+/// read for the proof of `short`, and thrown away.
 fn units(body: &[u8]) -> u8
     requires { 1 < length body.now }
     ensures { result ≡ slice_index body.now 1 }

@@ -4,7 +4,7 @@ ghost use Rattle.mip_tokens.specs.Token.{kbm_both_of, kbm_home_of};
 use mip_words::Token;
 use sha1::Sha1;
 
-/// Kbm, the binding management key of an update (RFC 6275 section 5.2.6).
+/// Kbm, the binding management key of an update (RFC 6275 section 5.2.5).
 #[derive(Clone, Copy, Debug, PartialEq, Eq)]
 pub struct Kbm(pub [u8; 20]);
 

@@ -15,8 +15,7 @@ use std::alloc::Global;
 
 /// Appends the line of an entry. Without a schedule each node is `self` and each link `-`.
 ///
-/// With a schedule the entry's nodes, links and outsiders are declared ones, and without one the entry names no
-/// outsider: a name that nothing has is written as no letters.
+/// A name that nothing has is written as no letters.
 pub fn write_entry(
     alloc: Global,
     out: &mut Bytes,

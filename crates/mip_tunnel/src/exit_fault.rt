@@ -4,10 +4,10 @@ use mip_words::Address;
 /// Why a packet did not leave a tunnel.
 #[derive(Clone, Copy, Debug, PartialEq, Eq)]
 pub enum ExitFault {
-    /// It holds no packet.
+    /// Its proto is not 41.
     NotTunnel,
     /// It comes from somebody else than the tunnel's entry.
     WrongEntry { seen: Address },
-    /// What it holds is no packet.
+    /// Its body is no packet.
     Inner(NotPacket),
 }

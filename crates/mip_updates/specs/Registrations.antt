@@ -1,4 +1,4 @@
--- What a Binding Update asks of a correspondent. RFC 6275 sections 6.1.7 and 9.5.1
+-- What a Binding Update asks of its receiver. RFC 6275 sections 6.1.7 and 9.5.1
 use Rattle.std.specs.Prelude.{ℕ, List, Bool, ◌||◌, ◌==◌, ◌≤◌, length, if◌then◌else◌, Option, Some, None, is_some, unwrap_or, Result, Ok, IsOk}
 use Rattle.mip_words.specs.declared.address.Address.{Address}
 use Rattle.mip_mobhdr.specs.declared.fault.Fault.{Fault}

@@ -1,7 +1,7 @@
 use mip_options::Indices;
 use mip_words::Address;
 
-/// What a Binding Update asks of a correspondent (RFC 6275 section 6.1.7), but for its authenticator.
+/// What a Binding Update asks of its receiver (RFC 6275 section 6.1.7), but for its authenticator.
 #[derive(Clone, Copy, Debug, PartialEq, Eq)]
 pub struct Registration {
     /// The source of its packet.

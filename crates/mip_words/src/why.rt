@@ -13,7 +13,7 @@ pub enum Why {
     Detached,
     /// `unregistered`: the mobile has no agent to tunnel to.
     Unregistered,
-    /// `noroute`: no port is configured for the destination.
+    /// `noroute`: no port is configured for the destination. No node of a run answers it.
     NoRoute,
     /// `size`: a packet or a message has the wrong length, or is too long to send.
     Size,
@@ -71,6 +71,6 @@ pub enum Why {
     Error,
     /// `refresh`: a refresh request without a binding.
     Refresh,
-    /// `frame`: a datagram that is no frame.
+    /// `frame`: a datagram that is no frame. No node of a run answers it.
     Frame,
 }
