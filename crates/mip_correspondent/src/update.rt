@@ -1,11 +1,12 @@
 //! What a correspondent does about a Binding Update (RFC 6275 sections 9.5.1 and 9.5.4).
 
-ghost use Rattle.std.specs.Prelude.{◌≡◌, ◌≤◌, ◌<◌, ◌^◌, Some, IfOk, OnOk, IsTrue};
+ghost use Rattle.std.specs.Prelude.{◌≡◌, ◌≤◌, ◌<◌, ◌^◌, Some, IfOk, OnOk, IsTrue, option_copied};
 ghost use Rattle.mip_ipv6.specs.Packet.{is_routable_if_any};
 ghost use Rattle.mip_bcache.specs.Seen.{CacheSeen, row_for, with_row};
 ghost use Rattle.mip_rules_correspondent.specs.Turns.{Turn};
 ghost use Rattle.mip_updates.specs.Registrations.{registration_in};
 ghost use Rattle.mip_rules_correspondent.specs.Rules.{denies, acknowledges, accepts, judged, takes_update};
+ghost use Rattle.mip_verdict.specs.Judging.{key_in};
 ghost use Rattle.mip_correspondent.specs.Showing.{Shows, with_kept, kept_of, Fits};
 
 use crate::answering::{drop_packet, note_acceptance, note_denial, send};
@@ -13,7 +14,7 @@ use crate::kept::Kept;
 use crate::receipt::Receipt;
 use mip_entries::Answers;
 use mip_rules_correspondent::Verdict;
-use mip_tokens::Kbm;
+use mip_tokens::PreparedKbm;
 use mip_updates::{Registration, status, write_ack};
 use mip_verdict::verdict;
 use mip_words::Memory;
@@ -28,14 +29,14 @@ fn deny(
     registration: &Registration,
     status: u8,
     last: u16,
-    kbm: Option<Kbm>,
+    kbm: Option<&PreparedKbm>,
 ) -> Result<(), Memory>
     requires { IsTrue (is_routable_if_any registration.now.home_option) }
-    ensures { (cache : CacheSeen) (t : Turn) → Shows receipt.now.moment.0 cache answers.old t → OnOk result (Shows receipt.now.moment.0 cache answers.new (denies receipt.now.identity.now receipt.now.number registration.now status last kbm t)) }
+    ensures { (cache : CacheSeen) (t : Turn) → Shows receipt.now.moment.0 cache answers.old t → OnOk result (Shows receipt.now.moment.0 cache answers.new (denies receipt.now.identity.now receipt.now.number registration.now status last (option_copied kbm.entry) t)) }
 {
     let own = receipt.identity.own;
     note_denial(answers, receipt.number, status)?;
-    let ack = write_ack(alloc, own, registration, status, last, 0, kbm.as_ref())?;
+    let ack = write_ack(alloc, own, registration, status, last, 0, kbm)?;
     send(answers, ack)
 }
 
@@ -46,10 +47,10 @@ fn acknowledge(
     receipt: &Receipt<'_>,
     registration: &Registration,
     granted: u16,
-    kbm: Kbm,
+    kbm: &PreparedKbm,
 ) -> Result<(), Memory>
     requires { IsTrue (is_routable_if_any registration.now.home_option) }
-    ensures { (cache : CacheSeen) (t : Turn) → Shows receipt.now.moment.0 cache answers.old t → OnOk result (Shows receipt.now.moment.0 cache answers.new (acknowledges receipt.now.identity.now registration.now granted kbm t)) }
+    ensures { (cache : CacheSeen) (t : Turn) → Shows receipt.now.moment.0 cache answers.old t → OnOk result (Shows receipt.now.moment.0 cache answers.new (acknowledges receipt.now.identity.now registration.now granted kbm.now t)) }
 {
     if !registration.ack {
         return Ok(());
@@ -62,7 +63,7 @@ fn acknowledge(
         status::ACCEPTED,
         registration.sequence,
         granted,
-        Some(&kbm),
+        Some(kbm),
     )?;
     send(answers, ack)
 }
@@ -76,24 +77,26 @@ fn accept(
     registration: &Registration,
     kept: &Kept,
     granted: u16,
-    kbm: Kbm,
+    kbm: &PreparedKbm,
 ) -> Result<(), Memory>
     requires { IsTrue (is_routable_if_any registration.now.home_option) }
-    ensures { (cache : CacheSeen) (t : Turn) → Shows receipt.now.moment.0 cache answers.old t → OnOk result (Shows receipt.now.moment.0 (with_row receipt.now.moment.0 (row_for receipt.now.moment.0 kept.now.home 0 kept.now.accepted) cache) answers.new (accepts receipt.now.identity.now receipt.now.number registration.now kept.now.home kept.now.accepted granted kbm t)) }
+    ensures { (cache : CacheSeen) (t : Turn) → Shows receipt.now.moment.0 cache answers.old t → OnOk result (Shows receipt.now.moment.0 (with_row receipt.now.moment.0 (row_for receipt.now.moment.0 kept.now.home 0 kept.now.accepted) cache) answers.new (accepts receipt.now.identity.now receipt.now.number registration.now kept.now.home kept.now.accepted granted kbm.now t)) }
 {
     note_acceptance(answers, receipt.number, kept)?;
     acknowledge(alloc, answers, receipt, registration, granted, kbm)
 }
 
-/// What follows from a verdict.
+/// What follows from a verdict, and the key that it names.
 fn carry_out(
     alloc: Global,
     answers: &mut Answers,
     receipt: &Receipt<'_>,
     registration: &Registration,
     verdict: Verdict,
+    kbm: Option<&PreparedKbm>,
 ) -> Result<Option<Kept>, Memory>
-    requires { IsTrue (is_routable_if_any registration.now.home_option) }
+    requires plain { IsTrue (is_routable_if_any registration.now.home_option) }
+    requires key { option_copied kbm ≡ key_in verdict }
     ensures kept { IfOk result (λ kept. kept ≡ kept_of verdict) }
     ensures shows { (cache : CacheSeen) (t : Turn) → Shows receipt.now.moment.0 cache answers.old t → IfOk result (λ kept. Shows receipt.now.moment.0 (with_kept receipt.now.moment.0 kept cache) answers.new (judged receipt.now.identity.now receipt.now.number registration.now verdict t)) }
 {
@@ -102,7 +105,7 @@ fn carry_out(
             drop_packet(answers, receipt.number, why)?;
             Ok(None)
         }
-        Verdict::Deny { status, last, kbm } => {
+        Verdict::Deny { status, last, .. } => {
             deny(alloc, answers, receipt, registration, status, last, kbm)?;
             Ok(None)
         }
@@ -110,8 +113,11 @@ fn carry_out(
             home,
             accepted,
             granted,
-            kbm,
+            ..
         } => {
+            let Some(kbm) = kbm else {
+                unreachable!();
+            };
             let kept = Kept { home, accepted };
             accept(alloc, answers, receipt, registration, &kept, granted, kbm)?;
             Ok(Some(kept))
@@ -136,7 +142,7 @@ pub fn take_update(
     ensures shows { (t : Turn) → Shows receipt.now.moment.0 receipt.now.cache.now answers.old t → IfOk result (λ kept. Shows receipt.now.moment.0 (with_kept receipt.now.moment.0 kept receipt.now.cache.now) answers.new (takes_update receipt.now.identity.now receipt.now.number registration.now message.now t)) }
 {
     let identity = receipt.identity;
-    let verdict = verdict(
+    let judged = verdict(
         receipt.moment,
         &identity.secrets,
         receipt.cache,
@@ -144,5 +150,6 @@ pub fn take_update(
         registration,
         message,
     );
-    carry_out(alloc, answers, receipt, registration, verdict)
+    let kbm = judged.kbm.as_ref();
+    carry_out(alloc, answers, receipt, registration, judged.verdict, kbm)
 }

@@ -6,7 +6,7 @@ ghost use Rattle.mip_marks.specs.Seen.{pair_of, gives_it};
 
 use crate::pair::Pair;
 use mip_says::Key;
-use mip_tokens::{Kbm, authenticator};
+use mip_tokens::{Kbm, PreparedKbm, authenticator};
 use mip_words::{Address, Token};
 
 /// An update with its authenticator, as the node that accepted it checked it.
@@ -35,7 +35,7 @@ impl Signed<'_> {
     pub fn is_by(&self, pair: &Pair) -> bool
         ensures { result ≡ gives_it self.now (pair_of pair.now) }
     {
-        let kbm = kbm(pair);
+        let kbm = PreparedKbm::new(kbm(pair));
         authenticator(&kbm, self.careof, self.own, self.key.body) == self.key.authenticator
     }
 

@@ -12,7 +12,7 @@ use mip_ipv6::Head;
 use mip_mobhdr::Plain;
 use mip_options::{Indices, OptionSet};
 use mip_signals::{node_head, write_authenticated_packet};
-use mip_tokens::Kbm;
+use mip_tokens::{Kbm, PreparedKbm};
 use mip_words::{Address, Bytes, Memory};
 use std::alloc::Global;
 
@@ -80,7 +80,14 @@ fn authenticated_packet(
 {
     let head = head(binding);
     let message = message(binding, indices);
-    write_authenticated_packet(alloc, &head, &message, &kbm, careof, binding.peer)
+    write_authenticated_packet(
+        alloc,
+        &head,
+        &message,
+        &PreparedKbm::new(kbm),
+        careof,
+        binding.peer,
+    )
 }
 
 /// The update with the tokens that were told: with a home token alone it ends a binding.

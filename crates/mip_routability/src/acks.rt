@@ -18,7 +18,7 @@ use crate::waiting::Waiting;
 use mip_bulist::{Any, Pending, Trial, Work};
 use mip_constants::{INITIAL_BINDACK_TIMEOUT, LIFETIME_UNIT};
 use mip_desk::Desk;
-use mip_tokens::authenticator;
+use mip_tokens::{PreparedKbm, authenticator};
 use mip_updates::status;
 use mip_words::{Address, Memory, Moment, Why};
 use std::alloc::Global;
@@ -81,7 +81,8 @@ fn is_genuine(home: Address, trial: &Trial<Pending>, message: &[u8]) -> bool
 {
     let careof = trial.binds_to().unwrap_or(home);
     let place = message.len().saturating_sub(12);
-    message[place..] == authenticator(&trial.last_made().kbm, careof, trial.peer(), message)[..]
+    let kbm = PreparedKbm::new(trial.last_made().kbm);
+    message[place..] == authenticator(&kbm, careof, trial.peer(), message)[..]
 }
 
 /// It is authentic, or tells of expired nonces without an authenticator.

@@ -12,6 +12,7 @@ use mip_constants::protocol::MOBILITY_HEADER;
 use mip_mobhdr::Plain;
 use mip_options::OptionSet;
 use mip_signals::{NO_OPTIONS, node_head, straight, write_authenticated_packet};
+use mip_tokens::PreparedKbm;
 use mip_words::{Address, Bytes, Memory};
 use std::alloc::Global;
 
@@ -47,7 +48,14 @@ fn write_binding(
 {
     let head = node_head(source, peer, None, Some(home), MOBILITY_HEADER);
     let message = update_of(made, MAX_RR_BINDING_LIFETIME);
-    write_authenticated_packet(alloc, &head, &message, &made.kbm, source, peer)
+    write_authenticated_packet(
+        alloc,
+        &head,
+        &message,
+        &PreparedKbm::new(made.kbm),
+        source,
+        peer,
+    )
 }
 
 /// An update that deletes the binding, from home.
@@ -62,7 +70,14 @@ fn write_deletion(
 {
     let head = straight(source, peer, MOBILITY_HEADER);
     let message = update_of(made, 0);
-    write_authenticated_packet(alloc, &head, &message, &made.kbm, source, peer)
+    write_authenticated_packet(
+        alloc,
+        &head,
+        &message,
+        &PreparedKbm::new(made.kbm),
+        source,
+        peer,
+    )
 }
 
 /// The update with a lifetime, which asks for an acknowledgement and names the nonces of its tests.

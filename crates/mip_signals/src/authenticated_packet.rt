@@ -12,7 +12,7 @@ use crate::message_packet::{message_for, write_message_packet};
 use mip_ipv6::Head;
 use mip_mobhdr::Plain;
 use mip_options::OptionSet;
-use mip_tokens::{Kbm, authenticator};
+use mip_tokens::{PreparedKbm, authenticator};
 use mip_words::{Address, Bytes, Memory};
 use std::alloc::Global;
 
@@ -89,7 +89,7 @@ fn seal(
     alloc: Global,
     head: &Head,
     message: &Plain,
-    kbm: &Kbm,
+    kbm: &PreparedKbm,
     careof: Address,
     peer: Address,
 ) -> Result<[u8; 12], Memory>
@@ -107,7 +107,7 @@ pub fn write_authenticated_packet(
     alloc: Global,
     head: &Head,
     message: &Plain,
-    kbm: &Kbm,
+    kbm: &PreparedKbm,
     careof: Address,
     peer: Address,
 ) -> Result<Bytes, Memory>

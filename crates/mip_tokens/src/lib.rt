@@ -5,9 +5,11 @@
 mod authorization;
 mod kbm;
 mod keygen;
+mod prepared_kbm;
 #[cfg(test)]
 mod tests;
 
 pub use authorization::{authentic, authenticator, covered};
 pub use kbm::Kbm;
 pub use keygen::{careof_token, home_token};
+pub use prepared_kbm::PreparedKbm;

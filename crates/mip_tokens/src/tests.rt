@@ -1,4 +1,4 @@
-use crate::{Kbm, authentic, authenticator, careof_token, home_token};
+use crate::{Kbm, PreparedKbm, authentic, authenticator, careof_token, home_token};
 use mip_hmac::PreparedKey;
 use mip_words::Address;
 
@@ -24,9 +24,11 @@ fn tokens_keys_and_authenticators(rt: HostRuntime) {
     );
     let update =
         b"\x3b\x03\x05\x00\xab\xcd\x00\x01\x80\x00\x00\x69\x04\x04\x00\x00\x00\x00\x05\x0c\xe9\x33\x1a\x17\x43\x9b\xb5\x89\x77\x23\x65\xdb";
+    let both = PreparedKbm::new(both);
     assert!(rt; authentic(&both, careof, peer, update));
     assert!(rt; !authentic(&both, home, peer, update));
-    let deleting = authenticator(&Kbm::home(home_token), home, peer, update);
+    let deleting = PreparedKbm::new(Kbm::home(home_token));
+    let deleting = authenticator(&deleting, home, peer, update);
     assert_eq!(rt;
         deleting,
         *b"\xff\xc7\x2f\x97\x19\xc8\xd5\xc7\x76\x00\xad\xab"

@@ -12,7 +12,7 @@ use mip_constants::protocol::MOBILITY_HEADER;
 use mip_ipv6::Head;
 use mip_mobhdr::Plain;
 use mip_signals::{NO_OPTIONS, node_head, write_authenticated_packet, write_message_packet};
-use mip_tokens::Kbm;
+use mip_tokens::PreparedKbm;
 use mip_words::{Address, Bytes, Memory};
 use std::alloc::Global;
 
@@ -55,7 +55,7 @@ pub fn write_ack(
     status: u8,
     sequence: u16,
     lifetime: u16,
-    kbm: Option<&Kbm>,
+    kbm: Option<&PreparedKbm>,
 ) -> Result<Bytes, Memory>
     requires { IsTrue (is_routable_if_any registration.now.home_option) }
     ensures bytes { IfOk result (λ b. b ≡ ack_packet own registration.now status sequence lifetime (option_copied kbm.entry)) }

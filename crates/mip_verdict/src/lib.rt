@@ -1,10 +1,12 @@
 //! The verdict of a correspondent on a Binding Update (RFC 6275 sections 9.5.1 and 9.5.4).
 #![tactic(auto)]
 
+mod judged;
 mod rows;
 #[cfg(test)]
 mod tests;
 mod verdicts;
 
+pub use judged::Judged;
 pub use mip_entries::UpdateSeen;
 pub use verdicts::{judge, verdict};

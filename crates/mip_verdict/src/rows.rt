@@ -3,13 +3,15 @@
 ghost use Rattle.std.specs.Prelude.{◌≡◌, ◌≤◌, ◌<◌, ◌^◌, length};
 ghost use Rattle.mip_rules_correspondent.specs.Verdicts.{granted_of, accepted_of, by_room, by_sequence, by_key, kbm_of, by_numbers, careof_number, by_indices};
 ghost use Rattle.mip_verdict.specs.Benches.{bench_of};
+ghost use Rattle.mip_verdict.specs.Judging.{IsJudged};
 
+use crate::judged::Judged;
 use mip_bcache::{Accepted, Cache};
 use mip_constants::{LIFETIME_UNIT, MAX_RR_BINDING_LIFETIME};
 use mip_nonce::{Secrets, by_index};
 use mip_options::Indices;
 use mip_rules_correspondent::Verdict;
-use mip_tokens::{Kbm, authentic, careof_token, home_token};
+use mip_tokens::{Kbm, PreparedKbm, authentic, careof_token, home_token};
 use mip_updates::{Registration, careof_of, deletes, home_of, registered_of, status};
 use mip_words::{Address, Moment, Why, after};
 
@@ -102,17 +104,21 @@ fn by_key(
     message: &[u8],
     home: u64,
     careof: Option<u64>,
-    kbm: Kbm,
-) -> Verdict
+    kbm: PreparedKbm,
+) -> Judged
     requires early { judge.now.moment.0 < 2 ^ 62 }
     requires later { judge.now.cache.now.last ≤ judge.now.moment.0 }
     requires long { 18 ≤ length message.now }
-    ensures { result ≡ by_key (bench_of judge.now registration.now) registration.now message.now home careof kbm }
+    ensures { IsJudged result (by_key (bench_of judge.now registration.now) registration.now message.now home careof kbm) }
 {
     if !authentic(&kbm, registered_of(registration), judge.own, message) {
-        return Verdict::Refuse(Why::Authenticator);
+        return Judged::without_key(Verdict::Refuse(Why::Authenticator));
     }
-    by_sequence(judge, registration, home, careof, kbm)
+    let verdict = by_sequence(judge, registration, home, careof, kbm.kbm());
+    Judged {
+        verdict,
+        kbm: Some(kbm),
+    }
 }
 
 /// The key: of the home token alone where the binding ends, else of both tokens.
@@ -140,21 +146,29 @@ fn by_numbers(
     message: &[u8],
     home: Option<u64>,
     careof: Option<Option<u64>>,
-) -> Verdict
+) -> Judged
     requires early { judge.now.moment.0 < 2 ^ 62 }
     requires later { judge.now.cache.now.last ≤ judge.now.moment.0 }
     requires long { 18 ≤ length message.now }
-    ensures { result ≡ by_numbers (bench_of judge.now registration.now) registration.now message.now home careof }
+    ensures { IsJudged result (by_numbers (bench_of judge.now registration.now) registration.now message.now home careof) }
 {
-    match (home, careof) {
-        (None, None) => deny(status::EXPIRED_NONCES, registration.sequence, None),
-        (None, Some(_)) => deny(status::EXPIRED_HOME_NONCE, registration.sequence, None),
-        (Some(_), None) => deny(status::EXPIRED_CAREOF_NONCE, registration.sequence, None),
+    let status = match (home, careof) {
+        (None, None) => status::EXPIRED_NONCES,
+        (None, Some(_)) => status::EXPIRED_HOME_NONCE,
+        (Some(_), None) => status::EXPIRED_CAREOF_NONCE,
         (Some(home), Some(careof)) => {
             let kbm = kbm_of(judge, registration, home, careof);
-            by_key(judge, registration, message, home, careof, kbm)
+            return by_key(
+                judge,
+                registration,
+                message,
+                home,
+                careof,
+                PreparedKbm::new(kbm),
+            );
         }
-    }
+    };
+    Judged::without_key(deny(status, registration.sequence, None))
 }
 
 /// The number of the care-of nonce; where the binding ends its index is ignored.
@@ -173,14 +187,14 @@ fn careof_number(
 }
 
 /// Silence where the Nonce Indices are missing.
-pub fn by_indices(judge: &Judge<'_>, registration: &Registration, message: &[u8]) -> Verdict
+pub fn by_indices(judge: &Judge<'_>, registration: &Registration, message: &[u8]) -> Judged
     requires early { judge.now.moment.0 < 2 ^ 62 }
     requires later { judge.now.cache.now.last ≤ judge.now.moment.0 }
     requires long { 18 ≤ length message.now }
-    ensures { result ≡ by_indices (bench_of judge.now registration.now) registration.now message.now registration.now.nonces }
+    ensures { IsJudged result (by_indices (bench_of judge.now registration.now) registration.now message.now registration.now.nonces) }
 {
     match registration.nonces {
-        None => Verdict::Refuse(Why::Options),
+        None => Judged::without_key(Verdict::Refuse(Why::Options)),
         Some(indices) => {
             let home = by_index(judge.moment, indices.home);
             let careof = careof_number(judge, registration, indices);

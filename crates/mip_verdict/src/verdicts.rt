@@ -6,7 +6,9 @@ ghost use Rattle.mip_bcache.specs.Seen.{StandsFor};
 ghost use Rattle.mip_updates.specs.Registrations.{IsUpdate, registration_in};
 ghost use Rattle.mip_rules_correspondent.specs.Verdicts.{verdict};
 ghost use Rattle.mip_verdict.specs.Benches.{bench_at, bench_of, bench_after};
+ghost use Rattle.mip_verdict.specs.Judging.{IsJudged};
 
+use crate::judged::Judged;
 use crate::rows::{Judge, by_indices, deny};
 use mip_bcache::Cache;
 use mip_entries::UpdateSeen;
@@ -31,10 +33,10 @@ pub fn judge(
     ensures answers { (past : List Acceptance) → StandsFor cache.now past → IsSomeAnd (registration_in update.now.source update.now.home update.now.message.now) (λ r. result ≡ verdict (bench_after own secrets.now now.0 cache.now.limit past r) r update.now.message.now) }
 {
     let registration = registration_in(update);
-    verdict(now, secrets, cache, own, &registration, update.message)
+    verdict(now, secrets, cache, own, &registration, update.message).verdict
 }
 
-/// The same of an update that was read.
+/// The same of an update that was read, with the key that the verdict names.
 pub fn verdict(
     now: Moment,
     secrets: &Secrets,
@@ -42,12 +44,12 @@ pub fn verdict(
     own: Address,
     registration: &Registration,
     message: &[u8],
-) -> Verdict
+) -> Judged
     requires early { now.0 < 2 ^ 62 }
     requires later { cache.now.last ≤ now.0 }
     requires read { registration_in registration.now.source registration.now.home_option message.now ≡ Some registration.now }
-    ensures found { result ≡ verdict (bench_at own secrets.now now.0 cache.now registration.now) registration.now message.now }
-    ensures answers { (past : List Acceptance) → StandsFor cache.now past → result ≡ verdict (bench_after own secrets.now now.0 cache.now.limit past registration.now) registration.now message.now }
+    ensures found { IsJudged result (verdict (bench_at own secrets.now now.0 cache.now registration.now) registration.now message.now) }
+    ensures answers { (past : List Acceptance) → StandsFor cache.now past → IsJudged result (verdict (bench_after own secrets.now now.0 cache.now.limit past registration.now) registration.now message.now) }
 {
     let judge = Judge {
         own,
@@ -61,24 +63,21 @@ pub fn verdict(
 /// Before the nonces: 131 where it is for a home agent, silence where an address is not routable or there is
 /// no authenticator.
 #[tactic(auto, unfolding(mip_rules_correspondent::specs::Verdicts::verdict), using(mip_updates::proofs::Updates::authorized_is_long))]
-fn from_the_first(judge: &Judge<'_>, registration: &Registration, message: &[u8]) -> Verdict
+fn from_the_first(judge: &Judge<'_>, registration: &Registration, message: &[u8]) -> Judged
     requires early { judge.now.moment.0 < 2 ^ 62 }
     requires later { judge.now.cache.now.last ≤ judge.now.moment.0 }
     requires read { registration_in registration.now.source registration.now.home_option message.now ≡ Some registration.now }
-    ensures { result ≡ verdict (bench_of judge.now registration.now) registration.now message.now }
+    ensures { IsJudged result (verdict (bench_of judge.now registration.now) registration.now message.now) }
 {
     if registration.for_agent {
-        return deny(
-            status::HOME_REGISTRATION_NOT_SUPPORTED,
-            registration.sequence,
-            None,
-        );
+        let status = status::HOME_REGISTRATION_NOT_SUPPORTED;
+        return Judged::without_key(deny(status, registration.sequence, None));
     }
     if !(home_of(registration).routable() && careof_of(registration).routable()) {
-        return Verdict::Refuse(Why::Unroutable);
+        return Judged::without_key(Verdict::Refuse(Why::Unroutable));
     }
     if !registration.authorized {
-        return Verdict::Refuse(Why::Options);
+        return Judged::without_key(Verdict::Refuse(Why::Options));
     }
     by_indices(judge, registration, message)
 }

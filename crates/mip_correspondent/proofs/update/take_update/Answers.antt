@@ -12,7 +12,7 @@ pub returns-clause-fits : goal.returns-clause-fits
 returns-clause-fits c =
     let me = c.args.receipt.now.identity.now in
     IfOk-weaker c.carry_out.result _ _ (λ kept is.
-    kept-fits me.own me.secrets c.args.receipt.now.moment.0 c.args.receipt.now.cache.now c.args.registration.now c.args.message.now c.verdict-verdict.result kept c.verdict-verdict.ensures.found is) c.carry_out.ensures.kept
+    kept-fits me.own me.secrets c.args.receipt.now.moment.0 c.args.receipt.now.cache.now c.args.registration.now c.args.message.now c.verdict-judged.result.verdict kept c.verdict-judged.ensures.found.0 is) c.carry_out.ensures.kept
 
 pub returns-clause-shows : goal.returns-clause-shows
 unfolding takes_update
@@ -23,5 +23,5 @@ returns-clause-shows c = λ t shows.
     let r = c.args.registration.now in
     let message = c.args.message.now in
     subst (λ (v : Verdict). IfOk c.carry_out.result (λ kept. Shows now (with_kept now kept cache) c.carry_out.new.answers (judged me c.args.receipt.now.number r v t)))
-    (c.verdict-verdict.ensures.found ∙ ap (λ (b : Bench). verdict b r message) (sym (bench-shown me r now cache c.args.answers.now t shows)))
+    (c.verdict-judged.ensures.found.0 ∙ ap (λ (b : Bench). verdict b r message) (sym (bench-shown me r now cache c.args.answers.now t shows)))
     (c.carry_out.ensures.shows cache t shows)

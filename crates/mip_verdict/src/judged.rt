@@ -1,0 +1,22 @@
+ghost use Rattle.std.specs.Prelude.{◌≡◌, None};
+ghost use Rattle.mip_verdict.specs.Judging.{key_in, IsJudged};
+
+use mip_rules_correspondent::Verdict;
+use mip_tokens::PreparedKbm;
+
+/// A verdict, and beside it the key that it names, if it names one: prepared, as the answer is made under it.
+#[derive(Drop)]
+pub struct Judged {
+    pub verdict: Verdict,
+    pub kbm: Option<PreparedKbm>,
+}
+
+impl Judged {
+    /// A verdict that names no key.
+    pub fn without_key(verdict: Verdict) -> Judged
+        requires { key_in verdict ≡ None }
+        ensures { IsJudged result verdict }
+    {
+        Judged { verdict, kbm: None }
+    }
+}
