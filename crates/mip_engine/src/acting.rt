@@ -29,7 +29,7 @@ impl Engine {
             None => return self.note(Entry::Idle),
         };
         let answers = self.ask_node(alloc, node, call)?;
-        self.answer(alloc, node, from, answers)
+        self.answer(node, from, answers)
     }
 
     /// A mobile leaves where it is, and stands on a link or on none.

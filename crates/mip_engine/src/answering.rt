@@ -12,7 +12,6 @@ ghost use Rattle.mip_engine.specs.Standing.{IsAt};
 use crate::engine::Engine;
 use mip_entries::{Answer, Answers, Entry};
 use mip_words::{LinkId, Memory, NodeId};
-use std::alloc::Global;
 
 impl Engine {
     /// An entry of a node is left with the node's number.
@@ -42,20 +41,14 @@ impl Engine {
         }
     }
 
-    fn answer_one(
-        &mut self,
-        alloc: Global,
-        node: NodeId,
-        from: LinkId,
-        answer: Answer,
-    ) -> Result<(), Memory>
+    fn answer_one(&mut self, node: NodeId, from: LinkId, answer: Answer) -> Result<(), Memory>
         requires whole { IsWhole answer }
         requires node { node.0 < 40 }
         ensures stands { (s : Setup) (run : Run) → IsAt self.old s run → OnOk result (IsAt self.new s (answered_one s node.0 from.0 run answer)) }
         ensures kept { OnOk result (self.new.told ≡ self.old.told) }
     {
         match answer {
-            Answer::Send { shield, packet } => self.send(alloc, node, from, shield, packet),
+            Answer::Send { shield, packet } => self.send(node, from, shield, packet),
             Answer::Note(entry) => self.note_left(node, entry),
         }
     }
@@ -64,7 +57,6 @@ impl Engine {
     #[tactic(auto, unfolding(mip_history::specs::Nodes::answered))]
     pub(crate) fn answer(
         &mut self,
-        alloc: Global,
         node: NodeId,
         from: LinkId,
         answers: Answers,
@@ -75,7 +67,7 @@ impl Engine {
         ensures kept { OnOk result (self.new.told ≡ self.old.told) }
     {
         for answer in answers.into_vec() {
-            self.answer_one(alloc, node, from, answer)?;
+            self.answer_one(node, from, answer)?;
         }
         Ok(())
     }

@@ -40,6 +40,6 @@ fn arrival_link(net: &Net, number: u64, from: LinkId) -> Option<LinkId>
     let Some(packet) = net.packet(number) else {
         unreachable!();
     };
-    let link = net.link_of(Address::at(packet.as_slice(), DESTINATION))?;
+    let link = net.link_of(Address::at(packet, DESTINATION))?;
     if link.0 == from.0 { None } else { Some(link) }
 }

@@ -73,7 +73,6 @@ impl Engine {
     /// A node sends a packet from a link.
     pub(crate) fn send(
         &mut self,
-        alloc: Global,
         node: NodeId,
         from: LinkId,
         shield: Option<Shield>,
@@ -83,8 +82,7 @@ impl Engine {
         ensures stands { (s : Setup) (run : Run) → IsAt self.old s run → OnOk result (IsAt self.new s (posted s (record { from = from.0; shield = shield; packet = packet }) None (Sent (length run.posts) node (is_some shield) packet) run)) }
         ensures kept { OnOk result (self.new.told ≡ self.old.told) }
     {
-        let posted = Bytes::copy(alloc, packet.as_slice())?;
-        let number = self.post(from, shield, posted)?;
+        let number = self.post(from, shield, packet.as_slice())?;
         self.note(Entry::Sent {
             number,
             node,
@@ -106,8 +104,7 @@ impl Engine {
         ensures stands { (s : Setup) (run : Run) → IsAt self.old s run → OnOk result (IsAt self.new s (injected s run outsider link.0 packet.now)) }
         ensures kept { OnOk result (self.new.told ≡ self.old.told) }
     {
-        let posted = Bytes::copy(alloc, packet)?;
-        let number = self.post(link, None, posted)?;
+        let number = self.post(link, None, packet)?;
         let packet = Bytes::copy(alloc, packet)?;
         self.note(Entry::Injected {
             number,

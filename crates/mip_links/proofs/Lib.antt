@@ -1,1 +1,2 @@
 pub mod NetLaws
+pub mod PostLaws

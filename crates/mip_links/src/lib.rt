@@ -6,9 +6,11 @@ mod claim_fault;
 mod delivery;
 mod flight;
 mod kept_flight;
+mod kept_post;
 mod net;
 mod places;
-mod post;
+mod posted;
+mod posts;
 mod rows;
 
 pub use claim_fault::ClaimFault;

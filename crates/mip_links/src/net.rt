@@ -1,4 +1,5 @@
-ghost use Rattle.std.specs.Prelude.{◌≡◌, ◌≢◌, ◌==◌, ◌&&◌, ℕ, ◌<◌, ◌≤◌, length, map, replicate, false, true, not, if◌then◌else◌, None, Some, Ok, Err, is_some, IfOk, IfSome, OnOk, OnErr, option_copied, option_map, slice_get, slice_index_or};
+ghost use Rattle.std.specs.Prelude.{◌≡◌, ◌≢◌, ◌==◌, ◌&&◌, ℕ, ◌<◌, ◌≤◌, length, map, replicate, false, true, not, if◌then◌else◌, None, Some, Ok, Err, is_some, IfOk, IfSome, OnOk, OnErr, option_map, slice_get, slice_index_or};
+ghost use Rattle.mip_links.specs.Kept.{post_of};
 ghost use Rattle.mip_links.specs.Table.{delivery, held_by, in_pool, is_address, link_of};
 ghost use Rattle.mip_links.specs.Nets.{new_net, holder_of, has_room, put, declared_of, asked_of, hears_of, lowest_of, spot, with_rows, with_hearing, posted, left, claimed, refusal, is_held_by};
 
@@ -6,10 +7,11 @@ use crate::claim_fault::ClaimFault;
 use crate::delivery::Delivery;
 use crate::flight::Flight;
 use crate::places::{first_after, link_place, stands};
-use crate::post::Post;
+use crate::posted::Posted;
+use crate::posts::Posts;
 use crate::rows;
 use indexmap::IndexMap;
-use mip_words::{Address, Bytes, LinkId, Memory, Prefix, Shield, Why};
+use mip_words::{Address, LinkId, Memory, Prefix, Shield, Why};
 use std::alloc::Global;
 use std::marker::Model;
 
@@ -26,11 +28,10 @@ const EARS: usize = 256;
 /// A network. A holder is a node by its number, or an outsider by `FIRST_OUTSIDER` and its number.
 #[derive(Drop)]
 pub struct Net {
-    alloc: Global,
     links: Vec<Prefix>,
     claims: IndexMap<u128, Option<u8>>,
     firsts: Vec<Option<Address>>,
-    posts: Vec<Post>,
+    posts: Posts,
     flying: Vec<bool>,
     low: usize,
     hearing: Vec<bool>,
@@ -46,7 +47,7 @@ impl Model for Net {
       links = map (λ p. p.0) n.links.items;
       rows = n.claims.entries;
       firsts = n.firsts.items;
-      posts = n.posts.items;
+      posts = n.posts;
       flying = n.flying.items;
       hearing = n.hearing.items;
     } };
@@ -55,7 +56,7 @@ impl Model for Net {
       links = map (λ p. p.0) n.links.items;
       rows = n.claims.entries;
       firsts = n.firsts.items;
-      posts = n.posts.items;
+      posts = n.posts;
       flying = n.flying.items;
       hearing = n.hearing.items;
     }) n.low };
@@ -68,11 +69,10 @@ impl Net {
         ensures { IfOk result (λ n. n ≡ new_net (map (λ p. p.0) links.now)) }
     {
         Ok(Net {
-            alloc,
             links: Vec::from_slice(alloc, links)?,
             claims: IndexMap::new(alloc),
             firsts: no_firsts(alloc)?,
-            posts: Vec::new(alloc),
+            posts: Posts::new(alloc),
             flying: Vec::new(alloc),
             low: 0,
             hearing: no_ears(alloc)?,
@@ -120,17 +120,16 @@ impl Net {
         &mut self,
         from: LinkId,
         shield: Option<Shield>,
-        packet: Bytes,
+        packet: &[u8],
     ) -> Result<u64, Memory>
-        requires { 40 ≤ length packet }
+        requires { 40 ≤ length packet.now }
         ensures number { IfOk result (λ number. number ≡ length self.old.posts) }
-        ensures ok { OnOk result (self.new ≡ posted self.old (record { from = from.0; shield = shield; packet = packet })) }
+        ensures ok { OnOk result (self.new ≡ posted self.old (record { from = from.0; shield = shield; packet = packet.now })) }
         ensures err { OnErr result (self.new ≡ self.old) }
     {
         let number = self.posts.len();
-        let post = Post::new(self.alloc, from, shield, packet)?;
         self.flying.reserve(1)?;
-        self.posts.push(post)?;
+        self.posts.push(from, shield, packet)?;
         self.flying.push_reserved(true);
         Ok(number as u64)
     }
@@ -155,16 +154,17 @@ impl Net {
             return Delivery::Idle;
         }
         match self.posts.get(number as usize) {
-            Some(post) => self.arrival_of(post),
+            Some(post) => self.arrival_of(&post),
             None => Delivery::Idle,
         }
     }
 
-    fn arrival_of(&self, post: &Post) -> Delivery
-        ensures { result ≡ delivery (asked_of self.now) (Some post.now) }
+    fn arrival_of(&self, post: &Posted<'_>) -> Delivery
+        requires { 40 ≤ length post.now.packet.now }
+        ensures { result ≡ delivery (asked_of self.now) (Some (post_of post.now)) }
     {
         let to = post.destination();
-        let flight = post.flight();
+        let flight = post.flight;
         let Some(link) = self.link_of(to) else {
             return Delivery::Gone(Why::NoLink);
         };
@@ -210,12 +210,12 @@ impl Net {
     }
 
     /// The bytes of a packet as it was posted, in the pool or not: its fixed header at least.
-    pub fn packet(&self, number: u64) -> Option<&Bytes>
-        ensures found { option_copied result ≡ option_map (λ p. p.packet) (slice_get self.now.posts number) }
+    pub fn packet(&self, number: u64) -> Option<&[u8]>
+        ensures found { option_map (λ p. p.now) result ≡ option_map (λ p. p.packet) (slice_get self.now.posts number) }
         ensures whole { IfSome result (λ p. 40 ≤ length p.now) }
     {
         let post = self.posts.get(number as usize)?;
-        Some(post.packet())
+        Some(post.packet)
     }
 
     /// The link that a packet was sent from, and its shield, in the pool or not.
@@ -224,7 +224,7 @@ impl Net {
         ensures shield { option_map (λ f. f.shield) result ≡ option_map (λ p. p.shield) (slice_get self.now.posts number) }
     {
         let post = self.posts.get(number as usize)?;
-        Some(post.flight())
+        Some(post.flight)
     }
 
     /// Whether an outsider, by its number among outsiders, listens on a link.

@@ -1,5 +1,5 @@
 use super::*;
-use mip_words::{Address, Bytes, LinkId, Prefix, Shield, Why};
+use mip_words::{Address, LinkId, Prefix, Shield, Why};
 use std::test::Fail;
 
 const HOME: Address = Address(0x2001_0db8_0000_0001_0000_0000_0000_0009);
@@ -40,9 +40,9 @@ fn a_packet_goes_to_the_holder(rt: HostRuntime) -> Result<(), Fail> {
     };
     let mut net = Net::new(rt.alloc(), &links)?;
     assert_eq!(rt; net.claim(3, HOME), Ok(()));
-    net.post(LinkId(0), None, Bytes::copy(rt.alloc(), &PACKET)?)?;
-    net.post(LinkId(1), None, Bytes::copy(rt.alloc(), &PACKET)?)?;
-    net.post(LinkId(0), Some(shield), Bytes::copy(rt.alloc(), &PACKET)?)?;
+    net.post(LinkId(0), None, &PACKET)?;
+    net.post(LinkId(1), None, &PACKET)?;
+    net.post(LinkId(0), Some(shield), &PACKET)?;
     assert_eq!(rt; net.deliver(0, true), Delivery::Node { by: 3 });
     assert_eq!(rt; net.lowest(), Some(0));
     assert_eq!(rt; net.deliver(0, false), Delivery::Node { by: 3 });

@@ -15,7 +15,7 @@ asked (Hear agent preference life) = calls.Hear agent preference life
 asked (Attach prefix) = calls.Attach prefix.0
 asked Leave = calls.Leave
 asked Ask = calls.Ask
-asked (Restart secrets) = calls.Restart secrets
+asked (Restart secrets) = calls.Restart secrets.value
 
 -- data is of a protocol that may be sent, and short
 abbrev pub IsAskable : Call → Type 0

@@ -41,8 +41,8 @@ pub enum Call<'a> {
     Leave,
     /// It is to solicit the prefixes of its home link.
     Ask,
-    /// It loses all that it keeps, and goes on with these secrets.
+    /// It loses all that it keeps, and goes on with these secrets, which stand apart: so every other call is short.
     Restart {
-        secrets: Secrets,
+        secrets: Box<Secrets>,
     },
 }

@@ -216,7 +216,7 @@ pub fn ask(
             finish(desk, alloc, done)
         }
         Call::Restart { secrets } => {
-            let done = restart(desk, alloc, now, secrets);
+            let done = restart(desk, alloc, now, Box::into_inner(secrets));
             finish(desk, alloc, done)
         }
         Call::Plan { .. } | Call::Hear { .. } => idle(alloc),

@@ -63,6 +63,7 @@ fn begin_anew(
 {
     if engine.is_roaming(node) {
         let secrets = engine.secrets(node);
+        let secrets = Box::new(alloc, secrets)?;
         return engine.act(alloc, node, Call::Restart { secrets });
     }
     leave_homes(engine, node, homes)

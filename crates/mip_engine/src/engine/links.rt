@@ -45,11 +45,11 @@ impl Engine {
         &mut self,
         from: LinkId,
         shield: Option<Shield>,
-        packet: Bytes,
+        packet: &[u8],
     ) -> Result<u64, Memory>
-        requires { 40 ≤ length packet }
+        requires { 40 ≤ length packet.now }
         ensures number { IfOk result (λ k. k ≡ length self.old.net.posts) }
-        ensures after { OnOk result (self.new ≡ with_net (posted self.old.net (record { from = from.0; shield = shield; packet = packet })) self.old) }
+        ensures after { OnOk result (self.new ≡ with_net (posted self.old.net (record { from = from.0; shield = shield; packet = packet.now })) self.old) }
     {
         self.net.post(from, shield, packet)
     }
@@ -81,10 +81,7 @@ impl Engine {
         ensures found { option_map (λ p. p.now) result ≡ option_map (λ p. p.packet) (slice_get self.now.net.posts number) }
         ensures whole { IfSome result (λ p. 40 ≤ length p.now) }
     {
-        match self.net.packet(number) {
-            Some(packet) => Some(packet.as_slice()),
-            None => None,
-        }
+        self.net.packet(number)
     }
 
     /// A packet of the pool, and what becomes of it; it leaves the pool unless it is kept.
@@ -115,8 +112,8 @@ impl Engine {
             unreachable!();
         };
         match link {
-            Some(_) => lower(alloc, packet.as_slice()),
-            None => Bytes::copy(alloc, packet.as_slice()),
+            Some(_) => lower(alloc, packet),
+            None => Bytes::copy(alloc, packet),
         }
     }
 

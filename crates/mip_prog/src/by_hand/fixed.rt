@@ -44,7 +44,7 @@ impl Fixed {
         let answers = self
             .correspondent
             .send(alloc, NOW, HOME, PROTOCOL, &[byte])?;
-        scene.carry_out(alloc, Host::Correspondent, answers)?;
+        scene.carry_out(Host::Correspondent, answers)?;
         Ok(self)
     }
 
@@ -65,7 +65,7 @@ impl Fixed {
             handed.shield,
             packet,
         )?;
-        scene.carry_out(alloc, Host::Agent, answers)?;
+        scene.carry_out(Host::Agent, answers)?;
         Ok(self)
     }
 
@@ -80,7 +80,7 @@ impl Fixed {
         let answers = self
             .correspondent
             .take(alloc, NOW, handed.number, handed.shield, packet)?;
-        scene.carry_out(alloc, Host::Correspondent, answers)?;
+        scene.carry_out(Host::Correspondent, answers)?;
         Ok(self)
     }
 }

@@ -43,7 +43,7 @@ impl Roamer {
     /// It leaves its home link, and stands on the foreign one.
     pub fn leave(self, alloc: Global, scene: &mut Scene) -> Result<Roamer, Fail> {
         let (mobile, answers) = leave(alloc, self.mobile, scene.net());
-        scene.carry_out(alloc, Host::Mobile, answers?)?;
+        scene.carry_out(Host::Mobile, answers?)?;
         scene.note(Entry::Moved {
             node: Host::Mobile.node(),
             link: Some(FOREIGN_LINK),
@@ -59,14 +59,14 @@ impl Roamer {
             agent: None,
         })?;
         let (mobile, answers) = attach(alloc, self.mobile, scene.net());
-        scene.carry_out(alloc, Host::Mobile, answers?)?;
+        scene.carry_out(Host::Mobile, answers?)?;
         Ok(Roamer { mobile })
     }
 
     /// It sends a byte to the correspondent.
     pub fn send(self, alloc: Global, scene: &mut Scene, byte: u8) -> Result<Roamer, Fail> {
         let (mobile, answers) = self.mobile.send(alloc, PEER, PROTOCOL, &[byte]);
-        scene.carry_out(alloc, Host::Mobile, answers?)?;
+        scene.carry_out(Host::Mobile, answers?)?;
         Ok(Roamer { mobile })
     }
 
@@ -76,7 +76,7 @@ impl Roamer {
         let (mobile, answers) = self
             .mobile
             .take(alloc, handed.number, handed.shield, packet);
-        scene.carry_out(alloc, Host::Mobile, answers?)?;
+        scene.carry_out(Host::Mobile, answers?)?;
         Ok(Roamer { mobile })
     }
 }

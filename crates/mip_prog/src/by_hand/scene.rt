@@ -98,18 +98,11 @@ impl Scene {
     }
 
     /// A node's packet is posted on the link that it sends from.
-    fn post(
-        &mut self,
-        alloc: Global,
-        host: Host,
-        shield: Option<Shield>,
-        packet: Bytes,
-    ) -> Result<(), Fail> {
+    fn post(&mut self, host: Host, shield: Option<Shield>, packet: Bytes) -> Result<(), Fail> {
         if packet.len() < HEADER {
             return Err("a packet without its fixed header".into());
         }
-        let posted = Bytes::copy(alloc, packet.as_slice())?;
-        let number = self.net.post(host.link(), shield, posted)?;
+        let number = self.net.post(host.link(), shield, packet.as_slice())?;
         self.note(Entry::Sent {
             number,
             node: host.node(),
@@ -154,10 +147,10 @@ impl Scene {
     }
 
     /// What a node answers is done, in order.
-    pub fn carry_out(&mut self, alloc: Global, host: Host, answers: Answers) -> Result<(), Fail> {
+    pub fn carry_out(&mut self, host: Host, answers: Answers) -> Result<(), Fail> {
         for answer in answers.into_vec() {
             match answer {
-                Answer::Send { shield, packet } => self.post(alloc, host, shield, packet)?,
+                Answer::Send { shield, packet } => self.post(host, shield, packet)?,
                 Answer::Note(entry) => self.complete(host, entry)?,
             }
         }
@@ -167,15 +160,15 @@ impl Scene {
     /// A packet as it comes to its destination: from another link its hop limit is one less, and it is heard there.
     fn arrive(&mut self, alloc: Global, number: u64, flight: Flight) -> Result<Bytes, Fail> {
         let packet = self.net.packet(number).ok_or("no such packet")?;
-        let destination = read_packet(packet.as_slice())?.head.destination;
+        let destination = read_packet(packet)?.head.destination;
         let link = self
             .net
             .link_of(destination)
             .ok_or("a destination on no link")?;
         if link == flight.from {
-            return Ok(Bytes::copy(alloc, packet.as_slice())?);
+            return Ok(Bytes::copy(alloc, packet)?);
         }
-        let lowered = lower(alloc, packet.as_slice())?;
+        let lowered = lower(alloc, packet)?;
         self.overhear(number, flight.shield, link)?;
         Ok(lowered)
     }

@@ -16,9 +16,9 @@ returns-then-is_roaming-clause-stands c = λ s run node at there.
     let e = c.args.engine.now in
     let n = c.args.node.0 in
     let roams : is_roaming node.role ≡ true = ap (λ (o : Option NodeSeen). option_map_or (λ (x : NodeSeen). is_roaming x.role) o false) (sym there) ∙ sym c.is_roaming.ensures ∙ c.if-is_roaming.true in
-    at_ok_run c.act.result c.act.new.self s (acts s n (Restart c.secrets-secrets.result) run) (begun_anew s n c.args.homes.now run node.host.kind)
+    at_ok_run c.act.result c.act.new.self s (acts s n (Restart c.in_ok-secrets.secrets.value) run) (begun_anew s n c.args.homes.now run node.host.kind)
     (c.act.ensures.stands s run at)
-    (anew_roaming e s run at n node c.args.homes.now c.secrets-secrets.result there roams (c.secrets-secrets.ensures node there))
+    (anew_roaming e s run at n node c.args.homes.now c.in_ok-secrets.secrets.value there roams (c.in_ok-secrets.ensures.ok ∙ c.secrets-secrets.ensures node there))
 
 pub returns-clause-stands : goal.returns-clause-stands
 returns-clause-stands c = λ s run node at there.

@@ -22,7 +22,6 @@ returns-clause-stands c = λ s run at.
     let here : c.note.new.self ≡ with_entry x (with_net (posted e.net post) e) =
     c.in_ok-note.ensures
     ∙ ap (λ (y : EngineSeen). with_entry (Injected c.in_ok-number.number o c.args.link c.in_ok-packet.packet) y) c.in_ok-number.ensures.after
-    ∙ ap (λ (b : List ℕ). with_entry (Injected c.in_ok-number.number o c.args.link c.in_ok-packet.packet) (with_net (posted e.net (record { from = c.args.link.0; shield = None; packet = b })) e)) c.in_ok-posted.ensures
     ∙ ap (λ (k : ℕ). with_entry (Injected k o c.args.link c.in_ok-packet.packet) (with_net (posted e.net post) e)) number
     ∙ ap (λ (b : List ℕ). with_entry (Injected (length run.posts) o c.args.link b) (with_net (posted e.net post) e)) c.in_ok-packet.ensures in
     subst (λ (k : ℕ). OnOk c.overhear.result (IsAt c.overhear.new.self s (overheard s c.args.link.0 None (Some o) k (entered post (note x run))))) number

@@ -22,7 +22,7 @@ returns-clause-stands c = λ s run at.
     let here : c.note.new.self ≡ with_entry x (with_net (posted e.net post) e) =
     c.in_ok-note.ensures
     ∙ ap (λ (y : EngineSeen). with_entry (Sent c.in_ok-number.number n c.is_some.result packet) y) c.in_ok-number.ensures.after
-    ∙ ap (λ (b : List ℕ). with_entry (Sent c.in_ok-number.number n c.is_some.result packet) (with_net (posted e.net (record { from = c.args.from.0; shield = c.args.shield; packet = b })) e)) (c.in_ok-posted.ensures ∙ c.as_slice.ensures)
+    ∙ ap (λ (b : List ℕ). with_entry (Sent c.in_ok-number.number n c.is_some.result packet) (with_net (posted e.net (record { from = c.args.from.0; shield = c.args.shield; packet = b })) e)) c.as_slice.ensures
     ∙ ap (λ (k : ℕ). with_entry (Sent k n c.is_some.result packet) (with_net (posted e.net post) e)) number
     ∙ ap (λ (b : Bool). with_entry (Sent (length run.posts) n b packet) (with_net (posted e.net post) e)) c.is_some.ensures in
     subst (λ (k : ℕ). OnOk c.overhear.result (IsAt c.overhear.new.self s (overheard s c.args.from.0 c.args.shield None k (entered post (note x run))))) number
