@@ -6,18 +6,18 @@ ghost use Rattle.mip_marks.specs.Seen.{name_of};
 use mip_says::TestKind;
 use mip_words::{Address, NodeId};
 
-/// The name of a keygen token.
+/// The name of a keygen token. Fields lie as they are declared: in this order they take 32 bytes.
 #[derive(Clone, Copy)]
 pub struct Name {
-    /// Who sends it.
-    pub node: NodeId,
-    /// In which of its lives.
-    pub life: usize,
-    pub kind: TestKind,
     /// To which address.
     pub address: Address,
+    /// In which of its lives its node sends it.
+    pub life: usize,
     /// With which nonce index.
     pub index: u16,
+    /// Who sends it.
+    pub node: NodeId,
+    pub kind: TestKind,
 }
 
 fn same_kind(a: TestKind, b: TestKind) -> bool

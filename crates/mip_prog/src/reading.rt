@@ -54,8 +54,9 @@ pub fn read_input<S: Source>(alloc: Global, source: &mut S) -> Result<Bytes, Rea
     ensures cause { IsErrOf result ReadFault.Failed → Rose (S.faults source.old) (S.faults source.new) }
 {
     let mut bytes = Bytes::new(alloc);
+    let mut buffer = [0; PIECE];
     while bytes.len() <= LIMIT {
-        let count = read_some(source, &mut bytes)?;
+        let count = read_some(source, &mut buffer, &mut bytes)?;
         if count == 0 {
             return Ok(bytes);
         }
@@ -63,9 +64,13 @@ pub fn read_input<S: Source>(alloc: Global, source: &mut S) -> Result<Bytes, Rea
     Ok(bytes)
 }
 
-/// Takes once from the source.
+/// Takes once from the source, by way of the buffer.
 #[tactic(auto, using(mip_outside::proofs::Known::prepend_none))]
-fn read_some<S: Source>(source: &mut S, bytes: &mut Bytes) -> Result<usize, ReadFault>
+fn read_some<S: Source>(
+    source: &mut S,
+    buffer: &mut [u8; PIECE],
+    bytes: &mut Bytes,
+) -> Result<usize, ReadFault>
     requires { length bytes.old ≤ LIMIT }
     ensures ok { IfOk result (λ count. (length bytes.new ≡ length bytes.old + count) × (length bytes.new ≤ LIMIT + 1)) }
     ensures read { IfOk result (λ count. (piece : List ℕ) × (bytes.new ≡ bytes.old ++ piece) × (S.left source.old ≡ prepend_known piece (S.left source.new))) }
@@ -74,7 +79,6 @@ fn read_some<S: Source>(source: &mut S, bytes: &mut Bytes) -> Result<usize, Read
     ensures no_fewer { S.faults source.old ≤ S.faults source.new }
     ensures cause { IsErrOf result ReadFault.Failed → Rose (S.faults source.old) (S.faults source.new) }
 {
-    let mut buffer = [0; PIECE];
     let room = (LIMIT + 1 - bytes.len()).min(buffer.len());
     let count = source.take(&mut buffer[..room])?;
     bytes.extend(&buffer[..count])?;

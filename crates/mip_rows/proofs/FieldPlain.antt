@@ -4,7 +4,6 @@ use Rattle.std.specs.Prelude.{Option, Some, None, Result, Ok, Err, decimal, ◌&
 use Rattle.std.specs.List.{list_all}
 use Rattle.std.proofs.lemmas.Bool.{cond_both, cond-true, cond-false, and_parts, and_from, not_from_false, ne_eqb, lt-ltb, le-ltb}
 use Rattle.mip_words.specs.Addresses.{address_bytes}
-use Rattle.mip_words.specs.declared.address.Address.{Address}
 use Rattle.mip_words.specs.declared.ids.LinkId.{LinkId}
 use Rattle.mip_words.specs.declared.ids.NodeId.{NodeId}
 use Rattle.mip_words.specs.declared.token.Token.{Token}
@@ -27,7 +26,6 @@ use Rattle.mip_declared.specs.declared.places.Sort.TheVariants as sorts
 use Rattle.mip_rows.specs.Names.{node_name, link_name, outsider_name, who_name}
 use Rattle.mip_rows.specs.PacketKinds.{mobility_kind, icmp_kind, packet_kind, kind_of}
 use Rattle.mip_rows.specs.Whys.{why_word}
-use Rattle.mip_lines.specs.HexFields.{address_hex}
 use Rattle.mip_rows.specs.Ranges.{IsNumber, IsNode, IsLink, IsOutsider, IsWho, IfPresent, IsOfKind, AreOfKinds}
 use Rattle.mip_rows.specs.Texts.{or_dash, token_hex, shield_mark, yes_or_no, value_text, tail_texts, row_texts}
 use Rattle.mip_rows.specs.declared.field_kind.Kind.{Kind}

@@ -11,12 +11,31 @@ use crate::why_words::why_word;
 use itoa::Buffer;
 use mip_words::{Address, Bytes, LinkId, Memory, Token, hex_into};
 
+/// Appends a text. A byte or two, as most names have, take fewer steps than a copy.
+#[inline(always)]
+fn put_text(out: &mut Bytes, text: &[u8]) -> Result<(), Memory>
+    ensures { OnOk result (out.new ≡ out.old ++ text.now) }
+{
+    match text {
+        [one] => out.push(*one),
+        [one, two] => {
+            out.push(*one)?;
+            out.push(*two)
+        }
+        _ => out.extend(text),
+    }
+}
+
 /// Appends the digits of a number.
-#[inline]
+#[inline(always)]
 fn put_number(out: &mut Bytes, number: u64) -> Result<(), Memory>
     ensures { OnOk result (out.new ≡ out.old ++ decimal number) }
 {
-    out.extend(Buffer::new().format(number).as_bytes())
+    if number < 10 {
+        out.push(b'0' + number as u8)
+    } else {
+        out.extend(Buffer::new().format(number).as_bytes())
+    }
 }
 
 fn put_none(out: &mut Bytes) -> Result<(), Memory>
@@ -71,7 +90,7 @@ fn put_some_link(out: &mut Bytes, names: &NameTable<'_>, link: Option<LinkId>) -
     ensures { OnOk result (out.new ≡ out.old ++ or_dash (link_name names.now) link) }
 {
     match link {
-        Some(link) => out.extend(names.link_name(link)),
+        Some(link) => put_text(out, names.link_name(link)),
         None => put_none(out),
     }
 }
@@ -97,10 +116,10 @@ fn put_answer(out: &mut Bytes, yes: bool) -> Result<(), Memory>
 }
 
 /// Appends the field of a value.
-pub fn put_value(out: &mut Bytes, names: &NameTable<'_>, value: Value) -> Result<(), Memory>
-    ensures { OnOk result (out.new ≡ out.old ++ value_text names.now value) }
+pub fn put_value(out: &mut Bytes, names: &NameTable<'_>, value: &Value) -> Result<(), Memory>
+    ensures { OnOk result (out.new ≡ out.old ++ value_text names.now value.now) }
 {
-    match value {
+    match *value {
         Value::U8(number) => put_number(out, number as u64),
         Value::U16(number) => put_number(out, number as u64),
         Value::U32(number) => put_number(out, number as u64),
@@ -108,10 +127,10 @@ pub fn put_value(out: &mut Bytes, names: &NameTable<'_>, value: Value) -> Result
         Value::Moment(moment) => put_number(out, moment.0),
         Value::Address(address) => put_address(out, address),
         Value::Token(token) => put_token(out, token),
-        Value::Node(node) => out.extend(names.node_name(node)),
-        Value::Link(link) => out.extend(names.link_name(link)),
-        Value::Outsider(outsider) => out.extend(names.outsider_name(outsider)),
-        Value::Who(who) => out.extend(names.who_name(who)),
+        Value::Node(node) => put_text(out, names.node_name(node)),
+        Value::Link(link) => put_text(out, names.link_name(link)),
+        Value::Outsider(outsider) => put_text(out, names.outsider_name(outsider)),
+        Value::Who(who) => put_text(out, names.who_name(who)),
         Value::SomeU16(index) => put_some_index(out, index),
         Value::SomeU64(number) => put_some_number(out, number),
         Value::NoAddress => put_none(out),

@@ -20,7 +20,7 @@ fn put_values(out: &mut Bytes, names: &NameTable<'_>, values: &[Value]) -> Resul
 {
     for value in values {
         out.push(b' ')?;
-        put_value(out, names, *value)?;
+        put_value(out, names, value)?;
     }
     Ok(())
 }

@@ -1,5 +1,5 @@
 -- When keys of the indexes are the same.
-use Rattle.std.proofs.Common.{◌≡◌, ℕ, ◌+◌, ◌*◌, ◌^◌, ◌<◌, List, length, Bool, refl, sym, ap, ◌∙◌, subst, arith}
+use Rattle.std.proofs.Common.{◌≡◌, ℕ, List, length, Bool, refl, sym, ap, ◌∙◌, arith}
 use Rattle.std.proofs.lemmas.List.{take_all}
 use Rattle.std.specs.Prelude.{◌&&◌, ◌||◌, ◌==◌, true, false, if◌then◌else◌, Option, Some, None}
 use Rattle.std.proofs.lemmas.Bool.{and_parts, eqb-true}
@@ -10,13 +10,13 @@ use Rattle.std.specs.Str.{bytes_eq}
 use Rattle.std.specs.declared.cmp.Ordering.{Ordering}
 use Rattle.std.specs.declared.cmp.Ordering.TheVariants.{Less, Equal, Greater}
 use Rattle.std.proofs.lemmas.Map.Text.{is_eq-slice_cmp}
-use Rattle.std.proofs.lemmas.Bool.Decides.{nat_tests, same_from_decides, Decides-like, Decides-and, Decides-eqb}
+use Rattle.std.proofs.lemmas.Bool.Decides.{nat_tests, same_from_decides, Decides-like, Decides-eqb}
 use Rattle.mip_marks.specs.Firsts.{same_key}
 use Rattle.mip_watch.specs.Firsts.{UpdateKey, key_named, key_cmp}
 use Rattle.mip_words.specs.Numbers.{IsBytes, number_at, number_bytes}
-use Rattle.mip_words.proofs.Fields.{number_at-lt, IsBytes-number_bytes, number_bytes-number_at}
+use Rattle.mip_words.proofs.Fields.{number_bytes-number_at}
 use Rattle.mip_watch.specs.Tokens.{token_number, is_spelled}
-use Rattle.mip_watch.specs.Heard.{coming_of}
+use Rattle.mip_watch.specs.Heard.{Coming, coming_cmp, coming_of}
 use Rattle.mip_watch.specs.declared.named.Named.{Named}
 use Rattle.mip_watch.specs.Made.{Making, making_cmp}
 
@@ -55,25 +55,26 @@ spelled_same : (u t : List ℕ) → is_spelled u ≡ true → is_spelled t ≡ t
 spelled_same u t is too same =
     sym ((bytes_eq-Decides (number_bytes 8 (number_at 8 0 u)) u).0 is) ∙ ap (number_bytes 8) same ∙ (bytes_eq-Decides (number_bytes 8 (number_at 8 0 t)) t).0 too
 
-spelled_small : (t : List ℕ) → is_spelled t ≡ true → number_at 8 0 t < 256 ^ 8
-spelled_small t is =
-    number_at-lt 8 0 t (subst IsBytes ((bytes_eq-Decides (number_bytes 8 (number_at 8 0 t)) t).0 is) (IsBytes-number_bytes 8 (number_at 8 0 t)))
-
-pub is_eq_coming : (x : ℕ) (u : List ℕ) (o : ℕ) (t : List ℕ) → is_spelled u ≡ true → is_spelled t ≡ true → is_eq (nat_cmp (coming_of x u) (coming_of o t)) ≡ (x == o && bytes_eq u t)
+pub is_eq_coming : (x : ℕ) (u : List ℕ) (o : ℕ) (t : List ℕ) → is_spelled u ≡ true → is_spelled t ≡ true → is_eq (coming_cmp (coming_of x u) (coming_of o t)) ≡ (x == o && bytes_eq u t)
 is_eq_coming x u o t is too =
-    is_eq_nat (coming_of x u) (coming_of o t)
-    ∙ same_from_decides (coming_of x u == coming_of o t) (x == o && bytes_eq u t)
-    (Decides-like (coming_of x u == coming_of o t) parts whole (Decides-eqb (coming_of x u) (coming_of o t)))
-    (Decides-and (x == o) (bytes_eq u t) (Decides-eqb x o) (bytes_eq-Decides u t))
+    is_eq_then (nat_cmp (token_number u) (token_number t)) (nat_cmp x o)
+    ∙ both (is_eq_nat (token_number u) (token_number t) ∙ numbers) (is_eq_nat x o)
+    ∙ other_way (bytes_eq u t) (x == o)
   where
-    parts : coming_of x u ≡ coming_of o t → (x ≡ o) × (u ≡ t)
-    parts e =
-        let low : number_at 8 0 u < 2 ^ 64 = spelled_small u is in
-        let high : number_at 8 0 t < 2 ^ 64 = spelled_small t too in
-        (omega (arith, e, low, high), spelled_same u t is too (omega (arith, e, low, high)))
+    numbers : (token_number u == token_number t) ≡ bytes_eq u t
+    numbers =
+        same_from_decides (token_number u == token_number t) (bytes_eq u t)
+        (Decides-like (token_number u == token_number t) (spelled_same u t is too) (ap token_number) (Decides-eqb (token_number u) (token_number t)))
+        (bytes_eq-Decides u t)
 
-    whole : (x ≡ o) × (u ≡ t) → coming_of x u ≡ coming_of o t
-    whole h = ap (λ (y : ℕ). coming_of y u) h.0 ∙ ap (coming_of o) h.1
+    both : {v w y z : Bool} → v ≡ w → y ≡ z → (v && y) ≡ (w && z)
+    both {v} {w} {y} {z} e f = cc
+
+    other_way : (v w : Bool) → (v && w) ≡ (w && v)
+    other_way true true = refl
+    other_way true false = refl
+    other_way false true = refl
+    other_way false false = refl
 
 pub come_more : (b c : Bool) → (if c then true else b) ≡ (b || c)
 come_more true true = refl
@@ -82,7 +83,7 @@ come_more false true = refl
 come_more false false = refl
 
 -- what has come, after one more has come
-pub come_step : (x : ℕ) (u : List ℕ) (key : ℕ) → key ≡ coming_of x u → is_spelled u ≡ true → (now before : ℕ → Bool) → ((k : ℕ) → now k ≡ (if is_eq (nat_cmp key k) then true else before k))
+pub come_step : (x : ℕ) (u : List ℕ) (key : Coming) → key ≡ coming_of x u → is_spelled u ≡ true → (now before : Coming → Bool) → ((k : Coming) → now k ≡ (if is_eq (coming_cmp key k) then true else before k))
     → (o : ℕ) (t : List ℕ) → (is_spelled t && now (coming_of o t)) ≡ ((is_spelled t && before (coming_of o t)) || (x == o && bytes_eq u t))
 come_step x u key k is now before steps o t = by (is_spelled t) refl
   where
@@ -97,7 +98,7 @@ come_step x u key k is now before steps o t = by (is_spelled t) refl
     by : (b : Bool) → is_spelled t ≡ b → (b && now (coming_of o t)) ≡ ((b && before (coming_of o t)) || (x == o && bytes_eq u t))
     by true e =
         steps (coming_of o t)
-        ∙ ap (λ (b : Bool). if b then true else before (coming_of o t)) (ap (λ (y : ℕ). is_eq (nat_cmp y (coming_of o t))) k ∙ is_eq_coming x u o t is e)
+        ∙ ap (λ (b : Bool). if b then true else before (coming_of o t)) (ap (λ (y : Coming). is_eq (coming_cmp y (coming_of o t))) k ∙ is_eq_coming x u o t is e)
         ∙ come_more (before (coming_of o t)) (x == o && bytes_eq u t)
     by false e = never (x == o) (bytes_eq u t) (other (bytes_eq u t) refl e)
 

@@ -17,18 +17,20 @@ use mip_words::{Memory, Token};
 use std::alloc::Global;
 use std::collections::BTreeSet;
 
-/// An outsider and a token as one number, so that a look-up compares numbers.
-fn coming(outsider: u8, token: Token) -> u128
+/// A token as a number, and an outsider: a look-up compares numbers.
+type Coming = (u64, u8);
+
+fn coming(outsider: u8, token: Token) -> Coming
     ensures key { result ≡ coming_of outsider token.0 }
     ensures spelled { is_spelled token.0 ≡ true }
 {
-    u128::from(outsider) * (1 << 64) + u128::from(token_number(token))
+    (token_number(token), outsider)
 }
 
 /// The tokens that came to outsiders, each once, in the order in which they came.
 #[derive(Drop)]
 pub struct Heard {
-    known: BTreeSet<u128>,
+    known: BTreeSet<Coming>,
     list: Vec<Arrival>,
 }
 
