@@ -1,8 +1,8 @@
 //! The words that the program was started with.
 
-ghost use Rattle.std.specs.Prelude.{◌≡◌, [], IfOk, OnErr};
+ghost use Rattle.std.specs.Prelude.{◌≡◌, ◌≢◌, [], IfOk, OnErr, IsErr};
 ghost use Rattle.std.specs.Vec.Iter.{into_iter_items};
-ghost use Rattle.mip_prog.specs.Given.{words_behind};
+ghost use Rattle.mip_prog.specs.Given.{words_behind, LacksMemory};
 
 use mip_words::Memory;
 use std::alloc::{AllocError, Global};
@@ -11,7 +11,8 @@ use std::io::{ErrorKind, Result as IoResult};
 
 /// The words behind the program's name. Where one of them is no text there are none, which is no form.
 pub fn words(alloc: Global, all: IoResult<Args>) -> Result<Vec<String>, Memory>
-    ensures { IfOk result (λ words. words.items ≡ words_behind all) }
+    ensures words { IfOk result (λ words. words.items ≡ words_behind all) }
+    ensures memory { LacksMemory all → IsErr result }
 {
     match all {
         Ok(mut all) => {
@@ -31,7 +32,7 @@ fn gathered(alloc: Global, left: Args) -> Result<Vec<String>, AllocError>
 
 /// What stands for words that could not be had.
 fn no_words(alloc: Global, kind: ErrorKind) -> Result<Vec<String>, Memory>
-    ensures none { IfOk result (λ words. words.items ≡ []) }
+    ensures none { IfOk result (λ words. (kind ≢ ErrorKind.OutOfMemory) × (words.items ≡ [])) }
     ensures memory { OnErr result (kind ≡ ErrorKind.OutOfMemory) }
 {
     match kind {

@@ -1,11 +1,11 @@
 //! The process: what its words and its input come to.
 
-ghost use Rattle.std.specs.Prelude.{◌≡◌, ℕ, ◌≤◌, ◌⊎◌, List, [], map, string_bytes, IfSome, IfOk, OnErr};
+ghost use Rattle.std.specs.Prelude.{◌≡◌, ℕ, ◌≤◌, ◌⊎◌, List, [], map, string_bytes, IfSome, IfOk, OnErr, IsErr};
 ghost use Rattle.std.specs.Io.KnownBytes.{prepend_known};
 ghost use Rattle.mip_outside.specs.Cause.{Rose};
 ghost use Rattle.mip_outside.specs.Waiting.{held_by};
 ghost use Rattle.mip_prog.specs.Answers.{answer_of};
-ghost use Rattle.mip_prog.specs.Given.{words_behind};
+ghost use Rattle.mip_prog.specs.Given.{words_behind, LacksMemory};
 ghost use Rattle.mip_prog.specs.Told.{IsSettled, IsStatus, Says, HasWrittenFront};
 
 use crate::ending::mip_flushed;
@@ -35,6 +35,8 @@ pub fn run<S: Source, K: Sink + Drop, C: Clock>(
     // Whatever the status is, what was put on and what still waits make a front of the answer.
     ensures front { (bytes : List ℕ) × (S.left source.old ≡ prepend_known bytes (S.left source.new))
         × HasWrittenFront (answer_of (map string_bytes (words_behind given)) bytes) sink.old.put_on (held_by sink.new) }
+    // Where there was no memory for the words the status says that, and not that they are no form.
+    ensures memory { LacksMemory given → result ≡ 5 }
     ensures statuses { IsStatus result }
     ensures read_fault { result ≡ 3 → Rose (S.faults source.old) (S.faults source.new) }
     ensures write_fault { result ≡ 4 → Rose sink.old.faults sink.new.faults }
@@ -58,6 +60,7 @@ fn attempt<S: Source, K: Sink + Drop, C: Clock>(
         × Says (answer_of (map string_bytes (words_behind given)) bytes) status.0 sink.old.put_on sink.new.put_on)) }
     ensures front { IfOk result (λ status. (bytes : List ℕ) × (S.left source.old ≡ prepend_known bytes (S.left source.new))
         × HasWrittenFront (answer_of (map string_bytes (words_behind given)) bytes) sink.old.put_on (held_by sink.new)) }
+    ensures memory { LacksMemory given → IsErr result }
     ensures unread { OnErr result (source.new ≡ source.old) }
     ensures unwritten { OnErr result (sink.new ≡ sink.old) }
     ensures statuses { IfOk result (λ status. IsStatus status.0) }
