@@ -1,5 +1,5 @@
 -- A call whose desk shows the definition's turn is handled, once its answers are settled.
-use Rattle.std.proofs.Common.{◌≡◌, ℕ, zero, suc, List, [], ◌∷◌, ◌++◌, take, Bool, sym, subst, ◌∙◌}
+use Rattle.std.proofs.Common.{◌≡◌, ℕ, zero, suc, List, [], ◌∷◌, ◌++◌, take, Bool, sym, ap, subst, ◌∙◌}
 use Rattle.std.specs.Prelude.{Option, Result, Ok, Err, IfOk, OnErr, option_map}
 use Rattle.mip_outside.specs.declared.put.Put.{Put}
 use Rattle.mip_outside.specs.declared.put.Put.TheVariants.{Sent, NoRoute, Oversize}
@@ -15,11 +15,11 @@ use Rattle.mip_rules_mobile.specs.Turns.{Stands, with_turn}
 use Rattle.mip_rules_mobile.specs.Doing.{turn_of}
 use Rattle.mip_rules_mobile.specs.Answering.{IsFrom, AreFrom}
 use Rattle.mip_rules_mobile.proofs.Away.{away-call}
-use Rattle.mip_rules_mobile.proofs.Calls.{call-stands}
+use Rattle.mip_rules_mobile.proofs.Calls.{call-stands, call-now}
 use Rattle.mip_desk.specs.Seen.{DeskSeen, Shows}
-use Rattle.mip_desk.proofs.Noted.{shows-known}
+use Rattle.mip_desk.proofs.Noted.{shows-known, shows-moment}
 use Rattle.mip_mobile.specs.Settling.{settled, Settles, SettlesAll, SettlesFront, Told, sends_of}
-use Rattle.mip_mobile.specs.Handling.{Handles, BreaksOff}
+use Rattle.mip_mobile.specs.Handling.{Handles, BreaksOff, IsLeft}
 use Rattle.mip_mobile.proofs.Settled.{out-none}
 
 pub if-both : {A E : Type 0} (P Q R : A → Type 0) (r : Result A E) → ((x : A) → P x → Q x → R x) → IfOk r P → IfOk r Q → IfOk r R
@@ -85,3 +85,8 @@ breaks-off gives k now call desk asked out told shows is front =
       away = λ careof here elsewhere stays. from-settled gives careof (take front.count own) front.answers all (from-front careof front.count own (away-call k now call careof here elsewhere stays));
       sent = front.sent;
     }
+
+-- a desk that shows the definition's turn keeps what that leaves, once its answers are taken
+pub is-left : (k : Known) (now : ℕ) (call : Call) (desk after : DeskSeen) → Shows desk (turn_of k now call) → after ≡ record desk { answers = [] } → IsLeft after k now call
+is-left k now call desk after shows is =
+    (ap (λ (d : DeskSeen). d.known) is ∙ sym (shows-known desk (turn_of k now call) shows), ap (λ (d : DeskSeen). d.moment) is ∙ sym (shows-moment desk (turn_of k now call) shows) ∙ call-now k now call)

@@ -12,6 +12,7 @@ use Rattle.mip_rules_mobile.specs.Steps.{Step, answers_of}
 use Rattle.mip_rules_mobile.specs.Known.{Known}
 use Rattle.mip_rules_mobile.specs.Turns.{Stands, with_turn}
 use Rattle.mip_rules_mobile.specs.Doing.{turn_of}
+use Rattle.mip_desk.specs.Seen.{DeskSeen}
 use Rattle.mip_mobile.specs.Settling.{SettlesAll, Told, sends_of}
 
 -- the moment of a call: what the clock says, or the moment of the last call where that is later
@@ -37,3 +38,8 @@ pub record BreaksOff (gives : Put → Bool) (before : Known) (now : ℕ) (call :
   pub taken : SettlesAll gives (take count (answers_of (turn_of before now call).steps)) answers
   pub away : (careof : Address) → before.standing ≡ Away careof → IsElsewhere before → stays_put call ≡ true → AreFrom careof answers
   pub sent : left ≡ option_map (λ items. items ++ sends_of answers) out
+
+-- what a station that knew this and was called at a moment keeps once its call is over: what the definition's turn leaves known,
+-- and the moment of the call
+abbrev pub IsLeft : DeskSeen → (before : Known) (now : ℕ) (call : Call) → Type 0
+IsLeft desk before now call = (desk.known ≡ (turn_of before now call).known) × (desk.moment ≡ now)

@@ -1,6 +1,6 @@
 //! A mobile with its clock and its wire, wherever it stands.
 
-ghost use Rattle.std.specs.Prelude.{◌≡◌, ℕ, ◌≤◌, ◌<◌, ◌^◌, [], None, Some, Err, IfOk, IfSome, IfErr, OnOk, OnErr, IsErrOf, IsTrue, IsFalse, length, option_copied, option_map, slice_get};
+ghost use Rattle.std.specs.Prelude.{◌≡◌, ◌≢◌, ℕ, ◌≤◌, ◌<◌, ◌^◌, [], None, Some, Err, IfOk, IfSome, IfErr, OnOk, OnErr, IsErrOf, IsTrue, IsFalse, length, option_copied, option_map, slice_get};
 ghost use Rattle.mip_words.specs.Addresses.{is_routable};
 ghost use Rattle.mip_ipv6.specs.Packet.{names_no_body};
 ghost use Rattle.mip_rules_correspondent.specs.Rules.{is_data};
@@ -17,7 +17,7 @@ ghost use Rattle.mip_rules_mobile.specs.Questions.{fresh};
 ghost use Rattle.mip_rules_mobile.specs.Turns.{begun, noted};
 ghost use Rattle.mip_rules_mobile.specs.Doing.{turn_of};
 ghost use Rattle.mip_desk.specs.Seen.{Shows};
-ghost use Rattle.mip_mobile.specs.Handling.{Handles, BreaksOff, moment_of};
+ghost use Rattle.mip_mobile.specs.Handling.{Handles, BreaksOff, IsLeft, moment_of};
 ghost use Rattle.mip_mobile.specs.Stations.{with_clock, with_wire};
 ghost use Rattle.mip_mobile.specs.contracts.machine.Machine.{the_row};
 ghost use Rattle.std.specs.Borrow.{Lends, sem};
@@ -122,6 +122,8 @@ impl<C: Clock + Drop, W: Wire + Drop> Machine<C, W> {
             → IfOk result (λ answers. Handles W.gives k now call (W.out self.old.wire) answers self.new.desk.known (W.out self.new.wire)) }
         ensures front { (k : Known) (now : ℕ) (call : Call) → OnOk done (Shows self.old.desk (turn_of k now call))
             → OnErr result (BreaksOff W.gives k now call (W.out self.old.wire) (W.out self.new.wire)) }
+        ensures left { (k : Known) (now : ℕ) (call : Call) → OnOk done (Shows self.old.desk (turn_of k now call))
+            → result ≢ Err StationFault.Memory → IsLeft self.new.desk k now call }
         ensures clock { self.new.clock ≡ self.old.clock }
         ensures well { OnOk result (self.new.fault ≡ None) }
         ensures kept { IfErr result (λ fault. self.new.fault ≡ Some fault) }
@@ -140,6 +142,8 @@ impl<C: Clock + Drop, W: Wire + Drop> Machine<C, W> {
             → IfOk result (λ answers. Handles W.gives k now call (W.out self.old.wire) answers self.new.desk.known (W.out self.new.wire)) }
         ensures front { (k : Known) (now : ℕ) (call : Call) → OnOk done (Shows self.old.desk (turn_of k now call))
             → OnErr result (BreaksOff W.gives k now call (W.out self.old.wire) (W.out self.new.wire)) }
+        ensures left { (k : Known) (now : ℕ) (call : Call) → OnOk done (Shows self.old.desk (turn_of k now call))
+            → result ≢ Err StationFault.Memory → IsLeft self.new.desk k now call }
         ensures rest { (self.new.clock ≡ self.old.clock) × (self.new.fault ≡ self.old.fault) }
         ensures failed { IsErrOf result StationFault.Failed → Rose (W.faults self.old.wire) (W.faults self.new.wire) }
         ensures wire { (W.faults self.old.wire ≤ W.faults self.new.wire) × W.is_same self.old.wire self.new.wire }
@@ -161,6 +165,7 @@ impl<C: Clock + Drop, W: Wire + Drop> Machine<C, W> {
         ensures read { self.old.fault ≡ None → C.ahead self.new.clock ≡ option_map moments_after (C.ahead self.old.clock) }
         ensures handles { IfOk result (λ answers. Handles W.gives self.old.desk.known (moment_of (C.last self.new.clock) self.old.desk.moment) (calls.Take number shield packet.now) (W.out self.old.wire) answers self.new.desk.known (W.out self.new.wire)) }
         ensures front { self.old.fault ≡ None → OnErr result (BreaksOff W.gives self.old.desk.known (moment_of (C.last self.new.clock) self.old.desk.moment) (calls.Take number shield packet.now) (W.out self.old.wire) (W.out self.new.wire)) }
+        ensures left { self.old.fault ≡ None → result ≢ Err StationFault.Memory → IsLeft self.new.desk self.old.desk.known (moment_of (C.last self.new.clock) self.old.desk.moment) (calls.Take number shield packet.now) }
         ensures well { OnOk result (self.new.fault ≡ None) }
         ensures kept { IfErr result (λ fault. self.new.fault ≡ Some fault) }
         ensures failed { self.old.fault ≡ None → IsErrOf result StationFault.Failed → Rose (W.faults self.old.wire) (W.faults self.new.wire) }
@@ -195,6 +200,7 @@ impl<C: Clock + Drop, W: Wire + Drop> Machine<C, W> {
         ensures read { self.old.fault ≡ None → C.ahead self.new.clock ≡ option_map moments_after (C.ahead self.old.clock) }
         ensures handles { IfOk result (λ answers. Handles W.gives self.old.desk.known (moment_of (C.last self.new.clock) self.old.desk.moment) calls.Tick (W.out self.old.wire) answers self.new.desk.known (W.out self.new.wire)) }
         ensures front { self.old.fault ≡ None → OnErr result (BreaksOff W.gives self.old.desk.known (moment_of (C.last self.new.clock) self.old.desk.moment) calls.Tick (W.out self.old.wire) (W.out self.new.wire)) }
+        ensures left { self.old.fault ≡ None → result ≢ Err StationFault.Memory → IsLeft self.new.desk self.old.desk.known (moment_of (C.last self.new.clock) self.old.desk.moment) calls.Tick }
         ensures well { OnOk result (self.new.fault ≡ None) }
         ensures kept { IfErr result (λ fault. self.new.fault ≡ Some fault) }
         ensures failed { self.old.fault ≡ None → IsErrOf result StationFault.Failed → Rose (W.faults self.old.wire) (W.faults self.new.wire) }
@@ -232,6 +238,7 @@ impl<C: Clock + Drop, W: Wire + Drop> Machine<C, W> {
         ensures read { self.old.fault ≡ None → C.ahead self.new.clock ≡ option_map moments_after (C.ahead self.old.clock) }
         ensures handles { IfOk result (λ answers. Handles W.gives self.old.desk.known (moment_of (C.last self.new.clock) self.old.desk.moment) (calls.Send to proto payload.now) (W.out self.old.wire) answers self.new.desk.known (W.out self.new.wire)) }
         ensures front { self.old.fault ≡ None → OnErr result (BreaksOff W.gives self.old.desk.known (moment_of (C.last self.new.clock) self.old.desk.moment) (calls.Send to proto payload.now) (W.out self.old.wire) (W.out self.new.wire)) }
+        ensures left { self.old.fault ≡ None → result ≢ Err StationFault.Memory → IsLeft self.new.desk self.old.desk.known (moment_of (C.last self.new.clock) self.old.desk.moment) (calls.Send to proto payload.now) }
         ensures well { OnOk result (self.new.fault ≡ None) }
         ensures kept { IfErr result (λ fault. self.new.fault ≡ Some fault) }
         ensures failed { self.old.fault ≡ None → IsErrOf result StationFault.Failed → Rose (W.faults self.old.wire) (W.faults self.new.wire) }
@@ -269,6 +276,7 @@ impl<C: Clock + Drop, W: Wire + Drop> Machine<C, W> {
         ensures read { self.old.fault ≡ None → C.ahead self.new.clock ≡ option_map moments_after (C.ahead self.old.clock) }
         ensures handles { IfOk result (λ answers. Handles W.gives self.old.desk.known (moment_of (C.last self.new.clock) self.old.desk.moment) (calls.Refresh home) (W.out self.old.wire) answers self.new.desk.known (W.out self.new.wire)) }
         ensures front { self.old.fault ≡ None → OnErr result (BreaksOff W.gives self.old.desk.known (moment_of (C.last self.new.clock) self.old.desk.moment) (calls.Refresh home) (W.out self.old.wire) (W.out self.new.wire)) }
+        ensures left { self.old.fault ≡ None → result ≢ Err StationFault.Memory → IsLeft self.new.desk self.old.desk.known (moment_of (C.last self.new.clock) self.old.desk.moment) (calls.Refresh home) }
         ensures well { OnOk result (self.new.fault ≡ None) }
         ensures kept { IfErr result (λ fault. self.new.fault ≡ Some fault) }
         ensures failed { self.old.fault ≡ None → IsErrOf result StationFault.Failed → Rose (W.faults self.old.wire) (W.faults self.new.wire) }
@@ -297,6 +305,7 @@ impl<C: Clock + Drop, W: Wire + Drop> Machine<C, W> {
         ensures read { self.old.fault ≡ None → C.ahead self.new.clock ≡ option_map moments_after (C.ahead self.old.clock) }
         ensures handles { IfOk result (λ answers. Handles W.gives self.old.desk.known (moment_of (C.last self.new.clock) self.old.desk.moment) calls.Ask (W.out self.old.wire) answers self.new.desk.known (W.out self.new.wire)) }
         ensures front { self.old.fault ≡ None → OnErr result (BreaksOff W.gives self.old.desk.known (moment_of (C.last self.new.clock) self.old.desk.moment) calls.Ask (W.out self.old.wire) (W.out self.new.wire)) }
+        ensures left { self.old.fault ≡ None → result ≢ Err StationFault.Memory → IsLeft self.new.desk self.old.desk.known (moment_of (C.last self.new.clock) self.old.desk.moment) calls.Ask }
         ensures well { OnOk result (self.new.fault ≡ None) }
         ensures kept { IfErr result (λ fault. self.new.fault ≡ Some fault) }
         ensures failed { self.old.fault ≡ None → IsErrOf result StationFault.Failed → Rose (W.faults self.old.wire) (W.faults self.new.wire) }
@@ -325,6 +334,7 @@ impl<C: Clock + Drop, W: Wire + Drop> Machine<C, W> {
         ensures read { self.old.fault ≡ None → C.ahead self.new.clock ≡ option_map moments_after (C.ahead self.old.clock) }
         ensures handles { IfOk result (λ answers. Handles W.gives self.old.desk.known (moment_of (C.last self.new.clock) self.old.desk.moment) (calls.Restart secrets) (W.out self.old.wire) answers self.new.desk.known (W.out self.new.wire)) }
         ensures front { self.old.fault ≡ None → OnErr result (BreaksOff W.gives self.old.desk.known (moment_of (C.last self.new.clock) self.old.desk.moment) (calls.Restart secrets) (W.out self.old.wire) (W.out self.new.wire)) }
+        ensures left { self.old.fault ≡ None → result ≢ Err StationFault.Memory → IsLeft self.new.desk self.old.desk.known (moment_of (C.last self.new.clock) self.old.desk.moment) (calls.Restart secrets) }
         ensures well { OnOk result (self.new.fault ≡ None) }
         ensures kept { IfErr result (λ fault. self.new.fault ≡ Some fault) }
         ensures failed { self.old.fault ≡ None → IsErrOf result StationFault.Failed → Rose (W.faults self.old.wire) (W.faults self.new.wire) }
@@ -356,6 +366,7 @@ impl<C: Clock + Drop, W: Wire + Drop> Machine<C, W> {
         ensures read { self.old.fault ≡ None → C.ahead self.new.clock ≡ option_map moments_after (C.ahead self.old.clock) }
         ensures handles { IfOk result (λ answers. Handles W.gives self.old.desk.known (moment_of (C.last self.new.clock) self.old.desk.moment) (calls.Tunnel inner.now) (W.out self.old.wire) answers self.new.desk.known (W.out self.new.wire)) }
         ensures front { self.old.fault ≡ None → OnErr result (BreaksOff W.gives self.old.desk.known (moment_of (C.last self.new.clock) self.old.desk.moment) (calls.Tunnel inner.now) (W.out self.old.wire) (W.out self.new.wire)) }
+        ensures left { self.old.fault ≡ None → result ≢ Err StationFault.Memory → IsLeft self.new.desk self.old.desk.known (moment_of (C.last self.new.clock) self.old.desk.moment) (calls.Tunnel inner.now) }
         ensures well { OnOk result (self.new.fault ≡ None) }
         ensures kept { IfErr result (λ fault. self.new.fault ≡ Some fault) }
         ensures failed { self.old.fault ≡ None → IsErrOf result StationFault.Failed → Rose (W.faults self.old.wire) (W.faults self.new.wire) }

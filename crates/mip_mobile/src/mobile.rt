@@ -1,4 +1,4 @@
-ghost use Rattle.std.specs.Prelude.{◌≡◌, ◌≤◌, [], true, None, Some, Err, IfOk, IfSome, IfErr, OnOk, OnErr, IsErrOf, IsTrue, IsFalse, length, option_copied, slice_get};
+ghost use Rattle.std.specs.Prelude.{◌≡◌, ◌≢◌, ◌≤◌, [], true, None, Some, Err, IfOk, IfSome, IfErr, OnOk, OnErr, IsErrOf, IsTrue, IsFalse, length, option_copied, slice_get};
 ghost use Rattle.std.specs.Option.{option_map};
 ghost use Rattle.std.specs.Borrow.{Lends, sem};
 ghost use Rattle.mip_words.specs.Addresses.{is_routable};
@@ -12,7 +12,7 @@ ghost use Rattle.mip_rules_mobile.specs.Calls as calls;
 ghost use Rattle.mip_rules_mobile.specs.HomeQuestions.{home_of};
 ghost use Rattle.mip_rules_mobile.specs.Questions.{fresh};
 ghost use Rattle.mip_rules_mobile.specs.MovingRules.{address_under};
-ghost use Rattle.mip_mobile.specs.Handling.{Handles, BreaksOff, moment_of};
+ghost use Rattle.mip_mobile.specs.Handling.{Handles, BreaksOff, IsLeft, moment_of};
 ghost use Rattle.mip_mobile.specs.Placing.{attach_at, leave_at, claims_attached, claims_after_leaving};
 ghost use Rattle.mip_mobile.specs.Stations.{machine_of, IsTyped, with_clock_in, with_wire_in};
 ghost use Rattle.mip_mobile.specs.contracts.mobile.Mobile.{the_row};
@@ -147,6 +147,7 @@ impl<C: Clock + Drop, W: Wire + Drop> Mobile<C, W> {
         ensures read { (machine_of self).fault ≡ None → C.ahead (machine_of result.0).clock ≡ option_map moments_after (C.ahead (machine_of self).clock) }
         ensures handles { IfOk result.1 (λ answers. Handles W.gives (machine_of self).desk.known (moment_of (C.last (machine_of result.0).clock) (machine_of self).desk.moment) (attach_at (P.around place.old) (home_of (machine_of self).desk.known) prefix.0) (W.out (machine_of self).wire) answers (machine_of result.0).desk.known (W.out (machine_of result.0).wire)) }
         ensures front { (machine_of self).fault ≡ None → OnErr result.1 (BreaksOff W.gives (machine_of self).desk.known (moment_of (C.last (machine_of result.0).clock) (machine_of self).desk.moment) (attach_at (P.around place.old) (home_of (machine_of self).desk.known) prefix.0) (W.out (machine_of self).wire) (W.out (machine_of result.0).wire)) }
+        ensures left { (machine_of self).fault ≡ None → result.1 ≢ Err StationFault.Memory → IsLeft (machine_of result.0).desk (machine_of self).desk.known (moment_of (C.last (machine_of result.0).clock) (machine_of self).desk.moment) (attach_at (P.around place.old) (home_of (machine_of self).desk.known) prefix.0) }
         ensures typed { IsTyped result.0 }
         ensures well { OnOk result.1 ((machine_of result.0).fault ≡ None) }
         ensures kept { IfErr result.1 (λ fault. (machine_of result.0).fault ≡ Some fault) }
@@ -167,6 +168,7 @@ impl<C: Clock + Drop, W: Wire + Drop> Mobile<C, W> {
         ensures read { (machine_of self).fault ≡ None → C.ahead (machine_of result.0).clock ≡ option_map moments_after (C.ahead (machine_of self).clock) }
         ensures handles { IfOk result.1 (λ answers. Handles W.gives (machine_of self).desk.known (moment_of (C.last (machine_of result.0).clock) (machine_of self).desk.moment) (leave_at (P.around place.old) (home_of (machine_of self).desk.known)) (W.out (machine_of self).wire) answers (machine_of result.0).desk.known (W.out (machine_of result.0).wire)) }
         ensures front { (machine_of self).fault ≡ None → OnErr result.1 (BreaksOff W.gives (machine_of self).desk.known (moment_of (C.last (machine_of result.0).clock) (machine_of self).desk.moment) (leave_at (P.around place.old) (home_of (machine_of self).desk.known)) (W.out (machine_of self).wire) (W.out (machine_of result.0).wire)) }
+        ensures left { (machine_of self).fault ≡ None → result.1 ≢ Err StationFault.Memory → IsLeft (machine_of result.0).desk (machine_of self).desk.known (moment_of (C.last (machine_of result.0).clock) (machine_of self).desk.moment) (leave_at (P.around place.old) (home_of (machine_of self).desk.known)) }
         ensures typed { IsTyped result.0 }
         ensures well { OnOk result.1 ((machine_of result.0).fault ≡ None) }
         ensures kept { IfErr result.1 (λ fault. (machine_of result.0).fault ≡ Some fault) }
@@ -192,6 +194,7 @@ impl<C: Clock + Drop, W: Wire + Drop> Mobile<C, W> {
         ensures read { (machine_of self).fault ≡ None → C.ahead (machine_of result.0).clock ≡ option_map moments_after (C.ahead (machine_of self).clock) }
         ensures handles { IfOk result.1 (λ answers. Handles W.gives (machine_of self).desk.known (moment_of (C.last (machine_of result.0).clock) (machine_of self).desk.moment) (calls.Take number shield packet.now) (W.out (machine_of self).wire) answers (machine_of result.0).desk.known (W.out (machine_of result.0).wire)) }
         ensures front { (machine_of self).fault ≡ None → OnErr result.1 (BreaksOff W.gives (machine_of self).desk.known (moment_of (C.last (machine_of result.0).clock) (machine_of self).desk.moment) (calls.Take number shield packet.now) (W.out (machine_of self).wire) (W.out (machine_of result.0).wire)) }
+        ensures left { (machine_of self).fault ≡ None → result.1 ≢ Err StationFault.Memory → IsLeft (machine_of result.0).desk (machine_of self).desk.known (moment_of (C.last (machine_of result.0).clock) (machine_of self).desk.moment) (calls.Take number shield packet.now) }
         ensures typed { IsTyped result.0 }
         ensures well { OnOk result.1 ((machine_of result.0).fault ≡ None) }
         ensures kept { IfErr result.1 (λ fault. (machine_of result.0).fault ≡ Some fault) }
@@ -209,6 +212,7 @@ impl<C: Clock + Drop, W: Wire + Drop> Mobile<C, W> {
         ensures read { (machine_of self).fault ≡ None → C.ahead (machine_of result.0).clock ≡ option_map moments_after (C.ahead (machine_of self).clock) }
         ensures handles { IfOk result.1 (λ answers. Handles W.gives (machine_of self).desk.known (moment_of (C.last (machine_of result.0).clock) (machine_of self).desk.moment) calls.Tick (W.out (machine_of self).wire) answers (machine_of result.0).desk.known (W.out (machine_of result.0).wire)) }
         ensures front { (machine_of self).fault ≡ None → OnErr result.1 (BreaksOff W.gives (machine_of self).desk.known (moment_of (C.last (machine_of result.0).clock) (machine_of self).desk.moment) calls.Tick (W.out (machine_of self).wire) (W.out (machine_of result.0).wire)) }
+        ensures left { (machine_of self).fault ≡ None → result.1 ≢ Err StationFault.Memory → IsLeft (machine_of result.0).desk (machine_of self).desk.known (moment_of (C.last (machine_of result.0).clock) (machine_of self).desk.moment) calls.Tick }
         ensures typed { IsTyped result.0 }
         ensures well { OnOk result.1 ((machine_of result.0).fault ≡ None) }
         ensures kept { IfErr result.1 (λ fault. (machine_of result.0).fault ≡ Some fault) }
@@ -230,6 +234,7 @@ impl<C: Clock + Drop, W: Wire + Drop> Mobile<C, W> {
         ensures read { (machine_of self).fault ≡ None → C.ahead (machine_of result.0).clock ≡ option_map moments_after (C.ahead (machine_of self).clock) }
         ensures handles { IfOk result.1 (λ answers. Handles W.gives (machine_of self).desk.known (moment_of (C.last (machine_of result.0).clock) (machine_of self).desk.moment) (calls.Send to proto payload.now) (W.out (machine_of self).wire) answers (machine_of result.0).desk.known (W.out (machine_of result.0).wire)) }
         ensures front { (machine_of self).fault ≡ None → OnErr result.1 (BreaksOff W.gives (machine_of self).desk.known (moment_of (C.last (machine_of result.0).clock) (machine_of self).desk.moment) (calls.Send to proto payload.now) (W.out (machine_of self).wire) (W.out (machine_of result.0).wire)) }
+        ensures left { (machine_of self).fault ≡ None → result.1 ≢ Err StationFault.Memory → IsLeft (machine_of result.0).desk (machine_of self).desk.known (moment_of (C.last (machine_of result.0).clock) (machine_of self).desk.moment) (calls.Send to proto payload.now) }
         ensures typed { IsTyped result.0 }
         ensures well { OnOk result.1 ((machine_of result.0).fault ≡ None) }
         ensures kept { IfErr result.1 (λ fault. (machine_of result.0).fault ≡ Some fault) }
@@ -247,6 +252,7 @@ impl<C: Clock + Drop, W: Wire + Drop> Mobile<C, W> {
         ensures read { (machine_of self).fault ≡ None → C.ahead (machine_of result.0).clock ≡ option_map moments_after (C.ahead (machine_of self).clock) }
         ensures handles { IfOk result.1 (λ answers. Handles W.gives (machine_of self).desk.known (moment_of (C.last (machine_of result.0).clock) (machine_of self).desk.moment) (calls.Refresh home) (W.out (machine_of self).wire) answers (machine_of result.0).desk.known (W.out (machine_of result.0).wire)) }
         ensures front { (machine_of self).fault ≡ None → OnErr result.1 (BreaksOff W.gives (machine_of self).desk.known (moment_of (C.last (machine_of result.0).clock) (machine_of self).desk.moment) (calls.Refresh home) (W.out (machine_of self).wire) (W.out (machine_of result.0).wire)) }
+        ensures left { (machine_of self).fault ≡ None → result.1 ≢ Err StationFault.Memory → IsLeft (machine_of result.0).desk (machine_of self).desk.known (moment_of (C.last (machine_of result.0).clock) (machine_of self).desk.moment) (calls.Refresh home) }
         ensures typed { IsTyped result.0 }
         ensures well { OnOk result.1 ((machine_of result.0).fault ≡ None) }
         ensures kept { IfErr result.1 (λ fault. (machine_of result.0).fault ≡ Some fault) }
@@ -264,6 +270,7 @@ impl<C: Clock + Drop, W: Wire + Drop> Mobile<C, W> {
         ensures read { (machine_of self).fault ≡ None → C.ahead (machine_of result.0).clock ≡ option_map moments_after (C.ahead (machine_of self).clock) }
         ensures handles { IfOk result.1 (λ answers. Handles W.gives (machine_of self).desk.known (moment_of (C.last (machine_of result.0).clock) (machine_of self).desk.moment) calls.Ask (W.out (machine_of self).wire) answers (machine_of result.0).desk.known (W.out (machine_of result.0).wire)) }
         ensures front { (machine_of self).fault ≡ None → OnErr result.1 (BreaksOff W.gives (machine_of self).desk.known (moment_of (C.last (machine_of result.0).clock) (machine_of self).desk.moment) calls.Ask (W.out (machine_of self).wire) (W.out (machine_of result.0).wire)) }
+        ensures left { (machine_of self).fault ≡ None → result.1 ≢ Err StationFault.Memory → IsLeft (machine_of result.0).desk (machine_of self).desk.known (moment_of (C.last (machine_of result.0).clock) (machine_of self).desk.moment) calls.Ask }
         ensures typed { IsTyped result.0 }
         ensures well { OnOk result.1 ((machine_of result.0).fault ≡ None) }
         ensures kept { IfErr result.1 (λ fault. (machine_of result.0).fault ≡ Some fault) }
@@ -281,6 +288,7 @@ impl<C: Clock + Drop, W: Wire + Drop> Mobile<C, W> {
         ensures read { (machine_of self).fault ≡ None → C.ahead (machine_of result.0).clock ≡ option_map moments_after (C.ahead (machine_of self).clock) }
         ensures handles { IfOk result.1 (λ answers. Handles W.gives (machine_of self).desk.known (moment_of (C.last (machine_of result.0).clock) (machine_of self).desk.moment) (calls.Restart secrets) (W.out (machine_of self).wire) answers (machine_of result.0).desk.known (W.out (machine_of result.0).wire)) }
         ensures front { (machine_of self).fault ≡ None → OnErr result.1 (BreaksOff W.gives (machine_of self).desk.known (moment_of (C.last (machine_of result.0).clock) (machine_of self).desk.moment) (calls.Restart secrets) (W.out (machine_of self).wire) (W.out (machine_of result.0).wire)) }
+        ensures left { (machine_of self).fault ≡ None → result.1 ≢ Err StationFault.Memory → IsLeft (machine_of result.0).desk (machine_of self).desk.known (moment_of (C.last (machine_of result.0).clock) (machine_of self).desk.moment) (calls.Restart secrets) }
         ensures typed { IsTyped result.0 }
         ensures well { OnOk result.1 ((machine_of result.0).fault ≡ None) }
         ensures kept { IfErr result.1 (λ fault. (machine_of result.0).fault ≡ Some fault) }

@@ -1,6 +1,6 @@
 //! How a mobile comes to a link and leaves one, over its place (RFC 6275 sections 11.5.1 to 11.5.5).
 
-ghost use Rattle.std.specs.Prelude.{◌≡◌, ◌≤◌, true, false, None, Some, Err, IfOk, IfSome, IfErr, OnOk, OnErr, IsErrOf, if◌then◌else◌};
+ghost use Rattle.std.specs.Prelude.{◌≡◌, ◌≢◌, ◌≤◌, true, false, None, Some, Err, IfOk, IfSome, IfErr, OnOk, OnErr, IsErrOf, if◌then◌else◌};
 ghost use Rattle.std.specs.Option.{option_map};
 ghost use Rattle.mip_outside.specs.Cause.{Rose};
 ghost use Rattle.mip_outside.specs.Moments.{moments_after};
@@ -11,7 +11,7 @@ ghost use Rattle.mip_rules_mobile.specs.MovingRules.{address_under, uses_prefix}
 ghost use Rattle.mip_rules_mobile.specs.Doing.{turn_of};
 ghost use Rattle.mip_desk.specs.Seen.{Shows};
 ghost use Rattle.mip_mobile.specs.Placing.{attach_at, leave_at, claims_attached, claims_after_leaving, AreAnswered};
-ghost use Rattle.mip_mobile.specs.Handling.{Handles, BreaksOff, moment_of};
+ghost use Rattle.mip_mobile.specs.Handling.{Handles, BreaksOff, IsLeft, moment_of};
 
 use crate::fault::StationFault;
 use crate::machine::Machine;
@@ -35,6 +35,7 @@ impl<C: Clock + Drop, W: Wire + Drop> Machine<C, W> {
         ensures read { self.old.fault ≡ None → C.ahead self.new.clock ≡ option_map moments_after (C.ahead self.old.clock) }
         ensures handles { IfOk result (λ answers. Handles W.gives self.old.desk.known (moment_of (C.last self.new.clock) self.old.desk.moment) (attach_at (P.around place.old) (home_of self.old.desk.known) prefix.0) (W.out self.old.wire) answers self.new.desk.known (W.out self.new.wire)) }
         ensures front { self.old.fault ≡ None → OnErr result (BreaksOff W.gives self.old.desk.known (moment_of (C.last self.new.clock) self.old.desk.moment) (attach_at (P.around place.old) (home_of self.old.desk.known) prefix.0) (W.out self.old.wire) (W.out self.new.wire)) }
+        ensures left { self.old.fault ≡ None → result ≢ Err StationFault.Memory → IsLeft self.new.desk self.old.desk.known (moment_of (C.last self.new.clock) self.old.desk.moment) (attach_at (P.around place.old) (home_of self.old.desk.known) prefix.0) }
         ensures claims { self.old.fault ≡ None → P.claims place.new ≡ option_map (claims_attached (P.around place.old) self.old.desk.known.standing (home_of self.old.desk.known) prefix.0) (P.claims place.old) }
         ensures place { (P.around place.new ≡ P.around place.old) × P.is_same place.old place.new }
         ensures well { OnOk result (self.new.fault ≡ None) }
@@ -90,6 +91,7 @@ impl<C: Clock + Drop, W: Wire + Drop> Machine<C, W> {
         ensures read { self.old.fault ≡ None → C.ahead self.new.clock ≡ option_map moments_after (C.ahead self.old.clock) }
         ensures handles { IfOk result (λ answers. Handles W.gives self.old.desk.known (moment_of (C.last self.new.clock) self.old.desk.moment) (leave_at (P.around place.old) (home_of self.old.desk.known)) (W.out self.old.wire) answers self.new.desk.known (W.out self.new.wire)) }
         ensures front { self.old.fault ≡ None → OnErr result (BreaksOff W.gives self.old.desk.known (moment_of (C.last self.new.clock) self.old.desk.moment) (leave_at (P.around place.old) (home_of self.old.desk.known)) (W.out self.old.wire) (W.out self.new.wire)) }
+        ensures left { self.old.fault ≡ None → result ≢ Err StationFault.Memory → IsLeft self.new.desk self.old.desk.known (moment_of (C.last self.new.clock) self.old.desk.moment) (leave_at (P.around place.old) (home_of self.old.desk.known)) }
         ensures claims { self.old.fault ≡ None → P.claims place.new ≡ option_map (claims_after_leaving (P.around place.old) self.old.desk.known.standing (home_of self.old.desk.known)) (P.claims place.old) }
         ensures place { (P.around place.new ≡ P.around place.old) × P.is_same place.old place.new }
         ensures well { OnOk result (self.new.fault ≡ None) }

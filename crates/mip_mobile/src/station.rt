@@ -1,9 +1,9 @@
-ghost use Rattle.std.specs.Prelude.{◌≡◌, ◌≤◌, None, Some, Err, IfOk, IfSome, IfErr, OnOk, OnErr, IsErrOf, length, option_map};
+ghost use Rattle.std.specs.Prelude.{◌≡◌, ◌≢◌, ◌≤◌, None, Some, Err, IfOk, IfSome, IfErr, OnOk, OnErr, IsErrOf, length, option_map};
 ghost use Rattle.mip_tunnel.specs.Tunnel.{hop_of};
 ghost use Rattle.mip_outside.specs.Cause.{Rose};
 ghost use Rattle.mip_outside.specs.Moments.{moments_after};
 ghost use Rattle.mip_rules_mobile.specs.Calls as calls;
-ghost use Rattle.mip_mobile.specs.Handling.{Handles, BreaksOff, moment_of};
+ghost use Rattle.mip_mobile.specs.Handling.{Handles, BreaksOff, IsLeft, moment_of};
 
 use crate::fault::StationFault;
 use crate::machine::Machine;
@@ -30,6 +30,7 @@ impl<C: Clock + Drop, W: Wire + Drop> Station<Away, C, W> {
         ensures read { self.old.machine.fault ≡ None → C.ahead self.new.machine.clock ≡ option_map moments_after (C.ahead self.old.machine.clock) }
         ensures handles { IfOk result (λ answers. Handles W.gives self.old.machine.desk.known (moment_of (C.last self.new.machine.clock) self.old.machine.desk.moment) (calls.Tunnel inner.now) (W.out self.old.machine.wire) answers self.new.machine.desk.known (W.out self.new.machine.wire)) }
         ensures front { self.old.machine.fault ≡ None → OnErr result (BreaksOff W.gives self.old.machine.desk.known (moment_of (C.last self.new.machine.clock) self.old.machine.desk.moment) (calls.Tunnel inner.now) (W.out self.old.machine.wire) (W.out self.new.machine.wire)) }
+        ensures left { self.old.machine.fault ≡ None → result ≢ Err StationFault.Memory → IsLeft self.new.machine.desk self.old.machine.desk.known (moment_of (C.last self.new.machine.clock) self.old.machine.desk.moment) (calls.Tunnel inner.now) }
         ensures well { OnOk result (self.new.machine.fault ≡ None) }
         ensures kept { IfErr result (λ fault. self.new.machine.fault ≡ Some fault) }
         ensures failed { self.old.machine.fault ≡ None → IsErrOf result StationFault.Failed → Rose (W.faults self.old.machine.wire) (W.faults self.new.machine.wire) }

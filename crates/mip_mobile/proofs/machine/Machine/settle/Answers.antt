@@ -5,7 +5,7 @@ use Rattle.mip_desk.specs.Seen.{DeskSeen, Shows}
 use Rattle.mip_mobile.specs.Settling.{SettlesAll, SettlesFront, sends_of}
 use Rattle.mip_mobile.specs.Handling.{Handles, BreaksOff}
 use Rattle.mip_mobile.proofs.Settled.{on-err}
-use Rattle.mip_mobile.proofs.Handled.{if-both, handled, on-errs, breaks-off, breaks-none}
+use Rattle.mip_mobile.proofs.Handled.{if-both, handled, on-errs, breaks-off, breaks-none, is-left}
 use Rattle.mip_mobile.proofs.machine.Machine.settle.Goals as goal
 
 pub returns-clause-handles : goal.returns-clause-handles
@@ -36,3 +36,8 @@ returns-in_err-done-clause-front g c = λ k now call shown. on-err c.from_residu
 
 pub returns-in_err-asked-clause-front : goal.returns-in_err-asked-clause-front
 returns-in_err-asked-clause-front g c = λ k now call shown. on-err c.from_residual-in_err-asked.result (breaks-none g.W.Wire.gives k now call (g.W.Wire.out c.args.self.now.wire))
+
+pub returns-clause-left : goal.returns-clause-left
+returns-clause-left g c = λ k now call shown remembers.
+    let desk : DeskSeen = c.args.self.now.desk in
+    is-left k now call desk c.take_answers.new.self (subst (λ r. OnOk r (Shows desk (turn_of k now call))) c.in_ok-done.was shown) c.in_ok-asked.ensures.desk
