@@ -13,7 +13,7 @@ pub struct Judged {
 
 impl Judged {
     /// A verdict that names no key.
-    pub fn without_key(verdict: Verdict) -> Judged
+    pub(crate) fn without_key(verdict: Verdict) -> Judged
         requires { key_in verdict ≡ None }
         ensures { IsJudged result verdict }
     {
