@@ -5,7 +5,7 @@ BEGIN {
         "yield deliver repeat lose carry restart refresh plan ask show settle at moved advertised claimed released taken listening deafened " \
         "careof sent injected heard handed gone lost idle home registered unregistered refused chosen prefixes made bound unbound accepted " \
         "origin forged denied dropped up unsent restarted row settled source destination hop class flow route proto message cookie index " \
-        "token sequence flags lifetime status advice nonces alternate authorization fault icmp body bad", list, " ")
+        "token sequence flags lifetime status advice nonces alternate authorization fault icmp body bad advert holds solicit answer silent claim free got to", list, " ")
     for (i in list) known[list[i]] = 1
     # where bytes stand that are no address
     bytes_at["data"] = 5
@@ -13,6 +13,8 @@ BEGIN {
     bytes_at["sent"] = bytes_at["injected"] = 6
     bytes_at["up"] = 7
     bytes_at["body"] = 2
+    bytes_at["advert"] = 4
+    bytes_at["solicit"] = bytes_at["answer"] = 3
 }
 
 function to_digits(n,    i, digits) {
@@ -31,6 +33,7 @@ function to_digits(n,    i, digits) {
 function to_familiar(n,    i) {
     if (!($1 in known)) { refuse(n, "no line of a schedule, a trace or a listing has the word `" substr($1, 1, 60) "`"); return }
     if ($1 == "link" && is_digits($3, 16)) $3 = familiar_prefix($3)
+    if ($1 == "advert" && is_digits($2, 16)) $2 = familiar_prefix($2)
     for (i = 2; i <= NF; i++) if (i != bytes_at[$1] && is_digits($i, 32)) $i = familiar($i)
     emit($0)
 }

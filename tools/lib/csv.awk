@@ -1,22 +1,43 @@
-# A table: moment, entry, who, packet, value.
-
-# The places of the names of nodes and outsiders, and of packets' numbers: behind the word, unless told otherwise here.
+# A table: a column a field, and empty where an entry has no such field.
 BEGIN {
-    split("sent injected heard handed", posted_first, " ")
-    for (i in posted_first) { who_at[posted_first[i]] = 3; packet_at[posted_first[i]] = 2 }
-    who_at["at"] = who_at["gone"] = who_at["lost"] = who_at["idle"] = who_at["origin"] = who_at["forged"] = 0
-    packet_at["gone"] = packet_at["lost"] = 2
-    packet_at["accepted"] = packet_at["denied"] = packet_at["dropped"] = packet_at["up"] = 3
-    packet_at["made"] = 4
-    emit("moment,entry,who,packet,value")
+    columns = split("moment entry who packet kind inside shield link address other home number careof sequence end kept home_index careof_index " \
+        "home_test careof_test home_token careof_token status why source destination protocol valid preferred layer port bytes", column, " ")
+    for (i = 1; i <= columns; i++) head = head (i > 1 ? "," : "") column[i]
+    # the columns of an entry's fields, in their order
+    rows = "at moment/moved who link/advertised who link address/claimed who link address/released who link address/taken who link address other/" \
+        "listening who link/deafened who link/careof who careof/sent packet who shield kind bytes/injected packet who link kind bytes/" \
+        "heard packet who/handed packet who/gone packet why/lost packet/idle/home who home careof sequence end/registered who address end/" \
+        "unregistered who address/refused who status/chosen who address/prefixes who valid preferred/made who address packet home_token careof_token/" \
+        "bound who address end/unbound who address/accepted who packet home number careof sequence end home_index careof_index/" \
+        "origin home_test careof_test packet/forged why/denied who packet status/dropped who packet why/" \
+        "up who packet source destination protocol bytes/unsent who why/restarted who/row who home number careof sequence end kept/settled who other why"
+    names_columns(rows, "trace")
+    names_columns("advert link who bytes/holds link address layer/solicit link bytes/answer who bytes/silent", "claims")
+    names_columns("claim address port/free address/idle/advert link port/got packet/to packet port/dropped packet why/gone packet why/lost packet", "hub")
+    emit(head)
 }
 
-function entry(n, word,    who, number, value, i) {
+function names_columns(rows, of,    part, count, i, word) {
+    count = split(rows, part, "/")
+    for (i = 1; i <= count; i++) {
+        word = part[i]
+        sub(/ .*/, "", word)
+        columns_of[of, word] = part[i]
+    }
+}
+
+function entry(n, word,    name, count, i, cell, out) {
     if (word == "at") moment = $2
-    who = word in who_at ? who_at[word] : 2
-    number = word in packet_at ? packet_at[word] : 0
-    for (i = 2; i <= NF; i++) if (i != who && i != number) value = value (value == "" ? "" : " ") $i
-    emit(moment "," word "," (who ? $who : "") "," (number ? $number : "") "," value)
+    count = split(columns_of[(sort == "" ? "trace" : sort), word], name, " ")
+    for (i = 2; i <= count; i++) cell[name[i]] = $i
+    cell["moment"] = moment
+    cell["entry"] = word
+    if (word == "sent" || word == "injected") {
+        cell["inside"] = in_brackets($5, $6)
+        gsub(/[ ()]/, "", cell["inside"])
+    }
+    for (i = 1; i <= columns; i++) out = out (i > 1 ? "," : "") cell[column[i]]
+    emit(out)
 }
 
 function finish() {}

@@ -4,30 +4,28 @@ BEGIN {
     micro = -1
 }
 
-# A number below 2^32 as 8 digits.
-function word32(n,    out, i) {
-    for (i = 1; i <= 8; i++) {
-        out = substr("0123456789abcdef", n % 16 + 1, 1) out
-        n = int(n / 16)
-    }
-    return out
-}
-
 # The moment in microseconds, and one more than that of the packet before where it would not come later.
 function next_micro() {
     micro = moment * 1000 > micro ? moment * 1000 : micro + 1
     return micro
 }
 
-function entry(n, word,    at, size, i) {
+# Packets are those that are posted, and the neighbour messages of the claims of a run.
+function digits_in(word) {
+    if (sort == "claims") return word == "advert" ? $4 : word == "solicit" || word == "answer" ? $3 : ""
+    return sort != "hub" && (word == "sent" || word == "injected") ? $6 : ""
+}
+
+function entry(n, word,    at, size, i, digits) {
     if (word == "at") moment = $2
-    if (word != "sent" && word != "injected") return
-    if ($6 == "-") { refuse(n, "a packet of no bytes"); return }
+    digits = digits_in(word)
+    if (digits == "") return
+    if (digits == "-") { refuse(n, "a packet of no bytes"); return }
     at = next_micro()
     if (at >= 4294967296000000) { refuse(n, "a capture has no moment so late"); return }
-    size = length($6) / 2
+    size = length(digits) / 2
     emit(word32(int(at / 1000000)) word32(at % 1000000) word32(size) word32(size))
-    for (i = 1; i <= length($6); i += 60) emit(substr($6, i, 60))
+    for (i = 1; i <= length(digits); i += 60) emit(substr(digits, i, 60))
 }
 
 function finish() {}

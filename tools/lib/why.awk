@@ -35,8 +35,31 @@ BEGIN {
     does("settle", "NODE NODE", "host host")
 }
 
-function declares(word, names, kinds) { is_declaration[word] = 1; names_of[word] = names; kinds_of[word] = kinds }
-function does(word, names, kinds) { is_event[word] = 1; names_of[word] = names; kinds_of[word] = kinds }
+function declares(word, names, kinds) { all_words = all_words " " word; is_declaration[word] = 1; names_of[word] = names; kinds_of[word] = kinds }
+function does(word, names, kinds) { all_words = all_words " " word; is_event[word] = 1; names_of[word] = names; kinds_of[word] = kinds }
+
+# Whether two words are one letter apart: one more, one less, another one, or two in another order.
+function is_near(a, b,    i, n) {
+    n = length(a)
+    for (i = 1; i <= n && substr(a, i, 1) == substr(b, i, 1); i++) ;
+    if (n + 1 == length(b)) return substr(a, i) == substr(b, i + 1)
+    if (n - 1 == length(b)) return substr(a, i + 1) == substr(b, i)
+    if (n != length(b)) return 0
+    return substr(a, i + 1) == substr(b, i + 1) || substr(a, i + 1, 1) substr(a, i, 1) substr(a, i + 2) == substr(b, i)
+}
+
+# The first of these words that is near, as a question, or "".
+function meant(word, words,    list, i, n) {
+    n = split(words, list, " ")
+    for (i = 1; i <= n; i++) if (list[i] != word && is_near(word, list[i])) return "; is `" list[i] "` meant?"
+    return ""
+}
+
+# The names of this sort that are declared before, in their order.
+function names_of_sort(sort,    i, out) {
+    for (i = 1; i <= declared; i++) if (is_sort(sort, name_at[i])) out = out (out == "" ? "" : " ") name_at[i]
+    return out
+}
 
 # The bytes of a text that can be shown.
 function shown(text) {
@@ -64,8 +87,8 @@ function called(sort) {
     return sort
 }
 
-function why_name(kind, s) {
-    if (kind == "test") return s == "home" || s == "careof" ? "" : quoted(s) " is neither `home` nor `careof`"
+function why_name(kind, s,    others) {
+    if (kind == "test") return s == "home" || s == "careof" ? "" : quoted(s) " is neither `home` nor `careof`" meant(s, "home careof")
     if (kind == "new") {
         if (s in sort_of) return quoted(s) " is the name of " (sort_of[s] ~ /^[ao]/ ? "an " : "a ") sort_of[s] " already"
         if (s == "find") return "`find` is no name"
@@ -75,7 +98,8 @@ function why_name(kind, s) {
     if (kind == "agent-or-find") { if (s == "find") return ""; kind = "agent" }
     if (kind !~ /^(link|agent|mobile|outsider|host|node)$/ || is_sort(kind, s)) return ""
     if (s in sort_of) return quoted(s) " is the name of " (sort_of[s] ~ /^[ao]/ ? "an " : "a ") sort_of[s] ", and here stands that of " (kind ~ /^[aon]/ ? "an " : "a ") called(kind)
-    return "no " called(kind) " with the name " quoted(s) " is declared before"
+    others = names_of_sort(kind)
+    return "no " called(kind) " with the name " quoted(s) " is declared before" (others == "" ? ", and no other one" : "; there is " others) meant(s, others)
 }
 
 function why_number(kind, s,    range) {
@@ -163,7 +187,7 @@ function why_end(    part) {
 function why_form(    n) {
     if (bad <= 3) return why_head()
     if ($1 == "run") return running ? "`run` stands there for the second time" : "`run` stands alone in its line"
-    if (!($1 in kinds_of)) return "no line of a schedule begins with the word " quoted($1)
+    if (!($1 in kinds_of)) return "no line of a schedule begins with the word " quoted($1) meant($1, all_words)
     if (running && $1 in is_declaration) return "`" $1 "` is a declaration, and declarations stand before `run`"
     if (!running && $1 in is_event) return "`" $1 "` is an event, and events stand behind `run`"
     n = split(names_of[$1], unused, " ")
@@ -218,6 +242,7 @@ function remember() {
     if (running || !($1 in is_declaration)) return
     count_of[$1]++
     if ($1 == "serve") return
+    if (!($2 in sort_of)) name_at[++declared] = $2
     sort_of[$2] = $1
     if ($1 == "link") { prefix_of[$2] = $3; link_of[$3] = $2 }
     if ($1 == "agent" || $1 == "correspondent" || $1 == "mobile") interface_of[substr($4, 17)] = $2
@@ -232,5 +257,5 @@ NR > 1 {
 END {
     torn = held != "."
     if (torn && bad > lines) text = substr(held, 1, length(held) - 1)
-    printf "why: %s, line %d: %s\nwhy: %s\n", file, shown_line, shown(text), sentence()
+    printf "why: %s, line %d: %s\nwhy: %s\n", file, shown_line, shown(written == "" ? text : written), sentence()
 }

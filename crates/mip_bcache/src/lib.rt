@@ -7,8 +7,6 @@ mod cache;
 mod fault;
 mod row;
 mod rows;
-#[cfg(test)]
-mod tests;
 
 pub use accepted::Accepted;
 pub use cache::Cache;

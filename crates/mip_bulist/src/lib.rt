@@ -36,6 +36,3 @@ pub use run_laws::each_update_of_a_trial_is_right;
 pub use state::{Bound, Idle, Pending, Probing, Proved, State};
 pub use trial::{Ended, Probe, Trial};
 pub use work::Work;
-
-#[cfg(test)]
-mod tests;

@@ -29,13 +29,13 @@ held_routable cache home now row all e = by (row_at cache home now) refl e
     by None is e = absurd cc
     by (Some r) is e = found_routable home (kept_at cache now) r (all-kept HasRoutableHome until_of now cache.rows all) is
 
-pub settled_sound : (identity : Identity) (k : Known) (now : ℕ) (kept : Option Kept) → IsSound (record { identity = identity; known = k }) → k.last.0 ≤ now → Fits now k.cache kept → IsSound (record { identity = identity; known = left now (with_kept now kept k.cache) })
-settled_sound identity k now None sound later fits = record {
+pub kept_sound : (identity : Identity) (k : Known) (now : ℕ) (kept : Option Kept) → IsSound (record { identity = identity; known = k }) → k.last.0 ≤ now → Fits now k.cache kept → IsSound (record { identity = identity; known = left now (with_kept now kept k.cache) })
+kept_sound identity k now None sound later fits = record {
   early = let e = sound.early in omega arith;
   room = sound.room;
   homes = sound.homes;
 }
-settled_sound identity k now (Some kept) sound later fits = record {
+kept_sound identity k now (Some kept) sound later fits = record {
   early = omega arith;
   room = sound.room;
   homes = all-put HasRoutableHome home_of (row_for now kept.home 0 kept.accepted) (kept_at k.cache now) fits.1 (all-kept HasRoutableHome until_of now k.cache.rows sound.homes);

@@ -113,8 +113,8 @@ impl Correspondent {
     }
 
     /// A call at this moment ends, and an update that was accepted has its row.
-    #[tactic(auto, using(crate::proofs::Rows::settled_sound))]
-    fn settle(&mut self, now: Moment, kept: Option<Kept>) -> Result<(), Memory>
+    #[tactic(auto, using(crate::proofs::Rows::kept_sound))]
+    fn commit_call(&mut self, now: Moment, kept: Option<Kept>) -> Result<(), Memory>
         requires later { self.old.known.last.0 ≤ now.0 }
         requires early { now.0 < 2 ^ 62 }
         requires fits { Fits now.0 self.old.known.cache kept }
@@ -154,7 +154,7 @@ impl Correspondent {
             number,
         };
         let kept = receive(alloc, &mut answers, &receipt, packet)?;
-        self.settle(now, kept)?;
+        self.commit_call(now, kept)?;
         Ok(answers)
     }
 
@@ -187,7 +187,7 @@ impl Correspondent {
         };
         let message = message_in(packet);
         let kept = answer_message(alloc, &mut answers, &receipt, packet, &message)?;
-        self.settle(now, kept)?;
+        self.commit_call(now, kept)?;
         Ok(answers)
     }
 
@@ -217,7 +217,7 @@ impl Correspondent {
         let mut answers = Answers::new(alloc)?;
         let held = self.route(now, home);
         ask_refresh(alloc, &mut answers, &self.identity, home, held)?;
-        self.settle(now, None)?;
+        self.commit_call(now, None)?;
         Ok(answers)
     }
 
@@ -254,7 +254,7 @@ impl Correspondent {
             payload,
             held,
         )?;
-        self.settle(now, None)?;
+        self.commit_call(now, None)?;
         Ok(answers)
     }
 }

@@ -5,18 +5,14 @@
 mod answering;
 mod correspondent;
 mod kept;
-mod laws;
 mod part;
 mod receipt;
 mod receiving;
 mod sending;
 mod test_init;
-#[cfg(test)]
-mod tests;
 mod update;
 
 pub use correspondent::Correspondent;
-pub use laws::what_was_read_has_a_routable_home;
 pub use mip_rules_correspondent::Verdict;
 pub use mip_verdict::judge;
 pub use part::is_for_part;

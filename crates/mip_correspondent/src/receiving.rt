@@ -128,16 +128,7 @@ fn take_packet(
     }
 }
 
-/// Payload Length.
-fn payload_length(bytes: &[u8]) -> u16
-    requires { 40 ≤ length bytes.now }
-    ensures { result ≡ number_at 2 4 bytes.now }
-{
-    u16_at(bytes, 4)
-}
-
 /// A packet is read, and answered. What it accepts, if it does, fits into the cache.
-#[tactic(auto, using(crate::proofs::Receivings::home_routable, crate::proofs::Receivings::place_is))]
 pub fn receive(
     alloc: Global,
     answers: &mut Answers,
@@ -154,9 +145,6 @@ pub fn receive(
             drop_packet(answers, receipt.number, packet_why(fault))?;
             Ok(None)
         }
-        Ok(packet) => {
-            let _length = payload_length(bytes);
-            take_packet(alloc, answers, receipt, bytes, &packet)
-        }
+        Ok(packet) => take_packet(alloc, answers, receipt, bytes, &packet),
     }
 }

@@ -13,5 +13,6 @@ mod trials;
 mod updating;
 
 pub use desk::{Desk, ENDING, RENEWING, RESENDING, SEEKING};
+pub use mip_kept::{Agents, Heard, doubled};
 pub use outgoing::{ask_home, go_out};
 pub use part::{ask_data, ask_part, ask_refresh, is_mobility, reply};

@@ -1,6 +1,6 @@
 //! What a call reads of what is kept.
 
-ghost use Rattle.std.specs.Prelude.{◌≡◌, Some, length, option_map, option_copied, IfSome, ◌+◌, ◌*◌, ◌<◌, ◌≤◌, ◌^◌, IsTrue, slice_get};
+ghost use Rattle.std.specs.Prelude.{◌≡◌, Some, length, is_some, option_map, option_copied, IfSome, ◌+◌, ◌*◌, ◌<◌, ◌≤◌, ◌^◌, IsTrue, slice_get};
 ghost use Rattle.mip_bcache.specs.Seen.{kept_at};
 ghost use Rattle.mip_constants.specs.Constants.{initial_dhaad_timeout};
 ghost use Rattle.mip_bulist.specs.declared.any.Any.TheVariants.{Pending};
@@ -169,6 +169,24 @@ impl Desk {
         self.known.part.row(now, place)
     }
 
+    /// The care-of address that is held for a peer at a moment from the last call on.
+    pub fn held_at(&self, now: Moment, peer: Address) -> Option<Address>
+        requires { self.now.moment ≤ now.0 }
+        ensures { result ≡ held_of self.now.known.part.known now.0 peer }
+    {
+        self.known.part.route(now, peer)
+    }
+
+    /// Whether it has a binding with a peer at a moment.
+    pub fn is_bound_at(&self, now: Moment, peer: Address) -> bool
+        ensures { result ≡ is_some (bound_row_of self.now.known now.0 peer) }
+    {
+        match self.row_of(peer) {
+            Some(row) => peers::is_bound(&self.known.peers, now, row as usize),
+            None => false,
+        }
+    }
+
     /// Whether a binding stands for the home address that a packet from a source names.
     pub fn holds_option(&self, source: Address, home: Option<Address>) -> bool
         ensures { result ≡ holds_option self.now.known.part.known self.now.moment source home }
@@ -305,6 +323,13 @@ impl Desk {
         ensures { result ≡ registered_agent self.now.known self.now.moment }
     {
         agent_of(self.known.registered, None, self.moment)
+    }
+
+    /// The agent of the registration that stands at a moment.
+    pub fn registered_at(&self, now: Moment) -> Option<Address>
+        ensures { result ≡ registered_agent self.now.known now.0 }
+    {
+        agent_of(self.known.registered, None, now)
     }
 
     /// The home address.

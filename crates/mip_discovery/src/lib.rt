@@ -9,8 +9,6 @@ mod laws;
 mod plan;
 mod ranks;
 mod reply;
-#[cfg(test)]
-mod tests;
 
 pub use agents::Agents;
 pub use discovery::Discovery;

@@ -5,6 +5,8 @@ pub mod ItemLaws
 pub mod CalmLaws
 pub mod HomeLaws
 pub mod NodeLaws
+pub mod SettleLaws
+pub mod MoveLaws
 pub mod ActLaws
 pub mod PassingLaws
 pub mod EntryLaws
@@ -19,4 +21,5 @@ pub mod RoutableLaws
 pub mod ShareLaws
 pub mod OpenLaws
 pub mod JoinLaws
-pub mod SettleLaws
+pub mod ShareAllLaws
+pub use Rattle.mip_nodes.proofs.RoleLaws

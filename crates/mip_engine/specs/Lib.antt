@@ -6,3 +6,7 @@ pub mod Joining
 pub mod Openings
 pub mod Groups
 pub mod Numbering
+pub mod Settling
+pub use Rattle.mip_nodes.specs.Nodes
+pub use Rattle.mip_nodes.specs.Payloads
+pub use Rattle.mip_nodes.specs.Roles

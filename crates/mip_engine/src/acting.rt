@@ -4,7 +4,7 @@ ghost use Rattle.std.specs.Prelude.{◌≡◌, [], ◌∷◌, Some, None, OnOk, 
 ghost use Rattle.mip_history.specs.Setup.{Setup};
 ghost use Rattle.mip_history.specs.Runs.{Run};
 ghost use Rattle.mip_history.specs.Nodes.{acts, shown};
-ghost use Rattle.mip_history.specs.Permitted.{moves};
+ghost use Rattle.mip_history.specs.Permitted.{moves, moves_if};
 ghost use Rattle.mip_nodes.specs.Calls.{asked, IsAskable};
 ghost use Rattle.mip_nodes.specs.Nodes.{NodeSeen};
 ghost use Rattle.mip_nodes.specs.Roles.{rows_of};
@@ -32,8 +32,8 @@ impl Engine {
         self.answer(node, from, answers)
     }
 
-    /// A mobile leaves where it is, and stands on a link or on none.
-    pub fn move_to(
+    /// A node leaves where it is, and stands on a link or on none.
+    fn move_mobile(
         &mut self,
         alloc: Global,
         node: NodeId,
@@ -45,6 +45,23 @@ impl Engine {
         self.act(alloc, node, Call::Leave)?;
         self.stand(node, link);
         self.note(Entry::Moved { node, link })
+    }
+
+    /// A mobile leaves where it is, and stands on a link or on none. Another node stays.
+    pub fn move_to(
+        &mut self,
+        alloc: Global,
+        node: NodeId,
+        link: Option<LinkId>,
+    ) -> Result<(), Memory>
+        ensures stands { (s : Setup) (run : Run) → IsAt self.old s run → OnOk result (IsAt self.new s (moves_if s run node.0 link)) }
+        ensures kept { OnOk result (self.new.told ≡ self.old.told) }
+    {
+        if self.is_roaming(node) {
+            self.move_mobile(alloc, node, link)
+        } else {
+            self.note(Entry::Idle)
+        }
     }
 
     fn show_rows(&mut self, node: NodeId) -> Result<(), Memory>

@@ -10,6 +10,7 @@ ghost use Rattle.mip_engine.specs.Numbering.{IsNumbered};
 
 mod links;
 mod members;
+mod settling;
 
 use mip_chronicle::Chronicle;
 use mip_entries::{Entry, History};

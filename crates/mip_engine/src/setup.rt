@@ -128,7 +128,7 @@ impl Engine {
     }
 
     /// A node more, with its address; the first agent of a link has the home-agents anycast address there, too.
-    fn settle(&mut self, alloc: Global, host: Host) -> Result<(), Memory>
+    fn join_and_share(&mut self, alloc: Global, host: Host) -> Result<(), Memory>
         requires few { length self.old.nodes < 32 }
         requires fit { IsFit host }
         requires free { IsFree self.old.net host.address.0 }
@@ -147,14 +147,14 @@ impl Engine {
     }
 
     /// Each node takes its address, in order of declaration.
-    fn settle_all(&mut self, alloc: Global, hosts: Vec<Host>) -> Result<(), Memory>
+    fn join_all(&mut self, alloc: Global, hosts: Vec<Host>) -> Result<(), Memory>
         requires placed { ArePlaced self.old.net.links hosts.items }
         requires new { self.old ≡ new_engine self.old.seed self.old.moment self.old.net.links self.old.outsiders }
         ensures stands { (s : Setup) → s.hosts ≡ hosts.items → self.old ≡ new_engine s.seed s.start s.links s.outsiders → OnOk result (IsAt self.new s (opened s)) }
         ensures kept { OnOk result (self.new.told ≡ self.old.told) }
     {
         for host in hosts {
-            self.settle(alloc, host)?;
+            self.join_and_share(alloc, host)?;
         }
         Ok(())
     }
@@ -179,7 +179,7 @@ impl Engine {
             outsiders_in(ds),
             schedule.events.len(),
         )?;
-        engine.settle_all(alloc, hosts)?;
+        engine.join_all(alloc, hosts)?;
         Ok(engine)
     }
 }

@@ -13,6 +13,3 @@ mod words;
 pub use fault::ExplainFault;
 pub use listing::explain;
 pub use words::{fault_word, message_word, refusal_word};
-
-#[cfg(test)]
-mod tests;

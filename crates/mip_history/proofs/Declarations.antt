@@ -35,7 +35,7 @@ links_count (declare.Mobile name link address agent ∷ ds) = links_count ds
 links_count (declare.Outsider name ∷ ds) = links_count ds
 links_count (declare.Serve agent mobile ∷ ds) = links_count ds
 
-hosts_count : (all : List Declaration) (n : ℕ) (ds : List Declaration) → length (members sorts.Node ds) ≡ length (hosts_from all n ds)
+pub hosts_count : (all : List Declaration) (n : ℕ) (ds : List Declaration) → length (members sorts.Node ds) ≡ length (hosts_from all n ds)
 unfolding members
 hosts_count all n [] = refl
 hosts_count all n (declare.Link name prefix ∷ ds) = hosts_count all n ds
@@ -124,6 +124,7 @@ event_names ds (events.Deaf o link) within = within
 event_names ds (events.Squat o address) within = within.0
 event_names ds (events.Yield o address) within = within.0
 event_names ds (events.Restart node) within = within
+event_names ds (events.Settle a b) within = within
 event_names ds _ within = tt
 
 module _ (c : Content) (lawful : IsLawful c) where

@@ -6,6 +6,7 @@ use Rattle.std.proofs.lemmas.Bool.{cond_both}
 use Rattle.std.proofs.lemmas.Option.{slice_get_within}
 use Rattle.mip_words.specs.declared.address.Address.{Address}
 use Rattle.mip_words.specs.declared.ids.LinkId.{LinkId}
+use Rattle.mip_words.specs.declared.ids.NodeId.{NodeId}
 use Rattle.mip_words.specs.declared.shield.Shield.{Shield}
 use Rattle.mip_words.specs.declared.why.Why.{Why}
 use Rattle.mip_bcache.specs.declared.row.Row.{Row}
@@ -23,7 +24,7 @@ use Rattle.mip_links.specs.Table.{Post, link_of, delivery, in_pool, outsider_of,
 use Rattle.mip_links.specs.Nets.{lowest_of}
 use Rattle.mip_links.specs.declared.delivery.Delivery.{Delivery}
 use Rattle.mip_links.specs.declared.delivery.Delivery.TheVariants.{Idle, Gone, Outsider, Node}
-use Rattle.mip_history.specs.Setup.{Setup, Host, Kind}
+use Rattle.mip_history.specs.Setup.{Setup, Host, Kind, is_mobile_at}
 use Rattle.mip_history.specs.Setup.Kind.{Correspondent, Agent, Mobile}
 use Rattle.mip_history.specs.Runs.{Run, note, notes, without, with_past, with_agent_past}
 use Rattle.mip_history.specs.Questions.{hears_in, life_in, asked_in}
@@ -38,7 +39,8 @@ use Rattle.mip_history.specs.Outsiders.{injected, injected_if, probe_packet, upd
 use Rattle.mip_history.specs.Waiting.{Waiting, due_of, earliest, comes_to, is_due, ticks_one, ticked, works, works_on, works_until, waited}
 use Rattle.mip_history.specs.Advertising.{Router, router_by_host, router_at, hears_of_router, hears_of_node, hears_of_first, hears_of_all, agents_hear, roams_by_host, roams_on, mobile_told, mobiles_told}
 use Rattle.mip_history.specs.Restarting.{homes_left, reborn_by_kind, reborn_by_host, restarted}
-use Rattle.mip_history.specs.Permitted.{is_first_agent, anycast_at, claimed_entry, claims_of, claims_from, opening_claims, opened, lost, moves, happens, run_of}
+use Rattle.mip_history.specs.Settled.{is_settled}
+use Rattle.mip_history.specs.Permitted.{is_first_agent, anycast_at, claimed_entry, claims_of, claims_from, opening_claims, opened, lost, moves, moves_if, happens, run_of}
 use Rattle.mip_history.specs.Naming.{IsDeclared}
 use Rattle.mip_history.proofs.Reasons.{all_append}
 use Rattle.mip_history.proofs.Declaring.{IsOf, P, d-notes, d-note, d-idle, link_is, node_is, d-claims, d-gives_up, d-overheard, d-posted, d-acts, IsRight, delivery_right, all_map}
@@ -56,6 +58,7 @@ Names ds (Deaf o link) = IsOutsider ds o × IsLink ds link
 Names ds (Squat o address) = IsOutsider ds o
 Names ds (Yield o address) = IsOutsider ds o
 Names ds (Restart node) = IsNode ds node
+Names ds (Settle a b) = IsNode ds a × IsNode ds b
 Names ds _ = Unit {0}
 
 module _ (ds : List Declaration) (s : Setup) (of : IsOf ds s) where
@@ -278,10 +281,17 @@ module _ (ds : List Declaration) (s : Setup) (of : IsOf ds s) where
   unfolding lost
   r-lost run k q = one-of (slice_index_or run.flying k false) (entries.Lost k) entries.Idle (without k run) tt tt q
 
+  r-moves : (node : NodeId) (link : Option LinkId) (run : Run) → IsNode ds node × IsLinkIfAny ds link → Q run → Q (moves_if s run node.0 link)
+  r-moves node link run names q = by (is_mobile_at s node.0)
+    where
+      by : (b : Bool) → Q (if b then moves s run node.0 link else note entries.Idle run)
+      by true = note-it (entries.Moved node link) (acts s node.0 calls.Leave run) names (d-acts ds s of node.0 calls.Leave run q)
+      by false = d-idle ds s of run q
+
   -- whatever happens
   r-happens : (run : Run) (event : Event) → Names ds event → Q run → Q (happens s run event)
   r-happens run (Wait ms) names q = r-waited run ms q
-  r-happens run (Move node link) names q = note-it (entries.Moved node link) (acts s node.0 calls.Leave run) names (d-acts ds s of node.0 calls.Leave run q)
+  r-happens run (Move node link) names q = r-moves node link run names q
   r-happens run (Advertise link) names q =
       r-mobiles link.0 (length s.hosts) (agents_hear s link.0 (length s.hosts) run) names (r-agents link.0 (length s.hosts) run names q)
   r-happens run (Payload node to proto payload) names q = d-acts ds s of node.0 (calls.Send to proto payload) run q
@@ -303,7 +313,7 @@ module _ (ds : List Declaration) (s : Setup) (of : IsOf ds s) where
   r-happens run (Plan node valid preferred) names q = d-acts ds s of node.0 (calls.Plan valid preferred) run q
   r-happens run (Ask node) names q = d-acts ds s of node.0 calls.Ask run q
   r-happens run (Show node) names q = r-shown node.0 run q
-  r-happens run (Settle a b) names q = d-idle ds s of run q
+  r-happens run (Settle a b) names q = note-it (entries.Settled a b (is_settled s.start run.past a.0 b.0)) run names q
 
   r-all : (run : Run) (events : List Event) → AllByRecursion (Names ds) events → Q run → Q (fold (λ run event. happens s run event) run events)
   r-all run [] names q = q

@@ -15,7 +15,7 @@ use Rattle.mip_schedule.specs.declared.event.Event.TheVariants.{Wait, Move, Adve
 use Rattle.mip_rules_agent.specs.declared.home_row.HomeRow.{HomeRow}
 use Rattle.mip_rules_agent.specs.Questions.{rows_at}
 use Rattle.mip_links.specs.Table.{holder_outside}
-use Rattle.mip_history.specs.Setup.{Setup, Host, Kind}
+use Rattle.mip_history.specs.Setup.{Setup, Host, Kind, is_mobile_at}
 use Rattle.mip_history.specs.Setup.Kind.{Correspondent, Agent, Mobile}
 use Rattle.mip_history.specs.Runs.{Run, note, without}
 use Rattle.mip_history.specs.Questions.{hears_in}
@@ -26,7 +26,8 @@ use Rattle.mip_history.specs.Knowing.{now_in, known_in, agent_known_in, mobile_k
 use Rattle.mip_history.specs.Nodes.{acts, row_entry, home_entry, rows_shown, rows_by_kind, shown}
 use Rattle.mip_history.specs.Outsiders.{injected, injected_if, probe_packet, update_packet, test_packet}
 use Rattle.mip_history.specs.Waiting.{waited}
-use Rattle.mip_history.specs.Permitted.{opened, lost, moves, happens, run_of}
+use Rattle.mip_history.specs.Settled.{is_settled}
+use Rattle.mip_history.specs.Permitted.{opened, lost, moves, moves_if, happens, run_of}
 use Rattle.mip_history.specs.Passing.{waited_by, restarted_by}
 use Rattle.mip_history.proofs.Runs.{IsRun, quiet_same, quiet_notes, is_met, goes_then}
 use Rattle.mip_history.proofs.Posts.{quiet_injected}
@@ -53,6 +54,13 @@ moves_goes : (s : Setup) (run : Run) (n : ℕ) (link : Option LinkId) → IsRun 
 moves_goes s run n link is =
     let left = acts_calmly s n calls.Leave run is refl in
     still s run _ (goes_then s run (acts s n calls.Leave run) _ left (noted_goes s (acts s n calls.Leave run) (entries.Moved (node_id n) link) left.run refl))
+
+moves_if_goes : (s : Setup) (run : Run) (n : ℕ) (link : Option LinkId) → IsRun s run → Passes s run (moves_if s run n link) 0 (λ n. 0)
+moves_if_goes s run n link is = by (is_mobile_at s n)
+  where
+    by : (b : Bool) → Passes s run (if b then moves s run n link else note entries.Idle run) 0 (λ n. 0)
+    by true = moves_goes s run n link is
+    by false = noted_one s run entries.Idle is refl
 
 -- what outsiders do
 injected_goes : (s : Setup) (run : Run) (o link : ℕ) (packet : List ℕ) → IsRun s run → Passes s run (injected s run o link packet) 0 (λ n. 0)
@@ -106,7 +114,7 @@ waited_goes s run ms is =
 -- whatever happens
 pub happened : (s : Setup) (run : Run) (event : Event) → IsRun s run → Happens s run event (happens s run event)
 happened s run (Wait ms) is = waited_goes s run ms is
-happened s run (Move node link) is = moves_goes s run node.0 link is
+happened s run (Move node link) is = moves_if_goes s run node.0 link is
 happened s run (Advertise link) is = still s run _ (advertised_goes s run link.0 is)
 happened s run (Payload node to proto payload) is = acted s node.0 (calls.Send to proto payload) run is refl
 happened s run (Inject o link packet) is = injected_goes s run o link.0 packet is
@@ -127,7 +135,7 @@ happened s run (Refresh node home) is = acted s node.0 (calls.Refresh home) run 
 happened s run (Plan node valid preferred) is = acted s node.0 (calls.Plan valid preferred) run is refl
 happened s run (Ask node) is = acted s node.0 calls.Ask run is refl
 happened s run (Show node) is = shown_goes s node.0 run is
-happened s run (Settle a b) is = noted_one s run entries.Idle is refl
+happened s run (Settle a b) is = noted_one s run (entries.Settled a b (is_settled s.start run.past a.0 b.0)) is refl
 
 -- a whole schedule
 happened_all : (s : Setup) (run : Run) (events : List Event) → IsRun s run

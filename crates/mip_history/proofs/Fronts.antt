@@ -1,5 +1,5 @@
 -- A history only grows: what was left stays in front of what is left later.
-use Rattle.std.proofs.Common.{◌≡◌, ℕ, false, List, [], ◌∷◌, ◌++◌, take, drop, refl, sym, ap, ◌∙◌, subst}
+use Rattle.std.proofs.Common.{◌≡◌, ℕ, false, List, [], ◌∷◌, ◌++◌, take, drop, sym, ap, ◌∙◌, subst}
 use Rattle.std.specs.Prelude.{fold, slice_get, Option, Some, None}
 use Rattle.std.proofs.lemmas.List.{append_assoc, append-nil, take-append-drop}
 use Rattle.std.proofs.lemmas.List.Sums.{fold-append}
@@ -8,15 +8,14 @@ use Rattle.mip_entries.specs.declared.answer.Answer.{Answer}
 use Rattle.mip_entries.specs.declared.answer.Answer.TheVariants.{Send, Note}
 use Rattle.mip_entries.specs.declared.entry.Entry.{Entry}
 use Rattle.mip_entries.specs.declared.entry.Entry.TheVariants.{Claimed, Taken, Released, Restarted, Idle}
-use Rattle.mip_marks.specs.Entries.{update_accepted}
-use Rattle.mip_outside.specs.Places.{Around}
+use Rattle.mip_entries.specs.Completed.{node_id}
 use Rattle.mip_schedule.specs.declared.event.Event.{Event}
 use Rattle.mip_history.specs.Setup.{Setup, Host, Kind}
 use Rattle.mip_history.specs.Setup.Kind.{Correspondent, Agent, Mobile}
 use Rattle.mip_history.specs.Runs.{Run, note, notes}
-use Rattle.mip_history.specs.Calls.{Call, for_correspondent, for_agent, for_mobile}
+use Rattle.mip_history.specs.Calls.{Call, Leave, Restart, for_correspondent, for_agent, for_mobile}
 use Rattle.mip_history.specs.Knowing.{around_in}
-use Rattle.mip_history.specs.Nodes.{marks_of, left_by, answered_one, answered, asks, by_kind, by_host, acts}
+use Rattle.mip_history.specs.Nodes.{left_by, answered_one, answered, asks, by_kind, by_host, acts}
 use Rattle.mip_history.specs.Permitted.{happens, run_of}
 use Rattle.mip_history.proofs.Keeping.{Keeps, is_busy, emptied_by_kind, emptied_by_host, emptied, keeps_overheard, keeps_claims, keeps_gives_up}
 use Rattle.mip_history.proofs.Walking.{walk_all}
@@ -37,8 +36,8 @@ module _ (s : Setup) (front : List Entry) where
   one run e idle b = on_note run e b
 
   on_left : (n : ℕ) (run : Run) (e : Entry) → Begins front run → Begins front (left_by s n run e)
-  on_left n run (Claimed who link address) b = keeps_claims s (Begins front) one n address run b
-  on_left n run (Taken who link address holder) b = keeps_claims s (Begins front) one n address run b
+  on_left n run (Claimed who link address) b = keeps_claims s (Begins front) one n address run (λ on other. on_note run _ b) b
+  on_left n run (Taken who link address holder) b = keeps_claims s (Begins front) one n address run (λ on other. on_note run _ b) b
   on_left n run (Released who link address) b = keeps_gives_up s (Begins front) one n address run b
   on_left n run (Restarted node) b = b
   on_left n run _ b = on_notes _ run b
@@ -88,8 +87,11 @@ module _ (s : Setup) (front : List Entry) where
     timed = λ run m b. on_note run _ b;
     injects = λ run o link packet b. let here = on_note run _ b in record { rest = here.rest; whole = here.whole };
     leaves = λ run k b. record { rest = b.rest; whole = b.whole };
-    acted = λ run n call is b. on_acts run n call b;
-    reborn = λ run n b. on_note (emptied s n run) _ (on_emptied run n b);
+    taken = λ run o link address holder b. on_note run _ b;
+    acted = λ run n call is stays lives b. on_acts run n call b;
+    moved = λ run n link is b. on_note (acts s n Leave run) _ (on_acts run n Leave b);
+    reborn = λ run n other b. on_note (emptied s n run) _ (on_emptied run n b);
+    renewed = λ run n secrets is b. on_acts (note (Restarted (node_id n)) run) n (Restart secrets) (on_note run _ b);
   }
 
   begins_all : (run : Run) (events : List Event) → Begins front run → Begins front (fold (λ run event. happens s run event) run events)

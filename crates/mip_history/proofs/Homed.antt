@@ -169,8 +169,8 @@ module _ (s : Setup) where
   clash e = absurd cc
 
   homed_left : (n : ℕ) (e : Entry) (run : Run) → (is_home e && is_agent_at s n) ≡ false → IsHomed s run → IsHomed s (left_by s n run e)
-  homed_left n (entries.Claimed who link address) run fine h = keeps_claims s (IsHomed s) homed_idle n address run h
-  homed_left n (entries.Taken who link address holder) run fine h = keeps_claims s (IsHomed s) homed_idle n address run h
+  homed_left n (entries.Claimed who link address) run fine h = keeps_claims s (IsHomed s) homed_idle n address run (λ on other. homed_other (entries.Taken n on address other) run refl h) h
+  homed_left n (entries.Taken who link address holder) run fine h = keeps_claims s (IsHomed s) homed_idle n address run (λ on other. homed_other (entries.Taken n on address other) run refl h) h
   homed_left n (entries.Released who link address) run fine h = keeps_gives_up s (IsHomed s) homed_idle n address run h
   homed_left n (entries.Restarted node) run fine h = h
   homed_left n (entries.Home node home careof sequence end) run fine h =

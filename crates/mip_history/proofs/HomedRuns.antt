@@ -27,15 +27,16 @@ use Rattle.mip_rules_mobile.specs.Calls as mobile_calls
 use Rattle.mip_rules_mobile.specs.Doing as mobile_doing
 use Rattle.mip_rules_mobile.specs.Shielding.{AreShieldedFrom}
 use Rattle.mip_rules_mobile.proofs.Shielding.{past-home, call-shielded}
+use Rattle.mip_links.specs.Table.{holder_outside}
 use Rattle.mip_schedule.specs.declared.event.Event.{Event}
-use Rattle.mip_history.specs.Setup.{Setup, Host, Kind}
+use Rattle.mip_history.specs.Setup.{Setup, Host, Kind, is_mobile_kind, is_mobile_host}
 use Rattle.mip_history.specs.Setup.Kind.{Correspondent, Agent, Mobile}
 use Rattle.mip_history.specs.Runs.{Run, note, past_at, mobile_past_at, with_past, with_agent_past, with_mobile_past}
-use Rattle.mip_history.specs.Calls.{Call, Take, Tick, Plan, Hear, for_correspondent, for_mobile}
+use Rattle.mip_history.specs.Calls.{Call, Take, Tick, Plan, Hear, Leave, Restart, for_correspondent, for_mobile}
 use Rattle.mip_history.specs.Knowing.{link_or_first, now_in, secrets_in, identity_in, known_in, agent_of, agent_known_in, mobile_known_in, around_in}
 use Rattle.mip_history.specs.Nodes.{turned, agent_turned, mobile_turned, asks, by_kind, by_host, acts}
 use Rattle.mip_history.specs.Permitted.{run_of}
-use Rattle.mip_history.specs.Registered.{is_agent_host, is_agent_at, registration_says, last_registration}
+use Rattle.mip_history.specs.Registered.{is_agent_kind, is_agent_host, is_agent_at, registration_says, last_registration}
 use Rattle.mip_history.proofs.Opening.{nothing}
 use Rattle.mip_history.proofs.Keeping.{IsCall, emptied_by_host, emptied, Keeps}
 use Rattle.mip_history.proofs.Walking.{walk_run}
@@ -68,7 +69,7 @@ module _ (s : Setup) (n : ℕ) (run : Run) (h : IsHomed s run) where
     abbrev turn : agent_calls.Call → Run
     turn c = agent_turned s n own (agent_doing.turn_of (agent_of own preference life room) (agent_known_in run n serves) (now_in s run) c) run
 
-    homed_agent : (call : Call) → IsCall run n call → IsHomed s (by_kind s n own call run (Agent preference life room serves))
+    homed_agent : (call : Call) → IsCall s run n call → IsHomed s (by_kind s n own call run (Agent preference life room serves))
     homed_agent (Take number shield packet) handed =
         let c = agent_calls.Take number shield packet (claim_for (around_in run n None) packet) in
         elim (taken_is (agent_of own preference life room) (agent_known_in run n serves) (now_in s run) number shield packet (claim_for (around_in run n None) packet)) as (λ _. IsHomed s (turn c)) [
@@ -85,7 +86,7 @@ module _ (s : Setup) (n : ℕ) (run : Run) (h : IsHomed s run) where
         (hear-quiet (agent_of own preference life room) (agent_known_in run n serves) (now_in s run) agent preference' life')
     homed_agent _ handed = homed_other s entries.Idle run refl h
 
-  homed_by_kind : (own : Address) (call : Call) → IsCall run n call → (kind : Kind) → slice_get s.hosts n ≡ Some (record { address = own; kind = kind }) → IsHomed s (by_kind s n own call run kind)
+  homed_by_kind : (own : Address) (call : Call) → IsCall s run n call → (kind : Kind) → slice_get s.hosts n ≡ Some (record { address = own; kind = kind }) → IsHomed s (by_kind s n own call run kind)
   homed_by_kind own call handed (Correspondent room) host =
       homed_asks s _ (for_correspondent call) run h
       (λ (c : correspondent_calls.Call). homed_correspondent own (correspondent_doing.turn_of (identity_in s run n own room) (known_in run n room) (now_in s run) c))
@@ -93,7 +94,7 @@ module _ (s : Setup) (n : ℕ) (run : Run) (h : IsHomed s run) where
   homed_by_kind own call handed (Mobile agent) host =
       homed_asks s _ (for_mobile (around_in run n (Some own.0)) own call) run h (λ (c : mobile_calls.Call). homed_mobile own agent host c)
 
-  homed_acts : (call : Call) → IsCall run n call → IsHomed s (acts s n call run)
+  homed_acts : (call : Call) → IsCall s run n call → IsHomed s (acts s n call run)
   homed_acts call handed = by (slice_get s.hosts n) refl
     where
       by : (o : Option Host) → slice_get s.hosts n ≡ o → IsHomed s (by_host s n call run o)
@@ -145,6 +146,19 @@ module _ (s : Setup) (n : ℕ) where
       by None is = homed_restart run (ap is_agent_host is) h
       by (Some host) is = of_kind host.address host.kind is
 
+-- a mobile is no agent
+no_agent_there : (s : Setup) (n : ℕ) → is_mobile_host (slice_get s.hosts n) ≡ true → is_agent_at s n ≡ false
+no_agent_there s n = by (slice_get s.hosts n)
+  where
+    of_kind : (kind : Kind) → is_mobile_kind kind ≡ true → is_agent_kind kind ≡ false
+    of_kind (Correspondent room) is = refl
+    of_kind (Agent preference life room serves) is = absurd cc
+    of_kind (Mobile agent) is = refl
+
+    by : (o : Option Host) → is_mobile_host o ≡ true → is_agent_host o ≡ false
+    by None is = refl
+    by (Some host) is = of_kind host.kind is
+
 -- all that can happen
 homed_keeps : (s : Setup) → Keeps s (IsHomed s)
 homed_keeps s = record {
@@ -152,8 +166,11 @@ homed_keeps s = record {
   timed = λ run m h. homed_other s (entries.At (record { 0 = m })) run refl h;
   injects = λ run o link packet h. homed_injected s run o link packet h;
   leaves = λ run k h. record { agents = h.agents; each = h.each; under = h.under; homes = h.homes };
-  acted = λ run n call handed h. homed_acts s n run h call handed;
-  reborn = λ run n h. homed_reborn s n run h;
+  taken = λ run o link address holder h. homed_other s (entries.Taken (holder_outside o) link address holder) run refl h;
+  acted = λ run n call handed stays lives h. homed_acts s n run h call handed;
+  moved = λ run n link is h. homed_other s (entries.Moved (node_id n) link) (acts s n Leave run) refl (homed_acts s n run h Leave tt);
+  reborn = λ run n other h. homed_reborn s n run h;
+  renewed = λ run n secrets is h. homed_acts s n (note (entries.Restarted (node_id n)) run) (homed_restart s n run (no_agent_there s n is) h) (Restart secrets) tt;
 }
 
 -- before the opening claims nothing is registered

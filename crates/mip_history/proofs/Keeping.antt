@@ -1,29 +1,34 @@
 -- A fact of a run that is kept by each thing which can happen in one, and what claims and packets leave of it.
 use Rattle.std.proofs.Common.{◌≡◌, ℕ, zero, suc, List, [], ◌∷◌, ◌++◌, Bool, true, false, length, refl, sym, ap, ◌∙◌, subst}
-use Rattle.std.specs.Prelude.{Option, Some, None, is_some, ◌==◌, ◌&&◌, ◌||◌, if◌then◌else◌, slice_get}
+use Rattle.std.specs.Prelude.{Option, Some, None, is_some, ◌==◌, ◌&&◌, ◌||◌, if◌then◌else◌, slice_get, slice_index_or}
 use Rattle.std.specs.List.{list_any}
 use Rattle.std.proofs.lemmas.List.{append_assoc, append-nil}
 use Rattle.std.proofs.lemmas.List.Folds.{list_any-append}
 use Rattle.std.proofs.lemmas.Bool.{or_parts}
 use Rattle.mip_words.specs.declared.address.Address.{Address}
+use Rattle.mip_words.specs.declared.ids.LinkId.{LinkId}
 use Rattle.mip_words.specs.declared.shield.Shield.{Shield}
+use Rattle.mip_nonce.specs.Secrets.{Life}
 use Rattle.mip_entries.specs.declared.entry.Entry.{Entry}
 use Rattle.mip_entries.specs.declared.entry.Entry.TheVariants as entries
 use Rattle.mip_entries.specs.Completed.{node_id}
-use Rattle.mip_links.specs.Table.{Post, link_of}
+use Rattle.mip_links.specs.Table.{Post, link_of, holder_outside}
 use Rattle.mip_links.specs.Nets.{is_held_by}
-use Rattle.mip_history.specs.Setup.{Setup, Host, Kind}
+use Rattle.mip_history.specs.Setup.{Setup, Host, Kind, is_mobile_host}
 use Rattle.mip_history.specs.Setup.Kind.{Correspondent, Agent, Mobile}
 use Rattle.mip_history.specs.Runs.{Run, note, notes, entered, without, with_past, with_agent_past}
 use Rattle.mip_history.specs.Questions.{holder_in, hears_in}
-use Rattle.mip_history.specs.Calls.{Call, Take}
+use Rattle.mip_history.specs.Calls.{Call, Take, Attach, Leave, Restart}
 use Rattle.mip_history.specs.Claims.{link_id, claim_entry, claimed_on, claims}
 use Rattle.mip_history.specs.Homes.{resident, passes_to, left_on, given_up_on, gives_up}
 use Rattle.mip_history.specs.Nodes.{acts}
 use Rattle.mip_history.specs.Posting.{heards, is_other, overheard}
 use Rattle.mip_history.specs.Delivery.{handed_over, overheard_at}
+use Rattle.mip_history.specs.Advertising.{roams_on}
+use Rattle.mip_history.specs.Permitted.{moves}
 
--- an entry that tells of time or of lives, of a packet that is posted, or of what a node accepts
+-- an entry that tells of time or of lives, of a packet that is posted, of what a node accepts, or of where a mobile stands
+-- and what it is acknowledged
 abbrev pub is_busy : Entry → Bool
 is_busy (entries.At moment) = true
 is_busy (entries.Sent number node shielded packet) = true
@@ -31,6 +36,13 @@ is_busy (entries.Injected number outsider link packet) = true
 is_busy (entries.Home node home careof sequence end) = true
 is_busy (entries.Accepted node number home binding careof sequence end i j) = true
 is_busy (entries.Restarted node) = true
+is_busy (entries.Taken who link address holder) = true
+is_busy (entries.Moved node link) = true
+is_busy (entries.Careof node address) = true
+is_busy (entries.Registered node agent end) = true
+is_busy (entries.Unregistered node agent) = true
+is_busy (entries.Bound node peer end) = true
+is_busy (entries.Unbound node peer) = true
 is_busy _ = false
 
 -- a packet that a node is handed was posted, and is as it was posted but for its hop limit
@@ -43,9 +55,25 @@ pub record IsHanded (run : Run) (n k : ℕ) (shield : Option Shield) (packet : L
   pub under : shield ≡ post.shield
   pub as_posted : packet ≡ handed_over post.packet link
 
-abbrev pub IsCall : Run → ℕ → Call → Type 0
-IsCall run n (Take k shield packet) = IsHanded run n k shield packet
-IsCall run n _ = Unit {0}
+-- a prefix of which a mobile is told is that of the link on which it stands
+pub record IsThere (s : Setup) (run : Run) (n prefix : ℕ) : Type 0 where
+  pub link : ℕ
+  pub stands : roams_on s run link n ≡ true
+  pub of_link : prefix ≡ slice_index_or s.links link 0
+
+abbrev pub IsCall : Setup → Run → ℕ → Call → Type 0
+IsCall s run n (Take k shield packet) = IsHanded run n k shield packet
+IsCall s run n (Attach prefix) = IsThere s run n prefix
+IsCall s run n _ = Unit {0}
+
+-- a mobile leaves its link, and a node begins its next life
+abbrev pub is_leave : Call → Bool
+is_leave Leave = true
+is_leave _ = false
+
+abbrev pub is_rebirth : Call → Bool
+is_rebirth (Restart secrets) = true
+is_rebirth _ = false
 
 -- a node loses its past of this life; that of a mobile goes on
 abbrev pub emptied_by_kind : ℕ → Run → Kind → Run
@@ -69,9 +97,14 @@ pub record Keeps (s : Setup) (P : Run → Type 0) : Type 0 where
   pub injects : (run : Run) (o link : ℕ) (packet : List ℕ) → P run
       → P (entered (record { from = link; shield = None; packet = packet }) (note (entries.Injected (length run.posts) o (link_id link) packet) run))
   pub leaves : (run : Run) (k : ℕ) → P run → P (without k run)
-  -- a node is called, and one begins its next life
-  pub acted : (run : Run) (n : ℕ) (call : Call) → IsCall run n call → P run → P (acts s n call run)
-  pub reborn : (run : Run) (n : ℕ) → P run → P (note (entries.Restarted (node_id n)) (emptied s n run))
+  -- an outsider finds an address taken
+  pub taken : (run : Run) (o : ℕ) (link : LinkId) (address : Address) (holder : ℕ) → P run → P (note (entries.Taken (holder_outside o) link address holder) run)
+  -- a node is called, and a mobile moves
+  pub acted : (run : Run) (n : ℕ) (call : Call) → IsCall s run n call → is_leave call ≡ false → is_rebirth call ≡ false → P run → P (acts s n call run)
+  pub moved : (run : Run) (n : ℕ) (link : Option LinkId) → is_mobile_host (slice_get s.hosts n) ≡ true → P run → P (moves s run n link)
+  -- a node begins its next life; a mobile stays where it stands
+  pub reborn : (run : Run) (n : ℕ) → is_mobile_host (slice_get s.hosts n) ≡ false → P run → P (note (entries.Restarted (node_id n)) (emptied s n run))
+  pub renewed : (run : Run) (n : ℕ) (secrets : Life) → is_mobile_host (slice_get s.hosts n) ≡ true → P run → P (acts s n (Restart secrets) (note (entries.Restarted (node_id n)) run))
 
 -- what outsiders hear
 heards_idle : (hears : ℕ → Bool) (k o : ℕ) → list_any is_busy (heards hears k o) ≡ false
@@ -121,12 +154,16 @@ module _ (s : Setup) (P : Run → Type 0) (idle : (run : Run) (e : Entry) → is
       at true = p
       at false = keeps_notes (heards hears k s.outsiders) run (heards_idle hears k s.outsiders) p
 
-  pub keeps_claims : (who : ℕ) (address : Address) (run : Run) → P run → P (claims s who address run)
-  keeps_claims who address run p = by (link_of s.links address.0)
+  pub keeps_claims : (who : ℕ) (address : Address) (run : Run) → ((link : LinkId) (holder : ℕ) → P (note (entries.Taken who link address holder) run)) → P run → P (claims s who address run)
+  keeps_claims who address run taken p = by (link_of s.links address.0)
     where
+      of_other : (link other : ℕ) (mine : Bool) → P (note (if mine then entries.Claimed who (link_id link) address else entries.Taken who (link_id link) address other) run)
+      of_other link other true = idle run (entries.Claimed who (link_id link) address) refl p
+      of_other link other false = taken (link_id link) other
+
       claim : (link : ℕ) (holder : Option ℕ) → P (note (claim_entry who address link holder) run)
       claim link None = idle run (entries.Claimed who (link_id link) address) refl p
-      claim link (Some other) = keeps_either (other == who) (entries.Claimed who (link_id link) address) (entries.Taken who (link_id link) address other) run refl refl p
+      claim link (Some other) = of_other link other (other == who)
 
       by : (link : Option ℕ) → P (claimed_on who address run link)
       by None = idle run entries.Idle refl p

@@ -15,8 +15,8 @@ mod Advertising
 mod Waiting
 mod Passes
 mod Restarting
-mod Opening
-mod Events
+pub mod Opening
+pub mod Events
 mod Places
 mod LastOnes
 pub mod Bindings
@@ -26,12 +26,12 @@ pub mod Moments
 mod Kept
 mod SameUpdates
 mod Repeats
-mod Keeping
-mod Walking
+pub mod Keeping
+pub mod Walking
 mod Homed
 mod Homing
 mod HomedRuns
-mod Registrations
+pub mod Registrations
 pub mod Reasons
 pub mod Declaring
 pub mod DeclaringRuns

@@ -26,7 +26,7 @@ use Rattle.mip_rules_mobile.specs.Part.{PartLife, part_of, part_goes_on, new_par
 use Rattle.mip_rules_mobile.proofs.Calls.{call-now}
 use Rattle.mip_rules_mobile.proofs.PartLives.{part_is}
 use Rattle.mip_rules_mobile.proofs.PartTurns.{call-part}
-use Rattle.mip_history.specs.Setup.{Setup, Host, Kind, is_correspondent_host, is_correspondent_at}
+use Rattle.mip_history.specs.Setup.{Setup, Host, Kind, is_correspondent_host, is_correspondent_at, is_mobile_host}
 use Rattle.mip_history.specs.Setup.Kind.{Mobile}
 use Rattle.mip_history.specs.Runs.{Run, mobile_past_at, with_mobile_past}
 use Rattle.mip_history.specs.Questions.{moment_in, life_in}
@@ -36,14 +36,6 @@ use Rattle.mip_history.specs.Bound.{accepted_by, accepted_entry, IsAccepted}
 use Rattle.mip_history.proofs.Runs.{IsKept, IsPast, IsPart, past_stays, part_stays, IsRun, IsQuiet, Goes, goes_quietly, goes_then, quiet_then}
 use Rattle.mip_history.proofs.Answering.{clash, differs, quiet_answers, mobile_silence}
 use Rattle.mip_history.proofs.Turns.{quiet_past, accepting_past, accepted_moment, accepted_lives, accepted_kept, accepted_other, at_past, marked_with, quiet_mark}
-
-abbrev pub is_mobile_kind : Kind → Bool
-is_mobile_kind (Mobile agent) = true
-is_mobile_kind _ = false
-
-abbrev pub is_mobile_host : Option Host → Bool
-is_mobile_host None = false
-is_mobile_host (Some host) = is_mobile_kind host.kind
 
 -- a mobile is another node than one that is none
 pub mobile_apart : (s : Setup) (n : ℕ) → is_mobile_host (slice_get s.hosts n) ≡ false → (m : ℕ) (home : Address) (agent : Option Address)

@@ -25,7 +25,7 @@ use Rattle.mip_rules_mobile.specs.Doing.{turn_of}
 use Rattle.mip_rules_mobile.specs.Part.{PartLife, part_life, IsPartReborn}
 use Rattle.mip_rules_mobile.proofs.Calls.{call-now}
 use Rattle.mip_rules_mobile.proofs.PartTurns.{restart-part}
-use Rattle.mip_history.specs.Setup.{Setup, Host, Kind, is_correspondent_host, is_correspondent_at}
+use Rattle.mip_history.specs.Setup.{Setup, Host, Kind, is_correspondent_host, is_correspondent_at, is_mobile_host}
 use Rattle.mip_history.specs.Setup.Kind.{Correspondent, Agent, Mobile}
 use Rattle.mip_history.specs.Runs.{Run, note, past_at, mobile_past_at, with_past, with_agent_past, with_mobile_past}
 use Rattle.mip_history.specs.Questions.{moment_says, moment_in, restarts, life_in}
@@ -38,7 +38,7 @@ use Rattle.mip_history.specs.Bound.{Lived, lived, accepted_by, packet_posted, pa
 use Rattle.mip_history.proofs.Runs.{Meets, IsKept, IsPast, IsPart, past_stays, part_stays, IsRun, IsQuiet, quiet_same, quiet_then, quiet_run, goes_quietly}
 use Rattle.mip_history.proofs.Claiming.{quiet_gives_up}
 use Rattle.mip_history.proofs.Answering.{differs}
-use Rattle.mip_history.proofs.PartTurns.{is_mobile_host, mobile_apart, part_goes, mobile_done, reborn_life, quiet_reborn}
+use Rattle.mip_history.proofs.PartTurns.{mobile_apart, part_goes, mobile_done, reborn_life, quiet_reborn}
 use Rattle.mip_history.proofs.Acting.{quiet_agent_past}
 use Rattle.mip_history.proofs.Passes.{Passes, passes_behind, passes_before}
 

@@ -1,10 +1,12 @@
 -- What is kept by each thing that can happen is kept by every event, and by a whole schedule.
-use Rattle.std.proofs.Common.{◌≡◌, ℕ, zero, suc, ◌+◌, List, [], ◌∷◌, ◌++◌, Bool, true, false, length, max, refl, ap, ◌∙◌}
-use Rattle.std.specs.Prelude.{fold, map, Option, Some, None, ◌==◌, ◌&&◌, ◌||◌, nat_lt, if◌then◌else◌, slice_get, slice_index_or}
+use Rattle.std.proofs.Common.{◌≡◌, ℕ, zero, suc, ◌+◌, List, [], ◌∷◌, ◌++◌, Bool, true, false, length, max, refl, ap, ◌∙◌, subst}
+use Rattle.std.specs.Prelude.{fold, map, Option, Some, None, unwrap_or, ◌==◌, ◌&&◌, ◌||◌, nat_lt, if◌then◌else◌, slice_get, slice_index_or}
 use Rattle.std.specs.List.{list_any}
 use Rattle.std.proofs.lemmas.List.Folds.{list_any-append}
+use Rattle.std.proofs.lemmas.List.Sums.{fold-append}
 use Rattle.mip_words.specs.declared.address.Address.{Address}
 use Rattle.mip_words.specs.declared.ids.LinkId.{LinkId}
+use Rattle.mip_words.specs.declared.ids.NodeId.{NodeId}
 use Rattle.mip_bcache.specs.declared.row.Row.{Row}
 use Rattle.mip_bcache.specs.Seen.{kept_at}
 use Rattle.mip_entries.specs.declared.entry.Entry.{Entry}
@@ -14,14 +16,14 @@ use Rattle.mip_rules_agent.specs.declared.home_row.HomeRow.{HomeRow}
 use Rattle.mip_rules_agent.specs.Questions.{rows_at}
 use Rattle.mip_schedule.specs.declared.event.Event.{Event}
 use Rattle.mip_schedule.specs.declared.event.Event.TheVariants.{Wait, Move, Advertise, Payload, Inject, Probe, Bind, Tell, Listen, Deaf, Squat, Yield, Deliver, Repeat, Lose, Carry, Restart, Refresh, Plan, Ask, Show, Settle}
-use Rattle.mip_links.specs.Table.{Post, delivery, in_pool, outsider_of, holder_outside}
+use Rattle.mip_links.specs.Table.{Post, link_of, delivery, in_pool, outsider_of, holder_outside}
 use Rattle.mip_links.specs.Nets.{lowest_of}
 use Rattle.mip_links.specs.declared.delivery.Delivery.{Delivery}
 use Rattle.mip_links.specs.declared.delivery.Delivery.TheVariants.{Idle, Gone, Outsider, Node}
-use Rattle.mip_history.specs.Setup.{Setup, Host, Kind}
+use Rattle.mip_history.specs.Setup.{Setup, Host, Kind, is_mobile_host}
 use Rattle.mip_history.specs.Setup.Kind.{Correspondent, Agent, Mobile}
 use Rattle.mip_history.specs.Runs.{Run, note, without}
-use Rattle.mip_history.specs.Questions.{hears_in, life_in, asked_in}
+use Rattle.mip_history.specs.Questions.{hears_in, life_in, moved_says, asked_in}
 use Rattle.mip_history.specs.Calls as calls
 use Rattle.mip_history.specs.Calls.{Take}
 use Rattle.mip_history.specs.Claims.{link_id}
@@ -32,11 +34,12 @@ use Rattle.mip_history.specs.Posting.{posted}
 use Rattle.mip_history.specs.Delivery.{handed_over, overheard_at, hears_there, handed, is_no_holder, became, arrival_link, arrived, delivered, carried_one, carried}
 use Rattle.mip_history.specs.Outsiders.{injected, injected_if, probe_packet, update_packet, test_packet}
 use Rattle.mip_history.specs.Waiting.{Waiting, due_of, earliest, comes_to, is_due, ticks_one, ticked, works, works_on, works_until, waited}
-use Rattle.mip_history.specs.Advertising.{Router, router_at, hears_of_router, hears_of_node, hears_of_first, hears_of_all, agents_hear, roams_on, mobile_told, mobiles_told}
+use Rattle.mip_history.specs.Advertising.{Router, router_at, hears_of_router, hears_of_node, hears_of_first, hears_of_all, agents_hear, is_link, roams_by_kind, roams_by_host, roams_on, mobile_told, mobiles_told}
 use Rattle.mip_history.specs.Restarting.{homes_left, reborn_by_kind, reborn_by_host, restarted}
-use Rattle.mip_history.specs.Permitted.{is_first_agent, anycast_at, claimed_entry, claims_of, claims_from, opening_claims, opened, lost, moves, happens, run_of}
+use Rattle.mip_history.specs.Settled.{is_settled}
+use Rattle.mip_history.specs.Permitted.{is_first_agent, anycast_at, claimed_entry, claims_of, claims_from, opening_claims, opened, lost, moves, moves_if, happens, run_of}
 use Rattle.mip_history.proofs.Opening.{nothing}
-use Rattle.mip_history.proofs.Keeping.{is_busy, emptied_by_kind, emptied_by_host, Keeps, posts_overheard_at, keeps_notes, keeps_either, keeps_overheard, keeps_claims, keeps_gives_up}
+use Rattle.mip_history.proofs.Keeping.{is_busy, emptied_by_host, Keeps, posts_overheard_at, keeps_notes, keeps_either, keeps_overheard, keeps_claims, keeps_gives_up}
 
 -- opening claims
 host_idle : (links : List ℕ) (before : List Host) (host : Host) → list_any is_busy (claims_of links before host) ≡ false
@@ -71,6 +74,21 @@ pool_posted : (flies : Bool) (posts : List Post) (k : ℕ) (post : Post) → (if
 pool_posted true posts k post e = e
 pool_posted false posts k post e = absurd cc
 
+-- an advertisement moves nobody
+roams_told : (s : Setup) (run : Run) (link n : ℕ) (node : NodeId) (on : LinkId) (router : Option Address) → roams_on s (note (entries.Advertised node on router) run) link n ≡ roams_on s run link n
+roams_told s run link n node on router = by (slice_get s.hosts n)
+  where
+    by : (o : Option Host) → roams_by_host s (note (entries.Advertised node on router) run) link n o ≡ roams_by_host s run link n o
+    by None = refl
+    by (Some host) = of_kind host.address host.kind
+      where
+        of_kind : (own : Address) (kind : Kind) → roams_by_kind s (note (entries.Advertised node on router) run) link n own kind ≡ roams_by_kind s run link n own kind
+        of_kind own (Correspondent room) = refl
+        of_kind own (Agent preference life room serves) = refl
+        of_kind own (Mobile agent) =
+            ap (λ (o : Option ℕ). is_link o link)
+            (fold-append (λ (o : Option ℕ) (e : Entry). unwrap_or (moved_says n e) o) (link_of s.links own.0) run.past (entries.Advertised node on router ∷ []))
+
 -- over a whole schedule
 module _ (s : Setup) (P : Run → Type 0) (keeps : Keeps s P) where
   one : (run : Run) (e : Entry) → is_busy e ≡ false → P run → P (note e run)
@@ -86,7 +104,7 @@ module _ (s : Setup) (P : Run → Type 0) (keeps : Keeps s P) where
   walk_handed k n post link run posted p =
       let next : Run = note (entries.Handed k (node_id n)) run in
       keeps.acted next n (Take k post.shield (handed_over post.packet link))
-      (record { earlier = run.past; told = refl; post = post; link = link; posted = posted; under = refl; as_posted = refl })
+      (record { earlier = run.past; told = refl; post = post; link = link; posted = posted; under = refl; as_posted = refl }) refl refl
       (one run (entries.Handed k (node_id n)) refl p)
 
   walk_became : (k : ℕ) (post : Post) (link : Option ℕ) (run : Run) → slice_get run.posts k ≡ Some post → (d : Delivery) → P run → P (became s k post link run d)
@@ -136,7 +154,7 @@ module _ (s : Setup) (P : Run → Type 0) (keeps : Keeps s P) where
   walk_ticks_one n run p = by (is_due (due_of s run n) (now_in s run))
     where
       by : (b : Bool) → P (if b then acts s n calls.Tick run else run)
-      by true = keeps.acted run n calls.Tick tt p
+      by true = keeps.acted run n calls.Tick tt refl refl p
       by false = p
 
   walk_ticked : (n : ℕ) (run : Run) → P run → P (ticked s n run)
@@ -172,7 +190,7 @@ module _ (s : Setup) (P : Run → Type 0) (keeps : Keeps s P) where
   walk_of_router : (link g : ℕ) (run : Run) (o : Option Router) → P run → P (hears_of_router s link g run o)
   walk_of_router link g run None p = p
   walk_of_router link g run (Some r) p =
-      keeps.acted (note (entries.Advertised (node_id g) (link_id link) (Some r.address)) run) g (calls.Hear r.address r.preference r.life) tt (one run _ refl p)
+      keeps.acted (note (entries.Advertised (node_id g) (link_id link) (Some r.address)) run) g (calls.Hear r.address r.preference r.life) tt refl refl (one run _ refl p)
 
   walk_of_node : (link g other : ℕ) (run : Run) → P run → P (hears_of_node s link g other run)
   walk_of_node link g other run p = by (other == g)
@@ -196,11 +214,14 @@ module _ (s : Setup) (P : Run → Type 0) (keeps : Keeps s P) where
   walk_agents link (suc n) run p = walk_of_all link n (agents_hear s link n run) (router_at s link n) (walk_agents link n run p)
 
   walk_mobile : (link n : ℕ) (run : Run) → P run → P (mobile_told s link n run)
-  walk_mobile link n run p = by (roams_on s run link n)
+  walk_mobile link n run p = by (roams_on s run link n) refl
     where
-      by : (b : Bool) → P (if b then acts s n (calls.Attach (slice_index_or s.links link 0)) (note (entries.Advertised (node_id n) (link_id link) None) run) else run)
-      by true = keeps.acted (note (entries.Advertised (node_id n) (link_id link) None) run) n (calls.Attach (slice_index_or s.links link 0)) tt (one run _ refl p)
-      by false = p
+      by : (b : Bool) → roams_on s run link n ≡ b
+          → P (if b then acts s n (calls.Attach (slice_index_or s.links link 0)) (note (entries.Advertised (node_id n) (link_id link) None) run) else run)
+      by true there =
+          keeps.acted (note (entries.Advertised (node_id n) (link_id link) None) run) n (calls.Attach (slice_index_or s.links link 0))
+          (record { link = link; stands = roams_told s run link n (node_id n) (link_id link) None ∙ there; of_link = refl }) refl refl (one run _ refl p)
+      by false there = p
 
   walk_mobiles : (link n : ℕ) (run : Run) → P run → P (mobiles_told s link n run)
   unfolding mobiles_told
@@ -215,18 +236,22 @@ module _ (s : Setup) (P : Run → Type 0) (keeps : Keeps s P) where
 
   walk_restarted : (run : Run) (n : ℕ) → P run → P (restarted s run n)
   unfolding restarted
-  walk_restarted run n p = by (slice_get s.hosts n) (keeps.reborn run n p)
+  walk_restarted run n p = by (slice_get s.hosts n) refl
     where
-      of_kind : (kind : Kind) → P (note (entries.Restarted (node_id n)) (emptied_by_kind n run kind)) → P (reborn_by_kind s n run kind)
-      of_kind (Correspondent room) q = q
-      of_kind (Agent preference life room serves) q = walk_homes n (rows_at (now_in s run) (agent_known_in run n serves).homes) _ q
-      of_kind (Mobile agent) q =
+      of_kind : (own : Address) (kind : Kind) → slice_get s.hosts n ≡ Some (record { address = own; kind = kind }) → P (reborn_by_kind s n run kind)
+      of_kind own (Correspondent room) is =
+          subst (λ (o : Option Host). P (note (entries.Restarted (node_id n)) (emptied_by_host n run o))) is (keeps.reborn run n (ap is_mobile_host is) p)
+      of_kind own (Agent preference life room serves) is =
+          walk_homes n (rows_at (now_in s run) (agent_known_in run n serves).homes) _
+          (subst (λ (o : Option Host). P (note (entries.Restarted (node_id n)) (emptied_by_host n run o))) is (keeps.reborn run n (ap is_mobile_host is) p))
+      of_kind own (Mobile agent) is =
           let next : Run = note (entries.Restarted (node_id n)) run in
-          keeps.acted next n (calls.Restart (secrets_in s n (life_in next.past n))) tt q
+          keeps.renewed run n (secrets_in s n (life_in next.past n)) (ap is_mobile_host is) p
 
-      by : (o : Option Host) → P (note (entries.Restarted (node_id n)) (emptied_by_host n run o)) → P (reborn_by_host s n run o)
-      by None q = q
-      by (Some host) q = of_kind host.kind q
+      by : (o : Option Host) → slice_get s.hosts n ≡ o → P (reborn_by_host s n run o)
+      by None is =
+          subst (λ (o : Option Host). P (note (entries.Restarted (node_id n)) (emptied_by_host n run o))) is (keeps.reborn run n (ap is_mobile_host is) p)
+      by (Some host) is = of_kind host.address host.kind is
 
   -- what outsiders do
   walk_injected : (o link : ℕ) (packet : List ℕ) (run : Run) → P run → P (injected s run o link packet)
@@ -236,7 +261,7 @@ module _ (s : Setup) (P : Run → Type 0) (keeps : Keeps s P) where
   walk_injected_if o link None run p = one run entries.Idle refl p
   walk_injected_if o link (Some packet) run p = walk_injected o link packet run p
 
-  -- what is shown and lost, and a mobile that moves
+  -- what is shown and lost
   walk_shown : (n : ℕ) (run : Run) → P run → P (shown s n run)
   walk_shown n run p = by (slice_get s.hosts n)
     where
@@ -248,16 +273,20 @@ module _ (s : Setup) (P : Run → Type 0) (keeps : Keeps s P) where
   unfolding lost
   walk_lost run k p = keeps_either s P one (slice_index_or run.flying k false) (entries.Lost k) entries.Idle (without k run) refl refl (keeps.leaves run k p)
 
-  walk_moves : (run : Run) (n : ℕ) (link : Option LinkId) → P run → P (moves s run n link)
-  walk_moves run n link p = one (acts s n calls.Leave run) (entries.Moved (node_id n) link) refl (keeps.acted run n calls.Leave tt p)
+  walk_moves : (n : ℕ) (link : Option LinkId) (run : Run) → P run → P (moves_if s run n link)
+  walk_moves n link run p = by (is_mobile_host (slice_get s.hosts n)) refl
+    where
+      by : (b : Bool) → is_mobile_host (slice_get s.hosts n) ≡ b → P (if b then moves s run n link else note entries.Idle run)
+      by true is = keeps.moved run n link is p
+      by false is = one run entries.Idle refl p
 
   -- whatever happens
   walk_happens : (run : Run) (event : Event) → P run → P (happens s run event)
   walk_happens run (Wait ms) p = walk_waited run ms p
-  walk_happens run (Move node link) p = walk_moves run node.0 link p
+  walk_happens run (Move node link) p = walk_moves node.0 link run p
   walk_happens run (Advertise link) p =
       walk_mobiles link.0 (length s.hosts) (agents_hear s link.0 (length s.hosts) run) (walk_agents link.0 (length s.hosts) run p)
-  walk_happens run (Payload node to proto payload) p = keeps.acted run node.0 (calls.Send to proto payload) tt p
+  walk_happens run (Payload node to proto payload) p = keeps.acted run node.0 (calls.Send to proto payload) tt refl refl p
   walk_happens run (Inject o link packet) p = walk_injected o link.0 packet run p
   walk_happens run (Probe o link careof source peer cookie) p = walk_injected o link.0 (probe_packet careof source peer cookie.0) run p
   walk_happens run (Bind o link ends sequence lifetime kh kc) p =
@@ -265,18 +294,18 @@ module _ (s : Setup) (P : Run → Type 0) (keeps : Keeps s P) where
   walk_happens run (Tell o link kt kp) p = walk_injected_if o link.0 (test_packet run.posts kt kp) run p
   walk_happens run (Listen o link) p = keeps_either s P one (hears_in run.past o link.0) entries.Idle (entries.Listening o (link_id link.0)) run refl refl p
   walk_happens run (Deaf o link) p = keeps_either s P one (hears_in run.past o link.0) (entries.Deafened o (link_id link.0)) entries.Idle run refl refl p
-  walk_happens run (Squat o address) p = keeps_claims s P one (holder_outside o) address run p
+  walk_happens run (Squat o address) p = keeps_claims s P one (holder_outside o) address run (λ link holder. keeps.taken run o link address holder p) p
   walk_happens run (Yield o address) p = keeps_gives_up s P one (holder_outside o) address run p
   walk_happens run (Deliver k) p = walk_delivered run k false p
   walk_happens run (Repeat k) p = walk_delivered run k true p
   walk_happens run (Lose k) p = walk_lost run k p
   walk_happens run (Carry count) p = walk_carried run count p
   walk_happens run (Restart node) p = walk_restarted run node.0 p
-  walk_happens run (Refresh node home) p = keeps.acted run node.0 (calls.Refresh home) tt p
-  walk_happens run (Plan node valid preferred) p = keeps.acted run node.0 (calls.Plan valid preferred) tt p
-  walk_happens run (Ask node) p = keeps.acted run node.0 calls.Ask tt p
+  walk_happens run (Refresh node home) p = keeps.acted run node.0 (calls.Refresh home) tt refl refl p
+  walk_happens run (Plan node valid preferred) p = keeps.acted run node.0 (calls.Plan valid preferred) tt refl refl p
+  walk_happens run (Ask node) p = keeps.acted run node.0 calls.Ask tt refl refl p
   walk_happens run (Show node) p = walk_shown node.0 run p
-  walk_happens run (Settle a b) p = one run entries.Idle refl p
+  walk_happens run (Settle a b) p = one run (entries.Settled a b (is_settled s.start run.past a.0 b.0)) refl p
 
   pub walk_all : (run : Run) (events : List Event) → P run → P (fold (λ run event. happens s run event) run events)
   walk_all run [] p = p

@@ -12,6 +12,9 @@ pub mod Outsiders
 pub mod Waiting
 pub mod Advertising
 pub mod Restarting
+pub mod Found
+pub mod Told
+pub mod Settled
 pub mod Permitted
 pub mod Passing
 pub mod Bound

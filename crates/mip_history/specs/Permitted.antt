@@ -1,5 +1,5 @@
 -- The permitted history of a schedule: the opening claims, and then what each event leaves.
-use Rattle.std.specs.Prelude.{ℕ, suc, ◌+◌, List, [], ◌∷◌, ◌++◌, length, fold, map, Bool, true, false, not, ◌==◌, if◌then◌else◌, Option, Some, None, unwrap_or, slice_index_or}
+use Rattle.std.specs.Prelude.{ℕ, List, [], ◌∷◌, ◌++◌, length, fold, map, Bool, true, false, not, ◌==◌, if◌then◌else◌, Option, Some, None, unwrap_or, slice_index_or}
 use Rattle.std.specs.List.{list_any}
 use Rattle.mip_words.specs.declared.address.Address.{Address}
 use Rattle.mip_words.specs.declared.ids.LinkId.{LinkId}
@@ -11,7 +11,7 @@ use Rattle.mip_schedule.specs.declared.event.Event.{Event}
 use Rattle.mip_schedule.specs.declared.event.Event.TheVariants.{Wait, Move, Advertise, Payload, Inject, Probe, Bind, Tell, Listen, Deaf, Squat, Yield, Deliver, Repeat, Lose, Carry, Restart, Refresh, Plan, Ask, Show, Settle}
 use Rattle.mip_rules_agent.specs.Rules.{anycast_of}
 use Rattle.mip_links.specs.Table.{link_of}
-use Rattle.mip_history.specs.Setup.{Setup, Host, Kind, setup_of}
+use Rattle.mip_history.specs.Setup.{Setup, Host, Kind, is_mobile_at, setup_of}
 use Rattle.mip_history.specs.Setup.Kind.{Agent}
 use Rattle.mip_history.specs.Runs.{Run, note, without}
 use Rattle.mip_history.specs.Calls as calls
@@ -20,6 +20,7 @@ use Rattle.mip_history.specs.Delivery.{delivered, carried}
 use Rattle.mip_history.specs.Waiting.{waited}
 use Rattle.mip_history.specs.Advertising.{advertised}
 use Rattle.mip_history.specs.Restarting.{restarted}
+use Rattle.mip_history.specs.Settled.{is_settled}
 use Rattle.mip_history.specs.Outsiders.{injected, injected_if, probe_packet, update_packet, test_packet, listens, deafens, squats, yields}
 
 abbrev pub is_same_link : Option ℕ → Option ℕ → Bool
@@ -78,10 +79,14 @@ lost run k = note (if slice_index_or run.flying k false then entries.Lost k else
 abbrev pub moves : Setup → Run → ℕ → Option LinkId → Run
 moves s run n link = note (entries.Moved (node_id n) link) (acts s n calls.Leave run)
 
--- what an event makes of a run. The test of settled nodes does nothing yet
+-- only a mobile moves
+abbrev pub moves_if : Setup → Run → ℕ → Option LinkId → Run
+moves_if s run n link = if is_mobile_at s n then moves s run n link else note entries.Idle run
+
+-- what an event makes of a run
 abbrev pub happens : Setup → Run → Event → Run
 happens s run (Wait ms) = waited s run ms
-happens s run (Move node link) = moves s run node.0 link
+happens s run (Move node link) = moves_if s run node.0 link
 happens s run (Advertise link) = advertised s run link.0
 happens s run (Payload node to proto payload) = acts s node.0 (calls.Send to proto payload) run
 happens s run (Inject o link packet) = injected s run o link.0 packet
@@ -102,7 +107,7 @@ happens s run (Refresh node home) = acts s node.0 (calls.Refresh home) run
 happens s run (Plan node valid preferred) = acts s node.0 (calls.Plan valid preferred) run
 happens s run (Ask node) = acts s node.0 calls.Ask run
 happens s run (Show node) = shown s node.0 run
-happens s run (Settle a b) = note entries.Idle run
+happens s run (Settle a b) = note (entries.Settled a b (is_settled s.start run.past a.0 b.0)) run
 
 abbrev pub run_of : Setup → List Event → Run
 run_of s events = fold (λ run event. happens s run event) (opened s) events
@@ -110,17 +115,3 @@ run_of s events = fold (λ run event. happens s run event) (opened s) events
 -- the permitted history
 unfoldable pub permitted : Content → List Entry
 permitted c = (run_of (setup_of c) c.events).past
-
--- the test of settled nodes does not run yet
-abbrev pub is_built_event : Event → Bool
-is_built_event (Settle a b) = false
-is_built_event _ = true
-
--- the first place from which something does not run, the first of the list counted as place n
-abbrev pub first_unbuilt : {X : Type 0} → (X → Bool) → ℕ → List X → Option ℕ
-first_unbuilt built n [] = None
-first_unbuilt built n (x ∷ xs) = if built x then first_unbuilt built (suc n) xs else Some n
-
--- the first line of a schedule that does not run yet: declarations begin in line 4, events behind `run`
-unfoldable pub unbuilt_line : Content → Option ℕ
-unbuilt_line c = first_unbuilt is_built_event (length c.declarations + 5) c.events

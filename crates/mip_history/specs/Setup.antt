@@ -53,6 +53,18 @@ is_correspondent_host (Some host) = is_correspondent_kind host.kind
 abbrev pub is_correspondent_at : Setup → ℕ → Bool
 is_correspondent_at s n = is_correspondent_host (slice_get s.hosts n)
 
+abbrev pub is_mobile_kind : Kind → Bool
+is_mobile_kind (Mobile agent) = true
+is_mobile_kind _ = false
+
+abbrev pub is_mobile_host : Option Host → Bool
+is_mobile_host None = false
+is_mobile_host (Some host) = is_mobile_kind host.kind
+
+-- node n is a mobile
+abbrev pub is_mobile_at : Setup → ℕ → Bool
+is_mobile_at s n = is_mobile_host (slice_get s.hosts n)
+
 abbrev pub links_in : List Declaration → List ℕ
 links_in [] = []
 links_in (declare.Link name prefix ∷ ds) = prefix.0 ∷ links_in ds

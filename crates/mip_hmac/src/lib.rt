@@ -3,8 +3,6 @@
 
 mod keyed;
 mod prepared_key;
-#[cfg(test)]
-mod tests;
 
 pub use keyed::{hmac, hmac_of_parts};
 pub use prepared_key::PreparedKey;

@@ -4,8 +4,6 @@ pub mod Routables
 pub mod Sizes
 pub mod Befores
 pub mod Roles
-pub mod Headings
 pub mod Sounds
 pub mod Turning
-pub mod TestRooms
 pub mod Left

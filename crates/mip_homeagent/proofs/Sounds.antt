@@ -47,14 +47,14 @@ pub holding_sound : (h : Option Bool) (home : Address) (homes : List Served) →
 holding_sound None home homes sound = sound
 holding_sound (Some held) home homes sound = held_sound held home homes sound
 
-pub settled_sound : (k : Known) (now : ℕ) (change : Option Change) → k.last ≤ now → IsSound k → IsSound (with_change change (opened now k))
-settled_sound k now None later sound = record {
+pub changed_sound : (k : Known) (now : ℕ) (change : Option Change) → k.last ≤ now → IsSound k → IsSound (with_change change (opened now k))
+changed_sound k now None later sound = record {
   rises = sound.rises;
   routable = sound.routable;
   heard = let h = sound.heard in omega arith;
   planned = let p = sound.planned in omega arith;
 }
-settled_sound k now (Some c) later sound =
+changed_sound k now (Some c) later sound =
     let homes = holding_sound c.holding c.home (with_served (bound_to c.binding) c.home k.homes) (bound_sound c.binding c.home k.homes (record { rises = sound.rises; routable = sound.routable })) in
     record {
       rises = homes.rises;

@@ -10,7 +10,7 @@ ghost use Rattle.mip_rules_agent.specs.Calls as calls;
 ghost use Rattle.mip_rules_agent.specs.Calls.{claim_for, home_in};
 ghost use Rattle.mip_rules_agent.specs.Steps.{Step, answers_of};
 ghost use Rattle.mip_rules_agent.specs.Claims.{claims_by};
-ghost use Rattle.mip_rules_agent.specs.Questions.{fresh, rows_at};
+ghost use Rattle.mip_rules_agent.specs.Questions.{fresh, careof_at, rows_at};
 ghost use Rattle.mip_rules_agent.specs.Turns.{Stands, with_turn};
 ghost use Rattle.mip_rules_agent.specs.Verdicts.{verdict};
 ghost use Rattle.mip_rules_agent.specs.Rules.{bench};
@@ -161,6 +161,13 @@ impl HomeAgent {
         self.known.row(now, place)
     }
 
+    /// The care-of address that is registered for a home.
+    pub fn careof(&self, now: Moment, home: Address) -> Option<Address>
+        ensures { result ≡ careof_at self.now.known now.0 home }
+    {
+        self.known.careof(now, home)
+    }
+
     /// What becomes of a home registration, where its place answers so to a claim of its home address: the first row that
     /// applies (RFC 6275 sections 10.3.1 and 10.3.2). It changes nothing.
     pub fn judge_home(
@@ -215,7 +222,7 @@ impl HomeAgent {
             bytes: packet,
         };
         let change = receive(alloc, &mut answers, &desk, place)?;
-        self.known.settle(now, change);
+        self.known.apply_change(now, change);
         Ok(answers)
     }
 }

@@ -176,7 +176,7 @@ impl Kept {
     }
 
     /// A call at this moment ends, and what it accepted is kept.
-    pub fn settle(&mut self, now: Moment, change: Option<Change>)
+    pub fn apply_change(&mut self, now: Moment, change: Option<Change>)
         requires { self.old.last ≤ now.0 }
         ensures { self.new ≡ with_change change (opened now.0 self.old) }
     {

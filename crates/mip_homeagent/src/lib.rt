@@ -13,8 +13,6 @@ mod judging;
 mod kept;
 mod prefixes;
 mod receiving;
-#[cfg(test)]
-mod tests;
 mod tunnel;
 mod update;
 

@@ -217,16 +217,8 @@ fn take_packet<P: Place>(
     }
 }
 
-/// Payload Length.
-fn payload_length(bytes: &[u8]) -> u16
-    requires { 40 ≤ length bytes.now }
-    ensures { result ≡ number_at 2 4 bytes.now }
-{
-    u16_at(bytes, 4)
-}
-
 /// A packet is read, and answered.
-#[tactic(auto, using(crate::proofs::Headings::home_routable, crate::proofs::Headings::place_is, crate::proofs::Left::left_alone))]
+#[tactic(auto, using(crate::proofs::Left::left_alone))]
 pub fn receive<P: Place>(
     alloc: Global,
     answers: &mut Answers,
@@ -247,9 +239,6 @@ pub fn receive<P: Place>(
             drop_packet(answers, desk.number, packet_why(fault))?;
             Ok(None)
         }
-        Ok(packet) => {
-            let _length = payload_length(desk.bytes);
-            take_packet(alloc, answers, desk, place, &packet)
-        }
+        Ok(packet) => take_packet(alloc, answers, desk, place, &packet),
     }
 }

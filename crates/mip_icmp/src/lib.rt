@@ -24,6 +24,3 @@ pub use plain::PlainIcmp;
 pub use prefix_info::PrefixInfo;
 pub use reading::read_icmp;
 pub use writing::write_icmp;
-
-#[cfg(test)]
-mod tests;

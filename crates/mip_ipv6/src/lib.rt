@@ -8,8 +8,6 @@ mod options;
 mod packet_ref;
 mod reading;
 mod sum;
-#[cfg(test)]
-mod tests;
 mod walked;
 mod write_fault;
 mod writing;

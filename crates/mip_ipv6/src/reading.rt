@@ -1,8 +1,8 @@
 //! Reading a packet.
 
-ghost use Rattle.std.specs.Prelude.{◌≡◌, ◌≤◌, length, IfOk};
+ghost use Rattle.std.specs.Prelude.{◌≡◌, ◌≤◌, ◌<◌, ◌-◌, ◌^◌, length, IfOk, IsTrue};
 ghost use Rattle.mip_words.specs.Steps.{Gives};
-ghost use Rattle.mip_ipv6.specs.Packet.{Packet, packet, IsAt};
+ghost use Rattle.mip_ipv6.specs.Packet.{Packet, packet, IsAt, is_routable_if_any};
 ghost use Rattle.mip_ipv6.specs.Spelling.{IsPacket};
 ghost use Rattle.mip_ipv6.specs.Reading.{walk, fixed_header, routing_header, head_of, packet_of};
 
@@ -120,6 +120,9 @@ pub fn read_packet(bytes: &[u8]) -> Result<PacketRef<'_>, NotPacket>
     ensures exact { Gives packet result (packet_of bytes.now) }
     ensures place { IfOk result (λ p. IsAt p bytes.now) }
     ensures small { IfOk result (λ p. length p.body.now ≤ 65535) }
+    ensures home { IfOk result (λ p. IsTrue (is_routable_if_any p.head.home)) }
+    ensures behind { IfOk result (λ p. p.place ≡ length bytes.now - length p.body.now) }
+    ensures near { IfOk result (λ p. p.place < 2 ^ 32 - 1) }
 {
     located(bytes)
 }

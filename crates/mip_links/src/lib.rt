@@ -17,6 +17,3 @@ pub use claim_fault::ClaimFault;
 pub use delivery::Delivery;
 pub use flight::Flight;
 pub use net::{FIRST_OUTSIDER, Net};
-
-#[cfg(test)]
-mod tests;

@@ -3,5 +3,4 @@ pub mod EventReads
 pub mod DrawnReads
 pub mod HeadReads
 pub mod MadeLaws
-pub mod SettleLaws
 pub mod SpellingLaws

@@ -1,10 +1,9 @@
 -- The schedule that a seed and a count make.
-use Rattle.std.specs.Prelude.{ℕ, List, Bool, true, false, map}
+use Rattle.std.specs.Prelude.{ℕ, List, map}
 use Rattle.std.specs.List.{range_with_len}
 use Rattle.mip_lines.specs.Lines.{line_text, lines_text}
 use Rattle.mip_schedule.specs.Contents.{Content}
 use Rattle.mip_schedule.specs.declared.event.Event.{Event}
-use Rattle.mip_schedule.specs.declared.event.Event.TheVariants as events
 use Rattle.mip_schedule.specs.Spelling.{event_text}
 use Rattle.mip_make.specs.Draws.{draw_of}
 use Rattle.mip_make.specs.Drawn.{drawn}
@@ -20,11 +19,6 @@ events_from seed i count = map (event_at seed) (range_with_len i count)
 
 abbrev pub made : List ℕ → ℕ → Content
 made seed count = record { seed = seed; start = record { 0 = 0 }; declarations = network; events = events_from seed 0 count }
-
--- the event asks whether two nodes can exchange data
-abbrev pub is_settle : Event → Bool
-is_settle (events.Settle a b) = true
-is_settle _ = false
 
 -- the line of an event
 abbrev pub event_line : Event → List ℕ

@@ -12,7 +12,7 @@ mod spelling;
 mod summing;
 mod word;
 
-pub use laws::{each_is_lawful, each_is_valid, none_settles};
+pub use laws::{each_is_lawful, each_is_valid};
 pub use making::make;
 pub use spelling::spell;
 pub use summing::summary;

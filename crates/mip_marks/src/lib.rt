@@ -31,6 +31,3 @@ pub use pair::Pair;
 pub use posts::{key_said, token_said};
 pub use signed::Signed;
 pub use watch::{Watch, mark as mark_behind};
-
-#[cfg(test)]
-mod tests;

@@ -11,8 +11,6 @@ mod plain;
 mod reading;
 mod refresh;
 mod test_init;
-#[cfg(test)]
-mod tests;
 mod update;
 mod writing;
 

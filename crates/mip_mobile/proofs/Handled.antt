@@ -1,4 +1,4 @@
--- A call whose desk shows the definition's turn is handled, once its answers are settled.
+-- A call whose desk shows the definition's turn is handled, once its answers are after_put.
 use Rattle.std.proofs.Common.{◌≡◌, ℕ, zero, suc, List, [], ◌∷◌, ◌++◌, take, Bool, sym, ap, subst, ◌∙◌}
 use Rattle.std.specs.Prelude.{Option, Result, Ok, Err, IfOk, OnErr, option_map}
 use Rattle.mip_outside.specs.declared.put.Put.{Put}
@@ -16,11 +16,11 @@ use Rattle.mip_rules_mobile.specs.Doing.{turn_of}
 use Rattle.mip_rules_mobile.specs.Answering.{IsFrom, AreFrom}
 use Rattle.mip_rules_mobile.proofs.Away.{away-call}
 use Rattle.mip_rules_mobile.proofs.Calls.{call-stands, call-now}
-use Rattle.mip_desk.specs.Seen.{DeskSeen, Shows}
-use Rattle.mip_desk.proofs.Noted.{shows-known, shows-moment}
-use Rattle.mip_mobile.specs.Settling.{settled, Settles, SettlesAll, SettlesFront, Told, sends_of}
+use Rattle.mip_mobility.specs.Seen.{DeskSeen, Shows}
+use Rattle.mip_mobility.proofs.Noted.{shows-known, shows-moment}
+use Rattle.mip_mobile.specs.Putting.{after_put, Puts, PutsAll, PutsFront, Told, sends_of}
 use Rattle.mip_mobile.specs.Handling.{Handles, BreaksOff, IsLeft}
-use Rattle.mip_mobile.proofs.Settled.{out-none}
+use Rattle.mip_mobile.proofs.PutLaws.{out-none}
 
 pub if-both : {A E : Type 0} (P Q R : A → Type 0) (r : Result A E) → ((x : A) → P x → Q x → R x) → IfOk r P → IfOk r Q → IfOk r R
 if-both P Q R (Ok x) f p q = f x p q
@@ -31,31 +31,31 @@ on-errs (Ok x) f p = tt
 on-errs (Err e) f p = f p
 
 -- a packet that the wire took leaves from where it left before
-from-settled : (gives : Put → Bool) (careof : Address) (asked bs : List Answer) → SettlesAll gives asked bs → AreFrom careof asked → AreFrom careof bs
-from-settled gives careof [] [] all from = tt
-from-settled gives careof [] (b ∷ bs) all from = absurd all
-from-settled gives careof (a ∷ asked) [] all from = absurd all
-from-settled gives careof (a ∷ asked) (b ∷ bs) all from = (one a all.0 from.0, from-settled gives careof asked bs all.1 from.1)
+from-after_put : (gives : Put → Bool) (careof : Address) (asked bs : List Answer) → PutsAll gives asked bs → AreFrom careof asked → AreFrom careof bs
+from-after_put gives careof [] [] all from = tt
+from-after_put gives careof [] (b ∷ bs) all from = absurd all
+from-after_put gives careof (a ∷ asked) [] all from = absurd all
+from-after_put gives careof (a ∷ asked) (b ∷ bs) all from = (one a all.0 from.0, from-after_put gives careof asked bs all.1 from.1)
   where
-    by : (put : Put) (shield : Option Shield) (packet : List ℕ) → b ≡ settled put shield packet → IsFrom careof (Send shield packet) → IsFrom careof b
+    by : (put : Put) (shield : Option Shield) (packet : List ℕ) → b ≡ after_put put shield packet → IsFrom careof (Send shield packet) → IsFrom careof b
     by Sent shield packet is leaves = subst (IsFrom careof) (sym is) leaves
     by NoRoute shield packet is leaves = subst (IsFrom careof) (sym is) tt
     by Oversize shield packet is leaves = subst (IsFrom careof) (sym is) tt
 
-    one : (a : Answer) → Settles gives a b → IsFrom careof a → IsFrom careof b
+    one : (a : Answer) → Puts gives a b → IsFrom careof a → IsFrom careof b
     one (Note entry) is leaves = subst (IsFrom careof) (sym is) tt
     one (Send shield packet) is leaves = by is.0 shield packet is.2 leaves
 
 pub handled : (gives : Put → Bool) (k : Known) (now : ℕ) (call : Call) (desk : DeskSeen) (asked : List Answer) (left : Known) (out told : Told) (answers : List Answer)
-    → Shows desk (turn_of k now call) → asked ≡ desk.answers → left ≡ desk.known → SettlesAll gives asked answers → told ≡ option_map (λ items. items ++ sends_of answers) out
+    → Shows desk (turn_of k now call) → asked ≡ desk.answers → left ≡ desk.known → PutsAll gives asked answers → told ≡ option_map (λ items. items ++ sends_of answers) out
     → Handles gives k now call out answers left told
-handled gives k now call desk asked left out told answers shows is known settles sent =
+handled gives k now call desk asked left out told answers shows is known puts sent =
     let same : left ≡ (turn_of k now call).known = known ∙ sym (shows-known desk (turn_of k now call) shows) in
-    let all : SettlesAll gives (answers_of (turn_of k now call).steps) answers =
-    subst (λ (xs : List Answer). SettlesAll gives xs answers) (is ∙ sym (shows-answers answer_of desk.moment desk.known desk.answers (turn_of k now call) shows)) settles in
+    let all : PutsAll gives (answers_of (turn_of k now call).steps) answers =
+    subst (λ (xs : List Answer). PutsAll gives xs answers) (is ∙ sym (shows-answers answer_of desk.moment desk.known desk.answers (turn_of k now call) shows)) puts in
     record {
       taken = all;
-      away = λ careof here elsewhere stays. from-settled gives careof (answers_of (turn_of k now call).steps) answers all (away-call k now call careof here elsewhere stays);
+      away = λ careof here elsewhere stays. from-after_put gives careof (answers_of (turn_of k now call).steps) answers all (away-call k now call careof here elsewhere stays);
       known = same;
       stands = λ home declared secrets past stands.
           subst (λ (l : Known). Stands home declared secrets (with_turn past (turn_of k now call)) l) (sym same) (call-stands home declared secrets past k now call stands);
@@ -73,16 +73,16 @@ from-front careof (suc n) (a ∷ asked) from = (from.0, from-front careof n aske
 
 -- a call whose desk shows the definition's turn breaks off in it, where its wire took a front of its answers
 pub breaks-off : (gives : Put → Bool) (k : Known) (now : ℕ) (call : Call) (desk : DeskSeen) (asked : List Answer) (out told : Told)
-    → Shows desk (turn_of k now call) → asked ≡ desk.answers → SettlesFront gives asked out told → BreaksOff gives k now call out told
+    → Shows desk (turn_of k now call) → asked ≡ desk.answers → PutsFront gives asked out told → BreaksOff gives k now call out told
 breaks-off gives k now call desk asked out told shows is front =
     let own : List Answer = answers_of (turn_of k now call).steps in
-    let all : SettlesAll gives (take front.count own) front.answers =
-    subst (λ (xs : List Answer). SettlesAll gives (take front.count xs) front.answers) (is ∙ sym (shows-answers answer_of desk.moment desk.known desk.answers (turn_of k now call) shows)) front.taken in
+    let all : PutsAll gives (take front.count own) front.answers =
+    subst (λ (xs : List Answer). PutsAll gives (take front.count xs) front.answers) (is ∙ sym (shows-answers answer_of desk.moment desk.known desk.answers (turn_of k now call) shows)) front.taken in
     record {
       count = front.count;
       answers = front.answers;
       taken = all;
-      away = λ careof here elsewhere stays. from-settled gives careof (take front.count own) front.answers all (from-front careof front.count own (away-call k now call careof here elsewhere stays));
+      away = λ careof here elsewhere stays. from-after_put gives careof (take front.count own) front.answers all (from-front careof front.count own (away-call k now call careof here elsewhere stays));
       sent = front.sent;
     }
 

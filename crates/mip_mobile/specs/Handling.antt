@@ -12,8 +12,8 @@ use Rattle.mip_rules_mobile.specs.Steps.{Step, answers_of}
 use Rattle.mip_rules_mobile.specs.Known.{Known}
 use Rattle.mip_rules_mobile.specs.Turns.{Stands, with_turn}
 use Rattle.mip_rules_mobile.specs.Doing.{turn_of}
-use Rattle.mip_desk.specs.Seen.{DeskSeen}
-use Rattle.mip_mobile.specs.Settling.{SettlesAll, Told, sends_of}
+use Rattle.mip_mobility.specs.Seen.{DeskSeen}
+use Rattle.mip_mobile.specs.Putting.{PutsAll, Told, sends_of}
 
 -- the moment of a call: what the clock says, or the moment of the last call where that is later
 abbrev pub moment_of : (clock last : ℕ) → ℕ
@@ -23,7 +23,7 @@ moment_of clock last = max clock last
 -- it stands for each past for which it stood before, with the turn behind it; where it is away, and stays, each packet leaves
 -- from its care-of address; and its wire sent the packets of its answers
 pub record Handles (gives : Put → Bool) (before : Known) (now : ℕ) (call : Call) (out : Told) (answers : List Answer) (after : Known) (left : Told) : Type 0 where
-  pub taken : SettlesAll gives (answers_of (turn_of before now call).steps) answers
+  pub taken : PutsAll gives (answers_of (turn_of before now call).steps) answers
   pub known : after ≡ (turn_of before now call).known
   pub stands : (home : Address) (declared : Option Address) (secrets : Life) (past : List (Stamped Step)) → Stands home declared secrets past before
       → Stands home declared secrets (with_turn past (turn_of before now call)) after
@@ -35,7 +35,7 @@ pub record Handles (gives : Put → Bool) (before : Known) (now : ℕ) (call : C
 pub record BreaksOff (gives : Put → Bool) (before : Known) (now : ℕ) (call : Call) (out left : Told) : Type 0 where
   pub count : ℕ
   pub answers : List Answer
-  pub taken : SettlesAll gives (take count (answers_of (turn_of before now call).steps)) answers
+  pub taken : PutsAll gives (take count (answers_of (turn_of before now call).steps)) answers
   pub away : (careof : Address) → before.standing ≡ Away careof → IsElsewhere before → stays_put call ≡ true → AreFrom careof answers
   pub sent : left ≡ option_map (λ items. items ++ sends_of answers) out
 

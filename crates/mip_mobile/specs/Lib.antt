@@ -1,4 +1,4 @@
-pub mod Settling
+pub mod Putting
 pub mod Handling
 pub mod Placing
 pub mod Stations

@@ -23,7 +23,7 @@ impl From<Memory> for StationFault {
 }
 
 impl From<PutFault> for StationFault {
-    ghost use Rattle.mip_mobile.specs.Settling.{station_fault};
+    ghost use Rattle.mip_mobile.specs.Putting.{station_fault};
 
     ghost from_gives = { λ f e. e ≡ station_fault f };
 

@@ -6,11 +6,9 @@ mod machine;
 mod mobile;
 mod moving;
 mod placing;
-mod settling;
+mod putting;
 mod state;
 mod station;
-#[cfg(test)]
-mod tests;
 
 pub use fault::StationFault;
 pub use mobile::{Mobile, Turned};

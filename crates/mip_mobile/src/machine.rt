@@ -16,17 +16,17 @@ ghost use Rattle.mip_rules_mobile.specs.Known.{Known};
 ghost use Rattle.mip_rules_mobile.specs.Questions.{fresh};
 ghost use Rattle.mip_rules_mobile.specs.Turns.{begun, noted};
 ghost use Rattle.mip_rules_mobile.specs.Doing.{turn_of};
-ghost use Rattle.mip_desk.specs.Seen.{Shows};
+ghost use Rattle.mip_mobility.specs.Seen.{Shows};
 ghost use Rattle.mip_mobile.specs.Handling.{Handles, BreaksOff, IsLeft, moment_of};
 ghost use Rattle.mip_mobile.specs.Stations.{with_clock, with_wire};
 ghost use Rattle.mip_mobile.specs.contracts.machine.Machine.{the_row};
 ghost use Rattle.std.specs.Borrow.{Lends, sem};
 
 use crate::fault::StationFault;
-use crate::settling::settle;
+use crate::putting::send_all;
 use mip_bcache::Row;
-use mip_desk::Desk;
 use mip_entries::Answers;
+use mip_mobility::Desk;
 use mip_nonce::Secrets;
 use mip_outside::{Clock, Wire};
 use mip_rules_mobile::Standing;
@@ -130,14 +130,18 @@ impl<C: Clock + Drop, W: Wire + Drop> Machine<C, W> {
         ensures failed { IsErrOf result StationFault.Failed → Rose (W.faults self.old.wire) (W.faults self.new.wire) }
         ensures wire { (W.faults self.old.wire ≤ W.faults self.new.wire) × W.is_same self.old.wire self.new.wire }
     {
-        let result = self.settle(alloc, done);
+        let result = self.finish_call(alloc, done);
         if let Err(fault) = result {
             self.fault = Some(fault);
         }
         result
     }
 
-    fn settle(&mut self, alloc: Global, done: Result<(), Memory>) -> Result<Answers, StationFault>
+    fn finish_call(
+        &mut self,
+        alloc: Global,
+        done: Result<(), Memory>,
+    ) -> Result<Answers, StationFault>
         ensures handles { (k : Known) (now : ℕ) (call : Call) → OnOk done (Shows self.old.desk (turn_of k now call))
             → IfOk result (λ answers. Handles W.gives k now call (W.out self.old.wire) answers self.new.desk.known (W.out self.new.wire)) }
         ensures front { (k : Known) (now : ℕ) (call : Call) → OnOk done (Shows self.old.desk (turn_of k now call))
@@ -150,7 +154,7 @@ impl<C: Clock + Drop, W: Wire + Drop> Machine<C, W> {
     {
         done?;
         let asked = self.desk.take_answers(alloc)?;
-        settle(alloc, &mut self.wire, asked)
+        send_all(alloc, &mut self.wire, asked)
     }
 
     /// Takes a packet that was handed to it, by its number and shield.

@@ -9,7 +9,7 @@ ghost use Rattle.mip_rules_mobile.specs.declared.standing.Standing.TheVariants.{
 ghost use Rattle.mip_rules_mobile.specs.HomeQuestions.{home_of};
 ghost use Rattle.mip_rules_mobile.specs.MovingRules.{address_under, uses_prefix};
 ghost use Rattle.mip_rules_mobile.specs.Doing.{turn_of};
-ghost use Rattle.mip_desk.specs.Seen.{Shows};
+ghost use Rattle.mip_mobility.specs.Seen.{Shows};
 ghost use Rattle.mip_mobile.specs.Placing.{attach_at, leave_at, claims_attached, claims_after_leaving, AreAnswered};
 ghost use Rattle.mip_mobile.specs.Handling.{Handles, BreaksOff, IsLeft, moment_of};
 

@@ -8,8 +8,8 @@ ghost use Rattle.mip_rules_mobile.specs.declared.standing.Standing.TheVariants.{
 ghost use Rattle.mip_rules_mobile.specs.MovingRules.{address_under};
 ghost use Rattle.mip_mobile.specs.Placing.{claims_left, claims_come};
 
+use mip_mobility::address_under;
 use mip_outside::{Claim, Place};
-use mip_registration::address_under;
 use mip_rules_mobile::Standing;
 use mip_words::{Address, Prefix};
 

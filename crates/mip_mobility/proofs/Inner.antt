@@ -14,7 +14,7 @@ use Rattle.mip_tunnel.specs.declared.exit_fault.ExitFault.TheVariants.{NotTunnel
 use Rattle.mip_tunnel.specs.Tunnel.{opened}
 use Rattle.std.specs.Prelude.{Ok}
 use Rattle.mip_reception.specs.Checks.{checked}
-use Rattle.mip_correspondent.proofs.Receivings.{home_routable}
+use Rattle.mip_ipv6.proofs.Placed.{home_routable}
 use Rattle.mip_rules_correspondent.specs.Rules.{place_in}
 use Rattle.mip_rules_mobile.specs.Steps.{Drops}
 use Rattle.mip_rules_mobile.specs.HomeQuestions.{home_of}

@@ -1,2 +1,3 @@
 pub mod Inners
 pub mod Rounds
+pub use Rattle.mip_desk.specs.Seen

@@ -9,10 +9,9 @@ ghost use Rattle.mip_rules_mobile.specs.Turns.{Turn};
 ghost use Rattle.mip_desk.specs.Seen.{Shows};
 
 use mip_bulist::Work;
-use mip_desk::{Desk, SEEKING};
+use mip_desk::{Agents, Desk, SEEKING};
 use mip_icmp::{Icmp, read_icmp};
 use mip_ipv6::PacketRef;
-use mip_kept::Agents;
 use mip_registration::{register, take_prefix_reply};
 use mip_rules_mobile::Standing;
 use mip_words::{Address, Memory, Shield, Why};

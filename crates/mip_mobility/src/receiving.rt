@@ -118,16 +118,7 @@ fn take_packet(
     }
 }
 
-/// Payload Length.
-fn payload_length(bytes: &[u8]) -> u16
-    requires { 40 ≤ length bytes.now }
-    ensures { result ≡ number_at 2 4 bytes.now }
-{
-    u16_at(bytes, 4)
-}
-
 /// A packet is handed to it.
-#[tactic(auto, using(mip_correspondent::proofs::Receivings::home_routable, mip_correspondent::proofs::Receivings::place_is))]
 pub fn take_bytes(
     alloc: Global,
     desk: &mut Desk,
@@ -139,9 +130,6 @@ pub fn take_bytes(
 {
     match read_packet(bytes) {
         Err(fault) => desk.drop_packet(handed.number, packet_why(fault)),
-        Ok(packet) => {
-            let _length = payload_length(bytes);
-            take_packet(alloc, desk, handed, bytes, &packet)
-        }
+        Ok(packet) => take_packet(alloc, desk, handed, bytes, &packet),
     }
 }

@@ -15,8 +15,7 @@ ghost use Rattle.mip_rules_mobile.specs.Turns.{Turn, noted};
 ghost use Rattle.mip_desk.specs.Seen.{Shows};
 
 use mip_bulist::{Any, Work};
-use mip_desk::{Desk, ENDING, RENEWING, RESENDING, SEEKING};
-use mip_kept::doubled;
+use mip_desk::{Desk, ENDING, RENEWING, RESENDING, SEEKING, doubled};
 use mip_registration::{end_home, renew_home, resend_home, seek_again};
 use mip_routability::{resend_row, start};
 use mip_words::{Address, Memory};

@@ -16,9 +16,8 @@ use crate::handed::Handed;
 use crate::icmp::take_icmp;
 use mip_constants::protocol::{ICMPV6, NO_NEXT_HEADER};
 use mip_correspondent::is_for_part;
-use mip_desk::{Desk, ask_part};
+use mip_desk::{Desk, Heard, ask_part};
 use mip_ipv6::PacketRef;
-use mip_kept::Heard;
 use mip_mobhdr::Message;
 use mip_options::Options;
 use mip_routability::{

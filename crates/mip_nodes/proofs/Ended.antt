@@ -13,8 +13,8 @@ use Rattle.mip_rules_mobile.specs.Turns.{Turn, begun}
 use Rattle.mip_rules_mobile.specs.Doing.{turn_of}
 use Rattle.mip_rules_mobile.proofs.Walks.{every-call}
 use Rattle.mip_rules_mobile.proofs.Calls.{call-last}
-use Rattle.mip_desk.specs.Seen.{DeskSeen, Shows}
-use Rattle.mip_desk.proofs.Noted.{shows-known, shows-moment}
+use Rattle.mip_mobility.specs.Seen.{DeskSeen, Shows}
+use Rattle.mip_mobility.proofs.Noted.{shows-known, shows-moment}
 
 -- the turn of a call is at its moment
 pub call-now : (k : Known) (now : ℕ) (c : Call) → (turn_of k now c).now ≡ now

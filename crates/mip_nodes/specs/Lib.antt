@@ -1,7 +1,8 @@
 pub mod Payloads
 pub mod Hosts
 pub mod Calls
-pub mod Roamings
+pub mod MobileRoles
 pub mod Roles
+pub mod Ends
 pub mod Nodes
 pub mod Places

@@ -9,9 +9,9 @@ mod idle;
 mod kind;
 mod laws;
 mod mobile;
+mod mobile_role;
 mod node;
 mod place;
-mod roaming;
 mod role;
 mod router;
 
@@ -22,8 +22,9 @@ pub use laws::{
     answers_are_whole, mobiles_keep_their_home, new_roles_have_nothing_behind_them,
     roles_stand_for_their_pasts,
 };
+pub use mip_homeagent::HomeRow;
+pub use mobile_role::MobileRole;
 pub use node::Node;
 pub use place::NetPlace;
-pub use roaming::Roaming;
 pub use role::Role;
 pub use router::Router;

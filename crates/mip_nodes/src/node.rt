@@ -1,5 +1,6 @@
 ghost use Rattle.std.specs.Prelude.{◌≡◌, ◌+◌, ◌<◌, ◌≤◌, ◌^◌, suc, IfOk, OnOk, OnErr, option_map, slice_get};
 ghost use Rattle.mip_nodes.specs.Calls.{asked, IsAskable};
+ghost use Rattle.mip_nodes.specs.Ends.{present_of, agent_of, is_bound_to, held_by_role, careof_of};
 ghost use Rattle.mip_nodes.specs.Hosts.{IsFit};
 ghost use Rattle.mip_nodes.specs.Nodes.{new_node, with_role, with_spot, reborn, around_node, home_of_node, router_of, seen_router};
 ghost use Rattle.mip_nodes.specs.Roles.{is_roaming, last_of, answers_to, after_call, due_of, rows_of, homes_of, lives_in};
@@ -165,6 +166,42 @@ impl Node {
         ensures { result ≡ slice_get (homes_of self.now.role now.0) place }
     {
         self.role.home(now, place)
+    }
+
+    /// The address at which it is present: a mobile where it stands, another node at its own.
+    pub fn present(&self) -> Option<Address>
+        ensures { result ≡ present_of self.now.host.address self.now.role }
+    {
+        self.role.present(self.host.address())
+    }
+
+    /// The agent with which a mobile is registered.
+    pub fn agent(&self, now: Moment) -> Option<Address>
+        ensures { result ≡ agent_of self.now.role now.0 }
+    {
+        self.role.agent(now)
+    }
+
+    /// Whether a mobile has a binding with a peer.
+    pub fn is_bound(&self, now: Moment, peer: Address) -> bool
+        ensures { result ≡ is_bound_to self.now.role now.0 peer }
+    {
+        self.role.is_bound(now, peer)
+    }
+
+    /// The care-of address that it holds for a home.
+    pub fn held(&self, now: Moment, home: Address) -> Option<Address>
+        requires { last_of self.now.role ≤ now.0 }
+        ensures { result ≡ held_by_role self.now.role now.0 home }
+    {
+        self.role.held(now, home)
+    }
+
+    /// The care-of address that an agent has registered for a home.
+    pub fn careof(&self, now: Moment, home: Address) -> Option<Address>
+        ensures { result ≡ careof_of self.now.role now.0 home }
+    {
+        self.role.careof(now, home)
     }
 
     /// Whether it is a mobile at home, and this is its home address.

@@ -4,13 +4,14 @@ ghost use Rattle.mip_entries.specs.declared.answer.Answer.TheVariants.{Note};
 ghost use Rattle.mip_entries.specs.declared.entry.Entry.TheVariants.{Idle};
 ghost use Rattle.mip_nodes.specs.Calls.{asked, IsAskable};
 ghost use Rattle.mip_nodes.specs.Hosts.{kind_of, IsFitKind};
+ghost use Rattle.mip_nodes.specs.Ends.{present_of, agent_of, is_bound_to, held_by_role, careof_of};
 ghost use Rattle.mip_nodes.specs.Places.{around_seen};
 ghost use Rattle.mip_nodes.specs.Roles.{last_of, answers_to, after_call, due_of, rows_of, homes_of, lives_in, is_roaming, new_role};
 
 use crate::call::Call;
 use crate::kind::Kind;
+use crate::mobile_role::MobileRole;
 use crate::place::NetPlace;
-use crate::roaming::Roaming;
 use crate::{agent, correspondent};
 use mip_bcache::Row;
 use mip_correspondent::Correspondent;
@@ -25,7 +26,7 @@ use std::alloc::Global;
 pub enum Role {
     Correspondent(Correspondent),
     Agent(HomeAgent),
-    Mobile(Roaming),
+    Mobile(MobileRole),
 }
 
 fn row_entry(node: NodeId, row: Option<&Row>) -> Option<Entry>
@@ -88,7 +89,7 @@ impl Role {
             }
             Kind::Mobile { agent } => {
                 let secrets = Secrets::new(seed, node, 0);
-                Ok(Role::Mobile(Roaming::new(alloc, own, *agent, secrets)?))
+                Ok(Role::Mobile(MobileRole::new(alloc, own, *agent, secrets)?))
             }
         }
     }
@@ -145,6 +146,62 @@ impl Role {
         match self {
             Role::Correspondent(_) => None,
             Role::Agent(role) => role.row(now, place),
+            Role::Mobile(_) => None,
+        }
+    }
+
+    /// The address at which it is present, where this is its own.
+    pub fn present(&self, own: Address) -> Option<Address>
+        ensures { result ≡ present_of own self.now }
+    {
+        match self {
+            Role::Correspondent(_) => Some(own),
+            Role::Agent(_) => Some(own),
+            Role::Mobile(role) => role.present(own),
+        }
+    }
+
+    /// The agent with which it is registered.
+    pub fn agent(&self, now: Moment) -> Option<Address>
+        ensures { result ≡ agent_of self.now now.0 }
+    {
+        match self {
+            Role::Correspondent(_) => None,
+            Role::Agent(_) => None,
+            Role::Mobile(role) => role.agent(now),
+        }
+    }
+
+    /// Whether it has a binding with a peer.
+    pub fn is_bound(&self, now: Moment, peer: Address) -> bool
+        ensures { result ≡ is_bound_to self.now now.0 peer }
+    {
+        match self {
+            Role::Correspondent(_) => false,
+            Role::Agent(_) => false,
+            Role::Mobile(role) => role.is_bound(now, peer),
+        }
+    }
+
+    /// The care-of address that it holds for a home.
+    pub fn held(&self, now: Moment, home: Address) -> Option<Address>
+        requires { last_of self.now ≤ now.0 }
+        ensures { result ≡ held_by_role self.now now.0 home }
+    {
+        match self {
+            Role::Correspondent(role) => role.route(now, home),
+            Role::Agent(_) => None,
+            Role::Mobile(role) => role.held(now, home),
+        }
+    }
+
+    /// The care-of address that it has registered for a home.
+    pub fn careof(&self, now: Moment, home: Address) -> Option<Address>
+        ensures { result ≡ careof_of self.now now.0 home }
+    {
+        match self {
+            Role::Correspondent(_) => None,
+            Role::Agent(role) => role.careof(now, home),
             Role::Mobile(_) => None,
         }
     }

@@ -4,8 +4,6 @@
 
 mod secrets;
 mod source;
-#[cfg(test)]
-mod tests;
 mod window;
 
 pub use secrets::Secrets;

@@ -12,7 +12,7 @@ use Rattle.mip_entries.specs.declared.entry.Entry.TheVariants as entries
 use Rattle.mip_entries.specs.Completed.{node_id}
 use Rattle.mip_rules_agent.specs.declared.home_row.HomeRow.{HomeRow}
 use Rattle.mip_rules_agent.specs.Questions.{rows_at}
-use Rattle.mip_history.specs.Setup.{Setup, Host, Kind}
+use Rattle.mip_history.specs.Setup.{Setup, Host, Kind, is_mobile_host}
 use Rattle.mip_history.specs.Setup.Kind.{Correspondent, Agent, Mobile}
 use Rattle.mip_history.specs.Runs.{Run, note, with_past, with_agent_past}
 use Rattle.mip_history.specs.Questions.{restarts, life_in}
@@ -29,7 +29,7 @@ use Rattle.mip_origin.specs.OwnHistories.{life_of, IsOwnEntry}
 use Rattle.mip_origin.proofs.Following.{followed-append}
 use Rattle.mip_origin.proofs.Adding.{IsGood, HaveSecrets, secrets_stay, Adds, adds_same, adds_one, good_notes}
 use Rattle.mip_origin.proofs.Posting.{adds_gives_up}
-use Rattle.mip_history.proofs.PartTurns.{is_mobile_host, mobile_apart}
+use Rattle.mip_history.proofs.PartTurns.{mobile_apart}
 use Rattle.mip_origin.proofs.Acting.{lives_apart, restart_adds, restart_secrets, adds_acts}
 
 -- lives as time goes on

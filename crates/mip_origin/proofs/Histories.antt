@@ -22,16 +22,17 @@ use Rattle.mip_schedule.specs.Contents.{Content}
 use Rattle.mip_schedule.specs.declared.event.Event.{Event}
 use Rattle.mip_schedule.specs.declared.event.Event.TheVariants.{Wait, Move, Advertise, Payload, Inject, Probe, Bind, Tell, Listen, Deaf, Squat, Yield, Deliver, Repeat, Lose, Carry, Restart, Refresh, Plan, Ask, Show, Settle}
 use Rattle.mip_links.specs.Table.{holder_outside}
-use Rattle.mip_history.specs.Setup.{Setup, Host, Kind, setup_of}
+use Rattle.mip_history.specs.Setup.{Setup, Host, Kind, is_mobile_at, setup_of}
 use Rattle.mip_history.specs.Setup.Kind.{Correspondent, Agent, Mobile}
-use Rattle.mip_history.specs.Runs.{Run, without}
+use Rattle.mip_history.specs.Runs.{Run, note, without}
 use Rattle.mip_history.specs.Questions.{hears_in}
 use Rattle.mip_history.specs.Calls as calls
 use Rattle.mip_history.specs.Knowing.{now_in, secrets_in, known_in, agent_known_in, mobile_known_in, part_in}
 use Rattle.mip_history.specs.Claims.{link_id}
 use Rattle.mip_history.specs.Nodes.{acts, row_entry, home_entry, rows_by_kind, rows_shown, shown}
 use Rattle.mip_history.specs.Outsiders.{probe_packet, update_packet, test_packet}
-use Rattle.mip_history.specs.Permitted.{is_first_agent, claimed_entry, anycast_at, claims_of, claims_from, opening_claims, opened, lost, moves, happens, permitted}
+use Rattle.mip_history.specs.Settled.{is_settled}
+use Rattle.mip_history.specs.Permitted.{is_first_agent, claimed_entry, anycast_at, claims_of, claims_from, opening_claims, opened, lost, moves, moves_if, happens, permitted}
 use Rattle.mip_origin.specs.Marked.{EachIsFollowed}
 use Rattle.mip_origin.specs.OwnHistories.{life_of, IsOwnEntry, IsPlainEvent, ArePlain}
 use Rattle.mip_origin.proofs.Coming.{AreGiven}
@@ -76,10 +77,17 @@ module _ (s : Setup) (Q : Type 0) where
       let one : Adds s Q run (acts s n calls.Leave run) = adds_acts s Q n run good calls.Leave refl (λ q. tt) tt in
       adds_then s Q run (acts s n calls.Leave run) _ one (adds_one s Q (entries.Moved (node_id n) link) (acts s n calls.Leave run) refl one.good)
 
+  adds_moves_if : (run : Run) (n : ℕ) (link : Option LinkId) → IsGood run → Adds s Q run (moves_if s run n link)
+  adds_moves_if run n link good = by (is_mobile_at s n)
+    where
+      by : (b : Bool) → Adds s Q run (if b then moves s run n link else note entries.Idle run)
+      by true = adds_moves run n link good
+      by false = adds_one s Q entries.Idle run refl good
+
   -- what an event makes of a run
   goes_happens : (run : Run) (event : Event) → (Q → IsPlainEvent event) → IsGood run → Goes s Q run (happens s run event)
   goes_happens run (Wait ms) plain good = goes_waited s Q run ms good
-  goes_happens run (Move node link) plain good = goes_adds s Q run _ (adds_moves run node.0 link good)
+  goes_happens run (Move node link) plain good = goes_adds s Q run _ (adds_moves_if run node.0 link good)
   goes_happens run (Advertise link) plain good = goes_advertised s Q run link.0 good
   goes_happens run (Payload node to proto payload) plain good = goes_adds s Q run _ (adds_acts s Q node.0 run good (calls.Send to proto payload) refl plain tt)
   goes_happens run (Inject o link packet) plain good = goes_adds s Q run _ (adds_injected s Q o link.0 packet run good)
@@ -101,7 +109,7 @@ module _ (s : Setup) (Q : Type 0) where
   goes_happens run (Plan node valid preferred) plain good = goes_adds s Q run _ (adds_acts s Q node.0 run good (calls.Plan valid preferred) refl (λ q. tt) tt)
   goes_happens run (Ask node) plain good = goes_adds s Q run _ (adds_acts s Q node.0 run good calls.Ask refl (λ q. tt) tt)
   goes_happens run (Show node) plain good = goes_adds s Q run _ (adds_shown node.0 run good)
-  goes_happens run (Settle a b) plain good = goes_adds s Q run _ (adds_one s Q entries.Idle run refl good)
+  goes_happens run (Settle a b) plain good = goes_adds s Q run _ (adds_one s Q (entries.Settled a b (is_settled s.start run.past a.0 b.0)) run refl good)
 
   -- each entry so far is right, and each `accepted` is followed by its mark
   pub record IsOwnRun (run : Run) : Type 0 where

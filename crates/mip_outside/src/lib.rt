@@ -15,10 +15,6 @@ mod put_fault;
 mod real;
 mod sink;
 mod source;
-#[cfg(test)]
-mod tests;
-#[cfg(test)]
-mod turns;
 mod wire;
 
 pub use buffered::Buffered;

@@ -22,7 +22,7 @@ module _ (P : Content → Type 0) (law : (text : List ℕ) (c : Content) → rea
 -- memory ran out before anything was written
 pub none_told : (answer : Answer) (held : Option (List ℕ)) → Told answer 5 held held
 none_told answer held = record {
-  settled = λ s. absurd (s.no_want_of_memory refl);
+  conclusive = λ s. absurd (s.no_want_of_memory refl);
   part = λ fault. absurd (omega (arith, fault));
   front = (0, append_none _ _ refl);
 }

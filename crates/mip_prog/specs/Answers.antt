@@ -17,8 +17,7 @@ use Rattle.mip_schedule.specs.Faults.{Wrong}
 use Rattle.mip_schedule.specs.Reading.{reading}
 use Rattle.mip_schedule.specs.Spelling.{spelling}
 use Rattle.mip_declared.specs.declared.reason.Reason.{Reason}
-use Rattle.mip_declared.specs.declared.reason.Reason.TheVariants as reasons
-use Rattle.mip_history.specs.Permitted.{permitted, unbuilt_line}
+use Rattle.mip_history.specs.Permitted.{permitted}
 use Rattle.mip_trace.specs.Lines.{trace_text}
 use Rattle.mip_make.specs.Made.{made}
 use Rattle.mip_make.specs.Summaries.{summary_text}
@@ -49,13 +48,8 @@ bad_answer line why = record { status = 2; text = bad_text line why }
 abbrev pub trace_of : Content → List ℕ
 trace_of c = trace_text (Some c.declarations) (permitted c)
 
--- a line that does not run yet is bad
-abbrev pub run_answer : Content → Option ℕ → Answer
-run_answer c (Some line) = bad_answer line reasons.Form
-run_answer c None = record { status = 0; text = trace_of c }
-
 abbrev pub schedule_answer : Result Content Wrong → Answer
-schedule_answer (Ok c) = run_answer c (unbuilt_line c)
+schedule_answer (Ok c) = record { status = 0; text = trace_of c }
 schedule_answer (Err wrong) = bad_answer wrong.line wrong.why
 
 abbrev pub replay_answer : List ℕ → Answer

@@ -5,7 +5,7 @@ use Rattle.std.specs.Io.KnownBytes.{prepend_known, append_known, IsAtEnd}
 use Rattle.mip_prog.specs.Answers.{Answer}
 
 -- the status is neither a fault's nor want of memory
-pub record IsSettled (status : ℕ) : Type 0 where
+pub record IsConclusive (status : ℕ) : Type 0 where
   pub no_read_fault : status ≢ 3
   pub no_write_fault : status ≢ 4
   pub no_want_of_memory : status ≢ 5
@@ -29,7 +29,7 @@ HasWrittenFront answer old new = (count : ℕ) × (new ≡ append_known old (tak
 -- what the sink held before and holds now, where it tells, and the status that was given
 pub record Told (answer : Answer) (given : ℕ) (old new : Option (List ℕ)) : Type 0 where
   -- where no call failed and memory sufficed, the answer's status, and its whole text is written
-  pub settled : IsSettled given → Says answer given old new
+  pub conclusive : IsConclusive given → Says answer given old new
   -- after a write fault some of the text is missing
   pub part : given ≡ 4 → HasWrittenPart answer old new
   -- whatever comes, nothing else is written

@@ -3,7 +3,7 @@
 ghost use Rattle.std.specs.Prelude.{◌≡◌, ◌≢◌, IfOk, Err};
 ghost use Rattle.mip_prog.specs.Answers.{form_answer, listing_answer};
 ghost use Rattle.mip_explain.specs.Listing.{listing_of};
-ghost use Rattle.mip_prog.specs.Told.{IsSettled, IsStatus};
+ghost use Rattle.mip_prog.specs.Told.{IsConclusive, IsStatus};
 
 use crate::input_form::InputForm;
 use crate::reading::LIMIT;
@@ -19,7 +19,7 @@ use std::alloc::Global;
 #[tactic(auto, unfolding(crate::specs::Answers::input_answer))]
 pub fn answer(alloc: Global, form: InputForm, input: Bytes) -> Result<Reply, Memory>
     ensures answers { IfOk result (λ reply. reply ≡ form_answer form input) }
-    ensures settled { IfOk result (λ reply. IsSettled reply.status) }
+    ensures conclusive { IfOk result (λ reply. IsConclusive reply.status) }
     ensures statuses { IfOk result (λ reply. IsStatus reply.status × (reply.status ≢ 1)) }
 {
     if input.len() > LIMIT {
@@ -33,7 +33,7 @@ pub fn answer(alloc: Global, form: InputForm, input: Bytes) -> Result<Reply, Mem
 
 fn decode(alloc: Global, input: &[u8]) -> Result<Reply, Memory>
     ensures answers { IfOk result (λ reply. reply ≡ listing_answer (listing_of input.now)) }
-    ensures settled { IfOk result (λ reply. IsSettled reply.status) }
+    ensures conclusive { IfOk result (λ reply. IsConclusive reply.status) }
 {
     match explain(alloc, input) {
         Ok(text) => Ok(Reply::whole(Status::OK, text)),
@@ -45,7 +45,7 @@ fn decode(alloc: Global, input: &[u8]) -> Result<Reply, Memory>
 /// The line of a packet that is refused.
 fn dropped(alloc: Global, refusal: NotPacket) -> Result<Reply, Memory>
     ensures answers { IfOk result (λ reply. reply ≡ listing_answer (Err refusal)) }
-    ensures settled { IfOk result (λ reply. IsSettled reply.status) }
+    ensures conclusive { IfOk result (λ reply. IsConclusive reply.status) }
 {
     let mut text = Bytes::copy(alloc, b"drop ")?;
     text.extend(refusal_word(refusal))?;

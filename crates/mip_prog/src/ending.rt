@@ -1,11 +1,12 @@
 //! The end of a run: what the sink keeps back is put on.
 
-ghost use Rattle.std.specs.Prelude.{◌≡◌, ℕ, ◌≤◌, ◌⊎◌, List, [], map, string_bytes, IfSome};
-ghost use Rattle.std.specs.Io.KnownBytes.{prepend_known};
+ghost use Rattle.std.specs.Prelude.{◌≡◌, ℕ, ◌≤◌, ◌⊎◌, List, [], true, false, map, string_bytes, IfSome};
+ghost use Rattle.std.specs.Io.KnownBytes.{prepend_known, IsAtEnd};
 ghost use Rattle.mip_outside.specs.Cause.{Rose};
 ghost use Rattle.mip_outside.specs.Waiting.{held_by};
 ghost use Rattle.mip_prog.specs.Answers.{answer_of};
-ghost use Rattle.mip_prog.specs.Told.{IsSettled, IsStatus, Says, HasWrittenFront};
+ghost use Rattle.mip_prog.specs.Commands.{command_of, takes_nothing};
+ghost use Rattle.mip_prog.specs.Told.{IsConclusive, IsStatus, Says, HasWrittenFront};
 
 use crate::status::Status;
 use crate::top::mip;
@@ -23,17 +24,22 @@ pub fn mip_flushed<S: Source, K: Sink + Drop, C: Clock, L: Link>(
 ) -> Status
     requires { sink.old.waiting ≡ [] }
     // Unless a call failed or memory ran out, the whole answer was put on.
-    ensures whole { IfSome (S.left source.old) (λ bytes. IsSettled result.0
+    ensures whole { IfSome (S.left source.old) (λ bytes. IsConclusive result.0
         → Says (answer_of (map string_bytes words.now) bytes) result.0 sink.old.put_on sink.new.put_on) }
-    ensures whole_of_some { IsSettled result.0 → ((bytes : List ℕ)
+    ensures whole_of_some { IsConclusive result.0 → ((bytes : List ℕ)
         × (S.left source.old ≡ prepend_known bytes (S.left source.new))
         × Says (answer_of (map string_bytes words.now) bytes) result.0 sink.old.put_on sink.new.put_on) }
     // Whatever the status is, what was put on and what still waits make a front of the answer.
     ensures front { (bytes : List ℕ) × (S.left source.old ≡ prepend_known bytes (S.left source.new))
         × HasWrittenFront (answer_of (map string_bytes words.now) bytes) sink.old.put_on (held_by sink.new) }
     ensures statuses { IsStatus result.0 }
+    ensures untouched { takes_nothing (command_of (map string_bytes words.now)) ≡ true → source.new ≡ source.old }
+    ensures at_end { takes_nothing (command_of (map string_bytes words.now)) ≡ false → result.0 ≡ 0 → IsAtEnd (S.left source.new) }
     ensures read_fault { result.0 ≡ 3 → Rose (S.faults source.old) (S.faults source.new) }
+    ensures read_fault_text { result.0 ≡ 3 → held_by sink.new ≡ held_by sink.old }
     ensures write_fault { result.0 ≡ 4 → Rose sink.old.faults sink.new.faults }
+    ensures clock { clock.new ≡ clock.old }
+    ensures link { link.new ≡ link.old }
 {
     let status = mip(alloc, words, source, sink, clock, link);
     finish(sink, status)
@@ -43,7 +49,7 @@ pub fn mip_flushed<S: Source, K: Sink + Drop, C: Clock, L: Link>(
 fn finish<K: Sink + Drop>(sink: &mut Buffered<K>, status: Status) -> Status
     requires { IsStatus status.0 }
     ensures held { held_by sink.new ≡ held_by sink.old }
-    ensures settled { IsSettled result.0 → (result.0 ≡ status.0) × (sink.new.waiting ≡ []) }
+    ensures conclusive { IsConclusive result.0 → (result.0 ≡ status.0) × (sink.new.waiting ≡ []) }
     ensures statuses { (result.0 ≡ status.0) ⊎ ((result.0 ≡ 4) ⊎ (result.0 ≡ 5)) }
     ensures no_fewer { sink.old.faults ≤ sink.new.faults }
     ensures cause { result.0 ≡ 4 → (status.0 ≡ 4) ⊎ Rose sink.old.faults sink.new.faults }

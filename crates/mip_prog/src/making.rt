@@ -45,7 +45,7 @@ fn text_of(alloc: Global, product: Product, draft: &Draft) -> Result<Bytes, Memo
 fn made(alloc: Global, product: Product, draft: &Draft) -> Result<Reply, Memory>
     requires { draft.now.count ≤ 20000 }
     ensures answers { IfOk result (λ reply. reply ≡ made_answer product draft.now) }
-    ensures settled { IfOk result (λ reply. reply.status ≡ 0) }
+    ensures conclusive { IfOk result (λ reply. reply.status ≡ 0) }
 {
     let text = text_of(alloc, product, draft)?;
     Ok(Reply::whole(Status::OK, text))

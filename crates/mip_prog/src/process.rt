@@ -1,12 +1,13 @@
 //! The process: what its words and its input come to.
 
-ghost use Rattle.std.specs.Prelude.{◌≡◌, ℕ, ◌≤◌, ◌⊎◌, List, [], map, string_bytes, IfSome, IfOk, OnErr, IsErr};
-ghost use Rattle.std.specs.Io.KnownBytes.{prepend_known};
+ghost use Rattle.std.specs.Prelude.{◌≡◌, ℕ, ◌≤◌, ◌⊎◌, List, [], true, false, map, string_bytes, IfSome, IfOk, OnErr, IsErr};
+ghost use Rattle.std.specs.Io.KnownBytes.{prepend_known, IsAtEnd};
 ghost use Rattle.mip_outside.specs.Cause.{Rose};
 ghost use Rattle.mip_outside.specs.Waiting.{held_by};
 ghost use Rattle.mip_prog.specs.Answers.{answer_of};
+ghost use Rattle.mip_prog.specs.Commands.{command_of, takes_nothing};
 ghost use Rattle.mip_prog.specs.Given.{words_behind, LacksMemory};
-ghost use Rattle.mip_prog.specs.Told.{IsSettled, IsStatus, Says, HasWrittenFront};
+ghost use Rattle.mip_prog.specs.Told.{IsConclusive, IsStatus, Says, HasWrittenFront};
 
 use crate::ending::mip_flushed;
 use crate::given::words;
@@ -27,9 +28,9 @@ pub fn run<S: Source, K: Sink + Drop, C: Clock>(
 ) -> u8
     requires { sink.old.waiting ≡ [] }
     // Unless a call failed or memory ran out, the whole answer to the words and the input was put on, and the status is its own.
-    ensures whole { IfSome (S.left source.old) (λ bytes. IsSettled result
+    ensures whole { IfSome (S.left source.old) (λ bytes. IsConclusive result
         → Says (answer_of (map string_bytes (words_behind given)) bytes) result sink.old.put_on sink.new.put_on) }
-    ensures whole_of_some { IsSettled result → ((bytes : List ℕ)
+    ensures whole_of_some { IsConclusive result → ((bytes : List ℕ)
         × (S.left source.old ≡ prepend_known bytes (S.left source.new))
         × Says (answer_of (map string_bytes (words_behind given)) bytes) result sink.old.put_on sink.new.put_on) }
     // Whatever the status is, what was put on and what still waits make a front of the answer.
@@ -38,8 +39,13 @@ pub fn run<S: Source, K: Sink + Drop, C: Clock>(
     // Where there was no memory for the words the status says that, and not that they are no form.
     ensures memory { LacksMemory given → result ≡ 5 }
     ensures statuses { IsStatus result }
+    // What is made of a seed takes nothing from the source, and no words that are no form do.
+    ensures untouched { takes_nothing (command_of (map string_bytes (words_behind given))) ≡ true → source.new ≡ source.old }
+    ensures at_end { takes_nothing (command_of (map string_bytes (words_behind given))) ≡ false → result ≡ 0 → IsAtEnd (S.left source.new) }
     ensures read_fault { result ≡ 3 → Rose (S.faults source.old) (S.faults source.new) }
+    ensures read_fault_text { result ≡ 3 → held_by sink.new ≡ held_by sink.old }
     ensures write_fault { result ≡ 4 → Rose sink.old.faults sink.new.faults }
+    ensures clock { clock.new ≡ clock.old }
 {
     Status::of(attempt(alloc, given, source, sink, clock)).0
 }
@@ -53,9 +59,9 @@ fn attempt<S: Source, K: Sink + Drop, C: Clock>(
     clock: &mut C,
 ) -> Result<Status, Memory>
     requires { sink.old.waiting ≡ [] }
-    ensures whole { IfOk result (λ status. IfSome (S.left source.old) (λ bytes. IsSettled status.0
+    ensures whole { IfOk result (λ status. IfSome (S.left source.old) (λ bytes. IsConclusive status.0
         → Says (answer_of (map string_bytes (words_behind given)) bytes) status.0 sink.old.put_on sink.new.put_on)) }
-    ensures whole_of_some { IfOk result (λ status. IsSettled status.0 → ((bytes : List ℕ)
+    ensures whole_of_some { IfOk result (λ status. IsConclusive status.0 → ((bytes : List ℕ)
         × (S.left source.old ≡ prepend_known bytes (S.left source.new))
         × Says (answer_of (map string_bytes (words_behind given)) bytes) status.0 sink.old.put_on sink.new.put_on)) }
     ensures front { IfOk result (λ status. (bytes : List ℕ) × (S.left source.old ≡ prepend_known bytes (S.left source.new))
@@ -64,7 +70,11 @@ fn attempt<S: Source, K: Sink + Drop, C: Clock>(
     ensures unread { OnErr result (source.new ≡ source.old) }
     ensures unwritten { OnErr result (sink.new ≡ sink.old) }
     ensures statuses { IfOk result (λ status. IsStatus status.0) }
+    ensures untouched { takes_nothing (command_of (map string_bytes (words_behind given))) ≡ true → source.new ≡ source.old }
+    ensures at_end { IfOk result (λ status. takes_nothing (command_of (map string_bytes (words_behind given))) ≡ false → status.0 ≡ 0 → IsAtEnd (S.left source.new)) }
+    ensures clock { clock.new ≡ clock.old }
     ensures read_fault { IfOk result (λ status. status.0 ≡ 3 → Rose (S.faults source.old) (S.faults source.new)) }
+    ensures read_fault_text { IfOk result (λ status. status.0 ≡ 3 → held_by sink.new ≡ held_by sink.old) }
     ensures write_fault { IfOk result (λ status. status.0 ≡ 4 → Rose sink.old.faults sink.new.faults) }
 {
     let words = words(alloc, given)?;

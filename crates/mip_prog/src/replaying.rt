@@ -1,19 +1,16 @@
 //! What `replay` answers to a schedule.
 
 ghost use Rattle.std.specs.Prelude.{◌≡◌, ◌≤◌, IfOk, length};
-ghost use Rattle.mip_schedule.specs.Schedules.{content};
-ghost use Rattle.mip_history.specs.Permitted.{unbuilt_line};
-ghost use Rattle.mip_prog.specs.Answers.{replay_answer, run_answer, bad_answer};
+ghost use Rattle.mip_prog.specs.Answers.{replay_answer, bad_answer};
 ghost use Rattle.mip_prog.specs.Words.{reason_word};
-ghost use Rattle.mip_prog.specs.Told.{IsSettled};
+ghost use Rattle.mip_prog.specs.Told.{IsConclusive};
 
 use crate::lengths::event_lines;
 use crate::reply::Reply;
 use crate::status::Status;
 use crate::text::Text;
 use itoa::Buffer;
-use mip_replay::unbuilt;
-use mip_schedule::{Reason, Schedule, ScheduleFault, read_schedule};
+use mip_schedule::{Reason, ScheduleFault, read_schedule};
 use mip_words::{Bytes, Memory};
 use std::alloc::Global;
 
@@ -24,7 +21,7 @@ const EVENTS: usize = 20_000;
 pub fn replay(alloc: Global, input: Bytes) -> Result<Reply, Memory>
     requires { length input ≤ 16777216 }
     ensures answers { IfOk result (λ reply. reply ≡ replay_answer input) }
-    ensures settled { IfOk result (λ reply. IsSettled reply.status) }
+    ensures conclusive { IfOk result (λ reply. IsConclusive reply.status) }
 {
     if event_lines(input.as_slice()) > EVENTS {
         return Reply::copy(alloc, Status::TOO_LONG, b"long\n");
@@ -32,23 +29,12 @@ pub fn replay(alloc: Global, input: Bytes) -> Result<Reply, Memory>
     let read = read_schedule(alloc, input.as_slice());
     drop(input);
     match read {
-        Ok(schedule) => run(alloc, schedule),
-        Err(ScheduleFault::Bad { line, why }) => bad(alloc, line, why),
-        Err(ScheduleFault::Memory) => Err(Memory),
-    }
-}
-
-/// The trace of a schedule that was read, unless a line of it does not run yet.
-fn run(alloc: Global, schedule: Schedule) -> Result<Reply, Memory>
-    ensures answers { IfOk result (λ reply. reply ≡ run_answer (content schedule) (unbuilt_line (content schedule))) }
-    ensures settled { IfOk result (λ reply. IsSettled reply.status) }
-{
-    match unbuilt(&schedule) {
-        Some(line) => bad(alloc, line, Reason::Form),
-        None => Ok(Reply {
+        Ok(schedule) => Ok(Reply {
             status: Status::OK,
             text: Text::Trace(schedule),
         }),
+        Err(ScheduleFault::Bad { line, why }) => bad(alloc, line, why),
+        Err(ScheduleFault::Memory) => Err(Memory),
     }
 }
 
@@ -56,7 +42,7 @@ fn run(alloc: Global, schedule: Schedule) -> Result<Reply, Memory>
 #[tactic(auto, unfolding(crate::specs::Answers::bad_text, mip_lines::specs::Lines::line_text))]
 fn bad(alloc: Global, line: u32, why: Reason) -> Result<Reply, Memory>
     ensures answers { IfOk result (λ reply. reply ≡ bad_answer line why) }
-    ensures settled { IfOk result (λ reply. IsSettled reply.status) }
+    ensures conclusive { IfOk result (λ reply. IsConclusive reply.status) }
 {
     let mut digits = Buffer::new();
     let mut text = Bytes::copy(alloc, b"bad ")?;

@@ -9,7 +9,7 @@ ghost use Rattle.mip_history.specs.Permitted.{permitted};
 ghost use Rattle.mip_trace.specs.Lines.{entry_row, trace_text};
 ghost use Rattle.mip_trace.specs.Reading.{reading};
 ghost use Rattle.mip_prog.specs.Answers.{trace_of};
-ghost use Rattle.mip_prog.specs.Told.{IsSettled, Told};
+ghost use Rattle.mip_prog.specs.Told.{IsConclusive, Told};
 
 use crate::reply::Reply;
 use crate::status::Status;
@@ -29,7 +29,7 @@ const LINE: usize = 512;
 
 /// Writes a reply, and gives its status where all of it was taken.
 pub fn tell_reply<K: Sink>(alloc: Global, sink: &mut K, reply: &Reply) -> Status
-    requires { IsSettled reply.now.status }
+    requires { IsConclusive reply.now.status }
     ensures told { Told reply.now result.0 (K.held sink.old) (K.held sink.new) }
     ensures status { (result.0 ≡ reply.now.status) ⊎ ((result.0 ≡ 4) ⊎ (result.0 ≡ 5)) }
     ensures no_fewer { K.faults sink.old ≤ K.faults sink.new }
@@ -43,7 +43,7 @@ pub fn tell_reply<K: Sink>(alloc: Global, sink: &mut K, reply: &Reply) -> Status
 
 /// Writes the trace of a schedule, and gives this status where all of it was taken.
 fn tell_trace<K: Sink>(alloc: Global, sink: &mut K, schedule: &Schedule, status: Status) -> Status
-    requires { IsSettled status.0 }
+    requires { IsConclusive status.0 }
     ensures told { Told record { status = status.0; text = trace_of (content schedule.now) } result.0 (K.held sink.old) (K.held sink.new) }
     ensures status { (result.0 ≡ status.0) ⊎ ((result.0 ≡ 4) ⊎ (result.0 ≡ 5)) }
     ensures no_fewer { K.faults sink.old ≤ K.faults sink.new }

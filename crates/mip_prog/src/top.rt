@@ -6,9 +6,10 @@ ghost use Rattle.mip_outside.specs.Cause.{Rose};
 ghost use Rattle.mip_schedule.specs.Reading.{reading};
 ghost use Rattle.mip_history.specs.Setup.{setup_of};
 ghost use Rattle.mip_history.specs.Permitted.{permitted};
-ghost use Rattle.mip_origin.specs.Marked.{EachIsMarked};
+ghost use Rattle.mip_replay.specs.Marked.{EachIsMarked};
 ghost use Rattle.mip_replay.specs.Bindings.{EachIsBound, EachRepeatIsLate};
 ghost use Rattle.mip_replay.specs.Homes.{HomesAreSent};
+ghost use Rattle.mip_delivery.specs.Reached.{EachReaches};
 ghost use Rattle.mip_prog.specs.Commands.{command_of, takes_nothing};
 ghost use Rattle.mip_prog.specs.Answers.{answer_of, form_answer};
 ghost use Rattle.mip_prog.specs.Told.{IsAnswered, IsStatus, Told};
@@ -21,6 +22,7 @@ use crate::reading::{ReadFault, read_input};
 use crate::status::Status;
 use crate::telling::tell_reply;
 use crate::writing::tell;
+use mip_delivery::each_delivery_arrives;
 use mip_outside::{Clock, Link, Sink, Source};
 use mip_replay::{
     each_acceptance_is_marked, each_home_is_sent, each_is_bound, each_repeat_is_late,
@@ -54,6 +56,9 @@ pub fn mip<S: Source, K: Sink, C: Clock, L: Link>(
     // In it each accepted update is followed by its mark. Where that is an origin, both tokens had reached whoever made
     // the update before its first packet was posted.
     ensures marked { IfSome (S.left source.old) (λ bytes. IfOk (reading bytes) (λ c. EachIsMarked (setup_of c) (permitted c))) }
+    // In its run data between settled ends is handed up at the other end, with home addresses restored, where each packet of the
+    // chain is delivered while nothing of what settled them changes.
+    ensures delivered { IfSome (S.left source.old) (λ bytes. IfOk (reading bytes) (λ c. EachReaches (setup_of c) c.events)) }
 
     ensures statuses { IsStatus result.0 }
     ensures usage { result.0 ≡ 1 → command_of (map string_bytes words.now) ≡ None }
@@ -76,6 +81,7 @@ pub fn mip<S: Source, K: Sink, C: Clock, L: Link>(
     each_repeat_is_late();
     each_home_is_sent();
     each_acceptance_is_marked();
+    each_delivery_arrives();
     let Ok(command) = parse(alloc, words) else {
         return Status::MEMORY;
     };

@@ -3,7 +3,7 @@
 ghost use Rattle.std.specs.Prelude.{◌≡◌, ℕ, ◌<◌, ◌≤◌, ◌⊎◌, List, length, take, OnOk, OnErr, IsErrOf};
 ghost use Rattle.std.specs.Io.KnownBytes.{append_known};
 ghost use Rattle.mip_outside.specs.Cause.{Rose};
-ghost use Rattle.mip_prog.specs.Told.{IsSettled, Told};
+ghost use Rattle.mip_prog.specs.Told.{IsConclusive, Told};
 
 use crate::status::Status;
 use mip_lines::cut_at;
@@ -11,7 +11,7 @@ use mip_outside::{PutFault, Sink};
 
 /// Writes the text, and gives this status where all of it was taken.
 pub fn tell<K: Sink>(sink: &mut K, text: &[u8], status: Status) -> Status
-    requires { IsSettled status.0 }
+    requires { IsConclusive status.0 }
     ensures told { Told record { status = status.0; text = text.now } result.0 (K.held sink.old) (K.held sink.new) }
     ensures status { (result.0 ≡ status.0) ⊎ ((result.0 ≡ 4) ⊎ (result.0 ≡ 5)) }
     ensures no_fewer { K.faults sink.old ≤ K.faults sink.new }

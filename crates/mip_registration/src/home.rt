@@ -205,7 +205,7 @@ fn turn_to(
 }
 
 /// At home a registration is undone, if there was one; away it is made.
-pub fn settle(alloc: Global, desk: &mut Desk) -> Result<(), Memory>
+pub fn register_or_deregister(alloc: Global, desk: &mut Desk) -> Result<(), Memory>
     ensures { (t : Turn) → Shows desk.old t → OnOk result (Shows desk.new (settles t)) }
 {
     match desk.standing() {

@@ -8,8 +8,6 @@ mod packets;
 mod ringing;
 
 pub use asking::{solicit, take_prefix_reply};
-pub use home::{
-    catch_up, deregister, register, register_with, resend_home, seek, seek_again, settle, turn_away,
-};
+pub use home::{catch_up, register, resend_home, seek_again, turn_away};
 pub use moving::{address_under, arrive};
 pub use ringing::{end_home, renew_home};

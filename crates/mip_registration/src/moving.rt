@@ -5,7 +5,7 @@ ghost use Rattle.mip_rules_mobile.specs.Turns.{Turn};
 ghost use Rattle.mip_rules_mobile.specs.MovingRules.{address_under, arrives_by, arrives};
 ghost use Rattle.mip_desk.specs.Seen.{Shows};
 
-use crate::home::settle;
+use crate::home::register_or_deregister;
 use mip_desk::Desk;
 use mip_outside::Claim;
 use mip_words::{Address, Memory, Prefix};
@@ -33,11 +33,11 @@ fn arrive_at(alloc: Global, desk: &mut Desk, address: Address, claim: Claim) -> 
         Claim::Held => {
             desk.claim(address)?;
             desk.arrive(address)?;
-            settle(alloc, desk)
+            register_or_deregister(alloc, desk)
         }
         Claim::Waiting => {
             desk.arrive(address)?;
-            settle(alloc, desk)
+            register_or_deregister(alloc, desk)
         }
         Claim::Taken { by } => desk.find_taken(address, by),
     }

@@ -13,8 +13,8 @@ use Rattle.mip_history.specs.Calls.{Attach}
 use Rattle.mip_history.specs.Claims.{link_id}
 use Rattle.mip_history.specs.Nodes.{acts}
 use Rattle.mip_history.specs.Advertising.{Router, is_link, router_by_host, router_at, roams_by_host, roams_on, hears_of_node, hears_of_first, mobile_told, mobiles_told}
-use Rattle.mip_nodes.specs.Nodes.{NodeSeen, router_of}
-use Rattle.mip_nodes.specs.Roles.{is_roaming}
+use Rattle.mip_engine.specs.Nodes.{NodeSeen, router_of}
+use Rattle.mip_engine.specs.Roles.{is_roaming}
 use Rattle.mip_engine.specs.Engines.{EngineSeen, with_entry}
 use Rattle.mip_engine.specs.Quiet.{IsQuiet}
 use Rattle.mip_engine.specs.Standing.{IsAt, node_in}

@@ -1,5 +1,4 @@
 pub mod RestartLaws
-pub mod EventLaws
 pub mod ReadyLaws
 pub mod ForgingLaws
 pub mod BindingLaws

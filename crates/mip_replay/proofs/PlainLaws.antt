@@ -21,7 +21,7 @@ use Rattle.mip_history.specs.Passing.{waited_by}
 use Rattle.mip_history.specs.Permitted.{permitted}
 use Rattle.mip_origin.specs.OwnHistories.{IsPlainEvent, ArePlain}
 use Rattle.mip_origin.specs.Marked.{EachIsMarked}
-use Rattle.mip_nodes.specs.Payloads.{is_payload}
+use Rattle.mip_engine.specs.Payloads.{is_payload}
 use Rattle.mip_replay.proofs.ReadyLaws.{payload_fits, waits_are}
 use Rattle.mip_replay.proofs.BindingLaws.{AreShort}
 

@@ -9,21 +9,22 @@ use Rattle.mip_words.specs.declared.ids.LinkId.{LinkId}
 use Rattle.mip_links.specs.Table.{Asked}
 use Rattle.mip_schedule.specs.Contents.{Content, holding}
 use Rattle.mip_schedule.specs.EventTimes.{wait_of, waited, carried, is_reserved, is_packet, misfit, untimely}
-use Rattle.mip_schedule.specs.Lawful.{IsEvent, IsLawful, IsLink, IsOutsider}
+use Rattle.mip_schedule.specs.Lawful.{IsEvent, IsLawful, IsLink, IsNode, IsOutsider}
 use Rattle.mip_declared.specs.Places.{AreFew}
 use Rattle.mip_declared.specs.declared.declaration.Declaration.{Declaration}
 use Rattle.mip_schedule.specs.declared.event.Event.{Event}
-use Rattle.mip_schedule.specs.declared.event.Event.TheVariants.{Wait, Advertise, Payload, Inject, Bind, Listen, Deaf, Squat, Yield, Restart}
+use Rattle.mip_schedule.specs.declared.event.Event.TheVariants.{Wait, Advertise, Payload, Inject, Bind, Listen, Deaf, Squat, Yield, Restart, Settle}
 use Rattle.mip_declared.specs.declared.reason.Reason.TheVariants as reasons
 use Rattle.mip_history.specs.Setup.{setup_of, links_in}
 use Rattle.mip_history.specs.Questions.{moment_in, life_in}
 use Rattle.mip_history.specs.Permitted.{permitted, run_of}
 use Rattle.mip_history.specs.Passing.{waited_by, restarted_by}
-use Rattle.mip_nodes.specs.Nodes.{NodeSeen}
+use Rattle.mip_history.proofs.Declarations.{hosts_count}
+use Rattle.mip_engine.specs.Nodes.{NodeSeen}
 use Rattle.mip_engine.specs.Engines.{EngineSeen}
 use Rattle.mip_words.specs.declared.ids.NodeId.{NodeId}
 use Rattle.mip_words.specs.declared.address.Address.{Address}
-use Rattle.mip_nodes.specs.Payloads.{is_payload}
+use Rattle.mip_engine.specs.Payloads.{is_payload}
 use Rattle.mip_replay.specs.Ready.{IsReady, IsEar}
 use Rattle.mip_engine.specs.Standing.{IsAt}
 use Rattle.mip_engine.proofs.JoinLaws.{passed, many_links}
@@ -140,6 +141,9 @@ module _ (waits : AreWaits) (lives : AreRestarts) (c : Content) (lawful : IsLawf
       let fits = wait_fits ds (waited before) (carried before) ms (timely ds (length before) (waited before) (carried before) (Wait ms) is.fits).1 in
       (omega (arith, at.now, moment_is waits c before, fits, lawful.start), record { setup = setup_of c; events = before; stands = at })
 
+  node_there : (node : NodeId) → IsNode ds node → node.0 < length e.nodes
+  node_there node declared = omega (arith, declared, at.count, hosts_count ds 0 ds)
+
   restart_ready : (n : ℕ) → length before < 20000 → (x : NodeSeen) → slice_get e.nodes n ≡ Some x → x.life + 1 < 2 ^ 32
   restart_ready n short x there =
       let found = host_of e (setup_of c) (run_of (setup_of c) before) at n x there in
@@ -161,6 +165,7 @@ module _ (waits : AreWaits) (lives : AreRestarts) (c : Content) (lawful : IsLawf
   ready (Squat o address) is = outsider_there o is.within.0
   ready (Yield o address) is = outsider_there o is.within.0
   ready (Restart node) is = restart_ready node.0 (fits _ is).0
+  ready (Settle a b) is = (node_there a is.within.0, node_there b is.within.1, record { setup = setup_of c; events = before; stands = at })
   ready _ is = tt
 
 -- each event of a schedule, after those before it

@@ -19,10 +19,10 @@ use Rattle.mip_history.specs.Homes.{gives_up}
 use Rattle.mip_history.specs.Restarting.{homes_left, reborn_by_host, restarted}
 use Rattle.mip_links.specs.Table.{link_of}
 use Rattle.mip_nonce.specs.Secrets.{Life}
-use Rattle.mip_nodes.specs.Nodes as nodes
-use Rattle.mip_nodes.specs.Nodes.{NodeSeen}
-use Rattle.mip_nodes.specs.Roles.{is_roaming, homes_of}
-use Rattle.mip_nodes.proofs.RoleLaws.{known_first, agent_known_first}
+use Rattle.mip_engine.specs.Nodes as nodes
+use Rattle.mip_engine.specs.Nodes.{NodeSeen}
+use Rattle.mip_engine.specs.Roles.{is_roaming, homes_of}
+use Rattle.mip_engine.proofs.RoleLaws.{known_first, agent_known_first}
 use Rattle.mip_engine.specs.Engines.{EngineSeen, with_entry, with_node, reborn}
 use Rattle.mip_replay.specs.Renewals.{emptied, renewed, begun_anew}
 use Rattle.mip_engine.specs.Standing.{IsAt, role_in, node_in}

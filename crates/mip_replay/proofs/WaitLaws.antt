@@ -13,8 +13,8 @@ use Rattle.mip_history.specs.Calls.{Tick}
 use Rattle.mip_history.specs.Knowing.{now_in}
 use Rattle.mip_history.specs.Nodes.{acts}
 use Rattle.mip_history.specs.Waiting.{due_by_kind, due_by_host, due_of, earliest, is_due, Waiting, comes_to, ticks_one, works, works_on, works_until, waited}
-use Rattle.mip_nodes.specs.Nodes.{NodeSeen}
-use Rattle.mip_nodes.specs.Roles.{due_of as role_due}
+use Rattle.mip_engine.specs.Nodes.{NodeSeen}
+use Rattle.mip_engine.specs.Roles.{due_of as role_due}
 use Rattle.mip_engine.specs.Engines.{EngineSeen, with_entry, at_moment}
 use Rattle.mip_engine.specs.Standing.{IsAt, node_in}
 use Rattle.mip_engine.proofs.NumberLaws.{numbered_apart}

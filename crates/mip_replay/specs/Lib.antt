@@ -5,3 +5,4 @@ pub mod Ready
 pub mod Groups
 pub mod Renewals
 pub mod Pieces
+pub use Rattle.mip_origin.specs.Marked

@@ -1,13 +1,13 @@
 -- What an engine needs to let an event happen: what the event names is there, and its sizes, the moment and the lives
--- stay within their bounds; time goes on in a run of events. Every event of a schedule finds the engine ready.
+-- stay within their bounds; time goes on in a run of events, and there ends are settled or not. Every event of a schedule finds the engine ready.
 use Rattle.std.specs.Prelude.{◌≡◌, ℕ, ◌+◌, ◌<◌, ◌≤◌, ◌^◌, length, true, Some, slice_get, ⊤}
 use Rattle.mip_words.specs.Addresses.{is_routable}
 use Rattle.mip_words.specs.declared.ids.LinkId.{LinkId}
 use Rattle.mip_schedule.specs.declared.event.Event.{Event}
-use Rattle.mip_schedule.specs.declared.event.Event.TheVariants.{Wait, Advertise, Payload, Inject, Bind, Listen, Deaf, Squat, Yield, Restart}
-use Rattle.mip_nodes.specs.Nodes.{NodeSeen}
+use Rattle.mip_schedule.specs.declared.event.Event.TheVariants.{Wait, Advertise, Payload, Inject, Bind, Listen, Deaf, Squat, Yield, Restart, Settle}
+use Rattle.mip_engine.specs.Nodes.{NodeSeen}
 use Rattle.mip_engine.specs.Engines.{EngineSeen}
-use Rattle.mip_nodes.specs.Payloads.{is_payload}
+use Rattle.mip_engine.specs.Payloads.{is_payload}
 use Rattle.mip_engine.specs.Standing.{IsOfRun}
 
 -- the outsider and the link are there
@@ -25,4 +25,5 @@ IsReady e (Deaf outsider link) = IsEar e outsider link
 IsReady e (Squat outsider address) = outsider < 8
 IsReady e (Yield outsider address) = outsider < 8
 IsReady e (Restart node) = (c : NodeSeen) → slice_get e.nodes node.0 ≡ Some c → c.life + 1 < 2 ^ 32
+IsReady e (Settle a b) = (a.0 < length e.nodes) × (b.0 < length e.nodes) × IsOfRun e
 IsReady e _ = ⊤

@@ -7,12 +7,11 @@ ghost use Rattle.mip_history.specs.Nodes.{acts};
 ghost use Rattle.mip_history.specs.Setup.{Setup};
 ghost use Rattle.mip_history.specs.Runs.{Run, note};
 ghost use Rattle.mip_history.specs.Advertising.{is_link, router_at, hears_of_router, hears_of_node, hears_of_first, hears_of_all, agents_hear, roams_on, mobile_told, mobiles_told, advertised};
-ghost use Rattle.mip_nodes.specs.Nodes.{seen_router};
+ghost use Rattle.mip_engine.specs.Nodes.{seen_router};
 ghost use Rattle.mip_engine.specs.Standing.{IsAt};
 
-use mip_engine::Engine;
+use mip_engine::{Call, Engine, Router};
 use mip_entries::Entry;
-use mip_nodes::{Call, Router};
 use mip_words::{LinkId, Memory, NodeId, Prefix};
 use std::alloc::Global;
 

@@ -10,10 +10,9 @@ ghost use Rattle.mip_history.specs.Permitted.{lost};
 ghost use Rattle.mip_links.specs.Nets.{lowest_of};
 ghost use Rattle.mip_engine.specs.Standing.{IsAt};
 
-use mip_engine::{Arrival, Engine};
+use mip_engine::{Arrival, Call, Engine};
 use mip_entries::Entry;
 use mip_links::{Delivery, FIRST_OUTSIDER};
-use mip_nodes::Call;
 use mip_words::{LinkId, Memory, NodeId, Shield, Why};
 use std::alloc::Global;
 
@@ -152,7 +151,7 @@ pub(crate) fn carry(alloc: Global, engine: &mut Engine, count: u32) -> Result<()
 }
 
 /// A packet is lost.
-pub(crate) fn drop_packet(engine: &mut Engine, number: u64) -> Result<(), Memory>
+pub(crate) fn lose_packet(engine: &mut Engine, number: u64) -> Result<(), Memory>
     ensures stands { (s : Setup) (run : Run) → IsAt engine.old s run → OnOk result (IsAt engine.new s (lost run number)) }
     ensures kept { OnOk result (engine.new.told ≡ engine.old.told) }
 {

@@ -1,25 +1,24 @@
 //! What each event makes of a run.
 
-ghost use Rattle.std.specs.Prelude.{◌≡◌, true, false, OnOk};
+ghost use Rattle.std.specs.Prelude.{◌≡◌, ◌<◌, length, true, OnOk};
+ghost use Rattle.mip_schedule.specs.declared.event.Event.TheVariants.{Settle};
 ghost use Rattle.mip_history.specs.Setup.{Setup};
 ghost use Rattle.mip_history.specs.Runs.{Run};
-ghost use Rattle.mip_history.specs.Permitted.{happens, is_built_event};
+ghost use Rattle.mip_history.specs.Permitted.{happens};
 ghost use Rattle.mip_replay.specs.Groups.{is_bind, is_call, is_posting};
 ghost use Rattle.mip_replay.specs.Ready.{IsReady};
-ghost use Rattle.mip_engine.specs.Standing.{IsAt};
+ghost use Rattle.mip_engine.specs.Standing.{IsAt, IsOfRun};
 
 use crate::advertising::advertise;
 use crate::binding::Binding;
-use crate::delivering::{carry, deliver, drop_packet};
+use crate::delivering::{carry, deliver, lose_packet};
 use crate::forging::{bind, probe, tell};
 use crate::outsiders::{deafen, listen, squat, yield_up};
 use crate::restarting::restart;
 use crate::waiting::wait;
-use mip_engine::Engine;
-use mip_entries::Entry;
-use mip_nodes::Call;
+use mip_engine::{Call, Engine};
 use mip_schedule::Event;
-use mip_words::Memory;
+use mip_words::{Memory, NodeId};
 use std::alloc::Global;
 
 /// An outsider posts an update.
@@ -154,13 +153,15 @@ fn node_is_asked(alloc: Global, engine: &mut Engine, event: &Event) -> Result<()
     }
 }
 
-/// Events that do nothing yet.
-fn nothing_happens(engine: &mut Engine, event: &Event) -> Result<(), Memory>
-    requires { is_built_event event.now ≡ false }
-    ensures stands { (s : Setup) (run : Run) → IsAt engine.old s run → OnOk result (IsAt engine.new s (happens s run event.now)) }
+/// Whether two ends are settled is asked.
+fn settle(engine: &mut Engine, a: NodeId, b: NodeId) -> Result<(), Memory>
+    requires first { a.0 < length engine.old.nodes }
+    requires second { b.0 < length engine.old.nodes }
+    requires of_run { IsOfRun engine.old }
+    ensures stands { (s : Setup) (run : Run) → IsAt engine.old s run → OnOk result (IsAt engine.new s (happens s run (Settle a b))) }
     ensures kept { OnOk result (engine.new.told ≡ engine.old.told) }
 {
-    engine.note(Entry::Idle)
+    engine.settle(a, b)
 }
 
 /// An event happens that finds the engine ready.
@@ -180,7 +181,7 @@ pub(crate) fn happen(alloc: Global, engine: &mut Engine, event: &Event) -> Resul
         }
         Event::Deliver { number } => deliver(alloc, engine, u64::from(*number), false),
         Event::Repeat { number } => deliver(alloc, engine, u64::from(*number), true),
-        Event::Lose { number } => drop_packet(engine, u64::from(*number)),
+        Event::Lose { number } => lose_packet(engine, u64::from(*number)),
         Event::Carry { count } => carry(alloc, engine, *count),
         Event::Wait { ms } => wait(alloc, engine, *ms),
         Event::Advertise { link } => advertise(alloc, engine, *link),
@@ -190,6 +191,6 @@ pub(crate) fn happen(alloc: Global, engine: &mut Engine, event: &Event) -> Resul
             node_is_asked(alloc, engine, event)
         }
         Event::Show { node } => engine.show(*node),
-        _ => nothing_happens(engine, event),
+        Event::Settle { a, b } => settle(engine, *a, *b),
     }
 }

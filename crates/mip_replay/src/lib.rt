@@ -4,7 +4,6 @@
 mod advertising;
 mod asking;
 mod binding;
-mod built;
 mod delivering;
 mod forging;
 mod happening;
@@ -16,7 +15,6 @@ mod run_in_pieces;
 mod told;
 mod waiting;
 
-pub use built::unbuilt;
 pub use laws::{each_acceptance_is_marked, each_home_is_sent, each_is_bound, each_repeat_is_late};
 pub use run::replay;
 pub use run_in_pieces::Run;

@@ -5,15 +5,13 @@ ghost use Rattle.mip_history.specs.Setup.{Setup};
 ghost use Rattle.mip_history.specs.Runs.{Run, note};
 ghost use Rattle.mip_history.specs.Homes.{gives_up};
 ghost use Rattle.mip_history.specs.Restarting.{homes_left, restarted};
-ghost use Rattle.mip_nodes.specs.Nodes.{NodeSeen};
-ghost use Rattle.mip_nodes.specs.Roles.{homes_of};
+ghost use Rattle.mip_engine.specs.Nodes.{NodeSeen};
+ghost use Rattle.mip_engine.specs.Roles.{homes_of};
 ghost use Rattle.mip_replay.specs.Renewals.{begun_anew};
 ghost use Rattle.mip_engine.specs.Standing.{IsAt};
 
-use mip_engine::Engine;
+use mip_engine::{Call, Engine, HomeRow};
 use mip_entries::Entry;
-use mip_homeagent::HomeRow;
-use mip_nodes::Call;
 use mip_words::{Memory, NodeId};
 use std::alloc::Global;
 

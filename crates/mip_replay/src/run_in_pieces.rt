@@ -44,7 +44,7 @@ impl Run {
         Ok(Run { engine, next: 0 })
     }
 
-    /// The entries that come next, some hundred at a time; none at the end of the run.
+    /// The entries that come next, some sixty at a time; none at the end of the run.
     pub fn next(&mut self, alloc: Global, schedule: &Schedule) -> Result<Option<History>, Memory>
         requires { IsRunOf self.old (content schedule.now) }
         ensures stands { OnOk result (IsRunOf self.new (content schedule.now)) }

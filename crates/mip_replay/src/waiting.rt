@@ -5,12 +5,11 @@ ghost use Rattle.std.specs.Option.{option_map_or};
 ghost use Rattle.mip_history.specs.Setup.{Setup};
 ghost use Rattle.mip_history.specs.Runs.{Run};
 ghost use Rattle.mip_history.specs.Waiting.{due_of, sooner, earliest, is_due, comes_to, ticks_one, ticked, works, works_on, works_until, waited};
-ghost use Rattle.mip_nodes.specs.Roles.{due_of as role_due};
+ghost use Rattle.mip_engine.specs.Roles.{due_of as role_due};
 ghost use Rattle.mip_engine.specs.Standing.{IsAt, IsOfRun};
 
-use mip_engine::Engine;
+use mip_engine::{Call, Engine};
 use mip_history::work_stays_within_its_wait;
-use mip_nodes::Call;
 use mip_words::{Memory, Moment, NodeId};
 use std::alloc::Global;
 

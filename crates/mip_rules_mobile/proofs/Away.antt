@@ -1,22 +1,17 @@
 -- Away, a call by which the mobile stays where it stands sends no packet from the home address.
 use Rattle.std.proofs.Common.{◌≡◌, ℕ, List, [], ◌∷◌, ◌++◌, refl, sym, ap, ◌∙◌, subst}
-use Rattle.std.specs.Prelude.{Option, None, true, unwrap_or}
+use Rattle.std.specs.Prelude.{true, false, Option, None, unwrap_or}
 use Rattle.std.specs.List.{AllByRecursion}
 use Rattle.mip_words.specs.declared.address.Address.{Address}
 use Rattle.mip_nonce.specs.Secrets.{Life}
 use Rattle.mip_entries.specs.declared.answer.Answer.{Answer}
 use Rattle.mip_entries.specs.declared.answer.Answer.TheVariants.{Send, Note}
 use Rattle.mip_turns.proofs.TurnLaws.{noted-steps}
-use Rattle.mip_reception.specs.declared.refusal.Refusal.{Refusal}
-use Rattle.mip_entries.specs.Reasons.{is_dropped_why}
 use Rattle.mip_entries.specs.Stamped.{Stamped}
-use Rattle.mip_rules_mobile.specs.ReceivingRules.{refuses}
-use Rattle.mip_rules_correspondent.specs.Calls as parts
 use Rattle.mip_rules_mobile.specs.declared.standing.Standing.{Standing}
 use Rattle.mip_rules_mobile.specs.declared.standing.Standing.TheVariants.{Detached, AtHome, Away}
 use Rattle.mip_rules_mobile.specs.Calls as calls
 use Rattle.mip_rules_mobile.specs.Calls.{Call}
-use Rattle.mip_rules_mobile.specs.Sendings.{Given}
 use Rattle.mip_rules_mobile.specs.Steps.{Step, Called, Parts, Notes, Sends, Unsends, Drops, Claims, Releases, FindsTaken, Arrives, Detaches, Restarts, Registers, Unregisters, IsRefused, Resequences, Seeks, SeeksAgain, GivesUp, Finds, Chooses, Learns, Meets, Tries, Updates, Forgets, Binds, Unbinds, Waits, Stops, Rings, answer_of, answers_of}
 use Rattle.mip_rules_mobile.specs.Known.{Known}
 use Rattle.mip_rules_mobile.specs.HomeQuestions.{home_of, standing_said}
@@ -25,14 +20,12 @@ use Rattle.mip_rules_mobile.specs.Turns.{Turn, begun, noted}
 use Rattle.mip_rules_mobile.specs.Fitting.{kind_of, OfAck, Steady}
 use Rattle.mip_rules_mobile.specs.MovingRules.{registers_if_away, restarts}
 use Rattle.mip_rules_mobile.specs.Answering.{EachAnswer, LeavesRight, LeavesFrom, IsElsewhere, AreFrom, stays_put}
+use Rattle.mip_rules_mobile.specs.Part.{is_restart}
 use Rattle.mip_rules_mobile.specs.Doing.{does, handles, turn_of}
 use Rattle.mip_rules_mobile.proofs.Told.{home-kept}
 use Rattle.mip_rules_mobile.proofs.Steady.{Goes, Askings, Notings, standing-noted}
 use Rattle.mip_rules_mobile.proofs.HomeWalks.{Acks, every-registers}
-use Rattle.mip_rules_mobile.proofs.OutWalks.{every-goes_out, every-asks_part, every-replies}
-use Rattle.mip_rules_mobile.proofs.RingWalks.{every-ticks_all}
-use Rattle.mip_rules_mobile.proofs.ReceivingWalks.{every-takes}
-use Rattle.mip_rules_mobile.proofs.Walks.{Dropping, every-transmits, every-solicits, every-for_part}
+use Rattle.mip_rules_mobile.proofs.Walks.{Dropping, every-staying}
 use Rattle.mip_rules_mobile.proofs.Sources.{call-leaves}
 
 -- a step that says nothing of where the mobile stands
@@ -135,11 +128,6 @@ module _ (c : Call) (home : Address) where
   drops : Dropping (Puts home)
   drops number why t right p = puts-noted home (Drops number why) t refl p
 
-  refuses-stay : (number : ℕ) (bytes : List ℕ) (source : Address) (refusal : Refusal) (t : Turn) → is_dropped_why refusal.why ≡ true → Puts home t → Puts home (refuses number bytes source refusal t)
-  unfolding refuses
-  refuses-stay number bytes source refusal t right p =
-      every-replies c (Puts home) more source bytes refusal.reply (noted (Drops number refusal.why) t) (drops number refusal.why t right p)
-
   restart-stays : (secrets : Life) (t : Turn) → Puts home t → Puts home (restarts secrets t)
   unfolding restarts
   restart-stays secrets t p = by t.known.standing refl
@@ -158,20 +146,19 @@ module _ (c : Call) (home : Address) where
   every-stays : stays_put c ≡ true → (t : Turn) → Puts home t → Puts home (handles c t)
   every-stays stays t p = by c refl stays
     where
+      staying : (d : Call) → c ≡ d → stays_put d ≡ true → is_restart d ≡ false → Puts home (handles d t)
+      staying = every-staying c (Puts home) more asks notes acks drops t p
+
       by : (d : Call) → c ≡ d → stays_put d ≡ true → Puts home (handles d t)
       by (calls.Attach prefix of_home of_address) is never = absurd cc
       by (calls.Leave of_home) is never = absurd cc
-      by (calls.Take number shield packet) is sure =
-          every-takes c (Puts home) more acks (Puts home) (λ u q. q) t p (λ number why right. drops number why t right p)
-          (λ number bytes source refusal right. refuses-stay number bytes source refusal t right p)
-          (λ number tunnelled packet message of read mine. every-for_part c (Puts home) more asks notes number tunnelled packet message t p)
-          number shield packet is
-      by calls.Tick is sure = every-ticks_all c (Puts home) more t p
-      by (calls.Send to proto payload) is sure = every-transmits c (Puts home) more asks notes to proto payload is t p
-      by (calls.Refresh other) is sure = every-asks_part c (Puts home) more asks notes (parts.Refresh other) tt t p
-      by calls.Ask is sure = every-solicits c (Puts home) more asks notes t p
       by (calls.Restart secrets) is sure = restart-stays secrets t p
-      by (calls.Tunnel inner) is sure = every-goes_out c (Puts home) more (Given inner) t is p
+      by (calls.Take number shield packet) is sure = staying (calls.Take number shield packet) is refl refl
+      by calls.Tick is sure = staying calls.Tick is refl refl
+      by (calls.Send to proto payload) is sure = staying (calls.Send to proto payload) is refl refl
+      by (calls.Refresh other) is sure = staying (calls.Refresh other) is refl refl
+      by calls.Ask is sure = staying calls.Ask is refl refl
+      by (calls.Tunnel inner) is sure = staying (calls.Tunnel inner) is refl refl
 
 call-stays : (k : Known) (now : ℕ) (c : Call) → stays_put c ≡ true → AllStay (home_of k) (turn_of k now c).steps
 unfolding does

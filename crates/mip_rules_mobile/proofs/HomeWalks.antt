@@ -1,6 +1,6 @@
 -- What steady steps keep, sending a home registration or a request of agents keeps; and with the steps by which a binding is
 -- acknowledged, an agent's answer does.
-use Rattle.std.proofs.Common.{◌≡◌, ℕ, ◌<◌, refl, arith}
+use Rattle.std.proofs.Common.{◌≡◌, ℕ, ◌<◌, refl, ap, ◌∙◌, arith}
 use Rattle.std.specs.Prelude.{◌*◌, ◌^◌, Option, Some, None, Bool, true, false, ◌==◌, ◌&&◌, not, if◌then◌else◌}
 use Rattle.std.proofs.lemmas.Nat.{pow_pos}
 use Rattle.mip_words.specs.declared.address.Address.{Address}
@@ -21,8 +21,8 @@ use Rattle.mip_rules_mobile.specs.RowQuestions.{trial_of, is_bound_row, is_touch
 use Rattle.mip_rules_mobile.specs.TimerQuestions.{resending_home, renewing_home, seeking, later}
 use Rattle.mip_rules_mobile.specs.Turns.{Turn, noted}
 use Rattle.mip_rules_mobile.specs.HomeRules.{seeks, seeks_again_from, seeks_again_at, seeks_again, registers_with, deregisters_with, wait_behind, registers_at, registers, deregisters_at, resends_as, resends_home, starts_for, starts_bound, is_registered, starts_deletion, is_unregistered, turns_to, is_refused, is_behind, is_accepted, takes_home_ack}
-use Rattle.mip_rules_mobile.specs.Fitting.{Fits, OfAck, kind_of}
-use Rattle.mip_rules_mobile.proofs.Steady.{Goes, at-noted}
+use Rattle.mip_rules_mobile.specs.Fitting.{Fits, OfAck, is_detached, kind_of}
+use Rattle.mip_rules_mobile.proofs.Steady.{Goes, standing-noted, at-noted}
 use Rattle.mip_rules_mobile.proofs.TrialWalks.{every-row, every-starts}
 
 -- a step by which a binding is acknowledged may be taken
@@ -142,23 +142,24 @@ module _ (c : Call) (P : Turn → Type 0) (more : Goes c P) where
       every-resends_home initial_bindack_timeout (noted (Resequences u.agent sequence) t) (omega arith) (more (Resequences u.agent sequence) t refl tt p)
 
   module _ (acks : Acks c P) where
-    every-registered : (u : HomeUpdate) (lifetime : ℕ) (t : Turn) → P t → P (is_registered u lifetime t)
+    every-registered : (u : HomeUpdate) (lifetime : ℕ) (t : Turn) → is_detached t.known.standing ≡ false → P t → P (is_registered u lifetime t)
     unfolding is_registered
-    every-registered u lifetime t p =
+    every-registered u lifetime t there p =
         every-row P starts_bound
         (λ row v q. starting (is_touched_row v.known row && (is_idle (trial_of v.known row) && not (is_bound_row v.known v.now row))) row v q)
         (noted (Registers u.agent (later u.at.0 (lifetime_unit * lifetime)) (later u.at.0 (refresh_unit * lifetime))) (noted (Stops resending_home) t))
-        (acks (Registers u.agent (later u.at.0 (lifetime_unit * lifetime)) (later u.at.0 (refresh_unit * lifetime))) (noted (Stops resending_home) t) refl tt
+        (acks (Registers u.agent (later u.at.0 (lifetime_unit * lifetime)) (later u.at.0 (refresh_unit * lifetime))) (noted (Stops resending_home) t) refl
+        (ap is_detached (standing-noted (Stops resending_home) t) ∙ there)
         (more (Stops resending_home) t refl tt p))
 
-    pub every-home_ack : (u : HomeUpdate) (status sequence lifetime : ℕ) (t : Turn) → P t → P (takes_home_ack u status sequence lifetime t)
+    pub every-home_ack : (u : HomeUpdate) (status sequence lifetime : ℕ) (t : Turn) → is_detached t.known.standing ≡ false → P t → P (takes_home_ack u status sequence lifetime t)
     unfolding takes_home_ack
-    every-home_ack u status sequence lifetime t p = by (accepts_it status) (status == sequence_out_of_window)
+    every-home_ack u status sequence lifetime t there p = by (accepts_it status) (status == sequence_out_of_window)
       where
         granted : (deletes none : Bool) → P (if deletes then is_unregistered u t else if none then is_refused status t else is_registered u lifetime t)
         granted true none = every-unregistered u t p
         granted false true = every-refused status t p
-        granted false false = every-registered u lifetime t p
+        granted false false = every-registered u lifetime t there p
 
         by : (accepted behind : Bool) → P (if accepted then is_accepted u status lifetime t else if behind then is_behind u sequence t else is_refused status t)
         by true behind = granted u.deletes (lifetime == 0)

@@ -4,6 +4,7 @@ pub mod Checks
 pub mod OutWalks
 pub mod TrialWalks
 pub mod HomeWalks
+pub mod Peers
 pub mod PeerWalks
 pub mod MovingWalks
 pub mod RingWalks

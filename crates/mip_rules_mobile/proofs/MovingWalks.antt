@@ -37,12 +37,12 @@ module _ (c : Call) (P : Turn → Type 0) (more : Goes c P) where
   every-releases (Away careof) claim t p = more (Releases careof) t refl tt p
 
   every-unbinds : (row : ℕ) (t : Turn) → P t → P (unbinds row t)
-  every-unbinds row t p = by (is_bound_row t.known t.now row) (peer_of_row t.known row)
+  every-unbinds row t p = by (is_bound_row t.known t.now row) (peer_of_row t.known row) refl
     where
-      by : (bound : Bool) (peer : Option Address) → P (unbinds_with bound peer row t)
-      by bound None = p
-      by true (Some peer) = more (Unbinds row peer) t refl tt p
-      by false (Some peer) = p
+      by : (bound : Bool) (peer : Option Address) → peer_of_row t.known row ≡ peer → P (unbinds_with bound peer row t)
+      by bound None of = p
+      by true (Some peer) of = more (Unbinds row peer) t refl of p
+      by false (Some peer) of = p
 
   pub every-settles : (t : Turn) → P t → P (settles t)
   unfolding settles
@@ -71,7 +71,7 @@ module _ (c : Call) (P : Turn → Type 0) (more : Goes c P) where
         by : (claim : Claim) (address : Address) → P (arrives_by claim address t)
         by Held address =
             every-settles (noted (Arrives address) (noted (Claims address) t))
-            (moves (Arrives address) (noted (Claims address) t) refl tt (more (Claims address) t refl tt p))
+            (moves (Arrives address) (noted (Claims address) t) refl tt (moves (Claims address) t refl tt p))
         by Waiting address = every-settles (noted (Arrives address) t) (moves (Arrives address) t refl tt p)
         by (Taken holder) address = moves (FindsTaken address holder) t refl tt p
 

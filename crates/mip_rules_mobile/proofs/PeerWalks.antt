@@ -26,6 +26,7 @@ use Rattle.mip_rules_mobile.specs.TrialRules.{starts, updates}
 use Rattle.mip_rules_mobile.specs.PeerRules.{tells_of_nonces, begins_at, meets, comes_right, test_at, cookie, home_row, careof_row, keeps_home, keeps_careof, takes_home_test, takes_careof_test, acknowledges, binds_from, ends_for, is_granted, rests, takes_peer_ack, acks_trial, acks_row, takes_ack_of, loses, takes_error, renews, takes_refresh}
 use Rattle.mip_rules_mobile.specs.Fitting.{IsHanded}
 use Rattle.mip_rules_mobile.proofs.Steady.{Goes}
+use Rattle.mip_rules_mobile.proofs.Peers.{trial-granted, bound-placed}
 use Rattle.mip_rules_mobile.proofs.TrialWalks.{every-starts, every-updates}
 use Rattle.mip_rules_mobile.proofs.HomeWalks.{Acks}
 
@@ -53,9 +54,9 @@ module _ (c : Call) (P : Turn → Type 0) (more : Goes c P) where
   every-rests row t p = more (Tries row Rest) (noted (Stops (Resend row)) t) refl tt (more (Stops (Resend row)) t refl tt p)
 
   module _ (acks : Acks c P) where
-    every-granted : (row : ℕ) (u : Trial pending.Pending) (sequence lifetime : ℕ) (t : Turn) → P t → P (is_granted row u sequence lifetime t)
+    every-granted : (row : ℕ) (u : Trial pending.Pending) (sequence lifetime : ℕ) (t : Turn) → trial_of t.known row ≡ Some (Pending u) → P t → P (is_granted row u sequence lifetime t)
     unfolding is_granted
-    every-granted row u sequence lifetime t p = by (binds_to u)
+    every-granted row u sequence lifetime t pending p = by (binds_to u)
       where
         first : Turn
         first = noted (Tries row (Acknowledge sequence lifetime)) (noted (Stops (Resend row)) t)
@@ -65,18 +66,19 @@ module _ (c : Call) (P : Turn → Type 0) (more : Goes c P) where
 
         if-none : (none : Bool) → P (if none then first else binds_from u row lifetime first)
         if-none true = q
-        if-none false = acks _ first refl tt q
+        if-none false = acks _ first refl (trial-granted row u sequence lifetime t pending) q
 
         by : (to : Option Address) → P (ends_for to u row lifetime first)
         by None = more (Forgets row) first refl tt q
         by (Some careof) = if-none (lifetime == 0)
 
-    every-peer_ack : (row : ℕ) (u : Trial pending.Pending) (status sequence lifetime : ℕ) (t : Turn) → P t → P (takes_peer_ack row u status sequence lifetime t)
+    every-peer_ack : (row : ℕ) (u : Trial pending.Pending) (status sequence lifetime : ℕ) (t : Turn) → trial_of t.known row ≡ Some (Pending u) → P t
+        → P (takes_peer_ack row u status sequence lifetime t)
     unfolding takes_peer_ack
-    every-peer_ack row u status sequence lifetime t p = by (accepts_it status) (status == sequence_out_of_window) (tells_of_nonces status)
+    every-peer_ack row u status sequence lifetime t pending p = by (accepts_it status) (status == sequence_out_of_window) (tells_of_nonces status)
       where
         by : (accepted behind expired : Bool) → P (if accepted then is_granted row u sequence lifetime t else if behind then updates row initial_bindack_timeout (noted (Tries row (Resequence sequence)) t) else if expired then starts row t else rests row t)
-        by true behind expired = every-granted row u sequence lifetime t p
+        by true behind expired = every-granted row u sequence lifetime t pending p
         by false true expired = every-updates c P more row initial_bindack_timeout (noted (Tries row (Resequence sequence)) t) (omega arith) (more (Tries row (Resequence sequence)) t refl tt p)
         by false false true = every-starts c P more row t p
         by false false false = every-rests row t p
@@ -117,30 +119,33 @@ module _ (c : Call) (P : Turn → Type 0) (more : Goes c P) where
           home : Address
           home = home_of t.known
 
-          pend : (row : ℕ) (u : Trial pending.Pending) (mine : Bool) → Q (if mine then takes_peer_ack row u status sequence lifetime t else noted (Drops number whys.Ack) t)
-          pend row u true = done (takes_peer_ack row u status sequence lifetime t) (every-peer_ack row u status sequence lifetime t p)
-          pend row u false = drops number whys.Ack refl
+          pend : (row : ℕ) (u : Trial pending.Pending) (mine : Bool) → trial_of t.known row ≡ Some (Pending u)
+              → Q (if mine then takes_peer_ack row u status sequence lifetime t else noted (Drops number whys.Ack) t)
+          pend row u true is = done (takes_peer_ack row u status sequence lifetime t) (every-peer_ack row u status sequence lifetime t is p)
+          pend row u false is = drops number whys.Ack refl
 
-          of : (row : ℕ) (o : Option Any) → Q (acks_trial number row home status sequence lifetime authenticator message o t)
-          of row (Some (Pending u)) = pend row u (acknowledges home status sequence authenticator message u)
-          of row (Some (Idle u)) = drops number whys.Ack refl
-          of row (Some (Probing u)) = drops number whys.Ack refl
-          of row (Some (Proved u)) = drops number whys.Ack refl
-          of row (Some (Bound u)) = drops number whys.Ack refl
-          of row None = drops number whys.Ack refl
+          of : (row : ℕ) (o : Option Any) → trial_of t.known row ≡ o → Q (acks_trial number row home status sequence lifetime authenticator message o t)
+          of row (Some (Pending u)) is = pend row u (acknowledges home status sequence authenticator message u) is
+          of row (Some (Idle u)) is = drops number whys.Ack refl
+          of row (Some (Probing u)) is = drops number whys.Ack refl
+          of row (Some (Proved u)) is = drops number whys.Ack refl
+          of row (Some (Bound u)) is = drops number whys.Ack refl
+          of row None is = drops number whys.Ack refl
 
           by : (o : Option ℕ) → Q (acks_row number o status sequence lifetime authenticator message t)
           by None = drops number whys.Ack refl
-          by (Some row) = of row (trial_of t.known row)
+          by (Some row) = of row (trial_of t.known row) refl
 
       pub every-error : (number : ℕ) (peer : Address) (status : ℕ) (home : Address) → Q (takes_error number peer status home t)
       unfolding takes_error
-      every-error number peer status home = by ((status == 1) && (home.0 == (home_of t.known).0)) (bound_row_of t.known t.now peer)
+      every-error number peer status home = by ((status == 1) && (home.0 == (home_of t.known).0)) (bound_row_of t.known t.now peer) refl
         where
-          by : (mine : Bool) (o : Option ℕ) → Q (if mine then loses number o peer t else noted (Drops number whys.Error) t)
-          by true None = drops number whys.Error refl
-          by true (Some row) = done (rests row (noted (Unbinds row peer) t)) (every-rests row (noted (Unbinds row peer) t) (more (Unbinds row peer) t refl tt p))
-          by false o = drops number whys.Error refl
+          by : (mine : Bool) (o : Option ℕ) → bound_row_of t.known t.now peer ≡ o → Q (if mine then loses number o peer t else noted (Drops number whys.Error) t)
+          by true None is = drops number whys.Error refl
+          by true (Some row) is =
+              done (rests row (noted (Unbinds row peer) t))
+              (every-rests row (noted (Unbinds row peer) t) (more (Unbinds row peer) t refl (bound-placed t.known t.now peer row is) p))
+          by false o is = drops number whys.Error refl
 
       pub every-refresh : (number : ℕ) (peer : Address) → Q (takes_refresh number peer t)
       unfolding takes_refresh

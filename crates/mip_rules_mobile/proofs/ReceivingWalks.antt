@@ -1,7 +1,7 @@
 -- What steady steps and acknowledgements keep, a packet that is handed over keeps; but for one that is dropped at once,
 -- perhaps with an answer to its source, and one for the correspondent part.
 use Rattle.std.proofs.Common.{◌≡◌, ℕ, List, [], ◌∷◌, refl, ◌∙◌}
-use Rattle.std.specs.Prelude.{Option, Some, None, Bool, true, false, not, ◌==◌, ◌&&◌, is_some, is_none, if◌then◌else◌, Result, Ok, Err}
+use Rattle.std.specs.Prelude.{Option, Some, None, Bool, true, false, not, ◌==◌, ◌&&◌, ◌||◌, is_some, is_none, if◌then◌else◌, Result, Ok, Err}
 use Rattle.mip_constants.specs.Protocols.{ipv6, icmpv6, no_next_header, mobility_header}
 use Rattle.mip_words.specs.declared.address.Address.{Address}
 use Rattle.mip_words.specs.declared.shield.Shield.{Shield}
@@ -24,6 +24,7 @@ use Rattle.mip_tunnel.specs.Tunnel.{opened}
 use Rattle.mip_says.specs.Says.{message_in, said_by, carried, Test as Told}
 use Rattle.mip_says.proofs.Sayings.{carried_message, carried_opened}
 use Rattle.mip_bulist.specs.declared.tested.Test.{Test}
+use Rattle.mip_updates.specs.Statuses.{sequence_out_of_window}
 use Rattle.mip_reception.specs.declared.refusal.Refusal.{Refusal}
 use Rattle.mip_reception.specs.Words.{packet_why}
 use Rattle.mip_reception.specs.Checks.{checked}
@@ -39,11 +40,11 @@ use Rattle.mip_rules_mobile.specs.Steps.{Drops, Finds, Chooses, Learns, Stops}
 use Rattle.mip_rules_mobile.specs.HomeQuestions.{home_of, agent_of}
 use Rattle.mip_rules_mobile.specs.TimerQuestions.{seeking}
 use Rattle.mip_rules_mobile.specs.Turns.{Turn, noted}
-use Rattle.mip_rules_mobile.specs.HomeRules.{home_answered, takes_home_ack, registers}
+use Rattle.mip_rules_mobile.specs.HomeRules.{if_answered, answered_by, home_answered, takes_home_ack, registers}
 use Rattle.mip_rules_mobile.specs.IcmpRules.{agents_named, is_matched, drops_icmp, finds, takes_discovery_reply, is_from_agent, learns, takes_prefix_reply, by_icmp, takes_icmp}
 use Rattle.mip_rules_mobile.specs.ReceivingRules.{acks_by, takes_ack, takes_for_part, by_message, by_role, refuses, after_inner_checks, inner_standing, takes_inner, opens_with, opens_from, opens, after_checks, standing_of, receives, takes}
 use Rattle.mip_rules_mobile.specs.Part.{IsReadIn, Itself, Within}
-use Rattle.mip_rules_mobile.specs.Fitting.{IsHanded}
+use Rattle.mip_rules_mobile.specs.Fitting.{IsHanded, is_detached}
 use Rattle.mip_rules_mobile.proofs.Steady.{Goes, at-noted}
 use Rattle.mip_rules_mobile.proofs.Checks.{checked-in, in-proto, in-reads, opened-reads}
 use Rattle.mip_rules_mobile.proofs.HomeWalks.{Acks, every-home_ack, every-registers}
@@ -82,16 +83,35 @@ handed {packet = packet} told is moment = record {
   moment = moment;
 }
 
+-- where a mobile uses no address, no agent answers it
+answered_there : (s : Standing) (tunnelled : Bool) (shield : Option Shield) (source : Address) (status sequence : ℕ) (o : Option HomeUpdate) (u : HomeUpdate)
+    → answered_by s tunnelled shield source status sequence o ≡ Some u → is_detached s ≡ false
+answered_there AtHome tunnelled shield source status sequence o u is = refl
+answered_there (Away careof) tunnelled shield source status sequence o u is = refl
+answered_there Detached tunnelled shield source status sequence None u is = absurd cc
+answered_there Detached tunnelled shield source status sequence (Some v) u is =
+    never (not tunnelled) (is_some shield) (source.0 == v.agent.0) ((sequence == v.sequence) || (status == sequence_out_of_window)) is
+  where
+    never : (a b c d : Bool) → if_answered (a && (b && (c && (d && false)))) v ≡ Some u → is_detached Detached ≡ false
+    never false b c d is = absurd cc
+    never true false c d is = absurd cc
+    never true true false d is = absurd cc
+    never true true true false is = absurd cc
+    never true true true true is = absurd cc
+
 module _ (c : Call) (P : Turn → Type 0) (more : Goes c P) (acks : Acks c P) (Q : Turn → Type 0) (done : (u : Turn) → P u → Q u) (t : Turn) (p : P t)
     (drops : (number : ℕ) (why : Why) → is_dropped_why why ≡ true → Q (noted (Drops number why) t)) where
   every-ack : (number : ℕ) (tunnelled : Bool) (shield : Option Shield) (packet : Packet) (status sequence lifetime : ℕ) (options : Values) → Q (takes_ack number tunnelled shield packet status sequence lifetime options t)
   unfolding takes_ack
   every-ack number tunnelled shield packet status sequence lifetime options =
-      by (home_answered t.known tunnelled shield (source_of packet.head) status sequence)
+      by (home_answered t.known tunnelled shield (source_of packet.head) status sequence) refl
     where
-      by : (u : Option HomeUpdate) → Q (acks_by u number (source_of packet.head) status sequence lifetime options.authorization packet.body t)
-      by (Some u) = done (takes_home_ack u status sequence lifetime t) (every-home_ack c P more acks u status sequence lifetime t p)
-      by None = every-ack_of c P more acks Q done t p drops number (source_of packet.head) status sequence lifetime options.authorization packet.body
+      by : (u : Option HomeUpdate) → home_answered t.known tunnelled shield (source_of packet.head) status sequence ≡ u
+          → Q (acks_by u number (source_of packet.head) status sequence lifetime options.authorization packet.body t)
+      by (Some u) is =
+          done (takes_home_ack u status sequence lifetime t)
+          (every-home_ack c P more acks u status sequence lifetime t (answered_there t.known.standing tunnelled shield (source_of packet.head) status sequence t.known.latest u is) p)
+      by None is = every-ack_of c P more acks Q done t p drops number (source_of packet.head) status sequence lifetime options.authorization packet.body
 
   every-discovery : (number identifier : ℕ) (agents : List ℕ) → Q (takes_discovery_reply number identifier agents t)
   unfolding takes_discovery_reply

@@ -36,17 +36,17 @@ module _ (c : Call) (P : Turn → Type 0) (more : Goes c P) where
 
   every-ends_row : (row : ℕ) (t : Turn) → P t → P (ends_row row t)
   unfolding ends_row
-  every-ends_row row t p = by (peer_of_row t.known row)
+  every-ends_row row t p = by (peer_of_row t.known row) refl
     where
       resting : (bound : Bool) (u : Turn) → P u → P (if bound then noted (Tries row Rest) u else u)
       resting true u q = more (Tries row Rest) u refl tt q
       resting false u q = q
 
-      by : (peer : Option Address) → P (ends_at peer row t)
-      by None = p
-      by (Some peer) =
+      by : (peer : Option Address) → peer_of_row t.known row ≡ peer → P (ends_at peer row t)
+      by None of = p
+      by (Some peer) of =
           let u = noted (Unbinds row peer) t in
-          resting (is_bound (trial_of u.known row)) u (more (Unbinds row peer) t refl tt p)
+          resting (is_bound (trial_of u.known row)) u (more (Unbinds row peer) t refl of p)
 
   every-own : (timer : ℕ) (t : Turn) → P t → P (rings_own timer t)
   every-own timer t p = by (timer == 0) (timer == 1) (timer == 2) (timer == 3)

@@ -19,6 +19,8 @@ use Rattle.mip_rules_mobile.specs.Steps.{Called, Sends, Unsends, Drops}
 use Rattle.mip_rules_mobile.specs.HomeQuestions.{home_of, registered_agent}
 use Rattle.mip_rules_mobile.specs.RowQuestions.{bound_row_of}
 use Rattle.mip_rules_mobile.specs.Turns.{Turn, noted}
+use Rattle.mip_rules_mobile.specs.Part.{is_restart}
+use Rattle.mip_rules_mobile.specs.Answering.{stays_put}
 use Rattle.mip_rules_mobile.specs.OutRules.{asks_part}
 use Rattle.mip_rules_mobile.specs.ReceivingRules.{then_meets, takes_for_part, refuses}
 use Rattle.mip_rules_mobile.specs.Doing.{transmits_from, transmits, solicits_from, solicits, handles, does}
@@ -71,30 +73,46 @@ module _ (c : Call) (P : Turn → Type 0) (more : Goes c P) (asks : Askings P) (
 abbrev pub Dropping : (Turn → Type 0) → Type 0
 Dropping P = (number : ℕ) (why : Why) (t : Turn) → is_dropped_why why ≡ true → P t → P (noted (Drops number why) t)
 
-module _ (c : Call) (P : Turn → Type 0) (more : Goes c P) (asks : Askings P) (notes : Notings P) (acks : Acks c P) (moves : Moves c P) (drops : Dropping P) where
+module _ (c : Call) (P : Turn → Type 0) (more : Goes c P) (asks : Askings P) (notes : Notings P) (acks : Acks c P) (drops : Dropping P) where
   every-refuses : (number : ℕ) (bytes : List ℕ) (source : Address) (refusal : Refusal) (t : Turn) → is_dropped_why refusal.why ≡ true → P t → P (refuses number bytes source refusal t)
   unfolding refuses
   every-refuses number bytes source refusal t right p =
       every-replies c P more source bytes refusal.reply (noted (Drops number refusal.why) t) (drops number refusal.why t right p)
 
+  -- of a call by which the mobile stays where it stands, and goes on living
+  pub every-staying : (t : Turn) → P t → (d : Call) → c ≡ d → stays_put d ≡ true → is_restart d ≡ false → P (handles d t)
+  every-staying t p (calls.Attach prefix of_home of_address) is stays lives = absurd cc
+  every-staying t p (calls.Leave of_home) is stays lives = absurd cc
+  every-staying t p (calls.Restart secrets) is stays lives = absurd cc
+  every-staying t p (calls.Take number shield packet) is stays lives =
+      every-takes c P more acks P (λ u q. q) t p (λ number why right. drops number why t right p)
+      (λ number bytes source refusal right. every-refuses number bytes source refusal t right p)
+      (λ number tunnelled packet message of read mine. every-for_part c P more asks notes number tunnelled packet message t p)
+      number shield packet is
+  every-staying t p calls.Tick is stays lives = every-ticks_all c P more t p
+  every-staying t p (calls.Send to proto payload) is stays lives = every-transmits c P more asks notes to proto payload is t p
+  every-staying t p (calls.Refresh home) is stays lives = every-asks_part c P more asks notes (parts.Refresh home) tt t p
+  every-staying t p calls.Ask is stays lives = every-solicits c P more asks notes t p
+  every-staying t p (calls.Tunnel inner) is stays lives = every-goes_out c P more (Given inner) t is p
+
+module _ (c : Call) (P : Turn → Type 0) (more : Goes c P) (asks : Askings P) (notes : Notings P) (acks : Acks c P) (moves : Moves c P) (drops : Dropping P) where
   -- of the call that it is
   pub every-handles : (t : Turn) → P t → P (handles c t)
   every-handles t p = by c refl
     where
+      staying : (d : Call) → c ≡ d → stays_put d ≡ true → is_restart d ≡ false → P (handles d t)
+      staying = every-staying c P more asks notes acks drops t p
+
       by : (d : Call) → c ≡ d → P (handles d t)
       by (calls.Attach prefix of_home of_address) is = every-attaches c P more moves prefix of_home of_address t p
       by (calls.Leave of_home) is = every-leaves c P more moves of_home t p
-      by (calls.Take number shield packet) is =
-          every-takes c P more acks P (λ u q. q) t p (λ number why right. drops number why t right p)
-          (λ number bytes source refusal right. every-refuses number bytes source refusal t right p)
-          (λ number tunnelled packet message of read mine. every-for_part c P more asks notes number tunnelled packet message t p)
-          number shield packet is
-      by calls.Tick is = every-ticks_all c P more t p
-      by (calls.Send to proto payload) is = every-transmits c P more asks notes to proto payload is t p
-      by (calls.Refresh home) is = every-asks_part c P more asks notes (parts.Refresh home) tt t p
-      by calls.Ask is = every-solicits c P more asks notes t p
+      by (calls.Take number shield packet) is = staying (calls.Take number shield packet) is refl refl
+      by calls.Tick is = staying calls.Tick is refl refl
+      by (calls.Send to proto payload) is = staying (calls.Send to proto payload) is refl refl
+      by (calls.Refresh home) is = staying (calls.Refresh home) is refl refl
+      by calls.Ask is = staying calls.Ask is refl refl
       by (calls.Restart secrets) is = every-restarts c P more moves secrets is t p
-      by (calls.Tunnel inner) is = every-goes_out c P more (Given inner) t is p
+      by (calls.Tunnel inner) is = staying (calls.Tunnel inner) is refl refl
 
   pub every-call : ((t : Turn) → P t → P (noted (Called c) t)) → (t : Turn) → P t → P (does c t)
   unfolding does

@@ -2,23 +2,25 @@
 -- packet of the correspondent part is one that a correspondent sends, and an update is the one that its trial makes. What is
 -- not sent, or is dropped, is so for a reason of that kind.
 -- RFC 6275 sections 11.3, 11.6 and 11.7
-use Rattle.std.specs.Prelude.{◌≡◌, ℕ, ◌<◌, List, [], ◌∷◌, Option, Some, true, Ok}
+use Rattle.std.specs.Prelude.{◌≡◌, ℕ, ◌<◌, List, [], ◌∷◌, Bool, true, false, Option, Some, None, Ok}
 use Rattle.mip_words.specs.declared.address.Address.{Address}
 use Rattle.mip_words.specs.declared.shield.Shield.{Shield}
 use Rattle.mip_says.specs.Says.{carried, Test as Told}
+use Rattle.mip_bulist.specs.declared.any.Any.{Any}
 use Rattle.mip_bulist.specs.declared.tested.Test.{Test}
+use Rattle.mip_bulist.specs.Rows.{peer_of_any}
 use Rattle.mip_entries.specs.Reasons.{is_dropped_why, is_unsent_why}
 use Rattle.mip_rules_correspondent.specs.declared.identity.Identity.{Identity}
 use Rattle.mip_rules_correspondent.specs.Calls as part_calls
 use Rattle.mip_rules_correspondent.specs.Sendings as parts
 use Rattle.mip_rules_correspondent.specs.Wholes.{is_own}
 use Rattle.mip_rules_mobile.specs.declared.standing.Standing.{Standing}
-use Rattle.mip_rules_mobile.specs.declared.standing.Standing.TheVariants.{AtHome, Away}
+use Rattle.mip_rules_mobile.specs.declared.standing.Standing.TheVariants.{Detached, AtHome, Away}
 use Rattle.mip_rules_mobile.specs.Calls as calls
 use Rattle.mip_rules_mobile.specs.Calls.{Call}
 use Rattle.mip_rules_mobile.specs.Trials.{Change, HomeTest, CareofTest, makes}
 use Rattle.mip_rules_mobile.specs.Sendings.{Inner, OfPart, AsksHome, Given, Sending, FromHome, ByTunnel, AsksCareof, RegistersHome, DeregistersHome, SendsData, Discovers, Solicits, PeerUpdate}
-use Rattle.mip_rules_mobile.specs.Steps.{Step, Called, Parts, Notes, Sends, Unsends, Drops, FindsTaken, Arrives, Detaches, Restarts, Registers, Tries, Updates, Binds, Waits}
+use Rattle.mip_rules_mobile.specs.Steps.{Step, Called, Parts, Notes, Sends, Unsends, Drops, Claims, FindsTaken, Arrives, Detaches, Restarts, Registers, Tries, Updates, Binds, Unbinds, Waits}
 use Rattle.mip_rules_mobile.specs.Known.{Known}
 use Rattle.mip_rules_mobile.specs.HomeQuestions.{home_of}
 use Rattle.mip_rules_mobile.specs.RowQuestions.{peer_of_row, trial_of}
@@ -81,6 +83,17 @@ IsChangedBy c now (HomeTest peer cookie test) = IsHanded c now 0 test
 IsChangedBy c now (CareofTest peer cookie test) = IsHanded c now 1 test
 IsChangedBy c now _ = Unit {0}
 
+-- it uses no address
+abbrev pub is_detached : Standing → Bool
+is_detached Detached = true
+is_detached AtHome = false
+is_detached (Away careof) = false
+
+-- there is a trial, and it is one of this peer
+abbrev pub IsTrialOf : Option Any → Address → Type 0
+IsTrialOf None peer = ⊥
+IsTrialOf (Some any) peer = peer_of_any any ≡ peer
+
 -- a step is taken in a call, at a moment, where this is known
 abbrev pub Fits : Call → ℕ → Known → Step → Type 0
 Fits c now k (Called call) = c ≡ call
@@ -91,6 +104,9 @@ Fits c now k (Unsends why) = is_unsent_why why ≡ true
 Fits c now k (Drops number why) = is_dropped_why why ≡ true
 Fits c now k (Updates row update) = IsUpdateOf now k row update
 Fits c now k (Tries row change) = IsChangedBy c now change
+Fits c now k (Registers agent end renew) = is_detached k.standing ≡ false
+Fits c now k (Binds row peer end renew) = IsTrialOf (trial_of k row) peer
+Fits c now k (Unbinds row peer) = peer_of_row k row ≡ Some peer
 Fits c now k (Waits work wait) = 0 < wait
 Fits c now k _ = Unit {0}
 
@@ -115,6 +131,7 @@ kind_of (Called call) = OfCall
 kind_of (Drops number why) = OfDrop
 kind_of (Notes entry) = OfNote
 kind_of (Parts call) = OfAsk
+kind_of (Claims address) = OfMove
 kind_of (FindsTaken address holder) = OfMove
 kind_of (Arrives address) = OfMove
 kind_of Detaches = OfMove

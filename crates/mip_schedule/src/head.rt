@@ -35,8 +35,8 @@ fn headed<'a>(word: &[u8], row: &[&'a [u8]]) -> Result<&'a [u8], Reason>
     }
 }
 
-/// The field of the first line, which has this word, and the text behind it.
-fn head_field<'a>(
+/// The field of the first line, which has this word, and the text behind it. A fault names the line by its number.
+pub fn head_field<'a>(
     word: &[u8],
     line: u32,
     text: &'a [u8],
@@ -63,8 +63,9 @@ fn head_field<'a>(
     }
 }
 
+/// The version of the text in its first line, `mip 1`, and the text behind it.
 #[tactic(auto, unfolding(crate::specs::Reading::version_line))]
-fn version_line(text: &[u8]) -> Result<(u8, &[u8]), ScheduleFault>
+pub fn version_line(text: &[u8]) -> Result<(u8, &[u8]), ScheduleFault>
     ensures exact { GivesText (λ p. (p.0, rows_of p.1.now)) result (reading.version_line (rows_of text.now)) }
     ensures memory { result ≢ Err ScheduleFault.Memory }
     ensures short { IfOk result (λ p. length p.1.now < length text.now) }
@@ -76,8 +77,9 @@ fn version_line(text: &[u8]) -> Result<(u8, &[u8]), ScheduleFault>
     }
 }
 
+/// The seed in the second line, `seed S`, and the text behind it.
 #[tactic(auto, unfolding(crate::specs::Reading::seed_line))]
-fn seed_line(text: &[u8]) -> Result<([u8; 32], &[u8]), ScheduleFault>
+pub fn seed_line(text: &[u8]) -> Result<([u8; 32], &[u8]), ScheduleFault>
     ensures exact { GivesText (λ p. (p.0, rows_of p.1.now)) result (reading.seed_line (rows_of text.now)) }
     ensures memory { result ≢ Err ScheduleFault.Memory }
     ensures short { IfOk result (λ p. length p.1.now < length text.now) }

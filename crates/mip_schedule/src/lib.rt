@@ -28,6 +28,7 @@ mod writing;
 pub use event::Event;
 pub use events::Events;
 pub use fault::ScheduleFault;
+pub use head::{head_field, seed_line, version_line};
 pub use kept_address::KeptAddress;
 pub use kept_ends::KeptEnds;
 pub use laws::{few, lawful, names_found, spelling_read, waits_are_short};
@@ -36,6 +37,3 @@ pub use schedule::Schedule;
 pub use schedule_reading::read_schedule;
 pub use update_ends::UpdateEnds;
 pub use writing::write_schedule;
-
-#[cfg(test)]
-mod tests;

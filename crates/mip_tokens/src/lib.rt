@@ -6,8 +6,6 @@ mod authorization;
 mod kbm;
 mod keygen;
 mod prepared_kbm;
-#[cfg(test)]
-mod tests;
 
 pub use authorization::{authentic, authenticator, covered};
 pub use kbm::Kbm;

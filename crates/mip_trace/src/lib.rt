@@ -23,6 +23,3 @@ pub use fault::TraceFault;
 pub use mip_rows::{NameTable, kind};
 pub use reading::read_trace;
 pub use writing::{entry_line, write_entry, write_trace};
-
-#[cfg(test)]
-mod tests;

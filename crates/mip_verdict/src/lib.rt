@@ -3,8 +3,6 @@
 
 mod judged;
 mod rows;
-#[cfg(test)]
-mod tests;
 mod verdicts;
 
 pub use judged::Judged;

@@ -27,6 +27,3 @@ pub use sequence::after;
 pub use shield::Shield;
 pub use token::{Cookie, Token};
 pub use why::Why;
-
-#[cfg(test)]
-mod tests;

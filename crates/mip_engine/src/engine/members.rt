@@ -13,8 +13,7 @@ ghost use Rattle.mip_engine.specs.Engines.{answers_of, acted, reborn, stood, joi
 use crate::claims::claim_own;
 use crate::engine::Engine;
 use mip_entries::{Answers, Entry};
-use mip_homeagent::HomeRow;
-use mip_nodes::{Call, Host, Node, Router};
+use mip_nodes::{Call, HomeRow, Host, Node, Router};
 use mip_nonce::Secrets;
 use mip_words::{Address, LinkId, Memory, Moment, NodeId};
 use std::alloc::Global;

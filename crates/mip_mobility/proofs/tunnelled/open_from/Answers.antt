@@ -3,7 +3,7 @@ use Rattle.std.specs.Prelude.{Result}
 use Rattle.mip_words.specs.declared.why.Why.{Why}
 use Rattle.mip_ipv6.specs.Packet.{packet as tree, Packet}
 use Rattle.mip_tunnel.specs.declared.exit_fault.ExitFault.{ExitFault}
-use Rattle.mip_correspondent.proofs.Receivings.{place_is}
+use Rattle.mip_ipv6.proofs.Placed.{place_is}
 use Rattle.mip_rules_mobile.specs.Steps.{Drops}
 use Rattle.mip_rules_mobile.specs.Turns.{Turn, noted}
 use Rattle.mip_rules_mobile.specs.ReceivingRules.{opens_with}

@@ -1,7 +1,7 @@
 use Rattle.std.proofs.Common.{subst}
 use Rattle.std.specs.Prelude.{OnOk}
 use Rattle.mip_rules_mobile.specs.Doing.{turn_of}
-use Rattle.mip_desk.specs.Seen.{Shows}
+use Rattle.mip_mobility.specs.Seen.{Shows}
 use Rattle.mip_nodes.proofs.Ended.{ended-answers, ended-known, ended-calm}
 use Rattle.mip_nodes.proofs.mobile.finish.Goals as goal
 

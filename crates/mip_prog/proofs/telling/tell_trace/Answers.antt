@@ -8,7 +8,7 @@ pub returns-in-Ok-clause-told : goal.returns-in-Ok-clause-told
 returns-in-Ok-clause-told g c =
     let text = trace_of (content c.args.schedule.now) in
     record {
-      settled = λ _. (refl, c.in-Ok.ensures.ok);
+      conclusive = λ _. (refl, c.in-Ok.ensures.ok);
       part = λ fault. absurd (c.requires.no_write_fault fault);
       front = (length text, rw (take_all (length text) text (omega arith)) c.in-Ok.ensures.ok);
     }

@@ -71,3 +71,15 @@ pub returns-in-Some-Makes-clause-told_of_some : goal.returns-in-Some-Makes-claus
 returns-in-Some-Makes-clause-told_of_some g c =
     let made : command_of (map string_bytes c.args.words.now) ≡ Some (Makes c.in-Some-Makes.product c.in-Some-Makes.draft) = search rules in
     ([], omega arith, prepend_none _ _ refl, rw made c.tell_made.ensures.told)
+
+pub returns-in_default-clause-delivered : goal.returns-in_default-clause-delivered
+returns-in_default-clause-delivered g c = if_told _ c.each_delivery_arrives.ensures (g.S.Source.left c.args.source.now)
+
+pub returns-in-None-clause-delivered : goal.returns-in-None-clause-delivered
+returns-in-None-clause-delivered g c = if_told _ c.each_delivery_arrives.ensures (g.S.Source.left c.args.source.now)
+
+pub returns-in-Some-Reads-clause-delivered : goal.returns-in-Some-Reads-clause-delivered
+returns-in-Some-Reads-clause-delivered g c = if_told _ c.each_delivery_arrives.ensures (g.S.Source.left c.args.source.now)
+
+pub returns-in-Some-Makes-clause-delivered : goal.returns-in-Some-Makes-clause-delivered
+returns-in-Some-Makes-clause-delivered g c = if_told _ c.each_delivery_arrives.ensures (g.S.Source.left c.args.source.now)

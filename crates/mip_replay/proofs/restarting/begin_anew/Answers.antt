@@ -4,8 +4,8 @@ use Rattle.std.specs.Option.{option_map_or}
 use Rattle.mip_history.specs.Calls.{Restart}
 use Rattle.mip_history.specs.Nodes.{acts}
 use Rattle.mip_history.specs.Restarting.{homes_left}
-use Rattle.mip_nodes.specs.Nodes.{NodeSeen}
-use Rattle.mip_nodes.specs.Roles.{is_roaming}
+use Rattle.mip_engine.specs.Nodes.{NodeSeen}
+use Rattle.mip_engine.specs.Roles.{is_roaming}
 use Rattle.mip_replay.specs.Renewals.{begun_anew}
 use Rattle.mip_engine.proofs.QuietLaws.{at_ok_run}
 use Rattle.mip_replay.proofs.RestartLaws.{anew_roaming, anew_still}

@@ -1,6 +1,6 @@
 use Rattle.std.proofs.Common.{◌++◌, [], ◌∷◌, List, sym, ap, ◌∙◌}
 use Rattle.mip_rules_agent.specs.declared.home_row.HomeRow.{HomeRow}
-use Rattle.mip_nodes.specs.Roles.{homes_of}
+use Rattle.mip_engine.specs.Roles.{homes_of}
 use Rattle.mip_engine.proofs.QuietLaws.{take_one}
 use Rattle.mip_engine.proofs.ShowLaws.{all_taken}
 use Rattle.mip_replay.proofs.restarting.registered_homes.Goals as goal

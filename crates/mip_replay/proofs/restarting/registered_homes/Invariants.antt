@@ -1,6 +1,6 @@
 use Rattle.std.specs.Prelude.{◌≡◌, take, Some, slice_get}
-use Rattle.mip_nodes.specs.Nodes.{NodeSeen}
-use Rattle.mip_nodes.specs.Roles.{homes_of}
+use Rattle.mip_engine.specs.Nodes.{NodeSeen}
+use Rattle.mip_engine.specs.Roles.{homes_of}
 use Rattle.mip_replay.proofs.restarting.registered_homes.Given as goal
 
 abbrev pub invariant-loop-place : goal.invariant-loop-place

@@ -2,7 +2,7 @@ use Rattle.std.proofs.Common.{sym}
 use Rattle.std.specs.Prelude.{slice_get}
 use Rattle.mip_entries.specs.declared.entry.Entry.TheVariants.{Restarted}
 use Rattle.mip_history.specs.Restarting.{restarted}
-use Rattle.mip_nodes.specs.Nodes.{NodeSeen}
+use Rattle.mip_engine.specs.Nodes.{NodeSeen}
 use Rattle.mip_engine.specs.Engines.{with_entry, station_of}
 use Rattle.mip_engine.proofs.ItemLaws.{map_some, map_none}
 use Rattle.mip_engine.proofs.QuietLaws.{at_ok}

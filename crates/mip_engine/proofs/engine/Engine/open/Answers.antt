@@ -18,8 +18,8 @@ new-requires-clause-few c =
     let few = links_few c.in_ok-links.links.items c.args.schedule.now.declarations (c.in_ok-links.ensures ∙ ap links_in ds) c.requires.few in
     omega (arith, few, ap (λ (l : List Prefix). length l) c.as_slice.ensures.value)
 
-pub settle_all-requires : goal.settle_all-requires
-settle_all-requires c =
+pub join_all-requires : goal.join_all-requires
+join_all-requires c =
     let s = content c.args.schedule.now in
     let ds = c.as_slice-ds.ensures in
     let hosts : hosts_in s.declarations ≡ c.in_ok-hosts.hosts.items = sym (c.in_ok-hosts.ensures ∙ ap hosts_in ds) in
@@ -39,7 +39,7 @@ returns-clause-stands c =
     let links : map (λ (p : Prefix). p.0) c.as_slice.result.now ≡ s.links =
     ap (λ (l : List Prefix). map (λ (p : Prefix). p.0) l) c.as_slice.ensures.value ∙ c.in_ok-links.ensures ∙ ap links_in ds in
     let outsiders : c.outsiders_in.result ≡ s.outsiders = c.outsiders_in.ensures ∙ ap outsiders_in ds in
-    c.in_ok-settle_all.ensures.stands s hosts
+    c.in_ok-join_all.ensures.stands s hosts
     (c.in_ok-engine.ensures
     ∙ ap (λ (l : List ℕ). new_engine s.seed s.start l c.outsiders_in.result) links
     ∙ ap (λ (n : ℕ). new_engine s.seed s.start s.links n) outsiders)

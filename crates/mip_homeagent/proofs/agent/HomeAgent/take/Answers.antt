@@ -17,10 +17,10 @@ use Rattle.mip_homeagent.proofs.Turning.{Ends, ends_shown, take_shown}
 use Rattle.mip_homeagent.proofs.agent.HomeAgent.take.Given.{Over}
 use Rattle.mip_homeagent.proofs.agent.HomeAgent.take.Goals as goal
 
-abbrev call : (g : Over) → goal.After-settle g → Call
+abbrev call : (g : Over) → goal.After-apply_change g → Call
 call g c = calls.Take c.args.number c.args.shield c.args.packet.now (claim_for (g.P.Place.around c.args.place.now) c.args.packet.now)
 
-ended : (g : Over) (c : goal.After-settle g) → Ends c.args.self.now (record { identity = c.self.inside.identity; known = c.settle.new.self }) c.receive.new.answers c.args.now.0 (call g c) (claims_with c.in_ok-change.change)
+ended : (g : Over) (c : goal.After-apply_change g) → Ends c.args.self.now (record { identity = c.self.inside.identity; known = c.apply_change.new.self }) c.receive.new.answers c.args.now.0 (call g c) (claims_with c.in_ok-change.change)
 ended g c =
     let now = c.args.now.0 in
     let inside : AgentSeen = record { identity = c.self.inside.identity; known = c.self.inside.known } in
@@ -29,8 +29,8 @@ ended g c =
     c.in_ok-answers.ensures c.in_ok-change.ensures.shows in
     let shows = subst (λ (s : AgentSeen). Shows now (with_change change (opened now s.known)) (claims_with change) c.receive.new.answers (turn_at s now (call g c))) c.self.view_is
     (take_shown inside now c.args.number c.args.shield c.args.packet.now (claim_for (g.P.Place.around c.args.place.now) c.args.packet.now) change c.receive.new.answers leads) in
-    ends_shown c.args.self.now (record { identity = c.self.inside.identity; known = c.settle.new.self }) now (call g c) (with_change change (opened now c.args.self.now.known)) (claims_with change) c.receive.new.answers shows
-    (ap (λ (k : Known). record { identity = inside.identity; known = k }) c.settle.ensures ∙ ap (λ (s : AgentSeen). record { identity = s.identity; known = with_change change (opened now s.known) }) c.self.view_is)
+    ends_shown c.args.self.now (record { identity = c.self.inside.identity; known = c.apply_change.new.self }) now (call g c) (with_change change (opened now c.args.self.now.known)) (claims_with change) c.receive.new.answers shows
+    (ap (λ (k : Known). record { identity = inside.identity; known = k }) c.apply_change.ensures ∙ ap (λ (s : AgentSeen). record { identity = s.identity; known = with_change change (opened now s.known) }) c.self.view_is)
 
 pub returns-clause-answers : goal.returns-clause-answers
 returns-clause-answers g c = (ended g c).answered

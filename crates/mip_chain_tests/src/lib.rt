@@ -1,0 +1,5 @@
+//! Tests of the chain of slots.
+#![tactic(auto)]
+
+#[cfg(test)]
+mod tests;

@@ -1,0 +1,6 @@
+pub mod Facts
+pub mod Configs
+pub mod Rows
+pub mod Drafts
+pub mod Reading
+pub mod Heads

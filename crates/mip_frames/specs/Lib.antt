@@ -1,0 +1,4 @@
+pub mod Framing
+pub mod Routing
+pub mod Failing
+pub mod Lending

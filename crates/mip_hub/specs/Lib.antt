@@ -1,0 +1,10 @@
+pub mod Rows
+pub mod Reading
+pub mod HubConfigs
+pub mod Calls
+pub mod Ports
+pub mod Adverts
+pub mod Passing
+pub mod Turns
+pub mod Served
+pub mod Judged

@@ -1,0 +1,75 @@
+-- What a run of a node over a link did.
+use Rattle.std.specs.Prelude.{◌≡◌, ℕ, ◌≤◌, List, take, drop, length, Option, None, option_map}
+use Rattle.std.specs.Io.KnownBytes.{append_known}
+use Rattle.mip_outside.specs.Moments.{moments_after}
+use Rattle.mip_trace.specs.Lines.{trace_text}
+use Rattle.mip_config.specs.Configs.{Content}
+use Rattle.mip_node.specs.Nodes.{Running, Datagrams, serving}
+use Rattle.mip_node.specs.Seen.{Ahead, Coming, IsSeen, Sees, ahead_after, coming_after}
+use Rattle.mip_node.specs.Turns.{Seen, World, turned, run}
+
+-- a run: its configuration, what its clock and its link tell at first, what the link had sent, and what the sink held
+pub record Start : Type 0 where
+  pub content : Content
+  pub ahead : Ahead
+  pub coming : Coming
+  pub sent : Datagrams
+  pub held : Option (List ℕ)
+
+-- where it stands: what is to come of clock and link, the node, what the link sent, and what the sink holds
+pub record Stand : Type 0 where
+  pub ahead : Ahead
+  pub coming : Coming
+  pub node : Running
+  pub sent : Datagrams
+  pub held : Option (List ℕ)
+
+abbrev pub start : Content → Ahead → Coming → Datagrams → Option (List ℕ) → Start
+start content ahead coming sent held = record { content = content; ahead = ahead; coming = coming; sent = sent; held = held }
+
+abbrev pub stand : Ahead → Coming → Running → Datagrams → Option (List ℕ) → Stand
+stand ahead coming node sent held = record { ahead = ahead; coming = coming; node = node; sent = sent; held = held }
+
+-- after so many turns it stands here
+pub record HasRun (first : Start) (turns : ℕ) (at : Stand) : Type 0 where
+  pub seen : List Seen
+  pub sees : Sees first.ahead first.coming seen
+  pub number : (run first.content seen first.sent).turns ≡ turns
+  pub ahead : at.ahead ≡ ahead_after seen first.ahead
+  pub coming : at.coming ≡ coming_after seen first.coming
+  pub node : at.node ≡ (run first.content seen first.sent).serving.node
+  pub sent : at.sent ≡ (run first.content seen first.sent).serving.sent
+  pub held : at.held ≡ append_known first.held (run first.content seen first.sent).text
+
+-- a turn, by its number, was done, and its text was written
+pub record TurnDone (c : Content) (number : ℕ) (old new : Stand) : Type 0 where
+  pub seen : Seen
+  pub is : IsSeen old.ahead old.coming seen
+  pub serving : serving new.node new.sent ≡ turned c number seen (serving old.node old.sent)
+  pub ahead : new.ahead ≡ option_map moments_after old.ahead
+  pub coming : new.coming ≡ option_map (drop 1) old.coming
+  pub held : new.held ≡ append_known old.held (trace_text None new.node.entries)
+
+-- the text of turns that find this
+unfoldable pub node_text : Content → List Seen → List ℕ
+node_text c seen = (run c seen None).text
+
+-- what a link has sent after them, where it had sent so much before
+unfoldable pub node_sent : Content → List Seen → Datagrams → Datagrams
+node_sent c seen sent = (run c seen sent).serving.sent
+
+-- as many turns were done, and their datagrams and their text are what was sent and written
+pub record Ran (first : Start) (turns : ℕ) (sent_now : Datagrams) (held_now : Option (List ℕ)) : Type 0 where
+  pub seen : List Seen
+  pub sees : Sees first.ahead first.coming seen
+  pub many : length seen ≡ turns
+  pub sent : sent_now ≡ node_sent first.content seen first.sent
+  pub held : held_now ≡ append_known first.held (node_text first.content seen)
+
+-- a front of the text of so many turns at most was written
+pub record WroteFront (first : Start) (turns : ℕ) (held_now : Option (List ℕ)) : Type 0 where
+  pub seen : List Seen
+  pub sees : Sees first.ahead first.coming seen
+  pub most : length seen ≤ turns
+  pub count : ℕ
+  pub held : held_now ≡ append_known first.held (take count (node_text first.content seen))

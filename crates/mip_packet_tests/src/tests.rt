@@ -1,0 +1,9 @@
+mod explain;
+mod hmac;
+mod icmp;
+mod ipv6;
+mod mobhdr;
+mod nonce;
+mod spans;
+mod tokens;
+mod words;

@@ -1,0 +1,9 @@
+pub mod Fields
+pub mod Options
+pub mod Reading
+pub mod Spelling
+pub mod Claims
+pub mod Tables
+pub mod Adverts
+pub mod Packets
+pub mod Text

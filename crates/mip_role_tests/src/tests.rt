@@ -1,0 +1,4 @@
+mod correspondent;
+mod hex;
+mod homeagent;
+mod mobile;

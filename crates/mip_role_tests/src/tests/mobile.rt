@@ -1,0 +1,229 @@
+//! What a mobile does, against runs of another implementation.
+
+mod outside;
+mod refresh;
+mod restart;
+
+use super::hex::bytes;
+use mip_entries::{Answer, Answers, Entry};
+use mip_mobile::{Mobile, Turned};
+use mip_nonce::Secrets;
+use mip_outside::Outbox;
+use mip_words::{Address, NodeId, Prefix, Shield};
+use outside::{Hand, Neighbourhood};
+use std::alloc::Global;
+use std::test::Fail;
+
+const AGENT: Address = Address(0x2001_0db8_0001_0000_0000_0000_0000_0001);
+
+const HOME: Address = Address(0x2001_0db8_0001_0000_0000_0000_0000_0077);
+
+const CAREOF: Address = Address(0x2001_0db8_0003_0000_0000_0000_0000_0077);
+
+const PEER: Address = Address(0x2001_0db8_0002_0000_0000_0000_0000_0002);
+
+/// The seed of the runs: the bytes 0 to 31.
+const SEED: [u8; 32] = [
+    0, 1, 2, 3, 4, 5, 6, 7, 8, 9, 10, 11, 12, 13, 14, 15, 16, 17, 18, 19, 20, 21, 22, 23, 24, 25,
+    26, 27, 28, 29, 30, 31,
+];
+
+/// A call of a mobile, and what it does about it.
+#[derive(Clone, Copy)]
+struct Row {
+    at: u64,
+    call: Call,
+    told: [Told; 4],
+}
+
+/// Packets are in hexadecimal digits.
+#[derive(Clone, Copy)]
+enum Call {
+    Attach {
+        prefix: Prefix,
+        /// The home address, where the agent still holds it.
+        held: Option<Address>,
+    },
+    Leave,
+    Take {
+        number: u64,
+        /// The agent under whose shield it came.
+        from: Option<Address>,
+        packet: &'static [u8],
+    },
+    Tick,
+    /// Data of protocol 17, one byte.
+    Send {
+        to: Address,
+        byte: u8,
+    },
+    Refresh(Address),
+    Ask,
+    Restart,
+}
+
+#[derive(Clone, Copy)]
+enum Told {
+    Nothing,
+    Sent(&'static [u8]),
+    /// Sent under the shield of the home and this agent.
+    Shielded(Address, &'static [u8]),
+    Claimed(Address),
+    Released(Address),
+    Careof(Address),
+    Registered {
+        agent: Address,
+        end: u64,
+    },
+    Prefixes(u32, u32),
+    Made {
+        home: [u8; 8],
+        careof: Option<[u8; 8]>,
+    },
+    Bound {
+        peer: Address,
+        end: u64,
+    },
+    Restarted,
+    Idle,
+    Up {
+        from: Address,
+        payload: &'static [u8],
+    },
+}
+
+/// Whether a mobile gives this answer to a call.
+fn is_told(alloc: Global, answer: Option<&Answer>, told: &Told) -> Result<bool, Fail> {
+    let same = match (answer, told) {
+        (None, Told::Nothing) => true,
+        (Some(Answer::Send { shield, packet }), Told::Sent(digits)) => {
+            shield.is_none() && packet.as_slice() == bytes(alloc, digits)?.as_slice()
+        }
+        (Some(Answer::Send { shield, packet }), Told::Shielded(agent, digits)) => {
+            let under = Shield {
+                from: HOME,
+                to: *agent,
+            };
+            *shield == Some(under) && packet.as_slice() == bytes(alloc, digits)?.as_slice()
+        }
+        (
+            Some(
+                Answer::Note(
+                    Entry::Up {
+                        source,
+                        payload,
+                        ..
+                    },
+                ),
+            ),
+            Told::Up {
+                from: f,
+                payload: p,
+            },
+        ) => { source == f && payload.as_slice() == bytes(alloc, p)?.as_slice() }
+        (Some(Answer::Note(entry)), told) => is_entry(entry, told),
+        _ => false,
+    };
+    Ok(same)
+}
+
+fn is_entry(entry: &Entry, told: &Told) -> bool {
+    match (entry, told) {
+        (Entry::Claimed { address, .. }, Told::Claimed(a)) => address == a,
+        (Entry::Released { address, .. }, Told::Released(a)) => address == a,
+        (Entry::Careof { address, .. }, Told::Careof(a)) => address == a,
+        (Entry::Registered { agent, end, .. }, Told::Registered { agent: a, end: e }) => {
+            (agent, end.0) == (a, *e)
+        }
+        (
+            Entry::Prefixes {
+                valid,
+                preferred,
+                ..
+            },
+            Told::Prefixes(v, p),
+        ) => { (valid, preferred) == (v, p) }
+        (Entry::Made { home, careof, .. }, Told::Made { home: h, careof: c }) => {
+            home.0 == *h && careof.map(|token| token.0) == *c
+        }
+        (Entry::Bound { peer, end, .. }, Told::Bound { peer: p, end: e }) => {
+            (peer, end.0) == (p, *e)
+        }
+        (Entry::Restarted { .. }, Told::Restarted) => true,
+        (Entry::Idle, Told::Idle) => true,
+        _ => false,
+    }
+}
+
+/// Whether these are all answers.
+fn are_told(alloc: Global, answers: &Answers, told: &[Told; 4]) -> Result<bool, Fail> {
+    let [first, second, third, fourth] = told;
+    Ok(
+        answers.len() <= 4
+            && is_told(alloc, answers.at(0), first)?
+            && is_told(alloc, answers.at(1), second)?
+            && is_told(alloc, answers.at(2), third)?
+            && is_told(alloc, answers.at(3), fourth)?,
+    )
+}
+
+type Runner = Mobile<Hand, Outbox>;
+
+/// What a mobile does about a call.
+fn answer(alloc: Global, mobile: Runner, call: &Call) -> Result<Turned<Hand, Outbox>, Fail> {
+    let turned = match call {
+        Call::Attach { prefix, held } => {
+            mobile.attach(alloc, &mut Neighbourhood(*held), *prefix)
+        }
+        Call::Leave => mobile.leave(alloc, &mut Neighbourhood(None)),
+        Call::Take {
+            number,
+            from,
+            packet,
+        } => {
+            let shield = from.map(|agent| Shield {
+                from: agent,
+                to: HOME,
+            });
+            let packet = bytes(alloc, packet)?;
+            mobile.take(alloc, *number, shield, packet.as_slice())
+        }
+        Call::Tick => mobile.tick(alloc),
+        Call::Send { to, byte } => mobile.send(alloc, *to, 17, &[*byte]),
+        Call::Refresh(home) => mobile.refresh(alloc, *home),
+        Call::Ask => mobile.ask(alloc),
+        Call::Restart => mobile.restart(alloc, Secrets::new(&SEED, NodeId(2), 1)),
+    };
+    Ok(turned)
+}
+
+/// The place of the first row whose answers are others.
+fn first_other(alloc: Global, rows: &[Row]) -> Result<Option<usize>, Fail> {
+    let secrets = Secrets::new(&SEED, NodeId(2), 0);
+    let mut mobile = Mobile::new(
+        alloc,
+        HOME,
+        Some(AGENT),
+        secrets,
+        Hand { moment: 0 },
+        Outbox::new(alloc)?,
+    )?;
+    for (at, row) in rows.iter().enumerate() {
+        mobile.clock().moment = row.at;
+        mobile.wire().clear();
+        let (next, answers) = answer(alloc, mobile, &row.call)?;
+        mobile = next;
+        if !are_told(alloc, &answers?, &row.told)? {
+            return Ok(Some(at));
+        }
+    }
+    Ok(None)
+}
+
+#[test]
+fn calls_are_answered_as_in_a_run(rt: HostRuntime) -> Result<(), Fail> {
+    let alloc = rt.alloc();
+    assert_eq!(rt; first_other(alloc, &refresh::REFRESHED)?, None);
+    assert_eq!(rt; first_other(alloc, &restart::RESTARTED)?, None);
+    Ok(())
+}

@@ -1,0 +1,16 @@
+pub mod Answered
+pub mod Turning
+pub mod Questions
+pub mod Roaming
+pub mod Rows
+pub mod Leaving
+pub mod Bindings
+pub mod Early
+pub mod AsTold
+pub mod HeldTold
+pub mod AnyNode
+pub mod Never
+pub mod OfKinds
+pub mod Declared
+pub mod Starts
+pub mod Examples

@@ -1,0 +1,7 @@
+use Rattle.std.proofs.Common.{◌≡◌, drop}
+use Rattle.mip_marks.specs.Lists.{first_some}
+use Rattle.mip_history.specs.Questions.{claims, declared_in}
+use Rattle.mip_settled.proofs.claims.declared.Given as goal
+
+abbrev pub invariant-loop-entry : goal.invariant-loop-entry
+invariant-loop-entry l = first_some (claims l.by) (drop l.entry-index l.history) ≡ declared_in l.history l.by

@@ -1,0 +1,12 @@
+//! Settled ends: what the entries of a history tell of a mobile, which is what the mobile knows, and whether two ends are settled.
+#![tactic(auto)]
+
+mod claims;
+mod ends;
+mod held;
+mod homes;
+mod laws;
+mod mobiles;
+
+pub use ends::settled;
+pub use laws::{bound_as_told, found_as_told, registered_as_told};
