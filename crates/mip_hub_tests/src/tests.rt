@@ -55,11 +55,11 @@ fn frames_go_to_the_port_of_their_destination(rt: HostRuntime) -> Result<(), Fai
     let config = read_hub(rt.alloc(), COPIES)?;
     let init = bytes_of(rt.alloc(), INIT)?;
     let none: &[u64] = &[];
-    let cases: [(&[u64], Served, &[u8], usize); 2] = [
-        (none, Served::Done, FOUR_TURNS, 4),
-        (&[2], Served::LinkFault, FIRST_TURN, 1),
+    let cases: [(&[u64], Served, &[u8], [usize; 2]); 2] = [
+        (none, Served::Done, FOUR_TURNS, [3, 4]),
+        (&[2], Served::LinkFault, FIRST_TURN, [0, 1]),
     ];
-    for (sends, end, text, count) in cases {
+    for (sends, end, text, [last, behind]) in cases {
         let mut link = ListLink::new(rt.alloc(), &[], sends, &[])?;
         for _ in 0..4 {
             link.add(Some(init.as_slice()))?;
@@ -67,8 +67,8 @@ fn frames_go_to_the_port_of_their_destination(rt: HostRuntime) -> Result<(), Fai
         let (served, sink) = run(rt.alloc(), &config, &mut link, 4)?;
         assert_eq!(rt; served, end);
         assert_eq!(rt; sink.bytes(), text);
-        assert_eq!(rt; link.sent_at(count - 1), Some((9001, init.as_slice())));
-        assert_eq!(rt; link.sent_at(count), None);
+        assert_eq!(rt; link.sent_at(last), Some((9001, init.as_slice())));
+        assert_eq!(rt; link.sent_at(behind), None);
     }
     Ok(())
 }
