@@ -1,4 +1,0 @@
-pub mod Bound
-pub mod TraceTold
-pub mod FlagLaws
-pub mod FormLaws

@@ -1,8 +1,0 @@
-pub mod Commands
-pub mod Lengths
-pub mod Words
-pub mod Answers
-pub mod Told
-pub mod Texts
-pub mod Given
-pub mod Forms

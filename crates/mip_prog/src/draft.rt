@@ -1,6 +1,0 @@
-/// What a schedule is made of: its seed, and how many events it has.
-#[derive(Clone, Copy)]
-pub struct Draft {
-    pub seed: [u8; 32],
-    pub count: u32,
-}

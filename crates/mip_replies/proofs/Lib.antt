@@ -1,0 +1,3 @@
+pub mod NoneTold
+pub mod TraceTold
+pub mod ClaimsTold

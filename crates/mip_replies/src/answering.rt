@@ -1,0 +1,54 @@
+//! What is answered to the input.
+
+ghost use Rattle.std.specs.Prelude.{◌≡◌, ◌≢◌, IfOk, Err};
+ghost use Rattle.mip_replies.specs.Answers.{form_answer, listing_answer};
+ghost use Rattle.mip_explain.specs.Listing.{listing_of};
+ghost use Rattle.mip_replies.specs.Told.{IsConclusive, IsStatus};
+
+use crate::input_form::InputForm;
+use crate::reading::LIMIT;
+use crate::reply::Reply;
+use crate::scheduling::scheduled;
+use crate::status::Status;
+use mip_explain::{ExplainFault, explain, refusal_word};
+use mip_ipv6::NotPacket;
+use mip_words::{Bytes, Memory};
+use std::alloc::Global;
+
+/// The answer to the input.
+#[tactic(auto, unfolding(crate::specs::Answers::input_answer))]
+pub fn answer(alloc: Global, form: InputForm, input: Bytes) -> Result<Reply, Memory>
+    ensures answers { IfOk result (λ reply. reply ≡ form_answer form input) }
+    ensures conclusive { IfOk result (λ reply. IsConclusive reply.status) }
+    ensures statuses { IfOk result (λ reply. IsStatus reply.status × (reply.status ≢ 1)) }
+{
+    if input.len() > LIMIT {
+        return Reply::copy(alloc, Status::TOO_LONG, b"long\n");
+    }
+    match form {
+        InputForm::Schedule(told) => scheduled(alloc, told, input),
+        InputForm::Packet => decode(alloc, input.as_slice()),
+    }
+}
+
+fn decode(alloc: Global, input: &[u8]) -> Result<Reply, Memory>
+    ensures answers { IfOk result (λ reply. reply ≡ listing_answer (listing_of input.now)) }
+    ensures conclusive { IfOk result (λ reply. IsConclusive reply.status) }
+{
+    match explain(alloc, input) {
+        Ok(text) => Ok(Reply::whole(Status::OK, text)),
+        Err(ExplainFault::NotPacket(refusal)) => dropped(alloc, refusal),
+        Err(ExplainFault::Memory) => Err(Memory),
+    }
+}
+
+/// The line of a packet that is refused.
+fn dropped(alloc: Global, refusal: NotPacket) -> Result<Reply, Memory>
+    ensures answers { IfOk result (λ reply. reply ≡ listing_answer (Err refusal)) }
+    ensures conclusive { IfOk result (λ reply. IsConclusive reply.status) }
+{
+    let mut text = Bytes::copy(alloc, b"drop ")?;
+    text.extend(refusal_word(refusal))?;
+    text.extend(b"\n")?;
+    Ok(Reply::whole(Status::NOT_A_PACKET, text))
+}

@@ -1,0 +1,93 @@
+//! Writing what the claims of a schedule's run are on a link.
+
+ghost use Rattle.std.specs.Prelude.{◌≡◌, ℕ, ◌<◌, ◌≤◌, [], length, take, OnOk, OnErr, IsErrOf};
+ghost use Rattle.std.specs.Io.KnownBytes.{append_known};
+ghost use Rattle.mip_outside.specs.Cause.{Rose};
+ghost use Rattle.mip_schedule.specs.Schedules.{content};
+ghost use Rattle.mip_history.specs.Permitted.{permitted};
+ghost use Rattle.mip_proxynd.specs.Claims.{rows_in};
+ghost use Rattle.mip_proxynd.specs.Text.{adverts, end_text};
+ghost use Rattle.mip_replies.specs.Answers.{claims_of};
+
+use mip_declared::Declaration;
+use mip_outside::{PutFault, Sink};
+use mip_printing::write_text;
+use mip_proxynd::{Standing, tell_end, tell_entries};
+use mip_replay::Run;
+use mip_schedule::Schedule;
+use mip_words::{Address, Bytes};
+use std::alloc::Global;
+
+/// Writes what the claims of a schedule's run are on a link while it runs, and at its end the claims that stand, and who holds the
+/// address that is asked for. It keeps the claims that stand, and the text of the entries that the run gave away last.
+pub fn write_claims<K: Sink>(
+    alloc: Global,
+    sink: &mut K,
+    schedule: &Schedule,
+    ask: Option<Address>,
+) -> Result<(), PutFault>
+    ensures ok { OnOk result (K.held sink.new ≡ append_known (K.held sink.old) (claims_of ask (content schedule.now))) }
+    ensures front { OnErr result ((count : ℕ) × (K.held sink.new ≡ append_known (K.held sink.old) (take count (claims_of ask (content schedule.now))))) }
+    ensures part { IsErrOf result PutFault.Failed → ((count : ℕ) × (count < length (claims_of ask (content schedule.now)))
+        × (K.held sink.new ≡ append_known (K.held sink.old) (take count (claims_of ask (content schedule.now))))) }
+    ensures no_fewer { K.faults sink.old ≤ K.faults sink.new }
+    ensures cause { IsErrOf result PutFault.Failed → Rose (K.faults sink.old) (K.faults sink.new) }
+{
+    let mut standing = Standing::new(alloc);
+    write_adverts(alloc, sink, schedule, &mut standing)?;
+    write_end(alloc, sink, schedule.declarations.as_slice(), &standing, ask)
+}
+
+/// Writes what the claims of a schedule's run advertise, and keeps those that stand at its end.
+fn write_adverts<K: Sink>(
+    alloc: Global,
+    sink: &mut K,
+    schedule: &Schedule,
+    standing: &mut Standing,
+) -> Result<(), PutFault>
+    requires { standing.old ≡ [] }
+    ensures ok { OnOk result (K.held sink.new ≡ append_known (K.held sink.old) (adverts schedule.now.declarations (permitted (content schedule.now)))) }
+    ensures stands { OnOk result (standing.new ≡ rows_in [] (permitted (content schedule.now))) }
+    ensures front { OnErr result ((count : ℕ) × (count ≤ length (adverts schedule.now.declarations (permitted (content schedule.now))))
+        × (K.held sink.new ≡ append_known (K.held sink.old) (take count (adverts schedule.now.declarations (permitted (content schedule.now)))))) }
+    ensures part { IsErrOf result PutFault.Failed → ((count : ℕ) × (count < length (adverts schedule.now.declarations (permitted (content schedule.now))))
+        × (K.held sink.new ≡ append_known (K.held sink.old) (take count (adverts schedule.now.declarations (permitted (content schedule.now)))))) }
+    ensures no_fewer { K.faults sink.old ≤ K.faults sink.new }
+    ensures cause { IsErrOf result PutFault.Failed → Rose (K.faults sink.old) (K.faults sink.new) }
+{
+    let mut text = Bytes::new(alloc);
+    let mut run = Run::open(alloc, schedule)?;
+    while let Some(piece) = run.next(alloc, schedule)? {
+        text.clear();
+        tell_entries(
+            alloc,
+            &mut text,
+            schedule.declarations.as_slice(),
+            standing,
+            piece.as_slice(),
+        )?;
+        write_text(sink, text.as_slice())?;
+    }
+    Ok(())
+}
+
+/// Writes the claims that stand, and who holds the address that is asked for.
+fn write_end<K: Sink>(
+    alloc: Global,
+    sink: &mut K,
+    declarations: &[Declaration],
+    standing: &Standing,
+    ask: Option<Address>,
+) -> Result<(), PutFault>
+    ensures ok { OnOk result (K.held sink.new ≡ append_known (K.held sink.old) (end_text declarations.now standing.now ask)) }
+    ensures front { OnErr result ((count : ℕ) × (count ≤ length (end_text declarations.now standing.now ask))
+        × (K.held sink.new ≡ append_known (K.held sink.old) (take count (end_text declarations.now standing.now ask)))) }
+    ensures part { IsErrOf result PutFault.Failed → ((count : ℕ) × (count < length (end_text declarations.now standing.now ask))
+        × (K.held sink.new ≡ append_known (K.held sink.old) (take count (end_text declarations.now standing.now ask)))) }
+    ensures no_fewer { K.faults sink.old ≤ K.faults sink.new }
+    ensures cause { IsErrOf result PutFault.Failed → Rose (K.faults sink.old) (K.faults sink.new) }
+{
+    let mut text = Bytes::new(alloc);
+    tell_end(alloc, &mut text, declarations, standing, ask)?;
+    write_text(sink, text.as_slice())
+}

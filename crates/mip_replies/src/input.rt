@@ -1,0 +1,57 @@
+//! The input, read and answered.
+
+ghost use Rattle.std.specs.Prelude.{◌≡◌, ◌≢◌, ℕ, ◌≤◌, ◌⊎◌, List};
+ghost use Rattle.mip_outside.specs.Cause.{Rose};
+ghost use Rattle.mip_replies.specs.Answers.{form_answer, bad_answer};
+ghost use Rattle.mip_replies.specs.Told.{IsAnswered, IsStatus, Told};
+
+use crate::answering::answer;
+use crate::input_form::InputForm;
+use crate::reading::{ReadFault, read_input};
+use crate::scheduling::bad;
+use crate::status::Status;
+use crate::telling::tell_reply;
+use mip_outside::{Sink, Source};
+use mip_schedule::Reason;
+use mip_words::Memory;
+use std::alloc::Global;
+
+/// Reads the input and writes the answer to it.
+pub fn answer_input<S: Source, K: Sink>(
+    alloc: Global,
+    form: InputForm,
+    source: &mut S,
+    sink: &mut K,
+) -> Status
+    ensures answered { (bytes : List ℕ) × IsAnswered (form_answer form) bytes result.0
+        (S.left source.old) (S.left source.new) (K.held sink.old) (K.held sink.new) }
+    ensures statuses { IsStatus result.0 × (result.0 ≢ 1) × (result.0 ≢ 7) }
+    ensures read_fault { result.0 ≡ 3 → Rose (S.faults source.old) (S.faults source.new) }
+    ensures read_fault_text { result.0 ≡ 3 → K.held sink.new ≡ K.held sink.old }
+    ensures write_fault { result.0 ≡ 4 → Rose (K.faults sink.old) (K.faults sink.new) }
+    ensures source_faults { S.faults source.old ≤ S.faults source.new }
+    ensures sink_faults { K.faults sink.old ≤ K.faults sink.new }
+{
+    let bytes = match read_input(alloc, source) {
+        Ok(bytes) => bytes,
+        Err(ReadFault::Failed) => return Status::READ_FAULT,
+        Err(ReadFault::Memory) => return Status::MEMORY,
+    };
+    match answer(alloc, form, bytes) {
+        Ok(reply) => tell_reply(alloc, sink, &reply),
+        Err(Memory) => Status::MEMORY,
+    }
+}
+
+/// Writes the line that tells a bad line.
+pub fn tell_bad<K: Sink>(alloc: Global, sink: &mut K, line: u32, why: Reason) -> Status
+    ensures told { Told (bad_answer line why) result.0 (K.held sink.old) (K.held sink.new) }
+    ensures status { (result.0 ≡ 2) ⊎ ((result.0 ≡ 4) ⊎ (result.0 ≡ 5)) }
+    ensures no_fewer { K.faults sink.old ≤ K.faults sink.new }
+    ensures cause { result.0 ≡ 4 → Rose (K.faults sink.old) (K.faults sink.new) }
+{
+    match bad(alloc, line, why) {
+        Ok(reply) => tell_reply(alloc, sink, &reply),
+        Err(Memory) => Status::MEMORY,
+    }
+}

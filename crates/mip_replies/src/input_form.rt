@@ -1,0 +1,10 @@
+use crate::told_run::ToldRun;
+
+/// What is read from the input.
+#[derive(Clone, Copy)]
+pub enum InputForm {
+    /// `replay` and `claims`: a schedule, whose run is told.
+    Schedule(ToldRun),
+    /// `decode`: the bytes of one packet, which are listed.
+    Packet,
+}

@@ -1,0 +1,27 @@
+//! What is written in reply to an input, or made of a seed, and the status that comes with it.
+#![tactic(auto)]
+
+mod answering;
+mod claiming;
+mod input;
+mod input_form;
+mod lengths;
+mod making;
+mod product;
+mod reading;
+mod reply;
+mod scheduling;
+mod status;
+mod telling;
+mod text;
+mod told_run;
+mod tracing;
+
+pub use input::{answer_input, tell_bad};
+pub use input_form::InputForm;
+pub use making::tell_made;
+pub use product::Product;
+pub use reading::{LIMIT, ReadFault, read_input};
+pub use status::Status;
+pub use telling::tell;
+pub use told_run::ToldRun;

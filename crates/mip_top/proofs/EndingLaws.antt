@@ -1,0 +1,57 @@
+-- What was told to a sink that keeps bytes back was put on once nothing waits.
+use Rattle.std.proofs.Common.{◌≡◌, ℕ, sym, ap, ◌∙◌, subst, refl, List, [], take}
+use Rattle.std.specs.Prelude.{Option, Some, None, IfSome}
+use Rattle.std.specs.Io.KnownBytes.{prepend_known, append_known}
+use Rattle.mip_outside.specs.Waiting.{Buffer, held_by}
+use Rattle.mip_outside.proofs.Known.{append_none}
+use Rattle.mip_commands.specs.declared.command.Command.{Command}
+use Rattle.mip_replies.specs.Answers.{Answer}
+use Rattle.mip_replies.specs.Told.{Told, IsConclusive, Says, HasWrittenFront}
+use Rattle.mip_top.specs.Answers.{answer_to}
+use Rattle.mip_top.specs.Obeyed.{Obeys}
+use Rattle.mip_top.specs.Serving.{Outside}
+
+-- what holds of bytes that are told follows for them
+pub if_left : (P Q : List ℕ → Type 0) (left : Option (List ℕ)) → ((bytes : List ℕ) → P bytes → Q bytes) → IfSome left P → IfSome left Q
+if_left P Q None step is = tt
+if_left P Q (Some bytes) step is = step bytes is
+
+-- what holds of each answer holds of one that is there
+pub if_any : (P : Answer → Type 0) (o : Option Answer) → ((answer : Answer) → P answer) → IfSome o P
+if_any P None all = tt
+if_any P (Some answer) all = all answer
+
+flat : (b : Buffer) → b.waiting ≡ [] → held_by b ≡ b.put_on
+flat b empty = ap (append_known b.put_on) empty ∙ sym (append_none b.put_on b.put_on refl)
+
+-- how a run ended: what it held is held still, and where the status is conclusive, it is the one given, and nothing waits
+pub record IsFinished (given result : ℕ) (mid last : Buffer) : Type 0 where
+  pub held : held_by last ≡ held_by mid
+  pub conclusive : IsConclusive result → (result ≡ given) × (last.waiting ≡ [])
+
+says_on : (o : Option Answer) (given result : ℕ) (first mid last : Buffer) → first.waiting ≡ [] → IsFinished given result mid last
+    → IfSome o (λ answer. Told answer given (held_by first) (held_by mid)) → IsConclusive result → IfSome o (λ answer. Says answer result first.put_on last.put_on)
+says_on None given result first mid last empty end told sure = tt
+says_on (Some answer) given result first mid last empty end told sure =
+    let e = end.conclusive sure in
+    let says = told.conclusive (subst IsConclusive e.0 sure) in
+    (e.0 ∙ says.0, sym (flat last e.1) ∙ end.held ∙ says.1 ∙ ap (λ (h : Option (List ℕ)). append_known h answer.text) (flat first empty))
+
+pub says : (command : Option Command) (bytes : List ℕ) (given result : ℕ) (first mid last : Buffer) (old new : Outside) → old.held ≡ held_by first → new.held ≡ held_by mid
+    → first.waiting ≡ [] → IsFinished given result mid last → Obeys command bytes given old new → IsConclusive result
+    → IfSome (answer_to command bytes) (λ answer. Says answer result first.put_on last.put_on)
+says command bytes given result first mid last old new held_old held_new empty end obeys sure =
+    says_on (answer_to command bytes) given result first mid last empty end (rw (sym held_old, sym held_new) obeys.told) sure
+
+front_on : (o : Option Answer) (given result : ℕ) (first mid last : Buffer) → first.waiting ≡ [] → IsFinished given result mid last
+    → IfSome o (λ answer. Told answer given (held_by first) (held_by mid)) → IfSome o (λ answer. HasWrittenFront answer first.put_on (held_by last))
+front_on None given result first mid last empty end told = tt
+front_on (Some answer) given result first mid last empty end told =
+    let front = told.front in
+    (front.0, end.held ∙ front.1 ∙ ap (λ (h : Option (List ℕ)). append_known h (take front.0 answer.text)) (flat first empty))
+
+pub front : (command : Option Command) (bytes : List ℕ) (given result : ℕ) (first mid last : Buffer) (old new : Outside) → old.held ≡ held_by first → new.held ≡ held_by mid
+    → first.waiting ≡ [] → IsFinished given result mid last → Obeys command bytes given old new
+    → IfSome (answer_to command bytes) (λ answer. HasWrittenFront answer first.put_on (held_by last))
+front command bytes given result first mid last old new held_old held_new empty end obeys =
+    front_on (answer_to command bytes) given result first mid last empty end (rw (sym held_old, sym held_new) obeys.told)

@@ -1,0 +1,23 @@
+use Rattle.std.proofs.Common.{refl, map, string_bytes}
+use Rattle.mip_commands.specs.Commands.{command_of}
+use Rattle.mip_top.proofs.EndingLaws.{if_left, says, front}
+use Rattle.mip_top.proofs.ending.mip_flushed.Goals as goal
+
+pub returns-clause-whole : goal.returns-clause-whole
+returns-clause-whole g c =
+    if_left _ _ (g.S.Source.left c.args.source.now)
+    (λ bytes obeys. says (command_of (map string_bytes c.args.words.now)) bytes _ _ _ _ _ _ _ refl refl c.requires
+    (record { held = c.finish.ensures.held; conclusive = c.finish.ensures.conclusive }) obeys)
+    c.mip.ensures.obeyed
+
+pub returns-clause-whole_of_some : goal.returns-clause-whole_of_some
+returns-clause-whole_of_some g c = λ sure.
+    let o = c.mip.ensures.obeyed_of_some in
+    (o.0, o.2, says (command_of (map string_bytes c.args.words.now)) o.0 _ _ _ _ _ _ _ refl refl c.requires
+    (record { held = c.finish.ensures.held; conclusive = c.finish.ensures.conclusive }) o.3 sure)
+
+pub returns-clause-front : goal.returns-clause-front
+returns-clause-front g c =
+    let o = c.mip.ensures.obeyed_of_some in
+    (o.0, o.2, front (command_of (map string_bytes c.args.words.now)) o.0 _ _ _ _ _ _ _ refl refl c.requires
+    (record { held = c.finish.ensures.held; conclusive = c.finish.ensures.conclusive }) o.3)

@@ -1,0 +1,29 @@
+use Rattle.std.proofs.Common.{◌≡◌, ℕ, List, [], map, string_bytes, ap, ◌∙◌, Ok, Err, IfOk, OnErr}
+use Rattle.std.specs.Prelude.{Option, Result, IfSome}
+use Rattle.std.specs.Io.KnownBytes.{prepend_known, append_known}
+use Rattle.mip_words.specs.declared.memory.Memory.{Memory}
+use Rattle.mip_outside.specs.Waiting.{Buffer, held_by}
+use Rattle.mip_outside.proofs.Known.{prepend_none}
+use Rattle.mip_replies.specs.Answers.{Answer}
+use Rattle.mip_replies.specs.Told.{HasWrittenFront}
+use Rattle.mip_top.specs.Answers.{answer_of}
+use Rattle.mip_top.specs.Given.{words_behind}
+use Rattle.mip_top.proofs.EndingLaws.{if_any}
+use Rattle.mip_top.proofs.process.run.Goals as goal
+
+abbrev Fronts : {X : Type 0} → (X → Option (List ℕ)) → (List ℕ → Option Answer) → (old new : X) → (before after : Buffer) → Type 0
+Fronts left answer old new before after =
+    (bytes : List ℕ) × (left old ≡ prepend_known bytes (left new)) × IfSome (answer bytes) (λ a. HasWrittenFront a before.put_on (held_by after))
+
+-- a front was put on, also where memory ran out before anything was read
+fronts : {X S : Type 0} (left : X → Option (List ℕ)) (answer : List ℕ → Option Answer) (old new : X) (before after : Buffer) (o : Result S Memory) → before.waiting ≡ []
+    → IfOk o (λ status. Fronts left answer old new before after) → OnErr o (new ≡ old) → OnErr o (after ≡ before) → Fronts left answer old new before after
+fronts left answer old new before after (Ok status) empty front unread unwritten = front
+fronts left answer old new before after (Err e) empty front unread unwritten =
+    ([], prepend_none (left old) (left new) (ap left unread),
+    if_any (λ a. HasWrittenFront a before.put_on (held_by after)) (answer []) (λ a. (0, ap held_by unwritten ∙ ap (append_known before.put_on) empty)))
+
+pub returns-clause-front : goal.returns-clause-front
+returns-clause-front g c =
+    fronts g.S.Source.left (answer_of (map string_bytes (words_behind c.args.given))) c.args.source.now c.attempt.new.source c.args.sink.now c.attempt.new.sink c.attempt.result c.requires c.attempt.ensures.front
+    c.attempt.ensures.unread c.attempt.ensures.unwritten

@@ -1,0 +1,57 @@
+use Rattle.std.proofs.Common.{arith, inr, sym, refl, []}
+use Rattle.mip_outside.proofs.Known.{prepend_none}
+use Rattle.mip_top.proofs.Bound.{if_told}
+use Rattle.mip_top.proofs.ObeyedLaws.{whole, at_end, stopped, always}
+use Rattle.mip_top.proofs.top.mip.Goals as goal
+
+pub returns-in-Ok-clause-obeyed : goal.returns-in-Ok-clause-obeyed
+returns-in-Ok-clause-obeyed g c =
+    let o = c.obey.ensures.obeyed in
+    rw (sym c.in-Ok.ensures.command) (whole c.in-Ok.command o.0 _ _ _ _ _ o.1)
+
+pub returns-in-Ok-clause-obeyed_of_some : goal.returns-in-Ok-clause-obeyed_of_some
+returns-in-Ok-clause-obeyed_of_some g c =
+    let o = c.obey.ensures.obeyed in
+    (o.0, o.1.most, o.1.taken, rw (sym c.in-Ok.ensures.command) o.1.obeys)
+
+pub returns-in-Ok-clause-at_end : goal.returns-in-Ok-clause-at_end
+returns-in-Ok-clause-at_end g c =
+    let o = c.obey.ensures.obeyed in
+    rw (sym c.in-Ok.ensures.command) (at_end c.in-Ok.command o.0 _ _ _ _ _ o.1)
+
+pub returns-in-Err-clause-obeyed : goal.returns-in-Err-clause-obeyed
+returns-in-Err-clause-obeyed g c = always _ _ _ _ _ (record { fault = inr refl; unwritten = refl; unsent = refl })
+
+pub returns-in-Err-clause-obeyed_of_some : goal.returns-in-Err-clause-obeyed_of_some
+returns-in-Err-clause-obeyed_of_some g c =
+    ([], omega arith, prepend_none _ _ refl, stopped _ [] _ _ _ (record { fault = inr refl; unwritten = refl; unsent = refl }))
+
+pub returns-in-Ok-clause-bound : goal.returns-in-Ok-clause-bound
+returns-in-Ok-clause-bound g c = if_told _ (λ text x read. c.each_is_bound.ensures x) (g.S.Source.left c.args.source.now)
+
+pub returns-in-Ok-clause-repeats : goal.returns-in-Ok-clause-repeats
+returns-in-Ok-clause-repeats g c = if_told _ c.each_repeat_is_late.ensures (g.S.Source.left c.args.source.now)
+
+pub returns-in-Ok-clause-homes : goal.returns-in-Ok-clause-homes
+returns-in-Ok-clause-homes g c = if_told _ (λ text x read. c.each_home_is_sent.ensures x) (g.S.Source.left c.args.source.now)
+
+pub returns-in-Ok-clause-marked : goal.returns-in-Ok-clause-marked
+returns-in-Ok-clause-marked g c = if_told _ c.each_acceptance_is_marked.ensures (g.S.Source.left c.args.source.now)
+
+pub returns-in-Ok-clause-delivered : goal.returns-in-Ok-clause-delivered
+returns-in-Ok-clause-delivered g c = if_told _ c.each_delivery_arrives.ensures (g.S.Source.left c.args.source.now)
+
+pub returns-in-Err-clause-bound : goal.returns-in-Err-clause-bound
+returns-in-Err-clause-bound g c = if_told _ (λ text x read. c.each_is_bound.ensures x) (g.S.Source.left c.args.source.now)
+
+pub returns-in-Err-clause-repeats : goal.returns-in-Err-clause-repeats
+returns-in-Err-clause-repeats g c = if_told _ c.each_repeat_is_late.ensures (g.S.Source.left c.args.source.now)
+
+pub returns-in-Err-clause-homes : goal.returns-in-Err-clause-homes
+returns-in-Err-clause-homes g c = if_told _ (λ text x read. c.each_home_is_sent.ensures x) (g.S.Source.left c.args.source.now)
+
+pub returns-in-Err-clause-marked : goal.returns-in-Err-clause-marked
+returns-in-Err-clause-marked g c = if_told _ c.each_acceptance_is_marked.ensures (g.S.Source.left c.args.source.now)
+
+pub returns-in-Err-clause-delivered : goal.returns-in-Err-clause-delivered
+returns-in-Err-clause-delivered g c = if_told _ c.each_delivery_arrives.ensures (g.S.Source.left c.args.source.now)

@@ -1,0 +1,63 @@
+-- What the run of a node or of a hub leaves of what is outside of the program.
+use Rattle.std.specs.Prelude.{◌≡◌, ℕ, ◌⊎◌, List, drop, None, Some, option_map}
+use Rattle.std.specs.declared.option.Option.{Option}
+use Rattle.mip_frames.specs.declared.served.Served.{Served}
+use Rattle.mip_frames.specs.declared.served.Served.TheVariants.{Done, LinkFault, WriteFault, Memory}
+use Rattle.mip_config.specs.Configs as nodes
+use Rattle.mip_node.specs.Faults.{DidNothing, BrokeAfter, WroteAfter}
+use Rattle.mip_node.specs.Nodes.{Datagrams}
+use Rattle.mip_node.specs.Runs as node
+use Rattle.mip_node.specs.Seen.{Ahead, Coming}
+use Rattle.mip_hub.specs.Reading as hubs
+use Rattle.mip_hub.specs.Served as hub
+use Rattle.mip_hub.specs.Turns.{Seen}
+
+-- what a sink holds, the answers of a clock that are to come, and of a link what is to come, what it sent and where it listens: each where it tells that
+pub record Outside : Type 0 where
+  pub held : Option (List ℕ)
+  pub ahead : Ahead
+  pub coming : Coming
+  pub sent : Datagrams
+  pub port : Option (Option ℕ)
+
+abbrev pub outside : Option (List ℕ) → Ahead → Coming → Datagrams → Option (Option ℕ) → Outside
+outside held ahead coming sent port = record { held = held; ahead = ahead; coming = coming; sent = sent; port = port }
+
+abbrev pub start_of : nodes.Content → Outside → node.Start
+start_of c o = node.start c o.ahead o.coming o.sent o.held
+
+-- a node was run by its configuration, for so many turns
+pub record NodeServed (c : nodes.Content) (turns given : ℕ) (old new : Outside) : Type 0 where
+  -- after status 0 as many turns were done: what was sent and written is the node's run
+  pub done : given ≡ 0 → node.Ran (start_of c old) turns new.sent new.held
+  pub port : given ≡ 0 → new.port ≡ option_map (λ _. Some c.port) old.port
+  -- after a fault of the link the text of the whole turns before stands, and a front of the datagrams of the next one was sent
+  pub link_fault : given ≡ 7 → DidNothing old.sent old.held new.sent new.held ⊎ BrokeAfter (start_of c old) turns new.coming new.sent new.held
+  -- after a fault of the sink all datagrams of the next turn were sent, and a front of its text stands
+  pub write_fault : given ≡ 4 → WroteAfter (start_of c old) turns new.sent new.held
+  -- whatever comes, a front of the text of so many turns at most was written
+  pub front : node.WroteFront (start_of c old) turns new.held
+
+-- the status that the run of a hub comes to
+abbrev pub status_of : Served → ℕ
+status_of Done = 0
+status_of LinkFault = 7
+status_of WriteFault = 4
+status_of Memory = 5
+
+-- a hub was run by its configuration, for so many turns
+pub record HubServed (c : hubs.Content) (turns given : ℕ) (old new : Outside) : Type 0 where
+  pub end : Served
+  pub is : given ≡ status_of end
+  -- what was sent and written is the fold of its turns over what came; after a fault, all of that in front of one call
+  pub seen : List Seen
+  pub saw : hub.Saw old.coming seen
+  pub ran : hub.Ran c turns seen end (hub.outside old.sent old.held) (hub.outside new.sent new.held)
+  pub coming : given ≡ 0 → new.coming ≡ option_map (drop turns) old.coming
+  pub port : given ≡ 0 → new.port ≡ option_map (λ _. Some c.port) old.port
+
+-- the input could not be read, or memory ran out before a turn: nothing was sent and written
+pub record IsStopped (given : ℕ) (old new : Outside) : Type 0 where
+  pub fault : (given ≡ 3) ⊎ (given ≡ 5)
+  pub unwritten : new.held ≡ old.held
+  pub unsent : new.sent ≡ old.sent

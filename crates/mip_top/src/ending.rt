@@ -1,0 +1,67 @@
+//! The end of a run: what the sink keeps back is put on.
+
+ghost use Rattle.std.specs.Prelude.{◌≡◌, ℕ, ◌≤◌, ◌⊎◌, List, [], true, false, map, string_bytes, IfSome};
+ghost use Rattle.std.specs.Io.KnownBytes.{prepend_known, IsAtEnd};
+ghost use Rattle.mip_commands.specs.Commands.{command_of};
+ghost use Rattle.mip_outside.specs.Cause.{Rose};
+ghost use Rattle.mip_outside.specs.Waiting.{held_by};
+ghost use Rattle.mip_replies.specs.Told.{IsConclusive, IsStatus, Says, HasWrittenFront};
+ghost use Rattle.mip_top.specs.Answers.{answer_of, takes_nothing, serves};
+
+use crate::top::mip;
+use mip_outside::{Buffered, Clock, Link, PutFault, Sink, Source};
+use mip_replies::Status;
+use std::alloc::Global;
+
+/// The program over a sink that keeps bytes back. At its end it puts them on, and a fault there is a write fault.
+pub fn mip_flushed<S: Source, K: Sink + Drop, C: Clock, L: Link>(
+    alloc: Global,
+    words: &[String],
+    source: &mut S,
+    sink: &mut Buffered<K>,
+    clock: &mut C,
+    link: &mut L,
+) -> Status
+    requires { sink.old.waiting ≡ [] }
+    // Unless a call failed or memory ran out, the whole answer was put on.
+    ensures whole { IfSome (S.left source.old) (λ bytes. IsConclusive result.0
+        → IfSome (answer_of (map string_bytes words.now) bytes) (λ answer. Says answer result.0 sink.old.put_on sink.new.put_on)) }
+    ensures whole_of_some { IsConclusive result.0 → ((bytes : List ℕ)
+        × (S.left source.old ≡ prepend_known bytes (S.left source.new))
+        × IfSome (answer_of (map string_bytes words.now) bytes) (λ answer. Says answer result.0 sink.old.put_on sink.new.put_on)) }
+    // Whatever the status is, what was put on and what still waits make a front of the answer.
+    ensures front { (bytes : List ℕ) × (S.left source.old ≡ prepend_known bytes (S.left source.new))
+        × IfSome (answer_of (map string_bytes words.now) bytes) (λ answer. HasWrittenFront answer sink.old.put_on (held_by sink.new)) }
+    ensures statuses { IsStatus result.0 }
+    ensures untouched { takes_nothing (command_of (map string_bytes words.now)) ≡ true → source.new ≡ source.old }
+    ensures at_end { takes_nothing (command_of (map string_bytes words.now)) ≡ false → result.0 ≡ 0 → IsAtEnd (S.left source.new) }
+    ensures read_fault { result.0 ≡ 3 → Rose (S.faults source.old) (S.faults source.new) }
+    ensures read_fault_text { result.0 ≡ 3 → held_by sink.new ≡ held_by sink.old }
+    ensures write_fault { result.0 ≡ 4 → Rose sink.old.faults sink.new.faults }
+    ensures link_fault { result.0 ≡ 7 → Rose (L.faults link.old) (L.faults link.new) }
+    ensures clock { serves (command_of (map string_bytes words.now)) ≡ false → clock.new ≡ clock.old }
+    ensures link { serves (command_of (map string_bytes words.now)) ≡ false → link.new ≡ link.old }
+{
+    let status = mip(alloc, words, source, sink, clock, link);
+    finish(sink, status)
+}
+
+/// Puts on what waits, and says how the run ended. After a write fault nothing more is put on.
+fn finish<K: Sink + Drop>(sink: &mut Buffered<K>, status: Status) -> Status
+    requires { IsStatus status.0 }
+    ensures held { held_by sink.new ≡ held_by sink.old }
+    ensures conclusive { IsConclusive result.0 → (result.0 ≡ status.0) × (sink.new.waiting ≡ []) }
+    ensures statuses { (result.0 ≡ status.0) ⊎ ((result.0 ≡ 4) ⊎ (result.0 ≡ 5)) }
+    ensures no_fewer { sink.old.faults ≤ sink.new.faults }
+    ensures cause { result.0 ≡ 4 → (status.0 ≡ 4) ⊎ Rose sink.old.faults sink.new.faults }
+{
+    if status == Status::WRITE_FAULT {
+        return status;
+    }
+    match sink.flush() {
+        Ok(()) => status,
+        Err(_) if status == Status::READ_FAULT || status == Status::LINK_FAULT || status == Status::MEMORY => status,
+        Err(PutFault::Failed) => Status::WRITE_FAULT,
+        Err(PutFault::Memory) => Status::MEMORY,
+    }
+}

@@ -1,0 +1,134 @@
+//! The program, over any source, sink, clock and link.
+
+ghost use Rattle.std.specs.Prelude.{◌≡◌, ℕ, ◌≤◌, ◌⊎◌, List, length, map, string_bytes, true, false, None, IfSome, IfOk};
+ghost use Rattle.std.specs.Io.KnownBytes.{prepend_known, IsAtEnd};
+ghost use Rattle.mip_outside.specs.Cause.{Rose};
+ghost use Rattle.mip_schedule.specs.Reading.{reading};
+ghost use Rattle.mip_history.specs.Setup.{setup_of};
+ghost use Rattle.mip_history.specs.Permitted.{permitted};
+ghost use Rattle.mip_replay.specs.Marked.{EachIsMarked};
+ghost use Rattle.mip_replay.specs.Bindings.{EachIsBound, EachRepeatIsLate};
+ghost use Rattle.mip_replay.specs.Homes.{HomesAreSent};
+ghost use Rattle.mip_delivery.specs.Reached.{EachReaches};
+ghost use Rattle.mip_commands.specs.Commands.{command_of, IsWithin};
+ghost use Rattle.mip_replies.specs.Told.{IsStatus};
+ghost use Rattle.mip_top.specs.Answers.{takes_nothing, serves};
+ghost use Rattle.mip_top.specs.Obeyed.{IsObeyed, Obeys};
+ghost use Rattle.mip_top.specs.Serving.{outside};
+
+use crate::hub::run_hub;
+use crate::node::run_node;
+use mip_commands::{Command, parse};
+use mip_delivery::each_delivery_arrives;
+use mip_outside::{Clock, Link, Sink, Source};
+use mip_replay::{
+    each_acceptance_is_marked, each_home_is_sent, each_is_bound, each_repeat_is_late,
+};
+use mip_replies::{InputForm, Product, Status, ToldRun, answer_input, tell, tell_made};
+use std::alloc::Global;
+
+/// Does what the words ask for, and says how it ended.
+pub fn mip<S: Source, K: Sink, C: Clock, L: Link>(
+    alloc: Global,
+    words: &[String],
+    source: &mut S,
+    sink: &mut K,
+    clock: &mut C,
+    link: &mut L,
+) -> Status
+    // The words are obeyed: what is answered to these bytes is told, or a node or a hub is run by them.
+    ensures obeyed { IfSome (S.left source.old) (λ bytes. Obeys (command_of (map string_bytes words.now)) bytes result.0
+        (outside (K.held sink.old) (C.ahead clock.old) (L.coming link.old) (L.sent link.old) (L.port link.old))
+        (outside (K.held sink.new) (C.ahead clock.new) (L.coming link.new) (L.sent link.new) (L.port link.new))) }
+    // A source that does not tell its bytes gave some, and they were obeyed.
+    ensures obeyed_of_some { (bytes : List ℕ) × (length bytes ≤ 16_777_217)
+        × (S.left source.old ≡ prepend_known bytes (S.left source.new))
+        × Obeys (command_of (map string_bytes words.now)) bytes result.0
+        (outside (K.held sink.old) (C.ahead clock.old) (L.coming link.old) (L.sent link.old) (L.port link.old))
+        (outside (K.held sink.new) (C.ahead clock.new) (L.coming link.new) (L.sent link.new) (L.port link.new)) }
+
+    // In the history of a schedule each care-of address that is held has its accepted update.
+    ensures bound { IfSome (S.left source.old) (λ bytes. IfOk (reading bytes) (λ c. EachIsBound (setup_of c) (permitted c))) }
+    // In it the same update is accepted again in one life only where its sequences have gone round.
+    ensures repeats { IfSome (S.left source.old) (λ bytes. IfOk (reading bytes) (λ c. EachRepeatIsLate (setup_of c) (permitted c))) }
+    // In it the mobile with that home had sent the update of each registered care-of address under its shield; it changes only
+    // by such an update, or by the end of its time.
+    ensures homes { IfSome (S.left source.old) (λ bytes. IfOk (reading bytes) (λ c. HomesAreSent (setup_of c) (permitted c))) }
+    // In it each accepted update is followed by its mark. Where that is an origin, both tokens had reached whoever made
+    // the update before its first packet was posted.
+    ensures marked { IfSome (S.left source.old) (λ bytes. IfOk (reading bytes) (λ c. EachIsMarked (setup_of c) (permitted c))) }
+    // In its run data between settled ends is handed up at the other end, with home addresses restored, where each packet of the
+    // chain is delivered while nothing of what settled them changes.
+    ensures delivered { IfSome (S.left source.old) (λ bytes. IfOk (reading bytes) (λ c. EachReaches (setup_of c) c.events)) }
+
+    ensures statuses { IsStatus result.0 }
+    ensures usage { result.0 ≡ 1 → command_of (map string_bytes words.now) ≡ None }
+    ensures no_command { command_of (map string_bytes words.now) ≡ None → (result.0 ≡ 1) ⊎ ((result.0 ≡ 4) ⊎ (result.0 ≡ 5)) }
+    // What is made of a seed takes nothing from the source, and no words that are no form do.
+    ensures untouched { takes_nothing (command_of (map string_bytes words.now)) ≡ true → source.new ≡ source.old }
+    ensures at_end { takes_nothing (command_of (map string_bytes words.now)) ≡ false → result.0 ≡ 0 → IsAtEnd (S.left source.new) }
+
+    ensures read_fault { result.0 ≡ 3 → Rose (S.faults source.old) (S.faults source.new) }
+    ensures read_fault_text { result.0 ≡ 3 → K.held sink.new ≡ K.held sink.old }
+    ensures write_fault { result.0 ≡ 4 → Rose (K.faults sink.old) (K.faults sink.new) }
+    ensures link_fault { result.0 ≡ 7 → Rose (L.faults link.old) (L.faults link.new) }
+    ensures source_faults { S.faults source.old ≤ S.faults source.new }
+    ensures sink_faults { K.faults sink.old ≤ K.faults sink.new }
+    ensures link_faults { L.faults link.old ≤ L.faults link.new }
+    // Only a node or a hub has to do with the clock and the link.
+    ensures clock { serves (command_of (map string_bytes words.now)) ≡ false → clock.new ≡ clock.old }
+    ensures link { serves (command_of (map string_bytes words.now)) ≡ false → link.new ≡ link.old }
+{
+    each_is_bound();
+    each_repeat_is_late();
+    each_home_is_sent();
+    each_acceptance_is_marked();
+    each_delivery_arrives();
+    match parse(alloc, words) {
+        Ok(command) => obey(alloc, command, source, sink, clock, link),
+        Err(_) => Status::MEMORY,
+    }
+}
+
+/// Does what a command asks for; without one, the words are no form.
+fn obey<S: Source, K: Sink, C: Clock, L: Link>(
+    alloc: Global,
+    command: Option<Command>,
+    source: &mut S,
+    sink: &mut K,
+    clock: &mut C,
+    link: &mut L,
+) -> Status
+    requires { IfSome command IsWithin }
+    ensures obeyed { (bytes : List ℕ) × IsObeyed command bytes result.0 (S.left source.old) (S.left source.new)
+        (outside (K.held sink.old) (C.ahead clock.old) (L.coming link.old) (L.sent link.old) (L.port link.old))
+        (outside (K.held sink.new) (C.ahead clock.new) (L.coming link.new) (L.sent link.new) (L.port link.new)) }
+    ensures statuses { IsStatus result.0 }
+    ensures usage { result.0 ≡ 1 → command ≡ None }
+    ensures no_command { command ≡ None → (result.0 ≡ 1) ⊎ ((result.0 ≡ 4) ⊎ (result.0 ≡ 5)) }
+    ensures untouched { takes_nothing command ≡ true → source.new ≡ source.old }
+    ensures read_fault { result.0 ≡ 3 → Rose (S.faults source.old) (S.faults source.new) }
+    ensures read_fault_text { result.0 ≡ 3 → K.held sink.new ≡ K.held sink.old }
+    ensures write_fault { result.0 ≡ 4 → Rose (K.faults sink.old) (K.faults sink.new) }
+    ensures link_fault { result.0 ≡ 7 → Rose (L.faults link.old) (L.faults link.new) }
+    ensures source_faults { S.faults source.old ≤ S.faults source.new }
+    ensures sink_faults { K.faults sink.old ≤ K.faults sink.new }
+    ensures link_faults { L.faults link.old ≤ L.faults link.new }
+    ensures clock { serves command ≡ false → clock.new ≡ clock.old }
+    ensures link { serves command ≡ false → link.new ≡ link.old }
+{
+    match command {
+        None => tell(sink, b"usage: mip COMMAND\n", Status::USAGE),
+        Some(Command::Replay) => {
+            answer_input(alloc, InputForm::Schedule(ToldRun::Trace), source, sink)
+        }
+        Some(Command::Decode) => answer_input(alloc, InputForm::Packet, source, sink),
+        Some(Command::Claims(ask)) => {
+            answer_input(alloc, InputForm::Schedule(ToldRun::Claims(ask)), source, sink)
+        }
+        Some(Command::Make(draft)) => tell_made(alloc, Product::Schedule, &draft, sink),
+        Some(Command::Sum(draft)) => tell_made(alloc, Product::Summary, &draft, sink),
+        Some(Command::Node(turns)) => run_node(alloc, turns, source, sink, clock, link),
+        Some(Command::Hub(turns)) => run_hub(alloc, turns, source, sink, clock, link),
+    }
+}
