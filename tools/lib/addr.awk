@@ -1,11 +1,12 @@
-# Addresses of a schedule as digits, and without comments; or with `back` those of a schedule, a trace or a listing in their familiar form.
+# Addresses of a schedule or a configuration as digits, and without comments; or with `back` those of such a text, a trace or a listing in their familiar form.
 BEGIN {
     FS = "[ ]"
     split("mip seed start link agent correspondent mobile serve outsider run wait move advertise data inject probe bind tell listen deaf squat " \
         "yield deliver repeat lose carry restart refresh plan ask show settle at moved advertised claimed released taken listening deafened " \
         "careof sent injected heard handed gone lost idle home registered unregistered refused chosen prefixes made bound unbound accepted " \
         "origin forged denied dropped up unsent restarted row settled source destination hop class flow route proto message cookie index " \
-        "token sequence flags lifetime status advice nonces alternate authorization fault icmp body bad advert holds solicit answer silent claim free got to", list, " ")
+        "token sequence flags lifetime status advice nonces alternate authorization fault icmp body bad advert holds solicit answer silent claim free got to " \
+        "self port route default payload release copies", list, " ")
     for (i in list) known[list[i]] = 1
     # where bytes stand that are no address
     bytes_at["data"] = 5
@@ -15,6 +16,10 @@ BEGIN {
     bytes_at["body"] = 2
     bytes_at["advert"] = 4
     bytes_at["solicit"] = bytes_at["answer"] = 3
+    bytes_at["payload"] = 5
+    # where a prefix stands
+    prefix_at["link"] = prefix_at["advertise"] = 3
+    prefix_at["advert"] = prefix_at["route"] = 2
 }
 
 function to_digits(n,    i, digits) {
@@ -31,9 +36,9 @@ function to_digits(n,    i, digits) {
 }
 
 function to_familiar(n,    i) {
-    if (!($1 in known)) { refuse(n, "no line of a schedule, a trace or a listing has the word `" substr($1, 1, 60) "`"); return }
-    if ($1 == "link" && is_digits($3, 16)) $3 = familiar_prefix($3)
-    if ($1 == "advert" && is_digits($2, 16)) $2 = familiar_prefix($2)
+    if (!($1 in known)) { refuse(n, "no line of a schedule, a configuration, a trace or a listing has the word `" substr($1, 1, 60) "`"); return }
+    i = prefix_at[$1]
+    if (i && is_digits($i, 16)) $i = familiar_prefix($i)
     for (i = 2; i <= NF; i++) if (i != bytes_at[$1] && is_digits($i, 32)) $i = familiar($i)
     emit($0)
 }
