@@ -4,3 +4,4 @@ pub mod DrawnReads
 pub mod HeadReads
 pub mod MadeLaws
 pub mod SpellingLaws
+pub mod CountingLaws

@@ -3,3 +3,4 @@ pub mod Draws
 pub mod Drawn
 pub mod Made
 pub mod Summaries
+pub mod Counting

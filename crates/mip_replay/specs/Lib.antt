@@ -6,3 +6,4 @@ pub mod Groups
 pub mod Renewals
 pub mod Pieces
 pub use Rattle.mip_origin.specs.Marked
+pub use Rattle.mip_delivery.specs.Reached

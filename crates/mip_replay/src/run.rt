@@ -7,11 +7,13 @@ ghost use Rattle.mip_schedule.specs.Lawful.{IsLawful};
 ghost use Rattle.mip_declared.specs.Places.{AreFew};
 ghost use Rattle.mip_schedule.specs.Schedules.{content};
 ghost use Rattle.mip_origin.specs.Marked.{EachIsMarked};
+ghost use Rattle.mip_delivery.specs.Reached.{EachReaches};
 ghost use Rattle.mip_replay.specs.Bindings.{EachIsBound, EachRepeatIsLate};
 ghost use Rattle.mip_replay.specs.Homes.{HomesAreSent};
 ghost use Rattle.mip_engine.specs.Standing.{IsAt};
 
 use crate::happening::happen;
+use mip_delivery::each_delivery_arrives;
 use mip_engine::Engine;
 use mip_entries::History;
 use mip_history::{
@@ -62,18 +64,23 @@ fn run_whole(alloc: Global, schedule: &Schedule) -> Result<History, Memory>
 ///
 /// Each accepted update is followed by the mark of its origin. Where that is not `forged`, both tokens had reached
 /// whoever made the update, before its first packet was posted.
+///
+/// Data between two settled ends is sent in one packet. Where nothing of what settled them changes from there on, and that packet
+/// and each that descends from it is delivered, the other end hands the data up, with home addresses restored.
 pub fn replay(alloc: Global, schedule: &Schedule) -> Result<History, Memory>
     ensures permitted { IfOk result (λ h. h ≡ permitted (content schedule.now)) }
     ensures bound { IfOk result (λ h. EachIsBound (setup_of (content schedule.now)) h) }
     ensures repeats { IfOk result (λ h. EachRepeatIsLate (setup_of (content schedule.now)) h) }
     ensures homes { IfOk result (λ h. HomesAreSent (setup_of (content schedule.now)) h) }
     ensures marked { IfOk result (λ h. EachIsMarked (setup_of (content schedule.now)) h) }
+    ensures delivered { EachReaches (setup_of (content schedule.now)) schedule.now.events }
 {
     held_was_accepted();
     repeats_come_after_rounds();
     registered_was_sent();
     homes_change_by_updates_or_time();
     acceptances_are_marked();
+    each_delivery_arrives();
     waits_are_short();
     spelling_read(schedule);
     run_whole(alloc, schedule)

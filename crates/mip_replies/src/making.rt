@@ -13,18 +13,23 @@ use crate::reply::Reply;
 use crate::status::Status;
 use crate::telling::tell_reply;
 use mip_commands::Draft;
-use mip_make::{make, spell, summary};
+use mip_make::{Tally, make, spell};
 use mip_outside::Sink;
+use mip_replay::Run;
 use mip_schedule::Schedule;
 use mip_words::{Bytes, Memory};
 use std::alloc::Global;
 
-/// The summary of a schedule's run, whose trace is never spelled.
+/// The summary of a schedule's run, of which no more than a piece is kept, and whose trace is never spelled.
 fn summary_of_run(alloc: Global, schedule: &Schedule) -> Result<Bytes, Memory>
     ensures { IfOk result (λ text. text ≡ product_text products.Summary (content schedule.now)) }
 {
-    let history = mip_replay::replay(alloc, schedule)?;
-    summary(alloc, schedule, &history)
+    let mut tally = Tally::new();
+    let mut run = Run::open(alloc, schedule)?;
+    while let Some(piece) = run.next(alloc, schedule)? {
+        tally.take(&piece);
+    }
+    tally.text(alloc, schedule)
 }
 
 fn text_of(alloc: Global, product: Product, draft: &Draft) -> Result<Bytes, Memory>

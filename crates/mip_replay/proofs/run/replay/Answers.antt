@@ -1,5 +1,6 @@
 use Rattle.std.proofs.lemmas.Result.{IfOk-weaker}
 use Rattle.mip_schedule.specs.Schedules.{content}
+use Rattle.mip_schedule.specs.Spelling.{spelling}
 use Rattle.mip_replay.proofs.BindingLaws.{each_is_bound, repeats_of}
 use Rattle.mip_replay.proofs.PlainLaws.{marked_of}
 use Rattle.mip_replay.proofs.RegisteredLaws.{homes_of}
@@ -23,3 +24,8 @@ pub returns-clause-marked : goal.returns-clause-marked
 returns-clause-marked c =
     IfOk-weaker c.run_whole.result _ _
     (λ h is. marked_of c.acceptances_are_marked.ensures c.waits_are_short.ensures (content c.args.schedule.now) h c.spelling_read.ensures is) c.run_whole.ensures
+
+pub returns-clause-delivered : goal.returns-clause-delivered
+returns-clause-delivered c =
+    let s = content c.args.schedule.now in
+    c.each_delivery_arrives.ensures (spelling s) s c.spelling_read.ensures

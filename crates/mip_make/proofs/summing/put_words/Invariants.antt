@@ -1,7 +1,0 @@
-use Rattle.std.proofs.Common.{◌≡◌, ◌++◌, take, map}
-use Rattle.mip_lines.specs.Lines.{lines_text}
-use Rattle.mip_make.specs.Summaries.{word_line}
-use Rattle.mip_make.proofs.summing.put_words.Given as goal
-
-abbrev pub invariant-loop-word : goal.invariant-loop-word
-invariant-loop-word l = l.out ≡ l.initial.out ++ lines_text (map (word_line l.entries) (take l.word-index l.words))
