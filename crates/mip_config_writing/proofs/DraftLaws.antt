@@ -76,28 +76,28 @@ map_more text xs x = map-append text xs (x ∷ [])
 
 route_more : (routes : List Route) (x : Route) (f : Option ℕ) (r : Option Role) (s : List Address) (p : List Payload) → is_open f r ≡ true → IsOrdered r s p
     → all_rows (routes ++ x ∷ []) f r s p ≡ all_rows routes f r s p ++ route_text x ∷ []
-route_more routes x (Some port) r s p open is = absurd cc
-route_more routes x None (Some role) s p open is = absurd cc
-route_more routes x None None s p open is =
+route_more routes x (Some port) r s p free is = absurd cc
+route_more routes x None (Some role) s p free is = absurd cc
+route_more routes x None None s p free is =
     rw (is.0, is.1) (append-nil (map route_text (routes ++ x ∷ [])) ∙ map_more route_text routes x ∙ ap (λ (t : Rows). t ++ route_text x ∷ []) (sym (append-nil (map route_text routes))))
 
 default_more : (routes : List Route) (port : ℕ) (f : Option ℕ) (r : Option Role) (s : List Address) (p : List Payload) → is_open f r ≡ true → IsOrdered r s p
     → all_rows routes (Some port) r s p ≡ all_rows routes f r s p ++ default_text port ∷ []
-default_more routes port (Some other) r s p open is = absurd cc
-default_more routes port None (Some role) s p open is = absurd cc
-default_more routes port None None s p open is =
+default_more routes port (Some other) r s p free is = absurd cc
+default_more routes port None (Some role) s p free is = absurd cc
+default_more routes port None None s p free is =
     rw (is.0, is.1) (ap (λ (t : Rows). t ++ default_text port ∷ []) (sym (append-nil (map route_text routes))))
 
 role_more : (routes : List Route) (f : Option ℕ) (role : Role) (r : Option Role) (s : List Address) (p : List Payload) → is_undecided r ≡ true → IsOrdered r s p
     → all_rows routes f (Some role) s p ≡ all_rows routes f r s p ++ role_text role ∷ []
-role_more routes f role (Some other) s p open is = absurd cc
-role_more routes f role None s p open is = rw (is.0, is.1) (behind (map route_text routes) (default_rows f) [] (role_text role))
+role_more routes f role (Some other) s p free is = absurd cc
+role_more routes f role None s p free is = rw (is.0, is.1) (behind (map route_text routes) (default_rows f) [] (role_text role))
 
 role_ordered : (role : Role) (r : Option Role) (s : List Address) (p : List Payload) → is_undecided r ≡ true → IsOrdered r s p → IsOrdered (Some role) s p
-role_ordered role (Some other) s p open is = absurd cc
-role_ordered (Agent a t l n) None s p open is = is.1
-role_ordered (Correspondent a n) None s p open is = is.0
-role_ordered (Mobile a g) None s p open is = is.0
+role_ordered role (Some other) s p free is = absurd cc
+role_ordered (Agent a t l n) None s p free is = is.1
+role_ordered (Correspondent a n) None s p free is = is.0
+role_ordered (Mobile a g) None s p free is = is.0
 
 serve_more : (routes : List Route) (f : Option ℕ) (r : Option Role) (s : List Address) (x : Address) (p : List Payload) → is_agent r ≡ true → IsOrdered r s p
     → all_rows routes f r (s ++ x ∷ []) p ≡ all_rows routes f r s p ++ serve_text x ∷ []
