@@ -84,6 +84,9 @@ port_spelled : (rows : List (List (List ℕ))) (out : ℕ × List (List (List �
 unfolding port_line
 port_spelled rows out e = number_spelled (codes "port") 1 65535 4 rows out e
 
+four : (r v s n p : List (List (List ℕ))) (a b c d : List (List ℕ)) → r ≡ a ∷ v → v ≡ b ∷ s → s ≡ c ∷ n → n ≡ d ∷ p → r ≡ a ∷ b ∷ c ∷ d ∷ p
+four r v s n p a b c d e1 e2 e3 e4 = rw (e1, e2, e3, e4) refl
+
 abbrev made_head : List ℕ → ℕ → ℕ × List (List (List ℕ)) → Head
 made_head seed node port = record { seed = seed; node = record { 0 = node }; port = port.0; rows = port.1 }
 
@@ -95,11 +98,9 @@ head_spelled rows h e =
     let n = bind_ok (self_line s.0.1) (λ node. port_line 4 node.1 >>= (λ port. Ok (made_head s.0.0 node.0 port))) h s.2 in
     let p = bind_ok (port_line 4 n.0.1) (λ port. Ok (made_head s.0.0 n.0.0 port)) h n.2 in
     let is : rows ≡ head_rows s.0.0 (record { 0 = n.0.0 }) p.0.0 ++ p.0.1 =
-    version_spelled rows v.0 v.1
-    ∙ ap (λ (r : List (List (List ℕ))). (codes "mip" ∷ codes "1" ∷ []) ∷ r) (seed_spelled v.0.1 s.0 s.1
-    ∙ ap (λ (r : List (List (List ℕ))). (codes "seed" ∷ hex_of s.0.0 ∷ []) ∷ r) (self_spelled s.0.1 n.0 n.1
-    ∙ ap (λ (r : List (List (List ℕ))). (codes "self" ∷ decimal n.0.0 ∷ []) ∷ r) (port_spelled n.0.1 p.0 p.1))) in
-    subst (λ (x : Head). rows ≡ head_rows x.seed x.node x.port ++ x.rows) (ok_is (made_head s.0.0 n.0.0 p.0) h p.2) is
+    four rows v.0.1 s.0.1 n.0.1 p.0.1 (codes "mip" ∷ codes "1" ∷ []) (codes "seed" ∷ hex_of s.0.0 ∷ []) (codes "self" ∷ decimal n.0.0 ∷ []) (codes "port" ∷ decimal p.0.0 ∷ [])
+    (version_spelled rows v.0 v.1) (seed_spelled v.0.1 s.0 s.1) (self_spelled s.0.1 n.0 n.1) (port_spelled n.0.1 p.0 p.1) in
+    subst (λ (x : Head). rows ≡ head_rows x.seed x.node x.port ++ x.rows) {x = made_head s.0.0 n.0.0 p.0} (ok_is (made_head s.0.0 n.0.0 p.0) h p.2) is
 
 configured_spelled : (h : Head) (w : Walked ConfigDraft) (role : Option Role) (c : Content) → w.draft.role ≡ role → configured h w role ≡ Ok c
     → head_rows h.seed h.node h.port ++ draft_rows w.draft ≡ config_rows c
