@@ -1,0 +1,9 @@
+//! A configuration as it is written.
+#![tactic(auto)]
+
+mod laws;
+mod lines;
+mod writing;
+
+pub use laws::{grammar_is_read, read_back, spelled_as_read};
+pub use writing::write_config;
