@@ -3,3 +3,7 @@ pub mod Words
 pub mod Answers
 pub mod Told
 pub mod Texts
+pub use Rattle.mip_replay.specs.Bindings
+pub use Rattle.mip_replay.specs.Homes
+pub use Rattle.mip_replay.specs.Marked
+pub use Rattle.mip_replay.specs.Reached

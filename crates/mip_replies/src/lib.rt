@@ -20,6 +20,10 @@ mod tracing;
 pub use input::{answer_input, tell_bad};
 pub use input_form::InputForm;
 pub use making::tell_made;
+pub use mip_replay::{
+    each_acceptance_is_marked, each_delivery_arrives, each_home_is_sent, each_is_bound,
+    each_repeat_is_late,
+};
 pub use product::Product;
 pub use reading::{LIMIT, ReadFault, read_input};
 pub use status::Status;

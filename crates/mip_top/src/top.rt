@@ -6,11 +6,11 @@ ghost use Rattle.mip_outside.specs.Cause.{Rose};
 ghost use Rattle.mip_schedule.specs.Reading.{reading};
 ghost use Rattle.mip_history.specs.Setup.{setup_of};
 ghost use Rattle.mip_history.specs.Permitted.{permitted};
-ghost use Rattle.mip_replay.specs.Marked.{EachIsMarked};
-ghost use Rattle.mip_replay.specs.Bindings.{EachIsBound, EachRepeatIsLate};
-ghost use Rattle.mip_replay.specs.Homes.{HomesAreSent};
-ghost use Rattle.mip_delivery.specs.Reached.{EachReaches};
 ghost use Rattle.mip_commands.specs.Commands.{command_of, IsWithin};
+ghost use Rattle.mip_replies.specs.Bindings.{EachIsBound, EachRepeatIsLate};
+ghost use Rattle.mip_replies.specs.Homes.{HomesAreSent};
+ghost use Rattle.mip_replies.specs.Marked.{EachIsMarked};
+ghost use Rattle.mip_replies.specs.Reached.{EachReaches};
 ghost use Rattle.mip_replies.specs.Told.{IsStatus};
 ghost use Rattle.mip_top.specs.Answers.{takes_nothing, serves};
 ghost use Rattle.mip_top.specs.Obeyed.{IsObeyed, Obeys};
@@ -19,12 +19,11 @@ ghost use Rattle.mip_top.specs.Serving.{outside};
 use crate::hub::run_hub;
 use crate::node::run_node;
 use mip_commands::{Command, parse};
-use mip_delivery::each_delivery_arrives;
 use mip_outside::{Clock, Link, Sink, Source};
-use mip_replay::{
-    each_acceptance_is_marked, each_home_is_sent, each_is_bound, each_repeat_is_late,
+use mip_replies::{
+    InputForm, Product, Status, ToldRun, answer_input, each_acceptance_is_marked,
+    each_delivery_arrives, each_home_is_sent, each_is_bound, each_repeat_is_late, tell, tell_made,
 };
-use mip_replies::{InputForm, Product, Status, ToldRun, answer_input, tell, tell_made};
 use std::alloc::Global;
 
 /// Does what the words ask for, and says how it ended.
