@@ -2,7 +2,7 @@
 use Rattle.std.proofs.Common.{◌≡◌, ℕ, ◌+◌, ◌<◌, ◌≤◌, refl, sym, ap, ◌∙◌, arith, List, [], ◌∷◌, ◌++◌, length, take, length-append, append_assoc, subst}
 use Rattle.std.proofs.Math.Seq.{take-append-add}
 use Rattle.std.proofs.lemmas.List.{take-append-le, take_all}
-use Rattle.std.specs.Prelude.{Option}
+use Rattle.std.specs.Prelude.{Option, Result, Ok, Err, OnErr}
 use Rattle.std.specs.Io.KnownBytes.{append_known}
 use Rattle.mip_words.specs.declared.address.Address.{Address}
 use Rattle.mip_declared.specs.declared.declaration.Declaration.{Declaration}
@@ -22,24 +22,30 @@ Front a b text = (count : ℕ) × (count ≤ length text) × (b ≡ append_known
 abbrev pub Part : Option (List ℕ) → Option (List ℕ) → List ℕ → Type 0
 Part a b text = (count : ℕ) × (count < length text) × (b ≡ append_known a (take count text))
 
+-- the text of what a piece advertises, put into an empty one
+pub piece_text : (ds own : List Declaration) (items : List Entry) (none full text : List ℕ) → own ≡ ds → none ≡ [] → full ≡ none ++ adverts own items → text ≡ full
+    → text ≡ adverts ds items
+piece_text ds own items none full text same empty put is =
+    is ∙ put ∙ ap (λ (l : List ℕ). l ++ adverts own items) empty ∙ ap (λ (d : List Declaration). adverts d items) same
+
 -- what a piece more advertises was written
 pub adverts_on : (a b c : Option (List ℕ)) (ds : List Declaration) (next told items : List Entry) (text : List ℕ) → next ≡ told ++ items
-    → b ≡ append_known a (adverts ds told) → text ≡ [] ++ adverts ds items → c ≡ append_known b text → c ≡ append_known a (adverts ds next)
+    → b ≡ append_known a (adverts ds told) → text ≡ adverts ds items → c ≡ append_known b text → c ≡ append_known a (adverts ds next)
 adverts_on a b c ds next told items text more first is put =
     append_more a b c _ _ first (put ∙ ap (append_known b) is) ∙ ap (append_known a) (sym (ap (adverts ds) more ∙ adverts_more ds told items))
 
 -- a part of what a piece advertises was written
-pub adverts_part : (a b c : Option (List ℕ)) (ds : List Declaration) (whole next told items rest : List Entry) (text : List ℕ) (k : ℕ) → whole ≡ next ++ rest
-    → next ≡ told ++ items → b ≡ append_known a (adverts ds told) → text ≡ [] ++ adverts ds items → k < length text → c ≡ append_known b (take k text)
-    → Part a c (adverts ds whole)
-adverts_part a b c ds whole next told items rest text k is more first same below put =
+pub adverts_part : (a b c : Option (List ℕ)) (ds : List Declaration) (whole next told items rest : List Entry) (text : List ℕ) → whole ≡ next ++ rest
+    → next ≡ told ++ items → b ≡ append_known a (adverts ds told) → text ≡ adverts ds items → Part b c text → Part a c (adverts ds whole)
+adverts_part a b c ds whole next told items rest text is more first same part =
     let A = adverts ds told in
     let L = adverts ds items in
     let R = adverts ds rest in
     let split : adverts ds whole ≡ A ++ (L ++ R) =
     ap (adverts ds) is ∙ adverts_more ds next rest ∙ ap (λ (l : List Entry). adverts ds l ++ R) more
     ∙ ap (λ (t : List ℕ). t ++ R) (adverts_more ds told items) ∙ append_assoc A L R in
-    subst (Part a c) (sym split) (part_of a b c A L R k first (subst (λ (t : List ℕ). k < length t) same below) (put ∙ ap (λ (t : List ℕ). append_known b (take k t)) same))
+    subst (Part a c) (sym split)
+    (part_of a b c A L R part.0 first (subst (λ (t : List ℕ). part.0 < length t) same part.1) (part.2 ∙ ap (λ (t : List ℕ). append_known b (take part.0 t)) same))
 
 -- what was advertised is a front of all that is
 pub adverts_front : (a b : Option (List ℕ)) (ds : List Declaration) (whole told rest : List Entry) → whole ≡ told ++ rest → b ≡ append_known a (adverts ds told)
@@ -74,3 +80,24 @@ part_behind a b c A E first part =
 pub rows_on : (before after : Rows) (next told items : List Entry) → next ≡ told ++ items → before ≡ rows_in [] told → after ≡ rows_in before items → after ≡ rows_in [] next
 rows_on before after next told items more first put =
     put ∙ ap (λ (r : Rows). rows_in r items) first ∙ sym (ap (rows_in []) more ∙ rows_more [] told items)
+
+pub part_front : (a b : Option (List ℕ)) (text : List ℕ) → Part a b text → Front a b text
+part_front a b text part = (part.0, omega (arith, part.1), part.2)
+
+-- a front of what stands at the end was written, behind all that is advertised
+pub claims_front : (a b c : Option (List ℕ)) (ds own : List Declaration) (history : List Entry) (ask : Option Address) (rows : Rows) → own ≡ ds → rows ≡ rows_in [] history
+    → b ≡ append_known a (adverts ds history) → Front b c (end_text own rows ask) → (count : ℕ) × (c ≡ append_known a (take count (claims_text ds history ask)))
+claims_front a b c ds own history ask rows same stand first front =
+    front_behind a b c (adverts ds history) (end_text ds (rows_in [] history) ask) first
+    (subst (λ (r : Rows). Front b c (end_text ds r ask)) stand (subst (λ (d : List Declaration). Front b c (end_text d rows ask)) same front))
+
+pub claims_part : (a b c : Option (List ℕ)) (ds own : List Declaration) (history : List Entry) (ask : Option Address) (rows : Rows) → own ≡ ds → rows ≡ rows_in [] history
+    → b ≡ append_known a (adverts ds history) → Part b c (end_text own rows ask) → Part a c (claims_text ds history ask)
+claims_part a b c ds own history ask rows same stand first part =
+    part_behind a b c (adverts ds history) (end_text ds (rows_in [] history) ask) first
+    (subst (λ (r : Rows). Part b c (end_text ds r ask)) stand (subst (λ (d : List Declaration). Part b c (end_text d rows ask)) same part))
+
+-- what follows where a call failed
+pub on_err : {X E : Type 0} (P Q : Type 0) (r : Result X E) → (P → Q) → OnErr r P → OnErr r Q
+on_err P Q (Ok x) step is = tt
+on_err P Q (Err e) step is = step is

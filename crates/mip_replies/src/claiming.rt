@@ -35,7 +35,13 @@ pub fn write_claims<K: Sink>(
 {
     let mut standing = Standing::new(alloc);
     write_adverts(alloc, sink, schedule, &mut standing)?;
-    write_end(alloc, sink, schedule.declarations.as_slice(), &standing, ask)
+    write_end(
+        alloc,
+        sink,
+        schedule.declarations.as_slice(),
+        &standing,
+        ask,
+    )
 }
 
 /// Writes what the claims of a schedule's run advertise, and keeps those that stand at its end.

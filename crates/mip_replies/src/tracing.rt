@@ -21,7 +21,11 @@ use std::alloc::Global;
 const LINE: usize = 512;
 
 /// Writes the trace of a schedule while it runs. It keeps one line at a time, and the entries that the run gave away last.
-pub fn write_trace<K: Sink>(alloc: Global, sink: &mut K, schedule: &Schedule) -> Result<(), PutFault>
+pub fn write_trace<K: Sink>(
+    alloc: Global,
+    sink: &mut K,
+    schedule: &Schedule,
+) -> Result<(), PutFault>
     ensures ok { OnOk result (K.held sink.new ≡ append_known (K.held sink.old) (trace_of (content schedule.now))) }
     ensures front { OnErr result ((count : ℕ) × (K.held sink.new ≡ append_known (K.held sink.old) (take count (trace_of (content schedule.now))))) }
     ensures part { IsErrOf result PutFault.Failed → ((count : ℕ) × (count < length (trace_of (content schedule.now)))

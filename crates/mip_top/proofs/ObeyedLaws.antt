@@ -180,12 +180,15 @@ at_end command bytes given left_old left_new old new is takes zero =
 -- nothing is taken for it
 pub untaken : (command : Option Command) (given : ℕ) (left_old left_new : Option (List ℕ)) (old new : Outside) → takes_nothing command ≡ true → left_new ≡ left_old
     → Obeys command [] given old new → (bytes : List ℕ) × IsObeyed command bytes given left_old left_new old new
-untaken command given left_old left_new old new none kept is = ([], record {
-  most = omega arith;
-  taken = prepend_none _ _ kept;
-  obeys = is;
-  read = inl none;
-})
+untaken command given left_old left_new old new none kept is = (
+  [],
+  record {
+    most = omega arith;
+    taken = prepend_none _ _ kept;
+    obeys = is;
+    read = inl none;
+  },
+)
 
 stops : (given : ℕ) (old new : Outside) → new.sent ≡ old.sent → (P : Type 0) → P ⊎ (((given ≡ 3) ⊎ (given ≡ 5)) × (new.held ≡ old.held)) → P ⊎ IsStopped given old new
 stops given old new unsent P (inl end) = inl end
@@ -196,25 +199,31 @@ pub answered : (command : Option Command) (answer : List ℕ → Answer) (given 
     → ((bytes : List ℕ) → answer_to command bytes ≡ Some (answer bytes)) → ((bytes : List ℕ) → IsServed command bytes given old new) → new.sent ≡ old.sent
     → ((bytes : List ℕ) × IsAnswered answer bytes given left_old left_new old.held new.held)
     → (bytes : List ℕ) × IsObeyed command bytes given left_old left_new old new
-answered command answer given left_old left_new old new by_text idle unsent a = (a.0, record {
-  most = a.1.most;
-  taken = a.1.taken;
-  obeys = record {
-    told = subst (λ (o : Option Answer). IfSome o (λ answer. Told answer given old.held new.held)) (sym (by_text a.0)) a.1.told;
-    served = idle a.0;
-  };
-  read = inr (stops given old new unsent _ a.1.read);
-})
+answered command answer given left_old left_new old new by_text idle unsent a = (
+  a.0,
+  record {
+    most = a.1.most;
+    taken = a.1.taken;
+    obeys = record {
+      told = subst (λ (o : Option Answer). IfSome o (λ answer. Told answer given old.held new.held)) (sym (by_text a.0)) a.1.told;
+      served = idle a.0;
+    };
+    read = inr (stops given old new unsent _ a.1.read);
+  },
+)
 
 -- the input could not be read
 pub unread : (command : Option Command) (given : ℕ) (left_old left_new : Option (List ℕ)) (old new : Outside) → IsStopped given old new
     → ((bytes : List ℕ) × (length bytes ≤ 16777217) × (left_old ≡ prepend_known bytes left_new)) → (bytes : List ℕ) × IsObeyed command bytes given left_old left_new old new
-unread command given left_old left_new old new stop some = (some.0, record {
-  most = some.1;
-  taken = some.2;
-  obeys = stopped command some.0 given old new stop;
-  read = inr (inr stop);
-})
+unread command given left_old left_new old new stop some = (
+  some.0,
+  record {
+    most = some.1;
+    taken = some.2;
+    obeys = stopped command some.0 given old new stop;
+    read = inr (inr stop);
+  },
+)
 
 -- ---- a configuration, and its run
 

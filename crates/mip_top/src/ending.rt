@@ -60,7 +60,10 @@ fn finish<K: Sink + Drop>(sink: &mut Buffered<K>, status: Status) -> Status
     }
     match sink.flush() {
         Ok(()) => status,
-        Err(_) if status == Status::READ_FAULT || status == Status::LINK_FAULT || status == Status::MEMORY => status,
+        Err(_)
+            if status == Status::READ_FAULT
+                || status == Status::LINK_FAULT
+                || status == Status::MEMORY => status,
         Err(PutFault::Failed) => Status::WRITE_FAULT,
         Err(PutFault::Memory) => Status::MEMORY,
     }

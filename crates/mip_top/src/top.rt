@@ -123,7 +123,12 @@ fn obey<S: Source, K: Sink, C: Clock, L: Link>(
         }
         Some(Command::Decode) => answer_input(alloc, InputForm::Packet, source, sink),
         Some(Command::Claims(ask)) => {
-            answer_input(alloc, InputForm::Schedule(ToldRun::Claims(ask)), source, sink)
+            answer_input(
+                alloc,
+                InputForm::Schedule(ToldRun::Claims(ask)),
+                source,
+                sink,
+            )
         }
         Some(Command::Make(draft)) => tell_made(alloc, Product::Schedule, &draft, sink),
         Some(Command::Sum(draft)) => tell_made(alloc, Product::Summary, &draft, sink),

@@ -1,8 +1,8 @@
 //! Calls that fail, which no form of the program's words can show.
 
-use mip_top::{mip, mip_flushed};
-use mip_replies::Status;
 use mip_outside::{Buffered, SetClock, Sink, Source, SureLink, SureSource, TextSink, TextSource};
+use mip_replies::Status;
+use mip_top::{mip, mip_flushed};
 use mip_words::Memory;
 use std::alloc::Global;
 use std::test::Fail;

@@ -5,10 +5,10 @@ use Rattle.mip_replay.specs.Pieces.{IsRunOf}
 use Rattle.mip_replies.proofs.making.summary_of_run.Given as goal
 
 abbrev pub invariant-loop-run : goal.invariant-loop-run
-invariant-loop-run g l = record {
+invariant-loop-run l = record {
   stands : IsRunOf l.run (content l.schedule);
   counted : l.tally ≡ l.run.told;
 }
 
 abbrev pub decreases-loop-run : goal.decreases-loop-run
-decreases-loop-run g l = length (permitted (content l.schedule)) - length l.run.told
+decreases-loop-run l = length (permitted (content l.schedule)) - length l.run.told

@@ -12,12 +12,18 @@ returns-clause-whole g c =
 
 pub returns-clause-whole_of_some : goal.returns-clause-whole_of_some
 returns-clause-whole_of_some g c = λ sure.
-    let o = c.mip.ensures.obeyed_of_some in
-    (o.0, o.2, says (command_of (map string_bytes c.args.words.now)) o.0 _ _ _ _ _ _ _ refl refl c.requires
-    (record { held = c.finish.ensures.held; conclusive = c.finish.ensures.conclusive }) o.3 sure)
+    let o = c.mip.ensures.obeyed_of_some in (
+      o.0,
+      o.2,
+      says (command_of (map string_bytes c.args.words.now)) o.0 _ _ _ _ _ _ _ refl refl c.requires
+          (record { held = c.finish.ensures.held; conclusive = c.finish.ensures.conclusive }) o.3 sure,
+    )
 
 pub returns-clause-front : goal.returns-clause-front
 returns-clause-front g c =
-    let o = c.mip.ensures.obeyed_of_some in
-    (o.0, o.2, front (command_of (map string_bytes c.args.words.now)) o.0 _ _ _ _ _ _ _ refl refl c.requires
-    (record { held = c.finish.ensures.held; conclusive = c.finish.ensures.conclusive }) o.3)
+    let o = c.mip.ensures.obeyed_of_some in (
+      o.0,
+      o.2,
+      front (command_of (map string_bytes c.args.words.now)) o.0 _ _ _ _ _ _ _ refl refl c.requires
+          (record { held = c.finish.ensures.held; conclusive = c.finish.ensures.conclusive }) o.3,
+    )

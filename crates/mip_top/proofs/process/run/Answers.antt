@@ -19,9 +19,11 @@ Fronts left answer old new before after =
 fronts : {X S : Type 0} (left : X → Option (List ℕ)) (answer : List ℕ → Option Answer) (old new : X) (before after : Buffer) (o : Result S Memory) → before.waiting ≡ []
     → IfOk o (λ status. Fronts left answer old new before after) → OnErr o (new ≡ old) → OnErr o (after ≡ before) → Fronts left answer old new before after
 fronts left answer old new before after (Ok status) empty front unread unwritten = front
-fronts left answer old new before after (Err e) empty front unread unwritten =
-    ([], prepend_none (left old) (left new) (ap left unread),
-    if_any (λ a. HasWrittenFront a before.put_on (held_by after)) (answer []) (λ a. (0, ap held_by unwritten ∙ ap (append_known before.put_on) empty)))
+fronts left answer old new before after (Err e) empty front unread unwritten = (
+  [],
+  prepend_none (left old) (left new) (ap left unread),
+  if_any (λ a. HasWrittenFront a before.put_on (held_by after)) (answer []) (λ a. (0, ap held_by unwritten ∙ ap (append_known before.put_on) empty)),
+)
 
 pub returns-clause-front : goal.returns-clause-front
 returns-clause-front g c =

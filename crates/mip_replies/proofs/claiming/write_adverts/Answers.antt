@@ -1,0 +1,77 @@
+use Rattle.std.proofs.Common.{◌≡◌, ◌++◌, refl, arith}
+use Rattle.std.proofs.lemmas.Result.{err_from_is_err_and}
+use Rattle.mip_outside.proofs.Known.{append_none}
+use Rattle.mip_schedule.specs.Schedules.{content}
+use Rattle.mip_history.specs.Permitted.{permitted}
+use Rattle.mip_replay.proofs.RunLaws.{told_front}
+use Rattle.mip_replies.proofs.ClaimsTold.{piece_text, adverts_on, adverts_part, adverts_front, part_front, rows_on}
+use Rattle.mip_replies.proofs.TraceTold.{told_more}
+use Rattle.mip_replies.proofs.claiming.write_adverts.Goals as goal
+
+pub loop-run-init : goal.loop-run-init
+loop-run-init g c = record {
+  stands = c.in_ok-run.ensures.stands;
+  written = rw c.in_ok-run.ensures.none (append_none _ _ refl);
+  standing = rw c.in_ok-run.ensures.none c.requires;
+  faults = omega arith;
+}
+
+pub loop-run-preserved : goal.loop-run-preserved
+loop-run-preserved g c =
+    let told = c.loop-run.run.told in
+    let items = c.as_slice-in-Some.result.now in
+    let next = c.next.new.self.told in
+    let ds = c.args.schedule.now.declarations in
+    let more : next ≡ told ++ items =
+    told_more next told items c.in-Some.piece c.in_ok-piece.field-0 c.in_ok-piece.ensures.piece c.in-Some.is c.as_slice-in-Some.ensures in
+    record {
+      stands = c.in_ok-piece.ensures.stands;
+      written = adverts_on _ _ _ ds next told items c.as_slice-in-Some-2.result.now more c.loop-run.invariant.written
+          (piece_text ds c.as_slice.result.now items _ _ _ c.as_slice.ensures c.clear.ensures c.in_ok-tell_entries.ensures.adverts c.as_slice-in-Some-2.ensures)
+          c.in_ok-write_text.ensures.ok;
+      standing = rows_on c.loop-run.standing c.tell_entries.new.standing next told items more c.loop-run.invariant.standing c.in_ok-tell_entries.ensures.stands;
+      faults = omega (arith, c.loop-run.invariant.faults, c.write_text.ensures.no_fewer);
+    }
+
+pub returns-in_err-piece-clause-front : goal.returns-in_err-piece-clause-front
+returns-in_err-piece-clause-front g c =
+    let p = err_from_is_err_and c.from_residual-in_err-piece.result c.from_residual-in_err-piece.ensures.1 in
+    let s = content c.args.schedule.now in
+    let front = told_front c.loop-run.run s c.loop-run.invariant.stands in
+    rw p.1 (adverts_front _ _ c.args.schedule.now.declarations (permitted s) c.loop-run.run.told front.0 front.1 c.loop-run.invariant.written)
+
+pub returns-in_err-tell_entries-clause-front : goal.returns-in_err-tell_entries-clause-front
+returns-in_err-tell_entries-clause-front g c =
+    let p = err_from_is_err_and c.from_residual-in_err-tell_entries.result c.from_residual-in_err-tell_entries.ensures.1 in
+    let s = content c.args.schedule.now in
+    let front = told_front c.loop-run.run s c.loop-run.invariant.stands in
+    rw p.1 (adverts_front _ _ c.args.schedule.now.declarations (permitted s) c.loop-run.run.told front.0 front.1 c.loop-run.invariant.written)
+
+pub returns-in_err-write_text-clause-front : goal.returns-in_err-write_text-clause-front
+returns-in_err-write_text-clause-front g c =
+    let p = err_from_is_err_and c.from_residual-in_err-write_text.result c.from_residual-in_err-write_text.ensures.1 in
+    let s = content c.args.schedule.now in
+    let told = c.loop-run.run.told in
+    let items = c.as_slice-in-Some.result.now in
+    let next = c.next.new.self.told in
+    let ds = c.args.schedule.now.declarations in
+    let front = told_front c.next.new.self s c.in_ok-piece.ensures.stands in
+    rw p.1
+    (part_front _ _ _
+    (adverts_part _ _ _ ds (permitted s) next told items front.0 c.as_slice-in-Some-2.result.now front.1
+    (told_more next told items c.in-Some.piece c.in_ok-piece.field-0 c.in_ok-piece.ensures.piece c.in-Some.is c.as_slice-in-Some.ensures) c.loop-run.invariant.written
+    (piece_text ds c.as_slice.result.now items _ _ _ c.as_slice.ensures c.clear.ensures c.in_ok-tell_entries.ensures.adverts c.as_slice-in-Some-2.ensures)
+    c.in_err-write_text.ensures.err))
+
+pub returns-in_err-write_text-clause-part : goal.returns-in_err-write_text-clause-part
+returns-in_err-write_text-clause-part g c = λ _.
+    let s = content c.args.schedule.now in
+    let told = c.loop-run.run.told in
+    let items = c.as_slice-in-Some.result.now in
+    let next = c.next.new.self.told in
+    let ds = c.args.schedule.now.declarations in
+    let front = told_front c.next.new.self s c.in_ok-piece.ensures.stands in
+    adverts_part _ _ _ ds (permitted s) next told items front.0 c.as_slice-in-Some-2.result.now front.1
+    (told_more next told items c.in-Some.piece c.in_ok-piece.field-0 c.in_ok-piece.ensures.piece c.in-Some.is c.as_slice-in-Some.ensures) c.loop-run.invariant.written
+    (piece_text ds c.as_slice.result.now items _ _ _ c.as_slice.ensures c.clear.ensures c.in_ok-tell_entries.ensures.adverts c.as_slice-in-Some-2.ensures)
+    c.in_err-write_text.ensures.err
