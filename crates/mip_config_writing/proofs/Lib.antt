@@ -1,0 +1,4 @@
+pub mod RowLaws
+pub mod DraftLaws
+pub mod TextLaws
+pub mod WritingLaws

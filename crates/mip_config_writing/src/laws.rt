@@ -1,0 +1,18 @@
+//! The laws, each the contract of a function that does nothing.
+
+ghost use Rattle.std.specs.Prelude.{◌≡◌, ℕ, List, Ok};
+ghost use Rattle.mip_config.specs.Configs.{Content};
+ghost use Rattle.mip_config.specs.Reading.{reading};
+ghost use Rattle.mip_config_writing.specs.Spelling.{spelling};
+
+/// A law: a text that is read as a configuration is the configuration's spelling, so no other text is read as it.
+#[tactic(auto, using(crate::proofs::TextLaws::text_spelled))]
+pub fn spelled_as_read()
+    ensures { (text : List ℕ) (c : Content) → reading text ≡ Ok c → text ≡ spelling c }
+{}
+
+/// A law: a configuration that some text is read as is read from its spelling.
+#[tactic(auto, using(crate::proofs::TextLaws::spelling_again))]
+pub fn read_back()
+    ensures { (text : List ℕ) (c : Content) → reading text ≡ Ok c → reading (spelling c) ≡ Ok c }
+{}
