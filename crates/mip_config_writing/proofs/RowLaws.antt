@@ -1,10 +1,9 @@
 -- A line of a configuration that is read is spelled so.
-use Rattle.std.proofs.Common.{◌≡◌, ℕ, List, [], ◌∷◌, refl, ap, ◌∙◌}
+use Rattle.std.proofs.Common.{◌≡◌, ℕ, List, ◌∷◌, refl, ap, ◌∙◌}
 use Rattle.std.specs.Prelude.{Option, Some, None, Result, Ok, codes}
 use Rattle.std.specs.Str.{bytes_eq}
 use Rattle.std.proofs.lemmas.Bool.{cond_both}
 use Rattle.std.proofs.lemmas.Slice.Eq.{bytes_eq-Decides}
-use Rattle.mip_words.specs.Steps.{◌>>=◌}
 use Rattle.mip_words.specs.declared.address.Address.{Address}
 use Rattle.mip_words.proofs.StepLaws.{bind_ok, ok_is}
 use Rattle.mip_lines.specs.HexFields.{address_hex}
@@ -15,9 +14,7 @@ use Rattle.mip_declared.specs.Spelled.{or_word}
 use Rattle.mip_declared.specs.declared.reason.Reason.{Reason}
 use Rattle.mip_declared.specs.declared.reason.Reason.TheVariants as reasons
 use Rattle.mip_declared.proofs.KindLaws.{prefix-spells, address-spells, number-spells, bytes-spells, worded}
-use Rattle.mip_frames.specs.declared.route.Route.{Route}
 use Rattle.mip_config.specs.Rows.{some_agent, route_row, default_row, agent_row, correspondent_row, mobile_row, role_row, serve_row, payload_row}
-use Rattle.mip_config.specs.declared.payload.Payload.{Payload}
 use Rattle.mip_config.specs.declared.role.Role.{Role}
 use Rattle.mip_config_writing.specs.Spelling.{route_text, default_text, role_text, serve_text, payload_text}
 

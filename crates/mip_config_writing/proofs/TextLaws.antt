@@ -1,5 +1,5 @@
 -- A text that is read as a configuration is the configuration's spelling.
-use Rattle.std.proofs.Common.{◌≡◌, ℕ, ◌+◌, List, [], ◌∷◌, ◌++◌, true, refl, sym, ap, ◌∙◌, subst, arith}
+use Rattle.std.proofs.Common.{◌≡◌, ℕ, List, [], ◌∷◌, ◌++◌, refl, sym, ap, ◌∙◌, subst, arith}
 use Rattle.std.specs.Prelude.{Option, Some, None, Result, Ok, codes, decimal}
 use Rattle.std.specs.Str.{bytes_eq}
 use Rattle.std.proofs.lemmas.Bool.{cond_both}
@@ -12,7 +12,6 @@ use Rattle.mip_lines.proofs.LineLaws.{text-spelled}
 use Rattle.mip_declared.specs.Kinds as kinds
 use Rattle.mip_declared.specs.declared.reason.Reason.{Reason}
 use Rattle.mip_declared.proofs.KindLaws.{number-spells, number-within, seed-spells, worded}
-use Rattle.mip_schedule.specs.Faults.{Wrong}
 use Rattle.mip_schedule.specs.Reading.{at_line, headed, head_field, head_line, version_line, seed_line}
 use Rattle.mip_schedule.proofs.TextLaws.{at_line_ok}
 use Rattle.mip_drafts.specs.Walk.{Walked, walk}
@@ -21,7 +20,7 @@ use Rattle.mip_config.specs.Drafts.{nothing, line_onto}
 use Rattle.mip_config.specs.Reading.{self_line, port_line, Head, head_of, configured, reading}
 use Rattle.mip_config.specs.declared.config_draft.ConfigDraft.{ConfigDraft}
 use Rattle.mip_config.specs.declared.role.Role.{Role}
-use Rattle.mip_config_writing.specs.Spelling.{head_rows, body_rows, config_rows, spelling}
+use Rattle.mip_config_writing.specs.Spelling.{head_rows, config_rows, spelling}
 use Rattle.mip_config_writing.proofs.DraftLaws.{end_row, draft_rows, walk_spelled}
 
 headed_spelled : (word : List ℕ) (row : List (List ℕ)) (f : List ℕ) → headed word row ≡ Ok f → row ≡ word ∷ f ∷ []
