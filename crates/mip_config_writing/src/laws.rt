@@ -3,6 +3,7 @@
 ghost use Rattle.std.specs.Prelude.{◌≡◌, ℕ, List, Ok};
 ghost use Rattle.mip_config.specs.Configs.{Content};
 ghost use Rattle.mip_config.specs.Reading.{reading};
+ghost use Rattle.mip_config_writing.specs.Grammar.{InGrammar};
 ghost use Rattle.mip_config_writing.specs.Spelling.{spelling};
 
 /// A law: a text that is read as a configuration is the configuration's spelling, so no other text is read as it.
@@ -15,4 +16,10 @@ pub fn spelled_as_read()
 #[tactic(auto, using(crate::proofs::TextLaws::spelling_again))]
 pub fn read_back()
     ensures { (text : List ℕ) (c : Content) → reading text ≡ Ok c → reading (spelling c) ≡ Ok c }
+{}
+
+/// A law: a configuration in the grammar is read from its spelling.
+#[tactic(auto, using(crate::proofs::TextReadings::spelling_read))]
+pub fn grammar_is_read()
+    ensures { (c : Content) → InGrammar c → reading (spelling c) ≡ Ok c }
 {}
