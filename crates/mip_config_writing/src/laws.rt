@@ -23,3 +23,8 @@ pub fn read_back()
 pub fn grammar_is_read()
     ensures { (c : Content) → InGrammar c → reading (spelling c) ≡ Ok c }
 {}
+
+/// A law: what is read is in the grammar, so a configuration is in it exactly where some text is read as it.
+pub fn read_is_in_grammar()
+    ensures { (text : List ℕ) (c : Content) → reading text ≡ Ok c → InGrammar c }
+{}
