@@ -37,15 +37,15 @@ at_end (z ∷ xs) x (c ∷ b) y a e =
     let first : z ≡ c = cc in
     let rest : xs ++ x ∷ [] ≡ b ++ y ∷ a = cc in
     elim (at_end xs x b y a rest) [
-      inl p ↦ inl (rw (first, p.0) refl, p.1)
-    | inr p ↦ inr (p.0, rw (first, p.1) refl)
+      | inl p ↦ inl (rw (first, p.0) refl, p.1)
+      | inr p ↦ inr (p.0, rw (first, p.1) refl)
     ]
 
 new_more : (homes : List Address) (x : Address) → IsEachNew homes → list_any (is_same x) homes ≡ false → IsEachNew (homes ++ x ∷ [])
 new_more homes x new one before home after e =
     elim (at_end homes x before home after e) [
-      inl p ↦ rw (sym p.0, sym p.1) one
-    | inr p ↦ new before home p.0 p.1
+      | inl p ↦ rw (sym p.0, sym p.1) one
+      | inr p ↦ new before home p.0 p.1
     ]
 
 all_more : {A : Type 0} (p : A → Bool) (xs : List A) (x : A) → list_all p xs ≡ true → p x ≡ true → list_all p (xs ++ x ∷ []) ≡ true

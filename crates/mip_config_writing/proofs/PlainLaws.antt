@@ -1,6 +1,6 @@
 -- The fields of a configuration's lines have no space and no line end.
-use Rattle.std.proofs.Common.{◌≡◌, ℕ, ◌<◌, ◌≤◌, ◌^◌, List, [], ◌∷◌, ◌++◌, Bool, true, refl, ◌∙◌, arith, length}
-use Rattle.std.specs.Prelude.{Option, Some, None, codes, decimal, ◌&&◌, map, nat_lt, nat_le, not}
+use Rattle.std.proofs.Common.{◌≡◌, ℕ, ◌<◌, ◌^◌, List, [], ◌∷◌, ◌++◌, Bool, true, refl, ◌∙◌, arith}
+use Rattle.std.specs.Prelude.{Option, Some, None, codes, decimal, ◌&&◌, map, nat_lt}
 use Rattle.std.specs.List.{list_all}
 use Rattle.std.proofs.lemmas.Bool.{and_parts, and_from}
 use Rattle.std.proofs.lemmas.List.Folds.{list_all-append}
@@ -13,11 +13,10 @@ use Rattle.mip_lines.proofs.LineLaws.{decimal_plain, hex_plain, hex_text_plain}
 use Rattle.mip_declared.specs.Spelled.{or_word}
 use Rattle.mip_frames.specs.declared.route.Route.{Route}
 use Rattle.mip_config.specs.Configs.{Content}
-use Rattle.mip_schedule.specs.EventTimes.{is_reserved}
 use Rattle.mip_config.specs.declared.payload.Payload.{Payload}
 use Rattle.mip_config.specs.declared.role.Role.{Role}
 use Rattle.mip_config.specs.declared.role.Role.TheVariants.{Agent, Correspondent, Mobile}
-use Rattle.mip_config_writing.specs.Grammar.{is_within, are_bytes, is_port, is_fallback, is_route, is_address, is_some_address, is_role, is_payload, InGrammar}
+use Rattle.mip_config_writing.specs.Grammar.{is_within, is_port, is_fallback, is_route, is_address, is_role, is_payload, InGrammar}
 use Rattle.mip_config_writing.specs.Spelling.{head_rows, route_text, default_rows, role_text, serve_text, payload_text, config_rows}
 use Rattle.mip_config_writing.proofs.FieldReadings.{within}
 
