@@ -8,3 +8,4 @@ pub mod PlainLaws
 pub mod TextReadings
 pub mod RowsWithin
 pub mod GrammarLaws
+pub mod ShortLaws
