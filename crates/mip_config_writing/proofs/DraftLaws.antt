@@ -22,6 +22,7 @@ use Rattle.mip_config.specs.declared.config_draft.ConfigDraft.{ConfigDraft}
 use Rattle.mip_config.specs.declared.payload.Payload.{Payload}
 use Rattle.mip_config.specs.declared.role.Role.{Role}
 use Rattle.mip_config.specs.declared.role.Role.TheVariants.{Agent, Correspondent, Mobile}
+use Rattle.mip_config_writing.specs.Grammar.{IsApart}
 use Rattle.mip_config_writing.specs.Spelling.{route_text, default_text, default_rows, role_text, serve_text, payload_text}
 use Rattle.mip_config_writing.proofs.RowLaws.{route_spelled, default_spelled, role_spelled, serve_spelled, payload_spelled}
 
@@ -32,13 +33,13 @@ abbrev pub end_row : List (List ℕ)
 end_row = [] ∷ []
 
 -- an `Ok` behind a test
-passed : {A : Type 0} (b : Bool) (r : Result A Reason) (why : Reason) (x : A) → cond b r (Err why) ≡ Ok x → (b ≡ true) × (r ≡ Ok x)
+pub passed : {A : Type 0} (b : Bool) (r : Result A Reason) (why : Reason) (x : A) → cond b r (Err why) ≡ Ok x → (b ≡ true) × (r ≡ Ok x)
 passed true r why x e = (refl, e)
 passed false r why x e = absurd cc
 
-unrefused : {A : Type 0} (b : Bool) (why : Reason) (r : Result A Reason) (x : A) → cond b (Err why) r ≡ Ok x → r ≡ Ok x
+pub unrefused : {A : Type 0} (b : Bool) (why : Reason) (r : Result A Reason) (x : A) → cond b (Err why) r ≡ Ok x → (b ≡ false) × (r ≡ Ok x)
 unrefused true why r x e = absurd cc
-unrefused false why r x e = e
+unrefused false why r x e = (refl, e)
 
 -- the lines behind the head
 abbrev role_rows : Option Role → Rows
@@ -52,18 +53,16 @@ abbrev pub draft_rows : ConfigDraft → Rows
 draft_rows d = all_rows d.routes d.fallback d.role d.serves d.payloads
 
 -- nothing stands behind a role that is not there, an agent has no payloads, and another node no homes
-abbrev IsOrdered : Option Role → List Address → List Payload → Type 0
+abbrev pub IsOrdered : Option Role → List Address → List Payload → Type 0
 IsOrdered None homes payloads = (homes ≡ []) × (payloads ≡ [])
-IsOrdered (Some (Agent address preference life room)) homes payloads = payloads ≡ []
-IsOrdered (Some (Correspondent address room)) homes payloads = homes ≡ []
-IsOrdered (Some (Mobile address agent)) homes payloads = homes ≡ []
+IsOrdered (Some role) homes payloads = IsApart role homes payloads
 
 -- the draft e has the lines of d and this one
-record IsMore (d : ConfigDraft) (row : List (List ℕ)) (e : ConfigDraft) : Type 0 where
-  rows : draft_rows e ≡ draft_rows d ++ row ∷ []
-  ordered : IsOrdered e.role e.serves e.payloads
+pub record IsMore (d : ConfigDraft) (row : List (List ℕ)) (e : ConfigDraft) : Type 0 where
+  pub rows : draft_rows e ≡ draft_rows d ++ row ∷ []
+  pub ordered : IsOrdered e.role e.serves e.payloads
 
-abbrev Extends : ConfigDraft → List (List ℕ) → Result ConfigDraft Reason → Type 0
+abbrev pub Extends : ConfigDraft → List (List ℕ) → Result ConfigDraft Reason → Type 0
 Extends d row r = (e : ConfigDraft) → r ≡ Ok e → IsOrdered d.role d.serves d.payloads → IsMore d row e
 
 -- a line behind three lists of lines
@@ -141,7 +140,7 @@ route_extends d fields e is ordered =
     let r = passed (is_open d.fallback d.role) _ reasons.Form e is in
     let x = bind_ok (route_row fields) (λ route. refuse (nat_le 64 (length d.routes)) reasons.Limit (record d { routes = d.routes ++ route ∷ [] })) e r.1 in
     let more : ConfigDraft = record d { routes = d.routes ++ x.0 ∷ [] } in
-    subst (IsMore d (codes "route" ∷ fields)) (ok_is more e (unrefused (nat_le 64 (length d.routes)) reasons.Limit (Ok more) e x.2)) (record {
+    subst (IsMore d (codes "route" ∷ fields)) (ok_is more e (unrefused (nat_le 64 (length d.routes)) reasons.Limit (Ok more) e x.2).1) (record {
       rows = of_row d more _ _ (route_spelled fields x.0 x.1) (route_more d.routes x.0 d.fallback d.role d.serves d.payloads r.0 ordered);
       ordered = ordered;
     })
@@ -163,7 +162,7 @@ role_extends d word fields e is ordered =
     let r = passed (is_undecided d.role) _ reasons.Form e is in
     let x = bind_ok (role_row word fields) (λ role. refuse (is_anycast (address_of role)) reasons.Clash (record d { role = Some role })) e r.1 in
     let more : ConfigDraft = record d { role = Some x.0 } in
-    subst (IsMore d (word ∷ fields)) (ok_is more e (unrefused (is_anycast (address_of x.0)) reasons.Clash (Ok more) e x.2)) (record {
+    subst (IsMore d (word ∷ fields)) (ok_is more e (unrefused (is_anycast (address_of x.0)) reasons.Clash (Ok more) e x.2).1) (record {
       rows = of_row d more _ _ (role_spelled word fields x.0 x.1) (role_more d.routes d.fallback x.0 d.role d.serves d.payloads r.0 ordered);
       ordered = role_ordered x.0 d.role d.serves d.payloads r.0 ordered;
     })
@@ -175,7 +174,7 @@ serve_extends d fields e is ordered =
     let x = bind_ok (serve_row fields) (serve_judged d) e r.1 in
     let more : ConfigDraft = record d { serves = d.serves ++ x.0 ∷ [] } in
     let y = unrefused (nat_le 8 (length d.serves)) reasons.Limit (refuse (list_any (is_same x.0) d.serves) reasons.Clash more) e x.2 in
-    subst (IsMore d (codes "serve" ∷ fields)) (ok_is more e (unrefused (list_any (is_same x.0) d.serves) reasons.Clash (Ok more) e y)) (record {
+    subst (IsMore d (codes "serve" ∷ fields)) (ok_is more e (unrefused (list_any (is_same x.0) d.serves) reasons.Clash (Ok more) e y.1).1) (record {
       rows = of_row d more _ _ (serve_spelled fields x.0 x.1) (serve_more d.routes d.fallback d.role d.serves x.0 d.payloads r.0 ordered);
       ordered = serve_ordered d.role d.serves (d.serves ++ x.0 ∷ []) d.payloads r.0 ordered;
     })
@@ -187,7 +186,7 @@ payload_extends d fields e is ordered =
     let x = bind_ok (payload_row fields) (payload_judged d) e r.1 in
     let more : ConfigDraft = record d { payloads = d.payloads ++ x.0 ∷ [] } in
     let y = unrefused (nat_le 1000 (length d.payloads)) reasons.Limit (refuse (is_reserved x.0.proto) reasons.Number more) e x.2 in
-    subst (IsMore d (codes "payload" ∷ fields)) (ok_is more e (unrefused (is_reserved x.0.proto) reasons.Number (Ok more) e y)) (record {
+    subst (IsMore d (codes "payload" ∷ fields)) (ok_is more e (unrefused (is_reserved x.0.proto) reasons.Number (Ok more) e y.1).1) (record {
       rows = of_row d more _ _ (payload_spelled fields x.0 x.1) (payload_more d.routes d.fallback d.role d.serves d.payloads x.0 r.0 ordered);
       ordered = payload_ordered d.role d.serves d.payloads (d.payloads ++ x.0 ∷ []) r.0 ordered;
     })
@@ -198,7 +197,7 @@ by_word d w word fields r test extends e is ordered =
     let more = extends e is ordered in
     record { rows = of_row d e (w ∷ fields) (word ∷ fields) (worded w word fields (word ∷ fields) test refl) more.rows; ordered = more.ordered }
 
-line_extends : (d : ConfigDraft) (row : List (List ℕ)) → Extends d row (line_onto d row)
+pub line_extends : (d : ConfigDraft) (row : List (List ℕ)) → Extends d row (line_onto d row)
 unfolding line_onto
 line_extends d [] = λ e is ordered. absurd cc
 line_extends d (word ∷ fields) =

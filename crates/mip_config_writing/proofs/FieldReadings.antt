@@ -1,7 +1,6 @@
 -- A field that is spelled so is read.
 use Rattle.std.proofs.Common.{◌≡◌, ℕ, zero, suc, ◌<◌, ◌≤◌, ◌^◌, List, [], ◌∷◌, length, true, refl, ap, ◌∙◌, arith}
-use Rattle.std.specs.Prelude.{Option, Some, None, Ok, codes, decimal, ◌&&◌, nat_le, nat_lt}
-use Rattle.std.specs.List.{list_all}
+use Rattle.std.specs.Prelude.{Option, Some, None, Ok, codes, decimal, nat_le, nat_lt}
 use Rattle.std.specs.Str.{bytes_eq}
 use Rattle.std.proofs.lemmas.Bool.{and_parts, leb-true, ltb-true, cond-false, false_from_ne_true}
 use Rattle.std.proofs.lemmas.Slice.Eq.{bytes_eq-Decides}
@@ -10,7 +9,6 @@ use Rattle.mip_words.proofs.Fields.{length-number_bytes}
 use Rattle.mip_words.proofs.HexLaws.{length-hex_of}
 use Rattle.mip_words.specs.Hex.{hex_of}
 use Rattle.mip_words.specs.Numbers.{IsBytes}
-use Rattle.mip_words.specs.Steps.{◌>>=◌}
 use Rattle.mip_words.specs.declared.address.Address.{Address}
 use Rattle.mip_words.specs.declared.prefix.Prefix.{Prefix}
 use Rattle.mip_lines.specs.HexFields.{address_hex, number_hex, hex_text}

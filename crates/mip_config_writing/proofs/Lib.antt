@@ -6,3 +6,6 @@ pub mod FieldReadings
 pub mod LineReadings
 pub mod PlainLaws
 pub mod TextReadings
+pub mod RowsWithin
+pub mod GrammarLaws
+pub mod ShortLaws

@@ -5,7 +5,6 @@ use Rattle.std.specs.List.{list_any}
 use Rattle.std.proofs.lemmas.Bool.{and_parts, leb-true, lt-leb, not-true}
 use Rattle.mip_words.specs.declared.address.Address.{Address}
 use Rattle.mip_words.specs.declared.prefix.Prefix.{Prefix}
-use Rattle.mip_words.specs.Steps.{◌>>=◌}
 use Rattle.mip_lines.proofs.RowReadings.{row1-again, row2-again, row4-again}
 use Rattle.mip_lines.specs.HexFields.{address_hex, number_hex, hex_text}
 use Rattle.mip_declared.specs.Kinds as kinds

@@ -1,6 +1,6 @@
 -- The fields of a configuration's lines have no space and no line end.
-use Rattle.std.proofs.Common.{◌≡◌, ℕ, ◌<◌, ◌≤◌, ◌^◌, List, [], ◌∷◌, ◌++◌, Bool, true, refl, ◌∙◌, arith, length}
-use Rattle.std.specs.Prelude.{Option, Some, None, codes, decimal, ◌&&◌, map, nat_lt, nat_le, not}
+use Rattle.std.proofs.Common.{◌≡◌, ℕ, ◌<◌, ◌^◌, List, [], ◌∷◌, ◌++◌, Bool, true, refl, ◌∙◌, arith}
+use Rattle.std.specs.Prelude.{Option, Some, None, codes, decimal, ◌&&◌, map, nat_lt}
 use Rattle.std.specs.List.{list_all}
 use Rattle.std.proofs.lemmas.Bool.{and_parts, and_from}
 use Rattle.std.proofs.lemmas.List.Folds.{list_all-append}
@@ -13,11 +13,10 @@ use Rattle.mip_lines.proofs.LineLaws.{decimal_plain, hex_plain, hex_text_plain}
 use Rattle.mip_declared.specs.Spelled.{or_word}
 use Rattle.mip_frames.specs.declared.route.Route.{Route}
 use Rattle.mip_config.specs.Configs.{Content}
-use Rattle.mip_schedule.specs.EventTimes.{is_reserved}
 use Rattle.mip_config.specs.declared.payload.Payload.{Payload}
 use Rattle.mip_config.specs.declared.role.Role.{Role}
 use Rattle.mip_config.specs.declared.role.Role.TheVariants.{Agent, Correspondent, Mobile}
-use Rattle.mip_config_writing.specs.Grammar.{is_within, are_bytes, is_port, is_fallback, is_route, is_address, is_some_address, is_role, is_payload, InGrammar}
+use Rattle.mip_config_writing.specs.Grammar.{is_within, is_port, is_fallback, is_route, is_address, is_role, is_payload, InGrammar}
 use Rattle.mip_config_writing.specs.Spelling.{head_rows, route_text, default_rows, role_text, serve_text, payload_text, config_rows}
 use Rattle.mip_config_writing.proofs.FieldReadings.{within}
 
@@ -61,14 +60,15 @@ payload_plain p is =
     let c = and_parts (is_within 0 255 p.proto) _ b.1 in
     rw (number_plain 1 1000000 p.turn a.0 (omega arith), address_plain p.to, number_plain 0 255 p.proto c.0 (omega arith), hex_text_plain p.payload) refl
 
-each_plain : {X : Type 0} (text : X → List (List ℕ)) (p : X → Bool) → ((x : X) → p x ≡ true → is_row (text x) ≡ true) → (xs : List X) → list_all p xs ≡ true → list_all is_row (map text xs) ≡ true
-each_plain text p plain [] are = refl
-each_plain text p plain (x ∷ xs) are =
+-- what holds of the line of each holds of their lines
+pub each_row : {X : Type 0} (q : List (List ℕ) → Bool) (text : X → List (List ℕ)) (p : X → Bool) → ((x : X) → p x ≡ true → q (text x) ≡ true) → (xs : List X) → list_all p xs ≡ true → list_all q (map text xs) ≡ true
+each_row q text p holds [] are = refl
+each_row q text p holds (x ∷ xs) are =
     let s = and_parts (p x) (list_all p xs) are in
-    and_from _ _ (plain x s.0) (each_plain text p plain xs s.1)
+    and_from _ _ (holds x s.0) (each_row q text p holds xs s.1)
 
-both_plain : (a b : List (List (List ℕ))) → list_all is_row a ≡ true → list_all is_row b ≡ true → list_all is_row (a ++ b) ≡ true
-both_plain a b one two = list_all-append is_row a b ∙ and_from _ _ one two
+pub both_rows : (q : List (List ℕ) → Bool) (a b : List (List (List ℕ))) → list_all q a ≡ true → list_all q b ≡ true → list_all q (a ++ b) ≡ true
+both_rows q a b one two = list_all-append q a b ∙ and_from _ _ one two
 
 head_plain : (c : Content) → InGrammar c → list_all is_row (head_rows c.seed c.node c.port) ≡ true
 head_plain c is = rw (hex_plain c.seed, number_plain 0 31 c.node.0 is.node (omega arith), number_plain 1 65535 c.port is.port (omega arith)) refl
@@ -80,8 +80,8 @@ rows_plain c is =
     let payloads : List (List (List ℕ)) = map payload_text c.payloads in
     let behind_default : List (List (List ℕ)) = role_text c.role ∷ (homes ++ payloads) in
     let behind_routes : List (List (List ℕ)) = default_rows c.fallback ++ behind_default in
-    both_plain (head_rows c.seed c.node c.port) (map route_text c.routes ++ behind_routes) (head_plain c is)
-    (both_plain (map route_text c.routes) behind_routes (each_plain route_text is_route route_plain c.routes is.routes)
-    (both_plain (default_rows c.fallback) behind_default (default_plain c.fallback is.fallback)
+    both_rows is_row (head_rows c.seed c.node c.port) (map route_text c.routes ++ behind_routes) (head_plain c is)
+    (both_rows is_row (map route_text c.routes) behind_routes (each_row is_row route_text is_route route_plain c.routes is.routes)
+    (both_rows is_row (default_rows c.fallback) behind_default (default_plain c.fallback is.fallback)
     (and_from (is_row (role_text c.role)) (list_all is_row (homes ++ payloads)) (role_plain c.role is.role)
-    (both_plain homes payloads (each_plain serve_text is_address serve_plain c.serves is.homes) (each_plain payload_text is_payload payload_plain c.payloads is.payloads)))))
+    (both_rows is_row homes payloads (each_row is_row serve_text is_address serve_plain c.serves is.homes) (each_row is_row payload_text is_payload payload_plain c.payloads is.payloads)))))

@@ -42,12 +42,12 @@ head_field_spelled word n (row ∷ next ∷ rows) p e =
     subst (λ (x : List ℕ × List (List (List ℕ))). row ∷ next ∷ rows ≡ (word ∷ x.0 ∷ []) ∷ x.1) (ok_is (q.0, next ∷ rows) p q.2) (ap (λ (r : List (List ℕ)). r ∷ next ∷ rows) line)
 
 -- a line of the head was read so
-record IsHeadLine {A : Type 0} (word : List ℕ) (read : List ℕ → Result A Reason) (rows : List (List (List ℕ))) (out : A × List (List (List ℕ))) : Type 0 where
-  field : List ℕ
-  value : read field ≡ Ok out.0
-  spelled : rows ≡ (word ∷ field ∷ []) ∷ out.1
+pub record IsHeadLine {A : Type 0} (word : List ℕ) (read : List ℕ → Result A Reason) (rows : List (List (List ℕ))) (out : A × List (List (List ℕ))) : Type 0 where
+  pub field : List ℕ
+  pub value : read field ≡ Ok out.0
+  pub spelled : rows ≡ (word ∷ field ∷ []) ∷ out.1
 
-head_line_spelled : {A : Type 0} (word : List ℕ) (read : List ℕ → Result A Reason) (n : ℕ) (rows : List (List (List ℕ))) (out : A × List (List (List ℕ)))
+pub head_line_spelled : {A : Type 0} (word : List ℕ) (read : List ℕ → Result A Reason) (n : ℕ) (rows : List (List (List ℕ))) (out : A × List (List (List ℕ)))
     → head_line word read n rows ≡ Ok out → IsHeadLine word read rows out
 head_line_spelled {A} word read n rows out e =
     let p = bind_ok (head_field word n rows) (λ field. at_line n (read field.0) >>= (λ x. Ok (x, field.1))) out e in
@@ -86,7 +86,7 @@ port_spelled rows out e = number_spelled (codes "port") 1 65535 4 rows out e
 four : (r v s n p : List (List (List ℕ))) (a b c d : List (List ℕ)) → r ≡ a ∷ v → v ≡ b ∷ s → s ≡ c ∷ n → n ≡ d ∷ p → r ≡ a ∷ b ∷ c ∷ d ∷ p
 four r v s n p a b c d e1 e2 e3 e4 = rw (e1, e2, e3, e4) refl
 
-abbrev made_head : List ℕ → ℕ → ℕ × List (List (List ℕ)) → Head
+abbrev pub made_head : List ℕ → ℕ → ℕ × List (List (List ℕ)) → Head
 made_head seed node port = record { seed = seed; node = record { 0 = node }; port = port.0; rows = port.1 }
 
 head_spelled : (rows : List (List (List ℕ))) (h : Head) → head_of rows ≡ Ok h → rows ≡ head_rows h.seed h.node h.port ++ h.rows

@@ -1,8 +1,7 @@
 -- A configuration in the grammar is read from its spelling.
-use Rattle.std.proofs.Common.{◌≡◌, ℕ, zero, suc, ◌+◌, ◌<◌, ◌≤◌, ◌^◌, List, [], ◌∷◌, ◌++◌, length, Bool, true, false, refl, sym, ap, ◌∙◌, subst, append_assoc, arith, length-append}
-use Rattle.std.specs.Prelude.{Option, Some, None, Result, Ok, codes, decimal, map, ◌&&◌}
+use Rattle.std.proofs.Common.{◌≡◌, ℕ, ◌+◌, ◌<◌, ◌≤◌, List, [], ◌∷◌, ◌++◌, length, Bool, true, false, refl, sym, ap, ◌∙◌, subst, append_assoc, arith, length-append}
+use Rattle.std.specs.Prelude.{Option, Some, None, Result, Ok, codes, decimal, map}
 use Rattle.std.specs.List.{list_all, list_any}
-use Rattle.std.specs.Str.{bytes_eq}
 use Rattle.std.proofs.lemmas.Bool.{and_parts}
 use Rattle.std.proofs.lemmas.Fmt.{decimal_digit}
 use Rattle.std.proofs.lemmas.List.{append-nil}
@@ -11,23 +10,21 @@ use Rattle.std.proofs.lemmas.Slice.Eq.{bytes_eq-Decides}
 use Rattle.mip_words.specs.Hex.{hex_of}
 use Rattle.mip_words.specs.Steps.{◌>>=◌}
 use Rattle.mip_words.specs.declared.address.Address.{Address}
-use Rattle.mip_lines.specs.Cutting.{rows_of}
 use Rattle.mip_lines.proofs.LineLaws.{text-again}
 use Rattle.mip_declared.specs.Kinds as kinds
 use Rattle.mip_declared.specs.declared.reason.Reason.{Reason}
 use Rattle.mip_frames.specs.declared.route.Route.{Route}
 use Rattle.mip_schedule.specs.Reading.{head_field, head_line, version_line, seed_line}
 use Rattle.mip_schedule.specs.Faults.{Wrong}
-use Rattle.mip_drafts.specs.Walk.{Walked, walk}
+use Rattle.mip_drafts.specs.Walk.{walk}
 use Rattle.mip_config.specs.Configs.{Content}
-use Rattle.mip_config.specs.Facts.{address_of}
 use Rattle.mip_config.specs.Drafts.{nothing, is_host, is_same, line_onto}
-use Rattle.mip_config.specs.Reading.{self_line, port_line, Head, head_of, configured, reading}
+use Rattle.mip_config.specs.Reading.{self_line, port_line, head_of, configured, reading}
 use Rattle.mip_config.specs.declared.config_draft.ConfigDraft.{ConfigDraft}
 use Rattle.mip_config.specs.declared.payload.Payload.{Payload}
 use Rattle.mip_config.specs.declared.role.Role.{Role}
 use Rattle.mip_config.specs.declared.role.Role.TheVariants.{Agent, Correspondent, Mobile}
-use Rattle.mip_config_writing.specs.Grammar.{is_route, is_address, is_payload, is_fallback, is_role, IsApart, InGrammar}
+use Rattle.mip_config_writing.specs.Grammar.{is_route, is_address, is_payload, is_fallback, IsApart, InGrammar}
 use Rattle.mip_config_writing.specs.Spelling.{head_rows, route_text, default_text, default_rows, role_text, serve_text, payload_text, body_rows, config_rows, spelling}
 use Rattle.mip_config_writing.proofs.DraftLaws.{Rows, end_row}
 use Rattle.mip_config_writing.proofs.FieldReadings.{number_reads, seed_reads}
@@ -156,10 +153,12 @@ port_reads c is t ts = head_line_reads (codes "port") (decimal c.port) (kinds.nu
 head_reads : (c : Content) → InGrammar c → (t : List (List ℕ)) (ts : Rows) → head_of (head_rows c.seed c.node c.port ++ t ∷ ts) ≡ Ok (record { seed = c.seed; node = c.node; port = c.port; rows = t ∷ ts })
 unfolding head_of
 head_reads c is t ts =
-    rw (version_reads (codes "seed" ∷ hex_of c.seed ∷ []) ((codes "self" ∷ decimal c.node.0 ∷ []) ∷ (codes "port" ∷ decimal c.port ∷ []) ∷ t ∷ ts),
-    seed_line_reads c is (codes "self" ∷ decimal c.node.0 ∷ []) ((codes "port" ∷ decimal c.port ∷ []) ∷ t ∷ ts),
-    self_reads c is (codes "port" ∷ decimal c.port ∷ []) (t ∷ ts),
-    port_reads c is t ts) refl
+    rw (
+      version_reads (codes "seed" ∷ hex_of c.seed ∷ []) ((codes "self" ∷ decimal c.node.0 ∷ []) ∷ (codes "port" ∷ decimal c.port ∷ []) ∷ t ∷ ts),
+      seed_line_reads c is (codes "self" ∷ decimal c.node.0 ∷ []) ((codes "port" ∷ decimal c.port ∷ []) ∷ t ∷ ts),
+      self_reads c is (codes "port" ∷ decimal c.port ∷ []) (t ∷ ts),
+      port_reads c is t ts,
+    ) refl
 
 abbrev rows_read : Rows → Result Content Wrong
 rows_read rows = head_of rows >>= (λ head. walk line_onto nothing 5 head.rows >>= (λ walked. configured head walked walked.draft.role))

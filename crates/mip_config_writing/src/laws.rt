@@ -1,6 +1,6 @@
 //! The laws, each the contract of a function that does nothing.
 
-ghost use Rattle.std.specs.Prelude.{◌≡◌, ℕ, List, Ok};
+ghost use Rattle.std.specs.Prelude.{◌≡◌, ◌<◌, ◌^◌, ℕ, List, length, Ok};
 ghost use Rattle.mip_config.specs.Configs.{Content};
 ghost use Rattle.mip_config.specs.Reading.{reading};
 ghost use Rattle.mip_config_writing.specs.Grammar.{InGrammar};
@@ -22,4 +22,15 @@ pub fn read_back()
 #[tactic(auto, using(crate::proofs::TextReadings::spelling_read))]
 pub fn grammar_is_read()
     ensures { (c : Content) → InGrammar c → reading (spelling c) ≡ Ok c }
+{}
+
+/// A law: what is read is in the grammar, so a configuration is in it exactly where some text is read as it.
+pub fn read_is_in_grammar()
+    ensures { (text : List ℕ) (c : Content) → reading text ≡ Ok c → InGrammar c }
+{}
+
+/// A law: the spelling of a configuration in the grammar has fewer than 2 to the 23 bytes, so it may be given to the reader.
+#[tactic(auto, using(crate::proofs::ShortLaws::spelling_short))]
+pub fn spelling_is_short()
+    ensures { (c : Content) → InGrammar c → length (spelling c) < 2 ^ 23 }
 {}

@@ -1,7 +1,7 @@
 use Rattle.std.proofs.Common.{ap, ◌∙◌}
 use Rattle.mip_config.specs.Configs.{content}
 use Rattle.mip_config.specs.Reading.{reading}
-use Rattle.mip_config_writing.proofs.TextLaws.{spelling_again}
+use Rattle.mip_config_writing.proofs.TextReadings.{spelling_read}
 use Rattle.mip_config_writing.proofs.WritingLaws.{parts_text}
 use Rattle.mip_config_writing.proofs.writing.write_config.Goals as goal
 
@@ -11,4 +11,4 @@ returns-clause-spelled c =
     (parts_text (content c.args.config.now))
 
 pub returns-clause-back : goal.returns-clause-back
-returns-clause-back c = λ text e. ap reading (returns-clause-spelled c) ∙ spelling_again text (content c.args.config.now) e
+returns-clause-back c = λ is. ap reading (returns-clause-spelled c) ∙ spelling_read (content c.args.config.now) is
