@@ -1,11 +1,14 @@
 //! A correspondent that is run over a link in memory, by stored packets and texts.
 
-use mip_config::Config;
+ghost use Rattle.std.specs.Prelude.{◌+◌, ◌<◌, ◌^◌, length};
+
+use mip_config::read_config;
 use mip_frames::{ListLink, Served};
 use mip_node::serve;
 use mip_outside::{SetClock, TextSink};
 use mip_words::{Bytes, Memory, hex_exact};
 use std::alloc::Global;
+use std::test::Fail;
 
 pub const HOME_TEST: &[u8] =
     b"mip 1\nseed 000102030405060708090a0b0c0d0e0f101112131415161718191a1b1c1d1e1f\nself 0\nport 9001\ndefault 9000\ncorrespondent 20010db8000200000000000000000002 2\n";
@@ -30,31 +33,63 @@ pub fn bytes_of(alloc: Global, digits: &[u8]) -> Result<Bytes, Memory> {
     Bytes::copy(alloc, &room[..count])
 }
 
-/// Some turns of a node at moment 0.
+/// A link over which the same datagram comes so many times. The calls of these numbers fail: of `listen_on`, `send` and
+/// `receive`; 0 is none.
+pub fn link_of(
+    alloc: Global,
+    digits: &[u8],
+    times: usize,
+    [listen, send, receive]: [u64; 3],
+) -> Result<ListLink, Memory> {
+    let datagram = bytes_of(alloc, digits)?;
+    let mut link = ListLink::new(alloc, &[listen], &[send], &[receive])?;
+    for _ in 0..times {
+        link.add(Some(datagram.as_slice()))?;
+    }
+    Ok(link)
+}
+
+/// Some turns of a node at moment 0, by the text of its configuration. The call of this number of its sink fails; 0 is none.
 pub fn run(
     alloc: Global,
-    config: &Config,
+    text: &[u8],
     link: &mut ListLink,
-    sink: &mut TextSink,
+    give: u64,
     turns: u32,
-) -> Result<Served, Memory> {
+) -> Result<(Served, TextSink), Fail>
+    requires { length text.now + 1 < 2 ^ 32 }
+{
+    let config = read_config(alloc, text)?;
     let mut clock = SetClock::new(alloc, &[0])?;
-    Ok(serve(alloc, config, &mut clock, link, sink, turns))
+    let mut sink = TextSink::new(alloc, &[give])?;
+    let served = serve(alloc, &config, &mut clock, link, &mut sink, turns);
+    Ok((served, sink))
+}
+
+/// The link sent a datagram to port 9000 at this place.
+fn has_sent_at(
+    alloc: Global,
+    link: &ListLink,
+    place: usize,
+    digits: &[u8],
+) -> Result<bool, Memory> {
+    let datagram = bytes_of(alloc, digits)?;
+    Ok(link.sent_at(place) == Some((9000, datagram.as_slice())))
 }
 
 /// The link sent so many of these datagrams to port 9000, in order, and nothing else.
-pub fn has_sent(link: &ListLink, datagrams: &[&[u8]], count: usize) -> bool {
-    for (place, datagram) in datagrams.iter().enumerate() {
-        let sent = if place < count {
-            Some((9000, *datagram))
-        } else {
-            None
-        };
-        if link.sent_at(place) != sent {
-            return false;
+pub fn has_sent(
+    alloc: Global,
+    link: &ListLink,
+    datagrams: &[&[u8]],
+    count: usize,
+) -> Result<bool, Memory> {
+    for (place, digits) in datagrams.iter().take(count).enumerate() {
+        if !has_sent_at(alloc, link, place, digits)? {
+            return Ok(false);
         }
     }
-    link.sent_at(datagrams.len()).is_none()
+    Ok(link.sent_at(count).is_none())
 }
 
 /// The first so many lines of a text.

@@ -1,10 +1,9 @@
-//! Runs of a node: a call that fails, and stored runs.
+//! Runs of a node: a call that fails, and a stored run.
 
-use super::given::{HOME_TEST, HOME_TEST_TEXT, HOT, INIT, bytes_of, first_lines, has_sent, run};
-use mip_config::{Config, read_config};
-use mip_frames::{ListLink, Served};
-use mip_outside::TextSink;
-use mip_words::Memory;
+ghost use Rattle.std.specs.Prelude.{◌+◌, ◌<◌, ◌^◌, length};
+
+use super::given::{HOME_TEST, HOME_TEST_TEXT, HOT, INIT, first_lines, has_sent, link_of, run};
+use mip_frames::Served;
 use std::alloc::Global;
 use std::test::Fail;
 
@@ -18,30 +17,30 @@ const DATA: &[u8] =
 const PAID_TEXT: &[u8] =
     b"at 0\nhanded 0 self\nsent 1 self - hot 600000000018874020010db800020000000000000000000220010db80001000000000000000000773b0203000a1b000001020304050607081e8969190048c356\nsent 2 self - data 600000000001114020010db800020000000000000000000220010db8000100000000000000000077aa\nhanded 3 self\nsent 4 self - hot 600000000018874020010db800020000000000000000000220010db80001000000000000000000773b0203000a1b000001020304050607081e8969190048c356\n";
 
-/// Two turns, of which each is handed the same datagram. The calls of these numbers fail: of listen_on, send, receive and
-/// give; 0 is none.
-fn run_failing(
+/// How some turns of a node end, to which the same datagram comes twice; whether it writes this text; and whether it sends so many of
+/// these datagrams. The calls of these numbers fail: of `listen_on`, `send`, `receive` and `give`; 0 is none.
+fn outcome(
     alloc: Global,
-    config: &Config,
-    datagram: &[u8],
-    [listen, send, receive, give]: [u64; 4],
-) -> Result<(Served, ListLink, TextSink), Memory> {
-    let mut link = ListLink::new(alloc, &[listen], &[send], &[receive])?;
-    let mut sink = TextSink::new(alloc, &[give])?;
-    link.add(Some(datagram))?;
-    link.add(Some(datagram))?;
-    let served = run(alloc, config, &mut link, &mut sink, 2)?;
-    Ok((served, link, sink))
+    text: &[u8],
+    turns: u32,
+    fails: [u64; 4],
+    lines: &[u8],
+    datagrams: &[&[u8]],
+    count: usize,
+) -> Result<(Served, bool, bool), Fail>
+    requires { length text.now + 1 < 2 ^ 32 }
+{
+    let [listen, send, receive, give] = fails;
+    let mut link = link_of(alloc, INIT, 2, [listen, send, receive])?;
+    let (served, sink) = run(alloc, text, &mut link, give, turns)?;
+    let is_sent = has_sent(alloc, &link, datagrams, count)?;
+    Ok((served, sink.bytes() == lines, is_sent))
 }
 
-// How many lines were written, and how many datagrams sent: those of whole turns, and a front of the next one's.
+// Lines are those of the turns before, where a call of the link fails, and datagrams a front of the next turn's too. Where one of the sink
+// fails, all datagrams of the turn were sent.
 #[test]
 fn a_failed_call_ends_a_run(rt: HostRuntime) -> Result<(), Fail> {
-    let config = read_config(rt.alloc(), PAID)?;
-    let init = bytes_of(rt.alloc(), INIT)?;
-    let test = bytes_of(rt.alloc(), HOT)?;
-    let data = bytes_of(rt.alloc(), DATA)?;
-    let whole = [test.as_slice(), data.as_slice(), test.as_slice()];
     let cases: [([u64; 4], Served, usize, usize); 16] = [
         ([1, 0, 0, 0], Served::LinkFault, 0, 0),
         ([2, 0, 0, 0], Served::Done, 6, 3),
@@ -61,25 +60,16 @@ fn a_failed_call_ends_a_run(rt: HostRuntime) -> Result<(), Fail> {
         ([0, 0, 0, 7], Served::Done, 6, 3),
     ];
     for (fails, end, lines, sent) in cases {
-        let (served, link, sink) = run_failing(rt.alloc(), &config, init.as_slice(), fails)?;
-        assert_eq!(rt; served, end);
-        assert_eq!(rt; sink.bytes(), first_lines(PAID_TEXT, lines));
-        assert_eq!(rt; has_sent(&link, &whole, sent), true);
+        let text = first_lines(PAID_TEXT, lines);
+        let found = outcome(rt.alloc(), PAID, 2, fails, text, &[HOT, DATA, HOT], sent)?;
+        assert_eq!(rt; found, (end, true, true));
     }
     Ok(())
 }
 
 #[test]
 fn a_home_test_init_is_answered(rt: HostRuntime) -> Result<(), Fail> {
-    let config = read_config(rt.alloc(), HOME_TEST)?;
-    let init = bytes_of(rt.alloc(), INIT)?;
-    let test = bytes_of(rt.alloc(), HOT)?;
-    let mut link = ListLink::new(rt.alloc(), &[], &[], &[])?;
-    let mut sink = TextSink::new(rt.alloc(), &[])?;
-    link.add(Some(init.as_slice()))?;
-    let served = run(rt.alloc(), &config, &mut link, &mut sink, 1)?;
-    assert_eq!(rt; served, Served::Done);
-    assert_eq!(rt; sink.bytes(), HOME_TEST_TEXT);
-    assert_eq!(rt; has_sent(&link, &[test.as_slice()], 1), true);
+    let found = outcome(rt.alloc(), HOME_TEST, 1, [0; 4], HOME_TEST_TEXT, &[HOT], 1)?;
+    assert_eq!(rt; found, (Served::Done, true, true));
     Ok(())
 }
