@@ -37,8 +37,8 @@ fn outcome(
     Ok((served, sink.bytes() == lines, is_sent))
 }
 
-// Lines are those of the turns before, where a call of the link fails, and datagrams a front of the next turn's too. Where one of the sink
-// fails, all datagrams of the turn were sent.
+// A case has the calls that fail, how the run ends, and how many lines and datagrams there are. A fault of the link leaves the lines of the
+// turns before, a fault of the sink all datagrams of its turn.
 #[test]
 fn a_failed_call_ends_a_run(rt: HostRuntime) -> Result<(), Fail> {
     let cases: [([u64; 4], Served, usize, usize); 16] = [
