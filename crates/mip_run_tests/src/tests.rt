@@ -1,0 +1,4 @@
+mod given;
+mod hub;
+mod node;
+mod settled;
