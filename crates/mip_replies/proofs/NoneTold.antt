@@ -1,5 +1,5 @@
 -- An answer of which nothing was told.
-use Rattle.std.proofs.Common.{◌≡◌, ℕ, List, refl, arith}
+use Rattle.std.proofs.Common.{ℕ, List, refl, arith}
 use Rattle.std.specs.declared.option.Option.{Option}
 use Rattle.mip_outside.proofs.Known.{append_none}
 use Rattle.mip_replies.specs.Answers.{Answer}

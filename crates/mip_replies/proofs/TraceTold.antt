@@ -1,11 +1,9 @@
 -- A trace that is written entry by entry and piece by piece.
-use Rattle.std.proofs.Common.{◌≡◌, ℕ, suc, ◌+◌, ◌-◌, ◌<◌, ◌≤◌, refl, sym, ap, ◌∙◌, arith, List, [], ◌∷◌, ◌++◌, length, take, drop, get_or, append_assoc, length-append, subst}
-use Rattle.std.proofs.Math.Seq.{take-append-add, take-suc, drop-cons}
-use Rattle.std.proofs.lemmas.List.{take-append-drop, take-append-le, take_all}
+use Rattle.std.proofs.Common.{◌≡◌, ℕ, ◌-◌, ◌<◌, ◌≤◌, sym, ap, ◌∙◌, arith, List, [], ◌∷◌, ◌++◌, length, take, append_assoc, length-append, subst}
+use Rattle.std.proofs.lemmas.List.{take-append-le, take_all}
 use Rattle.std.specs.Prelude.{Option, Some, unwrap_or}
 use Rattle.std.specs.List.{AllByRecursion}
 use Rattle.std.specs.Io.KnownBytes.{append_known}
-use Rattle.mip_lines.specs.Lines.{spaced, line_text}
 use Rattle.mip_entries.specs.declared.entry.Entry.{Entry}
 use Rattle.mip_entries.specs.Widths.{HasWidths}
 use Rattle.mip_outside.proofs.Known.{append_more}
@@ -14,9 +12,9 @@ use Rattle.mip_schedule.specs.Contents.{Content}
 use Rattle.mip_history.specs.Permitted.{permitted}
 use Rattle.mip_replay.specs.Pieces.{RunSeen, IsRunOf}
 use Rattle.mip_replay.proofs.RunLaws.{told_front}
-use Rattle.mip_trace.specs.Lines.{entry_row, trace_text}
+use Rattle.mip_trace.specs.Lines.{trace_text}
 use Rattle.mip_rows.specs.Names.{Names}
-use Rattle.mip_trace.proofs.WrittenLaws.{text_append, text_more}
+use Rattle.mip_trace.proofs.WrittenLaws.{text_append}
 
 -- what is told once a piece was given away
 pub told_more : (next told items piece : List Entry) (given : Option (List Entry)) → next ≡ told ++ unwrap_or given [] → given ≡ Some piece → items ≡ piece → next ≡ told ++ items

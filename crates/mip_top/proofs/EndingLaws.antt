@@ -1,7 +1,9 @@
 -- What was told to a sink that keeps bytes back was put on once nothing waits.
 use Rattle.std.proofs.Common.{◌≡◌, ℕ, sym, ap, ◌∙◌, subst, refl, List, [], take}
-use Rattle.std.specs.Prelude.{Option, Some, None, IfSome}
-use Rattle.std.specs.Io.KnownBytes.{prepend_known, append_known}
+use Rattle.std.specs.Prelude.{Option, Some, None, Result, Ok, Err, IfSome, IfOk, OnErr, unwrap_or}
+use Rattle.mip_words.specs.declared.memory.Memory.{Memory}
+use Rattle.mip_replies.specs.declared.status.Status.{Status}
+use Rattle.std.specs.Io.KnownBytes.{append_known}
 use Rattle.mip_outside.specs.Waiting.{Buffer, held_by}
 use Rattle.mip_outside.proofs.Known.{append_none}
 use Rattle.mip_commands.specs.declared.command.Command.{Command}
@@ -55,3 +57,24 @@ pub front : (command : Option Command) (bytes : List ℕ) (given result : ℕ) (
     → IfSome (answer_to command bytes) (λ answer. HasWrittenFront answer first.put_on (held_by last))
 front command bytes given result first mid last old new held_old held_new empty end obeys =
     front_on (answer_to command bytes) given result first mid last empty end (rw (sym held_old, sym held_new) obeys.told)
+
+-- ---- how a process ends
+
+-- what holds of a conclusive status of a run holds of that of the process
+pub sure_on : (Q : ℕ → Type 0) (o : Result Status Memory) (s : Status) → IfOk o (λ x. s ≡ x) → OnErr o (s.0 ≡ 5) → IfOk o (λ x. IsConclusive x.0 → Q x.0) → IsConclusive s.0 → Q s.0
+sure_on Q (Ok x) s same five whole = subst (λ (y : Status). IsConclusive y.0 → Q y.0) (sym same) whole
+sure_on Q (Err e) s same five whole = λ sure. absurd (sure.no_want_of_memory five)
+
+pub whole_on : (left : Option (List ℕ)) (Q : List ℕ → ℕ → Type 0) (o : Result Status Memory) (s : Status) → IfOk o (λ x. s ≡ x) → OnErr o (s.0 ≡ 5)
+    → IfOk o (λ x. IfSome left (λ bytes. IsConclusive x.0 → Q bytes x.0)) → IfSome left (λ bytes. IsConclusive s.0 → Q bytes s.0)
+whole_on None Q o s same five whole = tt
+whole_on (Some bytes) Q o s same five whole = sure_on (Q bytes) o s same five whole
+
+-- what was told of an answer to a sink that held nothing is the answer
+pub output_of : (o : Option Answer) (given : ℕ) (held : List ℕ) → IsConclusive given → IfSome o (λ answer. Told answer given (Some []) (Some held))
+    → IfSome o (λ answer. record { status = given; text = held } ≡ answer)
+output_of None given held sure told = tt
+output_of (Some answer) given held sure told =
+    let says = told.conclusive sure in
+    let text : held ≡ answer.text = ap (λ (h : Option (List ℕ)). unwrap_or h []) says.1 in
+    ap (λ (n : ℕ). record { status = n; text = held }) says.0 ∙ ap (λ (t : List ℕ). record { status = answer.status; text = t }) text

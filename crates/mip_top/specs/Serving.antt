@@ -1,5 +1,5 @@
 -- What the run of a node or of a hub leaves of what is outside of the program.
-use Rattle.std.specs.Prelude.{◌≡◌, ℕ, ◌⊎◌, List, drop, None, Some, option_map}
+use Rattle.std.specs.Prelude.{◌≡◌, ℕ, ◌⊎◌, List, drop, Some, option_map}
 use Rattle.std.specs.declared.option.Option.{Option}
 use Rattle.mip_frames.specs.declared.served.Served.{Served}
 use Rattle.mip_frames.specs.declared.served.Served.TheVariants.{Done, LinkFault, WriteFault, Memory}

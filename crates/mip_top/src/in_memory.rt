@@ -1,4 +1,5 @@
-ghost use Rattle.std.specs.Prelude.{◌≡◌, IfOk, IfSome, map, string_bytes};
+ghost use Rattle.std.specs.Prelude.{◌≡◌, Some, IfOk, IfSome, map, string_bytes};
+ghost use Rattle.mip_replies.specs.Told.{IsConclusive, Told};
 ghost use Rattle.mip_top.specs.Answers.{answer_of};
 
 use crate::output::Output;
@@ -13,14 +14,29 @@ use std::alloc::Global;
 pub fn mip_in_memory(alloc: Global, words: &[String], input: &[u8]) -> Result<Output, Memory>
     ensures { IfOk result (λ output. IfSome (answer_of (map string_bytes words.now) input.now) (λ answer. output ≡ answer)) }
 {
-    let mut source = SureSource::new(alloc, input)?;
     let mut sink = SureSink::new(alloc)?;
+    let status = tell_in_memory(alloc, words, input, &mut sink)?;
+    let text = Bytes::copy(alloc, sink.bytes())?;
+    Ok(Output { status, text })
+}
+
+/// The same into a sink that never fails.
+fn tell_in_memory(
+    alloc: Global,
+    words: &[String],
+    input: &[u8],
+    sink: &mut SureSink,
+) -> Result<Status, Memory>
+    ensures sure { IfOk result (λ status. IsConclusive status.0) }
+    ensures told { IfOk result (λ status. IfSome (answer_of (map string_bytes words.now) input.now)
+        (λ answer. Told answer status.0 (Some sink.old) (Some sink.new))) }
+{
+    let mut source = SureSource::new(alloc, input)?;
     let mut clock = SetClock::new(alloc, &[0])?;
     let mut link = SureLink::new(alloc)?;
-    let status = mip(alloc, words, &mut source, &mut sink, &mut clock, &mut link);
+    let status = mip(alloc, words, &mut source, sink, &mut clock, &mut link);
     if status == Status::MEMORY {
         return Err(Memory);
     }
-    let text = Bytes::copy(alloc, sink.bytes())?;
-    Ok(Output { status, text })
+    Ok(status)
 }

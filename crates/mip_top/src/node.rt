@@ -2,7 +2,7 @@
 
 ghost use Rattle.std.specs.Prelude.{◌≡◌, ◌≢◌, ℕ, ◌≤◌, ◌⊎◌, List, length, Some};
 ghost use Rattle.mip_outside.specs.Cause.{Rose};
-ghost use Rattle.mip_commands.specs.declared.command.Command as commands;
+ghost use Rattle.mip_commands.specs.declared.command.Command.TheVariants as commands;
 ghost use Rattle.mip_config.specs.Configs.{content};
 ghost use Rattle.mip_top.specs.Obeyed.{IsObeyed, Obeys};
 ghost use Rattle.mip_top.specs.Serving.{outside, NodeServed};
@@ -24,7 +24,7 @@ pub fn run_node<S: Source, K: Sink, C: Clock, L: Link>(
     clock: &mut C,
     link: &mut L,
 ) -> Status
-    ensures obeyed { (bytes : List ℕ) × IsObeyed (Some (commands.TheVariants.Node turns)) bytes result.0 (S.left source.old) (S.left source.new)
+    ensures obeyed { (bytes : List ℕ) × IsObeyed (Some (commands.Node turns)) bytes result.0 (S.left source.old) (S.left source.new)
         (outside (K.held sink.old) (C.ahead clock.old) (L.coming link.old) (L.sent link.old) (L.port link.old))
         (outside (K.held sink.new) (C.ahead clock.new) (L.coming link.new) (L.sent link.new) (L.port link.new)) }
     ensures statuses { (result.0 ≤ 7) × (result.0 ≢ 1) }
@@ -52,7 +52,7 @@ fn serve_text<K: Sink, C: Clock, L: Link>(
     link: &mut L,
 ) -> Status
     requires { length text.now ≤ 16777217 }
-    ensures obeys { Obeys (Some (commands.TheVariants.Node turns)) text.now result.0
+    ensures obeys { Obeys (Some (commands.Node turns)) text.now result.0
         (outside (K.held sink.old) (C.ahead clock.old) (L.coming link.old) (L.sent link.old) (L.port link.old))
         (outside (K.held sink.new) (C.ahead clock.new) (L.coming link.new) (L.sent link.new) (L.port link.new)) }
     ensures statuses { (result.0 ≤ 7) × (result.0 ≢ 1) × (result.0 ≢ 3) }

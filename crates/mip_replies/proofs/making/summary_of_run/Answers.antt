@@ -1,4 +1,4 @@
-use Rattle.std.proofs.Common.{◌≡◌, ◌++◌, List, refl, sym, ap, ◌∙◌}
+use Rattle.std.proofs.Common.{◌++◌, List, refl, sym, ap, ◌∙◌}
 use Rattle.mip_entries.specs.declared.entry.Entry.{Entry}
 use Rattle.mip_schedule.specs.Schedules.{content}
 use Rattle.mip_replies.proofs.TraceTold.{told_more, less_left}

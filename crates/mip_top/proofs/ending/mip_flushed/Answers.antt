@@ -6,24 +6,24 @@ use Rattle.mip_top.proofs.ending.mip_flushed.Goals as goal
 pub returns-clause-whole : goal.returns-clause-whole
 returns-clause-whole g c =
     if_left _ _ (g.S.Source.left c.args.source.now)
-    (λ bytes obeys. says (command_of (map string_bytes c.args.words.now)) bytes _ _ _ _ _ _ _ refl refl c.requires
+    (λ bytes obeys. says (command_of (map string_bytes c.args.words.now)) bytes c.mip-status.result.0 c.finish.result.0 c.args.sink.now c.mip-status.new.sink c.finish.new.sink _ _ refl refl c.requires
     (record { held = c.finish.ensures.held; conclusive = c.finish.ensures.conclusive }) obeys)
-    c.mip.ensures.obeyed
+    c.mip-status.ensures.obeyed
 
 pub returns-clause-whole_of_some : goal.returns-clause-whole_of_some
 returns-clause-whole_of_some g c = λ sure.
-    let o = c.mip.ensures.obeyed_of_some in (
+    let o = c.mip-status.ensures.obeyed_of_some in (
       o.0,
       o.2,
-      says (command_of (map string_bytes c.args.words.now)) o.0 _ _ _ _ _ _ _ refl refl c.requires
+      says (command_of (map string_bytes c.args.words.now)) o.0 c.mip-status.result.0 c.finish.result.0 c.args.sink.now c.mip-status.new.sink c.finish.new.sink _ _ refl refl c.requires
           (record { held = c.finish.ensures.held; conclusive = c.finish.ensures.conclusive }) o.3 sure,
     )
 
 pub returns-clause-front : goal.returns-clause-front
 returns-clause-front g c =
-    let o = c.mip.ensures.obeyed_of_some in (
+    let o = c.mip-status.ensures.obeyed_of_some in (
       o.0,
       o.2,
-      front (command_of (map string_bytes c.args.words.now)) o.0 _ _ _ _ _ _ _ refl refl c.requires
+      front (command_of (map string_bytes c.args.words.now)) o.0 c.mip-status.result.0 c.finish.result.0 c.args.sink.now c.mip-status.new.sink c.finish.new.sink _ _ refl refl c.requires
           (record { held = c.finish.ensures.held; conclusive = c.finish.ensures.conclusive }) o.3,
     )

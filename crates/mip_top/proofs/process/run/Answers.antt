@@ -5,10 +5,10 @@ use Rattle.mip_words.specs.declared.memory.Memory.{Memory}
 use Rattle.mip_outside.specs.Waiting.{Buffer, held_by}
 use Rattle.mip_outside.proofs.Known.{prepend_none}
 use Rattle.mip_replies.specs.Answers.{Answer}
-use Rattle.mip_replies.specs.Told.{HasWrittenFront}
+use Rattle.mip_replies.specs.Told.{HasWrittenFront, Says}
 use Rattle.mip_top.specs.Answers.{answer_of}
 use Rattle.mip_top.specs.Given.{words_behind}
-use Rattle.mip_top.proofs.EndingLaws.{if_any}
+use Rattle.mip_top.proofs.EndingLaws.{if_any, sure_on, whole_on}
 use Rattle.mip_top.proofs.process.run.Goals as goal
 
 abbrev Fronts : {X : Type 0} → (X → Option (List ℕ)) → (List ℕ → Option Answer) → (old new : X) → (before after : Buffer) → Type 0
@@ -29,3 +29,16 @@ pub returns-clause-front : goal.returns-clause-front
 returns-clause-front g c =
     fronts g.S.Source.left (answer_of (map string_bytes (words_behind c.args.given))) c.args.source.now c.attempt.new.source c.args.sink.now c.attempt.new.sink c.attempt.result c.requires c.attempt.ensures.front
     c.attempt.ensures.unread c.attempt.ensures.unwritten
+
+pub returns-clause-whole : goal.returns-clause-whole
+returns-clause-whole g c =
+    whole_on (g.S.Source.left c.args.source.now)
+    (λ bytes n. IfSome (answer_of (map string_bytes (words_behind c.args.given)) bytes) (λ answer. Says answer n c.args.sink.now.put_on c.attempt.new.sink.put_on))
+    c.attempt.result c.of.result c.of.ensures.ok c.of.ensures.memory c.attempt.ensures.whole
+
+pub returns-clause-whole_of_some : goal.returns-clause-whole_of_some
+returns-clause-whole_of_some g c =
+    sure_on
+    (λ n. (bytes : List ℕ) × (g.S.Source.left c.args.source.now ≡ prepend_known bytes (g.S.Source.left c.attempt.new.source))
+    × IfSome (answer_of (map string_bytes (words_behind c.args.given)) bytes) (λ answer. Says answer n c.args.sink.now.put_on c.attempt.new.sink.put_on))
+    c.attempt.result c.of.result c.of.ensures.ok c.of.ensures.memory c.attempt.ensures.whole_of_some

@@ -1,6 +1,6 @@
-use Rattle.std.proofs.Common.{refl}
+use Rattle.std.proofs.Common.{rules, ◌≡◌, refl}
 use Rattle.std.specs.Prelude.{Some, None}
-use Rattle.mip_commands.specs.declared.command.Command.TheVariants.{Replay, Decode, Claims, Make, Sum}
+use Rattle.mip_commands.specs.declared.command.Command.TheVariants.{Replay, Decode, Claims, Make, Sum, Node, Hub}
 use Rattle.mip_replies.specs.Answers.{form_answer}
 use Rattle.mip_replies.specs.declared.input_form.InputForm.TheVariants as forms
 use Rattle.mip_replies.specs.declared.told_run.ToldRun.TheVariants as runs
@@ -8,32 +8,44 @@ use Rattle.mip_top.proofs.ObeyedLaws.{untaken, answered}
 use Rattle.mip_top.proofs.top.obey.Goals as goal
 
 pub returns-in-None-clause-obeyed : goal.returns-in-None-clause-obeyed
-returns-in-None-clause-obeyed g c = rw c.in-None.is (untaken None _ _ _ _ _ refl refl (record { told = c.tell.ensures.told; served = tt }))
+returns-in-None-clause-obeyed g c =
+    let is : c.args.command ≡ None = search rules in
+    rw is (untaken None _ _ _ _ _ refl refl (record { told = c.tell.ensures.told; served = tt }))
 
 pub returns-in-Some-Replay-clause-obeyed : goal.returns-in-Some-Replay-clause-obeyed
 returns-in-Some-Replay-clause-obeyed g c =
-    rw c.in-Some-Replay.is (answered (Some Replay) (form_answer (forms.Schedule runs.Trace)) _ _ _ _ _ (λ bytes. refl) (λ bytes. tt) refl c.answer_input.ensures.answered)
+    let is : c.args.command ≡ Some Replay = search rules in
+    rw is (answered (Some Replay) (form_answer (forms.Schedule runs.Trace)) _ _ _ _ _ (λ bytes. refl) (λ bytes. tt) refl c.answer_input.ensures.answered)
 
 pub returns-in-Some-Decode-clause-obeyed : goal.returns-in-Some-Decode-clause-obeyed
 returns-in-Some-Decode-clause-obeyed g c =
-    rw c.in-Some-Decode.is (answered (Some Decode) (form_answer forms.Packet) _ _ _ _ _ (λ bytes. refl) (λ bytes. tt) refl c.answer_input.ensures.answered)
+    let is : c.args.command ≡ Some Decode = search rules in
+    rw is (answered (Some Decode) (form_answer forms.Packet) _ _ _ _ _ (λ bytes. refl) (λ bytes. tt) refl c.answer_input-in-Some-Decode.ensures.answered)
 
 pub returns-in-Some-Claims-clause-obeyed : goal.returns-in-Some-Claims-clause-obeyed
 returns-in-Some-Claims-clause-obeyed g c =
     let ask = c.in-Some-Claims.ask in
-    rw c.in-Some-Claims.is
-    (answered (Some (Claims ask)) (form_answer (forms.Schedule (runs.Claims ask))) _ _ _ _ _ (λ bytes. refl) (λ bytes. tt) refl c.answer_input.ensures.answered)
+    let is : c.args.command ≡ Some (Claims ask) = search rules in
+    rw is
+    (answered (Some (Claims ask)) (form_answer (forms.Schedule (runs.Claims ask))) _ _ _ _ _ (λ bytes. refl) (λ bytes. tt) refl
+    c.answer_input-in-Some-Claims.ensures.answered)
 
 pub returns-in-Some-Make-clause-obeyed : goal.returns-in-Some-Make-clause-obeyed
 returns-in-Some-Make-clause-obeyed g c =
-    rw c.in-Some-Make.is (untaken (Some (Make c.in-Some-Make.draft)) _ _ _ _ _ refl refl (record { told = c.tell_made.ensures.told; served = tt }))
+    let is : c.args.command ≡ Some (Make c.in-Some-Make.draft) = search rules in
+    rw is (untaken (Some (Make c.in-Some-Make.draft)) _ _ _ _ _ refl refl (record { told = c.tell_made.ensures.told; served = tt }))
 
 pub returns-in-Some-Sum-clause-obeyed : goal.returns-in-Some-Sum-clause-obeyed
 returns-in-Some-Sum-clause-obeyed g c =
-    rw c.in-Some-Sum.is (untaken (Some (Sum c.in-Some-Sum.draft)) _ _ _ _ _ refl refl (record { told = c.tell_made.ensures.told; served = tt }))
+    let is : c.args.command ≡ Some (Sum c.in-Some-Sum.draft) = search rules in
+    rw is (untaken (Some (Sum c.in-Some-Sum.draft)) _ _ _ _ _ refl refl (record { told = c.tell_made-in-Some-Sum.ensures.told; served = tt }))
 
 pub returns-in-Some-Node-clause-obeyed : goal.returns-in-Some-Node-clause-obeyed
-returns-in-Some-Node-clause-obeyed g c = rw c.in-Some-Node.is c.run_node.ensures.obeyed
+returns-in-Some-Node-clause-obeyed g c =
+    let is : c.args.command ≡ Some (Node c.in-Some-Node.turns) = search rules in
+    rw is c.run_node.ensures.obeyed
 
 pub returns-in-Some-Hub-clause-obeyed : goal.returns-in-Some-Hub-clause-obeyed
-returns-in-Some-Hub-clause-obeyed g c = rw c.in-Some-Hub.is c.run_hub.ensures.obeyed
+returns-in-Some-Hub-clause-obeyed g c =
+    let is : c.args.command ≡ Some (Hub c.in-Some-Hub.turns) = search rules in
+    rw is c.run_hub.ensures.obeyed
