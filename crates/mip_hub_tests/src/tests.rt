@@ -92,6 +92,9 @@ fn routers_advertise(rt: HostRuntime) -> Result<(), Fail> {
 
 /// The first bad line of a text, and why.
 fn fault_of(alloc: Global, text: &[u8]) -> Option<(u32, Reason)> {
+    if text.len() > 1_000 {
+        return None;
+    }
     match read_hub(alloc, text) {
         Err(ScheduleFault::Bad { line, why }) => Some((line, why)),
         _ => None,
