@@ -94,11 +94,7 @@ fn has_sent_at(
 }
 
 /// The link sent these datagrams, in order, and nothing else.
-fn has_sent(
-    alloc: Global,
-    link: &ListLink,
-    datagrams: &[(u16, Datagram)],
-) -> Result<bool, Memory> {
+fn has_sent(alloc: Global, link: &ListLink, datagrams: &[(u16, Datagram)]) -> Result<bool, Memory> {
     for (place, (port, datagram)) in datagrams.iter().enumerate() {
         if !has_sent_at(alloc, link, place, *port, datagram)? {
             return Ok(false);

@@ -33,8 +33,7 @@ const HOT: Datagram = Datagram {
     zeros: 0,
 };
 
-const ONE_CLAIM: &[u8] =
-    b"mip 1\nport 29000\nclaim 1 20010db8000200000000000000000002 29001\n";
+const ONE_CLAIM: &[u8] = b"mip 1\nport 29000\nclaim 1 20010db8000200000000000000000002 29001\n";
 
 const TWO_COPIES: &[u8] =
     b"mip 1\nport 9000\nclaim 1 20010db8000200000000000000000002 9001\ncopies 2 2\nrelease 4 20010db8000200000000000000000002\n";
@@ -69,23 +68,56 @@ pub const HUB_ADVERTISES: Case = Case {
     fails: [0, 0, 0],
     status: 0,
     text: b"advert 20010db800010000 29001\nadvert 20010db800030000 29002\n",
-    sent: &[(29001, Datagram { digits: b"006000000000303afffe800000000000000000000000000001ff0200000000000000000000000000018600c368402007080000000000000000030440c0ffffffffffffffff0000000020010db8000100000000000000000000", zeros: 0 }), (29002, Datagram { digits: b"006000000000303afffe800000000000000000000000000001ff0200000000000000000000000000018600c386400007080000000000000000030440c0ffffffffffffffff0000000020010db8000300000000000000000000", zeros: 0 })],
+    sent: &[
+        (
+            29001,
+            Datagram {
+                digits: b"006000000000303afffe800000000000000000000000000001ff0200000000000000000000000000018600c368402007080000000000000000030440c0ffffffffffffffff0000000020010db8000100000000000000000000",
+                zeros: 0,
+            },
+        ),
+        (
+            29002,
+            Datagram {
+                digits: b"006000000000303afffe800000000000000000000000000001ff0200000000000000000000000000018600c386400007080000000000000000030440c0ffffffffffffffff0000000020010db8000300000000000000000000",
+                zeros: 0,
+            },
+        ),
+    ],
 };
 
 pub const HUB_FRAME_OF_4097_BYTES: Case = Case {
     words: ["hub", "2"],
     input: ONE_CLAIM,
-    coming: &[Some(Datagram { digits: b"00600000000fd83b4020010db800010000000000000000007720010db8000200000000000000000002", zeros: 4056 }), Some(Datagram { digits: b"00600000000fd73b4020010db800010000000000000000007720010db8000200000000000000000002", zeros: 4055 })],
+    coming: &[
+        Some(Datagram {
+            digits: b"00600000000fd83b4020010db800010000000000000000007720010db8000200000000000000000002",
+            zeros: 4056,
+        }),
+        Some(Datagram {
+            digits: b"00600000000fd73b4020010db800010000000000000000007720010db8000200000000000000000002",
+            zeros: 4055,
+        }),
+    ],
     fails: [0, 0, 0],
     status: 0,
     text: b"claim 20010db8000200000000000000000002 29001\ngot 0\ndropped 0 frame\ngot 1\nto 1 29001\n",
-    sent: &[(29001, Datagram { digits: b"00600000000fd73b4020010db800010000000000000000007720010db8000200000000000000000002", zeros: 4055 })],
+    sent: &[(
+        29001,
+        Datagram {
+            digits: b"00600000000fd73b4020010db800010000000000000000007720010db8000200000000000000000002",
+            zeros: 4055,
+        },
+    )],
 };
 
 pub const HUB_FRAME_OF_5000_BYTES: Case = Case {
     words: ["hub", "1"],
     input: ONE_CLAIM,
-    coming: &[Some(Datagram { digits: b"0060000000135f3b4020010db800010000000000000000007720010db8000200000000000000000002", zeros: 4959 })],
+    coming: &[Some(Datagram {
+        digits: b"0060000000135f3b4020010db800010000000000000000007720010db8000200000000000000000002",
+        zeros: 4959,
+    })],
     fails: [0, 0, 0],
     status: 0,
     text: b"claim 20010db8000200000000000000000002 29001\ngot 0\ndropped 0 frame\n",
@@ -95,11 +127,46 @@ pub const HUB_FRAME_OF_5000_BYTES: Case = Case {
 pub const HUB_FRAMES_THAT_ARE_NONE: Case = Case {
     words: ["hub", "7"],
     input: ONE_CLAIM,
-    coming: &[Some(Datagram { digits: b"", zeros: 0 }), Some(Datagram { digits: b"02", zeros: 0 }), Some(Datagram { digits: b"0120010db8000100000000000000000077", zeros: 0 }), Some(Datagram { digits: b"00", zeros: 0 }), Some(Datagram { digits: b"00600000000010874020010db800010000000000000000007720010db80002000000000000000000023b0101005765000001020304050607", zeros: 0 }), Some(Datagram { digits: b"00600000000010874020010db800010000000000000000007720010db80002000000000000000000", zeros: 0 }), Some(Datagram { digits: b"0120010db800010000000000000000007720010db8000100000000000000000001600000000010874020010db800010000000000000000007720010db80002000000000000000000023b010100576500000102030405060708", zeros: 0 })],
+    coming: &[
+        Some(Datagram {
+            digits: b"",
+            zeros: 0,
+        }),
+        Some(Datagram {
+            digits: b"02",
+            zeros: 0,
+        }),
+        Some(Datagram {
+            digits: b"0120010db8000100000000000000000077",
+            zeros: 0,
+        }),
+        Some(Datagram {
+            digits: b"00",
+            zeros: 0,
+        }),
+        Some(Datagram {
+            digits: b"00600000000010874020010db800010000000000000000007720010db80002000000000000000000023b0101005765000001020304050607",
+            zeros: 0,
+        }),
+        Some(Datagram {
+            digits: b"00600000000010874020010db800010000000000000000007720010db80002000000000000000000",
+            zeros: 0,
+        }),
+        Some(Datagram {
+            digits: b"0120010db800010000000000000000007720010db8000100000000000000000001600000000010874020010db800010000000000000000007720010db80002000000000000000000023b010100576500000102030405060708",
+            zeros: 0,
+        }),
+    ],
     fails: [0, 0, 0],
     status: 0,
     text: b"claim 20010db8000200000000000000000002 29001\ngot 0\ndropped 0 frame\ngot 1\ndropped 1 frame\ngot 2\ndropped 2 frame\ngot 3\ndropped 3 short\ngot 4\ndropped 4 length\ngot 5\ndropped 5 short\ngot 6\nto 6 29001\n",
-    sent: &[(29001, Datagram { digits: b"0120010db800010000000000000000007720010db8000100000000000000000001600000000010874020010db800010000000000000000007720010db80002000000000000000000023b010100576500000102030405060708", zeros: 0 })],
+    sent: &[(
+        29001,
+        Datagram {
+            digits: b"0120010db800010000000000000000007720010db8000100000000000000000001600000000010874020010db800010000000000000000007720010db80002000000000000000000023b010100576500000102030405060708",
+            zeros: 0,
+        },
+    )],
 };
 
 pub const HUB_GAPS_BETWEEN_DATAGRAMS: Case = Case {
@@ -139,13 +206,22 @@ pub const HUB_NO_COPY_AND_FOUR: Case = Case {
     fails: [0, 0, 0],
     status: 0,
     text: b"claim 20010db8000200000000000000000002 29001\ngot 0\nlost 0\ngot 1\nto 1 29001\nto 1 29001\nto 1 29001\nto 1 29001\ngot 2\nto 2 29001\n",
-    sent: &[(29001, INIT), (29001, INIT), (29001, INIT), (29001, INIT), (29001, INIT)],
+    sent: &[
+        (29001, INIT),
+        (29001, INIT),
+        (29001, INIT),
+        (29001, INIT),
+        (29001, INIT),
+    ],
 };
 
 pub const HUB_PACKET_FOR_NOBODY: Case = Case {
     words: ["hub", "1"],
     input: ONE_CLAIM,
-    coming: &[Some(Datagram { digits: b"006000000000003b4020010db800020000000000000000000220010db8000100000000000000000077", zeros: 0 })],
+    coming: &[Some(Datagram {
+        digits: b"006000000000003b4020010db800020000000000000000000220010db8000100000000000000000077",
+        zeros: 0,
+    })],
     fails: [0, 0, 0],
     status: 0,
     text: b"claim 20010db8000200000000000000000002 29001\ngot 0\ngone 0 noholder\n",
@@ -205,7 +281,10 @@ pub const NODE_AGENT_ALONE: Case = Case {
 pub const NODE_BAD_FRAME: Case = Case {
     words: ["node", "2"],
     input: CORRESPONDENT,
-    coming: &[Some(Datagram { digits: b"02", zeros: 0 })],
+    coming: &[Some(Datagram {
+        digits: b"02",
+        zeros: 0,
+    })],
     fails: [0, 0, 0],
     status: 0,
     text: b"at 0\ndropped self 0 frame\n",
@@ -239,7 +318,13 @@ pub const NODE_PAYLOAD_ROUTE: Case = Case {
     fails: [0, 0, 0],
     status: 0,
     text: b"at 0\nsent 0 self - data 600000000001114020010db800020000000000000000000220010db8000100000000000000000077aa\n",
-    sent: &[(9002, Datagram { digits: b"00600000000001114020010db800020000000000000000000220010db8000100000000000000000077aa", zeros: 0 })],
+    sent: &[(
+        9002,
+        Datagram {
+            digits: b"00600000000001114020010db800020000000000000000000220010db8000100000000000000000077aa",
+            zeros: 0,
+        },
+    )],
 };
 
 pub const NODE_RECEIVE_FAULT: Case = Case {
