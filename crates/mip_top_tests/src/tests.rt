@@ -32,47 +32,47 @@ fn replay<S: Source, K: Sink>(
     Ok(mip(alloc, &words, source, sink, &mut clock, &mut link))
 }
 
+/// The status of a replay whose read of this number fails, and how many bytes it writes.
+fn after_a_read_fault(alloc: Global, call: u64) -> Result<(Status, usize), Memory> {
+    let mut source = TextSource::new(alloc, b"mip 1\n", &[call])?;
+    let mut sink = TextSink::new(alloc, &[])?;
+    let status = replay(alloc, &mut source, &mut sink)?;
+    Ok((status, sink.bytes().len()))
+}
+
+/// The status of a replay whose write of this number fails, and whether it writes these lines.
+fn after_a_write_fault(
+    alloc: Global,
+    input: &[u8],
+    call: u64,
+    lines: &[u8],
+) -> Result<(Status, bool), Memory> {
+    let mut source = SureSource::new(alloc, input)?;
+    let mut sink = TextSink::new(alloc, &[call])?;
+    let status = replay(alloc, &mut source, &mut sink)?;
+    Ok((status, sink.bytes() == lines))
+}
+
 #[test]
-fn a_failed_call_has_its_status(rt: HostRuntime) -> Result<(), Fail> {
+fn a_failed_read_has_its_status(rt: HostRuntime) -> Result<(), Fail> {
     for call in [1, 2] {
-        let mut source = TextSource::new(rt.alloc(), b"mip 1\n", &[call])?;
-        let mut sink = TextSink::new(rt.alloc(), &[])?;
-        assert_eq!(rt;
-            replay(rt.alloc(), &mut source, &mut sink)?,
-            Status::READ_FAULT
-        );
-        assert_eq!(rt; sink.bytes().len(), 0);
+        let found = after_a_read_fault(rt.alloc(), call)?;
+        assert_eq!(rt; found, (Status::READ_FAULT, 0));
     }
-    let mut source = SureSource::new(rt.alloc(), b"")?;
-    let mut sink = TextSink::new(rt.alloc(), &[1])?;
-    assert_eq!(rt;
-        replay(rt.alloc(), &mut source, &mut sink)?,
-        Status::WRITE_FAULT
-    );
-    assert_eq!(rt; sink.bytes().len(), 0);
-
-    // A line a call: the second call fails, and exactly the first line stands.
-    let mut source = SureSource::new(rt.alloc(), HOME_TEST)?;
-    let mut sink = TextSink::new(rt.alloc(), &[2])?;
-    assert_eq!(rt;
-        replay(rt.alloc(), &mut source, &mut sink)?,
-        Status::WRITE_FAULT
-    );
-    assert_eq!(rt; sink.bytes(), HOME_TEST_CLAIM);
     Ok(())
 }
 
-// The whole text waits in the buffer, and goes to the inner sink by one call.
+// A line a call: where the second call fails, exactly the first line stands.
 #[test]
-fn a_fault_of_the_last_call_is_a_write_fault(rt: HostRuntime) -> Result<(), Fail> {
-    assert_eq!(rt; help_through_a_buffer(rt.alloc(), &[])?, Status::USAGE);
-    assert_eq!(rt;
-        help_through_a_buffer(rt.alloc(), &[1])?,
-        Status::WRITE_FAULT
-    );
+fn a_failed_write_has_its_status(rt: HostRuntime) -> Result<(), Fail> {
+    let none = after_a_write_fault(rt.alloc(), b"", 1, b"")?;
+    let first = after_a_write_fault(rt.alloc(), HOME_TEST, 2, HOME_TEST_CLAIM)?;
+    assert_eq!(rt; none, (Status::WRITE_FAULT, true));
+    assert_eq!(rt; first, (Status::WRITE_FAULT, true));
     Ok(())
 }
 
+/// The status of words that are no form, whose line waits in a buffer and goes to the inner sink by one call.
 fn help_through_a_buffer(alloc: Global, fails: &[u64]) -> Result<Status, Memory> {
     let words = owned(alloc, &["help"])?;
     let mut source = SureSource::new(alloc, b"")?;
@@ -80,4 +80,13 @@ fn help_through_a_buffer(alloc: Global, fails: &[u64]) -> Result<Status, Memory>
     let mut clock = SetClock::new(alloc, &[0])?;
     let mut link = SureLink::new(alloc)?;
     Ok(mip_flushed(alloc, &words, &mut source, &mut sink, &mut clock, &mut link))
+}
+
+#[test]
+fn a_fault_of_the_last_call_is_a_write_fault(rt: HostRuntime) -> Result<(), Fail> {
+    let told = help_through_a_buffer(rt.alloc(), &[])?;
+    let failed = help_through_a_buffer(rt.alloc(), &[1])?;
+    assert_eq!(rt; told, Status::USAGE);
+    assert_eq!(rt; failed, Status::WRITE_FAULT);
+    Ok(())
 }
