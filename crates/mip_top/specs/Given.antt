@@ -1,5 +1,7 @@
 -- The words that the program was started with.
-use Rattle.std.specs.Prelude.{◌≡◌, List, [], drop, Result, Ok, Err, IsErrAnd}
+use Rattle.std.specs.Prelude.{◌≡◌, ℕ, List, [], drop, Bool, ◌||◌, Some, None, Result, Ok, Err, IsErrAnd, codes, if◌then◌else◌}
+use Rattle.std.specs.Str.{bytes_eq}
+use Rattle.std.specs.declared.option.Option.{Option}
 use Rattle.std.specs.IoError.{error_kind}
 use Rattle.std.specs.Vec.Iter.{into_iter_items}
 use Rattle.std.specs.declared.io.Error.{Error}
@@ -14,3 +16,12 @@ words_behind (Err error) = []
 -- there was no memory for them
 abbrev pub LacksMemory : {X : Type 0} → Result X Error → Type 0
 LacksMemory all = IsErrAnd all (λ error. error_kind error ≡ OutOfMemory)
+
+-- a node or a hub is run, as the first word says
+abbrev pub is_live : List ℕ → Bool
+is_live word = bytes_eq word (codes "node") || bytes_eq word (codes "hub")
+
+-- how many bytes of the output may wait: none where one of these is run, so that each line shows at once
+abbrev pub room_by : Option (List ℕ) → ℕ
+room_by None = 65536
+room_by (Some word) = if is_live word then 0 else 65536

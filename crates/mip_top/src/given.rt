@@ -1,8 +1,8 @@
 //! The words that the program was started with.
 
-ghost use Rattle.std.specs.Prelude.{◌≡◌, ◌≢◌, [], IfOk, OnErr, IsErr};
+ghost use Rattle.std.specs.Prelude.{◌≡◌, ◌≢◌, [], option_map, slice_get, string_bytes, IfOk, OnErr, IsErr};
 ghost use Rattle.std.specs.Vec.Iter.{into_iter_items};
-ghost use Rattle.mip_top.specs.Given.{words_behind, LacksMemory};
+ghost use Rattle.mip_top.specs.Given.{words_behind, LacksMemory, is_live, room_by};
 
 use mip_words::Memory;
 use std::alloc::{AllocError, Global};
@@ -45,7 +45,9 @@ fn no_words(alloc: Global, kind: ErrorKind) -> Result<Vec<String>, Memory>
 }
 
 /// How many bytes of the output may wait: none where a node or a hub is run, so that each line shows at once.
-pub fn room_for(all: IoResult<Args>) -> usize {
+pub fn room_for(all: IoResult<Args>) -> usize
+    ensures { result ≡ room_by (option_map string_bytes (slice_get (words_behind all) 0)) }
+{
     match all {
         Ok(mut all) => {
             let _name = all.next();
@@ -56,13 +58,17 @@ pub fn room_for(all: IoResult<Args>) -> usize {
 }
 
 /// The same by the first word behind the program's name.
-fn room_behind(word: Option<String>) -> usize {
+fn room_behind(word: Option<String>) -> usize
+    ensures { result ≡ room_by (option_map string_bytes word) }
+{
     match word {
         Some(word) if is_live(word.as_str()) => 0,
         _ => ROOM,
     }
 }
 
-fn is_live(word: &str) -> bool {
+fn is_live(word: &str) -> bool
+    ensures { result ≡ is_live word.now }
+{
     word == "node" || word == "hub"
 }
