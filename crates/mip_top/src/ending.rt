@@ -1,6 +1,6 @@
 //! The end of a run: what the sink keeps back is put on.
 
-ghost use Rattle.std.specs.Prelude.{◌≡◌, ℕ, ◌≤◌, ◌⊎◌, List, [], true, false, map, string_bytes, IfSome};
+ghost use Rattle.std.specs.Prelude.{◌≡◌, ◌≢◌, ℕ, ◌≤◌, ◌⊎◌, List, [], true, false, map, string_bytes, IfSome};
 ghost use Rattle.std.specs.Io.KnownBytes.{prepend_known, IsAtEnd};
 ghost use Rattle.mip_commands.specs.Commands.{command_of};
 ghost use Rattle.mip_outside.specs.Cause.{Rose};
@@ -39,6 +39,7 @@ pub fn mip_flushed<S: Source, K: Sink + Drop, C: Clock, L: Link>(
     ensures read_fault_text { result.0 ≡ 3 → held_by sink.new ≡ held_by sink.old }
     ensures write_fault { result.0 ≡ 4 → Rose sink.old.faults sink.new.faults }
     ensures link_fault { result.0 ≡ 7 → Rose (L.faults link.old) (L.faults link.new) }
+    ensures link_fault_served { serves (command_of (map string_bytes words.now)) ≡ false → result.0 ≢ 7 }
     ensures clock { serves (command_of (map string_bytes words.now)) ≡ false → clock.new ≡ clock.old }
     ensures link { serves (command_of (map string_bytes words.now)) ≡ false → link.new ≡ link.old }
 {

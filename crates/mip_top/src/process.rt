@@ -1,6 +1,6 @@
 //! The process: what its words and its input come to.
 
-ghost use Rattle.std.specs.Prelude.{◌≡◌, ℕ, List, [], true, false, map, string_bytes, IfSome, IfOk, OnErr, IsErr};
+ghost use Rattle.std.specs.Prelude.{◌≡◌, ◌≢◌, ℕ, List, [], true, false, map, string_bytes, IfSome, IfOk, OnErr, IsErr};
 ghost use Rattle.std.specs.Io.KnownBytes.{prepend_known, IsAtEnd};
 ghost use Rattle.mip_commands.specs.Commands.{command_of};
 ghost use Rattle.mip_outside.specs.Cause.{Rose};
@@ -46,6 +46,7 @@ pub fn run<S: Source, K: Sink + Drop, C: Clock, L: Link>(
     ensures read_fault { result ≡ 3 → Rose (S.faults source.old) (S.faults source.new) }
     ensures read_fault_text { result ≡ 3 → held_by sink.new ≡ held_by sink.old }
     ensures link_fault { result ≡ 7 → Rose (L.faults link.old) (L.faults link.new) }
+    ensures link_fault_served { serves (command_of (map string_bytes (words_behind given))) ≡ false → result ≢ 7 }
     ensures write_fault { result ≡ 4 → Rose sink.old.faults sink.new.faults }
     ensures clock { serves (command_of (map string_bytes (words_behind given))) ≡ false → clock.new ≡ clock.old }
     ensures link { serves (command_of (map string_bytes (words_behind given))) ≡ false → link.new ≡ link.old }
@@ -81,6 +82,7 @@ fn attempt<S: Source, K: Sink + Drop, C: Clock, L: Link>(
     ensures read_fault { IfOk result (λ status. status.0 ≡ 3 → Rose (S.faults source.old) (S.faults source.new)) }
     ensures read_fault_text { IfOk result (λ status. status.0 ≡ 3 → held_by sink.new ≡ held_by sink.old) }
     ensures link_fault { IfOk result (λ status. status.0 ≡ 7 → Rose (L.faults link.old) (L.faults link.new)) }
+    ensures link_fault_served { IfOk result (λ status. serves (command_of (map string_bytes (words_behind given))) ≡ false → status.0 ≢ 7) }
     ensures write_fault { IfOk result (λ status. status.0 ≡ 4 → Rose sink.old.faults sink.new.faults) }
 {
     let words = words(alloc, given)?;

@@ -1,6 +1,6 @@
 //! The program, over any source, sink, clock and link.
 
-ghost use Rattle.std.specs.Prelude.{◌≡◌, ℕ, ◌≤◌, ◌⊎◌, List, length, map, string_bytes, true, false, None, IfSome, IfOk};
+ghost use Rattle.std.specs.Prelude.{◌≡◌, ◌≢◌, ℕ, ◌≤◌, ◌⊎◌, List, length, map, string_bytes, true, false, None, IfSome, IfOk};
 ghost use Rattle.std.specs.Io.KnownBytes.{prepend_known, IsAtEnd};
 ghost use Rattle.mip_outside.specs.Cause.{Rose};
 ghost use Rattle.mip_schedule.specs.Reading.{reading};
@@ -71,6 +71,7 @@ pub fn mip<S: Source, K: Sink, C: Clock, L: Link>(
     ensures read_fault_text { result.0 ≡ 3 → K.held sink.new ≡ K.held sink.old }
     ensures write_fault { result.0 ≡ 4 → Rose (K.faults sink.old) (K.faults sink.new) }
     ensures link_fault { result.0 ≡ 7 → Rose (L.faults link.old) (L.faults link.new) }
+    ensures link_fault_served { serves (command_of (map string_bytes words.now)) ≡ false → result.0 ≢ 7 }
     ensures source_faults { S.faults source.old ≤ S.faults source.new }
     ensures sink_faults { K.faults sink.old ≤ K.faults sink.new }
     ensures link_faults { L.faults link.old ≤ L.faults link.new }
@@ -110,6 +111,7 @@ fn obey<S: Source, K: Sink, C: Clock, L: Link>(
     ensures read_fault_text { result.0 ≡ 3 → K.held sink.new ≡ K.held sink.old }
     ensures write_fault { result.0 ≡ 4 → Rose (K.faults sink.old) (K.faults sink.new) }
     ensures link_fault { result.0 ≡ 7 → Rose (L.faults link.old) (L.faults link.new) }
+    ensures link_fault_served { serves command ≡ false → result.0 ≢ 7 }
     ensures source_faults { S.faults source.old ≤ S.faults source.new }
     ensures sink_faults { K.faults sink.old ≤ K.faults sink.new }
     ensures link_faults { L.faults link.old ≤ L.faults link.new }
