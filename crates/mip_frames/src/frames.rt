@@ -12,6 +12,7 @@ ghost use Rattle.mip_frames.specs.Lending.{IsSameWire, with_link};
 use crate::routes::Routes;
 use crate::sending::send_frame;
 use mip_outside::{Link, Put, PutFault, Wire};
+use mip_trail::Trail;
 use mip_words::Shield;
 use std::alloc::Global;
 
@@ -22,6 +23,7 @@ pub struct Frames<'a, L: Link> {
     link: &'a mut L,
     routes: &'a Routes,
     fallback: Option<u16>,
+    answered: Trail<Result<Put, PutFault>>,
 }
 
 impl<'a, L: Link> Frames<'a, L> {
@@ -36,12 +38,14 @@ impl<'a, L: Link> Frames<'a, L> {
         ensures link { result.link.now ≡ link.old }
         ensures routes { result.routes.now ≡ routes.now }
         ensures fallback { result.fallback ≡ fallback }
+        ensures answered { result.answered.items ≡ [] }
     {
         Frames {
             alloc,
             link,
             routes,
             fallback,
+            answered: Trail::new(),
         }
     }
 
@@ -65,6 +69,7 @@ impl<'a, L: Link> Frames<'a, L> {
         ensures no_fewer { L.faults self.old.link.now ≤ L.faults self.new.link.now }
         ensures cause { IsErrOf result PutFault.Failed → Rose (L.faults self.old.link.now) (L.faults self.new.link.now) }
         ensures same { IsSameWire self.old self.new }
+        ensures answered { self.new.answered ≡ self.old.answered }
     {
         send_frame(
             self.alloc,
@@ -82,6 +87,8 @@ impl<'a, L: Link> Wire for Frames<'a, L> {
 
     ghost out = { λ _. None };
 
+    ghost answered = { λ f. f.answered.items };
+
     ghost faults = { λ f. L.faults f.link.now };
 
     ghost is_same = { IsSameWire };
@@ -91,6 +98,8 @@ impl<'a, L: Link> Wire for Frames<'a, L> {
     ghost same_since = { λ _ _ _ first next. (next.0 ∙ first.0, next.1 ∙ first.1, next.2 ∙ first.2) };
 
     fn put(&mut self, shield: Option<Shield>, packet: &[u8]) -> Result<Put, PutFault> {
-        self.send(shield, packet)
+        let answer = self.send(shield, packet);
+        self.answered = self.answered.with(&answer);
+        answer
     }
 }

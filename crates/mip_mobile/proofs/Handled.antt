@@ -1,5 +1,6 @@
 -- A call whose desk shows the definition's turn is handled, once its answers are after_put.
-use Rattle.std.proofs.Common.{◌≡◌, ℕ, zero, suc, List, [], ◌∷◌, ◌++◌, take, Bool, sym, ap, subst, ◌∙◌}
+use Rattle.std.proofs.Common.{◌≡◌, ℕ, zero, suc, List, [], ◌∷◌, ◌++◌, take, map, Bool, sym, ap, subst, ◌∙◌, lit≤}
+use Rattle.std.proofs.lemmas.List.{append-nil}
 use Rattle.std.specs.Prelude.{Option, Result, Ok, Err, IfOk, OnErr, option_map}
 use Rattle.mip_outside.specs.declared.put.Put.{Put}
 use Rattle.mip_outside.specs.declared.put.Put.TheVariants.{Sent, NoRoute, Oversize}
@@ -18,7 +19,7 @@ use Rattle.mip_rules_mobile.proofs.Away.{away-call}
 use Rattle.mip_rules_mobile.proofs.Calls.{call-stands, call-now}
 use Rattle.mip_mobility.specs.Seen.{DeskSeen, Shows}
 use Rattle.mip_mobility.proofs.Noted.{shows-known, shows-moment}
-use Rattle.mip_mobile.specs.Putting.{after_put, Puts, PutsAll, PutsFront, Told, sends_of}
+use Rattle.mip_mobile.specs.Putting.{after_put, Puts, PutsAll, PutsFront, Told, Answered, sends_of, puts_of}
 use Rattle.mip_mobile.specs.Handling.{Handles, BreaksOff, IsLeft}
 use Rattle.mip_mobile.proofs.PutLaws.{out-none}
 
@@ -46,13 +47,13 @@ from-after_put gives careof (a ∷ asked) (b ∷ bs) all from = (one a all.0 fro
     one (Note entry) is leaves = subst (IsFrom careof) (sym is) tt
     one (Send shield packet) is leaves = by is.0 shield packet is.2 leaves
 
-pub handled : (gives : Put → Bool) (k : Known) (now : ℕ) (call : Call) (desk : DeskSeen) (asked : List Answer) (left : Known) (out told : Told) (answers : List Answer)
+pub handled : (gives : Put → Bool) (k : Known) (now : ℕ) (call : Call) (desk : DeskSeen) (asked : List Answer) (left : Known) (out told : Told) (puts puts_after : Answered) (answers : List Answer)
     → Shows desk (turn_of k now call) → asked ≡ desk.answers → left ≡ desk.known → PutsAll gives asked answers → told ≡ option_map (λ items. items ++ sends_of answers) out
-    → Handles gives k now call out answers left told
-handled gives k now call desk asked left out told answers shows is known puts sent =
+    → puts_after ≡ puts ++ puts_of asked answers → Handles gives k now call out puts answers left told puts_after
+handled gives k now call desk asked left out told puts puts_after answers shows is known took sent answered =
     let same : left ≡ (turn_of k now call).known = known ∙ sym (shows-known desk (turn_of k now call) shows) in
-    let all : PutsAll gives (answers_of (turn_of k now call).steps) answers =
-    subst (λ (xs : List Answer). PutsAll gives xs answers) (is ∙ sym (shows-answers answer_of desk.moment desk.known desk.answers (turn_of k now call) shows)) puts in
+    let own : asked ≡ answers_of (turn_of k now call).steps = is ∙ sym (shows-answers answer_of desk.moment desk.known desk.answers (turn_of k now call) shows) in
+    let all : PutsAll gives (answers_of (turn_of k now call).steps) answers = subst (λ (xs : List Answer). PutsAll gives xs answers) own took in
     record {
       taken = all;
       away = λ careof here elsewhere stays. from-after_put gives careof (answers_of (turn_of k now call).steps) answers all (away-call k now call careof here elsewhere stays);
@@ -60,11 +61,21 @@ handled gives k now call desk asked left out told answers shows is known puts se
       stands = λ home declared secrets past stands.
           subst (λ (l : Known). Stands home declared secrets (with_turn past (turn_of k now call)) l) (sym same) (call-stands home declared secrets past k now call stands);
       sent = sent;
+      answered = subst (λ (xs : List Answer). puts_after ≡ puts ++ puts_of xs answers) own answered;
     }
 
 -- where nothing was handed to the wire, it sent nothing
-pub breaks-none : (gives : Put → Bool) (k : Known) (now : ℕ) (call : Call) (out : Told) → BreaksOff gives k now call out out
-breaks-none gives k now call out = record { count = 0; answers = []; taken = tt; away = λ careof here elsewhere stays. tt; sent = out-none out }
+pub breaks-none : (gives : Put → Bool) (k : Known) (now : ℕ) (call : Call) (out : Told) (puts : Answered) → BreaksOff gives k now call out puts out puts
+breaks-none gives k now call out puts = record {
+  count = 0;
+  answers = [];
+  taken = tt;
+  away = λ careof here elsewhere stays. tt;
+  sent = out-none out;
+  failed = [];
+  few = lit≤ tt;
+  answered = sym (append-nil puts);
+}
 
 from-front : (careof : Address) (n : ℕ) (asked : List Answer) → AreFrom careof asked → AreFrom careof (take n asked)
 from-front careof zero asked from = tt
@@ -72,18 +83,21 @@ from-front careof (suc n) [] from = tt
 from-front careof (suc n) (a ∷ asked) from = (from.0, from-front careof n asked from.1)
 
 -- a call whose desk shows the definition's turn breaks off in it, where its wire took a front of its answers
-pub breaks-off : (gives : Put → Bool) (k : Known) (now : ℕ) (call : Call) (desk : DeskSeen) (asked : List Answer) (out told : Told)
-    → Shows desk (turn_of k now call) → asked ≡ desk.answers → PutsFront gives asked out told → BreaksOff gives k now call out told
-breaks-off gives k now call desk asked out told shows is front =
+pub breaks-off : (gives : Put → Bool) (k : Known) (now : ℕ) (call : Call) (desk : DeskSeen) (asked : List Answer) (out told : Told) (puts puts_after : Answered)
+    → Shows desk (turn_of k now call) → asked ≡ desk.answers → PutsFront gives asked out told puts puts_after → BreaksOff gives k now call out puts told puts_after
+breaks-off gives k now call desk asked out told puts puts_after shows is front =
     let own : List Answer = answers_of (turn_of k now call).steps in
-    let all : PutsAll gives (take front.count own) front.answers =
-    subst (λ (xs : List Answer). PutsAll gives (take front.count xs) front.answers) (is ∙ sym (shows-answers answer_of desk.moment desk.known desk.answers (turn_of k now call) shows)) front.taken in
+    let same : asked ≡ own = is ∙ sym (shows-answers answer_of desk.moment desk.known desk.answers (turn_of k now call) shows) in
+    let all : PutsAll gives (take front.count own) front.answers = subst (λ (xs : List Answer). PutsAll gives (take front.count xs) front.answers) same front.taken in
     record {
       count = front.count;
       answers = front.answers;
       taken = all;
       away = λ careof here elsewhere stays. from-after_put gives careof (take front.count own) front.answers all (from-front careof front.count own (away-call k now call careof here elsewhere stays));
       sent = front.sent;
+      failed = front.failed;
+      few = front.few;
+      answered = subst (λ (xs : List Answer). puts_after ≡ puts ++ (puts_of (take front.count xs) front.answers ++ map Err front.failed)) same front.answered;
     }
 
 -- a desk that shows the definition's turn keeps what that leaves, once its answers are taken

@@ -1,8 +1,9 @@
 -- What a call of a station answers, and what it leaves.
-use Rattle.std.specs.Prelude.{◌≡◌, ℕ, Bool, true, max, List, ◌++◌, take, Option, option_map}
+use Rattle.std.specs.Prelude.{◌≡◌, ◌≤◌, ℕ, Bool, true, max, List, ◌++◌, take, length, map, Option, option_map, Err}
 use Rattle.mip_words.specs.declared.address.Address.{Address}
 use Rattle.mip_nonce.specs.Secrets.{Life}
 use Rattle.mip_outside.specs.declared.put.Put.{Put}
+use Rattle.mip_outside.specs.declared.put_fault.PutFault.{PutFault}
 use Rattle.mip_entries.specs.Stamped.{Stamped}
 use Rattle.mip_entries.specs.declared.answer.Answer.{Answer}
 use Rattle.mip_rules_mobile.specs.declared.standing.Standing.TheVariants.{Away}
@@ -13,7 +14,7 @@ use Rattle.mip_rules_mobile.specs.Known.{Known}
 use Rattle.mip_rules_mobile.specs.Turns.{Stands, with_turn}
 use Rattle.mip_rules_mobile.specs.Doing.{turn_of}
 use Rattle.mip_mobility.specs.Seen.{DeskSeen}
-use Rattle.mip_mobile.specs.Putting.{PutsAll, Told, sends_of}
+use Rattle.mip_mobile.specs.Putting.{PutsAll, Told, Answered, sends_of, puts_of}
 
 -- the moment of a call: what the clock says, or the moment of the last call where that is later
 abbrev pub moment_of : (clock last : ℕ) → ℕ
@@ -21,23 +22,29 @@ moment_of clock last = max clock last
 
 -- a station that knew this was called at a moment: its answers are those of the definition's turn, as its wire took them;
 -- it stands for each past for which it stood before, with the turn behind it; where it is away, and stays, each packet leaves
--- from its care-of address; and its wire sent the packets of its answers
-pub record Handles (gives : Put → Bool) (before : Known) (now : ℕ) (call : Call) (out : Told) (answers : List Answer) (after : Known) (left : Told) : Type 0 where
+-- from its care-of address; its wire sent the packets of its answers, and was called once for each packet of the definition's
+-- answers, in order, and what became of a packet is what that very call answered
+pub record Handles (gives : Put → Bool) (before : Known) (now : ℕ) (call : Call) (out : Told) (puts : Answered) (answers : List Answer) (after : Known) (left : Told) (puts_after : Answered) : Type 0 where
   pub taken : PutsAll gives (answers_of (turn_of before now call).steps) answers
   pub known : after ≡ (turn_of before now call).known
   pub stands : (home : Address) (declared : Option Address) (secrets : Life) (past : List (Stamped Step)) → Stands home declared secrets past before
       → Stands home declared secrets (with_turn past (turn_of before now call)) after
   pub away : (careof : Address) → before.standing ≡ Away careof → IsElsewhere before → stays_put call ≡ true → AreFrom careof answers
   pub sent : left ≡ option_map (λ items. items ++ sends_of answers) out
+  pub answered : puts_after ≡ puts ++ puts_of (answers_of (turn_of before now call).steps) answers
 
 -- a station that knew this was called at a moment, and answered a fault: its wire took a front of the answers of the
--- definition's turn, and sent their packets and no others; where it was away, and stays, each left from its care-of address
-pub record BreaksOff (gives : Put → Bool) (before : Known) (now : ℕ) (call : Call) (out left : Told) : Type 0 where
+-- definition's turn, and sent their packets and no others; where it was away, and stays, each left from its care-of address; and
+-- the wire was called once for each packet of that front, and once more at most: that call failed, and no call came after it
+pub record BreaksOff (gives : Put → Bool) (before : Known) (now : ℕ) (call : Call) (out : Told) (puts : Answered) (left : Told) (puts_after : Answered) : Type 0 where
   pub count : ℕ
   pub answers : List Answer
   pub taken : PutsAll gives (take count (answers_of (turn_of before now call).steps)) answers
   pub away : (careof : Address) → before.standing ≡ Away careof → IsElsewhere before → stays_put call ≡ true → AreFrom careof answers
   pub sent : left ≡ option_map (λ items. items ++ sends_of answers) out
+  pub failed : List PutFault
+  pub few : length failed ≤ 1
+  pub answered : puts_after ≡ puts ++ (puts_of (take count (answers_of (turn_of before now call).steps)) answers ++ map Err failed)
 
 -- what a station that knew this and was called at a moment keeps once its call is over: what the definition's turn leaves known,
 -- and the moment of the call

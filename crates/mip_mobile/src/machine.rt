@@ -119,9 +119,9 @@ impl<C: Clock + Drop, W: Wire + Drop> Machine<C, W> {
     ) -> Result<Answers, StationFault>
         requires { self.old.fault ≡ None }
         ensures handles { (k : Known) (now : ℕ) (call : Call) → OnOk done (Shows self.old.desk (turn_of k now call))
-            → IfOk result (λ answers. Handles W.gives k now call (W.out self.old.wire) answers self.new.desk.known (W.out self.new.wire)) }
+            → IfOk result (λ answers. Handles W.gives k now call (W.out self.old.wire) (W.answered self.old.wire) answers self.new.desk.known (W.out self.new.wire) (W.answered self.new.wire)) }
         ensures front { (k : Known) (now : ℕ) (call : Call) → OnOk done (Shows self.old.desk (turn_of k now call))
-            → OnErr result (BreaksOff W.gives k now call (W.out self.old.wire) (W.out self.new.wire)) }
+            → OnErr result (BreaksOff W.gives k now call (W.out self.old.wire) (W.answered self.old.wire) (W.out self.new.wire) (W.answered self.new.wire)) }
         ensures left { (k : Known) (now : ℕ) (call : Call) → OnOk done (Shows self.old.desk (turn_of k now call))
             → result ≢ Err StationFault.Memory → IsLeft self.new.desk k now call }
         ensures clock { self.new.clock ≡ self.old.clock }
@@ -143,9 +143,9 @@ impl<C: Clock + Drop, W: Wire + Drop> Machine<C, W> {
         done: Result<(), Memory>,
     ) -> Result<Answers, StationFault>
         ensures handles { (k : Known) (now : ℕ) (call : Call) → OnOk done (Shows self.old.desk (turn_of k now call))
-            → IfOk result (λ answers. Handles W.gives k now call (W.out self.old.wire) answers self.new.desk.known (W.out self.new.wire)) }
+            → IfOk result (λ answers. Handles W.gives k now call (W.out self.old.wire) (W.answered self.old.wire) answers self.new.desk.known (W.out self.new.wire) (W.answered self.new.wire)) }
         ensures front { (k : Known) (now : ℕ) (call : Call) → OnOk done (Shows self.old.desk (turn_of k now call))
-            → OnErr result (BreaksOff W.gives k now call (W.out self.old.wire) (W.out self.new.wire)) }
+            → OnErr result (BreaksOff W.gives k now call (W.out self.old.wire) (W.answered self.old.wire) (W.out self.new.wire) (W.answered self.new.wire)) }
         ensures left { (k : Known) (now : ℕ) (call : Call) → OnOk done (Shows self.old.desk (turn_of k now call))
             → result ≢ Err StationFault.Memory → IsLeft self.new.desk k now call }
         ensures rest { (self.new.clock ≡ self.old.clock) × (self.new.fault ≡ self.old.fault) }
@@ -167,8 +167,8 @@ impl<C: Clock + Drop, W: Wire + Drop> Machine<C, W> {
     ) -> Result<Answers, StationFault>
         ensures faulted { IfSome self.old.fault (λ fault. (result ≡ Err fault) × (self.new ≡ self.old)) }
         ensures read { self.old.fault ≡ None → C.ahead self.new.clock ≡ option_map moments_after (C.ahead self.old.clock) }
-        ensures handles { IfOk result (λ answers. Handles W.gives self.old.desk.known (moment_of (C.last self.new.clock) self.old.desk.moment) (calls.Take number shield packet.now) (W.out self.old.wire) answers self.new.desk.known (W.out self.new.wire)) }
-        ensures front { self.old.fault ≡ None → OnErr result (BreaksOff W.gives self.old.desk.known (moment_of (C.last self.new.clock) self.old.desk.moment) (calls.Take number shield packet.now) (W.out self.old.wire) (W.out self.new.wire)) }
+        ensures handles { IfOk result (λ answers. Handles W.gives self.old.desk.known (moment_of (C.last self.new.clock) self.old.desk.moment) (calls.Take number shield packet.now) (W.out self.old.wire) (W.answered self.old.wire) answers self.new.desk.known (W.out self.new.wire) (W.answered self.new.wire)) }
+        ensures front { self.old.fault ≡ None → OnErr result (BreaksOff W.gives self.old.desk.known (moment_of (C.last self.new.clock) self.old.desk.moment) (calls.Take number shield packet.now) (W.out self.old.wire) (W.answered self.old.wire) (W.out self.new.wire) (W.answered self.new.wire)) }
         ensures left { self.old.fault ≡ None → result ≢ Err StationFault.Memory → IsLeft self.new.desk self.old.desk.known (moment_of (C.last self.new.clock) self.old.desk.moment) (calls.Take number shield packet.now) }
         ensures well { OnOk result (self.new.fault ≡ None) }
         ensures kept { IfErr result (λ fault. self.new.fault ≡ Some fault) }
@@ -202,8 +202,8 @@ impl<C: Clock + Drop, W: Wire + Drop> Machine<C, W> {
     pub fn tick(&mut self, alloc: Global) -> Result<Answers, StationFault>
         ensures faulted { IfSome self.old.fault (λ fault. (result ≡ Err fault) × (self.new ≡ self.old)) }
         ensures read { self.old.fault ≡ None → C.ahead self.new.clock ≡ option_map moments_after (C.ahead self.old.clock) }
-        ensures handles { IfOk result (λ answers. Handles W.gives self.old.desk.known (moment_of (C.last self.new.clock) self.old.desk.moment) calls.Tick (W.out self.old.wire) answers self.new.desk.known (W.out self.new.wire)) }
-        ensures front { self.old.fault ≡ None → OnErr result (BreaksOff W.gives self.old.desk.known (moment_of (C.last self.new.clock) self.old.desk.moment) calls.Tick (W.out self.old.wire) (W.out self.new.wire)) }
+        ensures handles { IfOk result (λ answers. Handles W.gives self.old.desk.known (moment_of (C.last self.new.clock) self.old.desk.moment) calls.Tick (W.out self.old.wire) (W.answered self.old.wire) answers self.new.desk.known (W.out self.new.wire) (W.answered self.new.wire)) }
+        ensures front { self.old.fault ≡ None → OnErr result (BreaksOff W.gives self.old.desk.known (moment_of (C.last self.new.clock) self.old.desk.moment) calls.Tick (W.out self.old.wire) (W.answered self.old.wire) (W.out self.new.wire) (W.answered self.new.wire)) }
         ensures left { self.old.fault ≡ None → result ≢ Err StationFault.Memory → IsLeft self.new.desk self.old.desk.known (moment_of (C.last self.new.clock) self.old.desk.moment) calls.Tick }
         ensures well { OnOk result (self.new.fault ≡ None) }
         ensures kept { IfErr result (λ fault. self.new.fault ≡ Some fault) }
@@ -240,8 +240,8 @@ impl<C: Clock + Drop, W: Wire + Drop> Machine<C, W> {
         requires short { length payload.now ≤ 512 }
         ensures faulted { IfSome self.old.fault (λ fault. (result ≡ Err fault) × (self.new ≡ self.old)) }
         ensures read { self.old.fault ≡ None → C.ahead self.new.clock ≡ option_map moments_after (C.ahead self.old.clock) }
-        ensures handles { IfOk result (λ answers. Handles W.gives self.old.desk.known (moment_of (C.last self.new.clock) self.old.desk.moment) (calls.Send to proto payload.now) (W.out self.old.wire) answers self.new.desk.known (W.out self.new.wire)) }
-        ensures front { self.old.fault ≡ None → OnErr result (BreaksOff W.gives self.old.desk.known (moment_of (C.last self.new.clock) self.old.desk.moment) (calls.Send to proto payload.now) (W.out self.old.wire) (W.out self.new.wire)) }
+        ensures handles { IfOk result (λ answers. Handles W.gives self.old.desk.known (moment_of (C.last self.new.clock) self.old.desk.moment) (calls.Send to proto payload.now) (W.out self.old.wire) (W.answered self.old.wire) answers self.new.desk.known (W.out self.new.wire) (W.answered self.new.wire)) }
+        ensures front { self.old.fault ≡ None → OnErr result (BreaksOff W.gives self.old.desk.known (moment_of (C.last self.new.clock) self.old.desk.moment) (calls.Send to proto payload.now) (W.out self.old.wire) (W.answered self.old.wire) (W.out self.new.wire) (W.answered self.new.wire)) }
         ensures left { self.old.fault ≡ None → result ≢ Err StationFault.Memory → IsLeft self.new.desk self.old.desk.known (moment_of (C.last self.new.clock) self.old.desk.moment) (calls.Send to proto payload.now) }
         ensures well { OnOk result (self.new.fault ≡ None) }
         ensures kept { IfErr result (λ fault. self.new.fault ≡ Some fault) }
@@ -278,8 +278,8 @@ impl<C: Clock + Drop, W: Wire + Drop> Machine<C, W> {
     pub fn refresh(&mut self, alloc: Global, home: Address) -> Result<Answers, StationFault>
         ensures faulted { IfSome self.old.fault (λ fault. (result ≡ Err fault) × (self.new ≡ self.old)) }
         ensures read { self.old.fault ≡ None → C.ahead self.new.clock ≡ option_map moments_after (C.ahead self.old.clock) }
-        ensures handles { IfOk result (λ answers. Handles W.gives self.old.desk.known (moment_of (C.last self.new.clock) self.old.desk.moment) (calls.Refresh home) (W.out self.old.wire) answers self.new.desk.known (W.out self.new.wire)) }
-        ensures front { self.old.fault ≡ None → OnErr result (BreaksOff W.gives self.old.desk.known (moment_of (C.last self.new.clock) self.old.desk.moment) (calls.Refresh home) (W.out self.old.wire) (W.out self.new.wire)) }
+        ensures handles { IfOk result (λ answers. Handles W.gives self.old.desk.known (moment_of (C.last self.new.clock) self.old.desk.moment) (calls.Refresh home) (W.out self.old.wire) (W.answered self.old.wire) answers self.new.desk.known (W.out self.new.wire) (W.answered self.new.wire)) }
+        ensures front { self.old.fault ≡ None → OnErr result (BreaksOff W.gives self.old.desk.known (moment_of (C.last self.new.clock) self.old.desk.moment) (calls.Refresh home) (W.out self.old.wire) (W.answered self.old.wire) (W.out self.new.wire) (W.answered self.new.wire)) }
         ensures left { self.old.fault ≡ None → result ≢ Err StationFault.Memory → IsLeft self.new.desk self.old.desk.known (moment_of (C.last self.new.clock) self.old.desk.moment) (calls.Refresh home) }
         ensures well { OnOk result (self.new.fault ≡ None) }
         ensures kept { IfErr result (λ fault. self.new.fault ≡ Some fault) }
@@ -307,8 +307,8 @@ impl<C: Clock + Drop, W: Wire + Drop> Machine<C, W> {
     pub fn ask(&mut self, alloc: Global) -> Result<Answers, StationFault>
         ensures faulted { IfSome self.old.fault (λ fault. (result ≡ Err fault) × (self.new ≡ self.old)) }
         ensures read { self.old.fault ≡ None → C.ahead self.new.clock ≡ option_map moments_after (C.ahead self.old.clock) }
-        ensures handles { IfOk result (λ answers. Handles W.gives self.old.desk.known (moment_of (C.last self.new.clock) self.old.desk.moment) calls.Ask (W.out self.old.wire) answers self.new.desk.known (W.out self.new.wire)) }
-        ensures front { self.old.fault ≡ None → OnErr result (BreaksOff W.gives self.old.desk.known (moment_of (C.last self.new.clock) self.old.desk.moment) calls.Ask (W.out self.old.wire) (W.out self.new.wire)) }
+        ensures handles { IfOk result (λ answers. Handles W.gives self.old.desk.known (moment_of (C.last self.new.clock) self.old.desk.moment) calls.Ask (W.out self.old.wire) (W.answered self.old.wire) answers self.new.desk.known (W.out self.new.wire) (W.answered self.new.wire)) }
+        ensures front { self.old.fault ≡ None → OnErr result (BreaksOff W.gives self.old.desk.known (moment_of (C.last self.new.clock) self.old.desk.moment) calls.Ask (W.out self.old.wire) (W.answered self.old.wire) (W.out self.new.wire) (W.answered self.new.wire)) }
         ensures left { self.old.fault ≡ None → result ≢ Err StationFault.Memory → IsLeft self.new.desk self.old.desk.known (moment_of (C.last self.new.clock) self.old.desk.moment) calls.Ask }
         ensures well { OnOk result (self.new.fault ≡ None) }
         ensures kept { IfErr result (λ fault. self.new.fault ≡ Some fault) }
@@ -336,8 +336,8 @@ impl<C: Clock + Drop, W: Wire + Drop> Machine<C, W> {
     pub fn restart(&mut self, alloc: Global, secrets: Secrets) -> Result<Answers, StationFault>
         ensures faulted { IfSome self.old.fault (λ fault. (result ≡ Err fault) × (self.new ≡ self.old)) }
         ensures read { self.old.fault ≡ None → C.ahead self.new.clock ≡ option_map moments_after (C.ahead self.old.clock) }
-        ensures handles { IfOk result (λ answers. Handles W.gives self.old.desk.known (moment_of (C.last self.new.clock) self.old.desk.moment) (calls.Restart secrets) (W.out self.old.wire) answers self.new.desk.known (W.out self.new.wire)) }
-        ensures front { self.old.fault ≡ None → OnErr result (BreaksOff W.gives self.old.desk.known (moment_of (C.last self.new.clock) self.old.desk.moment) (calls.Restart secrets) (W.out self.old.wire) (W.out self.new.wire)) }
+        ensures handles { IfOk result (λ answers. Handles W.gives self.old.desk.known (moment_of (C.last self.new.clock) self.old.desk.moment) (calls.Restart secrets) (W.out self.old.wire) (W.answered self.old.wire) answers self.new.desk.known (W.out self.new.wire) (W.answered self.new.wire)) }
+        ensures front { self.old.fault ≡ None → OnErr result (BreaksOff W.gives self.old.desk.known (moment_of (C.last self.new.clock) self.old.desk.moment) (calls.Restart secrets) (W.out self.old.wire) (W.answered self.old.wire) (W.out self.new.wire) (W.answered self.new.wire)) }
         ensures left { self.old.fault ≡ None → result ≢ Err StationFault.Memory → IsLeft self.new.desk self.old.desk.known (moment_of (C.last self.new.clock) self.old.desk.moment) (calls.Restart secrets) }
         ensures well { OnOk result (self.new.fault ≡ None) }
         ensures kept { IfErr result (λ fault. self.new.fault ≡ Some fault) }
@@ -368,8 +368,8 @@ impl<C: Clock + Drop, W: Wire + Drop> Machine<C, W> {
         requires fits { length inner.now ≤ 65535 }
         ensures faulted { IfSome self.old.fault (λ fault. (result ≡ Err fault) × (self.new ≡ self.old)) }
         ensures read { self.old.fault ≡ None → C.ahead self.new.clock ≡ option_map moments_after (C.ahead self.old.clock) }
-        ensures handles { IfOk result (λ answers. Handles W.gives self.old.desk.known (moment_of (C.last self.new.clock) self.old.desk.moment) (calls.Tunnel inner.now) (W.out self.old.wire) answers self.new.desk.known (W.out self.new.wire)) }
-        ensures front { self.old.fault ≡ None → OnErr result (BreaksOff W.gives self.old.desk.known (moment_of (C.last self.new.clock) self.old.desk.moment) (calls.Tunnel inner.now) (W.out self.old.wire) (W.out self.new.wire)) }
+        ensures handles { IfOk result (λ answers. Handles W.gives self.old.desk.known (moment_of (C.last self.new.clock) self.old.desk.moment) (calls.Tunnel inner.now) (W.out self.old.wire) (W.answered self.old.wire) answers self.new.desk.known (W.out self.new.wire) (W.answered self.new.wire)) }
+        ensures front { self.old.fault ≡ None → OnErr result (BreaksOff W.gives self.old.desk.known (moment_of (C.last self.new.clock) self.old.desk.moment) (calls.Tunnel inner.now) (W.out self.old.wire) (W.answered self.old.wire) (W.out self.new.wire) (W.answered self.new.wire)) }
         ensures left { self.old.fault ≡ None → result ≢ Err StationFault.Memory → IsLeft self.new.desk self.old.desk.known (moment_of (C.last self.new.clock) self.old.desk.moment) (calls.Tunnel inner.now) }
         ensures well { OnOk result (self.new.fault ≡ None) }
         ensures kept { IfErr result (λ fault. self.new.fault ≡ Some fault) }

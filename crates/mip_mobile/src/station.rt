@@ -28,8 +28,8 @@ impl<C: Clock + Drop, W: Wire + Drop> Station<Away, C, W> {
         requires fits { length inner.now ≤ 65535 }
         ensures faulted { IfSome self.old.machine.fault (λ fault. (result ≡ Err fault) × (self.new ≡ self.old)) }
         ensures read { self.old.machine.fault ≡ None → C.ahead self.new.machine.clock ≡ option_map moments_after (C.ahead self.old.machine.clock) }
-        ensures handles { IfOk result (λ answers. Handles W.gives self.old.machine.desk.known (moment_of (C.last self.new.machine.clock) self.old.machine.desk.moment) (calls.Tunnel inner.now) (W.out self.old.machine.wire) answers self.new.machine.desk.known (W.out self.new.machine.wire)) }
-        ensures front { self.old.machine.fault ≡ None → OnErr result (BreaksOff W.gives self.old.machine.desk.known (moment_of (C.last self.new.machine.clock) self.old.machine.desk.moment) (calls.Tunnel inner.now) (W.out self.old.machine.wire) (W.out self.new.machine.wire)) }
+        ensures handles { IfOk result (λ answers. Handles W.gives self.old.machine.desk.known (moment_of (C.last self.new.machine.clock) self.old.machine.desk.moment) (calls.Tunnel inner.now) (W.out self.old.machine.wire) (W.answered self.old.machine.wire) answers self.new.machine.desk.known (W.out self.new.machine.wire) (W.answered self.new.machine.wire)) }
+        ensures front { self.old.machine.fault ≡ None → OnErr result (BreaksOff W.gives self.old.machine.desk.known (moment_of (C.last self.new.machine.clock) self.old.machine.desk.moment) (calls.Tunnel inner.now) (W.out self.old.machine.wire) (W.answered self.old.machine.wire) (W.out self.new.machine.wire) (W.answered self.new.machine.wire)) }
         ensures left { self.old.machine.fault ≡ None → result ≢ Err StationFault.Memory → IsLeft self.new.machine.desk self.old.machine.desk.known (moment_of (C.last self.new.machine.clock) self.old.machine.desk.moment) (calls.Tunnel inner.now) }
         ensures well { OnOk result (self.new.machine.fault ≡ None) }
         ensures kept { IfErr result (λ fault. self.new.machine.fault ≡ Some fault) }

@@ -1,10 +1,11 @@
-ghost use Rattle.std.specs.Prelude.{◌≡◌, ℕ, ◌≤◌, Bool, IsTrue, List, IfOk, OnErr, IsErrOf};
+ghost use Rattle.std.specs.Prelude.{◌≡◌, ℕ, ◌≤◌, ◌++◌, ◌∷◌, [], Bool, IsTrue, List, Result, IfOk, OnErr, IsErrOf};
 ghost use Rattle.std.specs.Option.{option_map};
 ghost use Rattle.std.specs.declared.option.Option.{Option};
 ghost use Rattle.mip_words.specs.declared.shield.Shield.{Shield};
 ghost use Rattle.mip_outside.specs.Cause.{Rose};
 ghost use Rattle.mip_outside.specs.Wires.{sent_by};
 ghost use Rattle.mip_outside.specs.declared.put.Put.{Put};
+ghost use Rattle.mip_outside.specs.declared.put_fault.PutFault.{PutFault};
 
 use crate::put::Put;
 use crate::put_fault::PutFault;
@@ -18,6 +19,9 @@ pub trait Wire {
     /// The packets that it sent, each with its shield, where they are told.
     ghost out: { Self → Option (List (Option Shield × List ℕ)) };
 
+    /// What its calls answered, oldest first.
+    ghost answered: { Self → List (Result Put PutFault) };
+
     /// How many calls failed.
     ghost faults: { Self → ℕ };
 
@@ -26,6 +30,7 @@ pub trait Wire {
 
     /// Sends a packet. Where the answer is another one than `Sent`, nothing was sent.
     fn put(&mut self, shield: Option<Shield>, packet: &[u8]) -> Result<Put, PutFault>
+        ensures answered { answered self.new ≡ answered self.old ++ result ∷ [] }
         ensures given { IfOk result (λ put. IsTrue (gives put)) }
         ensures out { IfOk result (λ put. out self.new ≡ option_map (sent_by put shield packet.now) (out self.old)) }
         ensures err { OnErr result (out self.new ≡ out self.old) }

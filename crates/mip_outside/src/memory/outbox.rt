@@ -1,10 +1,11 @@
-ghost use Rattle.std.specs.Prelude.{◌≡◌, [], Some, IfOk, slice_get};
+ghost use Rattle.std.specs.Prelude.{◌≡◌, ◌++◌, ◌∷◌, [], Some, IfOk, IfErr, OnOk, OnErr, slice_get};
 ghost use Rattle.std.specs.Option.{option_map};
 ghost use Rattle.mip_outside.specs.Wires.{is_sent};
 
 use crate::put::Put;
 use crate::put_fault::PutFault;
 use crate::wire::Wire;
+use mip_trail::Trail;
 use mip_words::{Bytes, Memory, Shield};
 use std::alloc::Global;
 use std::marker::Model;
@@ -14,39 +15,53 @@ use std::marker::Model;
 pub struct Outbox {
     alloc: Global,
     sent: Vec<(Option<Shield>, Bytes)>,
+    answered: Trail<Result<Put, PutFault>>,
 }
 
 impl Model for Outbox {
-    ghost use Rattle.std.specs.Prelude.{ℕ, List};
-    ghost use Rattle.std.specs.declared.option.Option.{Option};
-    ghost use Rattle.mip_words.specs.declared.shield.Shield.{Shield};
+    ghost use Rattle.mip_outside.specs.Wires.{OutboxSeen};
 
-    ghost Value = { List (Option Shield × List ℕ) };
+    ghost Value = { OutboxSeen };
 
-    ghost view = { λ o. o.sent.items };
+    ghost view = { λ o. record { sent = o.sent.items; answered = o.answered.items } };
 }
 
 impl Outbox {
     pub fn new(alloc: Global) -> Result<Outbox, Memory>
-        ensures { IfOk result (λ outbox. outbox ≡ []) }
+        ensures { IfOk result (λ outbox. outbox ≡ record { sent = []; answered = [] }) }
     {
         Ok(Outbox {
             alloc,
             sent: Vec::new(alloc),
+            answered: Trail::new(),
         })
     }
 
     /// The packet sent at a place, counted from 0, with its shield.
     pub fn sent_at(&self, place: usize) -> Option<(Option<Shield>, &[u8])>
-        ensures { option_map (λ sent. (sent.0, sent.1.now)) result ≡ slice_get self.now place }
+        ensures { option_map (λ sent. (sent.0, sent.1.now)) result ≡ slice_get self.now.sent place }
     {
         let (shield, packet) = self.sent.get(place)?;
         Some((*shield, packet.as_slice()))
     }
 
+    /// Keeps a packet that is put on the wire, behind those before.
+    fn keep(&mut self, shield: Option<Shield>, packet: &[u8]) -> Result<Put, PutFault>
+        ensures ok { OnOk result (self.new ≡ record self.old { sent = self.old.sent ++ (shield, packet.now) ∷ [] }) }
+        ensures sent { IfOk result (λ put. put ≡ Put.Sent) }
+        ensures err { OnErr result (self.new ≡ self.old) }
+        ensures memory { IfErr result (λ fault. fault ≡ PutFault.Memory) }
+    {
+        let packet = Bytes::copy(self.alloc, packet)?;
+        match self.sent.push((shield, packet)) {
+            Ok(()) => Ok(Put::Sent),
+            Err(_) => Err(PutFault::Memory),
+        }
+    }
+
     /// Forgets what it sent.
     pub fn clear(&mut self)
-        ensures { self.new ≡ [] }
+        ensures { self.new ≡ record self.old { sent = [] } }
     {
         self.sent.clear();
     }
@@ -55,7 +70,9 @@ impl Outbox {
 impl Wire for Outbox {
     ghost gives = { is_sent };
 
-    ghost out = { λ outbox. Some outbox };
+    ghost out = { λ outbox. Some outbox.sent };
+
+    ghost answered = { λ outbox. outbox.answered };
 
     ghost faults = { λ _. 0 };
 
@@ -66,10 +83,8 @@ impl Wire for Outbox {
     ghost same_since = { λ _ _ _ _ _. tt };
 
     fn put(&mut self, shield: Option<Shield>, packet: &[u8]) -> Result<Put, PutFault> {
-        let packet = Bytes::copy(self.alloc, packet)?;
-        match self.sent.push((shield, packet)) {
-            Ok(()) => Ok(Put::Sent),
-            Err(_) => Err(PutFault::Memory),
-        }
+        let answer = self.keep(shield, packet);
+        self.answered = self.answered.with(&answer);
+        answer
     }
 }

@@ -1,6 +1,6 @@
 use Rattle.std.proofs.Common.{◌≡◌, ◌++◌, ◌≤◌, take, length}
 use Rattle.std.specs.Prelude.{option_map}
-use Rattle.mip_mobile.specs.Putting.{PutsAll, sends_of}
+use Rattle.mip_mobile.specs.Putting.{PutsAll, puts_of, sends_of}
 use Rattle.mip_mobile.proofs.putting.send_all.Given as goal
 
 abbrev pub invariant-loop-answer : goal.invariant-loop-answer
@@ -10,3 +10,4 @@ invariant-loop-answer g l =
     × (g.W.Wire.out l.wire ≡ option_map (λ items. items ++ sends_of l.answers) (g.W.Wire.out l.fn.wire))
     × (g.W.Wire.faults l.fn.wire ≤ g.W.Wire.faults l.wire)
     × g.W.Wire.is_same l.fn.wire l.wire
+    × (g.W.Wire.answered l.wire ≡ g.W.Wire.answered l.fn.wire ++ puts_of l.yielded l.answers)
