@@ -36,6 +36,11 @@ use Rattle.mip_history.proofs.Numbered.{packet_numbered}
 use Rattle.mip_history.proofs.Events.{run_passes}
 use Rattle.mip_history.proofs.Bindings.{held_is_bound}
 
+-- a fact of each entry holds of a front
+each-front : (P : List Entry → Entry → Type 0) (front xs ys : List Entry) → EachAfter P front (xs ++ ys) → EachAfter P front xs
+each-front P front [] ys each = tt
+each-front P front (x ∷ xs) ys each = (each.0, each-front P (front ++ x ∷ []) xs ys each.1)
+
 pub permitted_each : (c : Content) → EachAfter (Meets (setup_of c)) [] (permitted c)
 unfolding permitted
 permitted_each c = (run_passes (setup_of c) c.events).run.kept.each
@@ -44,8 +49,10 @@ meets_at : (c : Content) (before : List Entry) (e : Entry) (after : List Entry) 
 meets_at c before e after whole =
     each_at (Meets (setup_of c)) [] before e after (subst (λ (l : List Entry). EachAfter (Meets (setup_of c)) [] l) whole (permitted_each c))
 
-pub permitted_held : (c : Content) (n home careof : ℕ) → held_in (setup_of c) (permitted c) n home ≡ Some careof → IsBound (setup_of c) (permitted c) n home careof
-permitted_held c n home careof held = held_is_bound (setup_of c) (permitted c) (permitted_each c) n home careof held
+pub permitted_held : (c : Content) (before after : List Entry) (n home careof : ℕ) → permitted c ≡ before ++ after → held_in (setup_of c) before n home ≡ Some careof
+    → IsBound (setup_of c) before n home careof
+permitted_held c before after n home careof whole held =
+    held_is_bound (setup_of c) before (each-front (Meets (setup_of c)) [] before after (subst (λ (l : List Entry). EachAfter (Meets (setup_of c)) [] l) whole (permitted_each c))) n home careof held
 
 pub permitted_accepted : (c : Content) (before : List Entry) (e : Entry) (after : List Entry) → permitted c ≡ before ++ e ∷ after → is_accepted e ≡ true → HasAccepted (setup_of c) before e
 permitted_accepted c before e after whole accepted = by e accepted (meets_at c before e after whole)

@@ -43,13 +43,12 @@ pub fn event_after_event()
     ensures { (s : Setup) (events : List Event) (event : Event) → run_of s (events ++ event ∷ []) ≡ happens s (run_of s events) event }
 {}
 
-/// In the permitted history of every schedule, a node holds a care-of address by an update that it accepted, a correspondent or
-/// the correspondent part of a mobile: the
-/// last one of its home in the present life of the node, whose packet had just been handed to the node, with
-/// the verdict Accept on its bytes by the secrets of that life, at that moment, with what was kept of the home
-/// just before. RFC 6275 section 9.5.1.
+/// At each place of the permitted history of every schedule, a node holds a care-of address by an update that it accepted, a
+/// correspondent or the correspondent part of a mobile: the last one of its home in the life that the node has there, whose
+/// packet had just been handed to the node, with the verdict Accept on its bytes by the secrets of that life, at that moment,
+/// with what was kept of the home just before. RFC 6275 section 9.5.1.
 pub fn held_was_accepted()
-    ensures { (c : Content) (n home careof : ℕ) → held_in (setup_of c) (permitted c) n home ≡ Some careof → IsBound (setup_of c) (permitted c) n home careof }
+    ensures { (c : Content) (before after : List Entry) (n home careof : ℕ) → permitted c ≡ before ++ after → held_in (setup_of c) before n home ≡ Some careof → IsBound (setup_of c) before n home careof }
 {}
 
 /// Every update that a correspondent or a mobile ever accepted had just been handed over, with that verdict; no other node accepts one.

@@ -1,5 +1,5 @@
 -- The bindings of a permitted history, and its repeated updates.
-use Rattle.std.proofs.Common.{◌≡◌, ℕ, ◌≤◌, List, sym, subst}
+use Rattle.std.proofs.Common.{◌≡◌, ℕ, ◌≤◌, List, ◌∷◌, ◌++◌, true, sym, subst}
 use Rattle.std.specs.Prelude.{Some, Ok}
 use Rattle.std.specs.List.{sum_by}
 use Rattle.mip_schedule.specs.Contents.{Content}
@@ -10,17 +10,22 @@ use Rattle.mip_entries.specs.declared.entry.Entry.{Entry}
 use Rattle.mip_history.specs.Setup.{setup_of}
 use Rattle.mip_history.specs.Permitted.{permitted}
 use Rattle.mip_history.specs.Passing.{waited_by}
-use Rattle.mip_history.specs.Bound.{held_in, IsBound}
+use Rattle.mip_history.specs.Bound.{held_in, is_accepted, HasAccepted, IsBound}
 use Rattle.mip_history.specs.Again.{RepeatsAfterRounds}
 use Rattle.mip_replay.specs.Bindings.{EachIsBound, EachRepeatIsLate}
 use Rattle.mip_replay.proofs.ReadyLaws.{waits_are}
 
-abbrev pub IsLaw : Type 0
-IsLaw = (c : Content) (n home careof : ℕ) → held_in (setup_of c) (permitted c) n home ≡ Some careof → IsBound (setup_of c) (permitted c) n home careof
+abbrev pub AreHeld : Type 0
+AreHeld = (c : Content) (before after : List Entry) (n home careof : ℕ) → permitted c ≡ before ++ after → held_in (setup_of c) before n home ≡ Some careof → IsBound (setup_of c) before n home careof
 
-pub each_is_bound : IsLaw → (c : Content) (h : List Entry) → h ≡ permitted c → EachIsBound (setup_of c) h
-unfolding EachIsBound
-each_is_bound law c h is = subst (λ (past : List Entry). EachIsBound (setup_of c) past) (sym is) (law c)
+abbrev pub AreHanded : Type 0
+AreHanded = (c : Content) (before : List Entry) (e : Entry) (after : List Entry) → permitted c ≡ before ++ e ∷ after → is_accepted e ≡ true → HasAccepted (setup_of c) before e
+
+pub bound_of_content : AreHeld → AreHanded → (c : Content) → EachIsBound (setup_of c) (permitted c)
+bound_of_content held handed c = record { held = held c; accepted = handed c }
+
+pub bound_of : AreHeld → AreHanded → (c : Content) (h : List Entry) → h ≡ permitted c → EachIsBound (setup_of c) h
+bound_of held handed c h is = subst (EachIsBound (setup_of c)) (sym is) (bound_of_content held handed c)
 
 abbrev pub AreRounds : Type 0
 AreRounds = (c : Content) → sum_by waited_by c.events ≤ 36000000 → RepeatsAfterRounds (setup_of c) (permitted c)

@@ -10,18 +10,19 @@ ghost use Rattle.mip_replay.specs.Bindings.{EachIsBound, EachRepeatIsLate};
 ghost use Rattle.mip_replay.specs.Homes.{HomesAreSent};
 
 use mip_history::{
-    held_was_accepted, homes_change_by_updates_or_time, registered_was_sent,
+    accepted_was_handed, held_was_accepted, homes_change_by_updates_or_time, registered_was_sent,
     repeats_come_after_rounds,
 };
 use mip_origin::acceptances_are_marked;
 use mip_schedule::waits_are_short;
 
-/// In the permitted history of every schedule each care-of address that a node holds has its accepted update.
-#[tactic(auto, unfolding(crate::specs::Bindings::EachIsBound))]
+/// At each place of the permitted history of every schedule each care-of address that a node holds has its accepted update, and
+/// each accepted update had just been handed over, with that verdict.
 pub fn each_is_bound()
     ensures { (c : Content) → EachIsBound (setup_of c) (permitted c) }
 {
     held_was_accepted();
+    accepted_was_handed();
 }
 
 /// In the permitted history of every schedule that is read a node accepts the same update again in one life only where the

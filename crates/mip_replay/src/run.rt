@@ -17,8 +17,8 @@ use mip_delivery::each_delivery_arrives;
 use mip_engine::Engine;
 use mip_entries::History;
 use mip_history::{
-    held_was_accepted, homes_change_by_updates_or_time, lives_are_restarts, moments_rise,
-    registered_was_sent, repeats_come_after_rounds,
+    accepted_was_handed, held_was_accepted, homes_change_by_updates_or_time, lives_are_restarts,
+    moments_rise, registered_was_sent, repeats_come_after_rounds,
 };
 use mip_origin::acceptances_are_marked;
 use mip_schedule::{Schedule, few, lawful, spelling_read, waits_are_short};
@@ -54,9 +54,10 @@ fn run_whole(alloc: Global, schedule: &Schedule) -> Result<History, Memory>
 
 /// The history of a schedule: its permitted one.
 ///
-/// In it a node, a correspondent or a mobile in its correspondent part, holds a care-of address only by an update that it
-/// accepted in its present life, the last of its home, with the verdict Accept on its bytes under nonces that were valid
-/// then, and in sequence after what stood.
+/// At each place of it a node, a correspondent or a mobile in its correspondent part, holds a care-of address only by an update
+/// that it accepted in the life that it has there, the last of its home. Each update that is accepted, whatever its mark, had just
+/// been handed over, with the verdict Accept on its bytes: authentic under nonces that were valid then, and in sequence after
+/// what stood.
 /// The same update is accepted again in one life only where the sequences of its home have gone round since then.
 ///
 /// A care-of address is registered at an agent only by an update that the mobile with that home had sent under its shield, in
@@ -76,6 +77,7 @@ pub fn replay(alloc: Global, schedule: &Schedule) -> Result<History, Memory>
     ensures delivered { EachReaches (setup_of (content schedule.now)) schedule.now.events }
 {
     held_was_accepted();
+    accepted_was_handed();
     repeats_come_after_rounds();
     registered_was_sent();
     homes_change_by_updates_or_time();

@@ -46,7 +46,8 @@ pub fn mip<S: Source, K: Sink, C: Clock, L: Link>(
         (outside (K.held sink.old) (C.ahead clock.old) (L.coming link.old) (L.sent link.old) (L.port link.old))
         (outside (K.held sink.new) (C.ahead clock.new) (L.coming link.new) (L.sent link.new) (L.port link.new)) }
 
-    // In the history of a schedule each care-of address that is held has its accepted update.
+    // At each place of the history of a schedule each care-of address that is held has its accepted update, and each accepted
+    // update had just been handed over, authentic and in sequence.
     ensures bound { IfSome (S.left source.old) (λ bytes. IfOk (reading bytes) (λ c. EachIsBound (setup_of c) (permitted c))) }
     // In it the same update is accepted again in one life only where its sequences have gone round.
     ensures repeats { IfSome (S.left source.old) (λ bytes. IfOk (reading bytes) (λ c. EachRepeatIsLate (setup_of c) (permitted c))) }

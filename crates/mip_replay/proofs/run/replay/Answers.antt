@@ -1,14 +1,14 @@
 use Rattle.std.proofs.lemmas.Result.{IfOk-weaker}
 use Rattle.mip_schedule.specs.Schedules.{content}
 use Rattle.mip_schedule.specs.Spelling.{spelling}
-use Rattle.mip_replay.proofs.BindingLaws.{each_is_bound, repeats_of}
+use Rattle.mip_replay.proofs.BindingLaws.{bound_of, repeats_of}
 use Rattle.mip_replay.proofs.PlainLaws.{marked_of}
 use Rattle.mip_replay.proofs.RegisteredLaws.{homes_of}
 use Rattle.mip_replay.proofs.run.replay.Goals as goal
 
 pub returns-clause-bound : goal.returns-clause-bound
 returns-clause-bound c =
-    IfOk-weaker c.run_whole.result _ _ (λ h is. each_is_bound c.held_was_accepted.ensures (content c.args.schedule.now) h is) c.run_whole.ensures
+    IfOk-weaker c.run_whole.result _ _ (λ h is. bound_of c.held_was_accepted.ensures c.accepted_was_handed.ensures (content c.args.schedule.now) h is) c.run_whole.ensures
 
 pub returns-clause-repeats : goal.returns-clause-repeats
 returns-clause-repeats c =
