@@ -7,41 +7,43 @@ ghost use Rattle.mip_bcache.specs.Seen.{StandsFor, kept_at, row_at, if_standing,
 use crate::accepted::Accepted;
 use crate::fault::AcceptFault;
 use crate::row::Row;
-use crate::rows;
+use crate::table::Table;
+use mip_chain::Steps;
 use mip_constants::MAX_NONCE_LIFETIME;
 use mip_words::{Address, Memory, Moment};
 use std::alloc::Global;
-use std::marker::Model;
+use std::marker::{Brand, Model};
+use std::sync::ledger::{Blank, Ledger};
 
 /// The binding cache. A moment that a call is given is no earlier than those that `accept` and `expire`
-/// were given.
+/// were given. No call but `with_limit` takes memory.
 #[derive(Drop)]
 pub struct Cache {
-    limit: u32,
     last: Moment,
-    rows: Vec<Row>,
+    table: Table,
 }
 
 impl Model for Cache {
-    ghost use Rattle.mip_bcache.specs.Seen.{CacheSeen, IsSound};
+    ghost use Rattle.mip_bcache.specs.Seen.{CacheSeen};
+    ghost use Rattle.mip_bcache.specs.Table.{seen, rows_in, IsTable};
 
     ghost Value = { CacheSeen };
 
-    ghost view = { λ c. record { limit = c.limit; last = c.last.0; rows = c.rows.items } };
+    ghost view = { λ c. record { limit = c.table.room; last = c.last.0; rows = rows_in (seen c.table) } };
 
-    ghost invariant = { λ c. IsSound c.limit c.rows.items };
+    ghost invariant = { λ c. IsTable (seen c.table) };
 }
 
 impl Cache {
-    /// An empty cache with room for this many homes.
+    /// An empty cache with room for this many homes. It takes all the memory that it will ever need.
     pub fn with_limit(alloc: Global, limit: u32) -> Result<Cache, Memory>
         ensures ok { IfOk result (λ c. c ≡ record { limit = limit; last = 0; rows = [] }) }
         ensures stands { IfOk result (λ c. StandsFor c []) }
     {
+        let table = Table::with_room(alloc, limit)?;
         Ok(Cache {
-            limit,
             last: Moment(0),
-            rows: Vec::with_capacity(alloc, limit as usize)?,
+            table,
         })
     }
 
@@ -51,7 +53,7 @@ impl Cache {
         ensures found { option_copied result ≡ if_standing home.0 now.0 (row_at self.now home.0 now.0) }
         ensures answers { (past : List Acceptance) → StandsFor self.now past → option_map (λ r. r.careof.0) (option_copied result) ≡ held past home.0 now.0 }
     {
-        rows::standing_row(&self.rows, now, home)
+        self.table.standing_row(now, home)
     }
 
     /// The sequence that an update for a home must come after, if one is kept.
@@ -60,7 +62,7 @@ impl Cache {
         ensures found { result ≡ option_map (λ r. r.sequence) (row_at self.now home.0 now.0) }
         ensures answers { (past : List Acceptance) → StandsFor self.now past → result ≡ floor past home.0 now.0 }
     {
-        rows::kept_sequence(&self.rows, now, home)
+        self.table.kept_sequence(now, home)
     }
 
     /// Whether `accept` takes an acceptance for this home.
@@ -69,7 +71,7 @@ impl Cache {
         ensures found { result ≡ not (has_no_room self.now home.0 now.0) }
         ensures answers { (past : List Acceptance) → StandsFor self.now past → result ≡ not (is_full self.now.limit past home.0 now.0) }
     {
-        !rows::are_full(&self.rows, self.limit, now, home)
+        !self.table.is_full(now, home)
     }
 
     /// Takes an acceptance: its row takes the place of the one of its home. The binding stands to its end,
@@ -92,23 +94,45 @@ impl Cache {
         if !self.has_room(now, home) {
             return Err(AcceptFault::Full);
         }
-        let row = row_of(now, home, number, accepted);
-        rows::put(&mut self.rows, row)?;
-        rows::keep(&mut self.rows, now);
-        self.last = now;
+        self.give_up(now);
+        self.table.put(row_of(now, home, number, accepted));
         Ok(())
     }
 
-    /// Gives up the rows that are no longer kept, and says how many they were.
-    pub fn expire(&mut self, now: Moment) -> u32
+    /// Gives up the rows that are no longer kept, and says how many they were. It follows at most one link more.
+    pub fn expire<G: Ledger>(&mut self, now: Moment, steps: &mut Steps<G>) -> u32
+        requires { self.old.last ≤ now.0 }
+        ensures rows { self.new ≡ expired now.0 self.old }
+        ensures count { result + length self.new.rows ≡ length self.old.rows }
+        ensures stands { (past : List Acceptance) → StandsFor self.old past → StandsFor self.new past }
+        ensures links { steps.new ≤ steps.old + result + 1 }
+    {
+        let given_up = self.table.give_up(now, steps);
+        self.last = now;
+        given_up
+    }
+
+    /// Gives up the rows that are no longer kept, as `expire` does, for a caller that counts no links.
+    pub fn give_up(&mut self, now: Moment) -> u32
         requires { self.old.last ≤ now.0 }
         ensures rows { self.new ≡ expired now.0 self.old }
         ensures count { result + length self.new.rows ≡ length self.old.rows }
         ensures stands { (past : List Acceptance) → StandsFor self.old past → StandsFor self.new past }
     {
-        let given_up = rows::keep(&mut self.rows, now);
-        self.last = now;
-        given_up as u32
+        self.counted::<Brand>(now, Blank::new(1))
+    }
+
+    fn counted<G: Ledger>(&mut self, now: Moment, blank: Blank) -> u32
+        requires later { self.old.last ≤ now.0 }
+        requires name { blank.name ≡ G.name }
+        requires parts { blank.parts ≡ G.parts }
+        requires some { 0 < blank.parts }
+        ensures rows { self.new ≡ expired now.0 self.old }
+        ensures count { result + length self.new.rows ≡ length self.old.rows }
+        ensures stands { (past : List Acceptance) → StandsFor self.old past → StandsFor self.new past }
+    {
+        let mut steps = Steps::<G>::new(blank);
+        self.expire(now, &mut steps)
     }
 
     /// The row at a place among those that are kept, in order of home address.
@@ -118,8 +142,8 @@ impl Cache {
         ensures answers { (past : List Acceptance) → StandsFor self.now past → option_map seen_row (option_copied result) ≡ slice_get (kept_rows now.0 (table past)) place }
         ensures few { length (kept_at self.now now.0) < 2 ^ 32 }
     {
-        let _limit = self.limit;
-        rows::kept_at(&self.rows, now, place)
+        let _limit = self.table.room;
+        self.table.kept_at(now, place)
     }
 }
 

@@ -6,7 +6,7 @@ mod accepted;
 mod cache;
 mod fault;
 mod row;
-mod rows;
+mod table;
 
 pub use accepted::Accepted;
 pub use cache::Cache;

@@ -1,8 +1,6 @@
-use Rattle.std.proofs.Common.{◌≡◌, List, ap, ◌∙◌, subst}
+use Rattle.std.proofs.Common.{◌≡◌, ap, ◌∙◌, subst}
 use Rattle.std.specs.Prelude.{option_map, option_copied}
-use Rattle.mip_binding.specs.Rows.{find_by, kept_by}
-use Rattle.mip_bcache.specs.declared.row.Row.{Row}
-use Rattle.mip_bcache.specs.Seen.{CacheSeen, home_of, until_of, row_at, if_standing}
+use Rattle.mip_bcache.specs.Seen.{CacheSeen, row_at, if_standing}
 use Rattle.mip_bcache.proofs.Pasts.{look_answers}
 use Rattle.mip_bcache.proofs.cache.Cache.look.Goals as goal
 
@@ -10,6 +8,5 @@ pub returns-clause-answers : goal.returns-clause-answers
 returns-clause-answers c = λ past stands.
     let home = c.args.home.0 in
     let now = c.args.now.0 in
-    let read = subst (λ (rows : List Row). option_copied c.standing_row.result ≡ if_standing home now (find_by home_of home (kept_by until_of now rows))) c.deref.ensures.value c.standing_row.ensures in
-    let found = subst (λ (v : CacheSeen). option_copied c.standing_row.result ≡ if_standing home now (row_at v home now)) c.self.view_is read in
+    let found = subst (λ (v : CacheSeen). option_copied c.standing_row.result ≡ if_standing home now (row_at v home now)) c.self.view_is c.standing_row.ensures in
     ap (option_map (λ r. r.careof.0)) found ∙ look_answers c.args.self.now past stands now c.requires home
