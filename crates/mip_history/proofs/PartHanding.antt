@@ -26,6 +26,7 @@ use Rattle.mip_rules_mobile.specs.Questions.{part_room}
 use Rattle.mip_rules_mobile.specs.Doing.{turn_of}
 use Rattle.mip_rules_mobile.specs.Part.{PartLife, part_of, IsReadIn, Itself, Within, IsPartTaken}
 use Rattle.mip_rules_mobile.proofs.PartLives.{part_is}
+use Rattle.mip_rules_mobile.proofs.Trusts.{came-read}
 use Rattle.mip_links.specs.Table.{Post}
 use Rattle.mip_history.specs.Setup.{Setup}
 use Rattle.mip_history.specs.Setup.Kind.{Mobile}
@@ -62,11 +63,12 @@ reads_in : (bytes : List ℕ) (link : Option ℕ) (q : Packet) → IsReadIn (han
 reads_in bytes link q (Itself read) =
     let found = reads_as bytes link q read in
     record { packet = found.packet; read = Itself found.read; source = found.source; home = found.home; proto = found.proto; body = found.body }
-reads_in bytes link q (Within outer entry read opens) =
+reads_in bytes link q (Within outer read opens) =
     let found = reads_as bytes link outer read in
     record {
       packet = q;
-      read = Within found.packet entry found.read (sym (opened_alike entry outer found.packet found.source found.proto found.body) ∙ opens);
+      read = Within found.packet found.read
+          (subst (λ (a : Address). opened a found.packet ≡ Ok q) found.source (sym (opened_alike outer.head.source outer found.packet found.source found.proto found.body) ∙ opens));
       source = refl;
       home = refl;
       proto = refl;
@@ -114,7 +116,7 @@ module _ (s : Setup) (k n : ℕ) (post : Post) (link : Option ℕ) (before : Run
         (accepted_home _ x.taken.registration x.packet.body x.taken.home x.taken.accepted x.taken.granted x.taken.kbm x.taken.verdict_is)
 
     as_posted : ReadsIn post.packet x.packet
-    as_posted = reads_in post.packet link x.packet (subst (λ (l : List ℕ). IsReadIn l x.packet) (sym (ap bytes_in x.call)) x.read)
+    as_posted = reads_in post.packet link x.packet (subst (λ (l : List ℕ). IsReadIn l x.packet) (sym (ap bytes_in x.call)) (came-read known (now_in s run) x.tunnelled x.shield x.bytes x.packet x.came))
 
     accepts : verdict (judge_in s run.past n own part_room x.taken.home.0) x.taken.registration as_posted.packet.body ≡ Accept x.taken.home x.taken.accepted x.taken.granted x.taken.kbm
     accepts =

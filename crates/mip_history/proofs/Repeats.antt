@@ -88,9 +88,9 @@ read_says : (kind : Kind) (bytes : List ℕ) (p : Packet) → p.head.proto ≡ 1
 read_says (Correspondent room) bytes p mobility read = carried_plain bytes p read (λ t. omega (arith, mobility))
 read_says (Agent preference life room serves) bytes p mobility read = absurd read
 read_says (Mobile agent) bytes p mobility (Itself read) = carried_plain bytes p read (λ t. omega (arith, mobility))
-read_says (Mobile agent) bytes p mobility (Within outer entry read opens) =
-    carried_opened bytes outer p entry read opens
-    ∙ carried_plain outer.body p (opened-reads entry outer p opens) (λ t. omega (arith, mobility))
+read_says (Mobile agent) bytes p mobility (Within outer read opens) =
+    carried_opened bytes outer p outer.head.source read opens
+    ∙ carried_plain outer.body p (opened-reads outer.head.source outer p opens) (λ t. omega (arith, mobility))
 
 accepted_says : (s : Setup) (front es : List Entry) (n k : ℕ) (home : Address) (a : Accepted) (key : Key) (is : IsAccepted s front n k home a) → CarriesUpdate (front ++ es) k key → says is.packet ≡ Update key
 accepted_says s front es n k home a key is u =

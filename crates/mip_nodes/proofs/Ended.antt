@@ -23,7 +23,7 @@ call-now k now c =
     (λ step t steady fits is. noted-now after step t ∙ is)
     (λ call t is. noted-now after (Parts call) t ∙ is)
     (λ entry t own is. noted-now after (Notes entry) t ∙ is)
-    (λ step t ack fits is. noted-now after step t ∙ is)
+    (λ step t ack fits led is. noted-now after step t ∙ is)
     (λ step t move fits is. noted-now after step t ∙ is)
     (λ number why t kind is. noted-now after (Drops number why) t ∙ is)
     (λ t is. noted-now after (Called c) t ∙ is)

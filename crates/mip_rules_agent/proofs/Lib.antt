@@ -1,11 +1,11 @@
 pub mod Reasons
+pub mod VerdictLaws
 pub mod Walks
 pub mod Calls
 pub mod Moments
 pub mod Sendings
 pub mod Wholes
 pub mod Answers
-pub mod VerdictLaws
 pub mod Homes
 pub mod EndLaws
 pub mod Pasts
@@ -15,3 +15,6 @@ pub mod Refusals
 pub mod Sayings
 pub mod Ended
 pub mod Shielding
+pub mod Granting
+pub mod Rights
+pub mod Ticking

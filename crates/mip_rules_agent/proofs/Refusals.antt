@@ -15,6 +15,7 @@ use Rattle.mip_rules_agent.specs.Steps.{Step, Called, Sends, Registers, Claims, 
 use Rattle.mip_rules_agent.specs.Questions.{agents_called, agents_after, plan_called, plan_after, after}
 use Rattle.mip_rules_agent.specs.Turns.{Turn, begun, noted}
 use Rattle.mip_rules_agent.specs.Doing.{does, turn_of}
+use Rattle.mip_rules_agent.specs.Refusing.{is_refusal, is_claim}
 use Rattle.mip_rules_agent.specs.Taken.{IsUpdateTaken}
 use Rattle.mip_rules_agent.proofs.Taken.{taken_is}
 use Rattle.mip_rules_agent.proofs.Walks.{every-handles}
@@ -82,3 +83,27 @@ module _ (me : Identity) (k : Known) (now number : ℕ) (shield : Option Shield)
         | inl quiet ↦ absurd (let both : true ≡ false = sym some ∙ quiet.0 in cc)
         | inr is ↦ is
       ]
+
+  pub quiet-claims : list_any is_registration turn.steps ≡ false → list_any is_claim turn.steps ≡ false
+  quiet-claims none =
+      elim (taken_is me k now number shield bytes claim) as (λ _. list_any is_claim turn.steps ≡ false) [
+        | inl quiet ↦ quiet.3
+        | inr is ↦ absurd (let both : true ≡ false = sym (some-taken is) ∙ none in cc)
+      ]
+
+  -- where something is registered nothing is refused
+  taken-kept : IsUpdateTaken me k now number shield bytes claim turn.steps → list_any is_refusal turn.steps ≡ false
+  taken-kept is = ap (list_any is_refusal) is.steps_are ∙ is.kept
+
+  refused-none : list_any is_refusal turn.steps ≡ true → list_any is_registration turn.steps ≡ false
+  refused-none some =
+      elim (taken_is me k now number shield bytes claim) as (λ _. list_any is_registration turn.steps ≡ false) [
+        | inl quiet ↦ quiet.0
+        | inr is ↦ absurd (let both : true ≡ false = sym some ∙ taken-kept is in cc)
+      ]
+
+  pub refused-keeps : list_any is_refusal turn.steps ≡ true → (turn.known.homes ≡ k.homes) × (turn.known.ends ≡ k.ends) × (list_any is_claim turn.steps ≡ false)
+  refused-keeps some =
+      let none = refused-none some in
+      let homes = quiet-homes none in
+      (homes.0, homes.1, quiet-claims none)

@@ -40,6 +40,7 @@ use Rattle.mip_rules_agent.specs.Known.{Known}
 use Rattle.mip_rules_agent.specs.Calls as calls
 use Rattle.mip_rules_agent.specs.Messages.{shield_to}
 use Rattle.mip_rules_agent.specs.Steps.{Step, Called, Sends, Registers, Claims, Releases, Denies, Drops, is_registration}
+use Rattle.mip_rules_agent.specs.Refusing.{is_refusal, is_claim}
 use Rattle.mip_rules_agent.specs.Questions.{careof_at, holds, after}
 use Rattle.mip_rules_agent.specs.Turns.{Turn, begun, noted}
 use Rattle.mip_rules_agent.specs.Verdicts.{is_from, verdict, binding_for}
@@ -113,9 +114,9 @@ message_proto place p m =
     cond_both (p.head.proto == 135) _ _ (λ (r : Result (Option Said) Refusal). r ≡ Ok (Some m) → p.head.proto ≡ 135) (λ is e. eqb-true p.head.proto 135 is) (λ other e. absurd cc)
 
 module _ (me : Identity) (k : Known) (now number : ℕ) (shield : Option Shield) (bytes : List ℕ) (claim : Claim) where
-  -- nothing is registered, and the homes and their ends are as they were
+  -- nothing is registered, claimed or given up, and the homes and their ends are as they were
   abbrev pub IsQuiet : Turn → Type 0
-  IsQuiet t = (list_any is_registration t.steps ≡ false) × (t.known.homes ≡ k.homes) × (t.known.ends ≡ k.ends)
+  IsQuiet t = (list_any is_registration t.steps ≡ false) × (t.known.homes ≡ k.homes) × (t.known.ends ≡ k.ends) × (list_any is_claim t.steps ≡ false)
 
   abbrev pub Is : Turn → Type 0
   Is t = IsQuiet t ⊎ IsUpdateTaken me k now number shield bytes claim t.steps
@@ -139,11 +140,11 @@ module _ (me : Identity) (k : Known) (now number : ℕ) (shield : Option Shield)
 
   dropped : (why : Why) → Is (noted (Drops number why) given)
   unfolding after
-  dropped why = subst Is (sym (noted_all-is after (call ∷ Drops number why ∷ []) (begun now k))) (inl (refl, refl, refl))
+  dropped why = subst Is (sym (noted_all-is after (call ∷ Drops number why ∷ []) (begun now k))) (inl (refl, refl, refl, refl))
 
   sent : (under : Option Shield) (packet : List ℕ) → Is (noted (Sends under packet) given)
   unfolding after
-  sent under packet = subst Is (sym (noted_all-is after (call ∷ Sends under packet ∷ []) (begun now k))) (inl (refl, refl, refl))
+  sent under packet = subst Is (sym (noted_all-is after (call ∷ Sends under packet ∷ []) (begun now k))) (inl (refl, refl, refl, refl))
 
   -- two steps that register nothing and leave homes and ends as they are
   two : (first last : Step) → IsQuiet (record { now = now; known = known_by after k (stamped now (call ∷ first ∷ last ∷ [])); steps = call ∷ first ∷ last ∷ [] }) → Is (noted last (noted first given))
@@ -155,9 +156,9 @@ module _ (me : Identity) (k : Known) (now number : ℕ) (shield : Option Shield)
     abbrev first : Turn
     first = noted (Registers number home (binding_for now careof sequence granted)) given
 
-    -- behind it, steps that register nothing
-    taken : (rest : List Step) → list_any is_registration rest ≡ false → Is (noted_all after rest first)
-    taken rest none = inr (record {
+    -- behind it, steps that register and refuse nothing
+    taken : (rest : List Step) → list_any is_registration rest ≡ false → list_any is_refusal rest ≡ false → Is (noted_all after rest first)
+    taken rest none kept = inr (record {
       update = update;
       is_in = is_in;
       home = home;
@@ -168,6 +169,7 @@ module _ (me : Identity) (k : Known) (now number : ℕ) (shield : Option Shield)
       rest = rest;
       steps_are = ap (λ (t : Turn). t.steps) (noted_all-is after (call ∷ Registers number home (binding_for now careof sequence granted) ∷ rest) (begun now k));
       none = none;
+      kept = kept;
     })
 
     abbrev tells : Step
@@ -178,20 +180,20 @@ module _ (me : Identity) (k : Known) (now number : ℕ) (shield : Option Shield)
 
     answered : (held ends ack : Bool) → Is (behind held ends ack)
     unfolding acknowledges
-    answered true true true = taken (Releases home ∷ tells ∷ []) refl
-    answered true true false = taken (Releases home ∷ []) refl
-    answered true false true = taken (tells ∷ []) refl
-    answered true false false = taken [] refl
-    answered false true true = taken (tells ∷ []) refl
-    answered false true false = taken [] refl
-    answered false false true = taken (Claims home ∷ tells ∷ []) refl
-    answered false false false = taken (Claims home ∷ []) refl
+    answered true true true = taken (Releases home ∷ tells ∷ []) refl refl
+    answered true true false = taken (Releases home ∷ []) refl refl
+    answered true false true = taken (tells ∷ []) refl refl
+    answered true false false = taken [] refl refl
+    answered false true true = taken (tells ∷ []) refl refl
+    answered false true false = taken [] refl refl
+    answered false false true = taken (Claims home ∷ tells ∷ []) refl refl
+    answered false false false = taken (Claims home ∷ []) refl refl
 
   of_verdict : (r : Registration) → IsUpdateIn bytes r → (v : HomeVerdict)
       → verdict (bench me k now r) shield (claim_with (holds k (home_of r)) claim) r ≡ v → Is (judged opened r (holds k (home_of r)) v given)
   unfolding after denies accepts acknowledges
   of_verdict r is_in (Refuse why) is = dropped why
-  of_verdict r is_in (Deny status last) is = two (Denies number status) (Sends (shield_to me.own (home_of r)) (ack_packet me.own r status last 0 None)) (refl, refl, refl)
+  of_verdict r is_in (Deny status last) is = two (Denies number status) (Sends (shield_to me.own (home_of r)) (ack_packet me.own r status last 0 None)) (refl, refl, refl, refl)
   of_verdict r is_in (Accept home careof sequence granted) is =
       answered r is_in home careof sequence granted is (holds k (home_of r)) (deletes r) r.ack
 
@@ -259,7 +261,7 @@ module _ (me : Identity) (k : Known) (now number : ℕ) (shield : Option Shield)
   of_reply : (reply : Option (List ℕ)) (why : Why) → Is (replies reply (noted (Drops number why) given))
   unfolding after
   of_reply None why = dropped why
-  of_reply (Some packet) why = two (Drops number why) (Sends None packet) (refl, refl, refl)
+  of_reply (Some packet) why = two (Drops number why) (Sends None packet) (refl, refl, refl, refl)
 
   of_checks : (p : Packet) (place : ℕ) (r : Result (Option Said) Refusal) → packet_of bytes ≡ Ok p → ((m : Option Said) → r ≡ Ok m → message_at place p ≡ Ok m) → Is (after_checks h p r given)
   unfolding refuses

@@ -18,7 +18,7 @@ use Rattle.mip_rules_agent.specs.declared.home_verdict.HomeVerdict.TheVariants.{
 use Rattle.mip_rules_agent.specs.Verdicts.{is_from, is_near, granted_of, accepted, by_room, by_sequence, is_away, before_claim, with_claim, verdict}
 use Rattle.mip_rules_agent.specs.Soundness.{IsShielded, IsFit, IsSound, IsBehind}
 
-shielded_is : (shield : Option Shield) (home : Address) → is_from home shield ≡ true → IsShielded shield home
+pub shielded_is : (shield : Option Shield) (home : Address) → is_from home shield ≡ true → IsShielded shield home
 shielded_is None home e = absurd cc
 shielded_is (Some s) home e = record { ends = s; stands = refl; from = eqb-true s.from.0 home.0 e }
 
@@ -30,6 +30,27 @@ away_is : (a b : Bool) → (not a && not b) ≡ false → a ≡ false → b ≡ 
 away_is true b e lasts = absurd cc
 away_is false true e lasts = refl
 away_is false false e lasts = absurd cc
+
+-- silence, or it came under the shield of this home address
+abbrev pub IsHeard : Option Shield → Address → HomeVerdict → Type 0
+IsHeard shield home (Refuse why) = Unit {0}
+IsHeard shield home (Deny status last) = IsShielded shield home
+IsHeard shield home (Accept of careof sequence granted) = IsShielded shield home
+
+whatever-heard : (shield : Option Shield) (home : Address) (v : HomeVerdict) → IsShielded shield home → IsHeard shield home v
+whatever-heard shield home (Refuse why) under = tt
+whatever-heard shield home (Deny status last) under = under
+whatever-heard shield home (Accept of careof sequence granted) under = under
+
+pub verdict-heard : (b : Bench) (shield : Option Shield) (claim : Claim) (r : Registration) → IsHeard shield (home_of r) (verdict b shield claim r)
+unfolding verdict before_claim
+verdict-heard b shield claim r =
+    cond_both (not r.for_agent) _ _ Q (λ _. tt) (λ agent.
+    cond_both (not (is_from (home_of r) shield)) _ _ Q (λ _. tt)
+    (λ from. whatever-heard shield (home_of r) _ (shielded_is shield (home_of r) (not-false _ from))))
+  where
+    Q : Option HomeVerdict → Type 0
+    Q o = IsHeard shield (home_of r) (with_claim b r claim o)
 
 module _ (b : Bench) (shield : Option Shield) (claim : Claim) (r : Registration) where
   -- a verdict is silence, a denial with the update's own sequence, or comes from the row of the sequence and those behind it

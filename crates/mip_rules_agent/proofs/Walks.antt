@@ -1,9 +1,11 @@
 -- One walk over the calls of a home agent: what each step keeps, each call keeps.
-use Rattle.std.proofs.Common.{◌≡◌, ℕ, List, [], ◌∷◌, length, refl, arith}
+use Rattle.std.proofs.Common.{◌≡◌, ℕ, List, [], ◌∷◌, length, refl, sym, ◌∙◌, subst, arith}
+use Rattle.std.specs.Option.{option_map_or}
 use Rattle.std.specs.Prelude.{Bool, true, false, not, ◌&&◌, ◌==◌, nat_lt, if◌then◌else◌, Option, Some, None, Result, Ok, Err}
-use Rattle.std.proofs.lemmas.Bool.{cond_both, eqb-true}
+use Rattle.std.proofs.lemmas.Bool.{cond_both, not-false, eq-eqb, eqb-true}
 use Rattle.std.proofs.lemmas.Bool.Decides.{nat_tests}
 use Rattle.mip_words.specs.declared.address.Address.{Address}
+use Rattle.mip_words.specs.declared.shield.Shield.{Shield}
 use Rattle.mip_words.specs.declared.why.Why.{Why}
 use Rattle.mip_words.specs.declared.why.Why.TheVariants as whys
 use Rattle.mip_ipv6.specs.declared.not_packet.NotPacket.{NotPacket}
@@ -39,6 +41,9 @@ use Rattle.mip_entries.specs.Reasons.{is_dropped_why}
 use Rattle.mip_rules_agent.proofs.Reasons.{RefusesRight, verdict-right}
 use Rattle.mip_rules_agent.specs.Rules.{Handing, intercepts, is_careof, opens, takes_tunnel, bench, claim_with, acknowledges, denies, claims_if, answers_if, accepts, judged, takes_update, names_agents, advertises, answers_solicitation, takes_icmp, by_proto, by_role, replies, refuses, standing_of, after_checks, place_in, by_destination, receives}
 use Rattle.mip_rules_agent.specs.Doing.{takes, releases_all, ticks, advertises_all, plans, handing, handles, does}
+use Rattle.mip_rules_agent.specs.Soundness.{IsShielded}
+use Rattle.mip_rules_agent.specs.Rights.{SendsRightly}
+use Rattle.mip_rules_agent.proofs.VerdictLaws.{shielded_is, IsHeard, verdict-heard}
 use Rattle.mip_rules_agent.specs.Sendings.{SendsInto, SendsOut, SendsAck, SendsReply, SendsAgents, SendsPrefix, SendsOwn}
 
 -- whichever way a choice goes
@@ -50,33 +55,59 @@ first_of : (a b : Bool) → (a && b) ≡ true → a ≡ true
 first_of true b e = refl
 first_of false b e = e
 
+-- the registered care-of address of a home is this one
+careof-is : (k : Known) (now : ℕ) (home entry : Address) → is_careof k now home entry ≡ true → (careof : Address) × (careof_at k now home ≡ Some careof) × (careof.0 ≡ entry.0)
+careof-is k now home entry is = by (careof_at k now home) refl is
+  where
+    by : (o : Option Address) → careof_at k now home ≡ o → option_map_or (λ (a : Address). a.0 == entry.0) o false ≡ true → (careof : Address) × (careof_at k now home ≡ Some careof) × (careof.0 ≡ entry.0)
+    by None at e = absurd cc
+    by (Some careof) at e = (careof, at, eqb-true careof.0 entry.0 e)
+
+-- a mobility message that is not refused for want of a shield has that of its source
+shielded-from : (proto : ℕ) (home : Address) (shield : Option Shield) → proto ≡ 135 → ((proto == 135) && not (is_from home shield)) ≡ false → IsShielded shield home
+shielded-from proto home shield mobility bare =
+    let is : (proto == 135) ≡ true = eq-eqb proto 135 mobility in
+    let both : (true && not (is_from home shield)) ≡ false = subst (λ (b : Bool). (b && not (is_from home shield)) ≡ false) is bare in
+    shielded_is shield home (not-false _ both)
+
 -- over a packet that is handed over
-module _ (h : Handing) (P : Turn → Type 0) (more : (step : Step) (t : Turn) → is_call step ≡ false → SendsOwn h.me h.bytes step → P t → P (noted step t)) where
+module _ (h : Handing) (P : Turn → Type 0) (more : (step : Step) (t : Turn) → is_call step ≡ false → SendsRightly h.me h.known h.now h.shield h.bytes step → P t → P (noted step t)) where
   every-drop : (why : Why) → is_dropped_why why ≡ true → (t : Turn) → P t → P (noted (Drops h.number why) t)
   every-drop why right t p = more (Drops h.number why) t refl right p
 
-  every-interception : (home careof : Address) (proto : ℕ) (t : Turn) → P t → P (intercepts h home careof proto t)
+  every-interception : (home careof : Address) (proto : ℕ) → careof_at h.known h.now home ≡ Some careof → (t : Turn) → P t → P (intercepts h home careof proto t)
   unfolding intercepts
-  every-interception home careof proto t p =
+  every-interception home careof proto at t p =
       either P (nat_lt (hop_of h.bytes) 2) _ _ (every-drop whys.Hop refl t p)
       (cond_both (nat_lt 65535 (length h.bytes)) _ _ P (λ big. every-drop whys.Size refl t p)
-      (λ fits. more _ t refl (SendsInto home careof proto, (refl, refl, (let f : nat_lt 65535 (length h.bytes) ≡ false = fits in grind (arith, nat_tests, f)))) p))
+      (λ fits. more _ t refl (SendsInto home careof proto, (refl, refl, (let f : nat_lt 65535 (length h.bytes) ≡ false = fits in grind (arith, nat_tests, f))), at) p))
 
   every-opening : (outer : Packet) → packet_of h.bytes ≡ Ok outer → outer.head.proto ≡ 41 → (r : Result Packet NotPacket) → packet_of outer.body ≡ r → (t : Turn) → P t → P (opens h outer r t)
   every-opening outer read tunnel (Err fault) is t p = every-drop (packet_why fault) (packet_why-dropped fault) t p
   every-opening outer read tunnel (Ok q) is t p =
-      either P (not (is_careof h.known h.now q.head.source outer.head.source)) _ _ (every-drop whys.Entry refl t p)
-      (either P (q.head.destination.0 == h.me.own.0) _ _ (every-drop whys.Nested refl t p)
-      (either P ((q.head.proto == 135) && not (is_from q.head.source h.shield)) _ _ (every-drop whys.Unshielded refl t p)
-      (more (Sends None outer.body) t refl (SendsOut outer q, (refl, refl, read, tunnel, is)) p)))
+      cond_both (not (is_careof h.known h.now q.head.source outer.head.source)) _ _ P (λ other. every-drop whys.Entry refl t p) (λ from.
+      cond_both (q.head.destination.0 == h.me.own.0) _ _ P (λ nested. every-drop whys.Nested refl t p) (λ onward.
+      cond_both ((q.head.proto == 135) && not (is_from q.head.source h.shield)) _ _ P (λ bare. every-drop whys.Unshielded refl t p) (λ shielded.
+      let entry = careof-is h.known h.now q.head.source outer.head.source (not-false _ from) in
+      more (Sends None outer.body) t refl (
+        SendsOut outer q,
+        (refl, refl, read, tunnel, is),
+        record {
+          careof = entry.0;
+          registered = entry.1;
+          from = entry.2;
+          onward = λ same. absurd (let both : true ≡ false = sym (eq-eqb q.head.destination.0 h.me.own.0 same) ∙ onward in cc);
+          shielded = λ mobility. shielded-from q.head.proto q.head.source h.shield mobility shielded;
+        },
+      ) p)))
 
   every-tunnel : (outer : Packet) → packet_of h.bytes ≡ Ok outer → outer.head.proto ≡ 41 → (t : Turn) → P t → P (takes_tunnel h outer t)
   unfolding takes_tunnel
   every-tunnel outer read tunnel t p = every-opening outer read tunnel (packet_of outer.body) refl t p
 
-  every-acknowledgement : (r : Registration) (status sequence lifetime : ℕ) (t : Turn) → P t → P (acknowledges h.me r status sequence lifetime t)
+  every-acknowledgement : (r : Registration) → IsShielded h.shield (home_of r) → (status sequence lifetime : ℕ) (t : Turn) → P t → P (acknowledges h.me r status sequence lifetime t)
   unfolding acknowledges
-  every-acknowledgement r status sequence lifetime t p = more _ t refl (SendsAck r status sequence lifetime, (refl, refl)) p
+  every-acknowledgement r under status sequence lifetime t p = more _ t refl (SendsAck r status sequence lifetime, (refl, refl), under) p
 
   every-claim : (held ends : Bool) (home : Address) (t : Turn) → P t → P (claims_if held ends home t)
   every-claim true true home t p = more (Releases home) t refl tt p
@@ -84,40 +115,40 @@ module _ (h : Handing) (P : Turn → Type 0) (more : (step : Step) (t : Turn) �
   every-claim false true home t p = p
   every-claim false false home t p = more (Claims home) t refl tt p
 
-  every-answer : (ack : Bool) (r : Registration) (granted : ℕ) (t : Turn) → P t → P (answers_if ack h.me r granted t)
-  every-answer true r granted t p = every-acknowledgement r 0 r.sequence granted t p
-  every-answer false r granted t p = p
+  every-answer : (ack : Bool) (r : Registration) → IsShielded h.shield (home_of r) → (granted : ℕ) (t : Turn) → P t → P (answers_if ack h.me r granted t)
+  every-answer true r under granted t p = every-acknowledgement r under 0 r.sequence granted t p
+  every-answer false r under granted t p = p
 
-  every-judged : (r : Registration) (held : Bool) (v : HomeVerdict) → RefusesRight v → (t : Turn) → P t → P (judged h r held v t)
+  every-judged : (r : Registration) (held : Bool) (v : HomeVerdict) → RefusesRight v → IsHeard h.shield (home_of r) v → (t : Turn) → P t → P (judged h r held v t)
   unfolding denies accepts
-  every-judged r held (Refuse why) right t p = every-drop why right t p
-  every-judged r held (Deny status last) right t p =
-      every-acknowledgement r status last 0 (noted (Denies h.number status) t) (more (Denies h.number status) t refl tt p)
-  every-judged r held (Accept home careof sequence granted) right t p =
+  every-judged r held (Refuse why) right heard t p = every-drop why right t p
+  every-judged r held (Deny status last) right heard t p =
+      every-acknowledgement r heard status last 0 (noted (Denies h.number status) t) (more (Denies h.number status) t refl tt p)
+  every-judged r held (Accept home careof sequence granted) right heard t p =
       let step : Step = Registers h.number home (binding_for h.now careof sequence granted) in
-      every-answer r.ack r granted (claims_if held (deletes r) home (noted step t)) (every-claim held (deletes r) home (noted step t) (more step t refl tt p))
+      every-answer r.ack r heard granted (claims_if held (deletes r) home (noted step t)) (every-claim held (deletes r) home (noted step t) (more step t refl tt p))
 
   every-update : (r : Registration) (t : Turn) → P t → P (takes_update h r t)
   unfolding takes_update
   every-update r t p =
       let held : Bool = holds h.known (home_of r) in
       let b = bench h.me h.known h.now r in
-      every-judged r held (verdict b h.shield (claim_with held h.claim) r) (verdict-right b h.shield (claim_with held h.claim) r) t p
+      every-judged r held (verdict b h.shield (claim_with held h.claim) r) (verdict-right b h.shield (claim_with held h.claim) r) (verdict-heard b h.shield (claim_with held h.claim) r) t p
 
-  every-solicitation : (home : Address) (identifier : ℕ) (careof : Option Address) (t : Turn) → P t → P (answers_solicitation h home identifier careof t)
+  every-solicitation : (home : Address) (identifier : ℕ) (careof : Option Address) → careof_at h.known h.now home ≡ careof → (t : Turn) → P t → P (answers_solicitation h home identifier careof t)
   unfolding advertises
-  every-solicitation home identifier None t p = every-drop whys.Role refl t p
-  every-solicitation home identifier (Some careof) t p =
-      either P (is_from home h.shield) _ _
-      (more _ t refl (SendsPrefix home careof identifier (valid_at h.known h.now) (preferred_at h.known h.now), (refl, refl)) p)
-      (every-drop whys.Role refl t p)
+  every-solicitation home identifier None at t p = every-drop whys.Role refl t p
+  every-solicitation home identifier (Some careof) at t p =
+      cond_both (is_from home h.shield) _ _ P
+      (λ from. more _ t refl (SendsPrefix home careof identifier (valid_at h.known h.now) (preferred_at h.known h.now), (refl, refl), (shielded_is h.shield home from, at)) p)
+      (λ other. every-drop whys.Role refl t p)
 
   every-icmp : (packet : Packet) (r : Result icmp.Said IcmpFault) (t : Turn) → P t → P (takes_icmp h packet r t)
   unfolding names_agents
   every-icmp packet (Ok (icmp.DiscoverAsk identifier)) t p =
-      more _ t refl (SendsAgents packet.head.source identifier (live h.now h.known.agents.agents), (refl, refl)) p
+      more _ t refl (SendsAgents packet.head.source identifier (live h.now h.known.agents.agents), (refl, refl), tt) p
   every-icmp packet (Ok (icmp.PrefixAsk identifier)) t p =
-      every-solicitation (source_of packet.head) identifier (careof_at h.known h.now (source_of packet.head)) t p
+      every-solicitation (source_of packet.head) identifier (careof_at h.known h.now (source_of packet.head)) refl t p
   every-icmp packet (Ok (icmp.Parameter pointer quoted)) t p = every-drop whys.Role refl t p
   every-icmp packet (Ok (icmp.Advertisement hop agent life options)) t p = every-drop whys.Role refl t p
   every-icmp packet (Ok (icmp.DiscoverReply identifier agents)) t p = every-drop whys.Role refl t p
@@ -145,7 +176,7 @@ module _ (h : Handing) (P : Turn → Type 0) (more : (step : Step) (t : Turn) �
 
   every-reply : (source : Address) (refusal : Refusal) (reply : Option (List ℕ)) → reply_packet h.me.own source h.bytes refusal.reply ≡ reply → (t : Turn) → P t → P (replies reply t)
   every-reply source refusal None is t p = p
-  every-reply source refusal (Some packet) is t p = more (Sends None packet) t refl (SendsReply source refusal.reply, (refl, is)) p
+  every-reply source refusal (Some packet) is t p = more (Sends None packet) t refl (SendsReply source refusal.reply, (refl, is), tt) p
 
   every-check : (packet : Packet) → packet_of h.bytes ≡ Ok packet → (r : Result (Option Said) Refusal) → Refuses r → (t : Turn) → P t → P (after_checks h packet r t)
   unfolding refuses
@@ -154,17 +185,17 @@ module _ (h : Handing) (P : Turn → Type 0) (more : (step : Step) (t : Turn) �
       (noted (Drops h.number refusal.why) t) (every-drop refusal.why right t p)
   every-check packet read (Ok message) right t p = every-role packet read message t p
 
-  every-destination : (packet : Packet) → packet_of h.bytes ≡ Ok packet → (careof : Option Address) (t : Turn) → P t → P (by_destination h packet careof t)
-  every-destination packet read (Some careof) t p = every-interception packet.head.destination careof packet.head.proto t p
-  every-destination packet read None t p =
+  every-destination : (packet : Packet) → packet_of h.bytes ≡ Ok packet → (careof : Option Address) → careof_at h.known h.now packet.head.destination ≡ careof → (t : Turn) → P t → P (by_destination h packet careof t)
+  every-destination packet read (Some careof) at t p = every-interception packet.head.destination careof packet.head.proto at t p
+  every-destination packet read None at t p =
       let standing = standing_of h.me h.known h.now packet.head in
       every-check packet read (checked standing (place_in h.bytes packet) packet) (checked-right standing (place_in h.bytes packet) packet) t p
 
   every-receipt : (r : Result Packet NotPacket) → packet_of h.bytes ≡ r → (t : Turn) → P t → P (receives h r t)
   every-receipt (Err fault) read t p = every-drop (packet_why fault) (packet_why-dropped fault) t p
-  every-receipt (Ok packet) read t p = every-destination packet read (careof_at h.known h.now packet.head.destination) t p
+  every-receipt (Ok packet) read t p = every-destination packet read (careof_at h.known h.now packet.head.destination) refl t p
 
-  every-take : (t : Turn) → P t → P (takes h t)
+  pub every-take : (t : Turn) → P t → P (takes h t)
   unfolding takes
   every-take t p = every-receipt (packet_of h.bytes) refl t p
 
@@ -190,9 +221,16 @@ module _ (me : Identity) (P : Turn → Type 0) (more : (step : Step) (t : Turn) 
   unfolding plans
   every-plan t p = every-advertisement t.known t.now (rows_at t.now t.known.homes) t p
 
+-- what is sent by right is sent
+own-of : (me : Identity) (k : Known) (now : ℕ) (shield : Option Shield) (bytes : List ℕ) (step : Step) → SendsRightly me k now shield bytes step → SendsOwn me bytes step
+own-of me k now shield bytes (Sends under packet) right = (right.0, right.1)
+own-of me k now shield bytes (Drops number why) right = right
+own-of me k now shield bytes _ right = tt
+
 module _ (me : Identity) (P : Turn → Type 0) where
   pub every-handles : (c : Call) → ((step : Step) (t : Turn) → is_call step ≡ false → SendsOwn me (bytes_of c) step → P t → P (noted step t)) → (t : Turn) → P t → P (handles me c t)
-  every-handles (calls.Take number shield packet claim) more t p = every-take (handing me t.now t.known number shield packet claim) P more t p
+  every-handles (calls.Take number shield packet claim) more t p =
+      every-take (handing me t.now t.known number shield packet claim) P (λ step u quiet right q. more step u quiet (own-of me t.known t.now shield packet step right) q) t p
   every-handles calls.Tick more t p = every-tick me P more t p
   every-handles (calls.Plan valid preferred) more t p = every-plan me P more t p
   every-handles (calls.Hear agent preference life) more t p = p

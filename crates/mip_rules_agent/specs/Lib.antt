@@ -11,7 +11,10 @@ pub mod Seen
 pub mod Sendings
 pub mod Wholes
 pub mod Soundness
+pub mod Refusing
 pub mod Taken
+pub mod Granting
+pub mod Rights
 pub mod Pasts
 pub mod Ends
 pub mod Claims

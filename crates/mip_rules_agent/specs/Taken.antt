@@ -14,6 +14,7 @@ use Rattle.mip_rules_agent.specs.declared.home_verdict.HomeVerdict.TheVariants.{
 use Rattle.mip_rules_agent.specs.Known.{Known}
 use Rattle.mip_rules_agent.specs.Calls.{Call, Take}
 use Rattle.mip_rules_agent.specs.Steps.{Step, Called, Registers, is_registration}
+use Rattle.mip_rules_agent.specs.Refusing.{is_refusal}
 use Rattle.mip_rules_agent.specs.Questions.{kept_of, holds, binding_of}
 use Rattle.mip_rules_agent.specs.Verdicts.{verdict, binding_for}
 use Rattle.mip_rules_agent.specs.Rules.{bench, claim_with}
@@ -39,6 +40,7 @@ pub record IsUpdateTaken (me : Identity) (k : Known) (now number : ℕ) (shield 
   pub rest : List Step
   pub steps_are : steps ≡ Called (Take number shield bytes claim) ∷ Registers number home (binding_for now careof sequence granted) ∷ rest
   pub none : list_any is_registration rest ≡ false
+  pub kept : list_any is_refusal rest ≡ false
 
 -- a call registers a home, or ends its registration: it hands over an update for that home, which came under its shield and
 -- comes after the sequence that is kept

@@ -1,9 +1,11 @@
 //! The laws by which a home agent stands for a past, those of its registrations, and those of verdicts.
 
-ghost use Rattle.std.specs.Prelude.{◌≡◌, ◌⊎◌, ℕ, ◌≤◌, List, [], Option, Some, None, true, false, unwrap_or, option_map};
+ghost use Rattle.std.specs.Prelude.{◌≡◌, ◌⊎◌, ℕ, ◌≤◌, List, [], Option, Some, None, Ok, true, false, not, nat_lt, unwrap_or, option_map, map, filter};
 ghost use Rattle.std.specs.List.{list_any, AllByRecursion};
 ghost use Rattle.mip_words.specs.declared.address.Address.{Address};
 ghost use Rattle.mip_words.specs.declared.shield.Shield.{Shield};
+ghost use Rattle.mip_ipv6.specs.Packet.{Packet};
+ghost use Rattle.mip_ipv6.specs.Reading.{packet_of};
 ghost use Rattle.mip_lists.specs.Last.{last_where};
 ghost use Rattle.mip_outside.specs.declared.claim.Claim.{Claim};
 ghost use Rattle.mip_discovery.specs.Listed.{StandsFor};
@@ -25,6 +27,9 @@ ghost use Rattle.mip_rules_agent.specs.Sendings.{SendsOwn};
 ghost use Rattle.mip_rules_agent.specs.Sayings.{SaysNoOther};
 ghost use Rattle.mip_rules_agent.specs.Wholes.{IsWhole};
 ghost use Rattle.mip_rules_agent.specs.Shielding.{ShieldNoUpdate};
+ghost use Rattle.mip_rules_agent.specs.Refusing.{is_refusal, is_claim, released};
+ghost use Rattle.mip_rules_agent.specs.Granting.{IsBounded, IsGranted};
+ghost use Rattle.mip_rules_agent.specs.Rights.{SendsRightly, IsTunnelled};
 ghost use Rattle.mip_rules_agent.specs.Taken.{IsUpdateTaken, IsRegisteredBy};
 ghost use Rattle.mip_rules_agent.specs.Pasts.{is_one_of, last_binding, is_claimed, last_plan, all_heard};
 ghost use Rattle.mip_rules_agent.specs.Ends.{AreInOrder, IsEndOf, has_end, AreUntil};
@@ -120,11 +125,16 @@ pub fn registrations_change_by_updates_alone()
     ensures time { (k : Known) (home careof : Address) (earlier later : ℕ) → earlier ≤ later → careof_at k later home ≡ Some careof → careof_at k earlier home ≡ Some careof }
 {}
 
-/// A packet that leads to no registration, and so each that is dropped or denied, changes no registration, no claim, no end
-/// and no list. Only a plan changes the lifetimes of the prefix, and only an advertisement the list of agents.
+/// A packet that is dropped, or whose update is denied, changes no registration, no claim and no end; and neither does any
+/// other that leads to no registration. Only a plan changes the lifetimes of the prefix, and only an advertisement the list of
+/// agents.
 pub fn refused_changes_nothing()
+    ensures refused { (me : Identity) (k : Known) (now number : ℕ) (shield : Option Shield) (bytes : List ℕ) (claim : Claim) → list_any is_refusal (turn_of me k now (Take number shield bytes claim)).steps ≡ true
+        → ((turn_of me k now (Take number shield bytes claim)).known.homes ≡ k.homes) × ((turn_of me k now (Take number shield bytes claim)).known.ends ≡ k.ends) × (list_any is_claim (turn_of me k now (Take number shield bytes claim)).steps ≡ false) }
     ensures homes { (me : Identity) (k : Known) (now number : ℕ) (shield : Option Shield) (bytes : List ℕ) (claim : Claim) → list_any is_registration (turn_of me k now (Take number shield bytes claim)).steps ≡ false
         → ((turn_of me k now (Take number shield bytes claim)).known.homes ≡ k.homes) × ((turn_of me k now (Take number shield bytes claim)).known.ends ≡ k.ends) }
+    ensures claims { (me : Identity) (k : Known) (now number : ℕ) (shield : Option Shield) (bytes : List ℕ) (claim : Claim) → list_any is_registration (turn_of me k now (Take number shield bytes claim)).steps ≡ false
+        → list_any is_claim (turn_of me k now (Take number shield bytes claim)).steps ≡ false }
     ensures agents { (me : Identity) (k : Known) (now : ℕ) (c : Call) → (turn_of me k now c).known.agents ≡ agents_called k.agents now c }
     ensures plan { (me : Identity) (k : Known) (now : ℕ) (c : Call) → (turn_of me k now c).known.plan ≡ plan_called k.plan now c }
 {}
@@ -139,4 +149,32 @@ pub fn accepted_is_sound()
 /// Status 135 carries the sequence that is kept, and the update does not come after it.
 pub fn out_of_window_tells_the_kept()
     ensures { (b : Bench) (shield : Option Shield) (claim : Claim) (r : Registration) (last : ℕ) → verdict b shield claim r ≡ Deny 135 last → IsBehind b r last }
+{}
+
+/// What is accepted is granted no more than an hour, than was asked, and than the prefix is valid; nothing where it ends a
+/// registration, and else something. So is whatever a call registers.
+pub fn granted_is_bounded()
+    ensures verdict { (b : Bench) (shield : Option Shield) (claim : Claim) (r : Registration) (home careof : Address) (sequence granted : ℕ) → verdict b shield claim r ≡ Accept home careof sequence granted → IsBounded b.valid r granted }
+    ensures turn { (me : Identity) (k : Known) (now number : ℕ) (shield : Option Shield) (bytes : List ℕ) (claim : Claim) → list_any is_registration (turn_of me k now (Take number shield bytes claim)).steps ≡ true
+        → IsGranted me k now number shield bytes claim (turn_of me k now (Take number shield bytes claim)).steps }
+{}
+
+/// A packet to a registered home goes to its care-of address alone, in a tunnel: under the shield of agent and home where it is a
+/// mobility message.
+pub fn what_is_intercepted_keeps_its_shield()
+    ensures { (me : Identity) (k : Known) (now number : ℕ) (shield : Option Shield) (bytes : List ℕ) (claim : Claim) (p : Packet) (careof : Address) → packet_of bytes ≡ Ok p → careof_at k now p.head.destination ≡ Some careof
+        → AllByRecursion (IsTunnelled me.own p careof bytes) (turn_of me k now (Take number shield bytes claim)).steps }
+{}
+
+/// A packet goes on out of a tunnel only where that came from the care-of address of its home, and a mobility message only under
+/// the home's shield. An update is acknowledged, and a solicitation answered, only under the shield of the home that it is for.
+pub fn each_packet_goes_by_right()
+    ensures { (me : Identity) (k : Known) (now number : ℕ) (shield : Option Shield) (bytes : List ℕ) (claim : Claim) → AllByRecursion (SendsRightly me k now shield bytes) (turn_of me k now (Take number shield bytes claim)).steps }
+{}
+
+/// A tick gives up the address of each home whose registration has ended, in order of their ends, and no other; what is left
+/// ends later.
+pub fn a_tick_releases_what_ends()
+    ensures released { (me : Identity) (k : Known) (now : ℕ) → released (turn_of me k now Tick).steps ≡ map (λ e. e.home) (filter (λ e. not (nat_lt now e.end.0)) k.ends) }
+    ensures left { (me : Identity) (k : Known) (now : ℕ) → (turn_of me k now Tick).known.ends ≡ filter (λ e. nat_lt now e.end.0) k.ends }
 {}

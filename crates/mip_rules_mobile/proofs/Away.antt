@@ -123,7 +123,7 @@ module _ (c : Call) (home : Address) where
   notes entry t own p = puts-noted home (Notes entry) t refl p
 
   acks : Acks c (Puts home)
-  acks step t ack fits p = puts-noted home step t (ack-stays home step ack) p
+  acks step t ack fits led p = puts-noted home step t (ack-stays home step ack) p
 
   drops : Dropping (Puts home)
   drops number why t right p = puts-noted home (Drops number why) t refl p

@@ -52,7 +52,7 @@ call-along k now c =
     (λ step t steady fits is. along-noted c now k step t fits is)
     (λ call t is. along-noted c now k (Parts call) t tt is)
     (λ entry t own is. along-noted c now k (Notes entry) t own is)
-    (λ step t ack fits is. along-noted c now k step t fits is)
+    (λ step t ack fits led is. along-noted c now k step t fits is)
     (λ step t move fits is. along-noted c now k step t fits is)
     (λ number why t right is. along-noted c now k (Drops number why) t right is)
     (λ t is. along-noted c now k (Called c) t refl is)

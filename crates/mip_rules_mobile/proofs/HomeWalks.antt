@@ -1,6 +1,7 @@
 -- What steady steps keep, sending a home registration or a request of agents keeps; and with the steps by which a binding is
 -- acknowledged, an agent's answer does.
-use Rattle.std.proofs.Common.{◌≡◌, ℕ, ◌<◌, refl, ap, ◌∙◌, arith}
+use Rattle.std.proofs.Common.{◌≡◌, ℕ, ◌<◌, refl, sym, ap, ◌∙◌, subst, arith}
+use Rattle.std.proofs.lemmas.Bool.{eqb-true}
 use Rattle.std.specs.Prelude.{◌*◌, ◌^◌, Option, Some, None, Bool, true, false, ◌==◌, ◌&&◌, not, if◌then◌else◌}
 use Rattle.std.proofs.lemmas.Nat.{pow_pos}
 use Rattle.mip_words.specs.declared.address.Address.{Address}
@@ -21,13 +22,16 @@ use Rattle.mip_rules_mobile.specs.RowQuestions.{trial_of, is_bound_row, is_touch
 use Rattle.mip_rules_mobile.specs.TimerQuestions.{resending_home, renewing_home, seeking, later}
 use Rattle.mip_rules_mobile.specs.Turns.{Turn, noted}
 use Rattle.mip_rules_mobile.specs.HomeRules.{seeks, seeks_again_from, seeks_again_at, seeks_again, registers_with, deregisters_with, wait_behind, registers_at, registers, deregisters_at, resends_as, resends_home, starts_for, starts_bound, is_registered, starts_deletion, is_unregistered, turns_to, is_refused, is_behind, is_accepted, takes_home_ack}
+use Rattle.mip_rules_mobile.specs.Trusting.{IsAnswered, IsAgreed, IsDeclined}
+use Rattle.mip_rules_mobile.specs.Resting.{IsLed, last_step}
 use Rattle.mip_rules_mobile.specs.Fitting.{Fits, OfAck, is_detached, kind_of}
+use Rattle.mip_rules_mobile.proofs.Trusts.{accepts-below, latest-stopped}
 use Rattle.mip_rules_mobile.proofs.Steady.{Goes, standing-noted, at-noted}
 use Rattle.mip_rules_mobile.proofs.TrialWalks.{every-row, every-starts}
 
--- a step by which a binding is acknowledged may be taken
+-- a step by which a binding is acknowledged may be taken, behind what leads to it
 abbrev pub Acks : Call → (Turn → Type 0) → Type 0
-Acks c P = (step : Step) (t : Turn) → kind_of step ≡ OfAck → Fits c t.now t.known step → P t → P (noted step t)
+Acks c P = (step : Step) (t : Turn) → kind_of step ≡ OfAck → Fits c t.now t.known step → IsLed (last_step None t.steps) step → P t → P (noted step t)
 
 positive-behind : (u : Option HomeUpdate) → 0 < wait_behind u
 positive-behind None = omega arith
@@ -108,60 +112,63 @@ module _ (c : Call) (P : Turn → Type 0) (more : Goes c P) where
   starting true row t p = every-starts c P more row t p
   starting false row t p = p
 
-  every-refused : (status : ℕ) (t : Turn) → P t → P (is_refused status t)
+  every-refused : (status : ℕ) (t : Turn) → IsDeclined c t.known.latest status → P t → P (is_refused status t)
   unfolding is_refused
-  every-refused status t p = by t.known.standing (next_found t.known) refl
+  every-refused status t declined p = by t.known.standing (next_found t.known) refl
     where
       first : Turn
       first = noted (IsRefused status) t
 
       stops : P (noted (Stops renewing_home) (noted (Stops resending_home) first))
       stops = more (Stops renewing_home) (noted (Stops resending_home) first) refl tt
-          (more (Stops resending_home) first refl tt (more (IsRefused status) t refl tt p))
+          (more (Stops resending_home) first refl tt (more (IsRefused status) t refl declined p))
 
       by : (s : Standing) (agent : Option Address) → t.known.standing ≡ s → P (turns_to s agent first)
       by (Away careof) (Some agent) here =
           let one = at-noted (Away careof) (home_of t.known) (IsRefused status) t refl (here, refl) in
           let two = at-noted (Away careof) (home_of t.known) (Chooses agent) first refl one in
           every-registers_with careof agent initial_bindack_timeout (noted (Chooses agent) first) two.0 (omega arith)
-          (more (Chooses agent) first refl tt (more (IsRefused status) t refl tt p))
+          (more (Chooses agent) first refl tt (more (IsRefused status) t refl declined p))
       by (Away careof) None here = stops
       by Detached agent here = stops
       by AtHome agent here = stops
 
-  every-unregistered : (u : HomeUpdate) (t : Turn) → P t → P (is_unregistered u t)
+  every-unregistered : (u : HomeUpdate) (t : Turn) → IsAgreed c t.known.latest u.agent → P t → P (is_unregistered u t)
   unfolding is_unregistered
-  every-unregistered u t p =
+  every-unregistered u t agreed p =
       every-row P starts_deletion (λ row v q. starting (is_touched_row v.known row) row v q)
       (noted (Unregisters u.agent) (noted (Stops resending_home) t))
-      (more (Unregisters u.agent) (noted (Stops resending_home) t) refl tt (more (Stops resending_home) t refl tt p))
+      (more (Unregisters u.agent) (noted (Stops resending_home) t) refl (λ take. subst (λ (o : Option HomeUpdate). IsAgreed c o u.agent) (sym (latest-stopped resending_home t)) agreed)
+      (more (Stops resending_home) t refl tt p))
 
-  every-behind : (u : HomeUpdate) (sequence : ℕ) (t : Turn) → P t → P (is_behind u sequence t)
+  every-behind : (u : HomeUpdate) (sequence : ℕ) (t : Turn) → IsAnswered c t.known.latest u.agent 135 sequence → P t → P (is_behind u sequence t)
   unfolding is_behind
-  every-behind u sequence t p =
-      every-resends_home initial_bindack_timeout (noted (Resequences u.agent sequence) t) (omega arith) (more (Resequences u.agent sequence) t refl tt p)
+  every-behind u sequence t answered p =
+      every-resends_home initial_bindack_timeout (noted (Resequences u.agent sequence) t) (omega arith) (more (Resequences u.agent sequence) t refl answered p)
 
   module _ (acks : Acks c P) where
-    every-registered : (u : HomeUpdate) (lifetime : ℕ) (t : Turn) → is_detached t.known.standing ≡ false → P t → P (is_registered u lifetime t)
+    every-registered : (u : HomeUpdate) (lifetime : ℕ) (t : Turn) → is_detached t.known.standing ≡ false → IsAgreed c t.known.latest u.agent → P t → P (is_registered u lifetime t)
     unfolding is_registered
-    every-registered u lifetime t there p =
+    every-registered u lifetime t there agreed p =
         every-row P starts_bound
         (λ row v q. starting (is_touched_row v.known row && (is_idle (trial_of v.known row) && not (is_bound_row v.known v.now row))) row v q)
         (noted (Registers u.agent (later u.at.0 (lifetime_unit * lifetime)) (later u.at.0 (refresh_unit * lifetime))) (noted (Stops resending_home) t))
         (acks (Registers u.agent (later u.at.0 (lifetime_unit * lifetime)) (later u.at.0 (refresh_unit * lifetime))) (noted (Stops resending_home) t) refl
-        (ap is_detached (standing-noted (Stops resending_home) t) ∙ there)
+        (ap is_detached (standing-noted (Stops resending_home) t) ∙ there, subst (λ (o : Option HomeUpdate). IsAgreed c o u.agent) (sym (latest-stopped resending_home t)) agreed) tt
         (more (Stops resending_home) t refl tt p))
 
-    pub every-home_ack : (u : HomeUpdate) (status sequence lifetime : ℕ) (t : Turn) → is_detached t.known.standing ≡ false → P t → P (takes_home_ack u status sequence lifetime t)
+    pub every-home_ack : (u : HomeUpdate) (status sequence lifetime : ℕ) (t : Turn) → is_detached t.known.standing ≡ false → IsAnswered c t.known.latest u.agent status sequence → P t
+        → P (takes_home_ack u status sequence lifetime t)
     unfolding takes_home_ack
-    every-home_ack u status sequence lifetime t there p = by (accepts_it status) (status == sequence_out_of_window)
+    every-home_ack u status sequence lifetime t there answered p = by (accepts_it status) (status == sequence_out_of_window) refl refl
       where
-        granted : (deletes none : Bool) → P (if deletes then is_unregistered u t else if none then is_refused status t else is_registered u lifetime t)
-        granted true none = every-unregistered u t p
-        granted false true = every-refused status t p
-        granted false false = every-registered u lifetime t there p
+        granted : status < 128 → (deletes none : Bool) → P (if deletes then is_unregistered u t else if none then is_refused status t else is_registered u lifetime t)
+        granted low true none = every-unregistered u t (status, sequence, answered, low) p
+        granted low false true = every-refused status t (u.agent, sequence, answered) p
+        granted low false false = every-registered u lifetime t there (status, sequence, answered, low) p
 
-        by : (accepted behind : Bool) → P (if accepted then is_accepted u status lifetime t else if behind then is_behind u sequence t else is_refused status t)
-        by true behind = granted u.deletes (lifetime == 0)
-        by false true = every-behind u sequence t p
-        by false false = every-refused status t p
+        by : (accepted behind : Bool) → accepts_it status ≡ accepted → (status == sequence_out_of_window) ≡ behind
+            → P (if accepted then is_accepted u status lifetime t else if behind then is_behind u sequence t else is_refused status t)
+        by true behind low is = granted (accepts-below status low) u.deletes (lifetime == 0)
+        by false true low is = every-behind u sequence t (subst (λ (n : ℕ). IsAnswered c t.known.latest u.agent n sequence) (eqb-true status 135 is) answered) p
+        by false false low is = every-refused status t (u.agent, sequence, answered) p

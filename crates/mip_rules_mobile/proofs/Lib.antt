@@ -3,6 +3,7 @@ pub mod PartAnswers
 pub mod Checks
 pub mod OutWalks
 pub mod TrialWalks
+pub mod Trusts
 pub mod HomeWalks
 pub mod Peers
 pub mod PeerWalks
@@ -11,6 +12,8 @@ pub mod RingWalks
 pub mod ReceivingWalks
 pub mod Walks
 pub mod Fits
+pub mod Resting
+pub mod Leaving
 pub mod Calls
 pub mod Told
 pub mod Timers

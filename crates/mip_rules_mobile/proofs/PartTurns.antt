@@ -29,7 +29,7 @@ use Rattle.mip_rules_mobile.specs.Calls.{Call}
 use Rattle.mip_rules_mobile.specs.Sendings.{Inner, OfPart, Given, FromHome, ByTunnel, SendsData, Solicits}
 use Rattle.mip_rules_mobile.specs.Steps.{Step, Called, Parts, Notes, Sends, Unsends, Drops, Restarts}
 use Rattle.mip_rules_mobile.specs.Known.{Known}
-use Rattle.mip_rules_mobile.specs.HomeQuestions.{home_of, registered_agent}
+use Rattle.mip_rules_mobile.specs.HomeQuestions.{home_of, registered_agent, agent_of}
 use Rattle.mip_rules_mobile.specs.RowQuestions.{bound_row_of}
 use Rattle.mip_rules_mobile.specs.Questions.{after}
 use Rattle.mip_rules_mobile.specs.Turns.{Turn, begun, noted}
@@ -38,6 +38,7 @@ use Rattle.mip_rules_mobile.specs.MovingRules.{leaves, attaches, registers_if_aw
 use Rattle.mip_rules_mobile.specs.ReceivingRules.{then_meets, takes_for_part, refuses}
 use Rattle.mip_rules_mobile.specs.RingingRules.{ticks_all}
 use Rattle.mip_rules_mobile.specs.Doing.{transmits_from, transmits, solicits_from, solicits, handles, does, turn_of}
+use Rattle.mip_rules_mobile.specs.Coming.{Came, IsOfTake, is_take}
 use Rattle.mip_rules_mobile.specs.Fitting.{Fits, OfAck, OfMove, Steady, kind_of}
 use Rattle.mip_rules_mobile.specs.Part.{tells_of_acceptance, concerns_part, accepted_note, IsPartTurn, Silent, Asked, Accepting, is_restart, IsPartReborn}
 use Rattle.mip_rules_mobile.proofs.Steady.{Goes, standing-noted}
@@ -46,7 +47,7 @@ use Rattle.mip_rules_mobile.proofs.HomeWalks.{Acks, every-registers}
 use Rattle.mip_rules_mobile.proofs.PeerWalks.{every-meets}
 use Rattle.mip_rules_mobile.proofs.MovingWalks.{Moves, every-leaves, every-attaches}
 use Rattle.mip_rules_mobile.proofs.RingWalks.{every-ticks_all}
-use Rattle.mip_rules_mobile.proofs.ReceivingWalks.{IsOfTake, every-takes}
+use Rattle.mip_rules_mobile.proofs.ReceivingWalks.{every-takes}
 
 -- the steps so far are these, and some that are nothing to the part
 record IsBehind (first : List Step) (t : Turn) : Type 0 where
@@ -94,7 +95,7 @@ module _ (c : Call) (first : List Step) where
   goes step t is fits b = behind-noted first step t (steady-silent step is) b
 
   acks : Acks c (IsBehind first)
-  acks step t is fits b = behind-noted first step t (ack-silent step is) b
+  acks step t is fits led b = behind-noted first step t (ack-silent step is) b
 
   moves : is_restart c ≡ false → Moves c (IsBehind first)
   moves other step t is fits b = behind-noted first step t (move-silent c t.now t.known step other is fits) b
@@ -138,7 +139,7 @@ abbrev answers_at : CorrespondentSeen → ℕ → parts.Call → List Answer
 answers_at part now call = part_steps.answers_of (turn_at part now call).steps
 
 -- a turn in which the mobile was called, and no more
-module _ (k : Known) (now : ℕ) (c : Call) (t : Turn) (called : t.steps ≡ Called c ∷ []) (part : t.known.part ≡ k.part) (moment : t.now ≡ now) where
+module _ (k : Known) (now : ℕ) (c : Call) (t : Turn) (called : t.steps ≡ Called c ∷ []) (part : t.known.part ≡ k.part) (moment : t.now ≡ now) (entry : agent_of t.known t.now ≡ agent_of k now) where
   abbrev Is : Turn → Type 0
   Is u = IsPartTurn k now c u.steps
 
@@ -195,8 +196,14 @@ module _ (k : Known) (now : ℕ) (c : Call) (t : Turn) (called : t.steps ≡ Cal
       by Detached row = sends to proto payload
       by AtHome row = sends to proto payload
 
+  -- a packet came as it does where the call begins
+  came-before : (tunnelled : Bool) (shield : Option Shield) (bytes : List ℕ) (packet : Packet) → Came t.known t.now tunnelled shield bytes packet → Came k now tunnelled shield bytes packet
+  came-before false shield bytes packet read = read
+  came-before true shield bytes packet within =
+      record { outer = within.outer; agent = within.agent; read = within.read; of = sym entry ∙ within.of; opens = within.opens; shielded = within.shielded }
+
   -- a packet is handed to the part
-  module _ (number : ℕ) (tunnelled : Bool) (packet : Packet) (message : Option Said) (of : IsOfTake c number packet) where
+  module _ (number : ℕ) (tunnelled : Bool) (shield : Option Shield) (packet : Packet) (message : Option Said) (of : IsOfTake c t.known t.now number tunnelled shield packet) where
     abbrev call : parts.Call
     call = parts.Part number packet
 
@@ -222,11 +229,12 @@ module _ (k : Known) (now : ℕ) (c : Call) (t : Turn) (called : t.steps ≡ Cal
       of-accepting : (u : Turn) → IsBehind first u → Is u
       of-accepting u b = Accepting (record {
         number = number;
-        shield = of.shield;
+        shield = shield;
         bytes = of.bytes;
         call = of.call;
         packet = packet;
-        read = of.read;
+        tunnelled = tunnelled;
+        came = came-before tunnelled shield of.bytes packet of.came;
         taken = x;
         rest = b.more;
         steps_are = b.steps;
@@ -259,7 +267,7 @@ module _ (k : Known) (now : ℕ) (c : Call) (t : Turn) (called : t.steps ≡ Cal
   takes-one : (number : ℕ) (shield : Option Shield) (bytes : List ℕ) → c ≡ calls.Take number shield bytes → Is (handles (calls.Take number shield bytes) t)
   takes-one number shield bytes is =
       every-takes c Calm (goes c (Called c ∷ [])) (acks c (Called c ∷ [])) Is silent t calm (λ number why right. drops number why) (λ number bytes source refusal right. refusing number bytes source refusal)
-      (λ number tunnelled packet message of read mine. parting number tunnelled packet message of)
+      (λ number tunnelled shield packet message of read mine. parting number tunnelled shield packet message of)
       number shield bytes is
 
   solicits-one : Is (solicits t)
@@ -311,7 +319,7 @@ module _ (k : Known) (now : ℕ) (c : Call) (t : Turn) (called : t.steps ≡ Cal
           silent (attaches prefix of_home of_address t) (every-attaches c Calm (goes c (Called c ∷ [])) quiet prefix of_home of_address t calm)
       by (calls.Leave of_home) is = silent (leaves of_home t) (every-leaves c Calm (goes c (Called c ∷ [])) quiet of_home t calm)
       by (calls.Take number shield packet) is = takes-one number shield packet is
-      by calls.Tick is = silent (ticks_all t) (every-ticks_all c Calm (goes c (Called c ∷ [])) t calm)
+      by calls.Tick is = silent (ticks_all t) (every-ticks_all c Calm (goes c (Called c ∷ [])) (ap is_take is) t calm)
       by (calls.Send to proto payload) is = sends-data to proto payload
       by (calls.Refresh home) is = refreshes home
       by calls.Ask is = solicits-one
@@ -322,13 +330,19 @@ called-part : (c : Call) (k : Known) (now : ℕ) → (noted (Called c) (begun no
 unfolding after
 called-part c k now = ap (λ (l : Known). l.part) (noted-known after (Called c) (begun now k))
 
+called-agent : (c : Call) (k : Known) (now : ℕ) → agent_of (noted (Called c) (begun now k)).known (noted (Called c) (begun now k)).now ≡ agent_of k now
+unfolding after
+called-agent c k now =
+    ap (λ (l : Known). agent_of l (noted (Called c) (begun now k)).now) (noted-known after (Called c) (begun now k))
+    ∙ ap (agent_of k) (noted-now after (Called c) (begun now k))
+
 pub call-part : (k : Known) (now : ℕ) (c : Call) → is_restart c ≡ false → IsPartTurn k now c (turn_of k now c).steps
 unfolding does
 call-part k now c other =
-    handled k now c (noted (Called c) (begun now k)) (noted-steps after (Called c) (begun now k)) (called-part c k now) (noted-now after (Called c) (begun now k)) other
+    handled k now c (noted (Called c) (begun now k)) (noted-steps after (Called c) (begun now k)) (called-part c k now) (noted-now after (Called c) (begun now k)) (called-agent c k now) other
 
 pub restart-part : (k : Known) (now : ℕ) (secrets : Life) → IsPartReborn secrets (turn_of k now (calls.Restart secrets)).steps
 unfolding does
 restart-part k now secrets =
     let c : Call = calls.Restart secrets in
-    reborn k now c (noted (Called c) (begun now k)) (noted-steps after (Called c) (begun now k)) (called-part c k now) (noted-now after (Called c) (begun now k)) secrets refl
+    reborn k now c (noted (Called c) (begun now k)) (noted-steps after (Called c) (begun now k)) (called-part c k now) (noted-now after (Called c) (begun now k)) (called-agent c k now) secrets refl

@@ -24,7 +24,10 @@ use Rattle.mip_rules_mobile.specs.RowQuestions.{row_of, trial_of, is_bound_row, 
 use Rattle.mip_rules_mobile.specs.Turns.{Turn, noted}
 use Rattle.mip_rules_mobile.specs.TrialRules.{starts, updates}
 use Rattle.mip_rules_mobile.specs.PeerRules.{tells_of_nonces, begins_at, meets, comes_right, test_at, cookie, home_row, careof_row, keeps_home, keeps_careof, takes_home_test, takes_careof_test, acknowledges, binds_from, ends_for, is_granted, rests, takes_peer_ack, acks_trial, acks_row, takes_ack_of, loses, takes_error, renews, takes_refresh}
+use Rattle.mip_rules_mobile.specs.Trusting.{IsAcknowledged}
+use Rattle.mip_rules_mobile.specs.Resting.{last_step}
 use Rattle.mip_rules_mobile.specs.Fitting.{IsHanded}
+use Rattle.mip_rules_mobile.proofs.Trusts.{last-noted, acknowledged-stops}
 use Rattle.mip_rules_mobile.proofs.Steady.{Goes}
 use Rattle.mip_rules_mobile.proofs.Peers.{trial-granted, bound-placed}
 use Rattle.mip_rules_mobile.proofs.TrialWalks.{every-starts, every-updates}
@@ -54,51 +57,59 @@ module _ (c : Call) (P : Turn → Type 0) (more : Goes c P) where
   every-rests row t p = more (Tries row Rest) (noted (Stops (Resend row)) t) refl tt (more (Stops (Resend row)) t refl tt p)
 
   module _ (acks : Acks c P) where
-    every-granted : (row : ℕ) (u : Trial pending.Pending) (sequence lifetime : ℕ) (t : Turn) → trial_of t.known row ≡ Some (Pending u) → P t → P (is_granted row u sequence lifetime t)
+    every-granted : (row : ℕ) (u : Trial pending.Pending) (sequence lifetime : ℕ) (t : Turn) → trial_of t.known row ≡ Some (Pending u) → IsAcknowledged c t.known t.now row sequence lifetime → P t
+        → P (is_granted row u sequence lifetime t)
     unfolding is_granted
-    every-granted row u sequence lifetime t pending p = by (binds_to u)
+    every-granted row u sequence lifetime t pending acknowledged p = by (binds_to u)
       where
+        step : Step
+        step = Tries row (Acknowledge sequence lifetime)
+
         first : Turn
-        first = noted (Tries row (Acknowledge sequence lifetime)) (noted (Stops (Resend row)) t)
+        first = noted step (noted (Stops (Resend row)) t)
 
         q : P first
-        q = more (Tries row (Acknowledge sequence lifetime)) (noted (Stops (Resend row)) t) refl tt (more (Stops (Resend row)) t refl tt p)
+        q = more step (noted (Stops (Resend row)) t) refl (acknowledged-stops c (Resend row) row sequence lifetime t acknowledged) (more (Stops (Resend row)) t refl tt p)
+
+        led : (sequence : ℕ) × (granted : ℕ) × (last_step None first.steps ≡ Some (Tries row (Acknowledge sequence granted)))
+        led = (sequence, lifetime, last-noted step (noted (Stops (Resend row)) t))
 
         if-none : (none : Bool) → P (if none then first else binds_from u row lifetime first)
         if-none true = q
-        if-none false = acks _ first refl (trial-granted row u sequence lifetime t pending) q
+        if-none false = acks _ first refl (trial-granted row u sequence lifetime t pending) led q
 
         by : (to : Option Address) → P (ends_for to u row lifetime first)
         by None = more (Forgets row) first refl tt q
         by (Some careof) = if-none (lifetime == 0)
 
-    every-peer_ack : (row : ℕ) (u : Trial pending.Pending) (status sequence lifetime : ℕ) (t : Turn) → trial_of t.known row ≡ Some (Pending u) → P t
-        → P (takes_peer_ack row u status sequence lifetime t)
+    every-peer_ack : (row : ℕ) (u : Trial pending.Pending) (status sequence lifetime : ℕ) (t : Turn) → trial_of t.known row ≡ Some (Pending u)
+        → (accepts_it status ≡ true → IsAcknowledged c t.known t.now row sequence lifetime) → P t → P (takes_peer_ack row u status sequence lifetime t)
     unfolding takes_peer_ack
-    every-peer_ack row u status sequence lifetime t pending p = by (accepts_it status) (status == sequence_out_of_window) (tells_of_nonces status)
+    every-peer_ack row u status sequence lifetime t pending acknowledged p = by (accepts_it status) (status == sequence_out_of_window) (tells_of_nonces status) refl
       where
-        by : (accepted behind expired : Bool) → P (if accepted then is_granted row u sequence lifetime t else if behind then updates row initial_bindack_timeout (noted (Tries row (Resequence sequence)) t) else if expired then starts row t else rests row t)
-        by true behind expired = every-granted row u sequence lifetime t pending p
-        by false true expired = every-updates c P more row initial_bindack_timeout (noted (Tries row (Resequence sequence)) t) (omega arith) (more (Tries row (Resequence sequence)) t refl tt p)
-        by false false true = every-starts c P more row t p
-        by false false false = every-rests row t p
+        by : (accepted behind expired : Bool) → accepts_it status ≡ accepted → P (if accepted then is_granted row u sequence lifetime t else if behind then updates row initial_bindack_timeout (noted (Tries row (Resequence sequence)) t) else if expired then starts row t else rests row t)
+        by true behind expired low = every-granted row u sequence lifetime t pending (acknowledged low) p
+        by false true expired low = every-updates c P more row initial_bindack_timeout (noted (Tries row (Resequence sequence)) t) (omega arith) (more (Tries row (Resequence sequence)) t refl tt p)
+        by false false true low = every-starts c P more row t p
+        by false false false low = every-rests row t p
 
     module _ (Q : Turn → Type 0) (done : (u : Turn) → P u → Q u) (t : Turn) (p : P t) (drops : (number : ℕ) (why : Why) → is_dropped_why why ≡ true → Q (noted (Drops number why) t)) where
-      pub every-home_test : (number : ℕ) (tunnelled : Bool) (peer : Address) (index c' : ℕ) (token : List ℕ) → IsHanded c t.now 0 (test_at t.now index token) → Q (takes_home_test number tunnelled peer index c' token t)
+      pub every-home_test : (number : ℕ) (tunnelled : Bool) (peer : Address) (index c' : ℕ) (token : List ℕ) → (comes_right t.known.standing tunnelled ≡ true → IsHanded c t.now t.known 0 (test_at t.now index token))
+          → Q (takes_home_test number tunnelled peer index c' token t)
       unfolding takes_home_test
-      every-home_test number tunnelled peer index c' token handed = by (comes_right t.known.standing tunnelled) (home_row t.known peer (cookie c') test (row_of t.known peer))
+      every-home_test number tunnelled peer index c' token handed = by (comes_right t.known.standing tunnelled) refl (home_row t.known peer (cookie c') test (row_of t.known peer))
         where
           test : Test
           test = test_at t.now index token
 
-          by : (right : Bool) (row : Option ℕ) → Q (if right then keeps_home number peer (cookie c') test row t else noted (Drops number whys.Cookie) t)
-          by true None = drops number whys.Cookie refl
-          by true (Some row) =
+          by : (right : Bool) → comes_right t.known.standing tunnelled ≡ right → (row : Option ℕ) → Q (if right then keeps_home number peer (cookie c') test row t else noted (Drops number whys.Cookie) t)
+          by true is None = drops number whys.Cookie refl
+          by true is (Some row) =
               let step : Step = Tries row (HomeTest peer (cookie c') test) in
-              done (updates row initial_bindack_timeout (noted step t)) (every-updates c P more row initial_bindack_timeout (noted step t) (omega arith) (more step t refl handed p))
-          by false row = drops number whys.Cookie refl
+              done (updates row initial_bindack_timeout (noted step t)) (every-updates c P more row initial_bindack_timeout (noted step t) (omega arith) (more step t refl (handed is) p))
+          by false is row = drops number whys.Cookie refl
 
-      pub every-careof_test : (number : ℕ) (tunnelled : Bool) (peer : Address) (index c' : ℕ) (token : List ℕ) → IsHanded c t.now 1 (test_at t.now index token) → Q (takes_careof_test number tunnelled peer index c' token t)
+      pub every-careof_test : (number : ℕ) (tunnelled : Bool) (peer : Address) (index c' : ℕ) (token : List ℕ) → IsHanded c t.now t.known 1 (test_at t.now index token) → Q (takes_careof_test number tunnelled peer index c' token t)
       unfolding takes_careof_test
       every-careof_test number tunnelled peer index c' token handed = by (comes_right t.known.standing (not tunnelled)) (careof_row t.known peer (cookie c') test (row_of t.known peer))
         where
@@ -112,29 +123,33 @@ module _ (c : Call) (P : Turn → Type 0) (more : Goes c P) where
               done (updates row initial_bindack_timeout (noted step t)) (every-updates c P more row initial_bindack_timeout (noted step t) (omega arith) (more step t refl handed p))
           by false row = drops number whys.Cookie refl
 
-      pub every-ack_of : (number : ℕ) (peer : Address) (status sequence lifetime : ℕ) (authenticator : Option (List ℕ)) (message : List ℕ) → Q (takes_ack_of number peer status sequence lifetime authenticator message t)
+      pub every-ack_of : (number : ℕ) (peer : Address) (status sequence lifetime : ℕ) (authenticator : Option (List ℕ)) (message : List ℕ)
+          → ((row : ℕ) (u : Trial pending.Pending) → row_of t.known peer ≡ Some row → trial_of t.known row ≡ Some (Pending u)
+          → acknowledges (home_of t.known) status sequence authenticator message u ≡ true → accepts_it status ≡ true → IsAcknowledged c t.known t.now row sequence lifetime)
+          → Q (takes_ack_of number peer status sequence lifetime authenticator message t)
       unfolding takes_ack_of
-      every-ack_of number peer status sequence lifetime authenticator message = by (row_of t.known peer)
+      every-ack_of number peer status sequence lifetime authenticator message acknowledged = by (row_of t.known peer) refl
         where
           home : Address
           home = home_of t.known
 
-          pend : (row : ℕ) (u : Trial pending.Pending) (mine : Bool) → trial_of t.known row ≡ Some (Pending u)
-              → Q (if mine then takes_peer_ack row u status sequence lifetime t else noted (Drops number whys.Ack) t)
-          pend row u true is = done (takes_peer_ack row u status sequence lifetime t) (every-peer_ack row u status sequence lifetime t is p)
-          pend row u false is = drops number whys.Ack refl
+          pend : (row : ℕ) (u : Trial pending.Pending) (mine : Bool) → row_of t.known peer ≡ Some row → trial_of t.known row ≡ Some (Pending u)
+              → acknowledges home status sequence authenticator message u ≡ mine → Q (if mine then takes_peer_ack row u status sequence lifetime t else noted (Drops number whys.Ack) t)
+          pend row u true placed is right =
+              done (takes_peer_ack row u status sequence lifetime t) (every-peer_ack row u status sequence lifetime t is (λ low. acknowledged row u placed is right low) p)
+          pend row u false placed is right = drops number whys.Ack refl
 
-          of : (row : ℕ) (o : Option Any) → trial_of t.known row ≡ o → Q (acks_trial number row home status sequence lifetime authenticator message o t)
-          of row (Some (Pending u)) is = pend row u (acknowledges home status sequence authenticator message u) is
-          of row (Some (Idle u)) is = drops number whys.Ack refl
-          of row (Some (Probing u)) is = drops number whys.Ack refl
-          of row (Some (Proved u)) is = drops number whys.Ack refl
-          of row (Some (Bound u)) is = drops number whys.Ack refl
-          of row None is = drops number whys.Ack refl
+          of : (row : ℕ) (o : Option Any) → row_of t.known peer ≡ Some row → trial_of t.known row ≡ o → Q (acks_trial number row home status sequence lifetime authenticator message o t)
+          of row (Some (Pending u)) placed is = pend row u (acknowledges home status sequence authenticator message u) placed is refl
+          of row (Some (Idle u)) placed is = drops number whys.Ack refl
+          of row (Some (Probing u)) placed is = drops number whys.Ack refl
+          of row (Some (Proved u)) placed is = drops number whys.Ack refl
+          of row (Some (Bound u)) placed is = drops number whys.Ack refl
+          of row None placed is = drops number whys.Ack refl
 
-          by : (o : Option ℕ) → Q (acks_row number o status sequence lifetime authenticator message t)
-          by None = drops number whys.Ack refl
-          by (Some row) = of row (trial_of t.known row) refl
+          by : (o : Option ℕ) → row_of t.known peer ≡ o → Q (acks_row number o status sequence lifetime authenticator message t)
+          by None placed = drops number whys.Ack refl
+          by (Some row) placed = of row (trial_of t.known row) placed refl
 
       pub every-error : (number : ℕ) (peer : Address) (status : ℕ) (home : Address) → Q (takes_error number peer status home t)
       unfolding takes_error

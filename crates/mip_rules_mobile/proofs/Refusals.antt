@@ -48,12 +48,13 @@ use Rattle.mip_rules_mobile.specs.Turns.{Turn, begun, noted}
 use Rattle.mip_rules_mobile.specs.OutRules.{tunnels, goes_from, goes_out, passes_all, part_answers, asks_part, goes_back, replies}
 use Rattle.mip_rules_mobile.specs.ReceivingRules.{then_meets, takes_for_part, refuses}
 use Rattle.mip_rules_mobile.specs.Doing.{does, turn_of}
+use Rattle.mip_rules_mobile.specs.Coming.{IsOfTake}
 use Rattle.mip_rules_mobile.specs.Fitting.{OfAck, Steady, kind_of}
 use Rattle.mip_rules_mobile.specs.Refusing.{tells_of_refusal, is_refusal, tables_of}
 use Rattle.mip_rules_mobile.proofs.Steady.{Goes}
 use Rattle.mip_rules_mobile.proofs.HomeWalks.{Acks}
 use Rattle.mip_rules_mobile.proofs.PeerWalks.{every-meets}
-use Rattle.mip_rules_mobile.proofs.ReceivingWalks.{IsOfTake, every-takes}
+use Rattle.mip_rules_mobile.proofs.ReceivingWalks.{every-takes}
 
 -- no refusal so far
 abbrev IsQuiet : Turn → Type 0
@@ -132,7 +133,7 @@ goes-quiet : (c : Call) → Goes c IsQuiet
 goes-quiet c step t is fits quiet = quiet-noted step t (steady-quiet step is) quiet
 
 acks-quiet : (c : Call) → Acks c IsQuiet
-acks-quiet c step t is fits quiet = quiet-noted step t (ack-quiet step is) quiet
+acks-quiet c step t is fits led quiet = quiet-noted step t (ack-quiet step is) quiet
 
 -- a packet from the home address, and an entry of the correspondent part, change nothing
 sent-same : (home : Address) (inner : Inner) (t : Turn) → (noted (Sends (FromHome home inner)) t).known ≡ t.known
@@ -293,9 +294,9 @@ module _ (c : Call) (t : Turn) (quiet : IsQuiet t) where
   refuse-keeps number bytes source refusal some =
       ap tables_of (replies-same source bytes refusal.reply (noted (Drops number refusal.why) t) ∙ dropped-same number refusal.why t)
 
-  part-keeps : (number : ℕ) (tunnelled : Bool) (packet : Packet) (message : Option Said) → IsOfTake c number packet → message_in packet ≡ message → is_for_part packet.head.proto message ≡ true → Keeps (takes_for_part number tunnelled packet message t)
+  part-keeps : (number : ℕ) (tunnelled : Bool) (shield : Option Shield) (packet : Packet) (message : Option Said) → IsOfTake c t.known t.now number tunnelled shield packet → message_in packet ≡ message → is_for_part packet.head.proto message ≡ true → Keeps (takes_for_part number tunnelled packet message t)
   unfolding takes_for_part asks_part
-  part-keeps number tunnelled packet message of read mine = by message read mine tunnelled
+  part-keeps number tunnelled shield packet message of read mine = by message read mine tunnelled
     where
       call : parts.Call
       call = parts.Part number packet

@@ -1,5 +1,5 @@
--- What steady steps keep, due work keeps.
-use Rattle.std.proofs.Common.{◌≡◌, ℕ, zero, suc, length, refl}
+-- What steady steps keep, due work keeps, in a call that hands over no packet.
+use Rattle.std.proofs.Common.{◌≡◌, ℕ, zero, suc, length, refl, sym, ◌∙◌}
 use Rattle.std.specs.Prelude.{Option, Some, None, Bool, true, false, ◌==◌, if◌then◌else◌}
 use Rattle.mip_words.specs.declared.address.Address.{Address}
 use Rattle.mip_bulist.specs.declared.work.Work.{Work}
@@ -10,6 +10,7 @@ use Rattle.mip_rules_mobile.specs.declared.standing.Standing.TheVariants.{Detach
 use Rattle.mip_rules_mobile.specs.declared.registered.Registered.{Registered}
 use Rattle.mip_rules_mobile.specs.Timing.{doubled}
 use Rattle.mip_rules_mobile.specs.Calls.{Call}
+use Rattle.mip_rules_mobile.specs.Coming.{is_take}
 use Rattle.mip_rules_mobile.specs.Trials.{Rest, is_bound}
 use Rattle.mip_rules_mobile.specs.Steps.{Unregisters, Tries, Unbinds, Rings}
 use Rattle.mip_rules_mobile.specs.RowQuestions.{peer_of_row, trial_of}
@@ -21,7 +22,7 @@ use Rattle.mip_rules_mobile.proofs.Steady.{Goes}
 use Rattle.mip_rules_mobile.proofs.TrialWalks.{every-starts, every-resends_row, doubled-positive}
 use Rattle.mip_rules_mobile.proofs.HomeWalks.{every-registers, every-resends_home, every-seeks_again}
 
-module _ (c : Call) (P : Turn → Type 0) (more : Goes c P) where
+module _ (c : Call) (P : Turn → Type 0) (more : Goes c P) (other : is_take c ≡ false) where
   every-renews_home : (t : Turn) → P t → P (renews_home t.known.standing t)
   every-renews_home t p = by t.known.standing refl
     where
@@ -32,7 +33,7 @@ module _ (c : Call) (P : Turn → Type 0) (more : Goes c P) where
 
   every-ends_home : (r : Option Registered) (t : Turn) → P t → P (ends_home r t)
   every-ends_home None t p = p
-  every-ends_home (Some r) t p = more (Unregisters r.agent) t refl tt p
+  every-ends_home (Some r) t p = more (Unregisters r.agent) t refl (λ take. absurd (let both : true ≡ false = sym take ∙ other in cc)) p
 
   every-ends_row : (row : ℕ) (t : Turn) → P t → P (ends_row row t)
   unfolding ends_row

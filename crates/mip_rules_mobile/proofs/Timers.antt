@@ -21,6 +21,7 @@ use Rattle.mip_rules_mobile.specs.Questions.{after, fresh, known}
 use Rattle.mip_rules_mobile.specs.Turns.{Turn, begun, noted}
 use Rattle.mip_rules_mobile.specs.RingingRules.{rings, rings_on, ticks, ticks_all}
 use Rattle.mip_rules_mobile.specs.Doing.{does, turn_of}
+use Rattle.mip_rules_mobile.specs.Coming.{is_take}
 use Rattle.mip_rules_mobile.specs.Fitting.{Fits, Steady, kind_of}
 use Rattle.mip_rules_mobile.proofs.Steady.{Goes}
 use Rattle.mip_rules_mobile.proofs.RingWalks.{every-work}
@@ -204,10 +205,10 @@ few-noted c now n step t is fits few =
     }
 
 -- a timer that rings is no more among them
-few-rings : (c : Call) (now n : ℕ) (work : Work) (t : Turn) → due_work (moment t.now) t.known.list.timers ≡ Some work → AreFew now (suc n) t → AreFew now n (rings work t)
+few-rings : (c : Call) (other : is_take c ≡ false) (now n : ℕ) (work : Work) (t : Turn) → due_work (moment t.now) t.known.list.timers ≡ Some work → AreFew now (suc n) t → AreFew now n (rings work t)
 unfolding rings
-few-rings c now n work t is few =
-    every-work c (AreFew now n) (few-noted c now n) work (noted (Rings work) t)
+few-rings c other now n work t is few =
+    every-work c (AreFew now n) (few-noted c now n) other work (noted (Rings work) t)
     (record {
       moment = noted-now after (Rings work) t ∙ few.moment;
       few =
@@ -225,14 +226,14 @@ none-few now n t is few = record {
   order = few.order;
 }
 
-few-ticks : (c : Call) (now n : ℕ) (t : Turn) → AreFew now n t → AreFew now 0 (ticks n t)
+few-ticks : (c : Call) (other : is_take c ≡ false) (now n : ℕ) (t : Turn) → AreFew now n t → AreFew now 0 (ticks n t)
 unfolding ticks
-few-ticks c now zero t few = few
-few-ticks c now (suc n) t few = by (λ u q. few-ticks c now n u q) (due_work (moment t.now) t.known.list.timers) refl
+few-ticks c other now zero t few = few
+few-ticks c other now (suc n) t few = by (λ u q. few-ticks c other now n u q) (due_work (moment t.now) t.known.list.timers) refl
   where
     by : ((u : Turn) → AreFew now n u → AreFew now 0 (ticks n u)) → (work : Option Work) → due_work (moment t.now) t.known.list.timers ≡ work → AreFew now 0 (rings_on (ticks n) work t)
     by again None is = none-few now (suc n) t is few
-    by again (Some work) is = again (rings work t) (few-rings c now n work t is few)
+    by again (Some work) is = again (rings work t) (few-rings c other now n work t is few)
 
 -- a tick leaves nothing that is due
 pub tick-empties : (k : Known) (now : ℕ) → AreInOrder k.list.timers → AreDueFrom (now + 1) (turn_of k now calls.Tick).known.list.timers
@@ -241,7 +242,7 @@ tick-empties k now order =
     let first = noted (Called calls.Tick) (begun now k) in
     let same : first.known.list.timers ≡ k.list.timers = timers-noted (Called calls.Tick) (begun now k) in
     let n = length first.known.list.timers in
-    let few = few-ticks calls.Tick now n first (record {
+    let few = few-ticks calls.Tick refl now n first (record {
       moment = noted-now after (Called calls.Tick) (begun now k);
       few = late-length now first.known.list.timers;
       order = subst AreInOrder (sym same) order;

@@ -1,5 +1,5 @@
 -- What each step of a rule keeps, a whole call keeps.
-use Rattle.std.proofs.Common.{◌≡◌, ℕ, List, refl}
+use Rattle.std.proofs.Common.{◌≡◌, ℕ, List, refl, ap}
 use Rattle.std.specs.Prelude.{Option, Some, None, Bool, true, false, ◌&&◌, is_none}
 use Rattle.mip_words.specs.declared.address.Address.{Address}
 use Rattle.mip_words.specs.declared.why.Why.{Why}
@@ -14,6 +14,7 @@ use Rattle.mip_rules_mobile.specs.declared.standing.Standing.{Standing}
 use Rattle.mip_rules_mobile.specs.declared.standing.Standing.TheVariants.{Detached, AtHome, Away}
 use Rattle.mip_rules_mobile.specs.Calls as calls
 use Rattle.mip_rules_mobile.specs.Calls.{Call}
+use Rattle.mip_rules_mobile.specs.Coming.{is_take}
 use Rattle.mip_rules_mobile.specs.Sendings.{Given, SendsData, Solicits}
 use Rattle.mip_rules_mobile.specs.Steps.{Called, Sends, Unsends, Drops}
 use Rattle.mip_rules_mobile.specs.HomeQuestions.{home_of, registered_agent}
@@ -87,9 +88,9 @@ module _ (c : Call) (P : Turn → Type 0) (more : Goes c P) (asks : Askings P) (
   every-staying t p (calls.Take number shield packet) is stays lives =
       every-takes c P more acks P (λ u q. q) t p (λ number why right. drops number why t right p)
       (λ number bytes source refusal right. every-refuses number bytes source refusal t right p)
-      (λ number tunnelled packet message of read mine. every-for_part c P more asks notes number tunnelled packet message t p)
+      (λ number tunnelled shield packet message of read mine. every-for_part c P more asks notes number tunnelled packet message t p)
       number shield packet is
-  every-staying t p calls.Tick is stays lives = every-ticks_all c P more t p
+  every-staying t p calls.Tick is stays lives = every-ticks_all c P more (ap is_take is) t p
   every-staying t p (calls.Send to proto payload) is stays lives = every-transmits c P more asks notes to proto payload is t p
   every-staying t p (calls.Refresh home) is stays lives = every-asks_part c P more asks notes (parts.Refresh home) tt t p
   every-staying t p calls.Ask is stays lives = every-solicits c P more asks notes t p

@@ -1,6 +1,6 @@
 -- What is true of each step of a mobile where it is taken: a packet leaves from the address that the mobile stands at, a
--- packet of the correspondent part is one that a correspondent sends, and an update is the one that its trial makes. What is
--- not sent, or is dropped, is so for a reason of that kind.
+-- packet of the correspondent part is one that a correspondent sends, and an update is the one that its trial makes; whose
+-- word is taken, and how it came. What is not sent, or is dropped, is so for a reason of that kind.
 -- RFC 6275 sections 11.3, 11.6 and 11.7
 use Rattle.std.specs.Prelude.{◌≡◌, ℕ, ◌<◌, List, [], ◌∷◌, Bool, true, false, Option, Some, None, Ok}
 use Rattle.mip_words.specs.declared.address.Address.{Address}
@@ -18,9 +18,11 @@ use Rattle.mip_rules_mobile.specs.declared.standing.Standing.{Standing}
 use Rattle.mip_rules_mobile.specs.declared.standing.Standing.TheVariants.{Detached, AtHome, Away}
 use Rattle.mip_rules_mobile.specs.Calls as calls
 use Rattle.mip_rules_mobile.specs.Calls.{Call}
-use Rattle.mip_rules_mobile.specs.Trials.{Change, HomeTest, CareofTest, makes}
+use Rattle.mip_rules_mobile.specs.Coming.{is_take}
+use Rattle.mip_rules_mobile.specs.Trusting.{IsAnswered, IsAgreed, IsDeclined, IsAcknowledged, ComesByTunnel}
+use Rattle.mip_rules_mobile.specs.Trials.{Change, HomeTest, CareofTest, Acknowledge, makes}
 use Rattle.mip_rules_mobile.specs.Sendings.{Inner, OfPart, AsksHome, Given, Sending, FromHome, ByTunnel, AsksCareof, RegistersHome, DeregistersHome, SendsData, Discovers, Solicits, PeerUpdate}
-use Rattle.mip_rules_mobile.specs.Steps.{Step, Called, Parts, Notes, Sends, Unsends, Drops, Claims, FindsTaken, Arrives, Detaches, Restarts, Registers, Tries, Updates, Binds, Unbinds, Waits}
+use Rattle.mip_rules_mobile.specs.Steps.{Step, Called, Parts, Notes, Sends, Unsends, Drops, Claims, FindsTaken, Arrives, Detaches, Restarts, Registers, Unregisters, IsRefused, Resequences, Tries, Updates, Binds, Unbinds, Waits}
 use Rattle.mip_rules_mobile.specs.Known.{Known}
 use Rattle.mip_rules_mobile.specs.HomeQuestions.{home_of}
 use Rattle.mip_rules_mobile.specs.RowQuestions.{peer_of_row, trial_of}
@@ -67,8 +69,8 @@ pub record IsUpdateOf (now : ℕ) (k : Known) (row : ℕ) (u : PeerUpdate) : Typ
   pub made : makes (record { 0 = now }) (trial_of k row) ≡ Some (Ok u.made)
   pub source : source_for k.standing (home_of k) u.made ≡ Some u.source
 
--- a test that was kept: a packet that was handed over said it, at this moment
-pub record IsHanded (c : Call) (now kind : ℕ) (test : Test) : Type 0 where
+-- a test that was kept: a packet that was handed over said it, at this moment, and it came as such a test is to come
+pub record IsHanded (c : Call) (now : ℕ) (k : Known) (kind : ℕ) (test : Test) : Type 0 where
   pub number : ℕ
   pub shield : Option Shield
   pub packet : List ℕ
@@ -76,12 +78,15 @@ pub record IsHanded (c : Call) (now kind : ℕ) (test : Test) : Type 0 where
   pub call : c ≡ calls.Take number shield packet
   pub says : carried packet ≡ Told kind test.index test.token.0 destination
   pub moment : test.at.0 ≡ now
+  -- away, a Home Test came by the agent's tunnel
+  pub way : kind ≡ 0 → ComesByTunnel c now k
 
--- a trial is given a test that was handed over
-abbrev pub IsChangedBy : Call → ℕ → Change → Type 0
-IsChangedBy c now (HomeTest peer cookie test) = IsHanded c now 0 test
-IsChangedBy c now (CareofTest peer cookie test) = IsHanded c now 1 test
-IsChangedBy c now _ = Unit {0}
+-- a trial is given a test that was handed over, and ends by an acknowledgement that was
+abbrev pub IsChangedBy : Call → ℕ → Known → ℕ → Change → Type 0
+IsChangedBy c now k row (HomeTest peer cookie test) = IsHanded c now k 0 test
+IsChangedBy c now k row (CareofTest peer cookie test) = IsHanded c now k 1 test
+IsChangedBy c now k row (Acknowledge sequence granted) = IsAcknowledged c k now row sequence granted
+IsChangedBy c now k row _ = Unit {0}
 
 -- it uses no address
 abbrev pub is_detached : Standing → Bool
@@ -103,8 +108,11 @@ Fits c now k (Sends sending) = IsSentBy c now k sending
 Fits c now k (Unsends why) = is_unsent_why why ≡ true
 Fits c now k (Drops number why) = is_dropped_why why ≡ true
 Fits c now k (Updates row update) = IsUpdateOf now k row update
-Fits c now k (Tries row change) = IsChangedBy c now change
-Fits c now k (Registers agent end renew) = is_detached k.standing ≡ false
+Fits c now k (Tries row change) = IsChangedBy c now k row change
+Fits c now k (Registers agent end renew) = (is_detached k.standing ≡ false) × IsAgreed c k.latest agent
+Fits c now k (Unregisters agent) = is_take c ≡ true → IsAgreed c k.latest agent
+Fits c now k (IsRefused status) = IsDeclined c k.latest status
+Fits c now k (Resequences agent last) = IsAnswered c k.latest agent 135 last
 Fits c now k (Binds row peer end renew) = IsTrialOf (trial_of k row) peer
 Fits c now k (Unbinds row peer) = peer_of_row k row ≡ Some peer
 Fits c now k (Waits work wait) = 0 < wait

@@ -10,6 +10,10 @@ pub mod RowQuestions
 pub mod TimerQuestions
 pub mod Questions
 pub mod Turns
+pub mod Coming
+pub mod Trusting
+pub mod Resting
+pub mod Leaving
 pub mod OutRules
 pub mod TrialRules
 pub mod HomeRules

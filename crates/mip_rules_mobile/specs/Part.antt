@@ -23,6 +23,7 @@ use Rattle.mip_rules_mobile.specs.Calls.{Call, Take, Restart}
 use Rattle.mip_rules_mobile.specs.Steps.{Step, Called, Parts, Notes, Restarts, myself}
 use Rattle.mip_rules_mobile.specs.Known.{Known}
 use Rattle.mip_rules_mobile.specs.Questions.{part_room}
+use Rattle.mip_rules_mobile.specs.Coming.{Came}
 
 -- the secrets that the part has since the mobile last restarted, and what it did since
 pub record PartLife : Type 0 where
@@ -46,10 +47,10 @@ new_part secrets = record { secrets = secrets; past = [] }
 unfoldable pub part_life : Address → Life → List (Stamped Step) → PartLife
 part_life home secrets past = fold (λ (p : PartLife) (s : Stamped Step). part_goes_on home p s.at s.step) (new_part secrets) past
 
--- what the part reads: the packet that is handed to the mobile, or the one within its tunnel
+-- what can be read of the bytes alone: the packet itself, or the one within its tunnel, from wherever that comes
 pub data IsReadIn (bytes : List ℕ) (packet : Packet) : Type 0 where
   Itself : packet_of bytes ≡ Ok packet → IsReadIn bytes packet
-  Within : (outer : Packet) (entry : Address) → packet_of bytes ≡ Ok outer → opened entry outer ≡ Ok packet → IsReadIn bytes packet
+  Within : (outer : Packet) → packet_of bytes ≡ Ok outer → opened outer.head.source outer ≡ Ok packet → IsReadIn bytes packet
 
 -- the entry of an update that the part accepted, as the mobile leaves it
 abbrev pub accepted_note : ℕ → Address → Accepted → Entry
@@ -67,14 +68,16 @@ concerns_part (Restarts secrets) = true
 concerns_part (Notes entry) = tells_of_acceptance entry
 concerns_part _ = false
 
--- the part accepts the update in the packet that was handed to the mobile in this call, and the mobile tells so at once
+-- the part accepts the update in the packet that was handed to the mobile in this call, or in one within its tunnel, which then
+-- comes from its agent and under a shield; and the mobile tells so at once
 pub record IsPartTaken (k : Known) (now : ℕ) (c : Call) (steps : List Step) : Type 0 where
   pub number : ℕ
   pub shield : Option Shield
   pub bytes : List ℕ
   pub call : c ≡ Take number shield bytes
   pub packet : Packet
-  pub read : IsReadIn bytes packet
+  pub tunnelled : Bool
+  pub came : Came k now tunnelled shield bytes packet
   pub taken : IsUpdateParted k.part.identity k.part.known now number packet (turn_at k.part now (parts.Part number packet)).steps
   pub rest : List Step
   pub steps_are : steps ≡ Called c ∷ Parts (parts.Part number packet) ∷ Notes (accepted_note number taken.home taken.accepted) ∷ rest

@@ -5,23 +5,26 @@ ghost use Rattle.std.specs.List.{list_any};
 ghost use Rattle.mip_words.specs.declared.address.Address.{Address};
 ghost use Rattle.mip_words.specs.declared.shield.Shield.{Shield};
 ghost use Rattle.mip_nonce.specs.Secrets.{Life};
+ghost use Rattle.mip_outside.specs.declared.claim.Claim.{Claim};
 ghost use Rattle.mip_lists.specs.Last.{since};
 ghost use Rattle.mip_bulist.specs.Timers.{AreDueFrom, AreInOrder};
 ghost use Rattle.mip_entries.specs.Stamped.{Stamped};
 ghost use Rattle.mip_rules_mobile.specs.declared.standing.Standing.TheVariants.{AtHome, Away};
-ghost use Rattle.mip_rules_mobile.specs.Calls.{Call, Take, Tick, Restart};
+ghost use Rattle.mip_rules_mobile.specs.Calls.{Call, Leave, Take, Tick, Restart};
 ghost use Rattle.mip_rules_mobile.specs.Sendings.{PeerUpdate};
-ghost use Rattle.mip_rules_mobile.specs.Steps.{Step, is_call, answers_of};
+ghost use Rattle.mip_rules_mobile.specs.Steps.{Step, Detaches, is_call, answers_of};
 ghost use Rattle.mip_rules_mobile.specs.Known.{Known};
 ghost use Rattle.mip_rules_mobile.specs.HomeQuestions.{home_of, standing_said, registered_said, latest_said, agent_said, owes_said, next_said, next_to};
 ghost use Rattle.mip_rules_mobile.specs.DiscoveryQuestions.{found_said, chosen_said, is_choice};
-ghost use Rattle.mip_rules_mobile.specs.Questions.{known};
+ghost use Rattle.mip_rules_mobile.specs.Questions.{after, known};
 ghost use Rattle.mip_rules_mobile.specs.Turns.{Stands, with_turn};
 ghost use Rattle.mip_rules_mobile.specs.Told.{last_told, next_in};
 ghost use Rattle.mip_rules_mobile.specs.Fitting.{IsUpdateOf, EachFits};
 ghost use Rattle.mip_rules_mobile.specs.Kept.{RowsGiven, IsMadeFrom};
 ghost use Rattle.mip_rules_mobile.specs.Refusing.{is_refusal, tables_of};
 ghost use Rattle.mip_rules_mobile.specs.Answering.{EachAnswer, CanBeAsked, SendsPlainData, IsWhole, LeavesRight, IsElsewhere, AreFrom, stays_put, SaysRight};
+ghost use Rattle.mip_rules_mobile.specs.Resting.{EachStep, IsAgentsAnswer, IsPeersAnswer, IsTestTunnelled, AreLed};
+ghost use Rattle.mip_rules_mobile.specs.Leaving.{HasForgotten};
 ghost use Rattle.mip_rules_mobile.specs.Shielding.{AreShieldedFrom};
 ghost use Rattle.mip_rules_mobile.specs.Doing.{turn_of};
 ghost use Rattle.mip_rules_mobile.specs.Part.{part_of, part_life, IsPartTurn, is_restart, IsPartReborn};
@@ -131,4 +134,35 @@ pub fn updates_are_of_tests_since_the_start()
 pub fn shields_are_from_its_home()
     ensures home { (home : Address) (declared : Option Address) (secrets : Life) (past : List (Stamped Step)) → home_of (known home declared secrets past) ≡ home }
     ensures sent { (k : Known) (now : ℕ) (c : Call) → AreShieldedFrom (home_of k) (answers_of (turn_of k now c).steps) }
+{}
+
+/// What an agent answers is taken only of an acknowledgement that came under a shield and in no tunnel, from the agent to
+/// which the last home registration or deregistration was sent, with its sequence: a registration, a refusal, a sequence to go
+/// on from; and the end of a registration, unless it ends by itself.
+pub fn home_answers_are_shielded()
+    ensures { (k : Known) (now : ℕ) (c : Call) → EachStep (IsAgentsAnswer c) now k (turn_of k now c).steps }
+{}
+
+/// An update is acknowledged only by its peer's acknowledgement, authentic under the key of the update that was made last and
+/// with its sequence; and a binding is told right behind that, for the same row.
+pub fn bindings_are_acknowledged()
+    ensures acknowledged { (k : Known) (now : ℕ) (c : Call) → EachStep (IsPeersAnswer c now) now k (turn_of k now c).steps }
+    ensures bound { (k : Known) (now : ℕ) (c : Call) → AreLed None (turn_of k now c).steps }
+{}
+
+/// Away, a Home Test is kept only of what came under a shield in a tunnel from the mobile's agent.
+pub fn home_tests_come_by_the_tunnel()
+    ensures { (k : Known) (now : ℕ) (c : Call) → EachStep (IsTestTunnelled c now) now k (turn_of k now c).steps }
+{}
+
+/// A mobile that left uses no address, is not registered and bound to no peer, and has no timer and no discovery.
+pub fn leaving_forgets()
+    ensures step { (k : Known) (at : ℕ) → HasForgotten (after k (record { at = at; step = Detaches })) }
+    ensures call { (k : Known) (now : ℕ) (of_home : Claim) → HasForgotten (turn_of k now (Leave of_home)).known }
+{}
+
+/// The cookies of a life are drawn from number 0 on.
+pub fn cookies_begin_at_zero()
+    ensures born { (home : Address) (declared : Option Address) (secrets : Life) → (known home declared secrets []).cookies ≡ 0 }
+    ensures restarted { (k : Known) (now : ℕ) (secrets : Life) → (turn_of k now (Restart secrets)).known.cookies ≡ 0 }
 {}

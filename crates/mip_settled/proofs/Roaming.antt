@@ -119,7 +119,7 @@ IsBare k = is_detached k.standing ≡ true → k.registered ≡ None
 
 bare_after : (c : mobiles.Call) (now : ℕ) (k : Known) (step : Step) → Fits c now k step → IsBare k → IsBare (after k (record { at = now; step = step }))
 unfolding after
-bare_after c now k (Registers agent end renew) fits bare = λ apart. absurd (let both : true ≡ false = sym apart ∙ fits in cc)
+bare_after c now k (Registers agent end renew) fits bare = λ apart. absurd (let both : true ≡ false = sym apart ∙ fits.0 in cc)
 bare_after c now k (Arrives address) fits bare = λ apart. refl
 bare_after c now k (FindsTaken address holder) fits bare = λ apart. refl
 bare_after c now k (Unregisters agent) fits bare = λ apart. refl

@@ -212,7 +212,7 @@ module _ {S V : Type 0} (s : Setup) (n : ℕ) (own : Address) (I : Known → Typ
       notes entry t right p = tells_noted c st (Notes entry) t refl right p
 
       acks : Acks c (Tells st)
-      acks step t ack fits p = tells_noted c st step t (ack_plain step ack) fits p
+      acks step t ack fits led p = tells_noted c st step t (ack_plain step ack) fits p
 
       drops : Dropping (Tells st)
       drops number why t right p = tells_noted c st (Drops number why) t refl right p

@@ -1,0 +1,8 @@
+use Rattle.mip_rules_mobile.proofs.Leaving.{born, restarted}
+use Rattle.mip_rules_mobile.proofs.laws.cookies_begin_at_zero.Goals as goal
+
+pub returns-clause-born : goal.returns-clause-born
+returns-clause-born c = λ home declared secrets. born home declared secrets
+
+pub returns-clause-restarted : goal.returns-clause-restarted
+returns-clause-restarted c = λ k now secrets. restarted k now secrets
