@@ -2,3 +2,4 @@ mod correspondent;
 mod hex;
 mod homeagent;
 mod mobile;
+mod told;

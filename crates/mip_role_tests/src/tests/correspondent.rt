@@ -1,15 +1,15 @@
 //! What a correspondent answers, against runs of another implementation.
 
-ghost use Rattle.std.specs.Prelude.{◌≡◌, IfOk, MatchResult};
+ghost use Rattle.std.specs.Prelude.{◌≡◌, ◌≤◌, IfOk, IfSome};
 
 mod handover;
 
 use super::hex::bytes;
+use super::told::are_told;
 use mip_correspondent::Correspondent;
-use mip_entries::{Answer, Answers, Entry};
 use mip_ipv6::{Head, PacketRef};
 use mip_nonce::Secrets;
-use mip_words::{Address, Moment, NodeId, Why};
+use mip_words::{Address, Moment, NodeId};
 use std::alloc::Global;
 use std::test::Fail;
 
@@ -17,101 +17,7 @@ const OWN: Address = Address(0x2001_0db8_0002_0000_0000_0000_0000_0002);
 
 const HOME: Address = Address(0x2001_0db8_0001_0000_0000_0000_0000_0077);
 
-#[derive(Clone, Copy)]
-enum Told {
-    Nothing,
-    Sent(&'static [u8]),
-    Accepted {
-        home: Address,
-        careof: Address,
-        sequence: u16,
-        end: u64,
-        home_index: u16,
-        careof_index: Option<u16>,
-    },
-    Denied(u8),
-    Dropped(Why),
-    Up(&'static [u8]),
-    Idle,
-}
-
-/// Whether an answer to a packet with this number is the one told.
-fn is_told(alloc: Global, number: u64, answer: Option<&Answer>, told: &Told) -> Result<bool, Fail> {
-    let same = match (answer, told) {
-        (None, Told::Nothing) => true,
-        (Some(Answer::Send { shield, packet }), Told::Sent(digits)) => {
-            shield.is_none() && packet.as_slice() == bytes(alloc, digits)?.as_slice()
-        }
-        (Some(Answer::Note(entry)), told) => is_entry(alloc, number, entry, told)?,
-        _ => false,
-    };
-    Ok(same)
-}
-
-fn is_entry(alloc: Global, of: u64, entry: &Entry, told: &Told) -> Result<bool, Fail> {
-    let same = match (entry, told) {
-        (
-            Entry::Accepted {
-                node: _,
-                number,
-                home,
-                binding,
-                careof,
-                sequence,
-                end,
-                home_index,
-                careof_index,
-            },
-            Told::Accepted {
-                home: h,
-                careof: c,
-                sequence: s,
-                end: e,
-                home_index: i,
-                careof_index: j,
-            },
-        ) => {
-            (number, home, careof) == (&of, h, c)
-                && (binding, sequence, end.0) == (&0, s, *e)
-                && (home_index, careof_index) == (i, j)
-        }
-        (Entry::Denied { number, status, .. }, Told::Denied(s)) => (number, status) == (&of, s),
-        (Entry::Dropped { number, why, .. }, Told::Dropped(w)) => (number, why) == (&of, w),
-        (
-            Entry::Up {
-                number,
-                source,
-                destination,
-                proto,
-                payload,
-                ..
-            },
-            Told::Up(digits),
-        ) => {
-            (number, proto) == (&of, &17)
-                && (source, destination) == (&HOME, &OWN)
-                && payload.as_slice() == bytes(alloc, digits)?.as_slice()
-        }
-        (Entry::Idle, Told::Idle) => true,
-        _ => false,
-    };
-    Ok(same)
-}
-
-/// Whether these are all answers.
-fn are_told(
-    alloc: Global,
-    number: u64,
-    answers: &Answers,
-    first: &Told,
-    second: &Told,
-) -> Result<bool, Fail> {
-    Ok(
-        answers.len() <= 2
-            && is_told(alloc, number, answers.at(0), first)?
-            && is_told(alloc, number, answers.at(1), second)?,
-    )
-}
+const CAREOF: Address = Address(0x2001_0db8_0003_0000_0000_0000_0000_0077);
 
 fn node(alloc: Global, node: u8) -> Result<Correspondent, Fail>
     ensures { IfOk result (λ c. c.known.last.0 ≡ 0) }
@@ -124,92 +30,85 @@ fn node(alloc: Global, node: u8) -> Result<Correspondent, Fail>
     Ok(Correspondent::new(alloc, OWN, secrets, 2)?)
 }
 
-/// Whether the node answers a packet so.
+/// Whether the node answers a packet by these lines.
 fn takes(
     alloc: Global,
     node: &mut Correspondent,
     number: u64,
     digits: &[u8],
-    first: &Told,
-    second: &Told,
+    lines: &[&str],
 ) -> Result<bool, Fail>
     requires { node.old.known.last.0 ≡ 0 }
     ensures { IfOk result (λ _. node.new.known.last.0 ≡ 0) }
 {
     let packet = bytes(alloc, digits)?;
     let answers = node.take(alloc, Moment(0), number, None, packet.as_slice())?;
-    are_told(alloc, number, &answers, first, second)
+    Ok(are_told(alloc, &answers, lines)?)
 }
 
-// The correspondent's side of a handover.
-#[test]
-fn data_goes_the_direct_way_once_bound(rt: HostRuntime) -> Result<(), Fail> {
-    let alloc = rt.alloc();
-    let now = Moment(0);
-    let careof = Address(0x2001_0db8_0003_0000_0000_0000_0000_0077);
+/// A correspondent that has accepted the update of the handover; none where an answer before it is another one.
+fn bound(alloc: Global) -> Result<Option<Correspondent>, Fail>
+    ensures { IfOk result (λ node. IfSome node (λ c. c.known.last.0 ≡ 0)) }
+{
     let mut node = node(alloc, 1)?;
-    let answers = node.send(alloc, now, HOME, 17, b"\xaa")?;
-    assert!(rt; is_told(alloc, 0, answers.at(0), &Told::Sent(handover::STRAIGHT))?);
-    let test = Told::Sent(handover::CAREOF_TEST);
-    assert!(rt;
-        takes(
-            alloc,
-            &mut node,
-            5,
-            handover::CAREOF_INIT,
-            &test,
-            &Told::Nothing
-        )?
-    );
-    let test = Told::Sent(handover::HOME_TEST);
-    assert!(rt;
-        takes(
-            alloc,
-            &mut node,
-            6,
-            handover::HOME_INIT,
-            &test,
-            &Told::Nothing
-        )?
-    );
-    let accepted = Told::Accepted {
-        home: HOME,
-        careof,
-        sequence: 1,
-        end: 420_000,
-        home_index: 0,
-        careof_index: Some(0),
-    };
-    let ack = Told::Sent(handover::ACKNOWLEDGED);
-    assert!(rt; takes(alloc, &mut node, 10, handover::UPDATE, &accepted, &ack)?);
-    assert!(rt;
-        takes(
-            alloc,
-            &mut node,
-            12,
-            handover::DATA,
-            &Told::Up(b"bb"),
-            &Told::Nothing
-        )?
-    );
-    assert!(rt; node.holds(now, HOME, careof));
-    assert_eq!(rt; node.route(now, HOME), Some(careof));
-    assert_eq!(rt; node.row(now, 0).map(|row| row.sequence), Some(1));
-    let answers = node.send(alloc, now, HOME, 17, b"\xcc")?;
-    assert!(rt; is_told(alloc, 0, answers.at(0), &Told::Sent(handover::ROUTED))?);
-    let answers = node.refresh(alloc, now, HOME)?;
-    assert!(rt; is_told(alloc, 0, answers.at(0), &Told::Sent(handover::REFRESH))?);
-    node.tick(Moment(420_000));
-    assert_eq!(rt; node.route(Moment(420_000), HOME), None);
-    let answers = node.refresh(alloc, Moment(420_000), HOME)?;
-    assert!(rt; is_told(alloc, 0, answers.at(0), &Told::Idle)?);
-    Ok(())
+    for (number, digits, lines) in handover::TAKEN {
+        if !takes(alloc, &mut node, number, digits, lines)? {
+            return Ok(None);
+        }
+    }
+    Ok(Some(node))
 }
 
-// The correspondent part of a mobile hands data up.
-#[test]
-fn a_part_hands_data_up(rt: HostRuntime) -> Result<(), Fail> {
-    let alloc = rt.alloc();
+/// What a correspondent says of the home.
+#[derive(Clone, Copy, Debug, PartialEq, Eq)]
+struct Says {
+    route: Option<Address>,
+    holds: bool,
+    sequence: Option<u16>,
+}
+
+fn says(node: &Correspondent, now: Moment) -> Says
+    requires { node.now.known.last.0 ≤ now.0 }
+{
+    Says {
+        route: node.route(now, HOME),
+        holds: node.holds(now, HOME, CAREOF),
+        sequence: node.row(now, 0).map(|row| row.sequence),
+    }
+}
+
+/// What is said of the home once it is bound, and when its binding ends.
+fn said(alloc: Global) -> Result<Option<(Says, Says)>, Fail> {
+    let Some(mut node) = bound(alloc)? else {
+        return Ok(None);
+    };
+    let bound = says(&node, Moment(0));
+    node.tick(Moment(420_000));
+    Ok(Some((bound, says(&node, Moment(420_000)))))
+}
+
+/// Whether data before a handover goes straight.
+fn sends_straight(alloc: Global) -> Result<bool, Fail> {
+    let mut node = node(alloc, 1)?;
+    let answers = node.send(alloc, Moment(0), HOME, 17, b"\xaa")?;
+    Ok(are_told(alloc, &answers, &[handover::STRAIGHT])?)
+}
+
+/// Whether data after it, and a request to bind anew, go to the care-of address.
+fn sends_routed(alloc: Global) -> Result<bool, Fail> {
+    let Some(mut node) = bound(alloc)? else {
+        return Ok(false);
+    };
+    let data = node.send(alloc, Moment(0), HOME, 17, b"\xcc")?;
+    let refresh = node.refresh(alloc, Moment(0), HOME)?;
+    Ok(
+        are_told(alloc, &data, &[handover::ROUTED])?
+            && are_told(alloc, &refresh, &[handover::REFRESH])?,
+    )
+}
+
+/// Whether the correspondent part of a mobile hands data up.
+fn part_hands_up(alloc: Global) -> Result<bool, Fail> {
     let mut node = node(alloc, 1)?;
     let packet = PacketRef {
         head: Head {
@@ -226,6 +125,34 @@ fn a_part_hands_data_up(rt: HostRuntime) -> Result<(), Fail> {
         place: 40,
     };
     let answers = node.part(alloc, Moment(0), 12, &packet)?;
-    assert!(rt; are_told(alloc, 12, &answers, &Told::Up(b"bb"), &Told::Nothing)?);
+    Ok(are_told(alloc, &answers, &[handover::UP])?)
+}
+
+#[test]
+fn data_goes_the_direct_way_once_bound(rt: HostRuntime) -> Result<(), Fail> {
+    assert_eq!(rt; sends_straight(rt.alloc())?, true);
+    assert_eq!(rt; sends_routed(rt.alloc())?, true);
+    Ok(())
+}
+
+#[test]
+fn a_binding_stands_to_its_end(rt: HostRuntime) -> Result<(), Fail> {
+    let bound = Says {
+        route: Some(CAREOF),
+        holds: true,
+        sequence: Some(1),
+    };
+    let ended = Says {
+        route: None,
+        holds: false,
+        sequence: None,
+    };
+    assert_eq!(rt; said(rt.alloc())?, Some((bound, ended)));
+    Ok(())
+}
+
+#[test]
+fn a_part_hands_data_up(rt: HostRuntime) -> Result<(), Fail> {
+    assert_eq!(rt; part_hands_up(rt.alloc())?, true);
     Ok(())
 }

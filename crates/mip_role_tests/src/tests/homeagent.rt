@@ -7,7 +7,8 @@ mod registrations;
 mod squat;
 
 use super::hex::bytes;
-use mip_entries::{Answer, Answers, Entry, UpdateSeen};
+use super::told::are_told;
+use mip_entries::{Answers, UpdateSeen};
 use mip_homeagent::{HomeAgent, HomeRow, HomeVerdict};
 use mip_outside::{Claim, Place};
 use mip_words::{Address, Moment, Shield};
@@ -30,7 +31,8 @@ const CAREOF: Address = Address(0x2001_0db8_0003_0000_0000_0000_0000_0077);
 struct Row {
     at: u64,
     call: Call,
-    told: [Told; 3],
+    /// Its answers, a line each.
+    told: &'static [&'static str],
 }
 
 /// Packets are in hexadecimal digits.
@@ -52,76 +54,6 @@ enum Call {
         preference: u16,
         life: u16,
     },
-}
-
-#[derive(Clone, Copy)]
-enum Told {
-    Nothing,
-    Sent(&'static [u8]),
-    /// Sent under the shield of the agent and this home.
-    Shielded(Address, &'static [u8]),
-    Home {
-        home: Address,
-        careof: Address,
-        sequence: u16,
-        end: u64,
-    },
-    Claimed(Address),
-    Released(Address),
-}
-
-/// Whether the agent gives this answer to a call.
-fn is_told(alloc: Global, answer: Option<&Answer>, told: &Told) -> Result<bool, Fail> {
-    let same = match (answer, told) {
-        (None, Told::Nothing) => true,
-        (Some(Answer::Send { shield, packet }), Told::Sent(digits)) => {
-            shield.is_none() && packet.as_slice() == bytes(alloc, digits)?.as_slice()
-        }
-        (Some(Answer::Send { shield, packet }), Told::Shielded(home, digits)) => {
-            let under = Shield {
-                from: OWN,
-                to: *home,
-            };
-            *shield == Some(under) && packet.as_slice() == bytes(alloc, digits)?.as_slice()
-        }
-        (Some(Answer::Note(entry)), told) => is_entry(entry, told),
-        _ => false,
-    };
-    Ok(same)
-}
-
-fn is_entry(entry: &Entry, told: &Told) -> bool {
-    match (entry, told) {
-        (
-            Entry::Home {
-                node,
-                home,
-                careof,
-                sequence,
-                end,
-            },
-            Told::Home {
-                home: h,
-                careof: c,
-                sequence: s,
-                end: e,
-            },
-        ) => node.0 == 0 && (home, careof) == (h, c) && (sequence, end.0) == (s, *e),
-        (Entry::Claimed { who, address, .. }, Told::Claimed(a)) => (who, address) == (&0, a),
-        (Entry::Released { who, address, .. }, Told::Released(a)) => (who, address) == (&0, a),
-        _ => false,
-    }
-}
-
-/// Whether these are all answers.
-fn are_told(alloc: Global, answers: &Answers, told: &[Told; 3]) -> Result<bool, Fail> {
-    let [first, second, third] = told;
-    Ok(
-        answers.len() <= 3
-            && is_told(alloc, answers.at(0), first)?
-            && is_told(alloc, answers.at(1), second)?
-            && is_told(alloc, answers.at(2), third)?,
-    )
 }
 
 /// What the agent does about a call.
@@ -180,7 +112,7 @@ fn first_other(
         }
         last = row.at;
         let answers = answer(alloc, agent, place, Moment(last), &row.call)?;
-        if !are_told(alloc, &answers, &row.told)? {
+        if !are_told(alloc, &answers, row.told)? {
             return Ok(Some(at));
         }
     }
@@ -200,21 +132,9 @@ fn first_other_of_new(alloc: Global, rows: &[Row]) -> Result<Option<usize>, Fail
     first_other(alloc, &mut agent, &mut Squat(None), rows)
 }
 
-#[test]
-fn calls_are_answered_as_in_a_run(rt: HostRuntime) -> Result<(), Fail> {
-    let alloc = rt.alloc();
-    assert_eq!(rt; first_other_of_new(alloc, &registrations::HANDOVER)?, None);
-    assert_eq!(rt; first_other_of_new(alloc, &agents::SECOND_AGENT)?, None);
-    assert_eq!(rt; first_other_of_new(alloc, &agents::PLAN)?, None);
-    Ok(())
-}
-
-// The same update before and after the home is registered.
-#[test]
-fn a_registration_is_judged_and_ends(rt: HostRuntime) -> Result<(), Fail> {
-    let alloc = rt.alloc();
-    let mut agent = agent(alloc)?;
-    let mut place = Squat(None);
+/// The verdict on the update of a first registration.
+fn judged(alloc: Global) -> Result<HomeVerdict, Fail> {
+    let agent = agent(alloc)?;
     let shield = Some(Shield {
         from: HOME,
         to: OWN,
@@ -224,24 +144,69 @@ fn a_registration_is_judged_and_ends(rt: HostRuntime) -> Result<(), Fail> {
         home: Some(HOME),
         message: registrations::MESSAGE,
     };
+    Ok(agent.judge_home(Moment(0), shield, Claim::Held, &update))
+}
+
+/// When an agent has work due, before and after a registration; and what it shows of it, before and at its end.
+fn registered(alloc: Global) -> Result<Option<Shown>, Fail> {
+    let mut agent = agent(alloc)?;
+    let before = agent.due();
+    let rows = [registrations::REGISTERED];
+    let other = first_other(alloc, &mut agent, &mut Squat(None), &rows)?;
+    if other.is_some() {
+        return Ok(None);
+    }
+    Ok(Some(Shown {
+        before,
+        due: agent.due(),
+        row: agent.row(Moment(0), 0),
+        ended: agent.row(Moment(3_600_000), 0),
+    }))
+}
+
+#[derive(Clone, Copy, Debug, PartialEq, Eq)]
+struct Shown {
+    before: Option<Moment>,
+    due: Option<Moment>,
+    row: Option<HomeRow>,
+    ended: Option<HomeRow>,
+}
+
+#[test]
+fn calls_are_answered_as_in_a_run(rt: HostRuntime) -> Result<(), Fail> {
+    let alloc = rt.alloc();
+    assert_eq!(rt; first_other_of_new(alloc, &registrations::HANDOVER)?, None);
+    assert_eq!(rt; first_other_of_new(alloc, &agents::SECOND_AGENT)?, None);
+    assert_eq!(rt; first_other_of_new(alloc, &agents::PLAN)?, None);
+    Ok(())
+}
+
+#[test]
+fn a_first_registration_is_accepted(rt: HostRuntime) -> Result<(), Fail> {
     let accepted = HomeVerdict::Accept {
         home: HOME,
         careof: CAREOF,
         sequence: 1,
         granted: 900,
     };
-    assert!(rt; agent.judge_home(Moment(0), shield, Claim::Held, &update) == accepted);
-    assert_eq!(rt; agent.due(), None);
-    let rows = [registrations::REGISTERED];
-    assert_eq!(rt; first_other(alloc, &mut agent, &mut place, &rows)?, None);
+    assert_eq!(rt; judged(rt.alloc())? == accepted, true);
+    Ok(())
+}
+
+#[test]
+fn a_registration_ends(rt: HostRuntime) -> Result<(), Fail> {
     let row = HomeRow {
         home: HOME,
         careof: CAREOF,
         sequence: 1,
         end: Moment(3_600_000),
     };
-    assert!(rt; agent.row(Moment(0), 0) == Some(row));
-    assert_eq!(rt; agent.due(), Some(Moment(3_600_000)));
-    assert!(rt; agent.row(Moment(3_600_000), 0) == None);
+    let shown = Shown {
+        before: None,
+        due: Some(Moment(3_600_000)),
+        row: Some(row),
+        ended: None,
+    };
+    assert_eq!(rt; registered(rt.alloc())? == Some(shown), true);
     Ok(())
 }

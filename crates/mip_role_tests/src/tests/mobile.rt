@@ -5,7 +5,8 @@ mod refresh;
 mod restart;
 
 use super::hex::bytes;
-use mip_entries::{Answer, Answers, Entry};
+use super::told::are_told;
+use mip_entries::Answers;
 use mip_mobile::{Mobile, Turned};
 use mip_nonce::Secrets;
 use mip_outside::Outbox;
@@ -33,7 +34,8 @@ const SEED: [u8; 32] = [
 struct Row {
     at: u64,
     call: Call,
-    told: [Told; 4],
+    /// Its answers, a line each.
+    told: &'static [&'static str],
 }
 
 /// Packets are in hexadecimal digits.
@@ -60,111 +62,6 @@ enum Call {
     Refresh(Address),
     Ask,
     Restart,
-}
-
-#[derive(Clone, Copy)]
-enum Told {
-    Nothing,
-    Sent(&'static [u8]),
-    /// Sent under the shield of the home and this agent.
-    Shielded(Address, &'static [u8]),
-    Claimed(Address),
-    Released(Address),
-    Careof(Address),
-    Registered {
-        agent: Address,
-        end: u64,
-    },
-    Prefixes(u32, u32),
-    Made {
-        home: [u8; 8],
-        careof: Option<[u8; 8]>,
-    },
-    Bound {
-        peer: Address,
-        end: u64,
-    },
-    Restarted,
-    Idle,
-    Up {
-        from: Address,
-        payload: &'static [u8],
-    },
-}
-
-/// Whether a mobile gives this answer to a call.
-fn is_told(alloc: Global, answer: Option<&Answer>, told: &Told) -> Result<bool, Fail> {
-    let same = match (answer, told) {
-        (None, Told::Nothing) => true,
-        (Some(Answer::Send { shield, packet }), Told::Sent(digits)) => {
-            shield.is_none() && packet.as_slice() == bytes(alloc, digits)?.as_slice()
-        }
-        (Some(Answer::Send { shield, packet }), Told::Shielded(agent, digits)) => {
-            let under = Shield {
-                from: HOME,
-                to: *agent,
-            };
-            *shield == Some(under) && packet.as_slice() == bytes(alloc, digits)?.as_slice()
-        }
-        (
-            Some(
-                Answer::Note(
-                    Entry::Up {
-                        source,
-                        payload,
-                        ..
-                    },
-                ),
-            ),
-            Told::Up {
-                from: f,
-                payload: p,
-            },
-        ) => { source == f && payload.as_slice() == bytes(alloc, p)?.as_slice() }
-        (Some(Answer::Note(entry)), told) => is_entry(entry, told),
-        _ => false,
-    };
-    Ok(same)
-}
-
-fn is_entry(entry: &Entry, told: &Told) -> bool {
-    match (entry, told) {
-        (Entry::Claimed { address, .. }, Told::Claimed(a)) => address == a,
-        (Entry::Released { address, .. }, Told::Released(a)) => address == a,
-        (Entry::Careof { address, .. }, Told::Careof(a)) => address == a,
-        (Entry::Registered { agent, end, .. }, Told::Registered { agent: a, end: e }) => {
-            (agent, end.0) == (a, *e)
-        }
-        (
-            Entry::Prefixes {
-                valid,
-                preferred,
-                ..
-            },
-            Told::Prefixes(v, p),
-        ) => { (valid, preferred) == (v, p) }
-        (Entry::Made { home, careof, .. }, Told::Made { home: h, careof: c }) => {
-            home.0 == *h && careof.map(|token| token.0) == *c
-        }
-        (Entry::Bound { peer, end, .. }, Told::Bound { peer: p, end: e }) => {
-            (peer, end.0) == (p, *e)
-        }
-        (Entry::Restarted { .. }, Told::Restarted) => true,
-        (Entry::Idle, Told::Idle) => true,
-        _ => false,
-    }
-}
-
-/// Whether these are all answers.
-fn are_told(alloc: Global, answers: &Answers, told: &[Told; 4]) -> Result<bool, Fail> {
-    let [first, second, third, fourth] = told;
-    Ok(
-        answers.len() <= 4
-            && is_told(alloc, answers.at(0), first)?
-            && is_told(alloc, answers.at(1), second)?
-            && is_told(alloc, answers.at(2), third)?
-            && is_told(alloc, answers.at(3), fourth)?,
-    )
 }
 
 type Runner = Mobile<Hand, Outbox>;
@@ -213,7 +110,7 @@ fn first_other(alloc: Global, rows: &[Row]) -> Result<Option<usize>, Fail> {
         mobile.wire().clear();
         let (next, answers) = answer(alloc, mobile, &row.call)?;
         mobile = next;
-        if !are_told(alloc, &answers?, &row.told)? {
+        if !are_told(alloc, &answers?, row.told)? {
             return Ok(Some(at));
         }
     }

@@ -1,7 +1,7 @@
 //! Home agents and prefixes, as another implementation wrote them.
 
 use super::registrations::{ACKNOWLEDGED, REGISTERED, UPDATE};
-use super::{CAREOF, Call, HOME, OWN, Row, SECOND, Told};
+use super::{CAREOF, Call, HOME, OWN, Row, SECOND};
 
 const REQUEST: &[u8] =
     b"6000000000083a3f20010db800030000000000000000007720010db800010000fdfffffffffffffe900015d000010000";
@@ -15,7 +15,7 @@ pub const SECOND_AGENT: [Row; 3] = [
             preference: 20,
             life: 1800,
         },
-        told: [Told::Nothing, Told::Nothing, Told::Nothing],
+        told: &[],
     },
     Row {
         at: 0,
@@ -24,12 +24,8 @@ pub const SECOND_AGENT: [Row; 3] = [
             from: None,
             packet: REQUEST,
         },
-        told: [
-            Told::Sent(
-                b"6000000000283a4020010db800010000000000000000000120010db80003000000000000000000779100b7350001000020010db800010000000000000000000320010db8000100000000000000000001",
-            ),
-            Told::Nothing,
-            Told::Nothing,
+        told: &[
+            "send 6000000000283a4020010db800010000000000000000000120010db80003000000000000000000779100b7350001000020010db800010000000000000000000320010db8000100000000000000000001",
         ],
     },
     Row {
@@ -39,15 +35,10 @@ pub const SECOND_AGENT: [Row; 3] = [
             from: Some(HOME),
             packet: UPDATE,
         },
-        told: [
-            Told::Home {
-                home: HOME,
-                careof: CAREOF,
-                sequence: 1,
-                end: 3600000,
-            },
-            Told::Claimed(HOME),
-            Told::Shielded(HOME, ACKNOWLEDGED),
+        told: &[
+            "home self 20010db8000100000000000000000077 20010db8000300000000000000000077 1 3600000",
+            "claimed self - 20010db8000100000000000000000077",
+            "shielded 20010db8000100000000000000000001 20010db8000100000000000000000077 6000000000282b4020010db800010000000000000000000120010db8000300000000000000000077870202010000000020010db80001000000000000000000773b0106005df400000001038401020000",
         ],
     },
 ];
@@ -61,18 +52,13 @@ pub const PLAN: [Row; 3] = [
             valid: 8000,
             preferred: 4000,
         },
-        told: [
-            Told::Shielded(
-                HOME,
-                b"6000000000402b4020010db800010000000000000000000120010db80003000000000000000000773a0202010000000020010db80001000000000000000000779300703100000000030440e000001f4000000fa00000000020010db8000100000000000000000001",
-            ),
-            Told::Nothing,
-            Told::Nothing,
+        told: &[
+            "shielded 20010db8000100000000000000000001 20010db8000100000000000000000077 6000000000402b4020010db800010000000000000000000120010db80003000000000000000000773a0202010000000020010db80001000000000000000000779300703100000000030440e000001f4000000fa00000000020010db8000100000000000000000001",
         ],
     },
     Row {
         at: 3600000,
         call: Call::Tick,
-        told: [Told::Released(HOME), Told::Nothing, Told::Nothing],
+        told: &["released self - 20010db8000100000000000000000077"],
     },
 ];

@@ -1,7 +1,7 @@
 use Rattle.std.proofs.Common.{refl, lit≤}
 use Rattle.mip_options.specs.Reading.{with_value, option_at, options_after, options_of}
 use Rattle.mip_mobhdr.specs.Reading.{update_of}
-use Rattle.mip_role_tests.proofs.tests.homeagent.a_registration_is_judged_and_ends.Goals as goal
+use Rattle.mip_role_tests.proofs.tests.homeagent.judged.Goals as goal
 
 -- the bytes are read
 pub judge_home-requires-clause-update : goal.judge_home-requires-clause-update
