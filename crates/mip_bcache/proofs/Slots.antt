@@ -110,6 +110,7 @@ one_over now x xs (s ∷ ss) none over = elim (cases_eq x.slot s.0) [
   where
     dropped : (rows : List Row) → kept_by until_of now (x.value ∷ rows) ≡ kept_by until_of now rows
     dropped rows = grind (arith, nat_tests)
+
     behind : (o : Option (Item Row)) (rs ts : List Row) → kept_by until_of now rs ≡ kept_by until_of now ts → kept_by until_of now (add_row o rs) ≡ kept_by until_of now (add_row o ts)
     behind None rs ts same = same
     behind (Some y) rs ts same = grind (arith, nat_tests)
@@ -168,6 +169,7 @@ one_more x xs (s ∷ ss) apart none inside = elim (cases_eq s.0 x.slot) [
   where
     counts : (rs : List Row) → length (x.value ∷ rs) ≡ 1 + length rs
     counts rs = omega arith
+
     more : (o : Option (Item Row)) (rs ts : List Row) → length rs ≡ 1 + length ts → length (add_row o rs) ≡ 1 + length (add_row o ts)
     more None rs ts e = e
     more (Some y) rs ts e = omega arith

@@ -114,17 +114,15 @@ impl Correspondent {
 
     /// A call at this moment ends, and an update that was accepted has its row.
     #[tactic(auto, using(crate::proofs::Rows::kept_sound))]
-    fn commit_call(&mut self, now: Moment, kept: Option<Kept>) -> Result<(), Memory>
+    fn commit_call(&mut self, now: Moment, kept: Option<Kept>)
         requires later { self.old.known.last.0 ≤ now.0 }
         requires early { now.0 < 2 ^ 62 }
         requires fits { Fits now.0 self.old.known.cache kept }
-        ensures ok { OnOk result (self.new ≡ record { identity = self.old.identity; known = left now.0 (with_kept now.0 kept self.old.known.cache) }) }
-        ensures err { OnErr result (self.new ≡ self.old) }
+        ensures { self.new ≡ record { identity = self.old.identity; known = left now.0 (with_kept now.0 kept self.old.known.cache) } }
     {
-        keep(&mut self.known.cache, now, kept)?;
+        keep(&mut self.known.cache, now, kept);
         self.known.last = now;
         self.identity.secrets.renew(now);
-        Ok(())
     }
 
     /// Takes a packet that was handed to the node, by its number and shield, and gives what the node
@@ -154,7 +152,7 @@ impl Correspondent {
             number,
         };
         let kept = receive(alloc, &mut answers, &receipt, packet)?;
-        self.commit_call(now, kept)?;
+        self.commit_call(now, kept);
         Ok(answers)
     }
 
@@ -187,7 +185,7 @@ impl Correspondent {
         };
         let message = message_in(packet);
         let kept = answer_message(alloc, &mut answers, &receipt, packet, &message)?;
-        self.commit_call(now, kept)?;
+        self.commit_call(now, kept);
         Ok(answers)
     }
 
@@ -198,7 +196,7 @@ impl Correspondent {
         ensures stands { (room : ℕ) (past : List (Stamped Step)) → Stands room past self.old.known → Stands room (with_turn past (turn_at self.old now.0 calls.Tick)) self.new.known }
         ensures last { self.new.known.last ≡ now }
     {
-        let _given_up = self.known.cache.expire(now);
+        let _given_up = self.known.cache.give_up(now);
         self.known.last = now;
     }
 
@@ -217,7 +215,7 @@ impl Correspondent {
         let mut answers = Answers::new(alloc)?;
         let held = self.route(now, home);
         ask_refresh(alloc, &mut answers, &self.identity, home, held)?;
-        self.commit_call(now, None)?;
+        self.commit_call(now, None);
         Ok(answers)
     }
 
@@ -254,25 +252,23 @@ impl Correspondent {
             payload,
             held,
         )?;
-        self.commit_call(now, None)?;
+        self.commit_call(now, None);
         Ok(answers)
     }
 }
 
 /// An update that was accepted has its row.
-fn keep(cache: &mut Cache, now: Moment, kept: Option<Kept>) -> Result<(), Memory>
+fn keep(cache: &mut Cache, now: Moment, kept: Option<Kept>)
     requires later { cache.old.last ≤ now.0 }
     requires early { now.0 < 2 ^ 62 }
     requires fits { Fits now.0 cache.old kept }
-    ensures ok { OnOk result (cache.new ≡ with_kept now.0 kept cache.old) }
-    ensures err { OnErr result (cache.new ≡ cache.old) }
+    ensures { cache.new ≡ with_kept now.0 kept cache.old }
 {
     let Some(kept) = kept else {
-        return Ok(());
+        return;
     };
     match cache.accept(now, kept.home, 0, kept.accepted) {
-        Ok(()) => Ok(()),
-        Err(AcceptFault::Memory) => Err(Memory),
+        Ok(()) => (),
         Err(AcceptFault::Full) => unreachable!(),
     }
 }

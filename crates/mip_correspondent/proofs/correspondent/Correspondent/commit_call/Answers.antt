@@ -13,5 +13,5 @@ invariant_of-self-2 c =
     let later = subst (λ (s : CorrespondentSeen). s.known.last.0 ≤ c.args.now.0) (sym c.self.view_is) c.requires.later in
     let fits = subst (λ (s : CorrespondentSeen). Fits c.args.now.0 s.known.cache c.args.kept) (sym c.self.view_is) c.requires.fits in
     subst (λ (secrets : Life). IsSound (record { identity = record { own = inside.identity.own; secrets = secrets; room = inside.identity.room }; known = record { last = c.args.now; cache = c.keep.new.cache } })) (sym c.renew.ensures)
-    (subst (λ (cache : CacheSeen). IsSound (record { identity = inside.identity; known = record { last = c.args.now; cache = cache } })) (sym c.in_ok-keep.ensures.ok)
+    (subst (λ (cache : CacheSeen). IsSound (record { identity = inside.identity; known = record { last = c.args.now; cache = cache } })) (sym c.keep.ensures)
     (kept_sound inside.identity inside.known c.args.now.0 c.args.kept c.self.invariant later fits))

@@ -14,7 +14,7 @@ use Rattle.mip_correspondent.specs.Showing.{Shows, with_kept}
 use Rattle.mip_correspondent.proofs.Turning.{Ends, ends}
 use Rattle.mip_correspondent.proofs.correspondent.Correspondent.part.Goals as goal
 
-ended : (c : goal.In_ok-commit_call) → Ends c.args.self.now c.commit_call.new.self c.answer_message.new.answers c.args.now.0 (calls.Part c.args.number (tree c.args.packet.now))
+ended : (c : goal.After-commit_call) → Ends c.args.self.now c.commit_call.new.self c.answer_message.new.answers c.args.now.0 (calls.Part c.args.number (tree c.args.packet.now))
 unfolding parts
 ended c =
     let inside : CorrespondentSeen = record { identity = c.self.inside.identity; known = c.self.inside.known } in
@@ -22,7 +22,7 @@ ended c =
     (λ (cache : CacheSeen). with_kept c.args.now.0 c.in_ok-kept.kept cache) c.answer_message.new.answers refl c.in_ok-answers.ensures c.self.view_is
     (λ t begins. subst (λ (m : Option Said). Shows c.args.now.0 (with_kept c.args.now.0 c.in_ok-kept.kept inside.known.cache) c.answer_message.new.answers (by_message inside.identity c.args.number (tree c.args.packet.now) m t))
     c.message_in-message.ensures.value (c.in_ok-kept.ensures.shows t begins))
-    c.in_ok-commit_call.ensures.ok
+    c.commit_call.ensures
 
 pub returns-clause-answers : goal.returns-clause-answers
 returns-clause-answers c = (ended c).answered

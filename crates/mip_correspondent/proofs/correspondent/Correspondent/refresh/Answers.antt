@@ -14,7 +14,7 @@ use Rattle.mip_correspondent.proofs.Turning.{refreshes-shown}
 use Rattle.mip_correspondent.proofs.Turning.{Ends, ends}
 use Rattle.mip_correspondent.proofs.correspondent.Correspondent.refresh.Goals as goal
 
-ended : (c : goal.In_ok-commit_call) → Ends c.args.self.now c.commit_call.new.self c.ask_refresh.new.answers c.args.now.0 (calls.Refresh c.args.home)
+ended : (c : goal.After-commit_call) → Ends c.args.self.now c.commit_call.new.self c.ask_refresh.new.answers c.args.now.0 (calls.Refresh c.args.home)
 ended c =
     let inside : CorrespondentSeen = record { identity = c.self.inside.identity; known = c.self.inside.known } in
     let now = c.args.now.0 in
@@ -23,7 +23,7 @@ ended c =
     (λ (cache : CacheSeen). cache) c.ask_refresh.new.answers refl c.in_ok-answers.ensures c.self.view_is
     (λ t begins. subst shown (sym (refreshes-shown inside.identity c.args.home now inside.known.cache c.in_ok-answers.answers t begins))
     (subst (λ (o : Option Address). shown (request_refresh inside.identity c.args.home o t)) (c.route-held.ensures.found ∙ ap (λ (s : CorrespondentSeen). held_of s.known now c.args.home) (sym c.self.view_is)) (c.in_ok-ask_refresh.ensures now inside.known.cache t begins)))
-    c.in_ok-commit_call.ensures.ok
+    c.commit_call.ensures
 
 pub returns-clause-answers : goal.returns-clause-answers
 returns-clause-answers c = (ended c).answered

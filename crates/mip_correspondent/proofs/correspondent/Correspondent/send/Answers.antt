@@ -16,7 +16,7 @@ use Rattle.mip_correspondent.proofs.Turning.{transmits-shown}
 use Rattle.mip_correspondent.proofs.Turning.{Ends, ends}
 use Rattle.mip_correspondent.proofs.correspondent.Correspondent.send.Goals as goal
 
-ended : (c : goal.In_ok-commit_call) → Ends c.args.self.now c.commit_call.new.self c.send_data.new.answers c.args.now.0 (calls.Send c.args.to c.args.proto c.args.payload.now)
+ended : (c : goal.After-commit_call) → Ends c.args.self.now c.commit_call.new.self c.send_data.new.answers c.args.now.0 (calls.Send c.args.to c.args.proto c.args.payload.now)
 ended c =
     let inside : CorrespondentSeen = record { identity = c.self.inside.identity; known = c.self.inside.known } in
     let now = c.args.now.0 in
@@ -26,7 +26,7 @@ ended c =
     (λ (cache : CacheSeen). cache) c.send_data.new.answers refl c.in_ok-answers.ensures c.self.view_is
     (λ t begins. subst shown (sym (transmits-shown inside.identity c.args.to c.args.proto c.args.payload.now now inside.known.cache c.in_ok-answers.answers t begins))
     (subst (λ (o : Option Address). shown (noted (Sends (packet o)) t)) (c.route-held.ensures.found ∙ ap (λ (s : CorrespondentSeen). held_of s.known now c.args.to) (sym c.self.view_is)) (c.in_ok-send_data.ensures now inside.known.cache t begins)))
-    c.in_ok-commit_call.ensures.ok
+    c.commit_call.ensures
 
 pub returns-clause-answers : goal.returns-clause-answers
 returns-clause-answers c = (ended c).answered

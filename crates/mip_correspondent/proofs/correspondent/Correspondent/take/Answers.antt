@@ -10,13 +10,13 @@ use Rattle.mip_correspondent.specs.Showing.{with_kept}
 use Rattle.mip_correspondent.proofs.Turning.{Ends, ends}
 use Rattle.mip_correspondent.proofs.correspondent.Correspondent.take.Goals as goal
 
-ended : (c : goal.In_ok-commit_call) → Ends c.args.self.now c.commit_call.new.self c.receive.new.answers c.args.now.0 (calls.Take c.args.number c.args.shield c.args.packet.now)
+ended : (c : goal.After-commit_call) → Ends c.args.self.now c.commit_call.new.self c.receive.new.answers c.args.now.0 (calls.Take c.args.number c.args.shield c.args.packet.now)
 unfolding takes
 ended c =
     ends c.args.self.now (record { identity = c.self.inside.identity; known = c.self.inside.known }) c.commit_call.new.self c.args.now.0 (calls.Take c.args.number c.args.shield c.args.packet.now) c.in_ok-answers.answers
     (λ (cache : CacheSeen). with_kept c.args.now.0 c.in_ok-kept.kept cache) c.receive.new.answers refl c.in_ok-answers.ensures c.self.view_is
     (λ t begins. c.in_ok-kept.ensures.shows t begins)
-    c.in_ok-commit_call.ensures.ok
+    c.commit_call.ensures
 
 pub returns-clause-answers : goal.returns-clause-answers
 returns-clause-answers c = (ended c).answered
