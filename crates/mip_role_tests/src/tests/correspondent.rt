@@ -61,16 +61,16 @@ fn bound(alloc: Global) -> Result<Option<Correspondent>, Fail>
 
 /// What a correspondent says of the home.
 #[derive(Clone, Copy, Debug, PartialEq, Eq)]
-struct Says {
+struct Shown {
     route: Option<Address>,
     holds: bool,
     sequence: Option<u16>,
 }
 
-fn says(node: &Correspondent, now: Moment) -> Says
+fn says(node: &Correspondent, now: Moment) -> Shown
     requires { node.now.known.last.0 ≤ now.0 }
 {
-    Says {
+    Shown {
         route: node.route(now, HOME),
         holds: node.holds(now, HOME, CAREOF),
         sequence: node.row(now, 0).map(|row| row.sequence),
@@ -78,7 +78,7 @@ fn says(node: &Correspondent, now: Moment) -> Says
 }
 
 /// What is said of the home once it is bound, and when its binding ends.
-fn said(alloc: Global) -> Result<Option<(Says, Says)>, Fail> {
+fn said(alloc: Global) -> Result<Option<(Shown, Shown)>, Fail> {
     let Some(mut node) = bound(alloc)? else {
         return Ok(None);
     };
@@ -137,12 +137,12 @@ fn data_goes_the_direct_way_once_bound(rt: HostRuntime) -> Result<(), Fail> {
 
 #[test]
 fn a_binding_stands_to_its_end(rt: HostRuntime) -> Result<(), Fail> {
-    let bound = Says {
+    let bound = Shown {
         route: Some(CAREOF),
         holds: true,
         sequence: Some(1),
     };
-    let ended = Says {
+    let ended = Shown {
         route: None,
         holds: false,
         sequence: None,
