@@ -36,6 +36,8 @@ use Rattle.mip_rules_agent.specs.Pasts.{is_one_of, is_registration_of}
 use Rattle.mip_rules_agent.specs.Soundness.{IsShielded, IsSound}
 use Rattle.mip_rules_agent.specs.Taken.{IsUpdateIn, IsUpdateTaken}
 use Rattle.mip_rules_agent.specs.Shielding.{ShieldNoUpdate}
+use Rattle.mip_rules_agent.specs.Granting.{IsBounded}
+use Rattle.mip_rules_agent.proofs.Granting.{accepted-bounded}
 use Rattle.mip_rules_agent.proofs.VerdictLaws.{sound}
 use Rattle.mip_rules_agent.proofs.Pasts.{stands-known, known-binding, known-unserved}
 use Rattle.mip_rules_agent.proofs.Calls.{call-stands}
@@ -208,6 +210,9 @@ module _ (s : Setup) (n : ℕ) (own : Address) (preference life room : ℕ) (ser
     judged : IsSound (bench me k now u.update) shield (claim_with (holds k (home_of u.update)) claim) u.update u.home u.careof u.sequence u.granted
     judged = sound (bench me k now u.update) shield (claim_with (holds k (home_of u.update)) claim) u.update u.home u.careof u.sequence u.granted u.verdict_is
 
+    bounded : IsBounded (bench me k now u.update).valid u.update u.granted
+    bounded = accepted-bounded (bench me k now u.update) shield (claim_with (holds k (home_of u.update)) claim) u.update u.home u.careof u.sequence u.granted u.verdict_is
+
     -- the update stands behind it
     stands_behind : IsRegistration s run.past n u.home b
     stands_behind = by (h.under number handed.post ends handed.posted (sym handed.under ∙ under.stands))
@@ -226,7 +231,7 @@ module _ (s : Setup) (n : ℕ) (own : Address) (preference life room : ℕ) (ser
 
         by : IsUnder s run.past number ends handed.post.packet → IsRegistration s run.past n u.home b
         by (inr none) = absurd (none u.update is_in)
-        by (inl sent) = let j = judged in record {
+        by (inl sent) = let j = judged in let fit = j.fit in record {
           number = number;
           earlier = handed.earlier;
           handed = handed.told;
@@ -238,8 +243,13 @@ module _ (s : Setup) (n : ℕ) (own : Address) (preference life room : ℕ) (ser
           of_careof = j.of_careof;
           of_sequence = j.of_sequence;
           newer = λ last e. j.newer last (ap (option_map (λ (x : HomeBinding). x.sequence)) (ap (binding_of k) (sym j.of_home) ∙ known_before u.home) ∙ e);
+          for_agent = fit.for_agent;
           granted = u.granted;
           until = refl;
+          hour = bounded.hour;
+          as_asked = bounded.asked;
+          none = bounded.none;
+          some = bounded.some;
         }
 
     steps_of_home : (home : Address) (same : Bool) → (u.home.0 == home.0) ≡ same → list_any (is_registration_of home) (turn call).steps ≡ same

@@ -10,7 +10,7 @@ use Rattle.mip_entries.specs.declared.entry.Entry.{Entry}
 use Rattle.mip_entries.specs.declared.entry.Entry.TheVariants as entries
 use Rattle.mip_entries.specs.Completed.{node_id}
 use Rattle.mip_updates.specs.declared.registration.Registration.{Registration}
-use Rattle.mip_updates.specs.Registrations.{home_of, registered_of}
+use Rattle.mip_updates.specs.Registrations.{home_of, registered_of, deletes}
 use Rattle.mip_rules_agent.specs.declared.home_binding.HomeBinding.{HomeBinding}
 use Rattle.mip_rules_agent.specs.Questions.{if_standing}
 use Rattle.mip_rules_agent.specs.Taken.{IsUpdateIn}
@@ -75,9 +75,15 @@ pub record IsRegistration (s : Setup) (past : List Entry) (n : ℕ) (home : Addr
   -- and its sequence comes after the one that is kept, where one is kept
   pub of_sequence : b.sequence ≡ update.sequence
   pub newer : (last : ℕ) → option_map (λ k. k.sequence) (last_registration past n home) ≡ Some last → is_after update.sequence last ≡ true
-  -- it ends after the time that was granted, in units of 4 s
+  -- it is one for home agents, and ends after the time that was granted, in units of 4 s: an hour at most and no longer than was
+  -- asked, none in a deletion, and else some
+  pub for_agent : update.for_agent ≡ true
   pub granted : ℕ
   pub until : b.end.0 ≡ moment_in s.start past + lifetime_unit * granted
+  pub hour : granted ≤ 900
+  pub as_asked : granted ≤ update.lifetime
+  pub none : deletes update ≡ true → granted ≡ 0
+  pub some : deletes update ≡ false → 1 ≤ granted
 
 abbrev pub is_registration_for : ℕ → Address → Entry → Bool
 is_registration_for n home (entries.Home node h careof sequence end) = (n == node.0) && (h.0 == home.0)
