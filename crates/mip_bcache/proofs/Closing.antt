@@ -90,6 +90,30 @@ closed_loose items ss loose = record {
   order = loose.order;
 }
 
+-- where no slot is empty, all stay
+closed_all : (items : Items) (ss : List Slot) → AllByRecursion (IsFilled items) ss → closed items ss ≡ ss
+closed_all items [] filled = refl
+closed_all items (s ∷ ss) filled =
+    let more = closed_all items ss filled.1 in
+    let first = filled.0 in
+    grind (arith, nat_tests, more, first)
+
+no_longer : (now : ℕ) (xs : Items) → length (later now xs) ≤ length xs
+no_longer now [] = omega arith
+no_longer now (x ∷ xs) = let more = no_longer now xs in grind (arith, nat_tests, more)
+
+-- where as many items are left, all are
+same_later : (now : ℕ) (xs : Items) → length (later now xs) ≡ length xs → later now xs ≡ xs
+same_later now [] same = refl
+same_later now (x ∷ xs) same = elim (cases_lt now x.due) [
+  | inl less ↦ grind (arith, nat_tests)
+  | inr over ↦
+      let goes : later now (x ∷ xs) ≡ later now xs = grind (arith, nat_tests) in
+      let fewer = no_longer now xs in
+      let as_many = ap (λ (ys : Items). length ys) goes in
+      absurd (omega arith)
+]
+
 -- the table without the rows that are over
 abbrev pub given_up : ℕ → TableSeen → TableSeen
 given_up now t = record t { chain = record { room = t.chain.room; items = later now t.chain.items }; homes = closed (later now t.chain.items) t.homes }
@@ -97,6 +121,11 @@ given_up now t = record t { chain = record { room = t.chain.room; items = later 
 module _ (now : ℕ) (t : TableSeen) (table : IsTable t) where
   pub rows_left : rows_in (given_up now t) ≡ kept_by until_of now (rows_in t)
   rows_left = closed_rows (later now t.chain.items) t.homes ∙ sym (rows_later now t.chain.items t.homes table.loose)
+
+  -- where no item leaves, no slot does
+  pub closed_same : length (later now t.chain.items) ≡ length t.chain.items → t.homes ≡ closed (later now t.chain.items) t.homes
+  closed_same same =
+      sym (closed_all (later now t.chain.items) t.homes (subst (λ (ys : Items). AllByRecursion (IsFilled ys) t.homes) (sym (same_later now t.chain.items same)) table.filled))
 
   loose_left : IsLoose (later now t.chain.items) (closed (later now t.chain.items) t.homes)
   loose_left = closed_loose (later now t.chain.items) t.homes (loose_later now t.chain.items t.homes table.loose)

@@ -150,6 +150,9 @@ impl Table {
         ensures links { steps.new ≤ steps.old + result + 1 }
     {
         let given_up = empty_slots(&mut self.chain, now, steps);
+        if given_up == 0 {
+            return 0;
+        }
         let chain = &self.chain;
         self.homes.retain(|slot| chain.get(*slot).is_some());
         given_up

@@ -96,7 +96,10 @@ fn room_of_ended_rows(alloc: Global) -> Option<(bool, Option<u128>, Option<u128>
 
 #[test]
 fn rows_stand_in_order_of_home(rt: HostRuntime) {
-    assert_eq!(rt; homes_in_order(rt.alloc()), Some([Some(1), Some(2), Some(3)]));
+    assert_eq!(rt;
+        homes_in_order(rt.alloc()),
+        Some([Some(1), Some(2), Some(3)])
+    );
 }
 
 #[test]

@@ -7,8 +7,8 @@ use Rattle.mip_correspondent.specs.Showing.{Fits}
 use Rattle.mip_correspondent.proofs.Rows.{kept_sound}
 use Rattle.mip_correspondent.proofs.correspondent.Correspondent.commit_call.Goals as goal
 
-pub invariant_of-self-2 : goal.invariant_of-self-2
-invariant_of-self-2 c =
+pub invariant_of-self : goal.invariant_of-self
+invariant_of-self c =
     let inside = c.self.inside in
     let later = subst (λ (s : CorrespondentSeen). s.known.last.0 ≤ c.args.now.0) (sym c.self.view_is) c.requires.later in
     let fits = subst (λ (s : CorrespondentSeen). Fits c.args.now.0 s.known.cache c.args.kept) (sym c.self.view_is) c.requires.fits in
