@@ -1,4 +1,5 @@
 pub mod RowLaws
 pub mod RunLaws
+pub mod SlotLaws
 pub mod TimerLaws
 pub mod WorkLaws

@@ -59,10 +59,6 @@ with_apart due work ts range s = put_apart (record { due = due; work = work }) (
 without_apart : (work : Work) (ts : List Timer) → AreApart ts → AreApart (without_timer work ts)
 without_apart work ts s = filter_apart (λ t. not (is_of work t)) ts s
 
-due_apart : (now : Moment) (ts : List Timer) → AreApart ts → AreApart (without_due now ts)
-due_apart now [] s = tt
-due_apart now (t ∷ ts) s = elim (nat_lt now.0 t.due.0) as (λ b. AreApart (cond b (t ∷ ts) ts)) [ true ↦ s | false ↦ s.2 ]
-
 -- at most 64 timers
 differ : (n : ℕ) (ts : List Timer) → IsAbsent n ts → AllByRecursion (λ y. (n == y) ≡ false) (map (λ t. number_of t.work) ts)
 differ n [] a = tt
@@ -99,7 +95,7 @@ from_earlier a b [] le d = tt
 from_earlier a b (t ∷ ts) le d = let h : b ≤ t.due.0 = d.0 in (omega arith, from_earlier a b ts le d.1)
 
 -- a timer behind one more
-at_more : (n : ℕ) (t x : Timer) (xs : List Timer) → insert (x ∷ xs) (1 + n) t ≡ x ∷ insert xs n t
+pub at_more : (n : ℕ) (t x : Timer) (xs : List Timer) → insert (x ∷ xs) (1 + n) t ≡ x ∷ insert xs n t
 at_more n t x xs = let e : suc n ≡ 1 + n = omega arith in subst (λ m. insert (x ∷ xs) m t ≡ x ∷ insert xs n t) e refl
 
 insert_from : (at : ℕ) (t : Timer) (xs ys : List Timer) → at ≤ t.due.0 → AreDueFrom at (xs ++ ys) → AreDueFrom at (xs ++ t ∷ ys)
@@ -121,7 +117,7 @@ order_at t (x ∷ xs) o =
       | false ↦ λ e. let le : x.due.0 ≤ t.due.0 = grind (arith, nat_tests) in subst AreInOrder (sym (at_more n t x xs)) (at_from x.due.0 n t xs le o.0, order_at t xs o.1)
     ]) refl
 
-place_is : (due : Moment) (ts : List Timer) → place_of due ts ≡ position_or_len (λ t. nat_lt due.0 t.due.0) ts
+pub place_is : (due : Moment) (ts : List Timer) → place_of due ts ≡ position_or_len (λ t. nat_lt due.0 t.due.0) ts
 place_is due ts =
     let a = position_or_len (λ t. nat_lt due.0 t.due.0) ts in
     let b = length ts in
@@ -145,9 +141,6 @@ with_sound due work ts range s = record {
 
 pub without_sound : (work : Work) (ts : List Timer) → IsSound ts → IsSound (without_timer work ts)
 without_sound work ts s = record { apart = without_apart work ts s.apart; order = filter_order (λ t. not (is_of work t)) ts s.order }
-
-pub due_sound : (now : Moment) (ts : List Timer) → IsSound ts → IsSound (without_due now ts)
-due_sound now ts s = record { apart = due_apart now ts s.apart; order = due_order now ts s.order }
 
 -- at most 63 timers of other works
 pub room_left : (work : Work) (ts : List Timer) → IsInRange work → IsSound ts → length (without_timer work ts) < 64

@@ -3,17 +3,14 @@ use Rattle.std.specs.Prelude.{ℕ, ◌≤◌, List, length}
 use Rattle.mip_bulist.specs.declared.row.Row.{Row}
 use Rattle.mip_bulist.specs.declared.timer.Timer.{Timer}
 use Rattle.mip_bulist.specs.Rows.{AreOfDifferentPeers}
-use Rattle.mip_bulist.specs.Timers.{IsSound}
 
 -- the rows in the order in which they were made, and the timers by due moment, ties in order of setting
 pub record ListSeen : Type 0 where
   pub rows : List Row
   pub timers : List Timer
 
--- at most sixteen rows, of different peers, and timers of different works, with room for all that there can be
-pub record IsListSound (rows : List Row) (row_room : ℕ) (timers : List Timer) (timer_room : ℕ) : Type 0 where
+-- at most sixteen rows, of different peers, with room for all that there can be
+pub record IsListSound (rows : List Row) (row_room : ℕ) : Type 0 where
   pub few : length rows ≤ 16
   pub peers : AreOfDifferentPeers rows
   pub rows_room : 16 ≤ row_room
-  pub sound : IsSound timers
-  pub timers_room : 64 ≤ timer_room

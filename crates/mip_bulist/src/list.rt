@@ -5,9 +5,9 @@ ghost use Rattle.mip_bulist.specs.Rows.{AreOfDifferentPeers, given_row, with_row
 use crate::any::Any;
 use crate::list_full::ListFull;
 use crate::row::Row;
-use crate::timer::Timer;
+use crate::rows;
+use crate::timers::Timers;
 use crate::work::Work;
-use crate::{rows, timers};
 use mip_words::{Address, Memory, Moment};
 use std::alloc::Global;
 use std::marker::Model;
@@ -17,7 +17,7 @@ use std::marker::Model;
 #[derive(Drop)]
 pub struct List {
     rows: Vec<Row>,
-    timers: Vec<Timer>,
+    timers: Timers,
 }
 
 impl Model for List {
@@ -26,9 +26,9 @@ impl Model for List {
 
     ghost Value = { ListSeen };
 
-    ghost view = { λ l. record { rows = l.rows.items; timers = l.timers.items } };
+    ghost view = { λ l. record { rows = l.rows.items; timers = l.timers } };
 
-    ghost invariant = { λ l. IsListSound l.rows.items (vec_capacity l.rows) l.timers.items (vec_capacity l.timers) };
+    ghost invariant = { λ l. IsListSound l.rows.items (vec_capacity l.rows) };
 }
 
 impl List {
@@ -38,7 +38,7 @@ impl List {
     {
         Ok(List {
             rows: Vec::with_capacity(alloc, 16)?,
-            timers: Vec::with_capacity(alloc, 64)?,
+            timers: Timers::new(alloc)?,
         })
     }
 
@@ -112,7 +112,7 @@ impl List {
         requires { IsInRange work }
         ensures { self.new ≡ record self.old { timers = with_timer due work self.old.timers } }
     {
-        timers::set(&mut self.timers, Timer { due, work });
+        self.timers.set(due, work);
     }
 
     /// Stops the timer of this work. `false` exactly where it is not set.
@@ -120,7 +120,7 @@ impl List {
         ensures was { result ≡ is_set work self.old.timers }
         ensures list { self.new ≡ record self.old { timers = without_timer work self.old.timers } }
     {
-        timers::stop(&mut self.timers, work)
+        self.timers.stop(work)
     }
 
     /// Takes the set work of the earliest due moment, ties in order of setting. `None` exactly where none
@@ -130,7 +130,7 @@ impl List {
         ensures work { result ≡ due_work now self.old.timers }
         ensures list { self.new ≡ record self.old { timers = without_due now self.old.timers } }
     {
-        timers::pop(&mut self.timers, now)
+        self.timers.pop(now)
     }
 
     /// How many timers are set.
@@ -145,6 +145,6 @@ impl List {
         ensures order { AreInOrder self.now.timers }
         ensures first { result ≡ first_due self.now.timers }
     {
-        timers::first_due(&self.timers)
+        self.timers.due()
     }
 }

@@ -1,3 +1,5 @@
+mod timers;
+
 use mip_bulist::{Aim, Any, Ended, List, Probe, Work};
 use mip_words::{Address, Cookie, Moment, Token};
 

@@ -1,0 +1,4 @@
+use Rattle.mip_bulist.proofs.timers.Timers.pop.Given as goal
+
+abbrev pub ghosts-popped : goal.ghosts-popped
+ghosts-popped a = record { name = a.blank.name; parts = a.blank.parts }
