@@ -16,6 +16,9 @@ pub mod Resting
 pub mod Leaving
 pub mod Calls
 pub mod Told
+pub mod Counted
+pub mod Wording
+pub mod Searching
 pub mod Timers
 pub mod Answers
 pub mod Wholes

@@ -25,6 +25,9 @@ pub mod RingingRules
 pub mod Doing
 pub mod Part
 pub mod Told
+pub mod Counted
+pub mod Wording
+pub mod Searching
 pub mod Kept
 pub mod Fitting
 pub mod Answering

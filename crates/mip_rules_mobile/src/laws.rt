@@ -1,6 +1,6 @@
 //! The laws by which a mobile stands for a past, and by which its steps, packets and timers are as they should be.
 
-ghost use Rattle.std.specs.Prelude.{◌≡◌, ℕ, ◌+◌, List, [], Option, Some, None, Bool, true, false, is_some, length, filter, if◌then◌else◌};
+ghost use Rattle.std.specs.Prelude.{◌≡◌, ℕ, ◌<◌, ◌+◌, ◌%◌, ◌^◌, List, [], ◌∷◌, ◌++◌, Option, Some, None, Bool, true, false, is_some, length, filter, if◌then◌else◌};
 ghost use Rattle.std.specs.List.{list_any};
 ghost use Rattle.mip_words.specs.declared.address.Address.{Address};
 ghost use Rattle.mip_words.specs.declared.shield.Shield.{Shield};
@@ -12,13 +12,17 @@ ghost use Rattle.mip_entries.specs.Stamped.{Stamped};
 ghost use Rattle.mip_rules_mobile.specs.declared.standing.Standing.TheVariants.{AtHome, Away};
 ghost use Rattle.mip_rules_mobile.specs.Calls.{Call, Leave, Take, Tick, Restart};
 ghost use Rattle.mip_rules_mobile.specs.Sendings.{PeerUpdate};
-ghost use Rattle.mip_rules_mobile.specs.Steps.{Step, Detaches, is_call, answers_of};
+ghost use Rattle.mip_rules_mobile.specs.Steps.{Step, Detaches, Seeks, is_call, answers_of};
 ghost use Rattle.mip_rules_mobile.specs.Known.{Known};
 ghost use Rattle.mip_rules_mobile.specs.HomeQuestions.{home_of, standing_said, registered_said, latest_said, agent_said, owes_said, next_said, next_to};
 ghost use Rattle.mip_rules_mobile.specs.DiscoveryQuestions.{found_said, chosen_said, is_choice};
 ghost use Rattle.mip_rules_mobile.specs.Questions.{after, known};
 ghost use Rattle.mip_rules_mobile.specs.Turns.{Stands, with_turn};
+ghost use Rattle.mip_rules_mobile.specs.RowQuestions.{is_touched_row, wait_of_row};
 ghost use Rattle.mip_rules_mobile.specs.Told.{last_told, next_in};
+ghost use Rattle.mip_rules_mobile.specs.Counted.{this_life, is_search, is_solicitation, cookies_drawn, how_many};
+ghost use Rattle.mip_rules_mobile.specs.Searching.{is_over, is_turn, search_with};
+ghost use Rattle.mip_rules_mobile.specs.Wording.{wait_said, touched_said, bound_said, resend_said, bound_at};
 ghost use Rattle.mip_rules_mobile.specs.Fitting.{IsUpdateOf, EachFits};
 ghost use Rattle.mip_rules_mobile.specs.Kept.{RowsGiven, IsMadeFrom};
 ghost use Rattle.mip_rules_mobile.specs.Refusing.{is_refusal, tables_of};
@@ -165,4 +169,29 @@ pub fn leaving_forgets()
 pub fn cookies_begin_at_zero()
     ensures born { (home : Address) (declared : Option Address) (secrets : Life) → (known home declared secrets []).cookies ≡ 0 }
     ensures restarted { (k : Known) (now : ℕ) (secrets : Life) → (turn_of k now (Restart secrets)).known.cookies ≡ 0 }
+{}
+
+/// What is known of a row is what the last step says that says anything of it: whether its peer was sent an update that is not
+/// undone, until when its binding was acknowledged, and how long its resending waits. So is how long that of a registration waits.
+pub fn each_row_is_the_last_told()
+    ensures touched { (home : Address) (declared : Option Address) (secrets : Life) (past : List (Stamped Step)) (row : ℕ) → row < 16 → is_touched_row (known home declared secrets past) row ≡ last_told (λ s. touched_said row s.step) false past }
+    ensures bound { (home : Address) (declared : Option Address) (secrets : Life) (past : List (Stamped Step)) (row : ℕ) → row < 16 → bound_at (known home declared secrets past) row ≡ last_told (λ s. bound_said row s.step) None past }
+    ensures resends { (home : Address) (declared : Option Address) (secrets : Life) (past : List (Stamped Step)) (row : ℕ) → row < 16 → wait_of_row (known home declared secrets past) row ≡ last_told (λ s. resend_said row s.step) 0 past }
+    ensures wait { (home : Address) (declared : Option Address) (secrets : Life) (past : List (Stamped Step)) → (known home declared secrets past).wait ≡ last_told (λ s. wait_said s.step) 0 past }
+{}
+
+/// The identifiers of discoveries and of solicitations begin at 1 in each life and go on by one, modulo 65536; cookies are those
+/// drawn since the last restart, modulo 2^64.
+pub fn numbers_are_counted_in_each_life()
+    ensures discoveries { (home : Address) (declared : Option Address) (secrets : Life) (past : List (Stamped Step)) → (known home declared secrets past).discoveries ≡ (1 + how_many is_search (this_life past)) % 65536 }
+    ensures solicitations { (home : Address) (declared : Option Address) (secrets : Life) (past : List (Stamped Step)) → (known home declared secrets past).solicitations ≡ (1 + how_many is_solicitation (this_life past)) % 65536 }
+    ensures cookies { (home : Address) (declared : Option Address) (secrets : Life) (past : List (Stamped Step)) → (known home declared secrets past).cookies ≡ cookies_drawn (this_life past) % 2 ^ 64 }
+{}
+
+/// A discovery runs from its beginning until it is given up or answered, or the mobile leaves or restarts: with the identifier that
+/// was next before it, with as many requests behind the first as were sent since, four at most, and the next one due after the last.
+pub fn a_discovery_runs_until_it_is_over()
+    ensures runs { (home : Address) (declared : Option Address) (secrets : Life) (before : List (Stamped Step)) (at : ℕ) (later : List (Stamped Step)) → list_any (λ s. is_turn s.step) later ≡ false
+        → (known home declared secrets (before ++ record { at = at; step = Seeks } ∷ later)).discovery ≡ search_with (known home declared secrets before).discoveries at later }
+    ensures none { (home : Address) (declared : Option Address) (secrets : Life) (past : List (Stamped Step)) → list_any (λ s. is_search s.step) (since (λ s. is_over s.step) past) ≡ false → (known home declared secrets past).discovery ≡ None }
 {}

@@ -1,0 +1,11 @@
+use Rattle.mip_rules_mobile.proofs.Counted.{discoveries-told, solicitations-told, cookies-told}
+use Rattle.mip_rules_mobile.proofs.laws.numbers_are_counted_in_each_life.Goals as goal
+
+pub returns-clause-discoveries : goal.returns-clause-discoveries
+returns-clause-discoveries c = λ home declared secrets past. discoveries-told home declared secrets past
+
+pub returns-clause-solicitations : goal.returns-clause-solicitations
+returns-clause-solicitations c = λ home declared secrets past. solicitations-told home declared secrets past
+
+pub returns-clause-cookies : goal.returns-clause-cookies
+returns-clause-cookies c = λ home declared secrets past. cookies-told home declared secrets past
