@@ -39,3 +39,4 @@ pub mod Declarations
 pub mod ShownRows
 pub mod ShownRuns
 pub mod Fronts
+pub mod Leftovers

@@ -75,7 +75,7 @@ at_comes s run m is later = record {
       early = subst (λ (at : ℕ). AllByRecursion (λ t. t.at ≤ at) steps) (sym moment) (all_later (moment_in s.start run.past) m steps later p.early);
     }
 
-comes_goes : (s : Setup) (m : ℕ) (w : Waiting) → IsRun s w.run → now_in s w.run ≤ m → Comes s w.run (comes_to s m w).run m
+pub comes_goes : (s : Setup) (m : ℕ) (w : Waiting) → IsRun s w.run → now_in s w.run ≤ m → Comes s w.run (comes_to s m w).run m
 comes_goes s m w is later = by (w.told && (now_in s w.run == m)) refl
   where
     by : (b : Bool) → (w.told && (now_in s w.run == m)) ≡ b → Comes s w.run (let x : Waiting = (if b then w else record { run = note (entries.At (record { 0 = m })) w.run; told = true }) in x.run) m
@@ -83,14 +83,14 @@ comes_goes s m w is later = by (w.told && (now_in s w.run == m)) refl
     by false e = at_comes s w.run m is later
 
 -- nodes with work due do it
-ticks_one_goes : (s : Setup) (n : ℕ) (run : Run) → IsRun s run → Goes s run (ticks_one s n run)
+pub ticks_one_goes : (s : Setup) (n : ℕ) (run : Run) → IsRun s run → Goes s run (ticks_one s n run)
 ticks_one_goes s n run is = by (is_due (due_of s run n) (now_in s run))
   where
     by : (b : Bool) → Goes s run (if b then acts s n Tick run else run)
     by true = acts_calmly s n Tick run is refl
     by false = stays s run is
 
-ticked_goes : (s : Setup) (n : ℕ) (run : Run) → IsRun s run → Goes s run (ticked s n run)
+pub ticked_goes : (s : Setup) (n : ℕ) (run : Run) → IsRun s run → Goes s run (ticked s n run)
 unfolding ticked
 ticked_goes s zero run is = stays s run is
 ticked_goes s (suc n) run is =
@@ -101,10 +101,10 @@ ticked_goes s (suc n) run is =
 max_within : (a b t : ℕ) → a ≤ t → b ≤ t → max a b ≤ t
 max_within a b t p q = omega arith
 
-max_later : (a b : ℕ) → a ≤ max a b
+pub max_later : (a b : ℕ) → a ≤ max a b
 max_later a b = omega arith
 
-works_within : (s : Setup) (due target : ℕ) (w : Waiting) → IsRun s w.run → now_in s w.run ≤ target → due ≤ target → IsWithin s w.run (works s due w).run target
+pub works_within : (s : Setup) (due target : ℕ) (w : Waiting) → IsRun s w.run → now_in s w.run ≤ target → due ≤ target → IsWithin s w.run (works s due w).run target
 works_within s due target w is early by_then =
     let m = max (now_in s w.run) due in
     let come = comes_goes s m w is (max_later (now_in s w.run) due) in

@@ -26,7 +26,7 @@ ghost use Rattle.mip_history.specs.Runs.{Run};
 ghost use Rattle.mip_history.specs.Questions.{moment_in, life_in, holder_in};
 ghost use Rattle.mip_history.specs.Knowing.{known_in, now_in, agent_known_in, mobile_known_in};
 ghost use Rattle.mip_history.specs.Homes.{is_at_home, lives_at, gives_up};
-ghost use Rattle.mip_history.specs.Waiting.{works_until};
+ghost use Rattle.mip_history.specs.Waiting.{works_until, waited, due_of, is_due};
 ghost use Rattle.mip_links.specs.Table.{link_of};
 ghost use Rattle.mip_history.specs.Permitted.{opening_claims, run_of, happens, permitted};
 ghost use Rattle.mip_history.specs.Claims.{is_free_for};
@@ -189,4 +189,9 @@ pub fn agents_keep_what_was_registered()
         → careof_at (agent_known_in (run_of s events) n serves) (now_in s (run_of s events)) home ≡ registered_in s (run_of s events).past n home }
     ensures kept { (s : Setup) (events : List Event) (n : ℕ) (own : Address) (preference life room : ℕ) (serves : List Address) (home : Address) → slice_get s.hosts n ≡ Some (record { address = own; kind = Agent preference life room serves })
         → kept_of (agent_known_in (run_of s events) n serves) home ≡ option_map (λ b. b.sequence) (last_registration (run_of s events).past n home) }
+{}
+
+/// A wait leaves nothing that is due: at its end each node has done all its work that was due by then.
+pub fn a_wait_leaves_nothing_due()
+    ensures { (s : Setup) (events : List Event) (ms n : ℕ) → is_due (due_of s (waited s (run_of s events) ms) n) (now_in s (waited s (run_of s events) ms)) ≡ false }
 {}

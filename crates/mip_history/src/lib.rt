@@ -4,12 +4,12 @@
 mod laws;
 
 pub use laws::{
-    accepted_was_handed, addresses_have_one_holder, agents_keep_what_was_registered,
-    entries_name_what_is_declared, event_after_event, held_was_accepted,
-    homes_change_by_updates_or_time, homes_pass_to_their_mobiles, last_acceptance_counts,
-    lives_are_restarts, moments_rise, nodes_keep_what_was_accepted, packets_are_numbered,
-    registered_was_sent, registrations_have_their_update, repeats_come_after_rounds,
-    rows_are_last_acceptances, work_stays_within_its_wait,
+    a_wait_leaves_nothing_due, accepted_was_handed, addresses_have_one_holder,
+    agents_keep_what_was_registered, entries_name_what_is_declared, event_after_event,
+    held_was_accepted, homes_change_by_updates_or_time, homes_pass_to_their_mobiles,
+    last_acceptance_counts, lives_are_restarts, moments_rise, nodes_keep_what_was_accepted,
+    packets_are_numbered, registered_was_sent, registrations_have_their_update,
+    repeats_come_after_rounds, rows_are_last_acceptances, work_stays_within_its_wait,
 };
 pub use mip_entries::{Answer, Answers, Entry, History, UpdateSeen};
 pub use mip_marks::{Mark, Watch};
