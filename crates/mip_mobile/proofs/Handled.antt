@@ -21,7 +21,9 @@ use Rattle.mip_mobility.specs.Seen.{DeskSeen, Shows}
 use Rattle.mip_mobility.proofs.Noted.{shows-known, shows-moment}
 use Rattle.mip_mobile.specs.Putting.{after_put, Puts, PutsAll, PutsFront, Told, Answered, sends_of, puts_of}
 use Rattle.mip_mobile.specs.Handling.{Handles, BreaksOff, IsLeft}
+use Rattle.mip_rules_mobile.specs.Refusing.{tables_of}
 use Rattle.mip_mobile.proofs.PutLaws.{out-none}
+use Rattle.mip_mobile.proofs.Refused.{refused-call}
 
 pub if-both : {A E : Type 0} (P Q R : A → Type 0) (r : Result A E) → ((x : A) → P x → Q x → R x) → IfOk r P → IfOk r Q → IfOk r R
 if-both P Q R (Ok x) f p q = f x p q
@@ -62,6 +64,7 @@ handled gives k now call desk asked left out told puts puts_after answers shows 
           subst (λ (l : Known). Stands home declared secrets (with_turn past (turn_of k now call)) l) (sym same) (call-stands home declared secrets past k now call stands);
       sent = sent;
       answered = subst (λ (xs : List Answer). puts_after ≡ puts ++ puts_of xs answers) own answered;
+      refused = λ number shield packet is_take some. ap tables_of same ∙ refused-call gives k now call answers all number shield packet is_take some;
     }
 
 -- where nothing was handed to the wire, it sent nothing

@@ -1,16 +1,20 @@
 -- What a call of a station answers, and what it leaves.
-use Rattle.std.specs.Prelude.{◌≡◌, ◌≤◌, ℕ, Bool, true, max, List, ◌++◌, take, length, map, Option, option_map, Err}
+use Rattle.std.specs.Prelude.{◌≡◌, ◌≤◌, ℕ, Bool, true, false, max, List, ◌++◌, take, length, map, Option, option_map, Err}
+use Rattle.std.specs.List.{list_any}
 use Rattle.mip_words.specs.declared.address.Address.{Address}
+use Rattle.mip_words.specs.declared.shield.Shield.{Shield}
 use Rattle.mip_nonce.specs.Secrets.{Life}
 use Rattle.mip_outside.specs.declared.put.Put.{Put}
 use Rattle.mip_outside.specs.declared.put_fault.PutFault.{PutFault}
 use Rattle.mip_entries.specs.Stamped.{Stamped}
 use Rattle.mip_entries.specs.declared.answer.Answer.{Answer}
+use Rattle.mip_entries.specs.declared.answer.Answer.TheVariants.{Send, Note}
 use Rattle.mip_rules_mobile.specs.declared.standing.Standing.TheVariants.{Away}
 use Rattle.mip_rules_mobile.specs.Answering.{IsElsewhere, AreFrom, stays_put}
-use Rattle.mip_rules_mobile.specs.Calls.{Call}
+use Rattle.mip_rules_mobile.specs.Calls.{Call, Take}
 use Rattle.mip_rules_mobile.specs.Steps.{Step, answers_of}
 use Rattle.mip_rules_mobile.specs.Known.{Known}
+use Rattle.mip_rules_mobile.specs.Refusing.{tells_of_refusal, tables_of}
 use Rattle.mip_rules_mobile.specs.Turns.{Stands, with_turn}
 use Rattle.mip_rules_mobile.specs.Doing.{turn_of}
 use Rattle.mip_mobility.specs.Seen.{DeskSeen}
@@ -20,10 +24,16 @@ use Rattle.mip_mobile.specs.Putting.{PutsAll, Told, Answered, sends_of, puts_of}
 abbrev pub moment_of : (clock last : ℕ) → ℕ
 moment_of clock last = max clock last
 
+-- a packet was dropped, or an update denied
+abbrev pub refuses : Answer → Bool
+refuses (Send shield packet) = false
+refuses (Note entry) = tells_of_refusal entry
+
 -- a station that knew this was called at a moment: its answers are those of the definition's turn, as its wire took them;
 -- it stands for each past for which it stood before, with the turn behind it; where it is away, and stays, each packet leaves
 -- from its care-of address; its wire sent the packets of its answers, and was called once for each packet of the definition's
--- answers, in order, and what became of a packet is what that very call answered
+-- answers, in order, and what became of a packet is what that very call answered. A packet that it drops, and an update that it
+-- denies, changes no binding, no registration, no trial, no timer and no list
 pub record Handles (gives : Put → Bool) (before : Known) (now : ℕ) (call : Call) (out : Told) (puts : Answered) (answers : List Answer) (after : Known) (left : Told) (puts_after : Answered) : Type 0 where
   pub taken : PutsAll gives (answers_of (turn_of before now call).steps) answers
   pub known : after ≡ (turn_of before now call).known
@@ -32,6 +42,7 @@ pub record Handles (gives : Put → Bool) (before : Known) (now : ℕ) (call : C
   pub away : (careof : Address) → before.standing ≡ Away careof → IsElsewhere before → stays_put call ≡ true → AreFrom careof answers
   pub sent : left ≡ option_map (λ items. items ++ sends_of answers) out
   pub answered : puts_after ≡ puts ++ puts_of (answers_of (turn_of before now call).steps) answers
+  pub refused : (number : ℕ) (shield : Option Shield) (packet : List ℕ) → call ≡ Take number shield packet → list_any refuses answers ≡ true → tables_of after ≡ tables_of before
 
 -- a station that knew this was called at a moment, and answered a fault: its wire took a front of the answers of the
 -- definition's turn, and sent their packets and no others; where it was away, and stays, each left from its care-of address; and
