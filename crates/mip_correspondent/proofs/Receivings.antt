@@ -1,15 +1,10 @@
 -- A packet that was read is checked by what the turn leaves, and its head may be written again.
-use Rattle.std.proofs.Common.{◌≡◌, ℕ, ◌-◌, ◌≤◌, List, [], ◌∷◌, length, drop, refl, sym, ap, ◌∙◌, subst, true, arith}
-use Rattle.std.specs.Prelude.{Option, Some, None, Result, Ok, option_to_list}
-use Rattle.std.specs.List.{AllByRecursion, flat_map}
-use Rattle.std.proofs.lemmas.List.{length-drop}
-use Rattle.mip_words.specs.Addresses.{is_routable}
-use Rattle.mip_words.specs.declared.address.Address.{Address}
+use Rattle.std.proofs.Common.{◌≡◌, ℕ, List, sym, ap, ◌∙◌}
+use Rattle.std.specs.Prelude.{Option, Result, Ok}
 use Rattle.mip_ipv6.specs.declared.head.Head.{Head}
 use Rattle.mip_ipv6.specs.declared.not_packet.NotPacket.{NotPacket}
-use Rattle.mip_ipv6.specs.Packet.{Packet, is_routable_if_any}
+use Rattle.mip_ipv6.specs.Packet.{Packet}
 use Rattle.mip_ipv6.specs.Reading.{packet_of}
-use Rattle.mip_ipv6.specs.Spelling.{Piece, Pad, Skipped, Home, IsPiece, home_in, IsOptions, IsPacket}
 use Rattle.mip_mobhdr.specs.Said.{Said}
 use Rattle.mip_entries.specs.declared.answer.Answer.{Answer}
 use Rattle.mip_bcache.specs.Seen.{CacheSeen}

@@ -1,5 +1,5 @@
 -- How what a turn shows goes on with its steps.
-use Rattle.std.proofs.Common.{◌≡◌, ℕ, List, [], ◌++◌, Bool, false, refl, sym, ap, ◌∙◌, subst}
+use Rattle.std.proofs.Common.{◌≡◌, ℕ, List, [], ◌++◌, Bool, false, sym, ap, subst}
 use Rattle.std.specs.Prelude.{if◌then◌else◌}
 use Rattle.mip_entries.specs.declared.answer.Answer.{Answer}
 use Rattle.mip_bcache.specs.Seen.{CacheSeen, expired}

@@ -1,4 +1,4 @@
-use Rattle.std.proofs.Common.{◌≡◌, refl, ap, sym, subst, ◌∙◌}
+use Rattle.std.proofs.Common.{refl, ap, sym, subst}
 use Rattle.std.specs.Prelude.{Option}
 use Rattle.mip_ipv6.specs.Packet.{packet as tree}
 use Rattle.mip_mobhdr.specs.Said.{Said}
@@ -7,7 +7,7 @@ use Rattle.mip_rules_correspondent.specs.Rules.{by_message}
 use Rattle.mip_rules_correspondent.specs.Doing.{parts}
 use Rattle.mip_rules_correspondent.specs.Calls as calls
 use Rattle.mip_rules_correspondent.specs.declared.known.Known.{Known}
-use Rattle.mip_rules_correspondent.specs.Turns.{Turn, Stands, with_turn}
+use Rattle.mip_rules_correspondent.specs.Turns.{Stands, with_turn}
 use Rattle.mip_rules_correspondent.specs.Seen.{CorrespondentSeen, turn_at}
 use Rattle.mip_rules_correspondent.proofs.Calls.{call-stands}
 use Rattle.mip_correspondent.specs.Showing.{Shows, with_kept}

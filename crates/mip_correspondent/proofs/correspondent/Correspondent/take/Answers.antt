@@ -1,9 +1,9 @@
-use Rattle.std.proofs.Common.{◌≡◌, refl, ap, sym, subst, ◌∙◌}
+use Rattle.std.proofs.Common.{refl, ap, sym, subst}
 use Rattle.mip_bcache.specs.Seen.{CacheSeen}
 use Rattle.mip_rules_correspondent.specs.Doing.{takes}
 use Rattle.mip_rules_correspondent.specs.Calls as calls
 use Rattle.mip_rules_correspondent.specs.declared.known.Known.{Known}
-use Rattle.mip_rules_correspondent.specs.Turns.{Turn, Stands, with_turn}
+use Rattle.mip_rules_correspondent.specs.Turns.{Stands, with_turn}
 use Rattle.mip_rules_correspondent.specs.Seen.{CorrespondentSeen, turn_at}
 use Rattle.mip_rules_correspondent.proofs.Calls.{call-stands}
 use Rattle.mip_correspondent.specs.Showing.{with_kept}
