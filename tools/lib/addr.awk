@@ -5,7 +5,7 @@ BEGIN {
         "yield deliver repeat lose carry restart refresh plan ask show settle at moved advertised claimed released taken listening deafened " \
         "careof sent injected heard handed gone lost idle home registered unregistered refused chosen prefixes made bound unbound accepted " \
         "origin forged denied dropped up unsent restarted row settled source destination hop class flow route proto message cookie index " \
-        "token sequence flags lifetime status advice nonces alternate authorization fault icmp body bad advert holds solicit answer silent claim free got to " \
+        "token sequence flags lifetime status advice nonces number alternate authorization fault icmp body bad advert holds solicit answer silent claim free got to " \
         "self port route default payload release copies", list, " ")
     for (i in list) known[list[i]] = 1
     # where bytes stand that are no address

@@ -12,7 +12,7 @@ use Rattle.mip_ipv6.proofs.Sums.{length-with_number_at}
 use Rattle.mip_options.specs.Values.{Values, nothing}
 use Rattle.mip_options.specs.Spelling.{item_bytes}
 use Rattle.mip_options.specs.Spelling.Item.{Authorization}
-use Rattle.mip_options.specs.Writing.{gap, padding, aligned, with_advice, with_nonces, with_alternate, with_authorization, closed, canonical}
+use Rattle.mip_options.specs.Writing.{gap, padding, aligned, with_advice, with_nonces, with_number, with_alternate, with_authorization, closed, canonical}
 use Rattle.mip_options.proofs.PaddingLaws.{length_padding}
 use Rattle.mip_mobhdr.specs.Said.{Said}
 use Rattle.mip_mobhdr.specs.Spelling.{field_bytes, options_said, rest_bytes, unsummed, message_bytes}
@@ -51,12 +51,12 @@ closed-short start area =
 
 -- no option
 nothing-short : (start : ℕ) → length (canonical start nothing) ≤ 7
-unfolding canonical with_authorization with_alternate with_nonces with_advice
+unfolding canonical with_authorization with_alternate with_number with_nonces with_advice
 nothing-short start = omega (arith, closed-short start [])
 
 -- an authenticator alone
 authenticator-short : (start : ℕ) (bytes : List ℕ) → length bytes ≤ 12 → length (canonical start (with_authenticator bytes nothing)) ≤ 28
-unfolding canonical with_authorization with_alternate with_nonces with_advice aligned
+unfolding canonical with_authorization with_alternate with_number with_nonces with_advice aligned
 authenticator-short start bytes short =
     let n : ℕ = gap 8 2 (start + 0) in
     let area : List ℕ = padding n ++ item_bytes (Authorization bytes) in

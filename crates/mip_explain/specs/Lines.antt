@@ -107,6 +107,10 @@ abbrev pub nonces_line : Option Indices → List ℕ
 nonces_line None = []
 nonces_line (Some i) = indices_line i
 
+abbrev pub binding_number_line : Option ℕ → List ℕ
+binding_number_line None = []
+binding_number_line (Some n) = pair_line (codes "number") (decimal n)
+
 abbrev pub alternate_line : Option Address → List ℕ
 alternate_line None = []
 alternate_line (Some address) = pair_line (codes "alternate") (address_hex address)

@@ -17,7 +17,7 @@ use Rattle.mip_icmp.specs.Spelling.{type_of}
 use Rattle.mip_explain.specs.declared.fault.ExplainFault.{ExplainFault}
 use Rattle.mip_explain.specs.declared.fault.ExplainFault.TheVariants as faults
 use Rattle.mip_explain.specs.Words.{fault_word, message_word}
-use Rattle.mip_explain.specs.Lines.{source_line, destination_line, hop_line, class_line, flow_line, route_line, home_option_line, proto_line, message_line, fault_line, icmp_line, body_line, index_line, cookie_line, token_line, sequence_line, flags_line, lifetime_line, status_line, home_line, advice_line, nonces_line, alternate_line, authorization_line}
+use Rattle.mip_explain.specs.Lines.{source_line, destination_line, hop_line, class_line, flow_line, route_line, home_option_line, proto_line, message_line, fault_line, icmp_line, body_line, index_line, cookie_line, token_line, sequence_line, flags_line, lifetime_line, status_line, home_line, advice_line, nonces_line, binding_number_line, alternate_line, authorization_line}
 
 -- the header of every packet. RFC 8200 section 3
 unfoldable pub fixed_lines : Head → List ℕ
@@ -29,7 +29,8 @@ unfoldable pub extension_lines : Head → List ℕ
 extension_lines head = route_line head.route ++ (home_option_line head.home ++ proto_line head.proto)
 
 unfoldable pub option_lines : Values → List ℕ
-option_lines o = advice_line o.advice ++ (nonces_line o.nonces ++ (alternate_line o.alternate ++ authorization_line o.authorization))
+option_lines o =
+    advice_line o.advice ++ (nonces_line o.nonces ++ (binding_number_line o.number ++ (alternate_line o.alternate ++ authorization_line o.authorization)))
 
 -- the fields of a mobility message, in the order of their bytes. RFC 6275 section 6.1
 unfoldable pub field_lines : mobility.Said → List ℕ

@@ -1,6 +1,6 @@
 ghost use Rattle.std.specs.Prelude.{◌≡◌, ◌++◌, OnOk};
 ghost use Rattle.mip_options.specs.Values.{values};
-ghost use Rattle.mip_explain.specs.Lines.{advice_line, indices_line, nonces_line, alternate_line, authorization_line};
+ghost use Rattle.mip_explain.specs.Lines.{advice_line, indices_line, nonces_line, binding_number_line, alternate_line, authorization_line};
 ghost use Rattle.mip_explain.specs.Listing.{option_lines};
 
 use crate::rows::{put_address_line, put_digits_line, put_number_line};
@@ -38,6 +38,15 @@ fn put_nonces(out: &mut Bytes, nonces: Option<Indices>) -> Result<(), Memory>
     }
 }
 
+fn put_binding_number(out: &mut Bytes, number: Option<u8>) -> Result<(), Memory>
+    ensures { OnOk result (out.new ≡ out.old ++ binding_number_line number) }
+{
+    match number {
+        Some(number) => put_number_line(out, b"number", u64::from(number)),
+        None => Ok(()),
+    }
+}
+
 fn put_alternate(out: &mut Bytes, alternate: Option<Address>) -> Result<(), Memory>
     ensures { OnOk result (out.new ≡ out.old ++ alternate_line alternate) }
 {
@@ -63,6 +72,7 @@ pub(crate) fn put_options(out: &mut Bytes, options: &Options) -> Result<(), Memo
 {
     put_advice(out, options.advice)?;
     put_nonces(out, options.nonces)?;
+    put_binding_number(out, options.number)?;
     put_alternate(out, options.alternate)?;
     put_authorization(out, options.authorization)
 }

@@ -14,7 +14,7 @@ use Rattle.mip_words.proofs.StepLaws.{bind_ok, ok_is}
 use Rattle.mip_ipv6.specs.Packet.{Packet, source_of, destination_of}
 use Rattle.mip_options.specs.declared.indices.Indices.{Indices}
 use Rattle.mip_options.specs.Values.{Values, nothing}
-use Rattle.mip_options.specs.Reading.{is_length_of, is_seen, with_value, option_at, options_after, options_of}
+use Rattle.mip_options.specs.Reading.{is_length_of, is_seen, is_first_number, with_value, option_at, options_after, options_of}
 use Rattle.mip_mobhdr.specs.declared.fault.Fault.{Fault}
 use Rattle.mip_mobhdr.specs.Said.{Said}
 use Rattle.mip_mobhdr.specs.Said.Said.{Refresh, HomeInit, CareofInit, HomeTest, CareofTest, Update as BindingUpdate, Acknowledgement, Error}
@@ -53,7 +53,8 @@ other_value type v rest other none =
     cond_both (eqb type 2) _ _ P (λ _. none) (λ _.
     cond_both (eqb type 3) _ _ P (λ _. none) (λ _.
     cond_both (eqb type 4) _ _ P (λ _. none) (λ _.
-    cond_both (eqb type 5) _ _ P (λ five. absurd (let both : true ≡ false = sym five ∙ other in cc)) (λ _. none))))
+    cond_both (eqb type 5) _ _ P (λ five. absurd (let both : true ≡ false = sym five ∙ other in cc)) (λ _.
+    cond_both (eqb type 200 && is_first_number v rest) _ _ P (λ _. none) (λ _. none)))))
 
 last_value : (v : Values) (rest : List ℕ) → length rest ≡ 13 → (with_value 5 v rest).authorization ≡ Some (drop 1 rest)
 unfolding with_value

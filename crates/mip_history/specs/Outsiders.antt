@@ -76,6 +76,7 @@ bind_message b i j = Update b.sequence true false false false b.lifetime (record
   advice = None;
   alternate = unless_same b.careof b.source;
   nonces = Some (record { home = i; careof = j });
+  number = None;
   authorization = None;
 })
 

@@ -4,7 +4,7 @@
 --   0              1              2              3              4              5
 --   Payload Proto  Header Len     MH Type        Reserved       Checksum
 --   6 on: the fields of the type, then mobility options
-use Rattle.std.specs.Prelude.{◌≡◌, ℕ, ◌+◌, ◌-◌, ◌*◌, ◌/◌, ◌^◌, ◌<◌, ◌≤◌, List, [], ◌∷◌, ◌++◌, length, take, drop, slice_index, Bool, IsTrue, if◌then◌else◌}
+use Rattle.std.specs.Prelude.{◌≡◌, ℕ, ◌+◌, ◌-◌, ◌*◌, ◌/◌, ◌^◌, ◌<◌, ◌≤◌, List, [], ◌∷◌, ◌++◌, length, take, drop, slice_index, Bool, IsTrue, IfSome, if◌then◌else◌}
 use Rattle.mip_words.specs.Numbers.{number_at, number_bytes}
 use Rattle.mip_words.specs.Addresses.{address_at, address_bytes}
 use Rattle.mip_words.specs.declared.address.Address.{Address}
@@ -65,6 +65,10 @@ options_said (CareofTest i c t o) = o
 options_said (Update s a h l k t o) = o
 options_said (Acknowledgement s k q t o) = o
 options_said (Error s h o) = o
+
+-- a binding number that is to be written is below 8
+abbrev pub HasNumber : Said → Type 0
+HasNumber m = IfSome (options_said m).number (λ n. n < 8)
 
 -- a flag that is worth this much
 abbrev pub flag : ℕ → Bool → ℕ

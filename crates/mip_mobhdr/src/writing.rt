@@ -5,7 +5,7 @@ ghost use Rattle.mip_ipv6.specs.Sum.{with_number_at, checksum_of};
 ghost use Rattle.mip_options.specs.Values.{set_values};
 ghost use Rattle.mip_mobhdr.specs.Said.{said_plain};
 ghost use Rattle.mip_mobhdr.specs.Reading.{message_of};
-ghost use Rattle.mip_mobhdr.specs.Spelling.{IsMessage, type_of, options_said, field_bytes, front_bytes, unsummed, message_bytes, HasWidths, WritesOptions};
+ghost use Rattle.mip_mobhdr.specs.Spelling.{IsMessage, type_of, options_said, field_bytes, front_bytes, unsummed, message_bytes, HasNumber, HasWidths, WritesOptions};
 
 use crate::acknowledgement::put_acknowledgement;
 use crate::address_test::put_test;
@@ -29,6 +29,7 @@ pub fn write_message(
     destination: Address,
     message: &Plain,
 ) -> Result<Bytes, Memory>
+    requires { HasNumber (said_plain message.now) }
     ensures ok { IfOk result (λ b. b ≡ message_bytes source destination (said_plain message.now)) }
     ensures spelled { IfOk result (IsMessage source destination (said_plain message.now)) }
     ensures read_back { IfOk result (λ b. message_of source destination b ≡ Ok (said_plain message.now)) }
@@ -40,6 +41,7 @@ pub fn write_message(
 
 /// The message with zero for its checksum.
 fn draft_of(alloc: Global, message: &Plain) -> Result<Bytes, Memory>
+    requires { HasNumber (said_plain message.now) }
     ensures draft { IfOk result (λ b. b ≡ unsummed (said_plain message.now)) }
     ensures long { IfOk result (λ b. 8 ≤ length b) }
     ensures short { IfOk result (λ b. length b ≤ 96) }

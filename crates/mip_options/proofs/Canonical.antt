@@ -8,8 +8,8 @@ use Rattle.mip_words.specs.declared.address.Address.{Address}
 use Rattle.mip_options.specs.declared.indices.Indices.{Indices}
 use Rattle.mip_options.specs.Values.{Values, nothing, IsInRange}
 use Rattle.mip_options.specs.Spelling.{Item, item_bytes, IsSkipped, IsNext, IsRun, IsSpelled}
-use Rattle.mip_options.specs.Spelling.Item.{Pad, Advice, Alternate, Nonces, Authorization, Skipped}
-use Rattle.mip_options.specs.Writing.{gap, padding, aligned, with_advice, with_nonces, with_alternate, with_authorization, closed, canonical, AppendsOptions}
+use Rattle.mip_options.specs.Spelling.Item.{Pad, Advice, Alternate, Nonces, Number, Authorization, Skipped}
+use Rattle.mip_options.specs.Writing.{gap, padding, aligned, with_advice, with_nonces, with_number, with_alternate, with_authorization, closed, canonical, AppendsOptions}
 use Rattle.mip_options.proofs.PaddingLaws.{length_padding}
 
 -- what was appended, before whatever stands behind
@@ -56,7 +56,7 @@ is_pad k small = record {
 pad_run : (n : ℕ) → n < 258 → (v : Values) (behind : List Item) (w : Values) → IsRun v behind w → IsRun v (pad_items n ++ behind) w
 pad_run zero small v behind w run = run
 pad_run (suc zero) small v behind w run = (v, refl, run)
-pad_run (suc (suc k)) small v behind w run = (v, (is_pad k (omega arith), refl), run)
+pad_run (suc (suc k)) small v behind w run = (v, (is_pad k (omega arith), (λ e. absurd cc), refl), run)
 
 gap_small : (n r place : ℕ) → 0 < n → gap n r place < n
 unfolding gap
@@ -84,41 +84,46 @@ one_item start n r item v m area some small next =
 no_item : (v : Values) (area : List ℕ) → Appended v v area area
 no_item v area = record { items = []; bytes = sym (append-nil area); run = λ behind w run. run }
 
-abbrev four : Option ℕ → Option Address → Option Indices → Option (List ℕ) → Values
-four a b c d = record { advice = a; alternate = b; nonces = c; authorization = d }
+abbrev five : Option ℕ → Option Address → Option Indices → Option ℕ → Option (List ℕ) → Values
+five a b c n d = record { advice = a; alternate = b; nonces = c; number = n; authorization = d }
 
-advice_step : (start : ℕ) (a : Option ℕ) (area : List ℕ) → ((units : ℕ) → a ≡ Some units → units < 2 ^ 16) → Appended nothing (four a None None None) area (with_advice start a area)
+advice_step : (start : ℕ) (a : Option ℕ) (area : List ℕ) → ((units : ℕ) → a ≡ Some units → units < 2 ^ 16) → Appended nothing (five a None None None None) area (with_advice start a area)
 unfolding with_advice
 advice_step start None area fits = no_item nothing area
 advice_step start (Some units) area fits = one_item start 2 0 (Advice units) nothing _ area (omega arith) (omega arith) (λ more. (fits units refl, refl, refl))
 
-nonces_step : (start : ℕ) (a : Option ℕ) (c : Option Indices) (area : List ℕ) → ((i : Indices) → c ≡ Some i → (i.home < 2 ^ 16) × (i.careof < 2 ^ 16)) → Appended (four a None None None) (four a None c None) area (with_nonces start c area)
+nonces_step : (start : ℕ) (a : Option ℕ) (c : Option Indices) (area : List ℕ) → ((i : Indices) → c ≡ Some i → (i.home < 2 ^ 16) × (i.careof < 2 ^ 16)) → Appended (five a None None None None) (five a None c None None) area (with_nonces start c area)
 unfolding with_nonces
 nonces_step start a None area fits = no_item _ area
-nonces_step start a (Some i) area fits = one_item start 2 0 (Nonces i) (four a None None None) _ area (omega arith) (omega arith) (λ more. ((fits i refl).0, (fits i refl).1, refl, refl))
+nonces_step start a (Some i) area fits = one_item start 2 0 (Nonces i) (five a None None None None) _ area (omega arith) (omega arith) (λ more. ((fits i refl).0, (fits i refl).1, refl, refl))
 
-alternate_step : (start : ℕ) (a : Option ℕ) (b : Option Address) (c : Option Indices) (area : List ℕ) → ((address : Address) → b ≡ Some address → address.0 < 2 ^ 128) → Appended (four a None c None) (four a b c None) area (with_alternate start b area)
+number_step : (start : ℕ) (a : Option ℕ) (c : Option Indices) (n : Option ℕ) (area : List ℕ) → ((number : ℕ) → n ≡ Some number → number < 8) → Appended (five a None c None None) (five a None c n None) area (with_number start n area)
+unfolding with_number
+number_step start a c None area fits = no_item _ area
+number_step start a c (Some number) area fits = one_item start 2 0 (Number number) (five a None c None None) _ area (omega arith) (omega arith) (λ more. (fits number refl, refl, refl))
+
+alternate_step : (start : ℕ) (a : Option ℕ) (b : Option Address) (c : Option Indices) (n : Option ℕ) (area : List ℕ) → ((address : Address) → b ≡ Some address → address.0 < 2 ^ 128) → Appended (five a None c n None) (five a b c n None) area (with_alternate start b area)
 unfolding with_alternate
-alternate_step start a None c area fits = no_item _ area
-alternate_step start a (Some address) c area fits = one_item start 8 6 (Alternate address) (four a None c None) _ area (omega arith) (omega arith) (λ more. (fits address refl, refl, refl))
+alternate_step start a None c n area fits = no_item _ area
+alternate_step start a (Some address) c n area fits = one_item start 8 6 (Alternate address) (five a None c n None) _ area (omega arith) (omega arith) (λ more. (fits address refl, refl, refl))
 
 -- an authorization ends at a multiple of 8
 no_gap : (place : ℕ) → gap 8 0 (place + gap 8 2 place + 14) ≡ 0
 unfolding gap
 no_gap place = omega arith
 
-end_step : (start : ℕ) (a : Option ℕ) (b : Option Address) (c : Option Indices) (d : Option (List ℕ)) (area : List ℕ) → ((bytes : List ℕ) → d ≡ Some bytes → length bytes ≡ 12) → Ended (four a b c None) (four a b c d) area (closed start (with_authorization start d area))
+end_step : (start : ℕ) (a : Option ℕ) (b : Option Address) (c : Option Indices) (n : Option ℕ) (d : Option (List ℕ)) (area : List ℕ) → ((bytes : List ℕ) → d ≡ Some bytes → length bytes ≡ 12) → Ended (five a b c n None) (five a b c n d) area (closed start (with_authorization start d area))
 unfolding with_authorization aligned closed padding
-end_step start a b c None area fits =
+end_step start a b c n None area fits =
     let g = gap 8 0 (start + length area) in
     let low : g < 258 = omega (arith, gap_small 8 0 (start + length area) (omega arith)) in
-    let v = four a b c None in
+    let v = five a b c n None in
     record {
       items = pad_items g ++ [];
       bytes = ap (λ (l : List ℕ). area ++ l) (pad_bytes g ∙ ap (flat_map item_bytes) (sym (append-nil (pad_items g))));
       run = pad_run g low v [] v refl;
     }
-end_step start a b c (Some bytes) area fits =
+end_step start a b c n (Some bytes) area fits =
     let g = gap 8 2 (start + length area) in
     let low : g < 258 = omega (arith, gap_small 8 2 (start + length area) (omega arith)) in
     let item = Authorization bytes in
@@ -129,13 +134,13 @@ end_step start a b c (Some bytes) area fits =
     record {
       items = pad_items g ++ item ∷ [];
       bytes = end ∙ item_bytes_behind area g item;
-      run = pad_run g low (four a b c None) (item ∷ []) (four a b c (Some bytes)) (four a b c (Some bytes), (fits bytes refl, refl, refl, refl), refl);
+      run = pad_run g low (five a b c n None) (item ∷ []) (five a b c n (Some bytes)) (five a b c n (Some bytes), (fits bytes refl, refl, refl, refl), refl);
     }
 
--- four steps one after another
-joined : (xs ys zs us : List Item) (a b c d : List ℕ) → a ≡ flat_map item_bytes xs → b ≡ a ++ flat_map item_bytes ys → c ≡ b ++ flat_map item_bytes zs → d ≡ c ++ flat_map item_bytes us → d ≡ flat_map item_bytes (xs ++ (ys ++ (zs ++ us)))
-joined xs ys zs us a b c d one two three four =
-    rw (four, three, two, one, flat_map_both xs (ys ++ (zs ++ us)), flat_map_both ys (zs ++ us), flat_map_both zs us) (simp append_assoc)
+-- five steps one after another
+joined : (xs ys ns zs us : List Item) (a b c d e : List ℕ) → a ≡ flat_map item_bytes xs → b ≡ a ++ flat_map item_bytes ys → c ≡ b ++ flat_map item_bytes ns → d ≡ c ++ flat_map item_bytes zs → e ≡ d ++ flat_map item_bytes us → e ≡ flat_map item_bytes (xs ++ (ys ++ (ns ++ (zs ++ us))))
+joined xs ys ns zs us a b c d e one two three four five =
+    rw (five, four, three, two, one, flat_map_both xs (ys ++ (ns ++ (zs ++ us))), flat_map_both ys (ns ++ (zs ++ us)), flat_map_both ns (zs ++ us), flat_map_both zs us) (simp append_assoc)
 
 -- what is written spells these options
 pub canonical_spelled : (start : ℕ) (v : Values) → IsInRange v → IsSpelled v (canonical start v)
@@ -145,11 +150,13 @@ canonical_spelled start v fits =
     let area1 = with_advice start v.advice [] in
     let two = nonces_step start v.advice v.nonces area1 fits.nonces_fit in
     let area2 = with_nonces start v.nonces area1 in
-    let three = alternate_step start v.advice v.alternate v.nonces area2 fits.alternate_fits in
-    let area3 = with_alternate start v.alternate area2 in
-    let end = end_step start v.advice v.alternate v.nonces v.authorization area3 fits.authorization_fits in
-    let run = one.run _ _ (two.run _ _ (three.run _ _ end.run)) in
-    (one.items ++ (two.items ++ (three.items ++ end.items)), run, joined one.items two.items three.items end.items area1 area2 area3 _ one.bytes two.bytes three.bytes end.bytes)
+    let three = number_step start v.advice v.nonces v.number area2 fits.number_fits in
+    let area3 = with_number start v.number area2 in
+    let next = alternate_step start v.advice v.alternate v.nonces v.number area3 fits.alternate_fits in
+    let area4 = with_alternate start v.alternate area3 in
+    let end = end_step start v.advice v.alternate v.nonces v.number v.authorization area4 fits.authorization_fits in
+    let run = one.run _ _ (two.run _ _ (three.run _ _ (next.run _ _ end.run))) in
+    (one.items ++ (two.items ++ (three.items ++ (next.items ++ end.items))), run, joined one.items two.items three.items next.items end.items area1 area2 area3 area4 _ one.bytes two.bytes three.bytes next.bytes end.bytes)
 
 closed_whole : (start : ℕ) (area : List ℕ) → (start + length (closed start area)) % 8 ≡ 0
 unfolding closed gap
@@ -162,7 +169,7 @@ closed_whole start area =
 pub canonical_whole : (start : ℕ) (v : Values) → (start + length (canonical start v)) % 8 ≡ 0
 unfolding canonical
 canonical_whole start v =
-    closed_whole start (with_authorization start v.authorization (with_alternate start v.alternate (with_nonces start v.nonces (with_advice start v.advice []))))
+    closed_whole start (with_authorization start v.authorization (with_alternate start v.alternate (with_number start v.number (with_nonces start v.nonces (with_advice start v.advice [])))))
 
 -- what a writer owes for the bytes that it appended
 pub appends_options : {T E : Type 0} (r : Result T E) (start : ℕ) (v : Values) (old new area : List ℕ) → OnOk r (new ≡ old ++ area) → area ≡ canonical start v → IsInRange v → OnOk r (AppendsOptions v old new)

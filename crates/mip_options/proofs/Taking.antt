@@ -1,18 +1,19 @@
 -- What is read is spelled so: each option that the walk took is an item of the run.
-use Rattle.std.proofs.Common.{◌≡◌, ℕ, zero, suc, ◌+◌, ◌<◌, ◌≤◌, List, [], ◌∷◌, ◌++◌, length, take, drop, refl, sym, ap, subst, ◌∙◌, true, false, not, ◌&&◌, ◌||◌, eqb, ltb, arith, inl, inr, length-drop, length-take, take-append-drop}
-use Rattle.std.proofs.lemmas.Bool.{cond_both, cond-false, eqb-true, eqb-false, ne_eqb, ltb-false, not-false, or_parts, cases_eq}
+use Rattle.std.proofs.Common.{◌≡◌, ℕ, zero, suc, ◌+◌, ◌<◌, ◌≤◌, List, [], ◌∷◌, ◌++◌, length, take, drop, refl, Bool, sym, ap, subst, ◌∙◌, true, false, not, ◌&&◌, ◌||◌, eqb, ltb, arith, inl, inr, length-drop, length-take, take-append-drop}
+use Rattle.std.proofs.lemmas.Bool.{cond_both, cond-false, eqb-true, eqb-false, ne_eqb, ltb-false, not-false, not-true, or_parts, and_parts, eq-eqb, ltb-true, cases_eq}
 use Rattle.std.proofs.lemmas.List.{drop_all, drop-drop}
 use Rattle.std.proofs.Math.Seq.{take-add}
-use Rattle.std.specs.Prelude.{Result, Ok, Option, Some, None, is_some, slice_index}
+use Rattle.std.specs.Prelude.{Result, Ok, Option, Some, None, is_some, slice_index, cond}
 use Rattle.std.specs.List.{flat_map}
 use Rattle.mip_words.specs.Numbers.{IsBytes, number_at, number_bytes}
 use Rattle.mip_words.specs.Addresses.{address_at}
 use Rattle.mip_words.proofs.Fields.{IsBytes-rest, IsBytes-drop, number_at-lt, number_bytes-number_at}
 use Rattle.mip_words.proofs.StepLaws.{bind_ok, ok_is}
 use Rattle.mip_options.specs.Values.{Values, nothing}
-use Rattle.mip_options.specs.Reading.{is_length_of, is_seen, with_value, option_at, options_after, options_of}
+use Rattle.mip_options.specs.Reading.{is_length_of, is_seen, is_number, is_first_number, with_value, option_at, options_after, options_of}
 use Rattle.mip_options.specs.Spelling.{Item, item_bytes, IsSkipped, IsNext, IsRun, IsSpelled}
-use Rattle.mip_options.specs.Spelling.Item.{Pad, Advice, Alternate, Nonces, Authorization, Skipped}
+use Rattle.mip_options.specs.Spelling.Item.{Pad, Advice, Alternate, Nonces, Number, Authorization, Skipped}
+use Rattle.mip_options.proofs.Walking.{number-append}
 
 -- an option that was taken is an item, and lies before what is left
 record Step (type : ℕ) (v : Values) (rest : List ℕ) (x : Values × ℕ) : Type 0 where
@@ -59,17 +60,24 @@ no_items (Pad ∷ more) e = absurd cc
 no_items (Advice units ∷ more) e = absurd cc
 no_items (Alternate address ∷ more) e = absurd cc
 no_items (Nonces indices ∷ more) e = absurd cc
+no_items (Number number ∷ more) e = absurd cc
 no_items (Authorization bytes ∷ more) e = absurd cc
 no_items (Skipped type contents ∷ more) e = absurd cc
 
-unchanged : (type : ℕ) (v : Values) (rest : List ℕ) → (type ≡ 2 → ⊥) → (type ≡ 3 → ⊥) → (type ≡ 4 → ⊥) → (type ≡ 5 → ⊥) → with_value type v rest ≡ v
+unchanged : (type : ℕ) (v : Values) (rest : List ℕ) → (type ≡ 2 → ⊥) → (type ≡ 3 → ⊥) → (type ≡ 4 → ⊥) → (type ≡ 5 → ⊥) → (eqb type 200 && is_first_number v rest) ≡ false → with_value type v rest ≡ v
 unfolding with_value
-unchanged type v rest n2 n3 n4 n5 =
+unchanged type v rest n2 n3 n4 n5 passed =
     cond-false _ _ _ (ne_eqb type 2 n2) ∙ cond-false _ _ _ (ne_eqb type 3 n3)
-    ∙ cond-false _ _ _ (ne_eqb type 4 n4) ∙ cond-false _ _ _ (ne_eqb type 5 n5)
+    ∙ cond-false _ _ _ (ne_eqb type 4 n4) ∙ cond-false _ _ _ (ne_eqb type 5 n5) ∙ cond-false _ _ _ passed
 
-skipped_taken : (type : ℕ) (v : Values) (rest : List ℕ) → Passed type v rest → (type ≡ 2 → ⊥) → (type ≡ 3 → ⊥) → (type ≡ 4 → ⊥) → (type ≡ 5 → ⊥) → Taken type v rest
-skipped_taken type v rest p n2 n3 n4 n5 =
+not_taken : (type : ℕ) (v : Values) (rest : List ℕ) → (type ≡ 200 → is_first_number v rest ≡ false) → (eqb type 200 && is_first_number v rest) ≡ false
+not_taken type v rest passed = elim (cases_eq type 200) [
+  | inl same ↦ ap (λ b. b && is_first_number v rest) (eq-eqb type 200 same) ∙ passed same
+  | inr other ↦ ap (λ b. b && is_first_number v rest) (ne_eqb type 200 other)
+]
+
+skipped_taken : (type : ℕ) (v : Values) (rest : List ℕ) → Passed type v rest → (type ≡ 2 → ⊥) → (type ≡ 3 → ⊥) → (type ≡ 4 → ⊥) → (type ≡ 5 → ⊥) → (type ≡ 200 → is_first_number v rest ≡ false) → Taken type v rest
+skipped_taken type v rest p n2 n3 n4 n5 passed =
     let size = slice_index rest 0 in
     let contents = take size (drop 1 rest) in
     let long : length contents ≡ size = omega (arith, length-take size (drop 1 rest), length-drop 1 rest, p.whole) in
@@ -86,7 +94,7 @@ skipped_taken type v rest p n2 n3 n4 n5 =
     record {
       item = Skipped type contents;
       bytes = ap (λ (l : List ℕ). type ∷ l) cut;
-      next = λ more e. (is, sym (unchanged type v rest n2 n3 n4 n5));
+      next = λ more e. (is, (λ same. sym (number-append v contents (drop (1 + size) rest)) ∙ ap (is_first_number v) (sym cut) ∙ passed same), sym (unchanged type v rest n2 n3 n4 n5 (not_taken type v rest passed)));
     }
 
 advice_taken : (v : Values) (rest : List ℕ) → Passed 2 v rest → Taken 2 v rest
@@ -142,6 +150,35 @@ authorization_taken v rest p =
       next = λ more e. (long, no_items more (sym end ∙ e), none_there v.authorization p.first, refl);
     }
 
+-- the first binding number
+number_taken : (v : Values) (rest : List ℕ) → Passed 200 v rest → is_first_number v rest ≡ true → Taken 200 v rest
+unfolding with_value
+number_taken v rest p counts =
+    let parts = and_parts (not (is_some v.number)) (is_number rest) counts in
+    let number = and_parts (eqb (slice_index rest 0) 2) (ltb (number_at 2 1 rest) 8) parts.1 in
+    let size = eqb-true (slice_index rest 0) 2 number.0 in
+    let n = number_at 2 1 rest in
+    let cut = three 2 rest (number_bytes 2 n) p.whole size (number_bytes-number_at 2 1 rest p.fits (omega (arith, p.whole, size))) in
+    let value : with_value 200 v rest ≡ record v { number = Some n } = ap (λ b. cond b (record v { number = Some n }) v) counts in
+    record {
+      item = Number n;
+      bytes = ap (λ (l : List ℕ). 200 ∷ l) cut;
+      next = λ more e. (ltb-true n 8 number.1, none_there v.number (not-true _ parts.0), sym value);
+    }
+
+-- any other type, and a type 200 that does not count
+other_taken : (type : ℕ) (v : Values) (rest : List ℕ) → Passed type v rest → (type ≡ 2 → ⊥) → (type ≡ 3 → ⊥) → (type ≡ 4 → ⊥) → (type ≡ 5 → ⊥) → Taken type v rest
+other_taken type v rest p n2 n3 n4 n5 =
+    let P : ℕ → Type 0 = λ t. Passed t v rest → Taken t v rest in
+    let B : Bool → Type 0 = λ b. is_first_number v rest ≡ b → Taken type v rest in
+    (elim (is_first_number v rest) as B [
+      | true ↦ λ counts. elim (cases_eq type 200) as (λ _. Taken type v rest) [
+        | inl e ↦ subst P (sym e) (λ q. number_taken v rest q counts) p
+        | inr other ↦ skipped_taken type v rest p n2 n3 n4 n5 (λ e. absurd (other e))
+      ]
+      | false ↦ λ none. skipped_taken type v rest p n2 n3 n4 n5 (λ e. none)
+    ]) refl
+
 known_taken : (type : ℕ) (v : Values) (rest : List ℕ) → Passed type v rest → Taken type v rest
 known_taken type v rest p =
     let P : ℕ → Type 0 = λ t. Passed t v rest → Taken t v rest in
@@ -153,7 +190,7 @@ known_taken type v rest p =
           | inl e ↦ subst P (sym e) (nonces_taken v rest) p
           | inr n4 ↦ elim (cases_eq type 5) as (λ _. Taken type v rest) [
             | inl e ↦ subst P (sym e) (authorization_taken v rest) p
-            | inr n5 ↦ skipped_taken type v rest p n2 n3 n4 n5
+            | inr n5 ↦ other_taken type v rest p n2 n3 n4 n5
           ]
         ]
       ]

@@ -1,8 +1,9 @@
 -- The walk over options, one step at a time.
-use Rattle.std.proofs.Common.{◌≡◌, ℕ, zero, suc, ◌+◌, ◌<◌, ◌≤◌, List, [], ◌∷◌, length, drop, get_or, refl, ap, ◌∙◌, arith}
+use Rattle.std.proofs.Common.{◌≡◌, ℕ, zero, suc, ◌+◌, ◌<◌, ◌≤◌, List, [], ◌∷◌, ◌++◌, length, drop, get_or, refl, ap, ◌∙◌, arith}
 use Rattle.std.specs.Prelude.{Ok, Err}
+use Rattle.mip_words.specs.Numbers.{number_at}
 use Rattle.mip_options.specs.Values.{Values}
-use Rattle.mip_options.specs.Reading.{option_at, options_after}
+use Rattle.mip_options.specs.Reading.{is_first_number, option_at, options_after}
 
 -- bytes that are still a part of the option before are passed over
 pub options_after_skip : (n place : ℕ) (v : Values) (bytes : List ℕ) → n ≤ length bytes → options_after n place v bytes ≡ options_after 0 (place + n) v (drop n bytes)
@@ -36,3 +37,10 @@ pub is_done : (place : ℕ) (v : Values) (bytes : List ℕ) → length bytes ≡
 unfolding options_after
 is_done place v [] none = refl
 is_done place v (type ∷ rest) none = absurd (omega arith)
+
+-- a number is one by its own bytes
+pub number-append : (v : Values) (contents rest : List ℕ) → is_first_number v (length contents ∷ (contents ++ rest)) ≡ is_first_number v (length contents ∷ contents)
+unfolding number_at
+number-append v [] rest = refl
+number-append v (a ∷ []) rest = refl
+number-append v (a ∷ (b ∷ more)) rest = refl

@@ -7,7 +7,7 @@ use Rattle.mip_words.specs.Steps.{◌>>=◌}
 use Rattle.mip_options.specs.declared.fault.BadOption.{BadOption}
 use Rattle.mip_options.specs.Values.{Values, nothing}
 
--- the lengths of RFC 6275 sections 6.2.4 to 6.2.7; padding and unknown types have any
+-- the lengths of RFC 6275 sections 6.2.4 to 6.2.7; padding, type 200 and unknown types have any
 abbrev pub is_length_of : ℕ → ℕ → Bool
 is_length_of type size =
     if type == 2 then size == 2
@@ -25,6 +25,14 @@ is_seen type v =
     else if type == 5 then is_some v.authorization
     else false
 
+-- The bytes behind a type 200, the first of them their count, are a binding number: a count of 2, and a number below 8.
+abbrev pub is_number : List ℕ → Bool
+is_number rest = (slice_index rest 0 == 2) && nat_lt (number_at 2 1 rest) 8
+
+-- the first binding number counts; any other option of its type is passed over, as unknown types are
+abbrev pub is_first_number : Values → List ℕ → Bool
+is_first_number v rest = not (is_some v.number) && is_number rest
+
 -- the values with those of an option; rest are the bytes behind its type, the first of them its length
 unfoldable pub with_value : ℕ → Values → List ℕ → Values
 with_value type v rest =
@@ -32,6 +40,7 @@ with_value type v rest =
     else if type == 3 then record v { alternate = Some (address_at 1 rest) }
     else if type == 4 then record v { nonces = Some (record { home = number_at 2 1 rest; careof = number_at 2 3 rest }) }
     else if type == 5 then record v { authorization = Some (take 12 (drop 1 rest)) }
+    else if (type == 200) && is_first_number v rest then record v { number = Some (number_at 2 1 rest) }
     else v
 
 -- One option: the values with it, and how many of the bytes behind its type it takes. It is refused where it

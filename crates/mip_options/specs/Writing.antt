@@ -1,11 +1,11 @@
--- The canonical spelling: advice, nonces, alternate address, authorization, each at the alignment of
--- RFC 6275 sections 6.2.4 to 6.2.7, and the end at a multiple of 8. Gaps are padded with zeros.
+-- The canonical spelling: advice, nonces, binding number, alternate address, authorization, each at the alignment of
+-- RFC 6275 sections 6.2.4 to 6.2.7, a number at an even place, and the end at a multiple of 8. Gaps are padded with zeros.
 use Rattle.std.specs.Prelude.{◌≡◌, ℕ, zero, suc, ◌+◌, ◌-◌, ◌%◌, List, [], ◌∷◌, ◌++◌, length, replicate, Option, Some, None}
 use Rattle.mip_words.specs.declared.address.Address.{Address}
 use Rattle.mip_options.specs.declared.indices.Indices.{Indices}
 use Rattle.mip_options.specs.Values.{Values}
 use Rattle.mip_options.specs.Spelling.{Item, item_bytes, IsSpelled}
-use Rattle.mip_options.specs.Spelling.Item.{Advice, Alternate, Nonces, Authorization}
+use Rattle.mip_options.specs.Spelling.Item.{Advice, Alternate, Nonces, Number, Authorization}
 
 -- how many bytes from a place to the next one that is r more than a multiple of n
 unfoldable pub gap : ℕ → ℕ → ℕ → ℕ
@@ -29,6 +29,10 @@ unfoldable pub with_nonces : ℕ → Option Indices → List ℕ → List ℕ
 with_nonces start None area = area
 with_nonces start (Some indices) area = aligned start 2 0 (Nonces indices) area
 
+unfoldable pub with_number : ℕ → Option ℕ → List ℕ → List ℕ
+with_number start None area = area
+with_number start (Some number) area = aligned start 2 0 (Number number) area
+
 unfoldable pub with_alternate : ℕ → Option Address → List ℕ → List ℕ
 with_alternate start None area = area
 with_alternate start (Some address) area = aligned start 8 6 (Alternate address) area
@@ -43,7 +47,7 @@ closed start area = area ++ padding (gap 8 0 (start + length area))
 unfoldable pub canonical : ℕ → Values → List ℕ
 canonical start v =
     closed start (with_authorization start v.authorization (with_alternate start v.alternate
-    (with_nonces start v.nonces (with_advice start v.advice []))))
+    (with_number start v.number (with_nonces start v.nonces (with_advice start v.advice [])))))
 
 -- the new bytes are the old ones and, behind them, these options spelled
 abbrev pub AppendsOptions : Values → List ℕ → List ℕ → Type 0

@@ -10,6 +10,8 @@ pub struct OptionSet {
     pub alternate: Option<Address>,
     /// Nonce Indices (section 6.2.6).
     pub nonces: Option<Indices>,
+    /// Binding number, below 8. Type 200 is this library's own, and in no standard.
+    pub number: Option<u8>,
     /// Binding Authorization Data (section 6.2.7).
     pub authorization: Option<[u8; 12]>,
 }

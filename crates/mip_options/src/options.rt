@@ -7,6 +7,7 @@ pub struct Options<'a> {
     pub advice: Option<u16>,
     pub alternate: Option<Address>,
     pub nonces: Option<Indices>,
+    pub number: Option<u8>,
     pub authorization: Option<[u8; 12]>,
     pub span: &'a [u8],
 }

@@ -5,7 +5,7 @@ ghost use Rattle.mip_options.specs.Writing.{gap, padding};
 
 use arrayvec::ArrayVec;
 
-/// The options of one message: with all four and the longest gaps they take 65 bytes.
+/// The options of one message: with all five and the longest gaps they take 70 bytes.
 pub type Area = ArrayVec<u8, 72>;
 
 /// Appends these bytes.

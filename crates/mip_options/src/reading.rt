@@ -2,7 +2,7 @@
 
 ghost use Rattle.std.specs.Prelude.{◌≡◌, ◌+◌, ◌<◌, ◌≤◌, length, drop, take, slice_index, Ok, IfOk, IsTrue};
 ghost use Rattle.mip_options.specs.Values.{Values, values, set_values};
-ghost use Rattle.mip_options.specs.Reading.{is_length_of, is_seen, with_value, option_at, options_of, GivesAt};
+ghost use Rattle.mip_options.specs.Reading.{is_length_of, is_seen, is_number, is_first_number, with_value, option_at, options_of, GivesAt};
 ghost use Rattle.mip_options.specs.Spelling.{IsSpelled};
 
 use crate::fault::BadOption;
@@ -33,6 +33,7 @@ fn spanned(message: &[u8], start: usize) -> Result<Options<'_>, BadOption>
         advice: seen.advice,
         alternate: seen.alternate,
         nonces: seen.nonces,
+        number: seen.number,
         authorization: seen.authorization,
         span,
     })
@@ -46,6 +47,7 @@ fn options_from(message: &[u8], start: usize) -> Result<OptionSet, BadOption>
         advice: None,
         alternate: None,
         nonces: None,
+        number: None,
         authorization: None,
     };
     let (_, mut rest) = message.split_at(start);
@@ -126,8 +128,26 @@ fn take_value(kind: u8, more: &[u8], seen: &mut OptionSet)
             })
         }
         5 => seen.authorization = Some(authorization_at(more)),
+        200 if is_first_number(seen, more) => seen.number = Some(u16_at(more, 1) as u8),
         _ => (),
     }
+}
+
+/// The first binding number is taken, and any other is passed over.
+fn is_first_number(seen: &OptionSet, more: &[u8]) -> bool
+    requires { 1 + slice_index more.now 0 ≤ length more.now }
+    ensures first { result ≡ is_first_number (set_values seen.now) more.now }
+    ensures number { IsTrue result → IsTrue (is_number more.now) }
+{
+    seen.number.is_none() && is_number(more)
+}
+
+/// Whether the bytes behind a type 200 are a binding number.
+fn is_number(more: &[u8]) -> bool
+    requires { 1 + slice_index more.now 0 ≤ length more.now }
+    ensures { result ≡ is_number more.now }
+{
+    more[0] == 2 && u16_at(more, 1) < 8
 }
 
 fn authorization_at(more: &[u8]) -> [u8; 12]

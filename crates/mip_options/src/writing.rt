@@ -1,10 +1,10 @@
 //! Writing the options of a message.
 
-ghost use Rattle.std.specs.Prelude.{◌≡◌, ℕ, ◌+◌, ◌%◌, ◌^◌, ◌<◌, ◌≤◌, List, ◌++◌, length, OnOk, OnErr};
+ghost use Rattle.std.specs.Prelude.{◌≡◌, ℕ, ◌+◌, ◌%◌, ◌^◌, ◌<◌, ◌≤◌, List, ◌++◌, length, IfSome, OnOk, OnErr};
 ghost use Rattle.mip_words.specs.declared.address.Address.{Address};
 ghost use Rattle.mip_options.specs.declared.indices.Indices.{Indices};
 ghost use Rattle.mip_options.specs.Values.{set_values, IsInRange};
-ghost use Rattle.mip_options.specs.Writing.{with_advice, with_nonces, with_alternate, with_authorization, closed, canonical, AppendsOptions};
+ghost use Rattle.mip_options.specs.Writing.{with_advice, with_nonces, with_number, with_alternate, with_authorization, closed, canonical, AppendsOptions};
 
 use crate::indices::Indices;
 use crate::option_set::OptionSet;
@@ -13,7 +13,8 @@ use mip_words::{Address, Bytes, Memory, u16_bytes};
 
 /// Appends options to the fixed fields of a message, which they bring to a multiple of 8 bytes.
 pub fn write_options(out: &mut Bytes, options: &OptionSet) -> Result<(), Memory>
-    requires { length out.old ≤ 24 }
+    requires start { length out.old ≤ 24 }
+    requires number { IfSome options.now.number (λ n. n < 8) }
     ensures ok { OnOk result (out.new ≡ out.old ++ canonical (length out.old) (set_values options.now)) }
     ensures err { OnErr result (out.new ≡ out.old) }
     ensures spelled { OnOk result (AppendsOptions (set_values options.now) out.old out.new) }
@@ -26,13 +27,15 @@ pub fn write_options(out: &mut Bytes, options: &OptionSet) -> Result<(), Memory>
 
 #[tactic(auto, unfolding(crate::specs::Writing::canonical))]
 fn area_of(start: usize, options: &OptionSet) -> Area
-    requires { start ≤ 24 }
+    requires start { start ≤ 24 }
+    requires number { IfSome options.now.number (λ n. n < 8) }
     ensures exact { result.items ≡ canonical start (set_values options.now) }
     ensures fits { IsInRange (set_values options.now) }
 {
     let mut area = Area::new();
     put_advice(start, &mut area, options.advice);
     put_nonces(start, &mut area, options.nonces);
+    put_number(start, &mut area, options.number);
     put_alternate(start, &mut area, options.alternate);
     put_authorization(start, &mut area, options.authorization);
     close(start, &mut area);
@@ -70,6 +73,23 @@ fn put_nonces(start: usize, area: &mut Area, nonces: Option<Indices>)
     put(area, &[4, 4]);
     put(area, &u16_bytes(nonces.home));
     put(area, &u16_bytes(nonces.careof));
+}
+
+#[tactic(auto, unfolding(crate::specs::Writing::with_number, crate::specs::Writing::aligned))]
+fn put_number(start: usize, area: &mut Area, number: Option<u8>)
+    requires start { start ≤ 24 }
+    requires room { length area.old.items + 5 ≤ 72 }
+    requires number { IfSome number (λ n. n < 8) }
+    ensures ok { area.new.items ≡ with_number start number area.old.items }
+    ensures fits { (n : ℕ) → number ≡ Some n → n < 8 }
+    ensures grows { length area.new.items ≤ length area.old.items + 5 }
+{
+    let Some(number) = number else {
+        return;
+    };
+    align(start, area, 2, 0);
+    put(area, &[200, 2]);
+    put(area, &u16_bytes(u16::from(number)));
 }
 
 #[tactic(auto, unfolding(crate::specs::Writing::with_alternate, crate::specs::Writing::aligned))]

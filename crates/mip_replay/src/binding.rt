@@ -60,6 +60,7 @@ fn message(binding: Binding, indices: Indices) -> Plain
             advice: None,
             alternate: unless_same(binding.careof, binding.source),
             nonces: Some(indices),
+            number: None,
             authorization: None,
         },
     }

@@ -4,7 +4,7 @@ use Rattle.std.specs.Prelude.{Option, Some, None, drop, Result, Ok, Err, IfOk, I
 use Rattle.std.specs.List.{flat_map}
 use Rattle.mip_options.specs.Values.{Values}
 use Rattle.mip_options.specs.Spelling.{Item, item_bytes, IsRun, IsSpelled}
-use Rattle.mip_options.specs.Spelling.Item.{Pad, Advice, Alternate, Nonces, Authorization, Skipped}
+use Rattle.mip_options.specs.Spelling.Item.{Pad, Advice, Alternate, Nonces, Number, Authorization, Skipped}
 use Rattle.mip_mobhdr.specs.Said.{Said}
 use Rattle.mip_mobhdr.specs.Said.Said.{Refresh, HomeInit, CareofInit, HomeTest, CareofTest, Update, Acknowledgement, Error}
 use Rattle.mip_words.specs.declared.address.Address.{Address}
@@ -39,10 +39,13 @@ run_long (Alternate address ∷ items) v w a (m, next, run) none some =
 run_long (Nonces i ∷ items) v w a (m, next, run) none some =
     let rest = run_long items m w a run (sym (ap authorization_of next.3) ∙ none) some in
     omega (arith, rest, length-append (item_bytes (Nonces i)) (flat_map item_bytes items))
+run_long (Number n ∷ items) v w a (m, next, run) none some =
+    let rest = run_long items m w a run (sym (ap authorization_of next.2) ∙ none) some in
+    omega (arith, rest, length-append (item_bytes (Number n)) (flat_map item_bytes items))
 run_long (Authorization bytes ∷ items) v w a (m, next, run) none some =
     omega (arith, next.0, length-append (item_bytes (Authorization bytes)) (flat_map item_bytes items))
 run_long (Skipped type contents ∷ items) v w a (m, next, run) none some =
-    let rest = run_long items m w a run (sym (ap authorization_of next.1) ∙ none) some in
+    let rest = run_long items m w a run (sym (ap authorization_of next.2) ∙ none) some in
     omega (arith, rest, length-append (item_bytes (Skipped type contents)) (flat_map item_bytes items))
 
 pub spelled_long : (v : Values) (bytes a : List ℕ) → IsSpelled v bytes → v.authorization ≡ Some a → 14 ≤ length bytes

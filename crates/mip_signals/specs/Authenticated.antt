@@ -12,7 +12,7 @@ use Rattle.mip_signals.specs.Packets.{message_packet}
 
 -- the options with this authenticator
 abbrev pub with_authenticator : List ℕ → Values → Values
-with_authenticator bytes o = record { advice = o.advice; alternate = o.alternate; nonces = o.nonces; authorization = Some bytes }
+with_authenticator bytes o = record { advice = o.advice; alternate = o.alternate; nonces = o.nonces; number = o.number; authorization = Some bytes }
 
 -- an update or an acknowledgement with this authenticator; no other message has one
 abbrev pub authorized : List ℕ → Said → Said

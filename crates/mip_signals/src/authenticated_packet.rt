@@ -5,6 +5,7 @@ ghost use Rattle.mip_words.specs.Numbers.{number_at};
 ghost use Rattle.mip_ipv6.specs.Packet.{is_plain};
 ghost use Rattle.mip_options.specs.Values.{set_values};
 ghost use Rattle.mip_mobhdr.specs.Said.{said_plain};
+ghost use Rattle.mip_mobhdr.specs.Spelling.{HasNumber};
 ghost use Rattle.mip_tokens.specs.Token.{authenticator_of};
 ghost use Rattle.mip_signals.specs.Authenticated.{with_authenticator, authorized, has_authenticator, unsealed, authenticated_packet};
 
@@ -27,7 +28,9 @@ fn with_authenticator(options: OptionSet, authenticator: [u8; 12]) -> OptionSet
 
 /// The message with this authenticator, where it is one that has one.
 fn authorized(message: &Plain, authenticator: [u8; 12]) -> Plain
-    ensures { said_plain result ≡ authorized authenticator (said_plain message.now) }
+    requires { HasNumber (said_plain message.now) }
+    ensures value { said_plain result ≡ authorized authenticator (said_plain message.now) }
+    ensures number { HasNumber (said_plain result) }
 {
     match *message {
         Plain::Update {
@@ -77,7 +80,8 @@ fn has_authenticator(message: &Plain) -> bool
 /// The message with room for its authenticator.
 #[tactic(auto, using(crate::proofs::Seals::room_long))]
 fn with_room(alloc: Global, head: &Head, message: &Plain) -> Result<Bytes, Memory>
-    requires { IsTrue (has_authenticator (said_plain message.now)) }
+    requires sealed { IsTrue (has_authenticator (said_plain message.now)) }
+    requires number { HasNumber (said_plain message.now) }
     ensures bytes { IfOk result (λ b. b ≡ unsealed head.now (said_plain message.now)) }
     ensures long { IfOk result (λ b. 18 ≤ length b) }
 {
@@ -93,7 +97,8 @@ fn seal(
     careof: Address,
     peer: Address,
 ) -> Result<[u8; 12], Memory>
-    requires { IsTrue (has_authenticator (said_plain message.now)) }
+    requires sealed { IsTrue (has_authenticator (said_plain message.now)) }
+    requires number { HasNumber (said_plain message.now) }
     ensures { IfOk result (λ a. a ≡ authenticator_of kbm.now.0 careof peer (unsealed head.now (said_plain message.now))) }
 {
     let room = with_room(alloc, head, message)?;
@@ -111,7 +116,8 @@ pub fn write_authenticated_packet(
     careof: Address,
     peer: Address,
 ) -> Result<Bytes, Memory>
-    requires { IsTrue (is_plain head.now) }
+    requires plain { IsTrue (is_plain head.now) }
+    requires number { HasNumber (said_plain message.now) }
     ensures bytes { IfOk result (λ b. b ≡ authenticated_packet head.now kbm.now.0 careof peer (said_plain message.now)) }
     ensures destination { IfOk result (λ b. number_at 16 24 b ≡ head.now.destination.0) }
     ensures long { IfOk result (λ b. 40 ≤ length b) }

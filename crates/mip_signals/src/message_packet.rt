@@ -4,7 +4,7 @@ ghost use Rattle.mip_ipv6.specs.Packet.{is_plain, source_of, destination_of};
 ghost use Rattle.mip_ipv6.specs.Reading.{packet_of};
 ghost use Rattle.mip_mobhdr.specs.Said.{said_plain};
 ghost use Rattle.mip_mobhdr.specs.Reading.{message_of};
-ghost use Rattle.mip_mobhdr.specs.Spelling.{IsMessage, message_bytes};
+ghost use Rattle.mip_mobhdr.specs.Spelling.{IsMessage, HasNumber, message_bytes};
 ghost use Rattle.mip_signals.specs.Packets.{message_packet};
 
 use crate::data_packet::write_data_packet;
@@ -24,6 +24,7 @@ fn units(body: &[u8]) -> u8
 
 /// The bytes of a mobility message, whose checksum counts home addresses where the head has any.
 pub(crate) fn message_for(alloc: Global, head: &Head, message: &Plain) -> Result<Bytes, Memory>
+    requires { HasNumber (said_plain message.now) }
     ensures bytes { IfOk result (λ b. b
         ≡ message_bytes (source_of head.now) (destination_of head.now) (said_plain message.now)) }
     ensures spelled { IfOk result (IsMessage (source_of head.now) (destination_of head.now) (said_plain message.now)) }
@@ -39,7 +40,8 @@ pub(crate) fn message_for(alloc: Global, head: &Head, message: &Plain) -> Result
 /// 6.1.1).
 #[tactic(auto, unfolding(crate::specs::Packets::message_packet, crate::specs::Packets::data_packet))]
 pub fn write_message_packet(alloc: Global, head: &Head, message: &Plain) -> Result<Bytes, Memory>
-    requires { IsTrue (is_plain head.now) }
+    requires plain { IsTrue (is_plain head.now) }
+    requires number { HasNumber (said_plain message.now) }
     ensures bytes { IfOk result (λ b. b ≡ message_packet head.now (said_plain message.now)) }
     // It is read back: the packet with its body, and the message in that body.
     ensures back { IfOk result (λ b. (body : List ℕ) × (packet_of b ≡ Ok (record { head = head.now; body = body }))

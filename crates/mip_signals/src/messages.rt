@@ -19,6 +19,7 @@ pub const NO_OPTIONS: OptionSet = OptionSet {
     advice: None,
     alternate: None,
     nonces: None,
+    number: None,
     authorization: None,
 };
 

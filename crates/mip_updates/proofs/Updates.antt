@@ -6,7 +6,7 @@ use Rattle.mip_words.specs.Numbers.{number_at}
 use Rattle.mip_words.specs.declared.address.Address.{Address}
 use Rattle.mip_words.proofs.StepLaws.{bind_ok, ok_is, done}
 use Rattle.mip_options.specs.Values.{Values, nothing}
-use Rattle.mip_options.specs.Reading.{is_length_of, is_seen, with_value, option_at, options_after, options_of}
+use Rattle.mip_options.specs.Reading.{is_length_of, is_seen, is_first_number, with_value, option_at, options_after, options_of}
 use Rattle.mip_mobhdr.specs.declared.fault.Fault.{Fault}
 use Rattle.mip_mobhdr.specs.Said.{Said}
 use Rattle.mip_mobhdr.specs.Said.Said.{Update}
@@ -25,7 +25,8 @@ kept type v rest other =
     cond_both (eqb type 2) _ _ P (λ _. refl) (λ _.
     cond_both (eqb type 3) _ _ P (λ _. refl) (λ _.
     cond_both (eqb type 4) _ _ P (λ _. refl) (λ _.
-    cond_both (eqb type 5) _ _ P (λ is. absurd cc) (λ _. refl))))
+    cond_both (eqb type 5) _ _ P (λ is. absurd cc) (λ _.
+    cond_both (eqb type 200 && is_first_number v rest) _ _ P (λ _. refl) (λ _. refl)))))
 
 -- the option that brings one has its length byte and its 12 bytes behind the type
 brought : (place type : ℕ) (v : Values) (rest : List ℕ) (x : Values × ℕ) → option_at place type v rest ≡ Ok x → has_authorization v ≡ false → has_authorization x.0 ≡ true → 13 ≤ length rest

@@ -22,6 +22,7 @@ const OPTIONS: OptionSet = OptionSet {
         home: 6622,
         careof: 24701,
     }),
+    number: None,
     authorization: Some([
         0x62, 0x4e, 0xce, 0x27, 0x9a, 0x2c, 0x35, 0x6c, 0xc2, 0xe1, 0x3c, 0xaf,
     ]),
