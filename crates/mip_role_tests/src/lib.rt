@@ -1,4 +1,4 @@
-//! Tests of the three roles, each by its public calls alone.
+//! Tests of a correspondent and of a home agent, each by its public calls alone.
 #![tactic(auto)]
 
 #[cfg(test)]

@@ -1,5 +1,4 @@
 mod correspondent;
 mod hex;
 mod homeagent;
-mod mobile;
 mod told;

@@ -6,6 +6,7 @@ mod handover;
 
 use super::hex::bytes;
 use super::told::are_told;
+use handover::Taken;
 use mip_correspondent::Correspondent;
 use mip_ipv6::{Head, PacketRef};
 use mip_nonce::Secrets;
@@ -31,32 +32,29 @@ fn node(alloc: Global, node: u8) -> Result<Correspondent, Fail>
 }
 
 /// Whether the node answers a packet by these lines.
-fn takes(
-    alloc: Global,
-    node: &mut Correspondent,
-    number: u64,
-    digits: &[u8],
-    lines: &[&str],
-) -> Result<bool, Fail>
+fn takes(alloc: Global, node: &mut Correspondent, taken: &Taken) -> Result<bool, Fail>
     requires { node.old.known.last.0 ≡ 0 }
     ensures { IfOk result (λ _. node.new.known.last.0 ≡ 0) }
 {
-    let packet = bytes(alloc, digits)?;
-    let answers = node.take(alloc, Moment(0), number, None, packet.as_slice())?;
-    Ok(are_told(alloc, &answers, lines)?)
+    let packet = bytes(alloc, taken.digits)?;
+    let answers = node.take(alloc, Moment(0), taken.number, None, packet.as_slice())?;
+    Ok(are_told(alloc, &answers, taken.lines)?)
 }
 
-/// A correspondent that has accepted the update of the handover; none where an answer before it is another one.
+/// A correspondent that has accepted the update of the handover; none where an answer is another one.
 fn bound(alloc: Global) -> Result<Option<Correspondent>, Fail>
     ensures { IfOk result (λ node. IfSome node (λ c. c.known.last.0 ≡ 0)) }
 {
     let mut node = node(alloc, 1)?;
-    for (number, digits, lines) in handover::TAKEN {
-        if !takes(alloc, &mut node, number, digits, lines)? {
-            return Ok(None);
-        }
+    let careof = takes(alloc, &mut node, &handover::CAREOF_TEST)?;
+    let home = takes(alloc, &mut node, &handover::HOME_TEST)?;
+    let update = takes(alloc, &mut node, &handover::UPDATE)?;
+    let data = takes(alloc, &mut node, &handover::DATA)?;
+    if careof && home && update && data {
+        Ok(Some(node))
+    } else {
+        Ok(None)
     }
-    Ok(Some(node))
 }
 
 /// What a correspondent says of the home.

@@ -6,4 +6,4 @@ use Rattle.mip_role_tests.proofs.tests.homeagent.judged.Goals as goal
 -- the bytes are read
 pub judge_home-requires-clause-update : goal.judge_home-requires-clause-update
 unfolding update_of options_of options_after option_at with_value
-judge_home-requires-clause-update g c = record { long = lit≤ tt; reads = refl }
+judge_home-requires-clause-update c = record { long = lit≤ tt; reads = refl }
