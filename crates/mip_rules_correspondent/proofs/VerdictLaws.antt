@@ -1,5 +1,5 @@
 -- Which rows a verdict comes from.
-use Rattle.std.proofs.Common.{◌≡◌, ℕ, ◌+◌, ◌-◌, ◌≤◌, ◌<◌, List, length, drop, ltb, leb, refl, sym, ap, ◌∙◌, subst, Bool, true, false, not, ◌&&◌, ◌||◌, arith}
+use Rattle.std.proofs.Common.{◌≡◌, ◌≢◌, ℕ, zero, suc, ◌+◌, ◌-◌, ◌≤◌, ◌<◌, List, length, drop, ltb, leb, refl, sym, ap, ◌∙◌, subst, Bool, true, false, not, ◌&&◌, ◌||◌, arith}
 use Rattle.std.proofs.lemmas.Bool.{cond_both, cond-false, eq-eqb, not-true, not-false, and_parts, ltb-true, leb-true}
 use Rattle.std.proofs.lemmas.Slice.Eq.{bytes_eq-Decides}
 use Rattle.std.proofs.Math.Nat.{le-max_right}
@@ -239,8 +239,23 @@ number-among : (numbers : ℕ) (number : Option ℕ) → 0 < numbers → number_
 number-among numbers None some = some
 number-among numbers (Some number) some = cond_both (ltb number numbers) _ _ (λ (n : ℕ). n < numbers) (λ below. ltb-true number numbers below) (λ above. some)
 
+none_among : (number : Option ℕ) → number_among 0 number ≡ 0
+none_among None = refl
+none_among (Some number) = cond_both (ltb number 0) _ _ (λ (n : ℕ). n ≡ 0) (λ below. absurd (let less = ltb-true number 0 below in omega arith)) (λ above. refl)
+
+none_of_none : (r : Registration) → number_of 0 r ≡ 0
+none_of_none r = cond_both (deletes r) _ _ (λ (n : ℕ). n ≡ 0) (λ ends. refl) (λ binds. none_among r.number)
+
 pub number_below : (numbers : ℕ) (r : Registration) → 0 < numbers → number_of numbers r < numbers
 number_below numbers r some = cond_both (deletes r) _ _ (λ (n : ℕ). n < numbers) (λ ends. some) (λ binds. number-among numbers r.number some)
+
+-- and any other number than 0 is one of those
+pub number_among_them : (numbers : ℕ) (r : Registration) → number_of numbers r ≢ 0 → number_of numbers r < numbers
+number_among_them numbers r some = by numbers some
+  where
+    by : (numbers : ℕ) → number_of numbers r ≢ 0 → number_of numbers r < numbers
+    by zero some = absurd (some (none_of_none r))
+    by (suc n) some = number_below (suc n) r (omega arith)
 
 -- an update that registers the home address ends the binding
 pub number_at_home : (numbers : ℕ) (r : Registration) → (registered_of r).0 ≡ (home_of r).0 → number_of numbers r ≡ 0
