@@ -1,3 +1,1 @@
 pub mod RowLaws
-pub mod TableLaws
-pub mod HeldLaws

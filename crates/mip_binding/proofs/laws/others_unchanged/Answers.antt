@@ -1,5 +1,0 @@
-use Rattle.mip_binding.proofs.HeldLaws.{held-other, floor-other}
-use Rattle.mip_binding.proofs.laws.others_unchanged.Goals as goal
-
-pub returns : goal.returns
-returns c = record { held = held-other; floor = floor-other }
