@@ -1,1 +1,4 @@
 pub mod RowLaws
+pub mod HomeLaws
+pub mod LifeLaws
+pub mod HeldLaws
