@@ -5,17 +5,17 @@ use Rattle.std.specs.List.{AllByRecursion}
 use Rattle.std.proofs.lemmas.List.{append_assoc, append-nil}
 use Rattle.mip_words.specs.declared.address.Address.{Address}
 use Rattle.mip_binding.specs.Acceptance.{Acceptance}
-use Rattle.mip_binding.specs.Held.{held, floor, is_full}
+use Rattle.mip_binding.specs.Held.{held, holds, floor, is_full}
 use Rattle.mip_bcache.specs.declared.row.Row.{Row}
 use Rattle.mip_bcache.specs.Seen.{CacheSeen, StandsFor, standing_at, expired}
-use Rattle.mip_bcache.proofs.Pasts.{empty_stands, look_answers, floor_answers, room_answers, expire_stands, accept_stands}
+use Rattle.mip_bcache.proofs.Pasts.{empty_stands, look_answers, holds_answers, floor_answers, room_answers, expire_stands, accept_stands}
 use Rattle.mip_entries.specs.Stamped.{Stamped}
 use Rattle.mip_turns.specs.Pasts.{RisesFrom, last_at}
 use Rattle.mip_turns.proofs.PastLaws.{last_early}
 use Rattle.mip_rules_correspondent.specs.declared.known.Known.{Known}
 use Rattle.mip_rules_correspondent.specs.Calls.{is_tick}
 use Rattle.mip_rules_correspondent.specs.Steps.{Step, Called, Sends, Accepts, Denies, Drops, HandsUp, Idles}
-use Rattle.mip_rules_correspondent.specs.Questions.{cache_after, after, fresh, known, held_of, floor_of, is_full_for}
+use Rattle.mip_rules_correspondent.specs.Questions.{cache_after, after, fresh, known, held_of, holds_for, floor_of, is_full_for}
 use Rattle.mip_rules_correspondent.specs.Pasts.{acceptance_in, accepted_in}
 
 -- what one step makes of a cache that stands for the acceptances so far
@@ -79,6 +79,9 @@ module _ (room numbers : ℕ) (past : List (Stamped Step)) (rises : RisesFrom 0 
         by : (o : Option Row) → option_map (λ (a : Address). a.0) (option_map (λ (r : Row). r.careof) o) ≡ option_map (λ (r : Row). r.careof.0) o
         by None = refl
         by (Some r) = refl
+
+    pub holds-answers : (careof : Address) → holds_for (known room numbers past) now home careof ≡ holds (accepted_in past) home.0 now careof.0
+    holds-answers careof = holds_answers (known room numbers past).cache (accepted_in past) cache-stands now early home.0 careof.0
 
     pub floor-answers : floor_of (known room numbers past) now home ≡ floor (accepted_in past) home.0 now
     floor-answers = floor_answers (known room numbers past).cache (accepted_in past) cache-stands now early home.0

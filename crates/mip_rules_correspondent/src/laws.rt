@@ -9,7 +9,7 @@ ghost use Rattle.mip_tokens.specs.declared.kbm.Kbm.{Kbm};
 ghost use Rattle.mip_lists.specs.Last.{last_where};
 ghost use Rattle.mip_nonce.specs.Window.{IsValidAt};
 ghost use Rattle.mip_binding.specs.Acceptance.{Acceptance, kept_until_of};
-ghost use Rattle.mip_binding.specs.Held.{held, floor, is_full};
+ghost use Rattle.mip_binding.specs.Held.{held, holds, floor, is_full};
 ghost use Rattle.mip_bcache.specs.Seen.{StandsFor};
 ghost use Rattle.mip_bcache.specs.declared.accepted.Accepted.{Accepted};
 ghost use Rattle.mip_entries.specs.Stamped.{Stamped};
@@ -24,7 +24,7 @@ ghost use Rattle.mip_rules_correspondent.specs.Verdicts.{Bench, verdict};
 ghost use Rattle.mip_turns.specs.Pasts.{RisesFrom};
 ghost use Rattle.mip_rules_correspondent.specs.Calls.{Call, Take, Part, Refresh, Send, Tick, is_tick};
 ghost use Rattle.mip_rules_correspondent.specs.Steps.{Step, answers_of, is_call, is_acceptance};
-ghost use Rattle.mip_rules_correspondent.specs.Questions.{known, held_of, floor_of, is_full_for};
+ghost use Rattle.mip_rules_correspondent.specs.Questions.{known, held_of, holds_for, floor_of, is_full_for};
 ghost use Rattle.mip_rules_correspondent.specs.Turns.{Turn, Stands, with_turn};
 ghost use Rattle.mip_rules_correspondent.specs.Pasts.{accepted_in};
 ghost use Rattle.mip_rules_correspondent.specs.Doing.{does, turn_of};
@@ -48,6 +48,7 @@ pub fn each_call_is_the_last()
 pub fn bindings_are_of_the_acceptances()
     ensures stands { (room numbers : ℕ) (past : List (Stamped Step)) → RisesFrom 0 past → StandsFor (known room numbers past).cache (accepted_in past) }
     ensures held { (room numbers : ℕ) (past : List (Stamped Step)) (now : ℕ) (home : Address) → RisesFrom 0 past → AllByRecursion (λ s. s.at ≤ now) past → option_map (λ a. a.0) (held_of (known room numbers past) now home) ≡ held (accepted_in past) home.0 now }
+    ensures holds { (room numbers : ℕ) (past : List (Stamped Step)) (now : ℕ) (home careof : Address) → RisesFrom 0 past → AllByRecursion (λ s. s.at ≤ now) past → holds_for (known room numbers past) now home careof ≡ holds (accepted_in past) home.0 now careof.0 }
     ensures floor { (room numbers : ℕ) (past : List (Stamped Step)) (now : ℕ) (home : Address) → RisesFrom 0 past → AllByRecursion (λ s. s.at ≤ now) past → floor_of (known room numbers past) now home ≡ floor (accepted_in past) home.0 now }
     ensures full { (room numbers : ℕ) (past : List (Stamped Step)) (now : ℕ) (home : Address) → RisesFrom 0 past → AllByRecursion (λ s. s.at ≤ now) past → is_full_for (known room numbers past) now home ≡ is_full room (accepted_in past) home.0 now }
 {}
