@@ -1,26 +1,52 @@
 -- What a contract sees of a cache, and for which past it stands.
-use Rattle.std.specs.Prelude.{◌≡◌, ℕ, ◌≤◌, ◌<◌, slice_get, slice_set, List, Option, Some, None, Bool, not, ◌&&◌, ◌==◌, length, map, is_some, nat_lt, max, ◌+◌, if◌then◌else◌}
-use Rattle.std.specs.List.{AllByRecursion, insert}
+use Rattle.std.specs.Prelude.{◌≡◌, ℕ, List, [], ◌∷◌, ◌++◌, Option, Some, None, Bool, false, not, ◌&&◌, ◌==◌, length, map, option_map, is_some, nat_lt, max, ◌+◌, if◌then◌else◌}
+use Rattle.std.specs.List.{flat_map, list_any}
 use Rattle.mip_constants.specs.Constants.{max_nonce_lifetime}
-use Rattle.mip_binding.specs.Acceptance.{Acceptance}
-use Rattle.mip_binding.specs.Rows.{BindingRow, RisesBy, find_by, put_by, kept_by, kept_rows, table}
+use Rattle.mip_lists.specs.Last.{last_where}
+use Rattle.mip_binding.specs.Acceptance.{Acceptance, Binding}
+use Rattle.mip_binding.specs.Rows.{BindingRow, find_by, put_by, kept_by, others_by, found_by, all_numbers}
+use Rattle.mip_binding.specs.Homes.{HomeKept, kept_homes, homes}
 use Rattle.mip_words.specs.declared.address.Address.{Address}
 use Rattle.mip_bcache.specs.declared.row.Row.{Row}
 use Rattle.mip_bcache.specs.declared.accepted.Accepted.{Accepted}
 
--- the room for homes, the last moment that a change was given, and the rows in order of home
+-- what is kept of a home: its last sequence, the moment to which this is kept, and its rows, oldest first
+pub record HomeRows : Type 0 where
+  pub home : ℕ
+  pub sequence : ℕ
+  pub until : ℕ
+  pub live : List Row
+
+-- the room for homes, how many rows one home may have, the last moment that a change was given, and the
+-- homes in order
 pub record CacheSeen : Type 0 where
   pub limit : ℕ
+  pub numbers : ℕ
   pub last : ℕ
-  pub rows : List Row
+  pub homes : List HomeRows
 
-abbrev pub home_of : Row → ℕ
-home_of r = r.home.0
+abbrev pub empty_cache : ℕ → ℕ → CacheSeen
+empty_cache limit numbers = record { limit = limit; numbers = numbers; last = 0; homes = [] }
 
-abbrev pub until_of : Row → ℕ
-until_of r = r.kept_until.0
+abbrev pub home_of : HomeRows → ℕ
+home_of h = h.home
 
--- a row as the definitions have it: its nonces are no part of them
+abbrev pub until_of : HomeRows → ℕ
+until_of h = h.until
+
+abbrev pub number_of : Row → ℕ
+number_of r = r.number
+
+-- a row and a home as the definitions have them: nonces are no part of them
+abbrev pub seen_binding : Row → Binding
+seen_binding r = record {
+  home = r.home.0;
+  number = r.number;
+  careof = r.careof.0;
+  sequence = r.sequence;
+  end = r.end.0;
+}
+
 abbrev pub seen_row : Row → BindingRow
 seen_row r = record {
   home = r.home.0;
@@ -31,37 +57,61 @@ seen_row r = record {
   kept_until = r.kept_until.0;
 }
 
--- rows in order of home, no more than there is room for, no binding longer than its sequence is kept
-pub record IsSound (limit : ℕ) (rows : List Row) : Type 0 where
-  pub rises : RisesBy home_of rows
-  pub room : length rows ≤ limit
-  pub ends : AllByRecursion (λ r. r.end.0 ≤ r.kept_until.0) rows
+abbrev pub seen_home : HomeRows → HomeKept
+seen_home h = record { home = h.home; sequence = h.sequence; until = h.until; live = map seen_binding h.live }
 
 -- the cache answers as these acceptances, oldest first, have it
 pub record StandsFor (cache : CacheSeen) (past : List Acceptance) : Type 0 where
-  pub same : map seen_row (kept_by until_of cache.last cache.rows) ≡ kept_rows cache.last (table past)
+  pub same : map seen_home (kept_by until_of cache.last cache.homes) ≡ kept_homes cache.last (homes past)
 
--- the rows whose sequence is kept at a moment
-abbrev pub kept_at : CacheSeen → ℕ → List Row
-kept_at cache now = kept_by until_of now cache.rows
+-- the homes whose sequence is kept at a moment
+abbrev pub kept_at : CacheSeen → ℕ → List HomeRows
+kept_at cache now = kept_by until_of now cache.homes
 
--- the row of a home among these
-abbrev pub row_at : CacheSeen → ℕ → ℕ → Option Row
-row_at cache home now = find_by home_of home (kept_at cache now)
+abbrev pub home_at : CacheSeen → ℕ → ℕ → Option HomeRows
+home_at cache home now = find_by home_of home (kept_at cache now)
 
--- the row, where its binding stands: its care-of address is not home, and its end lies ahead
-abbrev pub if_standing : ℕ → ℕ → Option Row → Option Row
-if_standing home now None = None
-if_standing home now (Some r) = if not (r.careof.0 == home) && nat_lt now r.end.0 then Some r else None
+-- the binding of a row stands: its care-of address is not home, and its end lies ahead
+abbrev pub stands : ℕ → ℕ → Row → Bool
+stands home now r = not (r.careof.0 == home) && nat_lt now r.end.0
 
--- there are as many rows as there is room for, and none of this home
-abbrev pub no_room : ℕ → ℕ → List Row → Bool
-no_room limit home rows = not (is_some (find_by home_of home rows)) && (length rows == limit)
+-- it stands under this number, or at this care-of address
+abbrev pub stands_under : ℕ → ℕ → ℕ → Row → Bool
+stands_under home number now r = stands home now r && (r.number == number)
+
+abbrev pub stands_at : ℕ → ℕ → ℕ → Row → Bool
+stands_at home now careof r = stands home now r && (r.careof.0 == careof)
+
+-- the row of a home that came last among those that pass a test
+abbrev pub last_row : (Row → Bool) → Option HomeRows → Option Row
+last_row p None = None
+last_row p (Some h) = last_where p h.live
+
+abbrev pub any_row : (Row → Bool) → Option HomeRows → Bool
+any_row p None = false
+any_row p (Some h) = list_any p h.live
+
+-- what the cache answers for a home
+abbrev pub standing_at : CacheSeen → ℕ → ℕ → Option Row
+standing_at cache home now = last_row (stands home now) (home_at cache home now)
+
+abbrev pub standing_under : CacheSeen → ℕ → ℕ → ℕ → Option Row
+standing_under cache home number now = last_row (stands_under home number now) (home_at cache home now)
+
+abbrev pub holds_at : CacheSeen → ℕ → ℕ → ℕ → Bool
+holds_at cache home now careof = any_row (stands_at home now careof) (home_at cache home now)
+
+abbrev pub floor_at : CacheSeen → ℕ → ℕ → Option ℕ
+floor_at cache home now = option_map (λ h. h.sequence) (home_at cache home now)
+
+-- there are as many homes as there is room for, and this one is none of them
+abbrev pub no_room : {X : Type 0} → (X → ℕ) → ℕ → ℕ → List X → Bool
+no_room key limit home hs = not (is_some (find_by key home hs)) && (length hs == limit)
 
 abbrev pub has_no_room : CacheSeen → ℕ → ℕ → Bool
-has_no_room cache home now = no_room cache.limit home (kept_at cache now)
+has_no_room cache home now = no_room home_of cache.limit home (kept_at cache now)
 
--- an accepted update as the definitions have it, and its row
+-- an accepted update as the definitions have it
 abbrev pub acceptance : ℕ → Address → ℕ → Accepted → Acceptance
 acceptance now home number a = record {
   at = now;
@@ -72,33 +122,66 @@ acceptance now home number a = record {
   end = a.end.0;
 }
 
+-- and its row, kept to a moment
 abbrev pub row_for : ℕ → Address → ℕ → Accepted → Row
-row_for now home number a = record {
+row_for until home number a = record {
   home = home;
   number = number;
   careof = a.careof;
   sequence = a.sequence;
   end = a.end;
-  kept_until = record { 0 = max a.end.0 (now + max_nonce_lifetime) };
+  kept_until = record { 0 = until };
   home_nonce = a.home_nonce;
   careof_nonce = a.careof_nonce;
 }
 
--- rows past their time are given up
+-- the latest end of these rows, and this moment at least
+abbrev pub latest : ℕ → List Row → ℕ
+latest moment [] = moment
+latest moment (r ∷ rs) = max r.end.0 (latest moment rs)
+
+abbrev pub until_set : ℕ → Row → Row
+until_set until r = record r { kept_until = record { 0 = until } }
+
+-- a home after an acceptance, beside whose row these are left. Each row is kept to the moment to which the
+-- home's sequence is
+abbrev pub until_with : ℕ → Accepted → List Row → ℕ
+until_with now a left = max a.end.0 (latest (now + max_nonce_lifetime) left)
+
+abbrev pub rows_made : ℕ → Address → ℕ → Accepted → List Row → HomeRows
+rows_made now home number a left = record {
+  home = home.0;
+  sequence = a.sequence;
+  until = until_with now a left;
+  live = map (until_set (until_with now a left)) left ++ row_for (until_with now a left) home number a ∷ [];
+}
+
+-- the rows that an acceptance leaves beside its own: those of other numbers. A deletion leaves none, and
+-- neither does one that comes when no sequence of its home is kept
+abbrev pub rows_left : ℕ → Address → ℕ → Accepted → Option HomeRows → List Row
+rows_left now home number a None = []
+rows_left now home number a (Some h) =
+    if not (a.careof.0 == home.0) && nat_lt now h.until then others_by number_of number h.live else []
+
+-- homes past their time are given up
 abbrev pub expired : ℕ → CacheSeen → CacheSeen
-expired now cache = record { limit = cache.limit; last = now; rows = kept_at cache now }
+expired now cache = record cache { last = now; homes = kept_at cache now }
 
--- and a row takes the place of the one of its home
-abbrev pub with_row : ℕ → Row → CacheSeen → CacheSeen
-with_row now row cache = record { limit = cache.limit; last = now; rows = put_by home_of row (kept_at cache now) }
+-- and an acceptance changes its home
+abbrev pub with_acceptance : ℕ → Address → ℕ → Accepted → CacheSeen → CacheSeen
+with_acceptance now home number a cache =
+    record cache {
+      last = now;
+      homes = put_by home_of (rows_made now home number a (rows_left now home number a (home_at cache home.0 now))) (kept_at cache now);
+    }
 
--- the place of a home's row, and the place where one would go
-pub record IsPlace (rows : List Row) (home at : ℕ) : Type 0 where
-  pub inside : at < length rows
-  pub found : find_by home_of home rows ≡ slice_get rows at
-  pub replaced : (row : Row) → home_of row ≡ home → slice_set rows at row ≡ put_by home_of row rows
+-- all rows of a cache, home by home
+abbrev pub live_rows : CacheSeen → List Row
+live_rows cache = flat_map (λ h. h.live) cache.homes
 
-pub record IsGap (rows : List Row) (home at : ℕ) : Type 0 where
-  pub inside : at ≤ length rows
-  pub none : find_by home_of home rows ≡ None
-  pub added : (row : Row) → home_of row ≡ home → insert rows at row ≡ put_by home_of row rows
+-- the rows that are listed: those of the homes whose sequence is kept, in order of home, then of number
+abbrev pub rows_of_home : HomeRows → List Row
+rows_of_home h = found_by number_of h.live all_numbers
+
+abbrev pub rows_at : CacheSeen → ℕ → List Row
+rows_at cache now = flat_map rows_of_home (kept_at cache now)

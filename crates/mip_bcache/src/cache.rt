@@ -1,15 +1,14 @@
-ghost use Rattle.std.specs.Prelude.{◌≡◌, ◌<◌, ◌≤◌, ◌+◌, ◌^◌, ◌++◌, List, [], ◌∷◌, Err, IfOk, OnOk, OnErr, IsTrue, ◌↔◌, length, not, option_copied, option_map, slice_get};
+ghost use Rattle.std.specs.Prelude.{◌≡◌, ◌<◌, ◌≤◌, ◌+◌, ◌*◌, ◌^◌, ◌++◌, List, [], ◌∷◌, Err, IfOk, OnOk, OnErr, IsTrue, ◌↔◌, length, not, option_copied, option_map, slice_get};
 ghost use Rattle.mip_binding.specs.Acceptance.{Acceptance};
-ghost use Rattle.mip_binding.specs.Rows.{kept_rows, table};
-ghost use Rattle.mip_binding.specs.Held.{held, floor, is_full};
-ghost use Rattle.mip_bcache.specs.Seen.{StandsFor, kept_at, row_at, if_standing, has_no_room, acceptance, row_for, expired, with_row, seen_row};
+ghost use Rattle.mip_binding.specs.Homes.{shown_rows};
+ghost use Rattle.mip_binding.specs.Held.{held, held_under, holds, floor, is_full};
+ghost use Rattle.mip_bcache.specs.Seen.{StandsFor, empty_cache, standing_at, standing_under, holds_at, floor_at, has_no_room, acceptance, expired, with_acceptance, live_rows, rows_at, seen_row};
 
 use crate::accepted::Accepted;
 use crate::fault::AcceptFault;
 use crate::row::Row;
 use crate::table::Table;
 use mip_chain::Steps;
-use mip_constants::MAX_NONCE_LIFETIME;
 use mip_words::{Address, Memory, Moment};
 use std::alloc::Global;
 use std::marker::{Brand, Model};
@@ -24,45 +23,80 @@ pub struct Cache {
 }
 
 impl Model for Cache {
+    ghost use Rattle.std.specs.Prelude.{map};
     ghost use Rattle.mip_bcache.specs.Seen.{CacheSeen};
-    ghost use Rattle.mip_bcache.specs.Table.{seen, rows_in, IsTable};
+    ghost use Rattle.mip_bcache.specs.Table.{seen, homes_in, rows_seen, IsTable};
 
     ghost Value = { CacheSeen };
 
-    ghost view = { λ c. record { limit = c.table.room; last = c.last.0; rows = rows_in (seen c.table) } };
+    ghost view = { λ c. record { limit = c.table.room; numbers = c.table.numbers; last = c.last.0; homes = map rows_seen (homes_in (seen c.table)) } };
 
     ghost invariant = { λ c. IsTable (seen c.table) };
 }
 
 impl Cache {
-    /// An empty cache with room for this many homes. It takes all the memory that it will ever need.
-    pub fn with_limit(alloc: Global, limit: u32) -> Result<Cache, Memory>
-        ensures ok { IfOk result (λ c. c ≡ record { limit = limit; last = 0; rows = [] }) }
+    /// An empty cache with room for this many homes, and for so many rows of each: one under each number
+    /// below that. It takes all the memory that it will ever need.
+    pub fn with_limit(alloc: Global, limit: u32, numbers: u8) -> Result<Cache, Memory>
+        requires some { 1 ≤ numbers }
+        requires few { numbers ≤ 8 }
+        requires fits { limit * numbers < 2 ^ 32 }
+        ensures ok { IfOk result (λ c. c ≡ empty_cache limit numbers) }
         ensures stands { IfOk result (λ c. StandsFor c []) }
     {
-        let table = Table::with_room(alloc, limit)?;
+        let table = Table::with_room(alloc, limit, numbers)?;
         Ok(Cache {
             last: Moment(0),
             table,
         })
     }
 
-    /// The row of a home whose binding stands.
+    /// How many rows one home may have.
+    pub fn numbers(&self) -> u8
+        ensures numbers { result ≡ self.now.numbers }
+        ensures some { 1 ≤ self.now.numbers }
+        ensures few { self.now.numbers ≤ 8 }
+    {
+        self.table.numbers
+    }
+
+    /// The row of a home whose binding stands; of several the one accepted last.
     pub fn look(&self, now: Moment, home: Address) -> Option<&Row>
         requires { self.now.last ≤ now.0 }
-        ensures found { option_copied result ≡ if_standing home.0 now.0 (row_at self.now home.0 now.0) }
+        ensures found { option_copied result ≡ standing_at self.now home.0 now.0 }
         ensures answers { (past : List Acceptance) → StandsFor self.now past → option_map (λ r. r.careof.0) (option_copied result) ≡ held past home.0 now.0 }
     {
-        self.table.standing_row(now, home)
+        self.table.kept_home(now, home)?.standing(now)
+    }
+
+    /// The row of a home under a number, where its binding stands.
+    pub fn look_at(&self, now: Moment, home: Address, number: u8) -> Option<&Row>
+        requires { self.now.last ≤ now.0 }
+        ensures found { option_copied result ≡ standing_under self.now home.0 number now.0 }
+        ensures answers { (past : List Acceptance) → StandsFor self.now past → option_map (λ r. r.careof.0) (option_copied result) ≡ held_under past home.0 number now.0 }
+    {
+        self.table.kept_home(now, home)?.standing_under(now, number)
+    }
+
+    /// Whether a home has a binding that stands at this care-of address.
+    pub fn holds(&self, now: Moment, home: Address, careof: Address) -> bool
+        requires { self.now.last ≤ now.0 }
+        ensures found { result ≡ holds_at self.now home.0 now.0 careof.0 }
+        ensures answers { (past : List Acceptance) → StandsFor self.now past → result ≡ holds past home.0 now.0 careof.0 }
+    {
+        match self.table.kept_home(now, home) {
+            Some(kept) => kept.holds(now, careof),
+            None => false,
+        }
     }
 
     /// The sequence that an update for a home must come after, if one is kept.
     pub fn floor(&self, now: Moment, home: Address) -> Option<u16>
         requires { self.now.last ≤ now.0 }
-        ensures found { result ≡ option_map (λ r. r.sequence) (row_at self.now home.0 now.0) }
+        ensures found { result ≡ floor_at self.now home.0 now.0 }
         ensures answers { (past : List Acceptance) → StandsFor self.now past → result ≡ floor past home.0 now.0 }
     {
-        self.table.kept_sequence(now, home)
+        Some(self.table.kept_home(now, home)?.sequence())
     }
 
     /// Whether `accept` takes an acceptance for this home.
@@ -74,8 +108,9 @@ impl Cache {
         !self.table.is_full(now, home)
     }
 
-    /// Takes an acceptance: its row takes the place of the one of its home. The binding stands to its end,
-    /// and its sequence is kept to that end and for 240 s at least.
+    /// Takes an acceptance. Its row takes the place of the one of its number; that of a deletion, and of an
+    /// acceptance whose home has no sequence kept, takes the place of all rows of its home. The binding stands
+    /// to its end, and the sequence is kept to the end of every binding of its home and for 240 s at least.
     pub fn accept(
         &mut self,
         now: Moment,
@@ -85,7 +120,9 @@ impl Cache {
     ) -> Result<(), AcceptFault>
         requires later { self.old.last ≤ now.0 }
         requires early { now.0 < 2 ^ 62 }
-        ensures ok { OnOk result (self.new ≡ with_row now.0 (row_for now.0 home number accepted) self.old) }
+        requires number { number < self.old.numbers }
+        requires deletion { accepted.careof.0 ≡ home.0 → number ≡ 0 }
+        ensures ok { OnOk result (self.new ≡ with_acceptance now.0 home number accepted self.old) }
         ensures err { OnErr result (self.new ≡ self.old) }
         ensures full { result ≡ Err AcceptFault.Full ↔ IsTrue (has_no_room self.old home.0 now.0) }
         ensures exact { (past : List Acceptance) → StandsFor self.old past → (result ≡ Err AcceptFault.Full ↔ IsTrue (is_full self.old.limit past home.0 now.0)) }
@@ -95,15 +132,16 @@ impl Cache {
             return Err(AcceptFault::Full);
         }
         self.give_up(now);
-        self.table.put(row_of(now, home, number, accepted));
+        self.table.accept(now, home, number, accepted);
         Ok(())
     }
 
-    /// Gives up the rows that are no longer kept, and says how many they were. It follows at most one link more.
+    /// Gives up the homes whose sequence is no longer kept, and says how many rows they had. It follows at
+    /// most one link more.
     pub fn expire<G: Ledger>(&mut self, now: Moment, steps: &mut Steps<G>) -> u32
         requires { self.old.last ≤ now.0 }
-        ensures rows { self.new ≡ expired now.0 self.old }
-        ensures count { result + length self.new.rows ≡ length self.old.rows }
+        ensures homes { self.new ≡ expired now.0 self.old }
+        ensures count { result + length (live_rows self.new) ≡ length (live_rows self.old) }
         ensures stands { (past : List Acceptance) → StandsFor self.old past → StandsFor self.new past }
         ensures links { steps.new ≤ steps.old + result + 1 }
     {
@@ -112,11 +150,11 @@ impl Cache {
         given_up
     }
 
-    /// Gives up the rows that are no longer kept, as `expire` does, for a caller that counts no links.
+    /// Gives up the homes whose sequence is no longer kept, as `expire` does, for a caller that counts no links.
     pub fn give_up(&mut self, now: Moment) -> u32
         requires { self.old.last ≤ now.0 }
-        ensures rows { self.new ≡ expired now.0 self.old }
-        ensures count { result + length self.new.rows ≡ length self.old.rows }
+        ensures homes { self.new ≡ expired now.0 self.old }
+        ensures count { result + length (live_rows self.new) ≡ length (live_rows self.old) }
         ensures stands { (past : List Acceptance) → StandsFor self.old past → StandsFor self.new past }
     {
         self.counted::<Brand>(now, Blank::new(1))
@@ -127,39 +165,21 @@ impl Cache {
         requires name { blank.name ≡ G.name }
         requires parts { blank.parts ≡ G.parts }
         requires some { 0 < blank.parts }
-        ensures rows { self.new ≡ expired now.0 self.old }
-        ensures count { result + length self.new.rows ≡ length self.old.rows }
+        ensures homes { self.new ≡ expired now.0 self.old }
+        ensures count { result + length (live_rows self.new) ≡ length (live_rows self.old) }
         ensures stands { (past : List Acceptance) → StandsFor self.old past → StandsFor self.new past }
     {
         let mut steps = Steps::<G>::new(blank);
         self.expire(now, &mut steps)
     }
 
-    /// The row at a place among those that are kept, in order of home address.
+    /// The row at a place among those of the homes whose sequence is kept, in order of home, then of number.
     pub fn row(&self, now: Moment, place: u32) -> Option<&Row>
         requires { self.now.last ≤ now.0 }
-        ensures found { option_copied result ≡ slice_get (kept_at self.now now.0) place }
-        ensures answers { (past : List Acceptance) → StandsFor self.now past → option_map seen_row (option_copied result) ≡ slice_get (kept_rows now.0 (table past)) place }
-        ensures few { length (kept_at self.now now.0) < 2 ^ 32 }
+        ensures found { option_copied result ≡ slice_get (rows_at self.now now.0) place }
+        ensures answers { (past : List Acceptance) → StandsFor self.now past → option_map seen_row (option_copied result) ≡ slice_get (shown_rows past now.0) place }
+        ensures few { length (rows_at self.now now.0) < 2 ^ 32 }
     {
-        let _limit = self.table.room;
-        self.table.kept_at(now, place)
-    }
-}
-
-/// The row of an acceptance.
-fn row_of(now: Moment, home: Address, number: u8, accepted: Accepted) -> Row
-    requires { now.0 < 2 ^ 62 }
-    ensures { result ≡ row_for now.0 home number accepted }
-{
-    Row {
-        home,
-        number,
-        careof: accepted.careof,
-        sequence: accepted.sequence,
-        end: accepted.end,
-        kept_until: Moment(accepted.end.0.max(now.0 + MAX_NONCE_LIFETIME)),
-        home_nonce: accepted.home_nonce,
-        careof_nonce: accepted.careof_nonce,
+        self.table.row(now, place)
     }
 }

@@ -1,3 +1,4 @@
 pub mod RowLaws
-pub mod TableLaws
+pub mod HomeLaws
+pub mod LifeLaws
 pub mod HeldLaws

@@ -1,5 +1,5 @@
 -- What an accepted Binding Update said. RFC 6275 section 9.5.1
-use Rattle.std.specs.Prelude.{ℕ, ◌+◌, max}
+use Rattle.std.specs.Prelude.{ℕ, Bool, ◌+◌, ◌==◌, max}
 use Rattle.mip_constants.specs.Constants.{max_nonce_lifetime}
 
 -- at a moment, for a home address: a care-of address under a number of this home, the update's sequence
@@ -15,3 +15,24 @@ pub record Acceptance : Type 0 where
 -- a sequence is kept to the end of its binding, and at least for as long as a nonce lives
 abbrev pub kept_until_of : Acceptance → ℕ
 kept_until_of a = max a.end (a.at + max_nonce_lifetime)
+
+-- home itself was accepted as the care-of address: the bindings of this home end
+abbrev pub is_deletion : Acceptance → Bool
+is_deletion a = a.careof == a.home
+
+-- what an acceptance leaves, whenever it came
+pub record Binding : Type 0 where
+  pub home : ℕ
+  pub number : ℕ
+  pub careof : ℕ
+  pub sequence : ℕ
+  pub end : ℕ
+
+abbrev pub binding_of : Acceptance → Binding
+binding_of a = record {
+  home = a.home;
+  number = a.number;
+  careof = a.careof;
+  sequence = a.sequence;
+  end = a.end;
+}

@@ -1,3 +1,4 @@
 pub mod Acceptance
 pub mod Rows
+pub mod Homes
 pub mod Held

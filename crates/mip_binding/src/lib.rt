@@ -3,4 +3,7 @@
 
 mod laws;
 
-pub use laws::{acceptance_stands, homes_counted, kept_was_accepted, others_unchanged};
+pub use laws::{
+    acceptance_stands, held_under_a_number, homes_counted, kept_was_accepted, living_is_held,
+    others_unchanged,
+};

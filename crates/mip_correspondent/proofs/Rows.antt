@@ -33,17 +33,20 @@ pub kept_sound : (identity : Identity) (k : Known) (now : ℕ) (kept : Option Ke
 kept_sound identity k now None sound later fits = record {
   early = let e = sound.early in omega arith;
   room = sound.room;
+  numbers = sound.numbers;
   homes = sound.homes;
 }
 kept_sound identity k now (Some kept) sound later fits = record {
   early = omega arith;
   room = sound.room;
-  homes = all-put HasRoutableHome home_of (row_for now kept.home 0 kept.accepted) (kept_at k.cache now) fits.1 (all-kept HasRoutableHome until_of now k.cache.rows sound.homes);
+  numbers = sound.numbers;
+  homes = all-put HasRoutableHome home_of (row_for now kept.home kept.number kept.accepted) (kept_at k.cache now) fits.routable (all-kept HasRoutableHome until_of now k.cache.rows sound.homes);
 }
 
 pub ticked_sound : (identity : Identity) (k : Known) (now : ℕ) → IsSound (record { identity = identity; known = k }) → IsSound (record { identity = identity; known = left now (expired now k.cache) })
 ticked_sound identity k now sound = record {
   early = omega arith;
   room = sound.room;
+  numbers = sound.numbers;
   homes = all-kept HasRoutableHome until_of now k.cache.rows sound.homes;
 }

@@ -1,8 +1,8 @@
 -- What a turn shows, and what it leaves in the binding cache.
-use Rattle.std.specs.Prelude.{◌≡◌, ℕ, List, true, false, Option, Some, None, IfSome}
+use Rattle.std.specs.Prelude.{◌≡◌, ◌≢◌, ◌<◌, ℕ, List, true, false, Option, Some, None, IfSome}
 use Rattle.mip_words.specs.Addresses.{is_routable}
 use Rattle.mip_entries.specs.declared.answer.Answer.{Answer}
-use Rattle.mip_bcache.specs.Seen.{CacheSeen, with_row, row_for, has_no_room}
+use Rattle.mip_bcache.specs.Seen.{CacheSeen, with_acceptance, has_no_room}
 use Rattle.mip_rules_correspondent.specs.declared.known.Known.{Known}
 use Rattle.mip_rules_correspondent.specs.declared.verdict.Verdict.{Verdict}
 use Rattle.mip_rules_correspondent.specs.declared.verdict.Verdict.TheVariants.{Refuse, Deny, Accept}
@@ -17,17 +17,24 @@ left now cache = record { last = record { 0 = now }; cache = cache }
 abbrev pub Shows : (now : ℕ) (cache : CacheSeen) (answers : List Answer) → Turn → Type 0
 Shows now cache answers t = ShowsAt now (left now cache) answers t
 
--- a cache with the row of an accepted update, if there is one
+-- a cache with an accepted update, if there is one
 abbrev pub with_kept : ℕ → Option Kept → CacheSeen → CacheSeen
 with_kept now None cache = cache
-with_kept now (Some k) cache = with_row now (row_for now k.home 0 k.accepted) cache
+with_kept now (Some k) cache = with_acceptance now k.home k.number k.accepted cache
 
 -- what a verdict accepts
 abbrev pub kept_of : Verdict → Option Kept
 kept_of (Refuse why) = None
 kept_of (Deny status last kbm) = None
-kept_of (Accept home accepted granted kbm) = Some (record { home = home; accepted = accepted })
+kept_of (Accept home number accepted granted kbm) = Some (record { home = home; number = number; accepted = accepted })
 
--- there is room for the row of an accepted update, and its home may stand in a routing header
+-- there is room for an accepted update, its home may stand in a routing header, and its number is one of the cache's, or
+-- 0; it is 0 where the update registers the home address
+pub record IsFitting (now : ℕ) (cache : CacheSeen) (k : Kept) : Type 0 where
+  pub room : has_no_room cache k.home.0 now ≡ false
+  pub routable : is_routable k.home.0 ≡ true
+  pub number : k.number ≢ 0 → k.number < cache.numbers
+  pub deletion : k.accepted.careof.0 ≡ k.home.0 → k.number ≡ 0
+
 abbrev pub Fits : ℕ → CacheSeen → Option Kept → Type 0
-Fits now cache kept = IfSome kept (λ k. (has_no_room cache k.home.0 now ≡ false) × (is_routable k.home.0 ≡ true))
+Fits now cache kept = IfSome kept (IsFitting now cache)

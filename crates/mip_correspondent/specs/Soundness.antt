@@ -1,5 +1,5 @@
 -- What always holds of a correspondent.
-use Rattle.std.specs.Prelude.{◌≡◌, ◌≤◌, true}
+use Rattle.std.specs.Prelude.{◌≡◌, ◌≤◌, ◌<◌, true}
 use Rattle.std.specs.List.{AllByRecursion}
 use Rattle.mip_words.specs.Addresses.{is_routable}
 use Rattle.mip_bcache.specs.declared.row.Row.{Row}
@@ -9,9 +9,10 @@ use Rattle.mip_rules_correspondent.specs.Seen.{CorrespondentSeen}
 abbrev pub HasRoutableHome : Row → Type 0
 HasRoutableHome r = is_routable r.home.0 ≡ true
 
--- no change of its cache is later than its last call, its cache has the room that it was made with, and its
--- rows are of routable homes
+-- no change of its cache is later than its last call, its cache has the room that it was made with and some numbers,
+-- and it has routable homes alone
 pub record IsSound (c : CorrespondentSeen) : Type 0 where
   pub early : c.known.cache.last ≤ c.known.last.0
   pub room : c.known.cache.limit ≡ c.identity.room
+  pub numbers : 0 < c.known.cache.numbers
   pub homes : AllByRecursion HasRoutableHome c.known.cache.rows

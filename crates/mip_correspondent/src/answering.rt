@@ -2,7 +2,7 @@
 
 ghost use Rattle.std.specs.Prelude.{◌≡◌, ℕ, ◌∷◌, [], OnOk, option_map};
 ghost use Rattle.mip_nonce.specs.Window.{index_of};
-ghost use Rattle.mip_bcache.specs.Seen.{CacheSeen, row_for, with_row};
+ghost use Rattle.mip_bcache.specs.Seen.{CacheSeen, with_acceptance};
 ghost use Rattle.mip_rules_correspondent.specs.Steps.{answer_of, Sends, Accepts, Denies, Drops, HandsUp, Idles};
 ghost use Rattle.mip_rules_correspondent.specs.Turns.{Turn, noted};
 ghost use Rattle.mip_correspondent.specs.Showing.{Shows};
@@ -68,14 +68,14 @@ pub fn note_denial(answers: &mut Answers, number: u64, status: u8) -> Result<(),
 
 /// The entry of an acceptance.
 fn accepted_entry(number: u64, kept: &Kept) -> Entry
-    ensures { Answer.Note result ∷ [] ≡ answer_of (Accepts number kept.now.home kept.now.accepted) }
+    ensures { Answer.Note result ∷ [] ≡ answer_of (Accepts number kept.now.home kept.now.number kept.now.accepted) }
 {
     let accepted = kept.accepted;
     Entry::Accepted {
         node: MYSELF,
         number,
         home: kept.home,
-        binding: 0,
+        binding: kept.number,
         careof: accepted.careof,
         sequence: accepted.sequence,
         end: accepted.end,
@@ -86,7 +86,7 @@ fn accepted_entry(number: u64, kept: &Kept) -> Entry
 
 /// It accepts the update in a packet: its row will stand in the cache.
 pub fn note_acceptance(answers: &mut Answers, number: u64, kept: &Kept) -> Result<(), Memory>
-    ensures { (now : ℕ) (cache : CacheSeen) (t : Turn) → Shows now cache answers.old t → OnOk result (Shows now (with_row now (row_for now kept.now.home 0 kept.now.accepted) cache) answers.new (noted (Accepts number kept.now.home kept.now.accepted) t)) }
+    ensures { (now : ℕ) (cache : CacheSeen) (t : Turn) → Shows now cache answers.old t → OnOk result (Shows now (with_acceptance now kept.now.home kept.now.number kept.now.accepted cache) answers.new (noted (Accepts number kept.now.home kept.now.number kept.now.accepted) t)) }
 {
     answers.push(Answer::Note(accepted_entry(number, kept)))?;
     Ok(())

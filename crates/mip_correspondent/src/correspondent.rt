@@ -1,5 +1,4 @@
-ghost use Rattle.std.specs.Prelude.{◌≡◌, ◌==◌, ◌↔◌, ℕ, ◌<◌, ◌≤◌, ◌^◌, List, false, Some, IfOk, OnOk, OnErr, IfSome, IsTrue, IsFalse, length, option_copied, option_map, slice_get};
-ghost use Rattle.std.specs.Option.{option_map_or};
+ghost use Rattle.std.specs.Prelude.{◌≡◌, ◌*◌, ℕ, ◌<◌, ◌≤◌, ◌^◌, List, IfOk, OnOk, OnErr, IfSome, IsTrue, IsFalse, length, option_copied, option_map, slice_get};
 ghost use Rattle.mip_words.specs.Addresses.{is_routable};
 ghost use Rattle.mip_ipv6.specs.Packet.{packet as tree, is_routable_if_any, names_no_body};
 ghost use Rattle.mip_nonce.specs.Secrets.{cookie_of};
@@ -7,10 +6,10 @@ ghost use Rattle.mip_says.specs.Says.{message_in};
 ghost use Rattle.mip_binding.specs.Acceptance.{Acceptance};
 ghost use Rattle.mip_binding.specs.Rows.{kept_rows, table};
 ghost use Rattle.mip_binding.specs.Held.{held};
-ghost use Rattle.mip_bcache.specs.Seen.{StandsFor, kept_at, seen_row};
+ghost use Rattle.mip_bcache.specs.Seen.{StandsFor, rows_at, seen_row};
 ghost use Rattle.mip_entries.specs.Stamped.{Stamped};
 ghost use Rattle.mip_rules_correspondent.specs.Steps.{Step, answers_of};
-ghost use Rattle.mip_rules_correspondent.specs.Questions.{fresh, held_of};
+ghost use Rattle.mip_rules_correspondent.specs.Questions.{fresh, held_of, holds_for};
 ghost use Rattle.mip_rules_correspondent.specs.Turns.{Stands, with_turn};
 ghost use Rattle.mip_rules_correspondent.specs.Rules.{is_data, is_for_part};
 ghost use Rattle.mip_rules_correspondent.specs.Calls as calls;
@@ -51,16 +50,21 @@ impl Model for Correspondent {
 }
 
 impl Correspondent {
-    /// A correspondent with this address, the secrets of its present life, and room for so many homes.
+    /// A correspondent with this address, the secrets of its present life, and room for so many homes and for so many
+    /// bindings of each.
     pub fn new(
         alloc: Global,
         own: Address,
         secrets: Secrets,
         room: u32,
+        numbers: u8,
     ) -> Result<Correspondent, Memory>
-        ensures { IfOk result (λ c. c ≡ record { identity = record { own = own; secrets = secrets; room = room }; known = fresh room }) }
+        requires some { 1 ≤ numbers }
+        requires few { numbers ≤ 8 }
+        requires room { room * numbers < 2 ^ 32 }
+        ensures { IfOk result (λ c. c ≡ record { identity = record { own = own; secrets = secrets; room = room }; known = fresh room numbers }) }
     {
-        let cache = Cache::with_limit(alloc, room)?;
+        let cache = Cache::with_limit(alloc, room, numbers)?;
         let identity = Identity { own, secrets, room };
         let known = Known {
             last: Moment(0),
@@ -90,24 +94,20 @@ impl Correspondent {
         }
     }
 
-    /// Whether this care-of address is held for a home.
+    /// Whether this care-of address is held for a home, under some number.
     pub fn holds(&self, now: Moment, home: Address, careof: Address) -> bool
         requires { self.now.known.last.0 ≤ now.0 }
-        ensures found { result ≡ option_map_or (λ a. a.0 == careof.0) (held_of self.now.known now.0 home) false }
-        ensures answers { (past : List Acceptance) → StandsFor self.now.known.cache past → (IsTrue result ↔ held past home.0 now.0 ≡ Some careof.0) }
+        ensures found { result ≡ holds_for self.now.known now.0 home careof }
     {
-        match self.route(now, home) {
-            Some(held) => held.0 == careof.0,
-            None => false,
-        }
+        self.known.cache.holds(now, home, careof)
     }
 
-    /// The row at a place among those that are kept, in order of home address.
+    /// The row at a place among those that are kept, in order of home address, then of number.
     pub fn row(&self, now: Moment, place: u32) -> Option<&Row>
         requires { self.now.known.last.0 ≤ now.0 }
-        ensures found { option_copied result ≡ slice_get (kept_at self.now.known.cache now.0) place }
+        ensures found { option_copied result ≡ slice_get (rows_at self.now.known.cache now.0) place }
         ensures answers { (past : List Acceptance) → StandsFor self.now.known.cache past → option_map seen_row (option_copied result) ≡ slice_get (kept_rows now.0 (table past)) place }
-        ensures few { length (kept_at self.now.known.cache now.0) < 2 ^ 32 }
+        ensures few { length (rows_at self.now.known.cache now.0) < 2 ^ 32 }
     {
         self.known.cache.row(now, place)
     }
@@ -139,8 +139,8 @@ impl Correspondent {
         requires early { now.0 < 2 ^ 62 }
         ensures answers { IfOk result (λ a. a ≡ answers_of (turn_at self.old now.0 (calls.Take number shield packet.now)).steps) }
         ensures after { OnOk result (self.new ≡ called self.old now.0 (calls.Take number shield packet.now)) }
-        ensures stands { (room : ℕ) (past : List (Stamped Step)) → Stands room past self.old.known →
-            OnOk result (Stands room (with_turn past (turn_at self.old now.0 (calls.Take number shield packet.now))) self.new.known) }
+        ensures stands { (room numbers : ℕ) (past : List (Stamped Step)) → Stands room numbers past self.old.known →
+            OnOk result (Stands room numbers (with_turn past (turn_at self.old now.0 (calls.Take number shield packet.now))) self.new.known) }
         ensures last { OnOk result (self.new.known.last ≡ now) }
         ensures err { OnErr result (self.new ≡ self.old) }
     {
@@ -171,8 +171,8 @@ impl Correspondent {
         requires plain { IsTrue (is_routable_if_any packet.now.head.home) }
         ensures answers { IfOk result (λ a. a ≡ answers_of (turn_at self.old now.0 (calls.Part number (tree packet.now))).steps) }
         ensures after { OnOk result (self.new ≡ called self.old now.0 (calls.Part number (tree packet.now))) }
-        ensures stands { (room : ℕ) (past : List (Stamped Step)) → Stands room past self.old.known →
-            OnOk result (Stands room (with_turn past (turn_at self.old now.0 (calls.Part number (tree packet.now)))) self.new.known) }
+        ensures stands { (room numbers : ℕ) (past : List (Stamped Step)) → Stands room numbers past self.old.known →
+            OnOk result (Stands room numbers (with_turn past (turn_at self.old now.0 (calls.Part number (tree packet.now)))) self.new.known) }
         ensures last { OnOk result (self.new.known.last ≡ now) }
         ensures err { OnErr result (self.new ≡ self.old) }
     {
@@ -193,7 +193,7 @@ impl Correspondent {
     pub fn tick(&mut self, now: Moment)
         requires { self.old.known.last.0 ≤ now.0 }
         ensures after { self.new ≡ called self.old now.0 calls.Tick }
-        ensures stands { (room : ℕ) (past : List (Stamped Step)) → Stands room past self.old.known → Stands room (with_turn past (turn_at self.old now.0 calls.Tick)) self.new.known }
+        ensures stands { (room numbers : ℕ) (past : List (Stamped Step)) → Stands room numbers past self.old.known → Stands room numbers (with_turn past (turn_at self.old now.0 calls.Tick)) self.new.known }
         ensures last { self.new.known.last ≡ now }
     {
         let _given_up = self.known.cache.give_up(now);
@@ -207,8 +207,8 @@ impl Correspondent {
         requires early { now.0 < 2 ^ 62 }
         ensures answers { IfOk result (λ a. a ≡ answers_of (turn_at self.old now.0 (calls.Refresh home)).steps) }
         ensures after { OnOk result (self.new ≡ called self.old now.0 (calls.Refresh home)) }
-        ensures stands { (room : ℕ) (past : List (Stamped Step)) → Stands room past self.old.known →
-            OnOk result (Stands room (with_turn past (turn_at self.old now.0 (calls.Refresh home))) self.new.known) }
+        ensures stands { (room numbers : ℕ) (past : List (Stamped Step)) → Stands room numbers past self.old.known →
+            OnOk result (Stands room numbers (with_turn past (turn_at self.old now.0 (calls.Refresh home))) self.new.known) }
         ensures last { OnOk result (self.new.known.last ≡ now) }
         ensures err { OnErr result (self.new ≡ self.old) }
     {
@@ -236,8 +236,8 @@ impl Correspondent {
         requires short { length payload.now ≤ 512 }
         ensures answers { IfOk result (λ a. a ≡ answers_of (turn_at self.old now.0 (calls.Send to proto payload.now)).steps) }
         ensures after { OnOk result (self.new ≡ called self.old now.0 (calls.Send to proto payload.now)) }
-        ensures stands { (room : ℕ) (past : List (Stamped Step)) → Stands room past self.old.known →
-            OnOk result (Stands room (with_turn past (turn_at self.old now.0 (calls.Send to proto payload.now))) self.new.known) }
+        ensures stands { (room numbers : ℕ) (past : List (Stamped Step)) → Stands room numbers past self.old.known →
+            OnOk result (Stands room numbers (with_turn past (turn_at self.old now.0 (calls.Send to proto payload.now))) self.new.known) }
         ensures last { OnOk result (self.new.known.last ≡ now) }
         ensures err { OnErr result (self.new ≡ self.old) }
     {
@@ -261,13 +261,14 @@ impl Correspondent {
 fn keep(cache: &mut Cache, now: Moment, kept: Option<Kept>)
     requires later { cache.old.last ≤ now.0 }
     requires early { now.0 < 2 ^ 62 }
+    requires numbers { 0 < cache.old.numbers }
     requires fits { Fits now.0 cache.old kept }
     ensures { cache.new ≡ with_kept now.0 kept cache.old }
 {
     let Some(kept) = kept else {
         return;
     };
-    match cache.accept(now, kept.home, 0, kept.accepted) {
+    match cache.accept(now, kept.home, kept.number, kept.accepted) {
         Ok(()) => (),
         Err(AcceptFault::Full) => unreachable!(),
     }

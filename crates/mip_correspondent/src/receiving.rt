@@ -31,10 +31,7 @@ fn holds_option(receipt: &Receipt<'_>, source: Address, home: Option<Address>) -
     let Some(home) = home else {
         return false;
     };
-    match receipt.cache.look(receipt.moment, home) {
-        Some(row) => row.careof.0 == source.0,
-        None => false,
-    }
+    receipt.cache.holds(receipt.moment, home, source)
 }
 
 /// What a packet's addresses are to the node.

@@ -2,7 +2,7 @@
 
 ghost use Rattle.std.specs.Prelude.{◌≡◌, ◌≤◌, ◌<◌, ◌^◌, Some, IfOk, OnOk, IsTrue, option_copied};
 ghost use Rattle.mip_ipv6.specs.Packet.{is_routable_if_any};
-ghost use Rattle.mip_bcache.specs.Seen.{CacheSeen, row_for, with_row};
+ghost use Rattle.mip_bcache.specs.Seen.{CacheSeen, with_acceptance};
 ghost use Rattle.mip_rules_correspondent.specs.Turns.{Turn};
 ghost use Rattle.mip_updates.specs.Registrations.{registration_in};
 ghost use Rattle.mip_rules_correspondent.specs.Rules.{denies, acknowledges, accepts, judged, takes_update};
@@ -80,7 +80,7 @@ fn accept(
     kbm: &PreparedKbm,
 ) -> Result<(), Memory>
     requires { IsTrue (is_routable_if_any registration.now.home_option) }
-    ensures { (cache : CacheSeen) (t : Turn) → Shows receipt.now.moment.0 cache answers.old t → OnOk result (Shows receipt.now.moment.0 (with_row receipt.now.moment.0 (row_for receipt.now.moment.0 kept.now.home 0 kept.now.accepted) cache) answers.new (accepts receipt.now.identity.now receipt.now.number registration.now kept.now.home kept.now.accepted granted kbm.now t)) }
+    ensures { (cache : CacheSeen) (t : Turn) → Shows receipt.now.moment.0 cache answers.old t → OnOk result (Shows receipt.now.moment.0 (with_acceptance receipt.now.moment.0 kept.now.home kept.now.number kept.now.accepted cache) answers.new (accepts receipt.now.identity.now receipt.now.number registration.now kept.now.home kept.now.number kept.now.accepted granted kbm.now t)) }
 {
     note_acceptance(answers, receipt.number, kept)?;
     acknowledge(alloc, answers, receipt, registration, granted, kbm)
@@ -111,6 +111,7 @@ fn carry_out(
         }
         Verdict::Accept {
             home,
+            number,
             accepted,
             granted,
             ..
@@ -118,7 +119,11 @@ fn carry_out(
             let Some(kbm) = kbm else {
                 unreachable!();
             };
-            let kept = Kept { home, accepted };
+            let kept = Kept {
+                home,
+                number,
+                accepted,
+            };
             accept(alloc, answers, receipt, registration, &kept, granted, kbm)?;
             Ok(Some(kept))
         }

@@ -5,17 +5,17 @@ use Rattle.std.specs.List.{AllByRecursion}
 use Rattle.std.proofs.lemmas.List.{append_assoc, append-nil}
 use Rattle.mip_words.specs.declared.address.Address.{Address}
 use Rattle.mip_binding.specs.Acceptance.{Acceptance}
-use Rattle.mip_binding.specs.Held.{held, floor, is_full}
+use Rattle.mip_binding.specs.Held.{held, holds, floor, is_full}
 use Rattle.mip_bcache.specs.declared.row.Row.{Row}
-use Rattle.mip_bcache.specs.Seen.{CacheSeen, StandsFor, row_at, if_standing, expired}
-use Rattle.mip_bcache.proofs.Pasts.{empty_stands, look_answers, floor_answers, room_answers, expire_stands, accept_stands}
+use Rattle.mip_bcache.specs.Seen.{CacheSeen, StandsFor, standing_at, expired}
+use Rattle.mip_bcache.proofs.Pasts.{empty_stands, look_answers, holds_answers, floor_answers, room_answers, expire_stands, accept_stands}
 use Rattle.mip_entries.specs.Stamped.{Stamped}
 use Rattle.mip_turns.specs.Pasts.{RisesFrom, last_at}
 use Rattle.mip_turns.proofs.PastLaws.{last_early}
 use Rattle.mip_rules_correspondent.specs.declared.known.Known.{Known}
 use Rattle.mip_rules_correspondent.specs.Calls.{is_tick}
 use Rattle.mip_rules_correspondent.specs.Steps.{Step, Called, Sends, Accepts, Denies, Drops, HandsUp, Idles}
-use Rattle.mip_rules_correspondent.specs.Questions.{cache_after, after, fresh, known, held_of, floor_of, is_full_for}
+use Rattle.mip_rules_correspondent.specs.Questions.{cache_after, after, fresh, known, held_of, holds_for, floor_of, is_full_for}
 use Rattle.mip_rules_correspondent.specs.Pasts.{acceptance_in, accepted_in}
 
 -- what one step makes of a cache that stands for the acceptances so far
@@ -32,8 +32,8 @@ quiet cache xs limit from at later f = record {
 }
 
 stepped : (cache : CacheSeen) (xs : List Acceptance) (limit from at : ℕ) (step : Step) → from ≤ at → Follows cache xs limit from → Follows (cache_after cache at step) (xs ++ acceptance_in at step) limit at
-stepped cache xs limit from at (Accepts number home accepted) later f = record {
-  stands = accept_stands cache xs f.stands at (let e = f.early in omega arith) home 0 accepted;
+stepped cache xs limit from at (Accepts number home binding accepted) later f = record {
+  stands = accept_stands cache xs f.stands at (let e = f.early in omega arith) home binding accepted;
   limit_is = f.limit_is;
   early = omega arith;
 }
@@ -61,27 +61,30 @@ followed k xs limit from (s ∷ past) rises f =
     (append_assoc xs (acceptance_in s.at s.step) (accepted_in past))
     (followed (after k s) (xs ++ acceptance_in s.at s.step) limit s.at past rises.1 (stepped k.cache xs limit from s.at s.step rises.0 f))
 
-module _ (room : ℕ) (past : List (Stamped Step)) (rises : RisesFrom 0 past) where
-  follows : Follows (known room past).cache (accepted_in past) room (last_at 0 past)
+module _ (room numbers : ℕ) (past : List (Stamped Step)) (rises : RisesFrom 0 past) where
+  follows : Follows (known room numbers past).cache (accepted_in past) room (last_at 0 past)
   unfolding known
-  follows = followed (fresh room) [] room 0 past rises (record { stands = empty_stands room; limit_is = refl; early = omega arith })
+  follows = followed (fresh room numbers) [] room 0 past rises (record { stands = empty_stands room numbers; limit_is = refl; early = omega arith })
 
-  pub cache-stands : StandsFor (known room past).cache (accepted_in past)
+  pub cache-stands : StandsFor (known room numbers past).cache (accepted_in past)
   cache-stands = follows.stands
 
   module _ (now : ℕ) (home : Address) (all : AllByRecursion (λ s. s.at ≤ now) past) where
-    pub early : (known room past).cache.last ≤ now
+    pub early : (known room numbers past).cache.last ≤ now
     early = let e = follows.early in let l = last_early now 0 past (omega arith) all in omega arith
 
-    pub held-answers : option_map (λ a. a.0) (held_of (known room past) now home) ≡ held (accepted_in past) home.0 now
-    held-answers = by (if_standing home.0 now (row_at (known room past).cache home.0 now)) ∙ look_answers (known room past).cache (accepted_in past) cache-stands now early home.0
+    pub held-answers : option_map (λ a. a.0) (held_of (known room numbers past) now home) ≡ held (accepted_in past) home.0 now
+    held-answers = by (standing_at (known room numbers past).cache home.0 now) ∙ look_answers (known room numbers past).cache (accepted_in past) cache-stands now early home.0
       where
         by : (o : Option Row) → option_map (λ (a : Address). a.0) (option_map (λ (r : Row). r.careof) o) ≡ option_map (λ (r : Row). r.careof.0) o
         by None = refl
         by (Some r) = refl
 
-    pub floor-answers : floor_of (known room past) now home ≡ floor (accepted_in past) home.0 now
-    floor-answers = floor_answers (known room past).cache (accepted_in past) cache-stands now early home.0
+    pub holds-answers : (careof : Address) → holds_for (known room numbers past) now home careof ≡ holds (accepted_in past) home.0 now careof.0
+    holds-answers careof = holds_answers (known room numbers past).cache (accepted_in past) cache-stands now early home.0 careof.0
 
-    pub full-answers : is_full_for (known room past) now home ≡ is_full room (accepted_in past) home.0 now
-    full-answers = room_answers (known room past).cache (accepted_in past) cache-stands now early home.0 ∙ ap (λ (n : ℕ). is_full n (accepted_in past) home.0 now) follows.limit_is
+    pub floor-answers : floor_of (known room numbers past) now home ≡ floor (accepted_in past) home.0 now
+    floor-answers = floor_answers (known room numbers past).cache (accepted_in past) cache-stands now early home.0
+
+    pub full-answers : is_full_for (known room numbers past) now home ≡ is_full room (accepted_in past) home.0 now
+    full-answers = room_answers (known room numbers past).cache (accepted_in past) cache-stands now early home.0 ∙ ap (λ (n : ℕ). is_full n (accepted_in past) home.0 now) follows.limit_is

@@ -25,7 +25,7 @@ whole-append (x ∷ xs) ys first second = (first.0, whole-append xs ys first.1 s
 whole-step : (me : Identity) (call : Call) (now : ℕ) (step : Step) → SendsOwn me call now step → AreWhole (answer_of step)
 whole-step me c now (Called call) own = tt
 whole-step me c now (Sends packet) own = (sending-long me c now own.0 packet own.1, tt)
-whole-step me c now (Accepts number home accepted) own = (refl, tt)
+whole-step me c now (Accepts number home binding accepted) own = (refl, tt)
 whole-step me c now (Denies number status) own = (refl, tt)
 whole-step me c now (Drops number why) own = (own, tt)
 whole-step me c now (HandsUp number source destination proto payload) own = (refl, tt)

@@ -11,10 +11,10 @@ use Rattle.mip_rules_correspondent.specs.Turns.{Turn, begun, Stands, with_turn}
 use Rattle.mip_rules_correspondent.specs.Doing.{turn_of}
 use Rattle.mip_rules_correspondent.proofs.Walks.{every-call}
 
-pub call-stands : (room : ℕ) (past : List (Stamped Step)) (k : Known) (now : ℕ) (me : Identity) (c : Call) → Stands room past k
-    → Stands room (with_turn past (turn_of me k now c)) (turn_of me k now c).known
-call-stands room past k now me c stands =
-    every-call me c (λ (t : Turn). Stands room (with_turn past t) t.known)
-    (λ step t silent own s. stands-noted after (fresh room) past step t s)
-    (λ t s. stands-noted after (fresh room) past (Called c) t s)
-    (begun now k) (stands-begun after (fresh room) past now k stands)
+pub call-stands : (room numbers : ℕ) (past : List (Stamped Step)) (k : Known) (now : ℕ) (me : Identity) (c : Call) → Stands room numbers past k
+    → Stands room numbers (with_turn past (turn_of me k now c)) (turn_of me k now c).known
+call-stands room numbers past k now me c stands =
+    every-call me c (λ (t : Turn). Stands room numbers (with_turn past t) t.known)
+    (λ step t silent own s. stands-noted after (fresh room numbers) past step t s)
+    (λ t s. stands-noted after (fresh room numbers) past (Called c) t s)
+    (begun now k) (stands-begun after (fresh room numbers) past now k stands)

@@ -70,19 +70,20 @@ module _ (me : Identity) (k : Known) (now number : ℕ) (p : Packet) where
   unfolding denies accepts
   of_verdict r mobility asks (Refuse why) is = one _ refl
   of_verdict r mobility asks (Deny status last kbm) is = two _ _ refl refl
-  of_verdict r mobility asks (Accept home a granted kbm) is = by r.ack
+  of_verdict r mobility asks (Accept home binding a granted kbm) is = by r.ack
     where
       first : Turn
-      first = noted (Accepts number home a) given
+      first = noted (Accepts number home binding a) given
 
       taken : (rest : List Step) → list_any is_acceptance rest ≡ false → Is (noted_all after rest first)
-      taken rest none = subst Is (sym (noted_all-is after (Called (calls.Part number p) ∷ Accepts number home a ∷ rest) (begun now k))) (
+      taken rest none = subst Is (sym (noted_all-is after (Called (calls.Part number p) ∷ Accepts number home binding a ∷ rest) (begun now k))) (
         refl,
         inr (record {
           mobility = mobility;
           registration = r;
           asks = asks;
           home = home;
+          binding = binding;
           accepted = a;
           granted = granted;
           kbm = kbm;

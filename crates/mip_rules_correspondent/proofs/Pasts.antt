@@ -1,28 +1,30 @@
 -- How what is known goes along a past.
-use Rattle.std.proofs.Common.{◌≡◌, ℕ, List, [], ◌∷◌, ◌++◌, refl, ◌∙◌}
+use Rattle.std.proofs.Common.{◌≡◌, ℕ, List, [], ◌∷◌, ◌++◌, Bool, true, false, refl, ◌∙◌}
 use Rattle.std.specs.Prelude.{Option, Some, None, unwrap_or, option_map, fold, if◌then◌else◌}
+use Rattle.mip_bcache.specs.Seen.{CacheSeen, expired}
 use Rattle.mip_lists.specs.Last.{or_else, last_where}
 use Rattle.mip_entries.specs.Stamped.{Stamped}
 use Rattle.mip_turns.specs.Turns.{StandsBy}
 use Rattle.mip_turns.proofs.TurnLaws.{known-push}
 use Rattle.mip_rules_correspondent.specs.declared.known.Known.{Known}
+use Rattle.mip_rules_correspondent.specs.Calls.{is_tick}
 use Rattle.mip_rules_correspondent.specs.Steps.{Step, Called, Sends, Accepts, Denies, Drops, HandsUp, Idles, is_call}
-use Rattle.mip_rules_correspondent.specs.Questions.{last_after, after, fresh, known}
+use Rattle.mip_rules_correspondent.specs.Questions.{last_after, cache_after, after, fresh, known}
 use Rattle.mip_rules_correspondent.specs.Turns.{Stands}
 
 -- whoever stands for a past knows what it leaves known, and the other way round
-pub stands-known : (room : ℕ) (past : List (Stamped Step)) (k : Known) → Stands room past k → k ≡ known room past
+pub stands-known : (room numbers : ℕ) (past : List (Stamped Step)) (k : Known) → Stands room numbers past k → k ≡ known room numbers past
 unfolding known StandsBy
-stands-known room past k stands = stands
+stands-known room numbers past k stands = stands
 
-pub known-stands : (room : ℕ) (past : List (Stamped Step)) (k : Known) → k ≡ known room past → Stands room past k
+pub known-stands : (room numbers : ℕ) (past : List (Stamped Step)) (k : Known) → k ≡ known room numbers past → Stands room numbers past k
 unfolding known StandsBy
-known-stands room past k is = is
+known-stands room numbers past k is = is
 
 -- one step more
-pub known-step : (room : ℕ) (past : List (Stamped Step)) (s : Stamped Step) → known room (past ++ s ∷ []) ≡ after (known room past) s
+pub known-step : (room numbers : ℕ) (past : List (Stamped Step)) (s : Stamped Step) → known room numbers (past ++ s ∷ []) ≡ after (known room numbers past) s
 unfolding known
-known-step room past s = known-push after (fresh room) past s
+known-step room numbers past s = known-push after (fresh room numbers) past s
 
 abbrev moment_of : Option (Stamped Step) → ℕ → ℕ
 moment_of o d = unwrap_or (option_map (λ s. s.at) o) d
@@ -37,13 +39,39 @@ last_from k (s ∷ past) =
     by (Some x) at step = refl
     by None at (Called call) = refl
     by None at (Sends packet) = refl
-    by None at (Accepts number home accepted) = refl
+    by None at (Accepts number home binding accepted) = refl
     by None at (Denies number status) = refl
     by None at (Drops number why) = refl
     by None at (HandsUp number source destination proto payload) = refl
     by None at Idles = refl
 
 -- the last moment known is that of the last call
-pub known-last : (room : ℕ) (past : List (Stamped Step)) → (known room past).last.0 ≡ moment_of (last_where (λ s. is_call s.step) past) 0
+pub known-last : (room numbers : ℕ) (past : List (Stamped Step)) → (known room numbers past).last.0 ≡ moment_of (last_where (λ s. is_call s.step) past) 0
 unfolding known
-known-last room past = last_from (fresh room) past
+known-last room numbers past = last_from (fresh room numbers) past
+
+-- the room and the numbers of a cache stay
+same-bounds : (cache : CacheSeen) (at : ℕ) (step : Step) → ((cache_after cache at step).limit ≡ cache.limit) × ((cache_after cache at step).numbers ≡ cache.numbers)
+same-bounds cache at (Accepts number home binding accepted) = (refl, refl)
+same-bounds cache at (Called call) = by (is_tick call)
+  where
+    by : (tick : Bool) → (let c : CacheSeen = (if tick then expired at cache else cache) in (c.limit ≡ cache.limit) × (c.numbers ≡ cache.numbers))
+    by true = (refl, refl)
+    by false = (refl, refl)
+same-bounds cache at _ = (refl, refl)
+
+bounds-from : (k : Known) (past : List (Stamped Step)) → ((fold after k past).cache.limit ≡ k.cache.limit) × ((fold after k past).cache.numbers ≡ k.cache.numbers)
+unfolding after
+bounds-from k [] = (refl, refl)
+bounds-from k (s ∷ past) =
+    let more = bounds-from (after k s) past in
+    let one = same-bounds k.cache s.at s.step in
+    (more.0 ∙ one.0, more.1 ∙ one.1)
+
+pub known-limit : (room numbers : ℕ) (past : List (Stamped Step)) → (known room numbers past).cache.limit ≡ room
+unfolding known
+known-limit room numbers past = (bounds-from (fresh room numbers) past).0
+
+pub known-numbers : (room numbers : ℕ) (past : List (Stamped Step)) → (known room numbers past).cache.numbers ≡ numbers
+unfolding known
+known-numbers room numbers past = (bounds-from (fresh room numbers) past).1

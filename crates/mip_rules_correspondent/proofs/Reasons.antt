@@ -21,7 +21,7 @@ use Rattle.mip_rules_correspondent.specs.Rules.{other_why}
 abbrev pub RefusesRight : Verdict → Type 0
 RefusesRight (Refuse why) = is_dropped_why why ≡ true
 RefusesRight (Deny status last kbm) = Unit {0}
-RefusesRight (Accept home accepted granted kbm) = Unit {0}
+RefusesRight (Accept home number accepted granted kbm) = Unit {0}
 
 room-right : (b : Bench) (r : Registration) (i : ℕ) (j : Option ℕ) (kbm : Kbm) → RefusesRight (by_room b r i j kbm)
 room-right b r i j kbm = cond_both b.full _ _ RefusesRight (λ full. tt) (λ free. tt)

@@ -21,7 +21,7 @@ Keeps t u = list_any is_acceptance u.steps ≡ false → u.known.cache ≡ t.kno
 same-cache : (step : Step) (cache : CacheSeen) (at : ℕ) → is_call step ≡ false → is_acceptance step ≡ false → cache_after cache at step ≡ cache
 same-cache (Called call) cache at silent none = absurd cc
 same-cache (Sends packet) cache at silent none = refl
-same-cache (Accepts number home accepted) cache at silent none = absurd cc
+same-cache (Accepts number home binding accepted) cache at silent none = absurd cc
 same-cache (Denies number status) cache at silent none = refl
 same-cache (Drops number why) cache at silent none = refl
 same-cache (HandsUp number source destination proto payload) cache at silent none = refl

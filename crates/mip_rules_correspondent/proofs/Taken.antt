@@ -51,33 +51,33 @@ either u true x y first second e = first e
 either u false x y first second e = second e
 
 -- only an accepted update has the verdict Accept, and it is for the home of the update
-module _ (b : Bench) (r : Registration) (message : List ℕ) (home : Address) (a : Accepted) (granted : ℕ) (kbm : Kbm) where
-  room_home : (i : ℕ) (j : Option ℕ) (key : Kbm) → by_room b r i j key ≡ Accept home a granted kbm → home ≡ home_of r
-  room_home i j key = either (Accept home a granted kbm) b.full _ _ (λ e. absurd cc) (λ e. cc)
+module _ (b : Bench) (r : Registration) (message : List ℕ) (home : Address) (number : ℕ) (a : Accepted) (granted : ℕ) (kbm : Kbm) where
+  room_home : (i : ℕ) (j : Option ℕ) (key : Kbm) → by_room b r i j key ≡ Accept home number a granted kbm → home ≡ home_of r
+  room_home i j key = either (Accept home number a granted kbm) b.full _ _ (λ e. absurd cc) (λ e. cc)
 
-  sequence_home : (i : ℕ) (j : Option ℕ) (key : Kbm) (floor : Option ℕ) → by_sequence b r i j key floor ≡ Accept home a granted kbm → home ≡ home_of r
+  sequence_home : (i : ℕ) (j : Option ℕ) (key : Kbm) (floor : Option ℕ) → by_sequence b r i j key floor ≡ Accept home number a granted kbm → home ≡ home_of r
   sequence_home i j key None e = room_home i j key e
-  sequence_home i j key (Some last) e = either (Accept home a granted kbm) (not (is_after r.sequence last)) _ _ (λ e. absurd cc) (room_home i j key) e
+  sequence_home i j key (Some last) e = either (Accept home number a granted kbm) (not (is_after r.sequence last)) _ _ (λ e. absurd cc) (room_home i j key) e
 
-  key_home : (i : ℕ) (j : Option ℕ) (key : Kbm) → by_key b r message i j key ≡ Accept home a granted kbm → home ≡ home_of r
-  key_home i j key = either (Accept home a granted kbm) (not (is_authentic key.0 (registered_of r) b.own message)) _ _ (λ e. absurd cc) (sequence_home i j key b.floor)
+  key_home : (i : ℕ) (j : Option ℕ) (key : Kbm) → by_key b r message i j key ≡ Accept home number a granted kbm → home ≡ home_of r
+  key_home i j key = either (Accept home number a granted kbm) (not (is_authentic key.0 (registered_of r) b.own message)) _ _ (λ e. absurd cc) (sequence_home i j key b.floor)
 
-  numbers_home : (i : Option ℕ) (j : Option (Option ℕ)) → by_numbers b r message i j ≡ Accept home a granted kbm → home ≡ home_of r
+  numbers_home : (i : Option ℕ) (j : Option (Option ℕ)) → by_numbers b r message i j ≡ Accept home number a granted kbm → home ≡ home_of r
   numbers_home None None e = absurd cc
   numbers_home None (Some j) e = absurd cc
   numbers_home (Some i) None e = absurd cc
   numbers_home (Some i) (Some j) e = key_home i j (kbm_of b r i j) e
 
-  indices_home : (indices : Option Indices) → by_indices b r message indices ≡ Accept home a granted kbm → home ≡ home_of r
+  indices_home : (indices : Option Indices) → by_indices b r message indices ≡ Accept home number a granted kbm → home ≡ home_of r
   indices_home None e = absurd cc
   indices_home (Some indices) e = numbers_home (number_named b.now indices.home) (careof_number b r indices) e
 
-  pub accepted_home : verdict b r message ≡ Accept home a granted kbm → home ≡ home_of r
+  pub accepted_home : verdict b r message ≡ Accept home number a granted kbm → home ≡ home_of r
   unfolding verdict
   accepted_home =
-      either (Accept home a granted kbm) r.for_agent _ _ (λ e. absurd cc)
-      (either (Accept home a granted kbm) (not (is_routable (home_of r).0 && is_routable (careof_of r).0)) _ _ (λ e. absurd cc)
-      (either (Accept home a granted kbm) (not r.authorized) _ _ (λ e. absurd cc)
+      either (Accept home number a granted kbm) r.for_agent _ _ (λ e. absurd cc)
+      (either (Accept home number a granted kbm) (not (is_routable (home_of r).0 && is_routable (careof_of r).0)) _ _ (λ e. absurd cc)
+      (either (Accept home number a granted kbm) (not r.authorized) _ _ (λ e. absurd cc)
       (indices_home r.nonces)))
 
 -- a message that is an update was read as one
@@ -172,13 +172,13 @@ module _ (me : Identity) (k : Known) (now number : ℕ) (shield : Option Shield)
   unfolding denies accepts
   of_verdict p r read mobility asks (Refuse why) is = one _ refl
   of_verdict p r read mobility asks (Deny status last kbm) is = two _ _ refl refl
-  of_verdict p r read mobility asks (Accept home a granted kbm) is = by r.ack
+  of_verdict p r read mobility asks (Accept home binding a granted kbm) is = by r.ack
     where
       first : Turn
-      first = noted (Accepts number home a) given
+      first = noted (Accepts number home binding a) given
 
       taken : (rest : List Step) → list_any is_acceptance rest ≡ false → Is (noted_all after rest first)
-      taken rest none = subst Is (sym (noted_all-is after (Called (calls.Take number shield bytes) ∷ Accepts number home a ∷ rest) (begun now k))) (
+      taken rest none = subst Is (sym (noted_all-is after (Called (calls.Take number shield bytes) ∷ Accepts number home binding a ∷ rest) (begun now k))) (
         refl,
         inr (record {
           packet = p;
@@ -187,6 +187,7 @@ module _ (me : Identity) (k : Known) (now number : ℕ) (shield : Option Shield)
           registration = r;
           asks = asks;
           home = home;
+          binding = binding;
           accepted = a;
           granted = granted;
           kbm = kbm;

@@ -1,9 +1,9 @@
 -- Which rows a verdict comes from.
-use Rattle.std.proofs.Common.{◌≡◌, ℕ, ◌+◌, ◌-◌, ◌≤◌, ◌<◌, List, length, drop, ltb, leb, refl, sym, ap, ◌∙◌, subst, true, false, not, ◌&&◌, arith}
-use Rattle.std.proofs.lemmas.Bool.{cond_both, not-true, not-false, and_parts, ltb-true, leb-true}
+use Rattle.std.proofs.Common.{◌≡◌, ◌≢◌, ℕ, zero, suc, ◌+◌, ◌-◌, ◌≤◌, ◌<◌, List, length, drop, ltb, leb, refl, sym, ap, ◌∙◌, subst, Bool, true, false, not, ◌&&◌, ◌||◌, arith}
+use Rattle.std.proofs.lemmas.Bool.{cond_both, cond-false, eq-eqb, not-true, not-false, and_parts, ltb-true, leb-true}
 use Rattle.std.proofs.lemmas.Slice.Eq.{bytes_eq-Decides}
 use Rattle.std.proofs.Math.Nat.{le-max_right}
-use Rattle.std.specs.Prelude.{◌/◌, Option, Some, None, option_map, is_some}
+use Rattle.std.specs.Prelude.{◌/◌, ◌==◌, Option, Some, None, option_map, is_some}
 use Rattle.mip_constants.specs.Constants.{max_nonce_lifetime}
 use Rattle.mip_words.specs.Addresses.{is_routable}
 use Rattle.mip_words.specs.Sequence.{is_after}
@@ -21,7 +21,7 @@ use Rattle.mip_updates.specs.declared.registration.Registration.{Registration}
 use Rattle.mip_rules_correspondent.specs.declared.verdict.Verdict.{Verdict}
 use Rattle.mip_rules_correspondent.specs.declared.verdict.Verdict.TheVariants.{Refuse, Deny, Accept}
 use Rattle.mip_updates.specs.Registrations.{home_of, careof_of, deletes, registered_of}
-use Rattle.mip_rules_correspondent.specs.Verdicts.{Bench, granted_of, accepted_of, by_room, by_sequence, kbm_of, by_numbers, careof_number, by_indices, verdict}
+use Rattle.mip_rules_correspondent.specs.Verdicts.{Bench, granted_of, number_among, number_of, accepted_of, by_room, by_sequence, kbm_of, by_numbers, careof_number, by_indices, verdict}
 use Rattle.mip_rules_correspondent.specs.Soundness.{IsNonce, IsCareofNonce, IsGenuine, IsSound, IsBehind}
 
 number_is : (x y : ℕ) → Some x ≡ Some y → x ≡ y
@@ -101,9 +101,12 @@ key_is : (s t m n : ℕ) (k l : Option Kbm) → Deny s m k ≡ Deny t n l → k 
 key_is s t m n k l e = cc
 
 -- what an acceptance says of its parts
-module _ (home home' : Address) (accepted accepted' : Accepted) (granted granted' : ℕ) (kbm kbm' : Kbm) (e : Accept home accepted granted kbm ≡ Accept home' accepted' granted' kbm') where
+module _ (home home' : Address) (number number' : ℕ) (accepted accepted' : Accepted) (granted granted' : ℕ) (kbm kbm' : Kbm) (e : Accept home number accepted granted kbm ≡ Accept home' number' accepted' granted' kbm') where
   home_is : home ≡ home'
   home_is = cc
+
+  number_same : number ≡ number'
+  number_same = cc
 
   accepted_is : accepted ≡ accepted'
   accepted_is = cc
@@ -117,17 +120,18 @@ module _ (home home' : Address) (accepted accepted' : Accepted) (granted granted
 granted_short : (r : Registration) → (granted_of r ≤ 105) × (granted_of r ≤ r.lifetime)
 granted_short r = cond_both (deletes r) _ _ (λ (g : ℕ). (g ≤ 105) × (g ≤ r.lifetime)) (λ _. (omega arith, omega arith)) (λ _. (omega arith, omega arith))
 
-module _ (b : Bench) (r : Registration) (message : List ℕ) (home : Address) (accepted : Accepted) (granted : ℕ) (kbm : Kbm) where
+module _ (b : Bench) (r : Registration) (message : List ℕ) (home : Address) (number : ℕ) (accepted : Accepted) (granted : ℕ) (kbm : Kbm) where
   abbrev Sound : Verdict → Type 0
-  Sound v = v ≡ Accept home accepted granted kbm → IsSound b r message home accepted granted kbm
+  Sound v = v ≡ Accept home number accepted granted kbm → IsSound b r message home number accepted granted kbm
 
   by_room_sound : (i : ℕ) (j : Option ℕ) (k : Kbm) → IsGenuine b r message i j k → ((last : ℕ) → b.floor ≡ Some last → is_after r.sequence last ≡ true) → Sound (by_room b r i j k)
   by_room_sound i j k genuine newer =
       cond_both b.full _ _ Sound (λ full e. absurd cc) (λ room e.
-      let is = accepted_is (home_of r) home (accepted_of b.now r i j) accepted (granted_of r) granted k kbm e in
-      let parts : IsSound b r message (home_of r) (accepted_of b.now r i j) (granted_of r) k = record {
+      let is = accepted_is (home_of r) home (number_of b.numbers r) number (accepted_of b.now r i j) accepted (granted_of r) granted k kbm e in
+      let parts : IsSound b r message (home_of r) (number_of b.numbers r) (accepted_of b.now r i j) (granted_of r) k = record {
         genuine = genuine;
         of_home = refl;
+        of_number = refl;
         of_careof = refl;
         of_sequence = refl;
         ends = refl;
@@ -137,17 +141,19 @@ module _ (b : Bench) (r : Registration) (message : List ℕ) (home : Address) (a
         room = room;
       } in
       moved parts
-      (home_is (home_of r) home (accepted_of b.now r i j) accepted (granted_of r) granted k kbm e)
+      (home_is (home_of r) home (number_of b.numbers r) number (accepted_of b.now r i j) accepted (granted_of r) granted k kbm e)
+      (number_same (home_of r) home (number_of b.numbers r) number (accepted_of b.now r i j) accepted (granted_of r) granted k kbm e)
       is
-      (granted_is (home_of r) home (accepted_of b.now r i j) accepted (granted_of r) granted k kbm e)
-      (kbm_is (home_of r) home (accepted_of b.now r i j) accepted (granted_of r) granted k kbm e))
+      (granted_is (home_of r) home (number_of b.numbers r) number (accepted_of b.now r i j) accepted (granted_of r) granted k kbm e)
+      (kbm_is (home_of r) home (number_of b.numbers r) number (accepted_of b.now r i j) accepted (granted_of r) granted k kbm e))
     where
-      moved : {h : Address} {a : Accepted} {g : ℕ} {k : Kbm} → IsSound b r message h a g k → h ≡ home → a ≡ accepted → g ≡ granted → k ≡ kbm → IsSound b r message home accepted granted kbm
-      moved {h} {a} {g} {k} s eh ea eg ek =
-          subst (λ (h : Address). IsSound b r message h accepted granted kbm) eh
-          (subst (λ (a : Accepted). IsSound b r message h a granted kbm) ea
-          (subst (λ (g : ℕ). IsSound b r message h a g kbm) eg
-          (subst (λ (k : Kbm). IsSound b r message h a g k) ek s)))
+      moved : {h : Address} {n : ℕ} {a : Accepted} {g : ℕ} {k : Kbm} → IsSound b r message h n a g k → h ≡ home → n ≡ number → a ≡ accepted → g ≡ granted → k ≡ kbm → IsSound b r message home number accepted granted kbm
+      moved {h} {n} {a} {g} {k} s eh en ea eg ek =
+          subst (λ (h : Address). IsSound b r message h number accepted granted kbm) eh
+          (subst (λ (n : ℕ). IsSound b r message h n accepted granted kbm) en
+          (subst (λ (a : Accepted). IsSound b r message h n a granted kbm) ea
+          (subst (λ (g : ℕ). IsSound b r message h n a g kbm) eg
+          (subst (λ (k : Kbm). IsSound b r message h n a g k) ek s))))
 
   by_sequence_sound : (i : ℕ) (j : Option ℕ) (k : Kbm) → IsGenuine b r message i j k → (o : Option ℕ) → b.floor ≡ o → Sound (by_sequence b r i j k o)
   by_sequence_sound i j k genuine None is = by_room_sound i j k genuine (λ last kept. absurd (let both = sym is ∙ kept in cc))
@@ -156,7 +162,7 @@ module _ (b : Bench) (r : Registration) (message : List ℕ) (home : Address) (a
       by_room_sound i j k genuine (λ other kept.
       subst (λ (n : ℕ). is_after r.sequence n ≡ true) (number_is last other (sym is ∙ kept)) (not-false _ after)))
 
-  pub sound : verdict b r message ≡ Accept home accepted granted kbm → IsSound b r message home accepted granted kbm
+  pub sound : verdict b r message ≡ Accept home number accepted granted kbm → IsSound b r message home number accepted granted kbm
   sound = walk b r message Sound (λ why e. absurd cc) (λ status bare e. absurd cc) (λ i j k genuine. by_sequence_sound i j k genuine b.floor refl)
 
 module _ (b : Bench) (r : Registration) (message : List ℕ) (last : ℕ) (kbm : Option Kbm) where
@@ -227,3 +233,48 @@ outlives a n now first second =
   where
     nearby : (t u i : ℕ) → i ≤ t / 30000 → u / 30000 < i + 8 → u < t + 240000
     nearby t u i a b = omega arith
+
+-- a number is one of those that the judge has, and 0 where the binding ends
+number-among : (numbers : ℕ) (number : Option ℕ) → 0 < numbers → number_among numbers number < numbers
+number-among numbers None some = some
+number-among numbers (Some number) some = cond_both (ltb number numbers) _ _ (λ (n : ℕ). n < numbers) (λ below. ltb-true number numbers below) (λ above. some)
+
+none_among : (number : Option ℕ) → number_among 0 number ≡ 0
+none_among None = refl
+none_among (Some number) = cond_both (ltb number 0) _ _ (λ (n : ℕ). n ≡ 0) (λ below. absurd (let less = ltb-true number 0 below in omega arith)) (λ above. refl)
+
+none_of_none : (r : Registration) → number_of 0 r ≡ 0
+none_of_none r = cond_both (deletes r) _ _ (λ (n : ℕ). n ≡ 0) (λ ends. refl) (λ binds. none_among r.number)
+
+pub number_below : (numbers : ℕ) (r : Registration) → 0 < numbers → number_of numbers r < numbers
+number_below numbers r some = cond_both (deletes r) _ _ (λ (n : ℕ). n < numbers) (λ ends. some) (λ binds. number-among numbers r.number some)
+
+-- and any other number than 0 is one of those
+pub number_among_them : (numbers : ℕ) (r : Registration) → number_of numbers r ≢ 0 → number_of numbers r < numbers
+number_among_them numbers r some = by numbers some
+  where
+    by : (numbers : ℕ) → number_of numbers r ≢ 0 → number_of numbers r < numbers
+    by zero some = absurd (some (none_of_none r))
+    by (suc n) some = number_below (suc n) r (omega arith)
+
+-- an update that registers the home address ends the binding
+pub number_at_home : (numbers : ℕ) (r : Registration) → (registered_of r).0 ≡ (home_of r).0 → number_of numbers r ≡ 0
+number_at_home numbers r home = cond_both (deletes r) _ _ (λ (n : ℕ). n ≡ 0) (λ ends. refl) (λ binds. absurd (let ends = at_home binds in cc))
+  where
+    or_true : (b : Bool) → (b || true) ≡ true
+    or_true true = refl
+    or_true false = refl
+
+    at_home : deletes r ≡ false → deletes r ≡ true
+    at_home binds =
+        let away : registered_of r ≡ careof_of r = cond-false (deletes r) _ _ binds in
+        let same : ((careof_of r).0 == (home_of r).0) ≡ true = eq-eqb (careof_of r).0 (home_of r).0 (sym (ap (λ (a : Address). a.0) away) ∙ home) in
+        ap (λ (b : Bool). (r.lifetime == 0) || b) same ∙ or_true (r.lifetime == 0)
+
+-- with one number it is 0
+among_one : (number : Option ℕ) → number_among 1 number ≡ 0
+among_one None = refl
+among_one (Some number) = cond_both (ltb number 1) _ _ (λ (n : ℕ). n ≡ 0) (λ below. omega (arith, ltb-true number 1 below)) (λ above. refl)
+
+pub one_number : (r : Registration) → number_of 1 r ≡ 0
+one_number r = cond_both (deletes r) _ _ (λ (n : ℕ). n ≡ 0) (λ ends. refl) (λ binds. among_one r.number)

@@ -37,10 +37,10 @@ module _ (me : Identity) (c : Call) (P : Turn → Type 0) (more : (step : Step) 
   unfolding denies accepts
   every-judged number r (Refuse why) right t p = more (Drops number why) t refl right p
   every-judged number r (Deny status last kbm) right t p = more (Sends (ack_packet me.own r status last 0 kbm)) (noted (Denies number status) t) refl (SendsAck r status last 0 kbm, refl) (more (Denies number status) t refl tt p)
-  every-judged number r (Accept home accepted granted kbm) right t p = by r.ack (more (Accepts number home accepted) t refl tt p)
+  every-judged number r (Accept home binding accepted granted kbm) right t p = by r.ack (more (Accepts number home binding accepted) t refl tt p)
     where
-      by : (ack : Bool) → P (noted (Accepts number home accepted) t) → P (if ack then noted (Sends (ack_packet me.own r 0 r.sequence granted (Some kbm))) (noted (Accepts number home accepted) t) else noted (Accepts number home accepted) t)
-      by true q = more (Sends (ack_packet me.own r 0 r.sequence granted (Some kbm))) (noted (Accepts number home accepted) t) refl (SendsAck r 0 r.sequence granted (Some kbm), refl) q
+      by : (ack : Bool) → P (noted (Accepts number home binding accepted) t) → P (if ack then noted (Sends (ack_packet me.own r 0 r.sequence granted (Some kbm))) (noted (Accepts number home binding accepted) t) else noted (Accepts number home binding accepted) t)
+      by true q = more (Sends (ack_packet me.own r 0 r.sequence granted (Some kbm))) (noted (Accepts number home binding accepted) t) refl (SendsAck r 0 r.sequence granted (Some kbm), refl) q
       by false q = q
 
   every-message : (number : ℕ) (packet : Packet) (message : Option Said) (t : Turn) → P t → P (by_message me number packet message t)

@@ -7,7 +7,7 @@ use Rattle.mip_entries.specs.Stamped.{Stamped}
 use Rattle.mip_rules_correspondent.specs.Steps.{Step, Accepts}
 
 abbrev pub acceptance_in : ℕ → Step → List Acceptance
-acceptance_in at (Accepts number home accepted) = acceptance at home 0 accepted ∷ []
+acceptance_in at (Accepts number home binding accepted) = acceptance at home binding accepted ∷ []
 acceptance_in at _ = []
 
 -- the acceptances of a past, oldest first

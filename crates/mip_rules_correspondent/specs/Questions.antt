@@ -1,8 +1,8 @@
 -- What a correspondent knows of its past: one question a field, and what each step makes of the answer.
-use Rattle.std.specs.Prelude.{ℕ, List, [], Bool, if◌then◌else◌, Option, option_map}
+use Rattle.std.specs.Prelude.{ℕ, List, Bool, if◌then◌else◌, Option, option_map}
 use Rattle.mip_words.specs.declared.address.Address.{Address}
 use Rattle.mip_words.specs.declared.moment.Moment.{Moment}
-use Rattle.mip_bcache.specs.Seen.{CacheSeen, expired, with_row, row_for, row_at, if_standing, has_no_room}
+use Rattle.mip_bcache.specs.Seen.{CacheSeen, empty_cache, expired, with_acceptance, standing_at, holds_at, floor_at, has_no_room}
 use Rattle.mip_entries.specs.Stamped.{Stamped}
 use Rattle.mip_turns.specs.Turns.{known_by}
 use Rattle.mip_rules_correspondent.specs.declared.known.Known.{Known}
@@ -13,10 +13,10 @@ use Rattle.mip_rules_correspondent.specs.Steps.{Step, Called, Accepts, is_call}
 abbrev pub last_after : Known → ℕ → Step → Moment
 last_after k at step = if is_call step then record { 0 = at } else k.last
 
--- the binding cache: an acceptance puts its row in the place of the one of its home, and rows past their time are given
--- up as time goes on (RFC 6275 section 9.5.1)
+-- the binding cache: an acceptance goes into it under its binding number, and what is past its time is given up as time
+-- goes on (RFC 6275 section 9.5.1)
 abbrev pub cache_after : CacheSeen → ℕ → Step → CacheSeen
-cache_after cache at (Accepts number home accepted) = with_row at (row_for at home 0 accepted) cache
+cache_after cache at (Accepts number home binding accepted) = with_acceptance at home binding accepted cache
 cache_after cache at (Called call) = if is_tick call then expired at cache else cache
 cache_after cache at _ = cache
 
@@ -24,21 +24,25 @@ cache_after cache at _ = cache
 unfoldable pub after : Known → Stamped Step → Known
 after k s = record { last = last_after k s.at s.step; cache = cache_after k.cache s.at s.step }
 
--- a new correspondent with room for so many homes
-abbrev pub fresh : ℕ → Known
-fresh room = record { last = record { 0 = 0 }; cache = record { limit = room; last = 0; rows = [] } }
+-- a new correspondent with room for so many homes, and for so many bindings of each
+abbrev pub fresh : ℕ → ℕ → Known
+fresh room numbers = record { last = record { 0 = 0 }; cache = empty_cache room numbers }
 
 -- what a past leaves known
-unfoldable pub known : ℕ → List (Stamped Step) → Known
-known room past = known_by after (fresh room) past
+unfoldable pub known : ℕ → ℕ → List (Stamped Step) → Known
+known room numbers past = known_by after (fresh room numbers) past
 
--- the care-of address that is held for a home
+-- the care-of address that is held for a home: of its bindings that stand, that of the last one accepted
 abbrev pub held_of : Known → ℕ → Address → Option Address
-held_of k now home = option_map (λ r. r.careof) (if_standing home.0 now (row_at k.cache home.0 now))
+held_of k now home = option_map (λ r. r.careof) (standing_at k.cache home.0 now)
+
+-- one of the bindings of a home that stand has this care-of address
+abbrev pub holds_for : Known → ℕ → Address → Address → Bool
+holds_for k now home careof = holds_at k.cache home.0 now careof.0
 
 -- the sequence that the next update for a home must come after
 abbrev pub floor_of : Known → ℕ → Address → Option ℕ
-floor_of k now home = option_map (λ r. r.sequence) (row_at k.cache home.0 now)
+floor_of k now home = floor_at k.cache home.0 now
 
 -- there is no room for this home
 abbrev pub is_full_for : Known → ℕ → Address → Bool

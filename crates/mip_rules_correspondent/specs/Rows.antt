@@ -10,7 +10,7 @@ use Rattle.mip_updates.specs.declared.registration.Registration.{Registration}
 use Rattle.mip_updates.specs.Registrations.{home_of, careof_of, registered_of}
 use Rattle.mip_updates.specs.Statuses as statuses
 use Rattle.mip_rules_correspondent.specs.declared.verdict.Verdict.TheVariants.{Refuse, Deny, Accept}
-use Rattle.mip_rules_correspondent.specs.Verdicts.{Bench, granted_of, accepted_of, kbm_of, careof_number, verdict}
+use Rattle.mip_rules_correspondent.specs.Verdicts.{Bench, granted_of, number_of, accepted_of, kbm_of, careof_number, verdict}
 
 abbrev pub HasRoutableAddresses : Registration → Type 0
 HasRoutableAddresses r = IsTrue (is_routable (home_of r).0 && is_routable (careof_of r).0)
@@ -63,4 +63,4 @@ pub record JudgesInOrder (b : Bench) (r : Registration) (message : List ℕ) : T
       → verdict b r message ≡ Deny statuses.insufficient_resources r.sequence (Some (kbm_of b r i j))
   -- else it is accepted
   pub accept : (i : ℕ) (j : Option ℕ) → IsAuthorized b r message i j → IsInSequence r b.floor → IsFalse b.full
-      → verdict b r message ≡ Accept (home_of r) (accepted_of b.now r i j) (granted_of r) (kbm_of b r i j)
+      → verdict b r message ≡ Accept (home_of r) (number_of b.numbers r) (accepted_of b.now r i j) (granted_of r) (kbm_of b r i j)

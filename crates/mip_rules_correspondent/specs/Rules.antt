@@ -1,6 +1,5 @@
 -- What a correspondent does about a packet: one rule a paragraph. RFC 6275 section 9
 use Rattle.std.specs.Prelude.{ℕ, ◌-◌, List, length, Bool, true, false, not, ◌&&◌, ◌==◌, if◌then◌else◌, Option, Some, None, Result, Ok, Err}
-use Rattle.std.specs.Option.{option_map_or}
 use Rattle.mip_constants.specs.Protocols.{ipv6, icmpv6, no_next_header, mobility_header}
 use Rattle.mip_words.specs.declared.address.Address.{Address}
 use Rattle.mip_words.specs.declared.why.Why.{Why}
@@ -27,7 +26,7 @@ use Rattle.mip_updates.specs.declared.registration.Registration.{Registration}
 use Rattle.mip_rules_correspondent.specs.declared.verdict.Verdict.{Verdict}
 use Rattle.mip_rules_correspondent.specs.declared.verdict.Verdict.TheVariants.{Refuse, Deny, Accept}
 use Rattle.mip_rules_correspondent.specs.Steps.{Sends, Accepts, Denies, Drops, HandsUp}
-use Rattle.mip_rules_correspondent.specs.Questions.{held_of, floor_of, is_full_for}
+use Rattle.mip_rules_correspondent.specs.Questions.{holds_for, floor_of, is_full_for}
 use Rattle.mip_rules_correspondent.specs.Turns.{Turn, noted}
 use Rattle.mip_updates.specs.Registrations.{registration, home_of}
 use Rattle.mip_rules_correspondent.specs.Verdicts.{Bench, verdict}
@@ -55,7 +54,14 @@ answers_careof_init me source cookie t = noted (Sends (careof_test me t.now sour
 
 -- an update is judged by what is kept of its home
 abbrev pub bench : Identity → Known → ℕ → Registration → Bench
-bench me k now r = record { own = me.own; secrets = me.secrets; now = now; floor = floor_of k now (home_of r); full = is_full_for k now (home_of r) }
+bench me k now r = record {
+  own = me.own;
+  secrets = me.secrets;
+  now = now;
+  floor = floor_of k now (home_of r);
+  full = is_full_for k now (home_of r);
+  numbers = k.cache.numbers;
+}
 
 -- an update that was denied is always answered
 unfoldable pub denies : Identity → ℕ → Registration → (status last : ℕ) → Option Kbm → Turn → Turn
@@ -66,13 +72,13 @@ abbrev pub acknowledges : Identity → Registration → ℕ → Kbm → Turn →
 acknowledges me r granted kbm t =
     if r.ack then noted (Sends (ack_packet me.own r statuses.accepted r.sequence granted (Some kbm))) t else t
 
-unfoldable pub accepts : Identity → ℕ → Registration → Address → Accepted → ℕ → Kbm → Turn → Turn
-accepts me number r home accepted granted kbm t = acknowledges me r granted kbm (noted (Accepts number home accepted) t)
+unfoldable pub accepts : Identity → ℕ → Registration → Address → ℕ → Accepted → ℕ → Kbm → Turn → Turn
+accepts me number r home binding accepted granted kbm t = acknowledges me r granted kbm (noted (Accepts number home binding accepted) t)
 
 abbrev pub judged : Identity → ℕ → Registration → Verdict → Turn → Turn
 judged me number r (Refuse why) t = noted (Drops number why) t
 judged me number r (Deny status last kbm) t = denies me number r status last kbm t
-judged me number r (Accept home accepted granted kbm) t = accepts me number r home accepted granted kbm t
+judged me number r (Accept home binding accepted granted kbm) t = accepts me number r home binding accepted granted kbm t
 
 -- a Binding Update. RFC 6275 section 9.5.1
 unfoldable pub takes_update : Identity → ℕ → Registration → List ℕ → Turn → Turn
@@ -123,7 +129,7 @@ refuses me number bytes source refusal t =
 -- a binding from this home address to the source stands
 abbrev pub holds_option : Known → ℕ → Address → Option Address → Bool
 holds_option k now source None = false
-holds_option k now source (Some home) = option_map_or (λ careof. careof.0 == source.0) (held_of k now home) false
+holds_option k now source (Some home) = holds_for k now home source
 
 abbrev pub standing_of : Identity → Known → ℕ → Head → Standing
 standing_of me k now head = record {

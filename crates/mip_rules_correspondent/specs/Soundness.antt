@@ -12,7 +12,7 @@ use Rattle.mip_tokens.specs.declared.kbm.Kbm.{Kbm}
 use Rattle.mip_bcache.specs.declared.accepted.Accepted.{Accepted}
 use Rattle.mip_updates.specs.declared.registration.Registration.{Registration}
 use Rattle.mip_updates.specs.Registrations.{home_of, careof_of, deletes, registered_of}
-use Rattle.mip_rules_correspondent.specs.Verdicts.{Bench, kbm_of}
+use Rattle.mip_rules_correspondent.specs.Verdicts.{Bench, kbm_of, number_of}
 
 -- this is a valid nonce, and the index names it
 abbrev pub IsNonce : ℕ → ℕ → ℕ → Type 0
@@ -35,10 +35,11 @@ pub record IsGenuine (b : Bench) (r : Registration) (message : List ℕ) (i : �
   pub key : kbm ≡ kbm_of b r i j
   pub authentic : IsAuthentic kbm.0 (registered_of r) b.own message
 
--- it was accepted for this home and this time, in units of 4 s
-pub record IsSound (b : Bench) (r : Registration) (message : List ℕ) (home : Address) (accepted : Accepted) (granted : ℕ) (kbm : Kbm) : Type 0 where
+-- it was accepted for this home, under this number, and for this time in units of 4 s
+pub record IsSound (b : Bench) (r : Registration) (message : List ℕ) (home : Address) (number : ℕ) (accepted : Accepted) (granted : ℕ) (kbm : Kbm) : Type 0 where
   pub genuine : IsGenuine b r message accepted.home_nonce accepted.careof_nonce kbm
   pub of_home : home ≡ home_of r
+  pub of_number : number ≡ number_of b.numbers r
   pub of_careof : accepted.careof ≡ registered_of r
   pub of_sequence : accepted.sequence ≡ r.sequence
   pub ends : accepted.end.0 ≡ b.now + lifetime_unit * granted

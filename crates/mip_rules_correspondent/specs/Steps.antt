@@ -16,8 +16,8 @@ pub data Step : Type 0 where
   Called : (call : Call) → Step
   -- it sends a packet, unshielded
   Sends : (packet : List ℕ) → Step
-  -- it accepts the update in a packet
-  Accepts : (number : ℕ) (home : Address) (accepted : Accepted) → Step
+  -- it accepts the update in a packet, for a home and under a binding number
+  Accepts : (number : ℕ) (home : Address) (binding : ℕ) (accepted : Accepted) → Step
   -- it denies the update in a packet
   Denies : (number status : ℕ) → Step
   -- it drops a packet
@@ -35,8 +35,8 @@ myself = record { 0 = 0 }
 abbrev pub answer_of : Step → List Answer
 answer_of (Called call) = []
 answer_of (Sends packet) = Send None packet ∷ []
-answer_of (Accepts number home a) =
-    Note (entries.Accepted myself number home 0 a.careof a.sequence a.end (index_of a.home_nonce) (option_map index_of a.careof_nonce)) ∷ []
+answer_of (Accepts number home binding a) =
+    Note (entries.Accepted myself number home binding a.careof a.sequence a.end (index_of a.home_nonce) (option_map index_of a.careof_nonce)) ∷ []
 answer_of (Denies number status) = Note (entries.Denied myself number status) ∷ []
 answer_of (Drops number why) = Note (entries.Dropped myself number why) ∷ []
 answer_of (HandsUp number source destination proto payload) = Note (entries.Up myself number source destination proto payload) ∷ []
@@ -52,5 +52,5 @@ is_call _ = false
 
 -- an update that was accepted
 abbrev pub is_acceptance : Step → Bool
-is_acceptance (Accepts number home accepted) = true
+is_acceptance (Accepts number home binding accepted) = true
 is_acceptance _ = false

@@ -26,12 +26,13 @@ pub record IsUpdateTaken (me : Identity) (k : Known) (now number : ℕ) (shield 
   pub registration : Registration
   pub asks : registration_in packet.head.source packet.head.home packet.body ≡ Some registration
   pub home : Address
+  pub binding : ℕ
   pub accepted : Accepted
   pub granted : ℕ
   pub kbm : Kbm
-  pub verdict_is : verdict (bench me k now registration) registration packet.body ≡ Accept home accepted granted kbm
+  pub verdict_is : verdict (bench me k now registration) registration packet.body ≡ Accept home binding accepted granted kbm
   pub rest : List Step
-  pub steps_are : steps ≡ Called (Take number shield bytes) ∷ Accepts number home accepted ∷ rest
+  pub steps_are : steps ≡ Called (Take number shield bytes) ∷ Accepts number home binding accepted ∷ rest
   pub none : list_any is_acceptance rest ≡ false
 
 -- the update in a packet that was handed to the correspondent part of a mobile is accepted at once, with this verdict
@@ -40,10 +41,11 @@ pub record IsUpdateParted (me : Identity) (k : Known) (now number : ℕ) (packet
   pub registration : Registration
   pub asks : registration_in packet.head.source packet.head.home packet.body ≡ Some registration
   pub home : Address
+  pub binding : ℕ
   pub accepted : Accepted
   pub granted : ℕ
   pub kbm : Kbm
-  pub verdict_is : verdict (bench me k now registration) registration packet.body ≡ Accept home accepted granted kbm
+  pub verdict_is : verdict (bench me k now registration) registration packet.body ≡ Accept home binding accepted granted kbm
   pub rest : List Step
-  pub steps_are : steps ≡ Called (Part number packet) ∷ Accepts number home accepted ∷ rest
+  pub steps_are : steps ≡ Called (Part number packet) ∷ Accepts number home binding accepted ∷ rest
   pub none : list_any is_acceptance rest ≡ false

@@ -20,8 +20,8 @@ abbrev pub noted : Step → Turn → Turn
 noted step t = turns.noted_by after step t
 
 -- what a correspondent keeps is what its past leaves known
-abbrev pub Stands : ℕ → List (Stamped Step) → Known → Type 0
-Stands room past k = turns.StandsBy after (fresh room) past k
+abbrev pub Stands : (room numbers : ℕ) → List (Stamped Step) → Known → Type 0
+Stands room numbers past k = turns.StandsBy after (fresh room numbers) past k
 
 -- the past with a turn behind it
 abbrev pub with_turn : List (Stamped Step) → Turn → List (Stamped Step)

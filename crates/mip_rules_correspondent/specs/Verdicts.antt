@@ -1,6 +1,6 @@
 -- The verdict on a Binding Update, over its bytes, the secrets, and what is kept of its home: the first of these
 -- rows that applies. RFC 6275 sections 5.2.6, 9.5.1 and 9.5.4
-use Rattle.std.specs.Prelude.{ℕ, ◌+◌, ◌*◌, List, Bool, not, ◌&&◌, if◌then◌else◌, min, Option, Some, None, option_map}
+use Rattle.std.specs.Prelude.{ℕ, ◌+◌, ◌*◌, List, Bool, not, ◌&&◌, if◌then◌else◌, min, nat_lt, Option, Some, None, option_map}
 use Rattle.mip_words.specs.Addresses.{is_routable}
 use Rattle.mip_words.specs.Sequence.{is_after}
 use Rattle.mip_words.specs.declared.address.Address.{Address}
@@ -28,10 +28,21 @@ pub record Bench : Type 0 where
   pub floor : Option ℕ
   -- there is no room for the home
   pub full : Bool
+  -- how many bindings a home may have
+  pub numbers : ℕ
 
 -- the lifetime granted, in units of 4 s: none where the binding ends. RFC 6275 section 9.5.1
 abbrev pub granted_of : Registration → ℕ
 granted_of r = if deletes r then 0 else min r.lifetime max_rr_binding_lifetime
+
+-- the number of the binding: the one that the update names, where the judge has it; else 0
+abbrev pub number_among : ℕ → Option ℕ → ℕ
+number_among numbers None = 0
+number_among numbers (Some number) = if nat_lt number numbers then number else 0
+
+-- 0 too where the binding ends
+abbrev pub number_of : ℕ → Registration → ℕ
+number_of numbers r = if deletes r then 0 else number_among numbers r.number
 
 -- the binding, under the nonces with these numbers
 abbrev pub accepted_of : ℕ → Registration → ℕ → Option ℕ → Accepted
@@ -47,7 +58,7 @@ accepted_of now r i j = record {
 abbrev pub by_room : Bench → Registration → ℕ → Option ℕ → Kbm → Verdict
 by_room b r i j kbm =
     if b.full then Deny insufficient_resources r.sequence (Some kbm)
-    else Accept (home_of r) (accepted_of b.now r i j) (granted_of r) kbm
+    else Accept (home_of r) (number_of b.numbers r) (accepted_of b.now r i j) (granted_of r) kbm
 
 -- 135, with the sequence that is kept, where the update does not come after it
 abbrev pub by_sequence : Bench → Registration → ℕ → Option ℕ → Kbm → Option ℕ → Verdict

@@ -9,7 +9,7 @@ ghost use Rattle.mip_tokens.specs.declared.kbm.Kbm.{Kbm};
 ghost use Rattle.mip_lists.specs.Last.{last_where};
 ghost use Rattle.mip_nonce.specs.Window.{IsValidAt};
 ghost use Rattle.mip_binding.specs.Acceptance.{Acceptance, kept_until_of};
-ghost use Rattle.mip_binding.specs.Held.{held, floor, is_full};
+ghost use Rattle.mip_binding.specs.Held.{held, holds, floor, is_full};
 ghost use Rattle.mip_bcache.specs.Seen.{StandsFor};
 ghost use Rattle.mip_bcache.specs.declared.accepted.Accepted.{Accepted};
 ghost use Rattle.mip_entries.specs.Stamped.{Stamped};
@@ -24,7 +24,7 @@ ghost use Rattle.mip_rules_correspondent.specs.Verdicts.{Bench, verdict};
 ghost use Rattle.mip_turns.specs.Pasts.{RisesFrom};
 ghost use Rattle.mip_rules_correspondent.specs.Calls.{Call, Take, Part, Refresh, Send, Tick, is_tick};
 ghost use Rattle.mip_rules_correspondent.specs.Steps.{Step, answers_of, is_call, is_acceptance};
-ghost use Rattle.mip_rules_correspondent.specs.Questions.{known, held_of, floor_of, is_full_for};
+ghost use Rattle.mip_rules_correspondent.specs.Questions.{known, held_of, holds_for, floor_of, is_full_for};
 ghost use Rattle.mip_rules_correspondent.specs.Turns.{Turn, Stands, with_turn};
 ghost use Rattle.mip_rules_correspondent.specs.Pasts.{accepted_in};
 ghost use Rattle.mip_rules_correspondent.specs.Doing.{does, turn_of};
@@ -34,7 +34,7 @@ ghost use Rattle.mip_rules_correspondent.specs.Wholes.{IsWhole};
 
 /// The last moment known is that of the last call.
 pub fn last_is_of_the_last_call()
-    ensures { (room : ℕ) (past : List (Stamped Step)) → (known room past).last.0 ≡ unwrap_or (option_map (λ s. s.at) (last_where (λ s. is_call s.step) past)) 0 }
+    ensures { (room numbers : ℕ) (past : List (Stamped Step)) → (known room numbers past).last.0 ≡ unwrap_or (option_map (λ s. s.at) (last_where (λ s. is_call s.step) past)) 0 }
 {}
 
 /// The last moment that a call leaves known is its own.
@@ -46,20 +46,21 @@ pub fn each_call_is_the_last()
 /// it: from its last step on, what is held, which sequence is kept and whether there is room is as these
 /// say.
 pub fn bindings_are_of_the_acceptances()
-    ensures stands { (room : ℕ) (past : List (Stamped Step)) → RisesFrom 0 past → StandsFor (known room past).cache (accepted_in past) }
-    ensures held { (room : ℕ) (past : List (Stamped Step)) (now : ℕ) (home : Address) → RisesFrom 0 past → AllByRecursion (λ s. s.at ≤ now) past → option_map (λ a. a.0) (held_of (known room past) now home) ≡ held (accepted_in past) home.0 now }
-    ensures floor { (room : ℕ) (past : List (Stamped Step)) (now : ℕ) (home : Address) → RisesFrom 0 past → AllByRecursion (λ s. s.at ≤ now) past → floor_of (known room past) now home ≡ floor (accepted_in past) home.0 now }
-    ensures full { (room : ℕ) (past : List (Stamped Step)) (now : ℕ) (home : Address) → RisesFrom 0 past → AllByRecursion (λ s. s.at ≤ now) past → is_full_for (known room past) now home ≡ is_full room (accepted_in past) home.0 now }
+    ensures stands { (room numbers : ℕ) (past : List (Stamped Step)) → RisesFrom 0 past → StandsFor (known room numbers past).cache (accepted_in past) }
+    ensures held { (room numbers : ℕ) (past : List (Stamped Step)) (now : ℕ) (home : Address) → RisesFrom 0 past → AllByRecursion (λ s. s.at ≤ now) past → option_map (λ a. a.0) (held_of (known room numbers past) now home) ≡ held (accepted_in past) home.0 now }
+    ensures holds { (room numbers : ℕ) (past : List (Stamped Step)) (now : ℕ) (home careof : Address) → RisesFrom 0 past → AllByRecursion (λ s. s.at ≤ now) past → holds_for (known room numbers past) now home careof ≡ holds (accepted_in past) home.0 now careof.0 }
+    ensures floor { (room numbers : ℕ) (past : List (Stamped Step)) (now : ℕ) (home : Address) → RisesFrom 0 past → AllByRecursion (λ s. s.at ≤ now) past → floor_of (known room numbers past) now home ≡ floor (accepted_in past) home.0 now }
+    ensures full { (room numbers : ℕ) (past : List (Stamped Step)) (now : ℕ) (home : Address) → RisesFrom 0 past → AllByRecursion (λ s. s.at ≤ now) past → is_full_for (known room numbers past) now home ≡ is_full room (accepted_in past) home.0 now }
 {}
 
 /// Whoever stands for a past knows what it leaves known.
 pub fn stands_for_what_is_known()
-    ensures { (room : ℕ) (past : List (Stamped Step)) (k : Known) → Stands room past k → k ≡ known room past }
+    ensures { (room numbers : ℕ) (past : List (Stamped Step)) (k : Known) → Stands room numbers past k → k ≡ known room numbers past }
 {}
 
 /// Whoever stands for a past stands, after any call, for the past with the call's turn.
 pub fn stands_after_each_call()
-    ensures { (room : ℕ) (past : List (Stamped Step)) (k : Known) (now : ℕ) (me : Identity) (c : Call) → Stands room past k → Stands room (with_turn past (turn_of me k now c)) (turn_of me k now c).known }
+    ensures { (room numbers : ℕ) (past : List (Stamped Step)) (k : Known) (now : ℕ) (me : Identity) (c : Call) → Stands room numbers past k → Stands room numbers (with_turn past (turn_of me k now c)) (turn_of me k now c).known }
 {}
 
 /// Whatever a call gives out is whole.
@@ -101,7 +102,7 @@ pub fn verdicts_in_order()
 /// after the sequence that is kept, and where there is room.
 #[tactic(auto, using(crate::proofs::VerdictLaws::sound))]
 pub fn accepted_is_sound()
-    ensures { (b : Bench) (r : Registration) (message : List ℕ) (home : Address) (accepted : Accepted) (granted : ℕ) (kbm : Kbm) → verdict b r message ≡ Accept home accepted granted kbm → IsSound b r message home accepted granted kbm }
+    ensures { (b : Bench) (r : Registration) (message : List ℕ) (home : Address) (number : ℕ) (accepted : Accepted) (granted : ℕ) (kbm : Kbm) → verdict b r message ≡ Accept home number accepted granted kbm → IsSound b r message home number accepted granted kbm }
 {}
 
 /// Status 135 carries the sequence that is kept, and the update does not come after it.

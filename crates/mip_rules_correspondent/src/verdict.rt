@@ -13,9 +13,10 @@ pub enum Verdict {
         last: u16,
         kbm: Option<Kbm>,
     },
-    /// It binds or deletes, for this lifetime in units of 4 s.
+    /// It binds or deletes, under this number of the home, for this lifetime in units of 4 s.
     Accept {
         home: Address,
+        number: u8,
         accepted: Accepted,
         granted: u16,
         kbm: Kbm,

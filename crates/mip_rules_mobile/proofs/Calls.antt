@@ -17,15 +17,15 @@ use Rattle.mip_rules_mobile.specs.Doing.{does, turn_of}
 use Rattle.mip_rules_mobile.proofs.Walks.{every-handles, every-call}
 
 -- whoever stands for a past knows what it leaves known
-pub stands-known : (home : Address) (declared : Option Address) (secrets : Life) (past : List (Stamped Step)) (k : Known) → Stands home declared secrets past k → k ≡ known home declared secrets past
+pub stands-known : (home : Address) (declared : Option Address) (numbers : ℕ) (secrets : Life) (past : List (Stamped Step)) (k : Known) → Stands home declared numbers secrets past k → k ≡ known home declared numbers secrets past
 unfolding known StandsBy
-stands-known home declared secrets past k stands = stands
+stands-known home declared numbers secrets past k stands = stands
 
-pub call-stands : (home : Address) (declared : Option Address) (secrets : Life) (past : List (Stamped Step)) (k : Known) (now : ℕ) (c : Call)
-    → Stands home declared secrets past k → Stands home declared secrets (with_turn past (turn_of k now c)) (turn_of k now c).known
-call-stands home declared secrets past k now c stands =
-    let first = fresh home declared secrets in
-    every-call c (λ (t : Turn). Stands home declared secrets (with_turn past t) t.known)
+pub call-stands : (home : Address) (declared : Option Address) (numbers : ℕ) (secrets : Life) (past : List (Stamped Step)) (k : Known) (now : ℕ) (c : Call)
+    → Stands home declared numbers secrets past k → Stands home declared numbers secrets (with_turn past (turn_of k now c)) (turn_of k now c).known
+call-stands home declared numbers secrets past k now c stands =
+    let first = fresh home declared numbers secrets in
+    every-call c (λ (t : Turn). Stands home declared numbers secrets (with_turn past t) t.known)
     (λ step t steady fits s. stands-noted after first past step t s)
     (λ call t s. stands-noted after first past (Parts call) t s)
     (λ entry t own s. stands-noted after first past (Notes entry) t s)

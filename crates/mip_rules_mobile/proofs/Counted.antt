@@ -95,22 +95,22 @@ cookies-row k (Tries row (Start Delete home careof)) fits = refl
 cookies-row k (Restarts secrets) fits = refl
 cookies-row k _ fits = stays (2 ^ 64) k.cookies fits
 
-module _ (home : Address) (declared : Option Address) (secrets : Life) (past : List (Stamped Step)) where
-  pub discoveries-told : (known home declared secrets past).discoveries ≡ (1 + how_many is_search (this_life past)) % 65536
+module _ (home : Address) (declared : Option Address) (numbers : ℕ) (secrets : Life) (past : List (Stamped Step)) where
+  pub discoveries-told : (known home declared numbers secrets past).discoveries ≡ (1 + how_many is_search (this_life past)) % 65536
   unfolding known after
   discoveries-told =
       numbered 65536 1 (omega arith) (λ step. one_if (is_search step)) (how_many is_search) refl (many-more is_search)
-      (λ k. k.discoveries) (λ k s fits. discoveries-row k s.step fits) (fresh home declared secrets) past refl
+      (λ k. k.discoveries) (λ k s fits. discoveries-row k s.step fits) (fresh home declared numbers secrets) past refl
 
-  pub solicitations-told : (known home declared secrets past).solicitations ≡ (1 + how_many is_solicitation (this_life past)) % 65536
+  pub solicitations-told : (known home declared numbers secrets past).solicitations ≡ (1 + how_many is_solicitation (this_life past)) % 65536
   unfolding known after
   solicitations-told =
       numbered 65536 1 (omega arith) (λ step. one_if (is_solicitation step)) (how_many is_solicitation) refl (many-more is_solicitation)
-      (λ k. k.solicitations) (λ k s fits. solicitations-row k s.step fits) (fresh home declared secrets) past refl
+      (λ k. k.solicitations) (λ k s fits. solicitations-row k s.step fits) (fresh home declared numbers secrets) past refl
 
-  pub cookies-told : (known home declared secrets past).cookies ≡ cookies_drawn (this_life past) % 2 ^ 64
+  pub cookies-told : (known home declared numbers secrets past).cookies ≡ cookies_drawn (this_life past) % 2 ^ 64
   unfolding known after
   cookies-told =
       numbered (2 ^ 64) 0 (omega arith) cookies_in cookies_drawn refl (λ s past. refl)
-      (λ k. k.cookies) (λ k s fits. cookies-row k s.step fits) (fresh home declared secrets) past refl
+      (λ k. k.cookies) (λ k s fits. cookies-row k s.step fits) (fresh home declared numbers secrets) past refl
       ∙ ap (λ (n : ℕ). n % 2 ^ 64) (omega arith)

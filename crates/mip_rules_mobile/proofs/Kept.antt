@@ -314,9 +314,9 @@ given-along front k (s ∷ past) was =
     subst (λ (l : List (Stamped Step)). RowsGiven l (let m : Known = fold after (after k s) past in m.list.rows)) (append_assoc front (s ∷ []) past)
     (given-along (front ++ s ∷ []) (after k s) past (rows-given front k.list.rows was s.at s.step))
 
-pub past-given : (home : Address) (declared : Option Address) (secrets : Life) (past : List (Stamped Step)) → RowsGiven past (known home declared secrets past).list.rows
+pub past-given : (home : Address) (declared : Option Address) (numbers : ℕ) (secrets : Life) (past : List (Stamped Step)) → RowsGiven past (known home declared numbers secrets past).list.rows
 unfolding known
-past-given home declared secrets past = given-along [] (fresh home declared secrets) past (λ row. tt)
+past-given home declared numbers secrets past = given-along [] (fresh home declared numbers secrets) past (λ row. tt)
 
 -- an update that a trial makes has its tests
 module _ (past : List (Stamped Step)) (row : ℕ) where
@@ -341,7 +341,7 @@ module _ (past : List (Stamped Step)) (row : ℕ) where
   makes-from now (Some (Proved t)) made w e = making-from now t.state.tested t made w cc
   makes-from now (Some (Pending t)) made w e = making-from now t.state.tested t made w cc
 
-pub update-from : (home : Address) (declared : Option Address) (secrets : Life) (past : List (Stamped Step)) (now row : ℕ) (u : PeerUpdate)
-    → IsUpdateOf now (known home declared secrets past) row u → IsMadeFrom past row u.made
-update-from home declared secrets past now row u is =
-    makes-from past row (record { 0 = now }) (trial_of (known home declared secrets past) row) u.made (past-given home declared secrets past row) is.made
+pub update-from : (home : Address) (declared : Option Address) (numbers : ℕ) (secrets : Life) (past : List (Stamped Step)) (now row : ℕ) (u : PeerUpdate)
+    → IsUpdateOf now (known home declared numbers secrets past) row u → IsMadeFrom past row u.made
+update-from home declared numbers secrets past now row u is =
+    makes-from past row (record { 0 = now }) (trial_of (known home declared numbers secrets past) row) u.made (past-given home declared numbers secrets past row) is.made

@@ -43,9 +43,9 @@ left k now of_home =
     subst HasForgotten (sym (noted-known after Detaches last)) (detached last.known last.now)
 
 -- the first life
-pub born : (home : Address) (declared : Option Address) (secrets : Life) → (known home declared secrets []).cookies ≡ 0
+pub born : (home : Address) (declared : Option Address) (numbers : ℕ) (secrets : Life) → (known home declared numbers secrets []).cookies ≡ 0
 unfolding known
-born home declared secrets = refl
+born home declared numbers secrets = refl
 
 cookies-noted : (step : Step) (t : Turn) → (noted step t).known.cookies ≡ cookies_after t.known step
 unfolding after

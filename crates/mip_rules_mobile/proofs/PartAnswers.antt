@@ -27,7 +27,7 @@ module _ (c : Call) (me : Identity) (now : ℕ) where
     step-part : (step : Step) → SendsOwn me call now step → AllByRecursion (IsPartAnswer c me now) (answer_of step)
     step-part (Called other) own = tt
     step-part (Sends packet) own = (record { call = call; asked = asked; sending = own.0; is = own.1 }, tt)
-    step-part (Accepts number home accepted) own = (refl, tt)
+    step-part (Accepts number home binding accepted) own = (refl, tt)
     step-part (Denies number status) own = (refl, tt)
     step-part (Drops number why) own = (own, tt)
     step-part (HandsUp number source destination proto payload) own = (refl, tt)

@@ -127,7 +127,7 @@ passes-behind c first (Note entry ∷ answers) all t b = passes-behind c first a
 
 none-told : (steps : List part_steps.Step) → list_any part_steps.is_acceptance steps ≡ false → AllByRecursion TellsNone (part_steps.answers_of steps)
 none-told [] none = tt
-none-told (part_steps.Accepts number home accepted ∷ steps) none = absurd cc
+none-told (part_steps.Accepts number home binding accepted ∷ steps) none = absurd cc
 none-told (part_steps.Called call ∷ steps) none = none-told steps none
 none-told (part_steps.Sends packet ∷ steps) none = (tt, none-told steps none)
 none-told (part_steps.Denies number status ∷ steps) none = (refl, none-told steps none)
@@ -214,7 +214,7 @@ module _ (k : Known) (now : ℕ) (c : Call) (t : Turn) (called : t.steps ≡ Cal
     -- it accepts the update in it
     module _ (x : IsUpdateParted k.part.identity k.part.known now number packet (turn_at k.part now call).steps) where
       abbrev note : Step
-      note = Notes (accepted_note number x.home x.accepted)
+      note = Notes (accepted_note number x.home x.binding x.accepted)
 
       abbrev first : List Step
       first = Called c ∷ Parts call ∷ note ∷ []

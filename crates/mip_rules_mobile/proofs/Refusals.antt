@@ -234,14 +234,14 @@ module _ (me : Identity) (k : kept.Known) (now number : ℕ) (packet : Packet) w
   unfolding part_rules.denies part_rules.accepts
   of-verdict r (Refuse why) = none (part_steps.Drops number why ∷ []) refl
   of-verdict r (Deny status last kbm) = none (part_steps.Denies number status ∷ part_steps.Sends (ack_packet me.own r status last 0 kbm) ∷ []) refl
-  of-verdict r (Accept home accepted granted kbm) = by r.ack
+  of-verdict r (Accept home binding accepted granted kbm) = by r.ack
     where
       first : part_turns.Turn
-      first = part_turns.noted (part_steps.Accepts number home accepted) given
+      first = part_turns.noted (part_steps.Accepts number home binding accepted) given
 
       by : (ack : Bool) → Decides (let u : part_turns.Turn = (if ack then part_turns.noted (part_steps.Sends (ack_packet me.own r 0 r.sequence granted (Some kbm))) first else first) in u)
-      by true = inr (told (part_steps.Accepts number home accepted ∷ part_steps.Sends (ack_packet me.own r 0 r.sequence granted (Some kbm)) ∷ []) (refl, (tt, tt)))
-      by false = inr (told (part_steps.Accepts number home accepted ∷ []) (refl, tt))
+      by true = inr (told (part_steps.Accepts number home binding accepted ∷ part_steps.Sends (ack_packet me.own r 0 r.sequence granted (Some kbm)) ∷ []) (refl, (tt, tt)))
+      by false = inr (told (part_steps.Accepts number home binding accepted ∷ []) (refl, tt))
 
   -- data is handed up
   abbrev up : part_steps.Step

@@ -139,16 +139,16 @@ over-none k (s ∷ past) calm none = by (list_any (λ s. is_over s.step) past) r
     by false l true h calm none on = quiet-none (after k s) past (over-row k s.at s.step h) calm
     by false l false h calm none on = quiet-none k (s ∷ past) (none refl) calm
 
-module _ (home : Address) (declared : Option Address) (secrets : Life) where
+module _ (home : Address) (declared : Option Address) (numbers : ℕ) (secrets : Life) where
   pub search-runs : (before : List (Stamped Step)) (at : ℕ) (later : List (Stamped Step)) → list_any (λ s. is_turn s.step) later ≡ false
-      → (known home declared secrets (before ++ record { at = at; step = Seeks } ∷ later)).discovery ≡ search_with (known home declared secrets before).discoveries at later
+      → (known home declared numbers secrets (before ++ record { at = at; step = Seeks } ∷ later)).discovery ≡ search_with (known home declared numbers secrets before).discoveries at later
   unfolding known after
   search-runs before at later calm =
-      let k : Known = known home declared secrets before in
-      ap (λ (l : Known). l.discovery) (fold-append after (fresh home declared secrets) before (record { at = at; step = Seeks } ∷ later))
+      let k : Known = known home declared numbers secrets before in
+      ap (λ (l : Known). l.discovery) (fold-append after (fresh home declared numbers secrets) before (record { at = at; step = Seeks } ∷ later))
       ∙ goes-on (after k (record { at = at; step = Seeks })) k.discoveries 0 at later refl calm
       ∙ ap (λ (n : ℕ). search_of k.discoveries n (again_at at later)) (omega arith)
 
-  pub search-none : (past : List (Stamped Step)) → list_any (λ s. is_search s.step) (since (λ s. is_over s.step) past) ≡ false → (known home declared secrets past).discovery ≡ None
+  pub search-none : (past : List (Stamped Step)) → list_any (λ s. is_search s.step) (since (λ s. is_over s.step) past) ≡ false → (known home declared numbers secrets past).discovery ≡ None
   unfolding known after
-  search-none past calm = over-none (fresh home declared secrets) past calm (λ _. refl)
+  search-none past calm = over-none (fresh home declared numbers secrets) past calm (λ _. refl)

@@ -62,6 +62,6 @@ home-along : (k : Known) (past : List (Stamped Step)) → home_of (fold after k 
 home-along k [] = refl
 home-along k (s ∷ past) = home-along (after k s) past ∙ home-kept k s
 
-pub past-home : (home : Address) (declared : Option Address) (secrets : Life) (past : List (Stamped Step)) → home_of (known home declared secrets past) ≡ home
+pub past-home : (home : Address) (declared : Option Address) (numbers : ℕ) (secrets : Life) (past : List (Stamped Step)) → home_of (known home declared numbers secrets past) ≡ home
 unfolding known
-past-home home declared secrets past = home-along (fresh home declared secrets) past
+past-home home declared numbers secrets past = home-along (fresh home declared numbers secrets) past

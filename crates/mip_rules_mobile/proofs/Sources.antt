@@ -171,9 +171,9 @@ elsewhere-along : (k : Known) (past : List (Stamped Step)) → IsElsewhere k →
 elsewhere-along k [] is = is
 elsewhere-along k (s ∷ past) is = elsewhere-along (after k s) past (elsewhere-kept k s is)
 
-pub past-elsewhere : (home : Address) (declared : Option Address) (secrets : Life) (past : List (Stamped Step)) → IsElsewhere (known home declared secrets past)
+pub past-elsewhere : (home : Address) (declared : Option Address) (numbers : ℕ) (secrets : Life) (past : List (Stamped Step)) → IsElsewhere (known home declared numbers secrets past)
 unfolding known
-past-elsewhere home declared secrets past = elsewhere-along (fresh home declared secrets) past tt
+past-elsewhere home declared numbers secrets past = elsewhere-along (fresh home declared numbers secrets) past tt
 
 pub call-leaves : (k : Known) (now : ℕ) (c : Call) → IsElsewhere k → EachAnswer LeavesRight now k (turn_of k now c).steps
 call-leaves k now c is =

@@ -73,9 +73,9 @@ order-along k [] o = o
 order-along k (s ∷ past) o = order-along (after k s) past (order-kept k.list.timers s.at s.step o)
 
 -- after every past they stand in order
-pub timers-order : (home : Address) (declared : Option Address) (secrets : Life) (past : List (Stamped Step)) → AreInOrder (known home declared secrets past).list.timers
+pub timers-order : (home : Address) (declared : Option Address) (numbers : ℕ) (secrets : Life) (past : List (Stamped Step)) → AreInOrder (known home declared numbers secrets past).list.timers
 unfolding known
-timers-order home declared secrets past = order-along (fresh home declared secrets) past tt
+timers-order home declared numbers secrets past = order-along (fresh home declared numbers secrets) past tt
 
 -- how many are due at a moment
 late : ℕ → List Timer → ℕ

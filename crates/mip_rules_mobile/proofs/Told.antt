@@ -151,35 +151,35 @@ module _ (r p : Stamped Step → Bool) (question : Known → ℕ) (row : (k : Kn
       by false false true is = omega (arith, is)
       by false false false is = omega (arith, is)
 
-module _ (home : Address) (declared : Option Address) (secrets : Life) (past : List (Stamped Step)) where
+module _ (home : Address) (declared : Option Address) (numbers : ℕ) (secrets : Life) (past : List (Stamped Step)) where
   abbrev first : Known
-  first = fresh home declared secrets
+  first = fresh home declared numbers secrets
 
-  pub registered-told : (known home declared secrets past).registered ≡ last_told (λ s. registered_said s.step) None past
+  pub registered-told : (known home declared numbers secrets past).registered ≡ last_told (λ s. registered_said s.step) None past
   unfolding known after
   registered-told = told (λ k. k.registered) (λ s. registered_said s.step) (λ k s. refl) first past
 
-  pub latest-told : (known home declared secrets past).latest ≡ last_told (λ s. latest_said s.at s.step) None past
+  pub latest-told : (known home declared numbers secrets past).latest ≡ last_told (λ s. latest_said s.at s.step) None past
   unfolding known after
   latest-told = told (λ k. k.latest) (λ s. latest_said s.at s.step) (λ k s. refl) first past
 
-  pub agent-told : (known home declared secrets past).agent ≡ last_told (λ s. agent_said s.step) None past
+  pub agent-told : (known home declared numbers secrets past).agent ≡ last_told (λ s. agent_said s.step) None past
   unfolding known after
   agent-told = told (λ k. k.agent) (λ s. agent_said s.step) (λ k s. refl) first past
 
-  pub owes-told : (known home declared secrets past).owes ≡ last_told (λ s. owes_said s.step) false past
+  pub owes-told : (known home declared numbers secrets past).owes ≡ last_told (λ s. owes_said s.step) false past
   unfolding known after
   owes-told = told (λ k. k.owes) (λ s. owes_said s.step) (λ k s. refl) first past
 
-  pub found-told : (known home declared secrets past).found ≡ last_told (λ s. found_said s.step) [] past
+  pub found-told : (known home declared numbers secrets past).found ≡ last_told (λ s. found_said s.step) [] past
   unfolding known after
   found-told = told (λ k. k.found) (λ s. found_said s.step) (λ k s. refl) first past
 
-  pub chosen-told : (known home declared secrets past).chosen ≡ last_told (λ s. chosen_said s.step) None past
+  pub chosen-told : (known home declared numbers secrets past).chosen ≡ last_told (λ s. chosen_said s.step) None past
   unfolding known after
   chosen-told = told (λ k. k.chosen) (λ s. chosen_said s.step) (λ k s. refl) first past
 
-  pub next-told : (agent : Address) → next_to agent (known home declared secrets past).numberings ≡ last_told (λ s. next_in agent (next_said s.step)) 1 past
+  pub next-told : (agent : Address) → next_to agent (known home declared numbers secrets past).numberings ≡ last_told (λ s. next_in agent (next_said s.step)) 1 past
   unfolding known after
   next-told agent = told (λ k. next_to agent k.numberings) (λ s. next_in agent (next_said s.step)) (λ k s. next-row agent (next_said s.step) k.numberings) first past
 
@@ -187,17 +187,17 @@ module _ (home : Address) (declared : Option Address) (secrets : Life) (past : L
   last-row true at last = refl
   last-row false at last = refl
 
-  pub last-told : (known home declared secrets past).last.0 ≡ last_told (λ s. if is_call s.step then Some s.at else None) 0 past
+  pub last-told : (known home declared numbers secrets past).last.0 ≡ last_told (λ s. if is_call s.step then Some s.at else None) 0 past
   unfolding known after
   last-told = told (λ k. k.last.0) (λ s. if is_call s.step then Some s.at else None) (λ k s. last-row (is_call s.step) s.at k.last.0) first past
 
-  pub standing-told : (known home declared secrets past).standing ≡ last_told (λ s. standing_said home s.step) AtHome past
+  pub standing-told : (known home declared numbers secrets past).standing ≡ last_told (λ s. standing_said home s.step) AtHome past
   unfolding known after
   standing-told =
       told_under (λ k. home_of k ≡ home) (λ k s i. home-kept k s ∙ i) (λ k. k.standing) (λ s. standing_said home s.step)
       (λ k s i. ap (λ (a : Address). unwrap_or (standing_said a s.step) k.standing) i) first past refl
 
-  pub tried-told : (known home declared secrets past).tried ≡ length (filter (λ s. is_choice s.step) (since (λ s. is_some (found_said s.step)) past))
+  pub tried-told : (known home declared numbers secrets past).tried ≡ length (filter (λ s. is_choice s.step) (since (λ s. is_some (found_said s.step)) past))
   unfolding known after
   tried-told =
       counts reply choice (λ k. k.tried) (λ k s. refl) first past ∙ by (list_any reply past) refl

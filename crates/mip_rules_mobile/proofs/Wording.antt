@@ -142,26 +142,26 @@ all-kept : (k : Known) (s : Stamped Step) → AreAll k → AreAll (after k s)
 unfolding after
 all-kept k s whole = length-after k.peers s.step whole
 
-module _ (home : Address) (declared : Option Address) (secrets : Life) (past : List (Stamped Step)) where
-  pub wait-told : (known home declared secrets past).wait ≡ last_told (λ s. wait_said s.step) 0 past
+module _ (home : Address) (declared : Option Address) (numbers : ℕ) (secrets : Life) (past : List (Stamped Step)) where
+  pub wait-told : (known home declared numbers secrets past).wait ≡ last_told (λ s. wait_said s.step) 0 past
   unfolding known after
-  wait-told = told (λ k. k.wait) (λ s. wait_said s.step) (λ k s. wait-row k s.step) (fresh home declared secrets) past
+  wait-told = told (λ k. k.wait) (λ s. wait_said s.step) (λ k s. wait-row k s.step) (fresh home declared numbers secrets) past
 
   module _ (row : ℕ) (inside : row < 16) where
-    pub touched-told : is_touched_row (known home declared secrets past) row ≡ last_told (λ s. touched_said row s.step) false past
+    pub touched-told : is_touched_row (known home declared numbers secrets past) row ≡ last_told (λ s. touched_said row s.step) false past
     unfolding known after
     touched-told =
-        told_under AreAll all-kept (λ k. is_touched_row k row) (λ s. touched_said row s.step) (λ k s whole. touched-row row inside k.peers s.step whole) (fresh home declared secrets) past refl
+        told_under AreAll all-kept (λ k. is_touched_row k row) (λ s. touched_said row s.step) (λ k s whole. touched-row row inside k.peers s.step whole) (fresh home declared numbers secrets) past refl
         ∙ ap (λ (b : Bool). last_told (λ (s : Stamped Step). touched_said row s.step) b past) (lost (λ (p : Peer). p.touched) false row inside)
 
-    pub bound-told : bound_at (known home declared secrets past) row ≡ last_told (λ s. bound_said row s.step) None past
+    pub bound-told : bound_at (known home declared numbers secrets past) row ≡ last_told (λ s. bound_said row s.step) None past
     unfolding known after
     bound-told =
-        told_under AreAll all-kept (λ k. bound_at k row) (λ s. bound_said row s.step) (λ k s whole. bound-row row inside k.peers s.step whole) (fresh home declared secrets) past refl
+        told_under AreAll all-kept (λ k. bound_at k row) (λ s. bound_said row s.step) (λ k s whole. bound-row row inside k.peers s.step whole) (fresh home declared numbers secrets) past refl
         ∙ ap (λ (o : Option Moment). last_told (λ (s : Stamped Step). bound_said row s.step) o past) (lost (λ (p : Peer). p.bound) None row inside)
 
-    pub resend-told : wait_of_row (known home declared secrets past) row ≡ last_told (λ s. resend_said row s.step) 0 past
+    pub resend-told : wait_of_row (known home declared numbers secrets past) row ≡ last_told (λ s. resend_said row s.step) 0 past
     unfolding known after
     resend-told =
-        told_under AreAll all-kept (λ k. wait_of_row k row) (λ s. resend_said row s.step) (λ k s whole. resend-row row inside k.peers s.step whole) (fresh home declared secrets) past refl
+        told_under AreAll all-kept (λ k. wait_of_row k row) (λ s. resend_said row s.step) (λ k s whole. resend-row row inside k.peers s.step whole) (fresh home declared numbers secrets) past refl
         ∙ ap (λ (n : ℕ). last_told (λ (s : Stamped Step). resend_said row s.step) n past) (lost (λ (p : Peer). p.wait) 0 row inside)

@@ -31,21 +31,24 @@ pub record PartLife : Type 0 where
   pub past : List (Stamped part_steps.Step)
 
 -- the correspondent that it is
-abbrev pub part_of : Address → PartLife → CorrespondentSeen
-part_of home p = record { identity = record { own = home; secrets = p.secrets; room = part_room }; known = part_questions.known part_room p.past }
+abbrev pub part_of : Address → (numbers : ℕ) → PartLife → CorrespondentSeen
+part_of home numbers p = record {
+  identity = record { own = home; secrets = p.secrets; room = part_room };
+  known = part_questions.known part_room numbers p.past;
+}
 
 -- a call of the part is a turn of it; a restart begins it anew
-abbrev pub part_goes_on : Address → PartLife → ℕ → Step → PartLife
-part_goes_on home p at (Parts call) = record { secrets = p.secrets; past = with_turn p.past (turn_at (part_of home p) at call) }
-part_goes_on home p at (Restarts secrets) = record { secrets = secrets; past = [] }
-part_goes_on home p at _ = p
+abbrev pub part_goes_on : Address → (numbers : ℕ) → PartLife → ℕ → Step → PartLife
+part_goes_on home numbers p at (Parts call) = record { secrets = p.secrets; past = with_turn p.past (turn_at (part_of home numbers p) at call) }
+part_goes_on home numbers p at (Restarts secrets) = record { secrets = secrets; past = [] }
+part_goes_on home numbers p at _ = p
 
 abbrev pub new_part : Life → PartLife
 new_part secrets = record { secrets = secrets; past = [] }
 
 -- the part of a mobile with this past
-unfoldable pub part_life : Address → Life → List (Stamped Step) → PartLife
-part_life home secrets past = fold (λ (p : PartLife) (s : Stamped Step). part_goes_on home p s.at s.step) (new_part secrets) past
+unfoldable pub part_life : Address → (numbers : ℕ) → Life → List (Stamped Step) → PartLife
+part_life home numbers secrets past = fold (λ (p : PartLife) (s : Stamped Step). part_goes_on home numbers p s.at s.step) (new_part secrets) past
 
 -- what can be read of the bytes alone: the packet itself, or the one within its tunnel, from wherever that comes
 pub data IsReadIn (bytes : List ℕ) (packet : Packet) : Type 0 where
@@ -53,9 +56,9 @@ pub data IsReadIn (bytes : List ℕ) (packet : Packet) : Type 0 where
   Within : (outer : Packet) → packet_of bytes ≡ Ok outer → opened outer.head.source outer ≡ Ok packet → IsReadIn bytes packet
 
 -- the entry of an update that the part accepted, as the mobile leaves it
-abbrev pub accepted_note : ℕ → Address → Accepted → Entry
-accepted_note number home a =
-    entries.Accepted myself number home 0 a.careof a.sequence a.end (index_of a.home_nonce) (option_map index_of a.careof_nonce)
+abbrev pub accepted_note : ℕ → Address → ℕ → Accepted → Entry
+accepted_note number home binding a =
+    entries.Accepted myself number home binding a.careof a.sequence a.end (index_of a.home_nonce) (option_map index_of a.careof_nonce)
 
 abbrev pub tells_of_acceptance : Entry → Bool
 tells_of_acceptance (entries.Accepted node number home binding careof sequence end i j) = true
@@ -80,7 +83,7 @@ pub record IsPartTaken (k : Known) (now : ℕ) (c : Call) (steps : List Step) : 
   pub came : Came k now tunnelled shield bytes packet
   pub taken : IsUpdateParted k.part.identity k.part.known now number packet (turn_at k.part now (parts.Part number packet)).steps
   pub rest : List Step
-  pub steps_are : steps ≡ Called c ∷ Parts (parts.Part number packet) ∷ Notes (accepted_note number taken.home taken.accepted) ∷ rest
+  pub steps_are : steps ≡ Called c ∷ Parts (parts.Part number packet) ∷ Notes (accepted_note number taken.home taken.binding taken.accepted) ∷ rest
   pub none : list_any concerns_part rest ≡ false
 
 -- what a call of the mobile is to its part, unless it is a restart: nothing; a call of it, in which it accepts nothing; or one

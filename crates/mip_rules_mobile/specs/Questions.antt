@@ -23,14 +23,14 @@ last_after k at step = if is_call step then record { 0 = at } else k.last
 abbrev pub part_room : ℕ
 part_room = 16
 
--- a correspondent part to which nothing happened yet
-abbrev pub fresh_part : Address → Life → CorrespondentSeen
-fresh_part home secrets = record { identity = record { own = home; secrets = secrets; room = part_room }; known = parts.fresh part_room }
+-- a correspondent part to which nothing happened yet, with so many bindings for each home
+abbrev pub fresh_part : Address → (numbers : ℕ) → Life → CorrespondentSeen
+fresh_part home numbers secrets = record { identity = record { own = home; secrets = secrets; room = part_room }; known = parts.fresh part_room numbers }
 
 -- the correspondent part: what its calls make of it; a restart gives it new secrets
 abbrev pub part_after : CorrespondentSeen → ℕ → Step → CorrespondentSeen
 part_after part at (Parts call) = called part at call
-part_after part at (Restarts secrets) = fresh_part part.identity.own secrets
+part_after part at (Restarts secrets) = fresh_part part.identity.own part.known.cache.numbers secrets
 part_after part at _ = part
 
 -- one step more
@@ -57,11 +57,12 @@ after k s = record {
   peers = peers_after k.peers s.step;
 }
 
--- a new mobile: its home address, the agent that it is declared with, and the secrets of its first life
-abbrev pub fresh : Address → Option Address → Life → Known
-fresh home declared secrets = record {
+-- a new mobile: its home address, the agent that it is declared with, how many bindings its part has for each home, and the
+-- secrets of its first life
+abbrev pub fresh : Address → Option Address → (numbers : ℕ) → Life → Known
+fresh home declared numbers secrets = record {
   last = record { 0 = 0 };
-  part = fresh_part home secrets;
+  part = fresh_part home numbers secrets;
   declared = declared;
   standing = AtHome;
   registered = None;
@@ -82,5 +83,5 @@ fresh home declared secrets = record {
 }
 
 -- what a past leaves known
-unfoldable pub known : Address → Option Address → Life → List (Stamped Step) → Known
-known home declared secrets past = known_by after (fresh home declared secrets) past
+unfoldable pub known : Address → Option Address → (numbers : ℕ) → Life → List (Stamped Step) → Known
+known home declared numbers secrets past = known_by after (fresh home declared numbers secrets) past

@@ -22,8 +22,8 @@ abbrev pub noted : Step → Turn → Turn
 noted step t = turns.noted_by after step t
 
 -- what a mobile keeps is what its past leaves known
-abbrev pub Stands : Address → Option Address → Life → List (Stamped Step) → Known → Type 0
-Stands home declared secrets past k = turns.StandsBy after (fresh home declared secrets) past k
+abbrev pub Stands : Address → Option Address → (numbers : ℕ) → Life → List (Stamped Step) → Known → Type 0
+Stands home declared numbers secrets past k = turns.StandsBy after (fresh home declared numbers secrets) past k
 
 -- the past with a turn behind it
 abbrev pub with_turn : List (Stamped Step) → Turn → List (Stamped Step)

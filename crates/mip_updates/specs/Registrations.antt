@@ -19,6 +19,7 @@ registration source home_option sequence ack for_agent lifetime options = record
   lifetime = lifetime;
   alternate = options.alternate;
   nonces = options.nonces;
+  number = options.number;
   authorized = is_some options.authorization;
 }
 

@@ -35,6 +35,7 @@ pub fn registration_of(
             lifetime,
             alternate: options.alternate,
             nonces: options.nonces,
+            number: options.number,
             authorized: options.authorization.is_some(),
         }),
         _ => None,

@@ -19,6 +19,8 @@ pub struct Registration {
     pub alternate: Option<Address>,
     /// The Nonce Indices, where they stand.
     pub nonces: Option<Indices>,
+    /// The Binding Number, where one stands.
+    pub number: Option<u8>,
     /// Whether Binding Authorization Data stands there.
     pub authorized: bool,
 }

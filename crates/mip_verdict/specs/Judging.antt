@@ -9,7 +9,7 @@ use Rattle.mip_verdict.specs.declared.judged.Judged.{Judged}
 abbrev pub key_in : Verdict → Option Kbm
 key_in (Refuse why) = None
 key_in (Deny status last kbm) = kbm
-key_in (Accept home accepted granted kbm) = Some kbm
+key_in (Accept home number accepted granted kbm) = Some kbm
 
 -- this verdict, with its key beside it
 abbrev pub IsJudged : Judged → Verdict → Type 0

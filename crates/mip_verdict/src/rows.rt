@@ -1,7 +1,7 @@
 //! The rows of a verdict from the nonces on, last row first.
 
 ghost use Rattle.std.specs.Prelude.{◌≡◌, ◌≤◌, ◌<◌, ◌^◌, length};
-ghost use Rattle.mip_rules_correspondent.specs.Verdicts.{granted_of, accepted_of, by_room, by_sequence, by_key, kbm_of, by_numbers, careof_number, by_indices};
+ghost use Rattle.mip_rules_correspondent.specs.Verdicts.{granted_of, number_of, accepted_of, by_room, by_sequence, by_key, kbm_of, by_numbers, careof_number, by_indices};
 ghost use Rattle.mip_verdict.specs.Benches.{bench_of};
 ghost use Rattle.mip_verdict.specs.Judging.{IsJudged};
 
@@ -33,6 +33,16 @@ fn granted_of(registration: &Registration) -> u16
         0
     } else {
         registration.lifetime.min(MAX_RR_BINDING_LIFETIME)
+    }
+}
+
+/// The number of the binding: the one that the update names, where the cache has it. A deletion has none.
+fn number_of(judge: &Judge<'_>, registration: &Registration) -> u8
+    ensures { result ≡ number_of judge.now.cache.now.numbers registration.now }
+{
+    match registration.number {
+        Some(number) if !deletes(registration) && number < judge.cache.numbers() => number,
+        _ => 0,
     }
 }
 
@@ -71,6 +81,7 @@ fn by_room(
     }
     Verdict::Accept {
         home: home_of(registration),
+        number: number_of(judge, registration),
         accepted: accepted_of(judge.moment, registration, home, careof),
         granted: granted_of(registration),
         kbm,

@@ -2,4 +2,4 @@ use Rattle.mip_rules_mobile.proofs.Timers.{timers-order}
 use Rattle.mip_rules_mobile.proofs.laws.timers_are_in_order.Goals as goal
 
 pub returns : goal.returns
-returns c = λ home declared secrets past. timers-order home declared secrets past
+returns c = λ home declared numbers secrets past. timers-order home declared numbers secrets past

@@ -25,8 +25,8 @@ pub returns-clause-after : goal.returns-clause-after
 returns-clause-after c = (ended c).after
 
 pub returns-clause-stands : goal.returns-clause-stands
-returns-clause-stands c = λ room past stands.
+returns-clause-stands c = λ room numbers past stands.
     let s = c.args.self.now in
     let call = calls.Take c.args.number c.args.shield c.args.packet.now in
-    subst (λ (k : Known). Stands room (with_turn past (turn_at s c.args.now.0 call)) k) (sym (ap (λ (s : CorrespondentSeen). s.known) (ended c).after))
-    (call-stands room past s.known c.args.now.0 s.identity call stands)
+    subst (λ (k : Known). Stands room numbers (with_turn past (turn_at s c.args.now.0 call)) k) (sym (ap (λ (s : CorrespondentSeen). s.known) (ended c).after))
+    (call-stands room numbers past s.known c.args.now.0 s.identity call stands)

@@ -28,7 +28,7 @@ returns-clause-after c =
     ∙ ap (λ (s : CorrespondentSeen). record { identity = s.identity; known = (turn_at c.args.self.now c.args.now.0 calls.Tick).known }) c.self.view_is
 
 pub returns-clause-stands : goal.returns-clause-stands
-returns-clause-stands c = λ room past stands.
+returns-clause-stands c = λ room numbers past stands.
     let s = c.args.self.now in
-    subst (λ (k : Known). Stands room (with_turn past (turn_at s c.args.now.0 calls.Tick)) k)
-    (sym (leaves (record { identity = c.self.inside.identity; known = c.self.inside.known }) s c.args.now.0 c.give_up-given_up.new.self c.self.view_is c.give_up-given_up.ensures.rows)) (call-stands room past s.known c.args.now.0 s.identity calls.Tick stands)
+    subst (λ (k : Known). Stands room numbers (with_turn past (turn_at s c.args.now.0 calls.Tick)) k)
+    (sym (leaves (record { identity = c.self.inside.identity; known = c.self.inside.known }) s c.args.now.0 c.give_up-given_up.new.self c.self.view_is c.give_up-given_up.ensures.rows)) (call-stands room numbers past s.known c.args.now.0 s.identity calls.Tick stands)
