@@ -28,7 +28,7 @@ pub record Head : Type 0 where
 
 unfoldable pub head_of : List (List (List ℕ)) → Result Head Wrong
 head_of rows = do
-  version ← version_line rows
+  version ← version_line 1 rows
   seed ← seed_line version.1
   node ← self_line seed.1
   port ← port_line 4 node.1

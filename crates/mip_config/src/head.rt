@@ -51,7 +51,7 @@ pub fn read_head(text: &[u8]) -> Result<Head<'_>, ScheduleFault>
     ensures exact { GivesText head_seen result (reading.head_of (rows_of text.now)) }
     ensures short { IfOk result (λ h. length h.rest.now + 4 ≤ length text.now) }
 {
-    let (_, rest) = version_line(text)?;
+    let (_, rest) = version_line(1, text)?;
     let (seed, rest) = seed_line(rest)?;
     let (node, rest) = self_line(rest)?;
     let (port, rest) = port_line(4, rest)?;

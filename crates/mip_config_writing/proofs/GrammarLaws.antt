@@ -222,7 +222,7 @@ port_within rows out e =
 head_within : (rows : List (List (List ℕ))) (h : Head) → head_of rows ≡ Ok h → IsHead h.seed h.node.0 h.port
 unfolding head_of
 head_within rows h e =
-    let v = bind_ok (version_line rows) (λ version. seed_line version.1 >>= (λ seed. self_line seed.1 >>= (λ node. port_line 4 node.1 >>= (λ port. Ok (made_head seed.0 node.0 port))))) h e in
+    let v = bind_ok (version_line 1 rows) (λ version. seed_line version.1 >>= (λ seed. self_line seed.1 >>= (λ node. port_line 4 node.1 >>= (λ port. Ok (made_head seed.0 node.0 port))))) h e in
     let s = bind_ok (seed_line v.0.1) (λ seed. self_line seed.1 >>= (λ node. port_line 4 node.1 >>= (λ port. Ok (made_head seed.0 node.0 port)))) h v.2 in
     let n = bind_ok (self_line s.0.1) (λ node. port_line 4 node.1 >>= (λ port. Ok (made_head s.0.0 node.0 port))) h s.2 in
     let p = bind_ok (port_line 4 n.0.1) (λ port. Ok (made_head s.0.0 n.0.0 port)) h n.2 in

@@ -61,7 +61,7 @@ number_spelled word low high n rows out e =
     let h = head_line_spelled word (kinds.number low high) n rows out e in
     h.spelled ∙ ap (λ (f : List ℕ). (word ∷ f ∷ []) ∷ out.1) (number-spells low high h.field out.0 h.value)
 
-version_spelled : (rows : List (List (List ℕ))) (out : ℕ × List (List (List ℕ))) → version_line rows ≡ Ok out → rows ≡ (codes "mip" ∷ codes "1" ∷ []) ∷ out.1
+version_spelled : (rows : List (List (List ℕ))) (out : ℕ × List (List (List ℕ))) → version_line 1 rows ≡ Ok out → rows ≡ (codes "mip" ∷ codes "1" ∷ []) ∷ out.1
 unfolding version_line
 version_spelled rows out e =
     let h = head_line_spelled (codes "mip") (kinds.number 1 1) 1 rows out e in
@@ -92,7 +92,7 @@ made_head seed node port = record { seed = seed; node = record { 0 = node }; por
 head_spelled : (rows : List (List (List ℕ))) (h : Head) → head_of rows ≡ Ok h → rows ≡ head_rows h.seed h.node h.port ++ h.rows
 unfolding head_of
 head_spelled rows h e =
-    let v = bind_ok (version_line rows) (λ version. seed_line version.1 >>= (λ seed. self_line seed.1 >>= (λ node. port_line 4 node.1 >>= (λ port. Ok (made_head seed.0 node.0 port))))) h e in
+    let v = bind_ok (version_line 1 rows) (λ version. seed_line version.1 >>= (λ seed. self_line seed.1 >>= (λ node. port_line 4 node.1 >>= (λ port. Ok (made_head seed.0 node.0 port))))) h e in
     let s = bind_ok (seed_line v.0.1) (λ seed. self_line seed.1 >>= (λ node. port_line 4 node.1 >>= (λ port. Ok (made_head seed.0 node.0 port)))) h v.2 in
     let n = bind_ok (self_line s.0.1) (λ node. port_line 4 node.1 >>= (λ port. Ok (made_head s.0.0 node.0 port))) h s.2 in
     let p = bind_ok (port_line 4 n.0.1) (λ port. Ok (made_head s.0.0 n.0.0 port)) h n.2 in

@@ -134,7 +134,7 @@ head_line_reads : {A : Type 0} (word f : List ℕ) (read : List ℕ → Result A
 unfolding head_field
 head_line_reads word f read n x t ts e = rw ((bytes_eq-Decides word word).1 refl, e) refl
 
-version_reads : (t : List (List ℕ)) (ts : Rows) → version_line ((codes "mip" ∷ codes "1" ∷ []) ∷ t ∷ ts) ≡ Ok (1, t ∷ ts)
+version_reads : (t : List (List ℕ)) (ts : Rows) → version_line 1 ((codes "mip" ∷ codes "1" ∷ []) ∷ t ∷ ts) ≡ Ok (1, t ∷ ts)
 unfolding version_line
 version_reads t ts = head_line_reads (codes "mip") (codes "1") (kinds.number 1 1) 1 1 t ts (ap (kinds.number 1 1) (sym (decimal_digit 1 (omega arith))) ∙ number_reads 1 1 1 refl (omega arith))
 

@@ -33,7 +33,7 @@ few_more lines row more e few =
 pub few_read : (text : List ℕ) (c : Content) → reading text ≡ Ok c → length c.lines ≤ 1000
 unfolding reading
 few_read text c e =
-    let v = bind_ok (version_line (rows_of text)) (λ version. port_line 2 version.1 >>= (λ port. walk line_onto [] 3 port.1 >>= (λ walked. Ok (record { port = port.0; lines = walked.draft })))) c e in
+    let v = bind_ok (version_line 1 (rows_of text)) (λ version. port_line 2 version.1 >>= (λ port. walk line_onto [] 3 port.1 >>= (λ walked. Ok (record { port = port.0; lines = walked.draft })))) c e in
     let p = bind_ok (port_line 2 v.0.1) (λ port. walk line_onto [] 3 port.1 >>= (λ walked. Ok (record { port = port.0; lines = walked.draft }))) c v.2 in
     let w = bind_ok (walk line_onto [] 3 p.0.1) (λ walked. Ok (record { port = p.0.0; lines = walked.draft })) c p.2 in
     subst (λ (d : Content). length d.lines ≤ 1000) (ok_is _ c w.2) (walk_keeps line_onto AreFew few_more [] 3 p.0.1 w.0 w.1 (omega arith))

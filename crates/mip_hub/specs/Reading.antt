@@ -40,7 +40,7 @@ pub record Content : Type 0 where
 -- what a text is read as
 unfoldable pub reading : List ℕ → Result Content Wrong
 reading text = do
-  version ← version_line (rows_of text)
+  version ← version_line 1 (rows_of text)
   port ← port_line 2 version.1
   walked ← walk line_onto [] 3 port.1
   Ok (record { port = port.0; lines = walked.draft })

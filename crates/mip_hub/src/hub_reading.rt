@@ -82,7 +82,7 @@ fn read_parts(alloc: Global, text: &[u8]) -> Result<Parts, ScheduleFault>
     requires { length text.now + 1 < 2 ^ 32 }
     ensures { GivesText parts_content result (reading text.now) }
 {
-    let (_, rest) = version_line(text)?;
+    let (_, rest) = version_line(1, text)?;
     let (port, rest) = port_line(2, rest)?;
     let mut lines = HubLines::new(alloc);
     read_lines(alloc, &mut lines, Cursor { line: 3, rest })?;

@@ -1,7 +1,7 @@
 -- Rows with more fields than a line of their kind has.
 use Rattle.std.proofs.Common.{◌≡◌, ℕ, ◌<◌, List, [], ◌∷◌, length, refl, arith}
 use Rattle.std.specs.Prelude.{Result, Err}
-use Rattle.mip_lines.specs.Rows.{row1, row2, row3, row4, row5, row6, row7, row8, row9, row10}
+use Rattle.mip_lines.specs.Rows.{row1, row2, row3, row4, row5, row6, row7, row8, row9, row10, row11}
 
 pub row1-long : {A1 X E : Type 0} (e : E) (k1 : List ℕ → Result A1 E) (to : A1 → X) (fields : List (List ℕ)) → 1 < length fields → row1 e k1 to fields ≡ Err e
 row1-long e k1 to [] long = absurd (omega arith)
@@ -97,3 +97,18 @@ row10-long e k1 k2 k3 k4 k5 k6 k7 k8 k9 k10 to (c1 ∷ c2 ∷ c3 ∷ c4 ∷ c5 �
 row10-long e k1 k2 k3 k4 k5 k6 k7 k8 k9 k10 to (c1 ∷ c2 ∷ c3 ∷ c4 ∷ c5 ∷ c6 ∷ c7 ∷ c8 ∷ c9 ∷ []) long = absurd (omega arith)
 row10-long e k1 k2 k3 k4 k5 k6 k7 k8 k9 k10 to (c1 ∷ c2 ∷ c3 ∷ c4 ∷ c5 ∷ c6 ∷ c7 ∷ c8 ∷ c9 ∷ c10 ∷ []) long = absurd (omega arith)
 row10-long e k1 k2 k3 k4 k5 k6 k7 k8 k9 k10 to (c1 ∷ c2 ∷ c3 ∷ c4 ∷ c5 ∷ c6 ∷ c7 ∷ c8 ∷ c9 ∷ c10 ∷ f11 ∷ more) long = refl
+
+pub row11-long : {A1 A2 A3 A4 A5 A6 A7 A8 A9 A10 A11 X E : Type 0} (e : E) (k1 : List ℕ → Result A1 E) (k2 : List ℕ → Result A2 E) (k3 : List ℕ → Result A3 E) (k4 : List ℕ → Result A4 E) (k5 : List ℕ → Result A5 E) (k6 : List ℕ → Result A6 E) (k7 : List ℕ → Result A7 E) (k8 : List ℕ → Result A8 E) (k9 : List ℕ → Result A9 E) (k10 : List ℕ → Result A10 E) (k11 : List ℕ → Result A11 E) (to : A1 → A2 → A3 → A4 → A5 → A6 → A7 → A8 → A9 → A10 → A11 → X) (fields : List (List ℕ)) → 11 < length fields → row11 e k1 k2 k3 k4 k5 k6 k7 k8 k9 k10 k11 to fields ≡ Err e
+row11-long e k1 k2 k3 k4 k5 k6 k7 k8 k9 k10 k11 to [] long = absurd (omega arith)
+row11-long e k1 k2 k3 k4 k5 k6 k7 k8 k9 k10 k11 to (c1 ∷ []) long = absurd (omega arith)
+row11-long e k1 k2 k3 k4 k5 k6 k7 k8 k9 k10 k11 to (c1 ∷ c2 ∷ []) long = absurd (omega arith)
+row11-long e k1 k2 k3 k4 k5 k6 k7 k8 k9 k10 k11 to (c1 ∷ c2 ∷ c3 ∷ []) long = absurd (omega arith)
+row11-long e k1 k2 k3 k4 k5 k6 k7 k8 k9 k10 k11 to (c1 ∷ c2 ∷ c3 ∷ c4 ∷ []) long = absurd (omega arith)
+row11-long e k1 k2 k3 k4 k5 k6 k7 k8 k9 k10 k11 to (c1 ∷ c2 ∷ c3 ∷ c4 ∷ c5 ∷ []) long = absurd (omega arith)
+row11-long e k1 k2 k3 k4 k5 k6 k7 k8 k9 k10 k11 to (c1 ∷ c2 ∷ c3 ∷ c4 ∷ c5 ∷ c6 ∷ []) long = absurd (omega arith)
+row11-long e k1 k2 k3 k4 k5 k6 k7 k8 k9 k10 k11 to (c1 ∷ c2 ∷ c3 ∷ c4 ∷ c5 ∷ c6 ∷ c7 ∷ []) long = absurd (omega arith)
+row11-long e k1 k2 k3 k4 k5 k6 k7 k8 k9 k10 k11 to (c1 ∷ c2 ∷ c3 ∷ c4 ∷ c5 ∷ c6 ∷ c7 ∷ c8 ∷ []) long = absurd (omega arith)
+row11-long e k1 k2 k3 k4 k5 k6 k7 k8 k9 k10 k11 to (c1 ∷ c2 ∷ c3 ∷ c4 ∷ c5 ∷ c6 ∷ c7 ∷ c8 ∷ c9 ∷ []) long = absurd (omega arith)
+row11-long e k1 k2 k3 k4 k5 k6 k7 k8 k9 k10 k11 to (c1 ∷ c2 ∷ c3 ∷ c4 ∷ c5 ∷ c6 ∷ c7 ∷ c8 ∷ c9 ∷ c10 ∷ []) long = absurd (omega arith)
+row11-long e k1 k2 k3 k4 k5 k6 k7 k8 k9 k10 k11 to (c1 ∷ c2 ∷ c3 ∷ c4 ∷ c5 ∷ c6 ∷ c7 ∷ c8 ∷ c9 ∷ c10 ∷ c11 ∷ []) long = absurd (omega arith)
+row11-long e k1 k2 k3 k4 k5 k6 k7 k8 k9 k10 k11 to (c1 ∷ c2 ∷ c3 ∷ c4 ∷ c5 ∷ c6 ∷ c7 ∷ c8 ∷ c9 ∷ c10 ∷ c11 ∷ f12 ∷ more) long = refl

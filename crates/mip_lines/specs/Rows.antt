@@ -121,3 +121,20 @@ row10 e k1 k2 k3 k4 k5 k6 k7 k8 k9 k10 to (c1 ∷ c2 ∷ c3 ∷ c4 ∷ c5 ∷ c6
   a10 ← k10 c10
   Ok (to a1 a2 a3 a4 a5 a6 a7 a8 a9 a10)
 row10 e k1 k2 k3 k4 k5 k6 k7 k8 k9 k10 to _ = Err e
+
+-- 11 fields; e where there are more or fewer
+abbrev pub row11 : {A1 A2 A3 A4 A5 A6 A7 A8 A9 A10 A11 X E : Type 0} → E → (List ℕ → Result A1 E) → (List ℕ → Result A2 E) → (List ℕ → Result A3 E) → (List ℕ → Result A4 E) → (List ℕ → Result A5 E) → (List ℕ → Result A6 E) → (List ℕ → Result A7 E) → (List ℕ → Result A8 E) → (List ℕ → Result A9 E) → (List ℕ → Result A10 E) → (List ℕ → Result A11 E) → (A1 → A2 → A3 → A4 → A5 → A6 → A7 → A8 → A9 → A10 → A11 → X) → List (List ℕ) → Result X E
+row11 e k1 k2 k3 k4 k5 k6 k7 k8 k9 k10 k11 to (c1 ∷ c2 ∷ c3 ∷ c4 ∷ c5 ∷ c6 ∷ c7 ∷ c8 ∷ c9 ∷ c10 ∷ c11 ∷ []) = do
+  a1 ← k1 c1
+  a2 ← k2 c2
+  a3 ← k3 c3
+  a4 ← k4 c4
+  a5 ← k5 c5
+  a6 ← k6 c6
+  a7 ← k7 c7
+  a8 ← k8 c8
+  a9 ← k9 c9
+  a10 ← k10 c10
+  a11 ← k11 c11
+  Ok (to a1 a2 a3 a4 a5 a6 a7 a8 a9 a10 a11)
+row11 e k1 k2 k3 k4 k5 k6 k7 k8 k9 k10 k11 to _ = Err e

@@ -10,9 +10,9 @@ use mip_words::Memory;
 use std::alloc::Global;
 
 /// The most fields that are kept without memory being taken for them.
-const FEW: usize = 11;
+const FEW: usize = 12;
 
-/// The fields of a line that has at most eleven.
+/// The fields of a line that has at most twelve.
 pub type FewFields<'a> = ArrayVec<&'a [u8], FEW>;
 
 #[tactic(auto, using(crate::proofs::Parts::first_place))]
@@ -88,9 +88,9 @@ pub fn fields_up_to(alloc: Global, most: usize, line: &[u8]) -> Result<Option<Ve
     Ok(Some(fields_in_room(alloc, count, line)?))
 }
 
-/// The fields of a line that has at most eleven; none where it has more. No memory is taken for them.
+/// The fields of a line that has at most twelve; none where it has more. No memory is taken for them.
 pub fn few_fields(line: &[u8]) -> Option<FewFields<'_>>
-    ensures { MatchOption result (11 < length (fields_of line.now)) (λ v. texts v.items ≡ fields_of line.now) }
+    ensures { MatchOption result (12 < length (fields_of line.now)) (λ v. texts v.items ≡ fields_of line.now) }
 {
     let mut fields = FewFields::new();
     let mut start = 0;

@@ -1,6 +1,6 @@
 -- An event of one kind is read from its own line, and fits.
 use Rattle.std.proofs.Common.{◌≡◌, ℕ, ◌+◌, ◌^◌, ◌<◌, ◌≤◌, List, length, true, refl, arith}
-use Rattle.std.specs.Prelude.{Some, None, Ok, decimal}
+use Rattle.std.specs.Prelude.{Some, None, Ok, decimal, false}
 use Rattle.std.proofs.lemmas.Bool.{and_from, cond-false, le-ltb}
 use Rattle.mip_words.specs.Addresses.{is_routable, address_bytes}
 use Rattle.mip_words.specs.Numbers.{IsBytes}
@@ -24,8 +24,8 @@ use Rattle.mip_make.proofs.FieldReads.{number_read, bytes_read, address_read}
 
 -- an event is read from its own line, which has plain fields; it takes little of the sums, and fits where that is left of them
 pub record IsFine (ds : List Declaration) (e : Event) : Type 0 where
-  pub reads : event_fields ds (event_text ds e) ≡ Ok e
-  pub plain : is_row (event_text ds e) ≡ true
+  pub reads : event_fields false ds (event_text false ds e) ≡ Ok e
+  pub plain : is_row (event_text false ds e) ≡ true
   pub wait : wait_of e ≤ 1800
   pub carry : carry_of e ≤ 8
   pub fits : (waits carries : ℕ) → waits + 1800 ≤ 36000000 → carries + 8 ≤ 200000 → misfit ds waits carries e ≡ None

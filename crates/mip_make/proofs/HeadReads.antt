@@ -3,7 +3,6 @@ use Rattle.std.proofs.Common.{◌≡◌, ℕ, ◌+◌, List, [], ◌∷◌, ◌+
 use Rattle.std.specs.Prelude.{Result, Ok, codes, decimal}
 use Rattle.std.specs.List.{list_all}
 use Rattle.std.proofs.lemmas.Bool.{and_from, cond-false}
-use Rattle.std.proofs.lemmas.Fmt.{decimal_digit}
 use Rattle.mip_words.specs.Hex.{hex_of}
 use Rattle.mip_words.specs.Numbers.{IsBytes, number_at, number_bytes}
 use Rattle.mip_words.specs.Addresses.{address_read}
@@ -36,12 +35,9 @@ use Rattle.mip_make.proofs.FieldReads.{number_read, seed_read}
 abbrev start : Moment
 start = record { 0 = 0 }
 
-one_read : kinds.number 1 1 (codes "1") ≡ Ok 1
-one_read = ap (kinds.number 1 1) (sym (decimal_digit 1 (omega arith))) ∙ number_read 1 1 1 (omega arith) (omega arith) (omega arith)
-
-version_read : (row : List (List ℕ)) (rows : List (List (List ℕ))) → version_line ((codes "mip" ∷ codes "1" ∷ []) ∷ row ∷ rows) ≡ Ok (1, row ∷ rows)
+version_read : (row : List (List ℕ)) (rows : List (List (List ℕ))) → version_line 2 ((codes "mip" ∷ decimal 1 ∷ []) ∷ row ∷ rows) ≡ Ok (1, row ∷ rows)
 unfolding version_line head_field
-version_read row rows = ap (λ (r : Result ℕ Reason). at_line 1 r >>= (λ x. Ok (x, row ∷ rows))) one_read
+version_read row rows = ap (λ (r : Result ℕ Reason). at_line 1 r >>= (λ x. Ok (x, row ∷ rows))) (number_read 1 2 1 (omega arith) (omega arith) (omega arith))
 
 seed_is : (bs : List ℕ) (row : List (List ℕ)) (rows : List (List (List ℕ))) → length bs ≡ 32 → IsBytes bs → seed_line ((codes "seed" ∷ hex_of bs ∷ []) ∷ row ∷ rows) ≡ Ok (bs, row ∷ rows)
 unfolding seed_line head_field
@@ -52,14 +48,14 @@ unfolding start_line head_field
 start_read row rows = ap (λ (r : Result ℕ Reason). at_line 3 r >>= (λ x. Ok (x, row ∷ rows))) (number_read 0 1099511627776 0 (omega arith) (omega arith) (omega arith))
 
 pub head_read : (bs : List ℕ) (row : List (List ℕ)) (rows : List (List (List ℕ))) → length bs ≡ 32 → IsBytes bs
-    → head_of (head_rows bs start ++ row ∷ rows) ≡ Ok (record { seed = bs; start = start; rows = row ∷ rows })
+    → head_of (head_rows 1 bs start ++ row ∷ rows) ≡ Ok (record { version = 1; seed = bs; start = start; rows = row ∷ rows })
 unfolding head_of
 head_read bs row rows size are =
     let started : List (List ℕ) = codes "start" ∷ decimal 0 ∷ [] in
     let seeded : List (List ℕ) = codes "seed" ∷ hex_of bs ∷ [] in
-    ap (λ (r : Result (ℕ × List (List (List ℕ))) Wrong). r >>= (λ version. seed_line version.1 >>= (λ seed. start_line seed.1 >>= (λ start. Ok (record { seed = seed.0; start = record { 0 = start.0 }; rows = start.1 }))))) (version_read seeded (started ∷ row ∷ rows))
-    ∙ ap (λ (r : Result (List ℕ × List (List (List ℕ))) Wrong). r >>= (λ seed. start_line seed.1 >>= (λ start. Ok (record { seed = seed.0; start = record { 0 = start.0 }; rows = start.1 })))) (seed_is bs started (row ∷ rows) size are)
-    ∙ ap (λ (r : Result (ℕ × List (List (List ℕ))) Wrong). r >>= (λ start. Ok (record { seed = bs; start = record { 0 = start.0 }; rows = start.1 }))) (start_read row rows)
+    ap (λ (r : Result (ℕ × List (List (List ℕ))) Wrong). r >>= (λ version. seed_line version.1 >>= (λ seed. start_line seed.1 >>= (λ start. Ok (record { version = version.0; seed = seed.0; start = record { 0 = start.0 }; rows = start.1 }))))) (version_read seeded (started ∷ row ∷ rows))
+    ∙ ap (λ (r : Result (List ℕ × List (List (List ℕ))) Wrong). r >>= (λ seed. start_line seed.1 >>= (λ start. Ok (record { version = 1; seed = seed.0; start = record { 0 = start.0 }; rows = start.1 })))) (seed_is bs started (row ∷ rows) size are)
+    ∙ ap (λ (r : Result (ℕ × List (List (List ℕ))) Wrong). r >>= (λ start. Ok (record { version = 1; seed = bs; start = record { 0 = start.0 }; rows = start.1 }))) (start_read row rows)
 
 -- a declaration is read from its own line, which has plain fields
 record IsReadAs (before : List Declaration) (d : Declaration) : Type 0 where

@@ -1,5 +1,5 @@
 -- The schedule that a seed and a count make.
-use Rattle.std.specs.Prelude.{ℕ, List, map}
+use Rattle.std.specs.Prelude.{ℕ, List, map, false}
 use Rattle.std.specs.List.{range_with_len}
 use Rattle.mip_lines.specs.Lines.{line_text, lines_text}
 use Rattle.mip_schedule.specs.Contents.{Content}
@@ -18,12 +18,12 @@ abbrev pub events_from : List ℕ → ℕ → ℕ → List Event
 events_from seed i count = map (event_at seed) (range_with_len i count)
 
 abbrev pub made : List ℕ → ℕ → Content
-made seed count = record { seed = seed; start = record { 0 = 0 }; declarations = network; events = events_from seed 0 count }
+made seed count = record { version = 1; seed = seed; start = record { 0 = 0 }; declarations = network; events = events_from seed 0 count }
 
 -- the line of an event
 abbrev pub event_line : Event → List ℕ
-event_line e = line_text (event_text network e)
+event_line e = line_text (event_text false network e)
 
 -- the lines of so many events
 abbrev pub events_text : List ℕ → ℕ → List ℕ
-events_text seed count = lines_text (map (event_text network) (events_from seed 0 count))
+events_text seed count = lines_text (map (event_text false network) (events_from seed 0 count))

@@ -35,6 +35,7 @@ pub fn make(alloc: Global, seed: &[u8; 32], count: u32) -> Result<Schedule, Memo
     let events = events(alloc, seed, count)?;
     let seed = *seed;
     Ok(Schedule {
+        version: 1,
         seed,
         start: Moment(0),
         declarations,

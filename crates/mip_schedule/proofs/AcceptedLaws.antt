@@ -19,10 +19,10 @@ pub held_is : (r : Result Content Wrong) (c : Content) → r ≡ Ok c → held r
 held_is r c e = ap held e
 
 -- what was read, from its parts
-from_parts : (r : Result Content Wrong) (seed : List ℕ) (start : Moment) (ds : List Declaration) (es : List Event)
-    → is_read r ≡ true → (held r).seed ≡ seed → (held r).start ≡ start → (held r).declarations ≡ ds → (held r).events ≡ es → r ≡ Ok (holding seed start ds es)
-from_parts (Err w) seed start ds es ok a b c d = absurd cc
-from_parts (Ok t) seed start ds es ok a b c d = ap (λ (x : Content). Ok x) (λ i. record { seed = a i; start = b i; declarations = c i; events = d i })
+from_parts : (r : Result Content Wrong) (version : ℕ) (seed : List ℕ) (start : Moment) (ds : List Declaration) (es : List Event)
+    → is_read r ≡ true → (held r).version ≡ version → (held r).seed ≡ seed → (held r).start ≡ start → (held r).declarations ≡ ds → (held r).events ≡ es → r ≡ Ok (holding version seed start ds es)
+from_parts (Err w) version seed start ds es ok v a b c d = absurd cc
+from_parts (Ok t) version seed start ds es ok v a b c d = ap (λ (x : Content). Ok x) (λ i. record { version = v i; seed = a i; start = b i; declarations = c i; events = d i })
 
 pub accepted : (s : Schedule) → reading (spelling (content s)) ≡ Ok (content s)
-accepted s = from_parts (reading (spelling (content s))) s.seed s.start s.declarations s.events s.accepted s.same_seed s.same_start s.same_declarations s.same_events
+accepted s = from_parts (reading (spelling (content s))) s.version s.seed s.start s.declarations s.events s.accepted s.same_version s.same_seed s.same_start s.same_declarations s.same_events

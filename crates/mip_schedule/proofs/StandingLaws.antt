@@ -18,6 +18,7 @@ use Rattle.mip_schedule.specs.Reading.{at_line, head_of, is_run, Declared, decla
 use Rattle.mip_schedule.specs.Schedules.{content}
 use Rattle.mip_declared.specs.Spelled.{link_text, node_text, or_word}
 use Rattle.mip_schedule.specs.Spelling.{declaration_text, spelling}
+use Rattle.mip_schedule.specs.Versions.{is_numbered}
 use Rattle.mip_declared.specs.declared.declaration.Declaration.{Declaration}
 use Rattle.mip_declared.specs.declared.declaration.Declaration.TheVariants as declare
 use Rattle.mip_declared.specs.declared.name.Name.{Name}
@@ -110,9 +111,9 @@ all_stand (row ∷ next ∷ rows) ds n out =
 read_stands : (text : List ℕ) (s : Content) → reading text ≡ Ok s → IsStanding s.declarations
 unfolding reading
 read_stands text s e =
-    let h = bind_ok (head_of (rows_of text)) (λ head. declarations_of [] 4 head.rows >>= (λ declared. events_of declared.declarations [] declared.line declared.rows >>= (λ events. Ok (record { seed = head.seed; start = head.start; declarations = declared.declarations; events = events })))) s e in
-    let d = bind_ok (declarations_of [] 4 h.0.rows) (λ declared. events_of declared.declarations [] declared.line declared.rows >>= (λ events. Ok (record { seed = h.0.seed; start = h.0.start; declarations = declared.declarations; events = events }))) s h.2 in
-    let es = bind_ok (events_of d.0.declarations [] d.0.line d.0.rows) (λ events. Ok (record { seed = h.0.seed; start = h.0.start; declarations = d.0.declarations; events = events })) s d.2 in
+    let h = bind_ok (head_of (rows_of text)) (λ head. declarations_of [] 4 head.rows >>= (λ declared. events_of (is_numbered head.version) declared.declarations [] declared.line declared.rows >>= (λ events. Ok (record { version = head.version; seed = head.seed; start = head.start; declarations = declared.declarations; events = events })))) s e in
+    let d = bind_ok (declarations_of [] 4 h.0.rows) (λ declared. events_of (is_numbered h.0.version) declared.declarations [] declared.line declared.rows >>= (λ events. Ok (record { version = h.0.version; seed = h.0.seed; start = h.0.start; declarations = declared.declarations; events = events }))) s h.2 in
+    let es = bind_ok (events_of (is_numbered h.0.version) d.0.declarations [] d.0.line d.0.rows) (λ events. Ok (record { version = h.0.version; seed = h.0.seed; start = h.0.start; declarations = d.0.declarations; events = events })) s d.2 in
     subst (λ (x : Content). IsStanding x.declarations) (ok_is _ s es.2) (all_stand h.0.rows [] 4 d.0 d.1 (record { few = none_few; named = none_named }))
 
 -- each schedule has few links, nodes and outsiders

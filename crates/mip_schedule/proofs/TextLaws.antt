@@ -1,9 +1,8 @@
 -- A text that is read as a schedule is the schedule's spelling.
-use Rattle.std.proofs.Common.{◌≡◌, ℕ, ◌+◌, ◌≤◌, ◌^◌, List, [], ◌∷◌, ◌++◌, true, refl, sym, ap, ◌∙◌, subst, append_assoc, arith}
-use Rattle.std.specs.Prelude.{Result, Ok, Err, codes, decimal, map}
+use Rattle.std.proofs.Common.{◌≡◌, ℕ, ◌+◌, ◌≤◌, ◌^◌, List, [], ◌∷◌, ◌++◌, true, refl, sym, ap, ◌∙◌, subst, append_assoc}
+use Rattle.std.specs.Prelude.{Bool, Result, Ok, Err, codes, decimal, map}
 use Rattle.std.specs.Str.{bytes_eq}
 use Rattle.std.proofs.lemmas.Bool.{cond_both}
-use Rattle.std.proofs.lemmas.Fmt.{decimal_digit}
 use Rattle.std.proofs.lemmas.List.{append-nil}
 use Rattle.std.proofs.lemmas.Slice.Eq.{bytes_eq-Decides}
 use Rattle.mip_words.specs.Hex.{hex_of}
@@ -18,6 +17,7 @@ use Rattle.mip_schedule.specs.Faults.{Wrong}
 use Rattle.mip_declared.specs.Kinds as kinds
 use Rattle.mip_schedule.specs.Reading.{at_line, headed, head_field, head_line, version_line, seed_line, start_line, Head, head_of, is_run, Declared, declarations_of, last_row, events_of, reading}
 use Rattle.mip_schedule.specs.Spelling.{declaration_text, declaration_rows, event_text, head_rows, run_row, schedule_rows, spelling}
+use Rattle.mip_schedule.specs.Versions.{is_numbered}
 use Rattle.mip_declared.specs.declared.declaration.Declaration.{Declaration}
 use Rattle.mip_schedule.specs.declared.event.Event.{Event}
 use Rattle.mip_declared.specs.declared.reason.Reason.{Reason}
@@ -33,32 +33,32 @@ at_line_ok n (Ok y) x e = ap (λ z. Ok z) (ok_is y x e)
 at_line_ok n (Err why) x e = absurd cc
 
 -- these events were read behind es, from these lines to the end
-record IsEvents (ds : List Declaration) (es : List Event) (rows : List (List (List ℕ))) (out : List Event) : Type 0 where
+record IsEvents (numbered : Bool) (ds : List Declaration) (es : List Event) (rows : List (List (List ℕ))) (out : List Event) : Type 0 where
   news : List Event
   whole : out ≡ es ++ news
-  spelled : rows ≡ map (event_text ds) news ++ end_row ∷ []
+  spelled : rows ≡ map (event_text numbered ds) news ++ end_row ∷ []
 
-last-spelled : (ds : List Declaration) (n : ℕ) (es : List Event) (row : List (List ℕ)) (out : List Event) → last_row n es row ≡ Ok out → IsEvents ds es (row ∷ []) out
-last-spelled ds n es [] out e = absurd cc
-last-spelled ds n es ([] ∷ []) out e = record { news = []; whole = sym (ok_is es out e) ∙ sym (append-nil es); spelled = refl }
-last-spelled ds n es ([] ∷ f ∷ fs) out e = absurd cc
-last-spelled ds n es ((c ∷ cs) ∷ fs) out e = absurd cc
+last-spelled : (numbered : Bool) (ds : List Declaration) (n : ℕ) (es : List Event) (row : List (List ℕ)) (out : List Event) → last_row n es row ≡ Ok out → IsEvents numbered ds es (row ∷ []) out
+last-spelled numbered ds n es [] out e = absurd cc
+last-spelled numbered ds n es ([] ∷ []) out e = record { news = []; whole = sym (ok_is es out e) ∙ sym (append-nil es); spelled = refl }
+last-spelled numbered ds n es ([] ∷ f ∷ fs) out e = absurd cc
+last-spelled numbered ds n es ((c ∷ cs) ∷ fs) out e = absurd cc
 
 one_more : {A : Type 0} (xs : List A) (x : A) (ys out : List A) → out ≡ (xs ++ x ∷ []) ++ ys → out ≡ xs ++ x ∷ ys
 one_more xs x ys out e = e ∙ append_assoc xs (x ∷ []) ys
 
-events-spelled : (ds : List Declaration) (rows : List (List (List ℕ))) (es : List Event) (n : ℕ) (out : List Event) → events_of ds es n rows ≡ Ok out → IsEvents ds es rows out
+events-spelled : (numbered : Bool) (ds : List Declaration) (rows : List (List (List ℕ))) (es : List Event) (n : ℕ) (out : List Event) → events_of numbered ds es n rows ≡ Ok out → IsEvents numbered ds es rows out
 unfolding events_of
-events-spelled ds [] es n out e = absurd cc
-events-spelled ds (row ∷ []) es n out e = last-spelled ds n es row out e
-events-spelled ds (row ∷ next ∷ rows) es n out e =
-    let p = bind_ok (at_line n (event_line ds es row)) (λ x. events_of ds (es ++ x ∷ []) (n + 1) (next ∷ rows)) out e in
-    let line : row ≡ event_text ds p.0 = event-spelled ds _ _ _ row p.0 (at_line_ok n (event_line ds es row) p.0 p.1) in
-    let more = events-spelled ds (next ∷ rows) (es ++ p.0 ∷ []) (n + 1) out p.2 in
+events-spelled numbered ds [] es n out e = absurd cc
+events-spelled numbered ds (row ∷ []) es n out e = last-spelled numbered ds n es row out e
+events-spelled numbered ds (row ∷ next ∷ rows) es n out e =
+    let p = bind_ok (at_line n (event_line numbered ds es row)) (λ x. events_of numbered ds (es ++ x ∷ []) (n + 1) (next ∷ rows)) out e in
+    let line : row ≡ event_text numbered ds p.0 = event-spelled numbered ds _ _ _ row p.0 (at_line_ok n (event_line numbered ds es row) p.0 p.1) in
+    let more = events-spelled numbered ds (next ∷ rows) (es ++ p.0 ∷ []) (n + 1) out p.2 in
     record {
       news = p.0 ∷ more.news;
       whole = one_more es p.0 more.news out more.whole;
-      spelled = ap (λ (r : List (List ℕ)). r ∷ next ∷ rows) line ∙ ap (λ (rs : List (List (List ℕ))). event_text ds p.0 ∷ rs) more.spelled;
+      spelled = ap (λ (r : List (List ℕ)). r ∷ next ∷ rows) line ∙ ap (λ (rs : List (List (List ℕ))). event_text numbered ds p.0 ∷ rs) more.spelled;
     }
 
 -- these declarations were read behind ds, up to `run`
@@ -123,13 +123,11 @@ head_line-spelled {A} word read n rows out e =
     subst (λ (o : A × List (List (List ℕ))). IsHeadLine word read rows o) (ok_is (q.0, p.0.1) out q.2)
     (record { field = p.0.0; value = at_line_ok n (read p.0.0) q.0 q.1; spelled = head_field-spelled word n rows p.0 p.1 })
 
-version-spelled : (rows : List (List (List ℕ))) (out : ℕ × List (List (List ℕ))) → version_line rows ≡ Ok out → rows ≡ (codes "mip" ∷ codes "1" ∷ []) ∷ out.1
+version-spelled : (rows : List (List (List ℕ))) (out : ℕ × List (List (List ℕ))) → version_line 2 rows ≡ Ok out → rows ≡ (codes "mip" ∷ decimal out.0 ∷ []) ∷ out.1
 unfolding version_line
 version-spelled rows out e =
-    let h = head_line-spelled (codes "mip") (kinds.number 1 1) 1 rows out e in
-    let within = number-within 1 1 h.field out.0 h.value in
-    let one : out.0 ≡ 1 = omega arith in
-    h.spelled ∙ ap (λ (f : List ℕ). (codes "mip" ∷ f ∷ []) ∷ out.1) (number-spells 1 1 h.field out.0 h.value ∙ ap decimal one ∙ decimal_digit 1 (omega arith))
+    let h = head_line-spelled (codes "mip") (kinds.number 1 2) 1 rows out e in
+    h.spelled ∙ ap (λ (f : List ℕ). (codes "mip" ∷ f ∷ []) ∷ out.1) (number-spells 1 2 h.field out.0 h.value)
 
 seed-spelled : (rows : List (List (List ℕ))) (out : List ℕ × List (List (List ℕ))) → seed_line rows ≡ Ok out → rows ≡ (codes "seed" ∷ hex_of out.0 ∷ []) ∷ out.1
 unfolding seed_line
@@ -143,17 +141,17 @@ start-spelled rows out e =
     let h = head_line-spelled (codes "start") (kinds.number 0 1099511627776) 3 rows out e in
     h.spelled ∙ ap (λ (f : List ℕ). (codes "start" ∷ f ∷ []) ∷ out.1) (number-spells 0 1099511627776 h.field out.0 h.value)
 
-head-spelled : (rows : List (List (List ℕ))) (h : Head) → head_of rows ≡ Ok h → rows ≡ head_rows h.seed h.start ++ h.rows
+head-spelled : (rows : List (List (List ℕ))) (h : Head) → head_of rows ≡ Ok h → rows ≡ head_rows h.version h.seed h.start ++ h.rows
 unfolding head_of
 head-spelled rows h e =
-    let v = bind_ok (version_line rows) (λ version. seed_line version.1 >>= (λ seed. start_line seed.1 >>= (λ start. Ok (record { seed = seed.0; start = record { 0 = start.0 }; rows = start.1 })))) h e in
-    let s = bind_ok (seed_line v.0.1) (λ seed. start_line seed.1 >>= (λ start. Ok (record { seed = seed.0; start = record { 0 = start.0 }; rows = start.1 }))) h v.2 in
-    let t = bind_ok (start_line s.0.1) (λ start. Ok (record { seed = s.0.0; start = record { 0 = start.0 }; rows = start.1 })) h s.2 in
-    let is : rows ≡ head_rows s.0.0 (record { 0 = t.0.0 }) ++ t.0.1 =
+    let v = bind_ok (version_line 2 rows) (λ version. seed_line version.1 >>= (λ seed. start_line seed.1 >>= (λ start. Ok (record { version = version.0; seed = seed.0; start = record { 0 = start.0 }; rows = start.1 })))) h e in
+    let s = bind_ok (seed_line v.0.1) (λ seed. start_line seed.1 >>= (λ start. Ok (record { version = v.0.0; seed = seed.0; start = record { 0 = start.0 }; rows = start.1 }))) h v.2 in
+    let t = bind_ok (start_line s.0.1) (λ start. Ok (record { version = v.0.0; seed = s.0.0; start = record { 0 = start.0 }; rows = start.1 })) h s.2 in
+    let is : rows ≡ head_rows v.0.0 s.0.0 (record { 0 = t.0.0 }) ++ t.0.1 =
     version-spelled rows v.0 v.1
-    ∙ ap (λ (r : List (List (List ℕ))). (codes "mip" ∷ codes "1" ∷ []) ∷ r) (seed-spelled v.0.1 s.0 s.1)
-    ∙ ap (λ (r : List (List (List ℕ))). (codes "mip" ∷ codes "1" ∷ []) ∷ (codes "seed" ∷ hex_of s.0.0 ∷ []) ∷ r) (start-spelled s.0.1 t.0 t.1) in
-    subst (λ (x : Head). rows ≡ head_rows x.seed x.start ++ x.rows) (ok_is (record { seed = s.0.0; start = record { 0 = t.0.0 }; rows = t.0.1 }) h t.2) is
+    ∙ ap (λ (r : List (List (List ℕ))). (codes "mip" ∷ decimal v.0.0 ∷ []) ∷ r) (seed-spelled v.0.1 s.0 s.1)
+    ∙ ap (λ (r : List (List (List ℕ))). (codes "mip" ∷ decimal v.0.0 ∷ []) ∷ (codes "seed" ∷ hex_of s.0.0 ∷ []) ∷ r) (start-spelled s.0.1 t.0 t.1) in
+    subst (λ (x : Head). rows ≡ head_rows x.version x.seed x.start ++ x.rows) (ok_is (record { version = v.0.0; seed = s.0.0; start = record { 0 = t.0.0 }; rows = t.0.1 }) h t.2) is
 
 -- the start is within its bound
 start_bound : (rows : List (List (List ℕ))) (out : ℕ × List (List (List ℕ))) → start_line rows ≡ Ok out → out.0 ≤ 1099511627776
@@ -162,27 +160,39 @@ start_bound rows out e =
     let h = head_line-spelled (codes "start") (kinds.number 0 1099511627776) 3 rows out e in
     (number-within 0 1099511627776 h.field out.0 h.value).1
 
-pub start_within : (rows : List (List (List ℕ))) (h : Head) → head_of rows ≡ Ok h → h.start.0 ≤ 2 ^ 40
+version_bound : (rows : List (List (List ℕ))) (out : ℕ × List (List (List ℕ))) → version_line 2 rows ≡ Ok out → (1 ≤ out.0) × (out.0 ≤ 2)
+unfolding version_line
+version_bound rows out e =
+    let h = head_line-spelled (codes "mip") (kinds.number 1 2) 1 rows out e in
+    number-within 1 2 h.field out.0 h.value
+
+-- the version and the start of a text that is read
+pub record IsHeadWithin (h : Head) : Type 0 where
+  pub version : (1 ≤ h.version) × (h.version ≤ 2)
+  pub start : h.start.0 ≤ 2 ^ 40
+
+pub head_within : (rows : List (List (List ℕ))) (h : Head) → head_of rows ≡ Ok h → IsHeadWithin h
 unfolding head_of
-start_within rows h e =
-    let v = bind_ok (version_line rows) (λ version. seed_line version.1 >>= (λ seed. start_line seed.1 >>= (λ start. Ok (record { seed = seed.0; start = record { 0 = start.0 }; rows = start.1 })))) h e in
-    let s = bind_ok (seed_line v.0.1) (λ seed. start_line seed.1 >>= (λ start. Ok (record { seed = seed.0; start = record { 0 = start.0 }; rows = start.1 }))) h v.2 in
-    let t = bind_ok (start_line s.0.1) (λ start. Ok (record { seed = s.0.0; start = record { 0 = start.0 }; rows = start.1 })) h s.2 in
-    subst (λ (x : Head). x.start.0 ≤ 2 ^ 40) (ok_is (record { seed = s.0.0; start = record { 0 = t.0.0 }; rows = t.0.1 }) h t.2) (start_bound s.0.1 t.0 t.1)
+head_within rows h e =
+    let v = bind_ok (version_line 2 rows) (λ version. seed_line version.1 >>= (λ seed. start_line seed.1 >>= (λ start. Ok (record { version = version.0; seed = seed.0; start = record { 0 = start.0 }; rows = start.1 })))) h e in
+    let s = bind_ok (seed_line v.0.1) (λ seed. start_line seed.1 >>= (λ start. Ok (record { version = v.0.0; seed = seed.0; start = record { 0 = start.0 }; rows = start.1 }))) h v.2 in
+    let t = bind_ok (start_line s.0.1) (λ start. Ok (record { version = v.0.0; seed = s.0.0; start = record { 0 = start.0 }; rows = start.1 })) h s.2 in
+    subst IsHeadWithin (ok_is (record { version = v.0.0; seed = s.0.0; start = record { 0 = t.0.0 }; rows = t.0.1 }) h t.2)
+    (record { version = version_bound rows v.0 v.1; start = start_bound s.0.1 t.0 t.1 })
 
 -- a text that is read as a schedule has the schedule's rows
 rows-spelled : (text : List ℕ) (s : Content) → reading text ≡ Ok s → rows_of text ≡ schedule_rows s ++ end_row ∷ []
 unfolding reading
 rows-spelled text s e =
-    let h = bind_ok (head_of (rows_of text)) (λ head. declarations_of [] 4 head.rows >>= (λ declared. events_of declared.declarations [] declared.line declared.rows >>= (λ events. Ok (record { seed = head.seed; start = head.start; declarations = declared.declarations; events = events })))) s e in
-    let d = bind_ok (declarations_of [] 4 h.0.rows) (λ declared. events_of declared.declarations [] declared.line declared.rows >>= (λ events. Ok (record { seed = h.0.seed; start = h.0.start; declarations = declared.declarations; events = events }))) s h.2 in
-    let es = bind_ok (events_of d.0.declarations [] d.0.line d.0.rows) (λ events. Ok (record { seed = h.0.seed; start = h.0.start; declarations = d.0.declarations; events = events })) s d.2 in
+    let h = bind_ok (head_of (rows_of text)) (λ head. declarations_of [] 4 head.rows >>= (λ declared. events_of (is_numbered head.version) declared.declarations [] declared.line declared.rows >>= (λ events. Ok (record { version = head.version; seed = head.seed; start = head.start; declarations = declared.declarations; events = events })))) s e in
+    let d = bind_ok (declarations_of [] 4 h.0.rows) (λ declared. events_of (is_numbered h.0.version) declared.declarations [] declared.line declared.rows >>= (λ events. Ok (record { version = h.0.version; seed = h.0.seed; start = h.0.start; declarations = declared.declarations; events = events }))) s h.2 in
+    let es = bind_ok (events_of (is_numbered h.0.version) d.0.declarations [] d.0.line d.0.rows) (λ events. Ok (record { version = h.0.version; seed = h.0.seed; start = h.0.start; declarations = d.0.declarations; events = events })) s d.2 in
     let head = head-spelled (rows_of text) h.0 h.1 in
     let declared = declarations-spelled h.0.rows [] 4 d.0 d.1 in
-    let events = events-spelled d.0.declarations d.0.rows [] d.0.line es.0 es.1 in
+    let events = events-spelled (is_numbered h.0.version) d.0.declarations d.0.rows [] d.0.line es.0 es.1 in
     subst (λ (x : Content). rows_of text ≡ schedule_rows x ++ end_row ∷ []) (ok_is _ s es.2)
-    (joined (rows_of text) (head_rows h.0.seed h.0.start) h.0.rows (declaration_rows [] declared.news) (declaration_rows [] d.0.declarations) d.0.rows (map (event_text d.0.declarations) events.news) (map (event_text d.0.declarations) es.0)
-    head declared.spelled events.spelled (ap (declaration_rows []) (sym declared.whole)) (ap (map (event_text d.0.declarations)) (sym events.whole)))
+    (joined (rows_of text) (head_rows h.0.version h.0.seed h.0.start) h.0.rows (declaration_rows [] declared.news) (declaration_rows [] d.0.declarations) d.0.rows (map (event_text (is_numbered h.0.version) d.0.declarations) events.news) (map (event_text (is_numbered h.0.version) d.0.declarations) es.0)
+    head declared.spelled events.spelled (ap (declaration_rows []) (sym declared.whole)) (ap (map (event_text (is_numbered h.0.version) d.0.declarations)) (sym events.whole)))
   where
     joined : (all front behind ds ds2 last es es2 : List (List (List ℕ))) → all ≡ front ++ behind → behind ≡ ds ++ run_row ∷ last → last ≡ es ++ end_row ∷ [] → ds ≡ ds2 → es ≡ es2
         → all ≡ (front ++ (ds2 ++ run_row ∷ es2)) ++ end_row ∷ []

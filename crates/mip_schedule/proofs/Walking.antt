@@ -61,19 +61,19 @@ pub head_end : (word : List ℕ) (n : ℕ) (text : List ℕ) → parts 10 text �
 unfolding head_field
 head_end word n text e = ap (head_field word n) (rows_end text e)
 
-pub events_step : (ds : List Declaration) (es : List Event) (n : ℕ) (text row more : List ℕ) → parts 10 text ≡ row ∷ parts 10 more
-    → events_of ds es n (rows_of text) ≡ (at_line n (event_line ds es (fields_of row)) >>= (λ e. events_of ds (es ++ e ∷ []) (n + 1) (rows_of more)))
+pub events_step : (numbered : Bool) (ds : List Declaration) (es : List Event) (n : ℕ) (text row more : List ℕ) → parts 10 text ≡ row ∷ parts 10 more
+    → events_of numbered ds es n (rows_of text) ≡ (at_line n (event_line numbered ds es (fields_of row)) >>= (λ e. events_of numbered ds (es ++ e ∷ []) (n + 1) (rows_of more)))
 unfolding events_of
-events_step ds es n text row more e =
+events_step numbered ds es n text row more e =
     let s = some_row more in
-    ap (events_of ds es n) (rows_step text row more e)
-    ∙ subst (λ (rows : List (List (List ℕ))). events_of ds es n (fields_of row ∷ rows) ≡ (at_line n (event_line ds es (fields_of row)) >>= (λ e. events_of ds (es ++ e ∷ []) (n + 1) rows))) (sym s.2) refl
+    ap (events_of numbered ds es n) (rows_step text row more e)
+    ∙ subst (λ (rows : List (List (List ℕ))). events_of numbered ds es n (fields_of row ∷ rows) ≡ (at_line n (event_line numbered ds es (fields_of row)) >>= (λ e. events_of numbered ds (es ++ e ∷ []) (n + 1) rows))) (sym s.2) refl
 
 -- the same with the sums of the events so far
-pub timed_step : (ds : List Declaration) (es : List Event) (count waits carries n : ℕ) (text row more : List ℕ) (whole : Result (List Event) Wrong)
-    → count ≡ length es → waits ≡ waited es → carries ≡ carried es → parts 10 text ≡ row ∷ parts 10 more → events_of ds es n (rows_of text) ≡ whole
-    → whole ≡ (at_line n (timed_line ds count waits carries (fields_of row)) >>= (λ e. events_of ds (es ++ e ∷ []) (n + 1) (rows_of more)))
-timed_step ds es count waits carries n text row more whole ec ew ek e so_far = rw (ec, ew, ek) (sym so_far ∙ events_step ds es n text row more e)
+pub timed_step : (numbered : Bool) (ds : List Declaration) (es : List Event) (count waits carries n : ℕ) (text row more : List ℕ) (whole : Result (List Event) Wrong)
+    → count ≡ length es → waits ≡ waited es → carries ≡ carried es → parts 10 text ≡ row ∷ parts 10 more → events_of numbered ds es n (rows_of text) ≡ whole
+    → whole ≡ (at_line n (timed_line numbered ds count waits carries (fields_of row)) >>= (λ e. events_of numbered ds (es ++ e ∷ []) (n + 1) (rows_of more)))
+timed_step numbered ds es count waits carries n text row more whole ec ew ek e so_far = rw (ec, ew, ek) (sym so_far ∙ events_step numbered ds es n text row more e)
 
 pub waited_more : (es : List Event) (e : Event) → waited (es ++ e ∷ []) ≡ waited es + wait_of e
 unfolding waited
@@ -86,9 +86,9 @@ carried_more es e = sum_by-append carry_of es (e ∷ []) ∙ ap (λ (n : ℕ). s
 pub not_zero : (n : ℕ) → (n == 0) ≡ false → 0 < n
 not_zero n e = grind (arith, eqb-false)
 
-pub events_end : (ds : List Declaration) (es : List Event) (n : ℕ) (text : List ℕ) → parts 10 text ≡ text ∷ [] → events_of ds es n (rows_of text) ≡ last_row n es (fields_of text)
+pub events_end : (numbered : Bool) (ds : List Declaration) (es : List Event) (n : ℕ) (text : List ℕ) → parts 10 text ≡ text ∷ [] → events_of numbered ds es n (rows_of text) ≡ last_row n es (fields_of text)
 unfolding events_of
-events_end ds es n text e = ap (events_of ds es n) (rows_end text e)
+events_end numbered ds es n text e = ap (events_of numbered ds es n) (rows_end text e)
 
 -- nothing behind the last line end
 pub last_empty : (n : ℕ) (es : List Event) (text : List ℕ) → length text ≡ 0 → last_row n es (fields_of text) ≡ Ok es

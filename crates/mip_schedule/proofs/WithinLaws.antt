@@ -1,7 +1,7 @@
 -- An event that is read names what is declared and routable addresses, and its numbers and bytes stay within their
 -- bounds.
-use Rattle.std.proofs.Common.{◌≡◌, ℕ, ◌<◌, ◌≤◌, List, [], ◌∷◌, length, sym, ◌∙◌, subst}
-use Rattle.std.specs.Prelude.{Option, Some, None, Result, Ok, codes, ⊤}
+use Rattle.std.proofs.Common.{◌≡◌, ℕ, ◌<◌, ◌≤◌, List, [], ◌∷◌, length, sym, ◌∙◌, subst, arith}
+use Rattle.std.specs.Prelude.{Bool, true, false, Option, Some, None, Result, Ok, codes, ⊤}
 use Rattle.std.specs.Str.{bytes_eq}
 use Rattle.std.proofs.lemmas.Bool.{cond_both}
 use Rattle.mip_words.specs.Addresses.{is_routable}
@@ -13,13 +13,14 @@ use Rattle.mip_words.proofs.StepLaws.{bind_ok, ok_is}
 use Rattle.mip_lines.specs.HexFields.{address_in}
 use Rattle.mip_lines.specs.Rows.{row1, row2, row3, row4, row6}
 use Rattle.mip_lines.proofs.HexFieldLaws.{hex_field-spelled}
-use Rattle.mip_schedule.specs.BindParts.{bind_ends, bind_numbers}
-use Rattle.mip_schedule.specs.EventRows.{update_ends, wait_row, move_row, advertise_row, data_row, inject_row, probe_row, bind_row, tell_row, listen_row, deaf_row, squat_row, yield_row, carry_row, restart_row, refresh_row, plan_row, ask_row, show_row, settle_row, node_fields, packet_fields, outsider_fields, event_fields}
+use Rattle.mip_schedule.specs.BindParts.{bind_ends, bind_numbers, number_named}
+use Rattle.mip_schedule.specs.EventRows.{update_ends, wait_row, move_row, advertise_row, data_row, inject_row, probe_row, plain_bind_row, numbered_bind_row, tell_row, listen_row, deaf_row, squat_row, yield_row, carry_row, restart_row, refresh_row, plan_row, ask_row, show_row, settle_row, node_fields, packet_fields, outsider_fields, event_fields}
 use Rattle.mip_declared.specs.Kinds as kinds
 use Rattle.mip_declared.specs.Kinds.{to_host, address, bytes, place, link, node, outsider, some_link}
 use Rattle.mip_schedule.specs.Lawful.{IsLink, IsNode, IsOutsider, IsLinkIfAny, IsHost, IsWithin}
 use Rattle.mip_declared.specs.Places.{members}
 use Rattle.mip_schedule.specs.Spelling.{event_text}
+use Rattle.mip_schedule.specs.Versions.{numbers_in}
 use Rattle.mip_declared.specs.declared.declaration.Declaration.{Declaration}
 use Rattle.mip_schedule.specs.declared.update_ends.UpdateEnds.{UpdateEnds}
 use Rattle.mip_schedule.specs.declared.event.Event.{Event}
@@ -28,7 +29,7 @@ use Rattle.mip_declared.specs.declared.places.Sort.{Sort}
 use Rattle.mip_declared.specs.declared.places.Sort.TheVariants as sorts
 use Rattle.mip_declared.specs.declared.reason.Reason.{Reason}
 use Rattle.mip_declared.specs.declared.reason.Reason.TheVariants as reasons
-use Rattle.mip_schedule.proofs.BindLaws.{bind_split}
+use Rattle.mip_schedule.proofs.BindLaws.{plain_split, numbered_split}
 use Rattle.mip_declared.proofs.KindLaws.{number-within, option_is}
 use Rattle.mip_declared.proofs.PlaceLaws.{place_within}
 
@@ -147,6 +148,18 @@ row4-keeps e P {k2 = k2} {k3 = k3} {k4 = k4} {to = to} s1 s2 s3 s4 whole c1 c2 c
     kept s1 c1 (λ a1. k2 c2 >>= (λ a2. k3 c3 >>= (λ a3. k4 c4 >>= (λ a4. Ok (to a1 a2 a3 a4))))) x (P x) is (λ a1 q1 is1.
     row3-keeps e P s2 s3 s4 (λ a2 a3 a4 q2 q3 q4. whole a1 a2 a3 a4 q1 q2 q3 q4) c2 c3 c4 x is1)
 
+row5-keeps : {A1 A2 A3 A4 A5 X : Type 0} (P : X → Type 0)
+    {k1 : List ℕ → Result A1 Reason} {Q1 : A1 → Type 0} {k2 : List ℕ → Result A2 Reason} {Q2 : A2 → Type 0}
+    {k3 : List ℕ → Result A3 Reason} {Q3 : A3 → Type 0} {k4 : List ℕ → Result A4 Reason} {Q4 : A4 → Type 0}
+    {k5 : List ℕ → Result A5 Reason} {Q5 : A5 → Type 0}
+    {to : A1 → A2 → A3 → A4 → A5 → X}
+    → Keeps k1 Q1 → Keeps k2 Q2 → Keeps k3 Q3 → Keeps k4 Q4 → Keeps k5 Q5
+    → ((a1 : A1) (a2 : A2) (a3 : A3) (a4 : A4) (a5 : A5) → Q1 a1 → Q2 a2 → Q3 a3 → Q4 a4 → Q5 a5 → P (to a1 a2 a3 a4 a5))
+    → (c1 c2 c3 c4 c5 : List ℕ) (x : X) → (k1 c1 >>= (λ a1. k2 c2 >>= (λ a2. k3 c3 >>= (λ a3. k4 c4 >>= (λ a4. k5 c5 >>= (λ a5. Ok (to a1 a2 a3 a4 a5))))))) ≡ Ok x → P x
+row5-keeps P {k2 = k2} {k3 = k3} {k4 = k4} {k5 = k5} {to = to} s1 s2 s3 s4 s5 whole c1 c2 c3 c4 c5 x is =
+    kept s1 c1 (λ a1. k2 c2 >>= (λ a2. k3 c3 >>= (λ a3. k4 c4 >>= (λ a4. k5 c5 >>= (λ a5. Ok (to a1 a2 a3 a4 a5)))))) x (P x) is (λ a1 q1 is1.
+    row4-keeps reasons.Form P s2 s3 s4 s5 (λ a2 a3 a4 a5 q2 q3 q4 q5. whole a1 a2 a3 a4 a5 q1 q2 q3 q4 q5) c2 c3 c4 c5 x is1)
+
 row6-keeps : {A1 A2 A3 A4 A5 A6 X : Type 0} (e : Reason) (P : X → Type 0)
     {k1 : List ℕ → Result A1 Reason} {Q1 : A1 → Type 0} {k2 : List ℕ → Result A2 Reason} {Q2 : A2 → Type 0}
     {k3 : List ℕ → Result A3 Reason} {Q3 : A3 → Type 0} {k4 : List ℕ → Result A4 Reason} {Q4 : A4 → Type 0}
@@ -161,119 +174,132 @@ row6-keeps e P {k2 = k2} {k3 = k3} {k4 = k4} {k5 = k5} {k6 = k6} {to = to} s1 s2
     row4-keeps e P s3 s4 s5 s6 (λ a3 a4 a5 a6 q3 q4 q5 q6. whole a1 a2 a3 a4 a5 a6 q1 q2 q3 q4 q5 q6) c3 c4 c5 c6 x is2))
 
 -- lines of events
-abbrev Within : List Declaration → List (List ℕ) → (List (List ℕ) → Result Event Reason) → Type 0
-Within ds fields row = (x : Event) → row fields ≡ Ok x → IsWithin ds x
+abbrev Within : Bool → List Declaration → List (List ℕ) → (List (List ℕ) → Result Event Reason) → Type 0
+Within numbered ds fields row = (x : Event) → row fields ≡ Ok x → IsWithin numbered ds x
 
 -- the ends of an update are routable
 abbrev AreHosts : UpdateEnds → Type 0
 AreHosts e = IsHost e.source × IsHost e.peer × IsHost e.home × IsHost e.careof
 
-module _ (ds : List Declaration) where
-  wait-within : (f : List ℕ) → Within ds (f ∷ []) (wait_row ds)
+module _ (numbered : Bool) (ds : List Declaration) where
+  wait-within : (f : List ℕ) → Within numbered ds (f ∷ []) (wait_row ds)
   unfolding wait_row
-  wait-within = row1-keeps reasons.Form (IsWithin ds) (most-keeps 1 600000) (λ a q. q)
+  wait-within = row1-keeps reasons.Form (IsWithin numbered ds) (most-keeps 1 600000) (λ a q. q)
 
-  move-within : (f g : List ℕ) → Within ds (f ∷ g ∷ []) (move_row ds)
+  move-within : (f g : List ℕ) → Within numbered ds (f ∷ g ∷ []) (move_row ds)
   unfolding move_row
-  move-within = row2-keeps reasons.Form (IsWithin ds) (mobile-keeps ds) (some_link-keeps ds) (λ a b p q. (p, q))
+  move-within = row2-keeps reasons.Form (IsWithin numbered ds) (mobile-keeps ds) (some_link-keeps ds) (λ a b p q. (p, q))
 
-  advertise-within : (f : List ℕ) → Within ds (f ∷ []) (advertise_row ds)
+  advertise-within : (f : List ℕ) → Within numbered ds (f ∷ []) (advertise_row ds)
   unfolding advertise_row
-  advertise-within = row1-keeps reasons.Form (IsWithin ds) (link-keeps ds) (λ a q. q)
+  advertise-within = row1-keeps reasons.Form (IsWithin numbered ds) (link-keeps ds) (λ a q. q)
 
-  data-within : (f g h i : List ℕ) → Within ds (f ∷ g ∷ h ∷ i ∷ []) (data_row ds)
+  data-within : (f g h i : List ℕ) → Within numbered ds (f ∷ g ∷ h ∷ i ∷ []) (data_row ds)
   unfolding data_row
-  data-within = row4-keeps reasons.Form (IsWithin ds) (sender-keeps ds) address-keeps (any-keeps (kinds.number 0 255)) (bytes-keeps 512) (λ a b c d p q r s. (p, q, s))
+  data-within = row4-keeps reasons.Form (IsWithin numbered ds) (sender-keeps ds) address-keeps (any-keeps (kinds.number 0 255)) (bytes-keeps 512) (λ a b c d p q r s. (p, q, s))
 
-  inject-within : (f g h : List ℕ) → Within ds (f ∷ g ∷ h ∷ []) (inject_row ds)
+  inject-within : (f g h : List ℕ) → Within numbered ds (f ∷ g ∷ h ∷ []) (inject_row ds)
   unfolding inject_row
-  inject-within = row3-keeps reasons.Form (IsWithin ds) (outsider-keeps ds) (link-keeps ds) (bytes-keeps 2048) (λ a b c p q r. (p, q, r))
+  inject-within = row3-keeps reasons.Form (IsWithin numbered ds) (outsider-keeps ds) (link-keeps ds) (bytes-keeps 2048) (λ a b c p q r. (p, q, r))
 
-  probe-within : (f g h i j k : List ℕ) → Within ds (f ∷ g ∷ h ∷ i ∷ j ∷ k ∷ []) (probe_row ds)
+  probe-within : (f g h i j k : List ℕ) → Within numbered ds (f ∷ g ∷ h ∷ i ∷ j ∷ k ∷ []) (probe_row ds)
   unfolding probe_row
-  probe-within = row6-keeps reasons.Form (IsWithin ds) (outsider-keeps ds) (link-keeps ds) (any-keeps kinds.careof) address-keeps address-keeps (any-keeps kinds.cookie) (λ a b c d e f p q r s t u. (p, q, s, t))
+  probe-within = row6-keeps reasons.Form (IsWithin numbered ds) (outsider-keeps ds) (link-keeps ds) (any-keeps kinds.careof) address-keeps address-keeps (any-keeps kinds.cookie) (λ a b c d e f p q r s t u. (p, q, s, t))
 
-  bind-within : (c1 c2 c3 c4 c5 c6 c7 c8 c9 c10 : List ℕ) → Within ds (c1 ∷ c2 ∷ c3 ∷ c4 ∷ c5 ∷ c6 ∷ c7 ∷ c8 ∷ c9 ∷ c10 ∷ []) (bind_row ds)
+  -- the parts of an update
+  update-within : (c1 c2 c3 c4 c5 c6 c7 c8 c9 c10 : List ℕ) (named : Option (List ℕ)) → Keeps (λ _. number_named named) (λ n. n < numbers_in numbered)
+      → (x : Event) → (kinds.outsider ds c1 >>= (λ o. kinds.link ds c2 >>= (λ l. bind_ends c3 c4 c5 c6 >>= (λ n. bind_numbers o l n c7 c8 c9 c10 named)))) ≡ Ok x
+      → IsWithin numbered ds x
   unfolding bind_ends bind_numbers
-  bind-within c1 c2 c3 c4 c5 c6 c7 c8 c9 c10 x e =
-      let o = bind_ok (kinds.outsider ds c1) (λ o. kinds.link ds c2 >>= (λ l. bind_ends c3 c4 c5 c6 >>= (λ n. bind_numbers o l n c7 c8 c9 c10))) x (sym (bind_split ds c1 c2 c3 c4 c5 c6 c7 c8 c9 c10) ∙ e) in
-      let l = bind_ok (kinds.link ds c2) (λ l. bind_ends c3 c4 c5 c6 >>= (λ n. bind_numbers o.0 l n c7 c8 c9 c10)) x o.2 in
-      let n = bind_ok (bind_ends c3 c4 c5 c6) (λ n. bind_numbers o.0 l.0 n c7 c8 c9 c10) x l.2 in
+  update-within c1 c2 c3 c4 c5 c6 c7 c8 c9 c10 named few x e =
+      let o = bind_ok (kinds.outsider ds c1) (λ o. kinds.link ds c2 >>= (λ l. bind_ends c3 c4 c5 c6 >>= (λ n. bind_numbers o l n c7 c8 c9 c10 named))) x e in
+      let l = bind_ok (kinds.link ds c2) (λ l. bind_ends c3 c4 c5 c6 >>= (λ n. bind_numbers o.0 l n c7 c8 c9 c10 named)) x o.2 in
+      let n = bind_ok (bind_ends c3 c4 c5 c6) (λ n. bind_numbers o.0 l.0 n c7 c8 c9 c10 named) x l.2 in
       let are : AreHosts n.0 = row4-keeps reasons.Form AreHosts {to = update_ends} address-keeps address-keeps address-keeps address-keeps (λ s p h c q1 q2 q3 q4. (q1, q2, q3, q4)) c3 c4 c5 c6 n.0 n.1 in
-      row4-keeps reasons.Form (IsWithin ds) {to = λ q t k j. events.Bind o.0 l.0 n.0 q t k j}
-      (any-keeps (kinds.number 0 65535)) (any-keeps (kinds.number 0 65535)) (any-keeps (kinds.number 0 4294967295)) (any-keeps kinds.some_packet)
-      (λ q t k j _ _ _ _. (outsider-keeps ds c1 o.0 o.1, link-keeps ds c2 l.0 l.1, are.0, are.1, are.2, are.3)) c7 c8 c9 c10 x n.2
+      row5-keeps (IsWithin numbered ds) {to = λ q t k j m. events.Bind o.0 l.0 n.0 q t k j m}
+      (any-keeps (kinds.number 0 65535)) (any-keeps (kinds.number 0 65535)) (any-keeps (kinds.number 0 4294967295)) (any-keeps kinds.some_packet) few
+      (λ q t k j m _ _ _ _ small. (outsider-keeps ds c1 o.0 o.1, link-keeps ds c2 l.0 l.1, are.0, are.1, are.2, are.3, small)) c7 c8 c9 c10 [] x n.2
 
-  tell-within : (f g h i : List ℕ) → Within ds (f ∷ g ∷ h ∷ i ∷ []) (tell_row ds)
+  tell-within : (f g h i : List ℕ) → Within numbered ds (f ∷ g ∷ h ∷ i ∷ []) (tell_row ds)
   unfolding tell_row
-  tell-within = row4-keeps reasons.Form (IsWithin ds) (outsider-keeps ds) (link-keeps ds) (any-keeps (kinds.number 0 4294967295)) (any-keeps (kinds.number 0 4294967295)) (λ a b c d p q r s. (p, q))
+  tell-within = row4-keeps reasons.Form (IsWithin numbered ds) (outsider-keeps ds) (link-keeps ds) (any-keeps (kinds.number 0 4294967295)) (any-keeps (kinds.number 0 4294967295)) (λ a b c d p q r s. (p, q))
 
-  listen-within : (f g : List ℕ) → Within ds (f ∷ g ∷ []) (listen_row ds)
+  listen-within : (f g : List ℕ) → Within numbered ds (f ∷ g ∷ []) (listen_row ds)
   unfolding listen_row
-  listen-within = row2-keeps reasons.Form (IsWithin ds) (outsider-keeps ds) (link-keeps ds) (λ a b p q. (p, q))
+  listen-within = row2-keeps reasons.Form (IsWithin numbered ds) (outsider-keeps ds) (link-keeps ds) (λ a b p q. (p, q))
 
-  deaf-within : (f g : List ℕ) → Within ds (f ∷ g ∷ []) (deaf_row ds)
+  deaf-within : (f g : List ℕ) → Within numbered ds (f ∷ g ∷ []) (deaf_row ds)
   unfolding deaf_row
-  deaf-within = row2-keeps reasons.Form (IsWithin ds) (outsider-keeps ds) (link-keeps ds) (λ a b p q. (p, q))
+  deaf-within = row2-keeps reasons.Form (IsWithin numbered ds) (outsider-keeps ds) (link-keeps ds) (λ a b p q. (p, q))
 
-  squat-within : (f g : List ℕ) → Within ds (f ∷ g ∷ []) (squat_row ds)
+  squat-within : (f g : List ℕ) → Within numbered ds (f ∷ g ∷ []) (squat_row ds)
   unfolding squat_row
-  squat-within = row2-keeps reasons.Form (IsWithin ds) (outsider-keeps ds) address-keeps (λ a b p q. (p, q))
+  squat-within = row2-keeps reasons.Form (IsWithin numbered ds) (outsider-keeps ds) address-keeps (λ a b p q. (p, q))
 
-  yield-within : (f g : List ℕ) → Within ds (f ∷ g ∷ []) (yield_row ds)
+  yield-within : (f g : List ℕ) → Within numbered ds (f ∷ g ∷ []) (yield_row ds)
   unfolding yield_row
-  yield-within = row2-keeps reasons.Form (IsWithin ds) (outsider-keeps ds) address-keeps (λ a b p q. (p, q))
+  yield-within = row2-keeps reasons.Form (IsWithin numbered ds) (outsider-keeps ds) address-keeps (λ a b p q. (p, q))
 
-  carry-within : (f : List ℕ) → Within ds (f ∷ []) (carry_row ds)
+  carry-within : (f : List ℕ) → Within numbered ds (f ∷ []) (carry_row ds)
   unfolding carry_row
-  carry-within = row1-keeps reasons.Form (IsWithin ds) (most-keeps 1 1000) (λ a q. q)
+  carry-within = row1-keeps reasons.Form (IsWithin numbered ds) (most-keeps 1 1000) (λ a q. q)
 
-  restart-within : (f : List ℕ) → Within ds (f ∷ []) (restart_row ds)
+  restart-within : (f : List ℕ) → Within numbered ds (f ∷ []) (restart_row ds)
   unfolding restart_row
-  restart-within = row1-keeps reasons.Form (IsWithin ds) (node-keeps ds) (λ a q. q)
+  restart-within = row1-keeps reasons.Form (IsWithin numbered ds) (node-keeps ds) (λ a q. q)
 
-  refresh-within : (f g : List ℕ) → Within ds (f ∷ g ∷ []) (refresh_row ds)
+  refresh-within : (f g : List ℕ) → Within numbered ds (f ∷ g ∷ []) (refresh_row ds)
   unfolding refresh_row
-  refresh-within = row2-keeps reasons.Form (IsWithin ds) (sender-keeps ds) address-keeps (λ a b p q. (p, q))
+  refresh-within = row2-keeps reasons.Form (IsWithin numbered ds) (sender-keeps ds) address-keeps (λ a b p q. (p, q))
 
-  plan-within : (f g h : List ℕ) → Within ds (f ∷ g ∷ h ∷ []) (plan_row ds)
+  plan-within : (f g h : List ℕ) → Within numbered ds (f ∷ g ∷ h ∷ []) (plan_row ds)
   unfolding plan_row
-  plan-within = row3-keeps reasons.Form (IsWithin ds) (agent-keeps ds) (any-keeps (kinds.number 0 4294967295)) (any-keeps (kinds.number 0 4294967295)) (λ a b c p q r. p)
+  plan-within = row3-keeps reasons.Form (IsWithin numbered ds) (agent-keeps ds) (any-keeps (kinds.number 0 4294967295)) (any-keeps (kinds.number 0 4294967295)) (λ a b c p q r. p)
 
-  ask-within : (f : List ℕ) → Within ds (f ∷ []) (ask_row ds)
+  ask-within : (f : List ℕ) → Within numbered ds (f ∷ []) (ask_row ds)
   unfolding ask_row
-  ask-within = row1-keeps reasons.Form (IsWithin ds) (mobile-keeps ds) (λ a q. q)
+  ask-within = row1-keeps reasons.Form (IsWithin numbered ds) (mobile-keeps ds) (λ a q. q)
 
-  show-within : (f : List ℕ) → Within ds (f ∷ []) (show_row ds)
+  show-within : (f : List ℕ) → Within numbered ds (f ∷ []) (show_row ds)
   unfolding show_row
-  show-within = row1-keeps reasons.Form (IsWithin ds) (node-keeps ds) (λ a q. q)
+  show-within = row1-keeps reasons.Form (IsWithin numbered ds) (node-keeps ds) (λ a q. q)
 
-  settle-within : (f g : List ℕ) → Within ds (f ∷ g ∷ []) (settle_row ds)
+  settle-within : (f g : List ℕ) → Within numbered ds (f ∷ g ∷ []) (settle_row ds)
   unfolding settle_row
-  settle-within = row2-keeps reasons.Form (IsWithin ds) (sender-keeps ds) (sender-keeps ds) (λ a b p q. (p, q))
+  settle-within = row2-keeps reasons.Form (IsWithin numbered ds) (sender-keeps ds) (sender-keeps ds) (λ a b p q. (p, q))
+
+plain-within : (ds : List Declaration) (c1 c2 c3 c4 c5 c6 c7 c8 c9 c10 : List ℕ) → Within false ds (c1 ∷ c2 ∷ c3 ∷ c4 ∷ c5 ∷ c6 ∷ c7 ∷ c8 ∷ c9 ∷ c10 ∷ []) (plain_bind_row ds)
+plain-within ds c1 c2 c3 c4 c5 c6 c7 c8 c9 c10 x e =
+    update-within false ds c1 c2 c3 c4 c5 c6 c7 c8 c9 c10 None (λ _ n is. subst (λ (m : ℕ). m < 1) (ok_is 0 n is) (omega arith)) x (sym (plain_split ds c1 c2 c3 c4 c5 c6 c7 c8 c9 c10) ∙ e)
+
+numbered-within : (ds : List Declaration) (c1 c2 c3 c4 c5 c6 c7 c8 c9 c10 c11 : List ℕ)
+    → Within true ds (c1 ∷ c2 ∷ c3 ∷ c4 ∷ c5 ∷ c6 ∷ c7 ∷ c8 ∷ c9 ∷ c10 ∷ c11 ∷ []) (numbered_bind_row ds)
+numbered-within ds c1 c2 c3 c4 c5 c6 c7 c8 c9 c10 c11 x e =
+    update-within true ds c1 c2 c3 c4 c5 c6 c7 c8 c9 c10 (Some c11) (λ _ n is. omega (arith, most-keeps 0 7 c11 n is)) x (sym (numbered_split ds c1 c2 c3 c4 c5 c6 c7 c8 c9 c10 c11) ∙ e)
 
 -- an event whose line is read is within its bounds
-pub event-within : (ds : List Declaration) (x : Event) → event_fields ds (event_text ds x) ≡ Ok x → IsWithin ds x
+pub event-within : (numbered : Bool) (ds : List Declaration) (x : Event) → event_fields numbered ds (event_text numbered ds x) ≡ Ok x → IsWithin numbered ds x
 unfolding event_fields outsider_fields packet_fields node_fields
-event-within ds (events.Wait a) e = wait-within ds _ _ e
-event-within ds (events.Move a b) e = move-within ds _ _ _ e
-event-within ds (events.Advertise a) e = advertise-within ds _ _ e
-event-within ds (events.Payload a b c d) e = data-within ds _ _ _ _ _ e
-event-within ds (events.Inject a b c) e = inject-within ds _ _ _ _ e
-event-within ds (events.Probe a b c d x f) e = probe-within ds _ _ _ _ _ _ _ e
-event-within ds (events.Bind a b c d f g h) e = bind-within ds _ _ _ _ _ _ _ _ _ _ _ e
-event-within ds (events.Tell a b c d) e = tell-within ds _ _ _ _ _ e
-event-within ds (events.Listen a b) e = listen-within ds _ _ _ e
-event-within ds (events.Deaf a b) e = deaf-within ds _ _ _ e
-event-within ds (events.Squat a b) e = squat-within ds _ _ _ e
-event-within ds (events.Yield a b) e = yield-within ds _ _ _ e
-event-within ds (events.Deliver a) e = tt
-event-within ds (events.Repeat a) e = tt
-event-within ds (events.Lose a) e = tt
-event-within ds (events.Carry a) e = carry-within ds _ _ e
-event-within ds (events.Restart a) e = restart-within ds _ _ e
-event-within ds (events.Refresh a b) e = refresh-within ds _ _ _ e
-event-within ds (events.Plan a b c) e = plan-within ds _ _ _ _ e
-event-within ds (events.Ask a) e = ask-within ds _ _ e
-event-within ds (events.Show a) e = show-within ds _ _ e
-event-within ds (events.Settle a b) e = settle-within ds _ _ _ e
+event-within numbered ds (events.Wait a) e = wait-within numbered ds _ _ e
+event-within numbered ds (events.Move a b) e = move-within numbered ds _ _ _ e
+event-within numbered ds (events.Advertise a) e = advertise-within numbered ds _ _ e
+event-within numbered ds (events.Payload a b c d) e = data-within numbered ds _ _ _ _ _ e
+event-within numbered ds (events.Inject a b c) e = inject-within numbered ds _ _ _ _ e
+event-within numbered ds (events.Probe a b c d x f) e = probe-within numbered ds _ _ _ _ _ _ _ e
+event-within true ds (events.Bind a b c d f g h i) e = numbered-within ds _ _ _ _ _ _ _ _ _ _ _ _ e
+event-within false ds (events.Bind a b c d f g h i) e = plain-within ds _ _ _ _ _ _ _ _ _ _ _ e
+event-within numbered ds (events.Tell a b c d) e = tell-within numbered ds _ _ _ _ _ e
+event-within numbered ds (events.Listen a b) e = listen-within numbered ds _ _ _ e
+event-within numbered ds (events.Deaf a b) e = deaf-within numbered ds _ _ _ e
+event-within numbered ds (events.Squat a b) e = squat-within numbered ds _ _ _ e
+event-within numbered ds (events.Yield a b) e = yield-within numbered ds _ _ _ e
+event-within numbered ds (events.Deliver a) e = tt
+event-within numbered ds (events.Repeat a) e = tt
+event-within numbered ds (events.Lose a) e = tt
+event-within numbered ds (events.Carry a) e = carry-within numbered ds _ _ e
+event-within numbered ds (events.Restart a) e = restart-within numbered ds _ _ e
+event-within numbered ds (events.Refresh a b) e = refresh-within numbered ds _ _ _ e
+event-within numbered ds (events.Plan a b c) e = plan-within numbered ds _ _ _ _ e
+event-within numbered ds (events.Ask a) e = ask-within numbered ds _ _ e
+event-within numbered ds (events.Show a) e = show-within numbered ds _ _ e
+event-within numbered ds (events.Settle a b) e = settle-within numbered ds _ _ _ e

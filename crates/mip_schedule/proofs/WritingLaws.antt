@@ -6,6 +6,7 @@ use Rattle.std.proofs.lemmas.List.{append-nil, take_more}
 use Rattle.mip_lines.specs.Lines.{line_text, lines_text}
 use Rattle.mip_schedule.specs.Contents.{Content}
 use Rattle.mip_schedule.specs.Spelling.{declaration_text, declaration_rows, event_text, head_rows, run_row, spelling}
+use Rattle.mip_schedule.specs.Versions.{is_numbered}
 use Rattle.mip_declared.specs.declared.declaration.Declaration.{Declaration}
 
 -- one declaration more
@@ -30,12 +31,12 @@ declaration_more ds i d o out new inside before line =
     ∙ ap (λ (rows : List (List (List ℕ))). o ++ lines_text rows) (sym (rows_more [] (take i ds) (get_or ds i d)) ∙ ap (declaration_rows []) (sym (take_more ds i d inside)))
 
 -- the four parts of a schedule's text
-pub parts_text : (c : Content) → (([] ++ lines_text (head_rows c.seed c.start)) ++ lines_text (declaration_rows [] c.declarations)) ++ line_text run_row ++ lines_text (map (event_text c.declarations) c.events) ≡ spelling c
+pub parts_text : (c : Content) → (([] ++ lines_text (head_rows c.version c.seed c.start)) ++ lines_text (declaration_rows [] c.declarations)) ++ line_text run_row ++ lines_text (map (event_text (is_numbered c.version) c.declarations) c.events) ≡ spelling c
 unfolding spelling
 parts_text c =
-    let head : List (List (List ℕ)) = head_rows c.seed c.start in
+    let head : List (List (List ℕ)) = head_rows c.version c.seed c.start in
     let declared : List (List (List ℕ)) = declaration_rows [] c.declarations in
-    let events : List (List (List ℕ)) = map (event_text c.declarations) c.events in
+    let events : List (List (List ℕ)) = map (event_text (is_numbered c.version) c.declarations) c.events in
     append_assoc (lines_text head ++ lines_text declared) (line_text run_row) (lines_text events)
     ∙ append_assoc (lines_text head) (lines_text declared) (lines_text (run_row ∷ events))
     ∙ ap (λ (t : List ℕ). lines_text head ++ t) (sym (flat_map-append line_text declared (run_row ∷ events)))

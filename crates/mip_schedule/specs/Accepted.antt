@@ -12,7 +12,7 @@ is_read (Err wrong) = false
 -- what was read
 abbrev pub held : Result Content Wrong → Content
 held (Ok content) = content
-held (Err wrong) = record { seed = []; start = record { 0 = 0 }; declarations = []; events = [] }
+held (Err wrong) = record { version = 0; seed = []; start = record { 0 = 0 }; declarations = []; events = [] }
 
 -- what the spelling is read as
 abbrev pub again : Content → Content

@@ -1,9 +1,9 @@
 -- The line of an update that is posted, behind who posts it where, in two parts: its ends and its numbers.
-use Rattle.std.specs.Prelude.{ℕ, List, Result, Ok}
+use Rattle.std.specs.Prelude.{ℕ, List, Option, Some, None, Result, Ok}
 use Rattle.mip_words.specs.Steps.{◌>>=◌}
 use Rattle.mip_words.specs.declared.ids.LinkId.{LinkId}
 use Rattle.mip_schedule.specs.DeclarationRows.{u16}
-use Rattle.mip_schedule.specs.EventRows.{u32, update_ends}
+use Rattle.mip_schedule.specs.EventRows.{u32, binding_number, update_ends}
 use Rattle.mip_declared.specs.Kinds as kinds
 use Rattle.mip_schedule.specs.declared.event.Event.{Event}
 use Rattle.mip_schedule.specs.declared.event.Event.TheVariants as events
@@ -18,10 +18,16 @@ bind_ends source peer home careof = do
   c ← kinds.address careof
   Ok (update_ends s p h c)
 
-unfoldable pub bind_numbers : ℕ → LinkId → UpdateEnds → (sequence lifetime home_test careof_test : List ℕ) → Result Event Reason
-bind_numbers outsider link ends sequence lifetime home_test careof_test = do
+-- the binding number, 0 where no field names it
+abbrev pub number_named : Option (List ℕ) → Result ℕ Reason
+number_named None = Ok 0
+number_named (Some field) = binding_number field
+
+unfoldable pub bind_numbers : ℕ → LinkId → UpdateEnds → (sequence lifetime home_test careof_test : List ℕ) → Option (List ℕ) → Result Event Reason
+bind_numbers outsider link ends sequence lifetime home_test careof_test named = do
   q ← u16 sequence
   t ← u16 lifetime
   k ← u32 home_test
   j ← kinds.some_packet careof_test
-  Ok (events.Bind outsider link ends q t k j)
+  n ← number_named named
+  Ok (events.Bind outsider link ends q t k j n)

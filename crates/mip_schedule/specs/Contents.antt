@@ -5,10 +5,11 @@ use Rattle.mip_declared.specs.declared.declaration.Declaration.{Declaration}
 use Rattle.mip_schedule.specs.declared.event.Event.{Event}
 
 pub record Content : Type 0 where
+  pub version : ℕ
   pub seed : List ℕ
   pub start : Moment
   pub declarations : List Declaration
   pub events : List Event
 
-abbrev pub holding : List ℕ → Moment → List Declaration → List Event → Content
-holding seed start declarations events = record { seed = seed; start = start; declarations = declarations; events = events }
+abbrev pub holding : ℕ → List ℕ → Moment → List Declaration → List Event → Content
+holding version seed start declarations events = record { version = version; seed = seed; start = start; declarations = declarations; events = events }

@@ -1,8 +1,8 @@
 -- The lines of events: what each reads.
-use Rattle.std.specs.Prelude.{ℕ, List, [], ◌∷◌, if◌then◌else◌, Result, Err, codes}
+use Rattle.std.specs.Prelude.{ℕ, List, [], ◌∷◌, Bool, true, false, if◌then◌else◌, Result, Err, codes}
 use Rattle.std.specs.Str.{bytes_eq}
 use Rattle.mip_words.specs.declared.address.Address.{Address}
-use Rattle.mip_lines.specs.Rows.{row1, row2, row3, row4, row6, row10}
+use Rattle.mip_lines.specs.Rows.{row1, row2, row3, row4, row6, row10, row11}
 use Rattle.mip_schedule.specs.DeclarationRows.{u16}
 use Rattle.mip_declared.specs.Kinds as kinds
 use Rattle.mip_declared.specs.declared.declaration.Declaration.{Declaration}
@@ -15,6 +15,10 @@ use Rattle.mip_declared.specs.declared.reason.Reason.TheVariants as reasons
 
 abbrev pub u32 : List ℕ → Result ℕ Reason
 u32 field = kinds.number 0 4294967295 field
+
+-- a binding number
+abbrev pub binding_number : List ℕ → Result ℕ Reason
+binding_number field = kinds.number 0 7 field
 
 -- the ends of an update
 abbrev pub update_ends : Address → Address → Address → Address → UpdateEnds
@@ -38,8 +42,17 @@ inject_row ds fields = row3 reasons.Form (kinds.outsider ds) (kinds.link ds) (ki
 unfoldable pub probe_row : List Declaration → List (List ℕ) → Result Event Reason
 probe_row ds fields = row6 reasons.Form (kinds.outsider ds) (kinds.link ds) kinds.careof kinds.address kinds.address kinds.cookie (λ a b c d e f. events.Probe a b c d e f) fields
 
-unfoldable pub bind_row : List Declaration → List (List ℕ) → Result Event Reason
-bind_row ds fields = row10 reasons.Form (kinds.outsider ds) (kinds.link ds) kinds.address kinds.address kinds.address kinds.address u16 u16 u32 kinds.some_packet (λ a b c d e f g h i j. events.Bind a b (update_ends c d e f) g h i j) fields
+unfoldable pub plain_bind_row : List Declaration → List (List ℕ) → Result Event Reason
+plain_bind_row ds fields = row10 reasons.Form (kinds.outsider ds) (kinds.link ds) kinds.address kinds.address kinds.address kinds.address u16 u16 u32 kinds.some_packet (λ a b c d e f g h i j. events.Bind a b (update_ends c d e f) g h i j 0) fields
+
+unfoldable pub numbered_bind_row : List Declaration → List (List ℕ) → Result Event Reason
+numbered_bind_row ds fields =
+    row11 reasons.Form (kinds.outsider ds) (kinds.link ds) kinds.address kinds.address kinds.address kinds.address u16 u16 u32 kinds.some_packet binding_number (λ a b c d e f g h i j k. events.Bind a b (update_ends c d e f) g h i j k) fields
+
+-- an update, which names its binding number or does not
+abbrev pub bind_row : Bool → List Declaration → List (List ℕ) → Result Event Reason
+bind_row true ds fields = numbered_bind_row ds fields
+bind_row false ds fields = plain_bind_row ds fields
 
 unfoldable pub tell_row : List Declaration → List (List ℕ) → Result Event Reason
 tell_row ds fields = row4 reasons.Form (kinds.outsider ds) (kinds.link ds) u32 u32 (λ a b c d. events.Tell a b c d) fields
@@ -108,12 +121,12 @@ packet_fields ds word fields =
     else if bytes_eq word (codes "carry") then carry_row ds fields
     else node_fields ds word fields
 
--- a line of what outsiders do
-unfoldable pub outsider_fields : List Declaration → List ℕ → List (List ℕ) → Result Event Reason
-outsider_fields ds word fields =
+-- a line of what outsiders do; updates name their binding numbers, or do not
+unfoldable pub outsider_fields : Bool → List Declaration → List ℕ → List (List ℕ) → Result Event Reason
+outsider_fields numbered ds word fields =
     if bytes_eq word (codes "inject") then inject_row ds fields
     else if bytes_eq word (codes "probe") then probe_row ds fields
-    else if bytes_eq word (codes "bind") then bind_row ds fields
+    else if bytes_eq word (codes "bind") then bind_row numbered ds fields
     else if bytes_eq word (codes "tell") then tell_row ds fields
     else if bytes_eq word (codes "listen") then listen_row ds fields
     else if bytes_eq word (codes "deaf") then deaf_row ds fields
@@ -122,9 +135,9 @@ outsider_fields ds word fields =
     else packet_fields ds word fields
 
 -- a line of events by its first field
-unfoldable pub event_fields : List Declaration → List (List ℕ) → Result Event Reason
-event_fields ds [] = Err reasons.Form
-event_fields ds (word ∷ fields) =
+unfoldable pub event_fields : Bool → List Declaration → List (List ℕ) → Result Event Reason
+event_fields numbered ds [] = Err reasons.Form
+event_fields numbered ds (word ∷ fields) =
     if bytes_eq word (codes "wait") then wait_row ds fields
     else if bytes_eq word (codes "advertise") then advertise_row ds fields
-    else outsider_fields ds word fields
+    else outsider_fields numbered ds word fields

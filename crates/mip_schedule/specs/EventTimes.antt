@@ -53,7 +53,7 @@ unfoldable pub misfit : List Declaration → ℕ → ℕ → Event → Option Re
 misfit ds waits carries (events.Wait ms) = if nat_lt 36000000 (waits + ms) then Some reasons.Time else None
 misfit ds waits carries (events.Payload node to proto payload) = if is_reserved proto then Some reasons.Number else None
 misfit ds waits carries (events.Inject outsider link packet) = if is_packet packet then None else Some reasons.Packet
-misfit ds waits carries (events.Bind outsider link ends sequence lifetime home_test careof_test) =
+misfit ds waits carries (events.Bind outsider link ends sequence lifetime home_test careof_test number) =
     if is_wrong_test lifetime ends careof_test then Some reasons.Clash else None
 misfit ds waits carries (events.Squat outsider address) = if is_prefix_taken ds (prefix_at address) then None else Some reasons.Address
 misfit ds waits carries (events.Yield outsider address) = if is_prefix_taken ds (prefix_at address) then None else Some reasons.Address
@@ -66,11 +66,11 @@ untimely ds count waits carries e =
     if nat_le 20000 count then Some reasons.Limit else misfit ds waits carries e
 
 -- a line of events after these declarations and so many events, with these sums
-unfoldable pub timed_line : List Declaration → ℕ → ℕ → ℕ → List (List ℕ) → Result Event Reason
-timed_line ds count waits carries row = do
-  e ← event_fields ds row
+unfoldable pub timed_line : Bool → List Declaration → ℕ → ℕ → ℕ → List (List ℕ) → Result Event Reason
+timed_line numbered ds count waits carries row = do
+  e ← event_fields numbered ds row
   judged e (untimely ds count waits carries e)
 
 -- a line of events after these declarations and events
-abbrev pub event_line : List Declaration → List Event → List (List ℕ) → Result Event Reason
-event_line ds es row = timed_line ds (length es) (waited es) (carried es) row
+abbrev pub event_line : Bool → List Declaration → List Event → List (List ℕ) → Result Event Reason
+event_line numbered ds es row = timed_line numbered ds (length es) (waited es) (carried es) row

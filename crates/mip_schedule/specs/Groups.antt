@@ -4,14 +4,14 @@ use Rattle.mip_schedule.specs.declared.event.Event.{Event}
 use Rattle.mip_schedule.specs.declared.event.Event.TheVariants as events
 
 abbrev pub is_bind : Event → Bool
-is_bind (events.Bind outsider link ends sequence lifetime home_test careof_test) = true
+is_bind (events.Bind outsider link ends sequence lifetime home_test careof_test number) = true
 is_bind _ = false
 
 -- what an outsider posts
 abbrev pub is_posted : Event → Bool
 is_posted (events.Inject outsider link packet) = true
 is_posted (events.Probe outsider link careof source peer cookie) = true
-is_posted (events.Bind outsider link ends sequence lifetime home_test careof_test) = true
+is_posted (events.Bind outsider link ends sequence lifetime home_test careof_test number) = true
 is_posted (events.Tell outsider link test probe) = true
 is_posted _ = false
 

@@ -1,4 +1,5 @@
 pub mod Faults
+pub mod Versions
 pub mod DeclarationRows
 pub mod DeclarationTimes
 pub mod EventRows

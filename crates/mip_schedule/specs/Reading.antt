@@ -5,6 +5,7 @@ use Rattle.mip_words.specs.Steps.{◌>>=◌}
 use Rattle.mip_words.specs.declared.moment.Moment.{Moment}
 use Rattle.mip_lines.specs.Cutting.{rows_of}
 use Rattle.mip_schedule.specs.Contents.{Content}
+use Rattle.mip_schedule.specs.Versions.{is_numbered}
 use Rattle.mip_declared.specs.Kinds as kinds
 use Rattle.mip_schedule.specs.DeclarationTimes.{declaration_line}
 use Rattle.mip_schedule.specs.EventTimes.{event_line}
@@ -58,11 +59,11 @@ abbrev pub last_row : ℕ → List Event → List (List ℕ) → Result (List Ev
 last_row n es ([] ∷ []) = Ok es
 last_row n es _ = bad_form n
 
--- events from the line n on, after these
-unfoldable pub events_of : List Declaration → List Event → ℕ → List (List (List ℕ)) → Result (List Event) Wrong
-events_of ds es n [] = bad_form n
-events_of ds es n (row ∷ []) = last_row n es row
-events_of ds es n (row ∷ next ∷ rows) = at_line n (event_line ds es row) >>= (λ e. events_of ds (es ++ e ∷ []) (n + 1) (next ∷ rows))
+-- events from the line n on, after these; updates name their binding numbers, or do not
+unfoldable pub events_of : Bool → List Declaration → List Event → ℕ → List (List (List ℕ)) → Result (List Event) Wrong
+events_of numbered ds es n [] = bad_form n
+events_of numbered ds es n (row ∷ []) = last_row n es row
+events_of numbered ds es n (row ∷ next ∷ rows) = at_line n (event_line numbered ds es row) >>= (λ e. events_of numbered ds (es ++ e ∷ []) (n + 1) (next ∷ rows))
 
 -- what such a field is read as, and the lines behind it
 abbrev pub head_line : {A : Type 0} → List ℕ → (List ℕ → Result A Reason) → ℕ → List (List (List ℕ)) → Result (A × List (List (List ℕ))) Wrong
@@ -71,8 +72,9 @@ head_line word read n rows = do
   x ← at_line n (read field.0)
   Ok (x, field.1)
 
-unfoldable pub version_line : List (List (List ℕ)) → Result (ℕ × List (List (List ℕ))) Wrong
-version_line rows = head_line (codes "mip") (kinds.number 1 1) 1 rows
+-- the version of a text, of which there are so many
+unfoldable pub version_line : ℕ → List (List (List ℕ)) → Result (ℕ × List (List (List ℕ))) Wrong
+version_line versions rows = head_line (codes "mip") (kinds.number 1 versions) 1 rows
 
 unfoldable pub seed_line : List (List (List ℕ)) → Result (List ℕ × List (List (List ℕ))) Wrong
 seed_line rows = head_line (codes "seed") kinds.seed 2 rows
@@ -83,21 +85,22 @@ start_line rows = head_line (codes "start") (kinds.number 0 1099511627776) 3 row
 
 -- the first three lines: the version, the seed and the moment of the start
 pub record Head : Type 0 where
+  pub version : ℕ
   pub seed : List ℕ
   pub start : Moment
   pub rows : List (List (List ℕ))
 
 unfoldable pub head_of : List (List (List ℕ)) → Result Head Wrong
 head_of rows = do
-  version ← version_line rows
+  version ← version_line 2 rows
   seed ← seed_line version.1
   start ← start_line seed.1
-  Ok (record { seed = seed.0; start = record { 0 = start.0 }; rows = start.1 })
+  Ok (record { version = version.0; seed = seed.0; start = record { 0 = start.0 }; rows = start.1 })
 
 -- what a text is read as
 unfoldable pub reading : List ℕ → Result Content Wrong
 reading text = do
   head ← head_of (rows_of text)
   declared ← declarations_of [] 4 head.rows
-  events ← events_of declared.declarations [] declared.line declared.rows
-  Ok (record { seed = head.seed; start = head.start; declarations = declared.declarations; events = events })
+  events ← events_of (is_numbered head.version) declared.declarations [] declared.line declared.rows
+  Ok (record { version = head.version; seed = head.seed; start = head.start; declarations = declared.declarations; events = events })

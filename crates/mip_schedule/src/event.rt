@@ -50,6 +50,8 @@ pub enum Event {
         lifetime: u16,
         home_test: u32,
         careof_test: Option<u32>,
+        /// The binding number that is asked for, 0 where a schedule's updates name none.
+        number: u8,
     },
     /// An outsider posts a test with the token of one packet and the cookie of another.
     Tell {

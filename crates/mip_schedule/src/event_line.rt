@@ -115,10 +115,11 @@ fn untimely(ds: &[Declaration], sums: Sums, e: &Event) -> Option<Reason>
     misfit(ds, sums.waits, sums.carries, e)
 }
 
-/// An event after these declarations, and after events with these sums.
+/// An event after these declarations, and after events with these sums. Updates name their binding numbers, or do not.
 #[tactic(auto, unfolding(crate::specs::EventTimes::timed_line))]
 pub fn event_line(
     alloc: Global,
+    numbered: bool,
     ds: &[Declaration],
     sums: Sums,
     row: &[&[u8]],
@@ -126,11 +127,11 @@ pub fn event_line(
     requires few { AreFew ds.now }
     requires waits { sums.waits ≤ 36000000 }
     requires carries { sums.carries ≤ 200000 }
-    ensures value { GivesLine (λ e. e) result (rows.timed_line ds.now sums.count sums.waits sums.carries (texts row.now)) }
+    ensures value { GivesLine (λ e. e) result (rows.timed_line numbered ds.now sums.count sums.waits sums.carries (texts row.now)) }
     ensures waits { IfOk result (λ e. sums.waits + rows.wait_of e ≤ 36000000) }
     ensures carries { IfOk result (λ e. sums.carries + rows.carry_of e ≤ 200000) }
 {
-    let e = event_fields(alloc, ds, row)?;
+    let e = event_fields(alloc, numbered, ds, row)?;
     match untimely(ds, sums, &e) {
         None => Ok(e),
         Some(why) => Err(LineFault::Bad(why)),

@@ -25,6 +25,7 @@ const SHORT_LINE: usize = 8;
 #[tactic(auto, using(crate::proofs::LongLaws::long_timed))]
 fn next_event(
     alloc: Global,
+    numbered: bool,
     ds: &[Declaration],
     sums: Sums,
     line: u32,
@@ -33,7 +34,7 @@ fn next_event(
     requires few { AreFew ds.now }
     requires waits { sums.waits ≤ 36000000 }
     requires carries { sums.carries ≤ 200000 }
-    ensures value { GivesText (λ e. e) result (reading.at_line line (rows.timed_line ds.now sums.count sums.waits sums.carries (fields_of row.now))) }
+    ensures value { GivesText (λ e. e) result (reading.at_line line (rows.timed_line numbered ds.now sums.count sums.waits sums.carries (fields_of row.now))) }
     ensures waits { IfOk result (λ e. sums.waits + rows.wait_of e ≤ 36000000) }
     ensures carries { IfOk result (λ e. sums.carries + rows.carry_of e ≤ 200000) }
 {
@@ -43,23 +44,24 @@ fn next_event(
             why: Reason::Form,
         });
     };
-    match event_line(alloc, ds, sums, row.as_slice()) {
+    match event_line(alloc, numbered, ds, sums, row.as_slice()) {
         Ok(e) => Ok(e),
         Err(LineFault::Bad(why)) => Err(ScheduleFault::Bad { line, why }),
         Err(LineFault::Memory) => Err(ScheduleFault::Memory),
     }
 }
 
-/// The events of a text whose first line has this number.
+/// The events of a text whose first line has this number. Updates name their binding numbers, or do not.
 pub fn events_from(
     alloc: Global,
+    numbered: bool,
     ds: &[Declaration],
     first: u32,
     text: &[u8],
 ) -> Result<Events, ScheduleFault>
     requires few { AreFew ds.now }
     requires short { first + length text.now < 2 ^ 32 }
-    ensures { GivesText (λ e. e) result (reading.events_of ds.now [] first (rows_of text.now)) }
+    ensures { GivesText (λ e. e) result (reading.events_of numbered ds.now [] first (rows_of text.now)) }
 {
     let mut events = Events::with_capacity(alloc, MOST_EVENTS.min(text.len() / SHORT_LINE))?;
     let mut waits = 0;
@@ -72,7 +74,7 @@ pub fn events_from(
             waits,
             carries,
         };
-        let event = match next_event(alloc, ds, sums, line, row) {
+        let event = match next_event(alloc, numbered, ds, sums, line, row) {
             Ok(event) => event,
             Err(fault) => return Err(fault),
         };

@@ -258,23 +258,24 @@ fn packet_fields(
     }
 }
 
-/// A line of what outsiders do.
+/// A line of what outsiders do. Updates name their binding numbers, or do not.
 #[tactic(auto, unfolding(crate::specs::EventRows::outsider_fields))]
 fn outsider_fields(
     alloc: Global,
+    numbered: bool,
     ds: &[Declaration],
     word: &[u8],
     fields: &[&[u8]],
 ) -> Result<Event, LineFault>
     requires { AreFew ds.now }
-    ensures { GivesLine (λ e. e) result (rows.outsider_fields ds.now word.now (texts fields.now)) }
+    ensures { GivesLine (λ e. e) result (rows.outsider_fields numbered ds.now word.now (texts fields.now)) }
 {
     if word == b"inject".as_slice() {
         inject_row(alloc, ds, fields)
     } else if word == b"probe".as_slice() {
         Ok(probe_row(ds, fields)?)
     } else if word == b"bind".as_slice() {
-        bind_row(alloc, ds, fields)
+        bind_row(alloc, numbered, ds, fields)
     } else if word == b"tell".as_slice() {
         Ok(tell_row(ds, fields)?)
     } else if word == b"listen".as_slice() {
@@ -290,11 +291,16 @@ fn outsider_fields(
     }
 }
 
-/// A line of events by its first field.
+/// A line of events by its first field. Updates name their binding numbers, or do not.
 #[tactic(auto, unfolding(crate::specs::EventRows::event_fields))]
-pub fn event_fields(alloc: Global, ds: &[Declaration], row: &[&[u8]]) -> Result<Event, LineFault>
+pub fn event_fields(
+    alloc: Global,
+    numbered: bool,
+    ds: &[Declaration],
+    row: &[&[u8]],
+) -> Result<Event, LineFault>
     requires { AreFew ds.now }
-    ensures { GivesLine (λ e. e) result (rows.event_fields ds.now (texts row.now)) }
+    ensures { GivesLine (λ e. e) result (rows.event_fields numbered ds.now (texts row.now)) }
 {
     let [first, fields @ ..] = row else {
         return Err(LineFault::Bad(Reason::Form));
@@ -305,6 +311,6 @@ pub fn event_fields(alloc: Global, ds: &[Declaration], row: &[&[u8]]) -> Result<
     } else if word == b"advertise".as_slice() {
         Ok(advertise_row(ds, fields)?)
     } else {
-        outsider_fields(alloc, ds, word, fields)
+        outsider_fields(alloc, numbered, ds, word, fields)
     }
 }

@@ -1,6 +1,6 @@
 //! The lines of events as they are written.
 
-ghost use Rattle.std.specs.Prelude.{◌≡◌, ◌++◌, true, OnOk};
+ghost use Rattle.std.specs.Prelude.{◌≡◌, ◌++◌, false, true, OnOk};
 ghost use Rattle.mip_lines.specs.Lines.{line_text};
 ghost use Rattle.mip_schedule.specs.Groups.{is_delivery, is_of_node};
 ghost use Rattle.mip_schedule.specs.Spelling.{event_text};
@@ -14,9 +14,14 @@ use mip_declared::{Declaration, link_name, node_name};
 use mip_lines::{put_line, put_line_hex};
 use mip_words::{Address, Bytes, Memory, NodeId};
 
-fn put_delivery(out: &mut Bytes, _ds: &[Declaration], e: &Event) -> Result<(), Memory>
+fn put_delivery(
+    out: &mut Bytes,
+    _numbered: bool,
+    _ds: &[Declaration],
+    e: &Event,
+) -> Result<(), Memory>
     requires { is_delivery e.now ≡ true }
-    ensures { OnOk result (out.new ≡ out.old ++ line_text (event_text _ds.now e.now)) }
+    ensures { OnOk result (out.new ≡ out.old ++ line_text (event_text _numbered _ds.now e.now)) }
 {
     match e {
         Event::Deliver { number } => put_number_line(out, b"deliver", *number),
@@ -35,7 +40,7 @@ fn put_payload(
     proto: u8,
     payload: &Bytes,
 ) -> Result<(), Memory>
-    ensures { OnOk result (out.new ≡ out.old ++ line_text (event_text ds.now (events.Payload node to proto payload.now))) }
+    ensures { OnOk result (out.new ≡ out.old ++ line_text (event_text false ds.now (events.Payload node to proto payload.now))) }
 {
     let mut digits = Buffer::new();
     put_line_hex(
@@ -57,7 +62,7 @@ fn put_plan(
     valid: u32,
     preferred: u32,
 ) -> Result<(), Memory>
-    ensures { OnOk result (out.new ≡ out.old ++ line_text (event_text ds.now (events.Plan node valid preferred))) }
+    ensures { OnOk result (out.new ≡ out.old ++ line_text (event_text false ds.now (events.Plan node valid preferred))) }
 {
     let mut first = Buffer::new();
     let mut second = Buffer::new();
@@ -72,9 +77,14 @@ fn put_plan(
     )
 }
 
-fn put_of_node(out: &mut Bytes, ds: &[Declaration], e: &Event) -> Result<(), Memory>
+fn put_of_node(
+    out: &mut Bytes,
+    _numbered: bool,
+    ds: &[Declaration],
+    e: &Event,
+) -> Result<(), Memory>
     requires { is_of_node e.now ≡ true }
-    ensures { OnOk result (out.new ≡ out.old ++ line_text (event_text ds.now e.now)) }
+    ensures { OnOk result (out.new ≡ out.old ++ line_text (event_text _numbered ds.now e.now)) }
 {
     match e {
         Event::Move { node, link } => put_line(
@@ -108,21 +118,26 @@ fn put_of_node(out: &mut Bytes, ds: &[Declaration], e: &Event) -> Result<(), Mem
     }
 }
 
-/// Appends the line of an event.
-pub fn put_event(out: &mut Bytes, ds: &[Declaration], e: &Event) -> Result<(), Memory>
-    ensures { OnOk result (out.new ≡ out.old ++ line_text (event_text ds.now e.now)) }
+/// Appends the line of an event. Updates name their binding numbers, or do not.
+pub fn put_event(
+    out: &mut Bytes,
+    numbered: bool,
+    ds: &[Declaration],
+    e: &Event,
+) -> Result<(), Memory>
+    ensures { OnOk result (out.new ≡ out.old ++ line_text (event_text numbered ds.now e.now)) }
 {
     match e {
         Event::Wait { ms } => put_number_line(out, b"wait", *ms),
         Event::Advertise { link } => put_line(out, &[b"advertise", link_name(ds, *link)]),
         Event::Inject { .. } | Event::Probe { .. } | Event::Bind { .. } | Event::Tell { .. } => {
-            put_posted(out, ds, e)
+            put_posted(out, numbered, ds, e)
         }
         Event::Listen { .. } | Event::Deaf { .. } | Event::Squat { .. } | Event::Yield { .. } => {
-            put_outside(out, ds, e)
+            put_outside(out, numbered, ds, e)
         }
         Event::Deliver { .. } | Event::Repeat { .. } | Event::Lose { .. } | Event::Carry { .. } =>
-            put_delivery(out, ds, e),
+            put_delivery(out, numbered, ds, e),
         Event::Move { .. }
         | Event::Payload { .. }
         | Event::Restart { .. }
@@ -130,6 +145,6 @@ pub fn put_event(out: &mut Bytes, ds: &[Declaration], e: &Event) -> Result<(), M
         | Event::Plan { .. }
         | Event::Ask { .. }
         | Event::Show { .. }
-        | Event::Settle { .. } => put_of_node(out, ds, e),
+        | Event::Settle { .. } => put_of_node(out, numbered, ds, e),
     }
 }

@@ -16,6 +16,7 @@ use mip_words::Moment;
 /// What the first three lines say, and the text behind them.
 #[derive(Drop)]
 pub struct Head<'a> {
+    pub version: u8,
     pub seed: [u8; 32],
     pub start: Moment,
     pub rest: &'a [u8],
@@ -63,15 +64,15 @@ pub fn head_field<'a>(
     }
 }
 
-/// The version of the text in its first line, `mip 1`, and the text behind it.
+/// The version of the text in its first line, `mip 1` or a later one of so many, and the text behind it.
 #[tactic(auto, unfolding(crate::specs::Reading::version_line))]
-pub fn version_line(text: &[u8]) -> Result<(u8, &[u8]), ScheduleFault>
-    ensures exact { GivesText (λ p. (p.0, rows_of p.1.now)) result (reading.version_line (rows_of text.now)) }
+pub fn version_line(versions: u8, text: &[u8]) -> Result<(u8, &[u8]), ScheduleFault>
+    ensures exact { GivesText (λ p. (p.0, rows_of p.1.now)) result (reading.version_line versions (rows_of text.now)) }
     ensures memory { result ≢ Err ScheduleFault.Memory }
     ensures short { IfOk result (λ p. length p.1.now < length text.now) }
 {
     let (field, rest) = head_field(b"mip", 1, text)?;
-    match u8_in(1, 1, field) {
+    match u8_in(1, versions, field) {
         Ok(version) => Ok((version, rest)),
         Err(why) => Err(ScheduleFault::Bad { line: 1, why }),
     }
@@ -111,10 +112,11 @@ pub fn read_head(text: &[u8]) -> Result<Head<'_>, ScheduleFault>
     ensures memory { result ≢ Err ScheduleFault.Memory }
     ensures short { IfOk result (λ h. length h.rest.now + 3 ≤ length text.now) }
 {
-    let (_, rest) = version_line(text)?;
+    let (version, rest) = version_line(2, text)?;
     let (seed, rest) = seed_line(rest)?;
     let (start, rest) = start_line(rest)?;
     Ok(Head {
+        version,
         seed,
         start: Moment(start),
         rest,

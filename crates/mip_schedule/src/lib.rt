@@ -23,6 +23,7 @@ mod parts;
 mod schedule;
 mod schedule_reading;
 mod update_ends;
+mod versions;
 mod writing;
 
 pub use event::Event;
@@ -36,4 +37,5 @@ pub use mip_declared::{Declaration, Declarations, Name, Reason, Sort, place_of};
 pub use schedule::Schedule;
 pub use schedule_reading::read_schedule;
 pub use update_ends::UpdateEnds;
+pub use versions::{is_numbered, numbers_of};
 pub use writing::write_schedule;

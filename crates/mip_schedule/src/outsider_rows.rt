@@ -1,8 +1,8 @@
 //! The lines of what outsiders do.
 
-ghost use Rattle.std.specs.Prelude.{◌≡◌};
+ghost use Rattle.std.specs.Prelude.{◌≡◌, option_copied};
 ghost use Rattle.mip_lines.specs.Cutting.{texts};
-ghost use Rattle.mip_schedule.specs.BindParts.{bind_ends, bind_numbers};
+ghost use Rattle.mip_schedule.specs.BindParts.{bind_ends, bind_numbers, number_named};
 ghost use Rattle.mip_schedule.specs.EventRows as rows;
 ghost use Rattle.mip_declared.specs.Faults.{GivesLine};
 ghost use Rattle.mip_declared.specs.Places.{AreFew};
@@ -12,7 +12,7 @@ use crate::kept_address::KeptAddress;
 use crate::kept_ends::KeptEnds;
 use crate::update_ends::UpdateEnds;
 use mip_declared::kinds::{
-    address, bytes, careof, cookie, link, outsider, some_packet, u16_in, u32_in,
+    address, bytes, careof, cookie, link, outsider, some_packet, u8_in, u16_in, u32_in,
 };
 use mip_declared::{Declaration, LineFault, Reason};
 use mip_words::LinkId;
@@ -63,6 +63,16 @@ fn bind_ends(source: &[u8], peer: &[u8], home: &[u8], away: &[u8]) -> Result<Upd
     })
 }
 
+/// The binding number that a field names, 0 where there is no field.
+fn number_named(field: Option<&[u8]>) -> Result<u8, Reason>
+    ensures { result ≡ number_named (option_copied field.entry) }
+{
+    match field {
+        Some(field) => u8_in(0, 7, field),
+        None => Ok(0),
+    }
+}
+
 #[tactic(auto, unfolding(crate::specs::BindParts::bind_numbers))]
 fn bind_numbers(
     outsider: u8,
@@ -72,8 +82,9 @@ fn bind_numbers(
     lifetime: &[u8],
     home_test: &[u8],
     careof_test: &[u8],
+    named: Option<&[u8]>,
 ) -> Result<Event, Reason>
-    ensures { result ≡ bind_numbers outsider link ends sequence.now lifetime.now home_test.now careof_test.now }
+    ensures { result ≡ bind_numbers outsider link ends sequence.now lifetime.now home_test.now careof_test.now (option_copied named.entry) }
 {
     Ok(Event::Bind {
         outsider,
@@ -83,13 +94,14 @@ fn bind_numbers(
         lifetime: u16_in(0, u16::MAX, lifetime)?,
         home_test: u32_in(0, u32::MAX, home_test)?,
         careof_test: some_packet(careof_test)?,
+        number: number_named(named)?,
     })
 }
 
-#[tactic(auto, using(crate::proofs::BindLaws::bind_parts), unfolding(crate::specs::EventRows::bind_row))]
-pub fn bind_row(alloc: Global, ds: &[Declaration], fields: &[&[u8]]) -> Result<Event, LineFault>
+#[tactic(auto, using(crate::proofs::BindLaws::plain_parts), unfolding(crate::specs::EventRows::plain_bind_row))]
+fn plain_bind_row(alloc: Global, ds: &[Declaration], fields: &[&[u8]]) -> Result<Event, LineFault>
     requires { AreFew ds.now }
-    ensures { GivesLine (λ e. e) result (rows.bind_row ds.now (texts fields.now)) }
+    ensures { GivesLine (λ e. e) result (rows.plain_bind_row ds.now (texts fields.now)) }
 {
     let [
         by,
@@ -117,8 +129,67 @@ pub fn bind_row(alloc: Global, ds: &[Declaration], fields: &[&[u8]]) -> Result<E
         lifetime,
         home_test,
         careof_test,
+        None,
     )?;
     Ok(event)
+}
+
+#[tactic(auto, using(crate::proofs::BindLaws::numbered_parts), unfolding(crate::specs::EventRows::numbered_bind_row))]
+fn numbered_bind_row(
+    alloc: Global,
+    ds: &[Declaration],
+    fields: &[&[u8]],
+) -> Result<Event, LineFault>
+    requires { AreFew ds.now }
+    ensures { GivesLine (λ e. e) result (rows.numbered_bind_row ds.now (texts fields.now)) }
+{
+    let [
+        by,
+        on,
+        source,
+        peer,
+        home,
+        away,
+        sequence,
+        lifetime,
+        home_test,
+        careof_test,
+        number,
+    ] = fields
+    else {
+        return Err(LineFault::Bad(Reason::Form));
+    };
+    let outsider = outsider(ds, by)?;
+    let link = link(ds, on)?;
+    let ends = KeptEnds::new(alloc, bind_ends(source, peer, home, away)?)?;
+    let event = bind_numbers(
+        outsider,
+        link,
+        ends,
+        sequence,
+        lifetime,
+        home_test,
+        careof_test,
+        Some(number),
+    )?;
+    Ok(event)
+}
+
+/// An update, which names its binding number or does not.
+pub fn bind_row(
+    alloc: Global,
+    numbered: bool,
+    ds: &[Declaration],
+    fields: &[&[u8]],
+) -> Result<Event, LineFault>
+    requires { AreFew ds.now }
+    ensures { GivesLine (λ e. e) result (rows.bind_row numbered ds.now (texts fields.now)) }
+{
+    if numbered {
+        numbered_bind_row(alloc, ds, fields)
+    } else {
+        plain_bind_row(alloc, ds, fields)
+    }
 }
 
 #[tactic(auto, unfolding(crate::specs::EventRows::tell_row))]

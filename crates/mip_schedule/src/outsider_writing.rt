@@ -1,6 +1,6 @@
 //! The lines of what outsiders do, as they are written.
 
-ghost use Rattle.std.specs.Prelude.{◌≡◌, ◌++◌, true, OnOk};
+ghost use Rattle.std.specs.Prelude.{◌≡◌, ◌++◌, false, true, OnOk};
 ghost use Rattle.mip_lines.specs.Lines.{line_text};
 ghost use Rattle.mip_schedule.specs.Groups.{is_bind, is_outside, is_posted};
 ghost use Rattle.mip_schedule.specs.Spelling.{event_text, probe_text};
@@ -39,9 +39,9 @@ fn put_probe(
     )
 }
 
-fn put_bind(out: &mut Bytes, ds: &[Declaration], e: &Event) -> Result<(), Memory>
+fn put_bind(out: &mut Bytes, numbered: bool, ds: &[Declaration], e: &Event) -> Result<(), Memory>
     requires { is_bind e.now ≡ true }
-    ensures { OnOk result (out.new ≡ out.old ++ line_text (event_text ds.now e.now)) }
+    ensures { OnOk result (out.new ≡ out.old ++ line_text (event_text numbered ds.now e.now)) }
 {
     let Event::Bind {
         outsider,
@@ -51,6 +51,7 @@ fn put_bind(out: &mut Bytes, ds: &[Declaration], e: &Event) -> Result<(), Memory
         lifetime,
         home_test,
         careof_test,
+        number,
     } = e
     else {
         return Ok(());
@@ -60,22 +61,26 @@ fn put_bind(out: &mut Bytes, ds: &[Declaration], e: &Event) -> Result<(), Memory
     let mut second = Buffer::new();
     let mut third = Buffer::new();
     let mut last = Buffer::new();
-    put_line(
-        out,
-        &[
-            b"bind",
-            outsider_name(ds, *outsider),
-            link_name(ds, *link),
-            &ends.source.digits(),
-            &ends.peer.digits(),
-            &ends.home.digits(),
-            &ends.careof.digits(),
-            first.format(*sequence).as_bytes(),
-            second.format(*lifetime).as_bytes(),
-            third.format(*home_test).as_bytes(),
-            some_digits(&mut last, *careof_test),
-        ],
-    )
+    let mut digits = Buffer::new();
+    let fields = [
+        b"bind",
+        outsider_name(ds, *outsider),
+        link_name(ds, *link),
+        &ends.source.digits(),
+        &ends.peer.digits(),
+        &ends.home.digits(),
+        &ends.careof.digits(),
+        first.format(*sequence).as_bytes(),
+        second.format(*lifetime).as_bytes(),
+        third.format(*home_test).as_bytes(),
+        some_digits(&mut last, *careof_test),
+        digits.format(*number).as_bytes(),
+    ];
+    if numbered {
+        put_line(out, &fields)
+    } else {
+        put_line(out, &fields[..11])
+    }
 }
 
 fn put_tell(
@@ -86,7 +91,7 @@ fn put_tell(
     test: u32,
     probe: u32,
 ) -> Result<(), Memory>
-    ensures { OnOk result (out.new ≡ out.old ++ line_text (event_text ds.now (events.Tell outsider link test probe))) }
+    ensures { OnOk result (out.new ≡ out.old ++ line_text (event_text false ds.now (events.Tell outsider link test probe))) }
 {
     let mut first = Buffer::new();
     let mut second = Buffer::new();
@@ -102,10 +107,15 @@ fn put_tell(
     )
 }
 
-/// Appends the line of what an outsider posts.
-pub fn put_posted(out: &mut Bytes, ds: &[Declaration], e: &Event) -> Result<(), Memory>
+/// Appends the line of what an outsider posts. Updates name their binding numbers, or do not.
+pub fn put_posted(
+    out: &mut Bytes,
+    numbered: bool,
+    ds: &[Declaration],
+    e: &Event,
+) -> Result<(), Memory>
     requires { is_posted e.now ≡ true }
-    ensures { OnOk result (out.new ≡ out.old ++ line_text (event_text ds.now e.now)) }
+    ensures { OnOk result (out.new ≡ out.old ++ line_text (event_text numbered ds.now e.now)) }
 {
     match e {
         Event::Inject {
@@ -135,7 +145,7 @@ pub fn put_posted(out: &mut Bytes, ds: &[Declaration], e: &Event) -> Result<(), 
             peer.get(),
             *cookie,
         ),
-        Event::Bind { .. } => put_bind(out, ds, e),
+        Event::Bind { .. } => put_bind(out, numbered, ds, e),
         Event::Tell {
             outsider,
             link,
@@ -147,9 +157,14 @@ pub fn put_posted(out: &mut Bytes, ds: &[Declaration], e: &Event) -> Result<(), 
 }
 
 /// Appends the line of what else an outsider does.
-pub fn put_outside(out: &mut Bytes, ds: &[Declaration], e: &Event) -> Result<(), Memory>
+pub fn put_outside(
+    out: &mut Bytes,
+    _numbered: bool,
+    ds: &[Declaration],
+    e: &Event,
+) -> Result<(), Memory>
     requires { is_outside e.now ≡ true }
-    ensures { OnOk result (out.new ≡ out.old ++ line_text (event_text ds.now e.now)) }
+    ensures { OnOk result (out.new ≡ out.old ++ line_text (event_text _numbered ds.now e.now)) }
 {
     match e {
         Event::Listen { outsider, link } => put_line(

@@ -12,6 +12,7 @@ use crate::fault::ScheduleFault;
 use crate::head::read_head;
 use crate::parts::Parts;
 use crate::schedule::Schedule;
+use crate::versions::is_numbered;
 use std::alloc::Global;
 
 #[tactic(auto, unfolding(crate::specs::Reading::reading))]
@@ -23,11 +24,13 @@ fn read_parts(alloc: Global, text: &[u8]) -> Result<Parts, ScheduleFault>
     let declared = declarations_from(alloc, 4, head.rest)?;
     let events = events_from(
         alloc,
+        is_numbered(head.version),
         declared.declarations.as_slice(),
         declared.line,
         declared.rest,
     )?;
     Ok(Parts {
+        version: head.version,
         seed: head.seed,
         start: head.start,
         declarations: declared.declarations,
@@ -46,6 +49,7 @@ pub fn read_schedule(alloc: Global, text: &[u8]) -> Result<Schedule, ScheduleFau
         Ok(parts) => {
             let seed = parts.seed;
             Ok(Schedule {
+                version: parts.version,
                 seed,
                 start: parts.start,
                 declarations: parts.declarations,

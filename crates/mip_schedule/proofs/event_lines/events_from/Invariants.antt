@@ -6,7 +6,7 @@ use Rattle.mip_schedule.proofs.event_lines.events_from.Given as goal
 
 abbrev pub invariant-loop-row : goal.invariant-loop-row
 invariant-loop-row l = record {
-  so_far : events_of l.ds l.events l.line (rows_of l.rest) ≡ events_of l.ds [] l.first (rows_of l.text);
+  so_far : events_of l.numbered l.ds l.events l.line (rows_of l.rest) ≡ events_of l.numbered l.ds [] l.first (rows_of l.text);
   waits : l.waits ≡ waited l.events;
   carries : l.carries ≡ carried l.events;
   few_waits : l.waits ≤ 36000000;

@@ -13,6 +13,7 @@ invariant_of-result c =
     let same = held_is (reading (spelling (parts_content c.in-Ok.parts))) (parts_content c.in-Ok.parts) e in
     record {
       accepted = read_is (reading (spelling (parts_content c.in-Ok.parts))) (parts_content c.in-Ok.parts) e;
+      same_version = ap (λ x. x.version) same;
       same_seed = ap (λ x. x.seed) same;
       same_start = ap (λ x. x.start) same;
       same_declarations = ap (λ x. x.declarations) same;
