@@ -1,11 +1,13 @@
 -- A trace that is compared piece by piece with that of a run.
 use Rattle.std.proofs.Common.{◌≡◌, ℕ, sym, ap, ◌∙◌, List, [], ◌++◌, append-nil, append_assoc}
-use Rattle.std.specs.Prelude.{Option}
+use Rattle.std.specs.Prelude.{Option, Some, Err}
 use Rattle.mip_entries.specs.declared.entry.Entry.{Entry}
 use Rattle.mip_rows.specs.Names.{Names}
 use Rattle.mip_trace.specs.Lines.{trace_text}
 use Rattle.mip_trace.proofs.WrittenLaws.{text_none, text_append}
-use Rattle.mip_audit.specs.Differences.{Progress, difference_from}
+use Rattle.mip_audit.specs.Differences.{Progress, difference_from, Judges, OnDiffers}
+use Rattle.mip_audit.specs.declared.fault.AuditFault.{AuditFault}
+use Rattle.mip_audit.specs.declared.fault.AuditFault.TheVariants as faults
 
 -- what was told so far is compared, whatever comes
 abbrev pub IsCompared : Progress → Progress → Names → List Entry → Type 0
@@ -45,3 +47,12 @@ pub end_compared : (start now : Progress) (names : Names) (whole told : List Ent
 end_compared start now names whole told same is =
     ap (λ (l : List Entry). difference_from start (trace_text names l)) (sym same)
     ∙ ap (difference_from start) (sym (append-nil (trace_text names told))) ∙ is []
+
+-- and is judged so
+pub piece_judged : {X Y : Type 0} (start before : Progress) (names own : Names) (whole next told items rest : List Entry) (e : AuditFault) → own ≡ names → whole ≡ next ++ rest
+    → next ≡ told ++ items → IsCompared start before names told
+    → OnDiffers {X} (Err e) (λ line. (more : List ℕ) → difference_from before (trace_text own items ++ more) ≡ Some line)
+    → Judges {Y} (Err e) (difference_from start (trace_text names whole))
+piece_judged start before names own whole next told items rest (faults.Differs line) same split is first put =
+    piece_differs start before names own whole next told items rest (Some line) same split is first put
+piece_judged start before names own whole next told items rest faults.Memory same split is first put = tt
