@@ -148,9 +148,9 @@ module _ (s : Setup) (n home : ℕ) (a : Acceptance) where
         outlived one mine same =
             let parts = one same in (
               λ at_home. eqb-false careof.0 of.0 parts.0 (at_home ∙ sym same),
-              parts.1.0,
+              parts.1,
               ap (λ (xs : List Acceptance). is_some (floor xs home (moment_in s.start front))) (life-accepted s n front)
-                  ∙ ap (λ (at : ℕ). is_some (floor (life_of s n front).accepted home at)) (sym (life-at s n front)) ∙ parts.1.1,
+                  ∙ ap (λ (at : ℕ). is_some (floor (life_of s n front).accepted home at)) (sym (life-at s n front)) ∙ parts.2,
             )
 
         by : (acceptance_at (life_of s n front).at of binding careof sequence end ≡ a) ⊎ EndsWith (life_of s n front).accepted (acceptance_at (life_of s n front).at of binding careof sequence end) before a after

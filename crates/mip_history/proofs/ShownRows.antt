@@ -25,7 +25,7 @@ use Rattle.mip_entries.specs.Stamped.{Stamped}
 use Rattle.mip_rules_correspondent.specs.Steps.{Step}
 use Rattle.mip_rules_correspondent.specs.Pasts.{accepted_in}
 use Rattle.mip_rules_correspondent.specs.Questions.{known}
-use Rattle.mip_rules_correspondent.proofs.Acceptances.{cache-stands, early}
+use Rattle.mip_rules_correspondent.proofs.Acceptances.{cache-stands, cache-alike, early}
 use Rattle.mip_history.specs.Setup.{Setup}
 use Rattle.mip_history.specs.Questions.{moment_in}
 use Rattle.mip_history.specs.Nodes.{row_entry}
@@ -231,6 +231,7 @@ pub past_rows : (s : Setup) (past : List Entry) (steps : List (Stamped Step)) (n
     → map seen_row (rows_at (known room s.numbers steps).cache (moment_in s.start past)) ≡ rows_of (accepted_by s.start past n) (moment_in s.start past)
 past_rows s past steps n room is =
     rows_same (known room s.numbers steps).cache (accepted_in steps) (cache-stands room s.numbers steps is.rises) (moment_in s.start past) (early room s.numbers steps is.rises (moment_in s.start past) (record { 0 = 0 }) is.early)
+    (cache-alike room s.numbers steps is.rises)
     ∙ ap (λ (l : List Acceptance). rows_of l (moment_in s.start past)) is.accepted
 
 -- the sequence of a home is kept to this moment, and no longer
