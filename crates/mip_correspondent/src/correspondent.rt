@@ -5,8 +5,8 @@ ghost use Rattle.mip_ipv6.specs.Packet.{packet as tree, is_routable_if_any, name
 ghost use Rattle.mip_nonce.specs.Secrets.{cookie_of};
 ghost use Rattle.mip_says.specs.Says.{message_in};
 ghost use Rattle.mip_binding.specs.Acceptance.{Acceptance};
-ghost use Rattle.mip_binding.specs.Rows.{kept_rows, table};
-ghost use Rattle.mip_binding.specs.Held.{held};
+ghost use Rattle.mip_binding.specs.Homes.{shown_rows};
+ghost use Rattle.mip_binding.specs.Held.{held, holds};
 ghost use Rattle.mip_bcache.specs.Seen.{StandsFor, rows_at, seen_row};
 ghost use Rattle.mip_entries.specs.Stamped.{Stamped};
 ghost use Rattle.mip_reception.specs.Refusing.{refuses};
@@ -100,6 +100,7 @@ impl Correspondent {
     pub fn holds(&self, now: Moment, home: Address, careof: Address) -> bool
         requires { self.now.known.last.0 ≤ now.0 }
         ensures found { result ≡ holds_for self.now.known now.0 home careof }
+        ensures answers { (past : List Acceptance) → StandsFor self.now.known.cache past → result ≡ holds past home.0 now.0 careof.0 }
     {
         self.known.cache.holds(now, home, careof)
     }
@@ -108,7 +109,7 @@ impl Correspondent {
     pub fn row(&self, now: Moment, place: u32) -> Option<&Row>
         requires { self.now.known.last.0 ≤ now.0 }
         ensures found { option_copied result ≡ slice_get (rows_at self.now.known.cache now.0) place }
-        ensures answers { (past : List Acceptance) → StandsFor self.now.known.cache past → option_map seen_row (option_copied result) ≡ slice_get (kept_rows now.0 (table past)) place }
+        ensures answers { (past : List Acceptance) → StandsFor self.now.known.cache past → option_map seen_row (option_copied result) ≡ slice_get (shown_rows past now.0) place }
         ensures few { length (rows_at self.now.known.cache now.0) < 2 ^ 32 }
     {
         self.known.cache.row(now, place)
