@@ -1,6 +1,2 @@
-pub mod Places
-pub mod Pasts
-pub mod Slots
-pub mod Closing
-pub mod Puts
-pub mod Searches
+pub mod Homes
+pub mod Numbers

@@ -66,7 +66,7 @@ impl Cache {
         ensures found { option_copied result ≡ standing_at self.now home.0 now.0 }
         ensures answers { (past : List Acceptance) → StandsFor self.now past → option_map (λ r. r.careof.0) (option_copied result) ≡ held past home.0 now.0 }
     {
-        self.table.kept_home(now, home)?.standing(now)
+        self.table.kept_home(now, home)?.standing(now, home)
     }
 
     /// The row of a home under a number, where its binding stands.
@@ -75,7 +75,7 @@ impl Cache {
         ensures found { option_copied result ≡ standing_under self.now home.0 number now.0 }
         ensures answers { (past : List Acceptance) → StandsFor self.now past → option_map (λ r. r.careof.0) (option_copied result) ≡ held_under past home.0 number now.0 }
     {
-        self.table.kept_home(now, home)?.standing_under(now, number)
+        self.table.kept_home(now, home)?.standing_under(now, home, number)
     }
 
     /// Whether a home has a binding that stands at this care-of address.
@@ -85,7 +85,7 @@ impl Cache {
         ensures answers { (past : List Acceptance) → StandsFor self.now past → result ≡ holds past home.0 now.0 careof.0 }
     {
         match self.table.kept_home(now, home) {
-            Some(kept) => kept.holds(now, careof),
+            Some(kept) => kept.holds(now, home, careof),
             None => false,
         }
     }
@@ -96,7 +96,7 @@ impl Cache {
         ensures found { result ≡ floor_at self.now home.0 now.0 }
         ensures answers { (past : List Acceptance) → StandsFor self.now past → result ≡ floor past home.0 now.0 }
     {
-        Some(self.table.kept_home(now, home)?.sequence())
+        Some(self.table.kept_home(now, home)?.last.sequence)
     }
 
     /// Whether `accept` takes an acceptance for this home.

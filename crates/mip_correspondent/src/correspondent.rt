@@ -82,6 +82,15 @@ impl Correspondent {
         self.identity.secrets.cookie(number)
     }
 
+    /// How many numbers the bindings of a home may have.
+    pub fn numbers(&self) -> u8
+        ensures value { result ≡ self.now.known.cache.numbers }
+        ensures some { 1 ≤ result }
+        ensures few { result ≤ 8 }
+    {
+        self.known.cache.numbers()
+    }
+
     /// The care-of address that is held for a home.
     #[tactic(auto, using(crate::proofs::Rows::held_routable))]
     pub fn route(&self, now: Moment, peer: Address) -> Option<Address>

@@ -50,19 +50,23 @@ impl Model for Desk {
 }
 
 impl Desk {
-    /// The desk of a new mobile: its home address, the agent that it is declared with, and the secrets of its first life.
+    /// The desk of a new mobile: its home address, the agent that it is declared with, the secrets of its first life, and how many
+    /// numbers a home's bindings may have.
     pub fn open(
         alloc: Global,
         home: Address,
         declared: Option<Address>,
         secrets: Secrets,
+        numbers: u8,
     ) -> Result<Desk, Memory>
-        requires { IsTrue (is_routable home.0) }
-        ensures { IfOk result (λ d. d ≡ record { moment = 0; known = fresh home declared secrets; answers = [] }) }
+        requires home { IsTrue (is_routable home.0) }
+        requires some { 1 ≤ numbers }
+        requires few { numbers ≤ 8 }
+        ensures { IfOk result (λ d. d ≡ record { moment = 0; known = fresh home declared numbers secrets; answers = [] }) }
     {
         Ok(Desk {
             moment: Moment(0),
-            known: Kept::new(alloc, home, declared, secrets)?,
+            known: Kept::new(alloc, home, declared, secrets, numbers)?,
             answers: Answers::new(alloc)?,
         })
     }

@@ -1,7 +1,7 @@
 //! What a call reads of what is kept.
 
 ghost use Rattle.std.specs.Prelude.{◌≡◌, Some, length, is_some, option_map, option_copied, IfSome, ◌+◌, ◌*◌, ◌<◌, ◌≤◌, ◌^◌, IsTrue, slice_get};
-ghost use Rattle.mip_bcache.specs.Seen.{kept_at};
+ghost use Rattle.mip_bcache.specs.Seen.{rows_at};
 ghost use Rattle.mip_constants.specs.Constants.{initial_dhaad_timeout};
 ghost use Rattle.mip_bulist.specs.declared.any.Any.TheVariants.{Pending};
 ghost use Rattle.mip_bulist.specs.declared.state.Pending as pending;
@@ -14,7 +14,7 @@ ghost use Rattle.mip_rules_mobile.specs.RowQuestions.{first_cookie, second_cooki
 ghost use Rattle.mip_rules_mobile.specs.Trials.{makes, sent_at};
 ghost use Rattle.mip_rules_mobile.specs.PeerRules.{home_row, careof_row};
 ghost use Rattle.mip_words.specs.Addresses.{is_routable};
-ghost use Rattle.mip_rules_mobile.specs.HomeQuestions.{home_of, next_to, target_of, agent_of, registered_agent, standing_registration};
+ghost use Rattle.mip_rules_mobile.specs.HomeQuestions.{home_of, binding_number_of, next_to, target_of, agent_of, registered_agent, standing_registration};
 ghost use Rattle.mip_rules_mobile.specs.DiscoveryQuestions.{next_found};
 ghost use Rattle.mip_rules_mobile.specs.IcmpRules.{is_matched};
 ghost use Rattle.std.specs.Option.{option_or, option_map_or};
@@ -39,6 +39,14 @@ impl Desk {
         ensures { result ≡ second_cookie self.now.known }
     {
         self.known.part.cookie(self.known.cookies.wrapping_add(1))
+    }
+
+    /// The number of a binding that it asks for.
+    pub fn binding_number(&self) -> u8
+        ensures value { result ≡ binding_number_of self.now.known }
+        ensures few { result < 8 }
+    {
+        self.known.places % self.known.part.numbers()
     }
 
     /// The row of a peer.
@@ -161,10 +169,10 @@ impl Desk {
         self.known.part.route(self.moment, peer)
     }
 
-    /// The row at a place among those that the correspondent part keeps, in order of home address.
+    /// The row at a place among those that the correspondent part keeps, in order of home address, then of number.
     pub fn kept_row(&self, now: Moment, place: u32) -> Option<&Row>
         requires { self.now.moment ≤ now.0 }
-        ensures { option_copied result ≡ slice_get (kept_at self.now.known.part.known.cache now.0) place }
+        ensures { option_copied result ≡ slice_get (rows_at self.now.known.part.known.cache now.0) place }
     {
         self.known.part.row(now, place)
     }

@@ -1,7 +1,7 @@
 //! The steps of a call that leave an entry.
 
-ghost use Rattle.std.specs.Prelude.{◌≡◌, ◌==◌, if◌then◌else◌, ◌+◌, ◌<◌, ◌^◌, OnOk};
-ghost use Rattle.mip_rules_mobile.specs.HomeQuestions.{standing_at};
+ghost use Rattle.std.specs.Prelude.{◌≡◌, ◌==◌, if◌then◌else◌, ◌+◌, ◌%◌, ◌<◌, ◌≤◌, ◌^◌, OnOk};
+ghost use Rattle.mip_rules_mobile.specs.HomeQuestions.{places_after, standing_at};
 ghost use Rattle.mip_rules_mobile.specs.Steps.{Arrives, Chooses, Claims, Drops, FindsTaken, IsRefused, Learns, Notes, Releases, Unregisters, Unsends};
 ghost use Rattle.mip_rules_mobile.specs.Turns.{Turn, noted};
 ghost use Rattle.mip_desk.specs.Seen.{Shows};
@@ -124,9 +124,21 @@ impl Desk {
             node: MYSELF,
             address,
         }))?;
+        self.known.places = self.places_after(address);
         self.known.standing = standing_at(self.known.home, address);
         self.known.registered = None;
         Ok(())
+    }
+
+    /// How many places it came to, with this address behind them, counted modulo the numbers that a binding may have.
+    fn places_after(&self, address: Address) -> u8
+        ensures { result ≡ places_after self.now.known (Arrives address) }
+    {
+        if address.0 == self.known.home.0 {
+            self.known.places
+        } else {
+            next_place(self.known.places, self.known.part.numbers())
+        }
     }
 
     /// It finds an address taken.
@@ -143,6 +155,14 @@ impl Desk {
         self.known.registered = None;
         Ok(())
     }
+}
+
+/// The place behind one, counted modulo so many.
+fn next_place(place: u8, numbers: u8) -> u8
+    requires { 1 ≤ numbers }
+    ensures { result ≡ (place + 1) % numbers }
+{
+    ((u16::from(place) + 1) % u16::from(numbers)) as u8
 }
 
 /// At home, or away.

@@ -1,7 +1,7 @@
 //! The step of a call that hands an update of a trial to the wire.
 
 ghost use Rattle.std.specs.Prelude.{◌≡◌, OnOk};
-ghost use Rattle.mip_rules_mobile.specs.HomeQuestions.{home_of};
+ghost use Rattle.mip_rules_mobile.specs.HomeQuestions.{home_of, binding_number_of};
 ghost use Rattle.mip_rules_mobile.specs.Sendings.{update_packet};
 ghost use Rattle.mip_rules_mobile.specs.Steps.{Updates, myself};
 ghost use Rattle.mip_entries.specs.declared.entry.Entry.TheVariants as entries;
@@ -24,8 +24,8 @@ impl Desk {
         made: &Made,
         packet: Bytes,
     ) -> Result<(), Memory>
-        ensures { (t : Turn) → packet ≡ update_packet (record { home = home_of self.old.known; source = source; peer = peer; made = made.now }) → Shows self.old t
-            → OnOk result (Shows self.new (noted (Updates row (record { home = home_of self.old.known; source = source; peer = peer; made = made.now })) t)) }
+        ensures { (t : Turn) → packet ≡ update_packet (record { home = home_of self.old.known; source = source; peer = peer; number = binding_number_of self.old.known; made = made.now }) → Shows self.old t
+            → OnOk result (Shows self.new (noted (Updates row (record { home = home_of self.old.known; source = source; peer = peer; number = binding_number_of self.old.known; made = made.now })) t)) }
     {
         self.answers.push(Answer::Note(made_entry(peer, made)))?;
         self.answers.push(Answer::Send {

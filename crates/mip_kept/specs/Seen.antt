@@ -9,6 +9,7 @@ seen k = record {
   part = k.part;
   declared = k.declared;
   standing = k.standing;
+  places = k.places;
   registered = k.registered;
   latest = k.latest;
   agent = k.agent;

@@ -1,4 +1,4 @@
-ghost use Rattle.std.specs.Prelude.{◌≡◌, IfOk};
+ghost use Rattle.std.specs.Prelude.{◌≡◌, ◌≤◌, IfOk};
 ghost use Rattle.mip_rules_mobile.specs.Questions.{fresh};
 ghost use Rattle.mip_kept.specs.Seen.{seen};
 
@@ -21,6 +21,7 @@ pub struct Kept {
     pub part: Correspondent,
     pub declared: Option<Address>,
     pub standing: Standing,
+    pub places: u8,
     pub registered: Option<Registered>,
     pub latest: Option<HomeUpdate>,
     pub agent: Option<Address>,
@@ -55,16 +56,20 @@ impl Kept {
         home: Address,
         declared: Option<Address>,
         secrets: Secrets,
+        numbers: u8,
     ) -> Result<Kept, Memory>
-        ensures known { IfOk result (λ k. seen k ≡ fresh home declared secrets) }
+        requires some { 1 ≤ numbers }
+        requires few { numbers ≤ 8 }
+        ensures known { IfOk result (λ k. seen k ≡ fresh home declared numbers secrets) }
         ensures home { IfOk result (λ k. k.home ≡ home) }
     {
         Ok(Kept {
             home,
             last: Moment(0),
-            part: Correspondent::new(alloc, home, secrets, HOMES)?,
+            part: Correspondent::new(alloc, home, secrets, HOMES, numbers)?,
             declared,
             standing: Standing::AtHome,
+            places: 0,
             registered: None,
             latest: None,
             agent: None,
@@ -83,12 +88,19 @@ impl Kept {
         })
     }
 
-    /// What a new life of a mobile begins with: it has its home address, its declared agent and where it stands from the last.
+    /// What a new life of a mobile begins with: it has its home address, its declared agent, its numbers and where it stands from
+    /// the last.
     pub fn again(&self, alloc: Global, secrets: Secrets) -> Result<Kept, Memory>
-        ensures known { IfOk result (λ k. seen k ≡ record (fresh self.now.home self.now.declared secrets) { last = self.now.last; standing = self.now.standing }) }
+        ensures known { IfOk result (λ k. seen k ≡ record (fresh self.now.home self.now.declared self.now.part.known.cache.numbers secrets) { last = self.now.last; standing = self.now.standing }) }
         ensures home { IfOk result (λ k. k.home ≡ self.now.home) }
     {
-        let mut kept = Kept::new(alloc, self.home, self.declared, secrets)?;
+        let mut kept = Kept::new(
+            alloc,
+            self.home,
+            self.declared,
+            secrets,
+            self.part.numbers(),
+        )?;
         kept.last = self.last;
         kept.standing = self.standing;
         Ok(kept)

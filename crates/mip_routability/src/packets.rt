@@ -1,10 +1,10 @@
 //! The packets of return routability (RFC 6275 sections 6.1.7 and 11.7.2).
 
-ghost use Rattle.std.specs.Prelude.{◌≡◌, IsTrue, IfOk, true, false};
+ghost use Rattle.std.specs.Prelude.{◌≡◌, ◌<◌, IsTrue, IfOk, IfSome, true, false};
 ghost use Rattle.mip_words.specs.Addresses.{is_routable};
 ghost use Rattle.mip_mobhdr.specs.Said.{said_plain};
 ghost use Rattle.mip_mobhdr.specs.Said.Said.{Update};
-ghost use Rattle.mip_rules_mobile.specs.Sendings.{update_bytes, update_packet, with_indices};
+ghost use Rattle.mip_rules_mobile.specs.Sendings.{number_option, update_bytes, update_packet, with_indices};
 
 use mip_bulist::Made;
 use mip_constants::MAX_RR_BINDING_LIFETIME;
@@ -23,31 +23,35 @@ pub fn write_update(
     home: Address,
     source: Address,
     peer: Address,
+    number: u8,
     made: &Made,
 ) -> Result<Bytes, Memory>
-    requires { IsTrue (is_routable home.0) }
-    ensures { IfOk result (λ b. b ≡ update_packet (record { home = home; source = source; peer = peer; made = made.now })) }
+    requires home { IsTrue (is_routable home.0) }
+    requires few { number < 8 }
+    ensures { IfOk result (λ b. b ≡ update_packet (record { home = home; source = source; peer = peer; number = number; made = made.now })) }
 {
     if made.careof.is_some() {
-        write_binding(alloc, home, source, peer, made)
+        write_binding(alloc, home, source, peer, number, made)
     } else {
-        write_deletion(alloc, home, source, peer, made)
+        write_deletion(alloc, home, source, peer, number, made)
     }
 }
 
-/// An update that binds, from the care-of address and in the name of the home address.
+/// An update that binds, from the care-of address and in the name of the home address, with its number.
 fn write_binding(
     alloc: Global,
     home: Address,
     source: Address,
     peer: Address,
+    number: u8,
     made: &Made,
 ) -> Result<Bytes, Memory>
-    requires { IsTrue (is_routable home.0) }
-    ensures { IfOk result (λ b. b ≡ update_bytes (record { home = home; source = source; peer = peer; made = made.now }) true) }
+    requires home { IsTrue (is_routable home.0) }
+    requires few { number < 8 }
+    ensures { IfOk result (λ b. b ≡ update_bytes (record { home = home; source = source; peer = peer; number = number; made = made.now }) true) }
 {
     let head = node_head(source, peer, None, Some(home), MOBILITY_HEADER);
-    let message = update_of(made, MAX_RR_BINDING_LIFETIME);
+    let message = update_of(made, number_option(number), MAX_RR_BINDING_LIFETIME);
     write_authenticated_packet(
         alloc,
         &head,
@@ -58,18 +62,19 @@ fn write_binding(
     )
 }
 
-/// An update that deletes the binding, from home.
+/// An update that deletes the binding, from home, whatever the number of the place.
 fn write_deletion(
     alloc: Global,
     home: Address,
     source: Address,
     peer: Address,
+    number: u8,
     made: &Made,
 ) -> Result<Bytes, Memory>
-    ensures { IfOk result (λ b. b ≡ update_bytes (record { home = home; source = source; peer = peer; made = made.now }) false) }
+    ensures { IfOk result (λ b. b ≡ update_bytes (record { home = home; source = source; peer = peer; number = number; made = made.now }) false) }
 {
     let head = straight(source, peer, MOBILITY_HEADER);
-    let message = update_of(made, 0);
+    let message = update_of(made, None, 0);
     write_authenticated_packet(
         alloc,
         &head,
@@ -80,9 +85,18 @@ fn write_deletion(
     )
 }
 
+/// The Binding Number by which a number is asked for: none asks for 0.
+fn number_option(number: u8) -> Option<u8>
+    requires { number < 8 }
+    ensures value { result ≡ number_option number }
+    ensures few { IfSome result (λ n. n < 8) }
+{
+    if number == 0 { None } else { Some(number) }
+}
+
 /// The update with a lifetime, which asks for an acknowledgement and names the nonces of its tests.
-fn update_of(made: &Made, lifetime: u16) -> Plain
-    ensures { said_plain result ≡ Update made.now.sequence true false false false lifetime (with_indices made.now) }
+fn update_of(made: &Made, number: Option<u8>, lifetime: u16) -> Plain
+    ensures { said_plain result ≡ Update made.now.sequence true false false false lifetime (record (with_indices made.now) { number = number }) }
 {
     Plain::Update {
         sequence: made.sequence,
@@ -93,6 +107,7 @@ fn update_of(made: &Made, lifetime: u16) -> Plain
         lifetime,
         options: OptionSet {
             nonces: Some(made.indices),
+            number,
             ..NO_OPTIONS
         },
     }

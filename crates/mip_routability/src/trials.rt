@@ -159,7 +159,14 @@ fn send_update(
     requires early { wait < 2 ^ 32 }
     ensures { (t : Turn) → Shows desk.old t → OnOk result (Shows desk.new (sends_update (Some source) row peer made.now wait t)) }
 {
-    let packet = write_update(alloc, desk.home(), source, peer, made)?;
+    let packet = write_update(
+        alloc,
+        desk.home(),
+        source,
+        peer,
+        desk.binding_number(),
+        made,
+    )?;
     desk.put_update(row, source, peer, made, packet)?;
     desk.wait_row(row, wait);
     Ok(())

@@ -1,8 +1,8 @@
 -- The numbers that a mobile draws are counted from the beginning of its present life.
 use Rattle.std.proofs.Common.{◌≡◌, ℕ, ◌+◌, ◌<◌, List, [], ◌∷◌, length, refl, sym, ap, ◌∙◌, subst, arith}
-use Rattle.std.specs.Prelude.{◌%◌, ◌^◌, Option, fold, if◌then◌else◌, Bool, true, false, ◌||◌}
+use Rattle.std.specs.Prelude.{◌%◌, ◌^◌, Option, fold, if◌then◌else◌, Bool, true, false, ◌||◌, ◌==◌, not}
 use Rattle.std.specs.List.{filter, list_any}
-use Rattle.std.proofs.Math.Nat.{mod-add-mod, mod-eq_of_lt}
+use Rattle.std.proofs.Math.Nat.{mod-add-mod, mod-eq_of_lt, mod-mod}
 use Rattle.mip_words.specs.declared.address.Address.{Address}
 use Rattle.mip_nonce.specs.Secrets.{Life}
 use Rattle.mip_lists.specs.Last.{since}
@@ -11,16 +11,19 @@ use Rattle.mip_entries.specs.Stamped.{Stamped}
 use Rattle.mip_bulist.specs.declared.aim.Aim.TheVariants.{Bind, Delete}
 use Rattle.mip_rules_mobile.specs.Trials.{Start}
 use Rattle.mip_rules_mobile.specs.Sendings.{Solicits}
-use Rattle.mip_rules_mobile.specs.Steps.{Step, Sends, Restarts, Seeks, Tries}
+use Rattle.mip_rules_mobile.specs.Steps.{Step, Sends, Arrives, Restarts, Seeks, Tries}
 use Rattle.mip_rules_mobile.specs.Known.{Known}
+use Rattle.mip_rules_mobile.specs.HomeQuestions.{places_after, binding_number_of}
 use Rattle.mip_rules_mobile.specs.RowQuestions.{cookies_after}
 use Rattle.mip_rules_mobile.specs.DiscoveryQuestions.{discoveries_after, solicitations_after}
 use Rattle.mip_rules_mobile.specs.Questions.{after, fresh, known}
-use Rattle.mip_rules_mobile.specs.Counted.{is_loss, this_life, is_search, is_solicitation, cookies_in, cookies_drawn, how_many}
+use Rattle.mip_rules_mobile.specs.Part.{part_life}
+use Rattle.mip_rules_mobile.specs.Counted.{is_loss, this_life, is_search, is_solicitation, is_place, cookies_in, cookies_drawn, how_many}
+use Rattle.mip_rules_mobile.proofs.PartLives.{part_is, HasPart, part-kept, fresh-part, part-numbers, part-home}
 
--- of a number that goes on by a weight of each step, and begins anew with a life
-module _ (m b : ℕ) (small : b < m) (weight : Step → ℕ) (total : List (Stamped Step) → ℕ) (none : total [] ≡ 0) (more : (s : Stamped Step) (past : List (Stamped Step)) → total (s ∷ past) ≡ weight s.step + total past)
-    (question : Known → ℕ) (row : (k : Known) (s : Stamped Step) → question k % m ≡ question k → question (after k s) ≡ (if is_loss s.step then b else (question k + weight s.step) % m)) where
+-- of a number that goes on by a weight of each step, and begins anew with a life, where something holds that each step keeps
+module _ (Holds : Known → Type 0) (kept : (k : Known) (s : Stamped Step) → Holds k → Holds (after k s)) (m b : ℕ) (small : b < m) (weight : Step → ℕ) (total : List (Stamped Step) → ℕ) (none : total [] ≡ 0) (more : (s : Stamped Step) (past : List (Stamped Step)) → total (s ∷ past) ≡ weight s.step + total past)
+    (question : Known → ℕ) (row : (k : Known) (s : Stamped Step) → Holds k → question k % m ≡ question k → question (after k s) ≡ (if is_loss s.step then b else (question k + weight s.step) % m)) where
   abbrev lost : Stamped Step → Bool
   lost s = is_loss s.step
 
@@ -39,11 +42,11 @@ module _ (m b : ℕ) (small : b < m) (weight : Step → ℕ) (total : List (Stam
       plain : c + w + 0 ≡ c + w
       plain = omega arith
 
-  numbers : (k : Known) (past : List (Stamped Step)) → question k % m ≡ question k → question (fold after k past) ≡ counted (list_any lost past) (question k) past
-  numbers k [] fits = sym fits ∙ ap (λ (n : ℕ). n % m) (let e = none in omega (arith, e))
-  numbers k (s ∷ past) fits =
-      let is = row k s fits in
-      numbers (after k s) past (fits-still (question (after k s)) (lost s) (question k) (weight s.step) is) ∙ by (list_any lost past) (lost s) is
+  numbers : (k : Known) (past : List (Stamped Step)) → Holds k → question k % m ≡ question k → question (fold after k past) ≡ counted (list_any lost past) (question k) past
+  numbers k [] holds fits = sym fits ∙ ap (λ (n : ℕ). n % m) (let e = none in omega (arith, e))
+  numbers k (s ∷ past) holds fits =
+      let is = row k s holds fits in
+      numbers (after k s) past (kept k s holds) (fits-still (question (after k s)) (lost s) (question k) (weight s.step) is) ∙ by (list_any lost past) (lost s) is
     where
       by : (later here : Bool) → question (after k s) ≡ (if here then b else (question k + weight s.step) % m)
           → counted later (question (after k s)) past
@@ -56,9 +59,9 @@ module _ (m b : ℕ) (small : b < m) (weight : Step → ℕ) (total : List (Stam
           ∙ mod-add-mod (question k + weight s.step) m (total past)
           ∙ ap (λ (n : ℕ). n % m) (let e = more s past in omega (arith, e))
 
-  pub numbered : (k : Known) (past : List (Stamped Step)) → question k ≡ b → question (fold after k past) ≡ (b + total (this_life past)) % m
-  numbered k past first =
-      numbers k past (subst (λ (n : ℕ). n % m ≡ n) (sym first) (mod-eq_of_lt small)) ∙ by (list_any lost past) refl
+  pub numbered : (k : Known) (past : List (Stamped Step)) → Holds k → question k ≡ b → question (fold after k past) ≡ (b + total (this_life past)) % m
+  numbered k past holds first =
+      numbers k past holds (subst (λ (n : ℕ). n % m ≡ n) (sym first) (mod-eq_of_lt small)) ∙ by (list_any lost past) refl
     where
       by : (any : Bool) → list_any lost past ≡ any → counted any (question k) past ≡ (b + total (since lost past)) % m
       by true is = refl
@@ -95,22 +98,44 @@ cookies-row k (Tries row (Start Delete home careof)) fits = refl
 cookies-row k (Restarts secrets) fits = refl
 cookies-row k _ fits = stays (2 ^ 64) k.cookies fits
 
+places-row : (home : Address) (numbers : ℕ) (k : Known) (step : Step) → HasPart home numbers k → k.places % numbers ≡ k.places
+    → places_after k step ≡ (if is_loss step then 0 else (k.places + one_if (is_place home step)) % numbers)
+places-row home numbers k (Restarts secrets) holds fits = refl
+places-row home numbers k (Arrives address) holds fits =
+    rw (part-home home numbers k holds, part-numbers home numbers k holds) (by (address.0 == home.0))
+  where
+    by : (at_home : Bool) → (if at_home then k.places else (k.places + 1) % numbers) ≡ (k.places + one_if (not at_home)) % numbers
+    by true = stays numbers k.places fits
+    by false = refl
+places-row home numbers k _ holds fits = stays numbers k.places fits
+
 module _ (home : Address) (declared : Option Address) (numbers : ℕ) (secrets : Life) (past : List (Stamped Step)) where
   pub discoveries-told : (known home declared numbers secrets past).discoveries ≡ (1 + how_many is_search (this_life past)) % 65536
   unfolding known after
   discoveries-told =
-      numbered 65536 1 (omega arith) (λ step. one_if (is_search step)) (how_many is_search) refl (many-more is_search)
-      (λ k. k.discoveries) (λ k s fits. discoveries-row k s.step fits) (fresh home declared numbers secrets) past refl
+      numbered (λ _. Unit {0}) (λ k s _. tt) 65536 1 (omega arith) (λ step. one_if (is_search step)) (how_many is_search) refl (many-more is_search)
+      (λ k. k.discoveries) (λ k s _ fits. discoveries-row k s.step fits) (fresh home declared numbers secrets) past tt refl
 
   pub solicitations-told : (known home declared numbers secrets past).solicitations ≡ (1 + how_many is_solicitation (this_life past)) % 65536
   unfolding known after
   solicitations-told =
-      numbered 65536 1 (omega arith) (λ step. one_if (is_solicitation step)) (how_many is_solicitation) refl (many-more is_solicitation)
-      (λ k. k.solicitations) (λ k s fits. solicitations-row k s.step fits) (fresh home declared numbers secrets) past refl
+      numbered (λ _. Unit {0}) (λ k s _. tt) 65536 1 (omega arith) (λ step. one_if (is_solicitation step)) (how_many is_solicitation) refl (many-more is_solicitation)
+      (λ k. k.solicitations) (λ k s _ fits. solicitations-row k s.step fits) (fresh home declared numbers secrets) past tt refl
 
   pub cookies-told : (known home declared numbers secrets past).cookies ≡ cookies_drawn (this_life past) % 2 ^ 64
   unfolding known after
   cookies-told =
-      numbered (2 ^ 64) 0 (omega arith) cookies_in cookies_drawn refl (λ s past. refl)
-      (λ k. k.cookies) (λ k s fits. cookies-row k s.step fits) (fresh home declared numbers secrets) past refl
+      numbered (λ _. Unit {0}) (λ k s _. tt) (2 ^ 64) 0 (omega arith) cookies_in cookies_drawn refl (λ s past. refl)
+      (λ k. k.cookies) (λ k s _ fits. cookies-row k s.step fits) (fresh home declared numbers secrets) past tt refl
       ∙ ap (λ (n : ℕ). n % 2 ^ 64) (omega arith)
+
+  pub places-told : 0 < numbers → binding_number_of (known home declared numbers secrets past) ≡ how_many (is_place home) (this_life past) % numbers
+  unfolding known after
+  places-told some =
+      let k : Known = known home declared numbers secrets past in
+      let counted = how_many (is_place home) (this_life past) in
+      let told = numbered (HasPart home numbers) (part-kept home numbers) numbers 0 some (λ step. one_if (is_place home step)) (how_many (is_place home)) refl (many-more (is_place home))
+      (λ k. k.places) (λ k s holds fits. places-row home numbers k s.step holds fits) (fresh home declared numbers secrets) past (fresh-part home declared numbers secrets) refl in
+      ap (λ (n : ℕ). k.places % n) (part-numbers home numbers k (part_life home numbers secrets past, part_is home declared numbers secrets past))
+      ∙ ap (λ (n : ℕ). n % numbers) (told ∙ ap (λ (n : ℕ). n % numbers) (omega arith))
+      ∙ mod-mod counted numbers

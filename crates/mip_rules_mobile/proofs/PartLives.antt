@@ -13,6 +13,7 @@ use Rattle.mip_rules_correspondent.proofs.Pasts as part_pasts
 use Rattle.mip_rules_correspondent.proofs.Calls as part_calls
 use Rattle.mip_rules_mobile.specs.Steps.{Step, Parts, Restarts}
 use Rattle.mip_rules_mobile.specs.Known.{Known}
+use Rattle.mip_rules_mobile.specs.HomeQuestions.{home_of, numbers_of}
 use Rattle.mip_rules_mobile.specs.Questions.{part_room, part_after, after, fresh, known}
 use Rattle.mip_rules_mobile.specs.Part.{PartLife, part_of, part_goes_on, new_part, part_life}
 
@@ -52,3 +53,21 @@ unfolding known part_life
 part_is home declared numbers secrets past =
     lives_on home numbers (fresh home declared numbers secrets) (new_part secrets) past
     (ap (λ (k : kept.Known). let c : CorrespondentSeen = record { identity = record { own = home; secrets = secrets; room = part_room }; known = k } in c) (fresh_known numbers))
+
+-- the part of a mobile with this home address and so many numbers
+abbrev pub HasPart : (home : Address) (numbers : ℕ) → Known → Type 0
+HasPart home numbers k = (p : PartLife) × (k.part ≡ part_of home numbers p)
+
+pub part-kept : (home : Address) (numbers : ℕ) (k : Known) (s : Stamped Step) → HasPart home numbers k → HasPart home numbers (after k s)
+part-kept home numbers k s is =
+    (part_goes_on home numbers is.0 s.at s.step, after_part k s ∙ ap (λ (c : CorrespondentSeen). part_after c s.at s.step) is.1 ∙ step_is home numbers is.0 s.at s.step)
+
+pub fresh-part : (home : Address) (declared : Option Address) (numbers : ℕ) (secrets : Life) → HasPart home numbers (fresh home declared numbers secrets)
+fresh-part home declared numbers secrets =
+    (new_part secrets, ap (λ (k : kept.Known). let c : CorrespondentSeen = record { identity = record { own = home; secrets = secrets; room = part_room }; known = k } in c) (fresh_known numbers))
+
+pub part-numbers : (home : Address) (numbers : ℕ) (k : Known) → HasPart home numbers k → numbers_of k ≡ numbers
+part-numbers home numbers k is = ap (λ (c : CorrespondentSeen). c.known.cache.numbers) is.1 ∙ part_pasts.known-numbers part_room numbers is.0.past
+
+pub part-home : (home : Address) (numbers : ℕ) (k : Known) → HasPart home numbers k → home_of k ≡ home
+part-home home numbers k is = ap (λ (c : CorrespondentSeen). c.identity.own) is.1

@@ -22,7 +22,7 @@ use Rattle.mip_rules_mobile.specs.Calls.{Call}
 use Rattle.mip_rules_mobile.specs.Trials.{Start, Rest, makes, lacks_home, lacks_careof}
 use Rattle.mip_rules_mobile.specs.Sendings.{PeerUpdate, AsksHome, AsksCareof}
 use Rattle.mip_rules_mobile.specs.Steps.{Step, Sends, Tries, Updates, Waits}
-use Rattle.mip_rules_mobile.specs.HomeQuestions.{home_of}
+use Rattle.mip_rules_mobile.specs.HomeQuestions.{home_of, binding_number_of}
 use Rattle.mip_rules_mobile.specs.RowQuestions.{first_cookie, second_cookie, peer_of_row, trial_of, wait_of_row}
 use Rattle.mip_rules_mobile.specs.Turns.{Turn, noted}
 use Rattle.mip_rules_mobile.specs.OutRules.{goes_out}
@@ -79,9 +79,9 @@ module _ (c : Call) (P : Turn → Type 0) (more : Goes c P) where
       → source_for t.known.standing (home_of t.known) made ≡ source → P t → P (sends_update source row peer made wait t)
   sends None row peer made wait t positive of_row of_trial from p = p
   sends (Some source) row peer made wait t positive of_row of_trial from p =
-      let u : PeerUpdate = record { home = home_of t.known; source = source; peer = peer; made = made } in
+      let u : PeerUpdate = record { home = home_of t.known; source = source; peer = peer; number = binding_number_of t.known; made = made } in
       more (Waits (Resend row) wait) (noted (Updates row u) t) refl positive
-      (more (Updates row u) t refl (record { home = refl; peer = of_row; made = of_trial; source = from }) p)
+      (more (Updates row u) t refl (record { home = refl; peer = of_row; number = refl; made = of_trial; source = from }) p)
 
   pub every-updates : (row wait : ℕ) (t : Turn) → 0 < wait → P t → P (updates row wait t)
   unfolding updates

@@ -1,12 +1,13 @@
--- The numbers that a mobile draws, counted over the steps of its present life. RFC 6275 sections 5.2.5, 11.4.1 and 11.4.2
-use Rattle.std.specs.Prelude.{ℕ, ◌+◌, List, [], ◌∷◌, Bool, true, false, length}
+-- The numbers that a mobile draws, and the places that it comes to, counted over the steps of its present life. RFC 6275 sections 5.2.5, 11.4.1 and 11.4.2
+use Rattle.std.specs.Prelude.{ℕ, ◌+◌, ◌==◌, List, [], ◌∷◌, Bool, true, false, not, length}
 use Rattle.std.specs.List.{filter}
 use Rattle.mip_lists.specs.Last.{since}
+use Rattle.mip_words.specs.declared.address.Address.{Address}
 use Rattle.mip_entries.specs.Stamped.{Stamped}
 use Rattle.mip_bulist.specs.declared.aim.Aim.TheVariants.{Bind, Delete}
 use Rattle.mip_rules_mobile.specs.Trials.{Start}
 use Rattle.mip_rules_mobile.specs.Sendings.{Solicits}
-use Rattle.mip_rules_mobile.specs.Steps.{Step, Sends, Restarts, Seeks, Tries}
+use Rattle.mip_rules_mobile.specs.Steps.{Step, Sends, Arrives, Restarts, Seeks, Tries}
 
 abbrev pub is_loss : Step → Bool
 is_loss (Restarts secrets) = true
@@ -25,6 +26,11 @@ is_search _ = false
 abbrev pub is_solicitation : Step → Bool
 is_solicitation (Sends (Solicits home careof agent identifier)) = true
 is_solicitation _ = false
+
+-- it comes to a place: to an address other than its home
+abbrev pub is_place : Address → Step → Bool
+is_place home (Arrives address) = not (address.0 == home.0)
+is_place home _ = false
 
 -- a trial that is to bind draws two cookies, one that is to delete draws one
 abbrev pub cookies_in : Step → ℕ

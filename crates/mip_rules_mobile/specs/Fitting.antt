@@ -24,7 +24,7 @@ use Rattle.mip_rules_mobile.specs.Trials.{Change, HomeTest, CareofTest, Acknowle
 use Rattle.mip_rules_mobile.specs.Sendings.{Inner, OfPart, AsksHome, Given, Sending, FromHome, ByTunnel, AsksCareof, RegistersHome, DeregistersHome, SendsData, Discovers, Solicits, PeerUpdate}
 use Rattle.mip_rules_mobile.specs.Steps.{Step, Called, Parts, Notes, Sends, Unsends, Drops, Claims, FindsTaken, Arrives, Detaches, Restarts, Registers, Unregisters, IsRefused, Resequences, Tries, Updates, Binds, Unbinds, Waits}
 use Rattle.mip_rules_mobile.specs.Known.{Known}
-use Rattle.mip_rules_mobile.specs.HomeQuestions.{home_of}
+use Rattle.mip_rules_mobile.specs.HomeQuestions.{home_of, binding_number_of}
 use Rattle.mip_rules_mobile.specs.RowQuestions.{peer_of_row, trial_of}
 use Rattle.mip_rules_mobile.specs.Questions.{after}
 use Rattle.mip_rules_mobile.specs.TrialRules.{source_for}
@@ -66,6 +66,7 @@ IsSentBy c now k (Solicits home careof agent identifier) = IsAt k (Away careof) 
 pub record IsUpdateOf (now : ℕ) (k : Known) (row : ℕ) (u : PeerUpdate) : Type 0 where
   pub home : u.home ≡ home_of k
   pub peer : peer_of_row k row ≡ Some u.peer
+  pub number : u.number ≡ binding_number_of k
   pub made : makes (record { 0 = now }) (trial_of k row) ≡ Some (Ok u.made)
   pub source : source_for k.standing (home_of k) u.made ≡ Some u.source
 

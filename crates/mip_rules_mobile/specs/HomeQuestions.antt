@@ -30,6 +30,20 @@ standing_said home _ = None
 abbrev pub standing_after : Known → Step → Standing
 standing_after k step = unwrap_or (standing_said (home_of k) step) k.standing
 
+-- how many numbers its bindings may have, from 0 on: as many as its correspondent part has for those of others
+abbrev pub numbers_of : Known → ℕ
+numbers_of k = k.part.known.cache.numbers
+
+-- one place more where it comes to an address other than its home; a restart begins anew
+abbrev pub places_after : Known → Step → ℕ
+places_after k (Arrives address) = if address.0 == (home_of k).0 then k.places else (k.places + 1) % numbers_of k
+places_after k (Restarts secrets) = 0
+places_after k _ = k.places
+
+-- the number of a binding that it asks for: each place has the next number, and behind the last comes 0 again
+abbrev pub binding_number_of : Known → ℕ
+binding_number_of k = k.places % numbers_of k
+
 -- the registration that a step says it has: the last one acknowledged, since it last arrived, left, found its address taken
 -- or restarted, and not ended since
 abbrev pub registered_said : Step → Option (Option Registered)

@@ -20,6 +20,9 @@ pub record Known : Type 0 where
   pub declared : Option Address
   -- where it stands
   pub standing : Standing
+  -- how many places it came to since it last restarted, addresses other than its home, counted modulo the numbers that its
+  -- bindings may have
+  pub places : ℕ
   -- the home registration that was acknowledged
   pub registered : Option Registered
   -- the last home registration or deregistration of this life

@@ -10,7 +10,7 @@ use Rattle.mip_rules_correspondent.specs.Seen.{CorrespondentSeen, called}
 use Rattle.mip_rules_mobile.specs.declared.standing.Standing.TheVariants.{AtHome}
 use Rattle.mip_rules_mobile.specs.Steps.{Step, Parts, Restarts, is_call}
 use Rattle.mip_rules_mobile.specs.Known.{Known}
-use Rattle.mip_rules_mobile.specs.HomeQuestions.{standing_after, registered_after, latest_after, agent_after, owes_after, numberings_after, wait_after}
+use Rattle.mip_rules_mobile.specs.HomeQuestions.{standing_after, places_after, registered_after, latest_after, agent_after, owes_after, numberings_after, wait_after}
 use Rattle.mip_rules_mobile.specs.DiscoveryQuestions.{discovery_after, discoveries_after, found_after, tried_after, chosen_after, solicitations_after}
 use Rattle.mip_rules_mobile.specs.RowQuestions.{rows_after, peers_after, cookies_after, fresh_peers}
 use Rattle.mip_rules_mobile.specs.TimerQuestions.{timers_after}
@@ -40,6 +40,7 @@ after k s = record {
   part = part_after k.part s.at s.step;
   declared = k.declared;
   standing = standing_after k s.step;
+  places = places_after k s.step;
   registered = registered_after k s.step;
   latest = latest_after k s.at s.step;
   agent = agent_after k s.step;
@@ -65,6 +66,7 @@ fresh home declared numbers secrets = record {
   part = fresh_part home numbers secrets;
   declared = declared;
   standing = AtHome;
+  places = 0;
   registered = None;
   latest = None;
   agent = None;

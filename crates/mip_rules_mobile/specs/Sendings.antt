@@ -45,11 +45,12 @@ pub data Sending : Type 0 where
   -- a Mobile Prefix Solicitation
   Solicits : (home careof agent : Address) (identifier : ℕ) → Sending
 
--- an update to a peer, from the address that it is sent from
+-- an update to a peer, from the address that it is sent from, and the number of the binding where it binds
 pub record PeerUpdate : Type 0 where
   pub home : Address
   pub source : Address
   pub peer : Address
+  pub number : ℕ
   pub made : Made
 
 -- a packet from the home address
@@ -130,12 +131,19 @@ shield_of (Solicits home careof agent identifier) = shield_to home agent
 abbrev pub with_indices : Made → Values
 with_indices made = record nothing { nonces = Some made.indices }
 
+-- the Binding Number by which a number is asked for: none asks for 0
+abbrev pub number_option : ℕ → Option ℕ
+number_option number = if number == 0 then None else Some number
+
+abbrev pub binding_values : PeerUpdate → Values
+binding_values u = record (with_indices u.made) { number = number_option u.number }
+
 -- the update to a peer, with flag A, under the key of its tokens: it binds, from the care-of address and in the name of the
--- home address; or it deletes, from home. RFC 6275 sections 6.1.7, 11.7.2 and 11.5.5
+-- home address, with its number; or it deletes, from home. RFC 6275 sections 6.1.7, 11.7.2 and 11.5.5
 abbrev pub update_bytes : PeerUpdate → Bool → List ℕ
 update_bytes u true =
     authenticated_packet (node_head u.source u.peer None (Some u.home) mobility_header) u.made.kbm.0 u.source u.peer
-    (Update u.made.sequence true false false false max_rr_binding_lifetime (with_indices u.made))
+    (Update u.made.sequence true false false false max_rr_binding_lifetime (binding_values u))
 update_bytes u false =
     authenticated_packet (straight u.source u.peer mobility_header) u.made.kbm.0 u.source u.peer (Update u.made.sequence true false false false 0 (with_indices u.made))
 

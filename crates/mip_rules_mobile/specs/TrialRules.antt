@@ -17,7 +17,7 @@ use Rattle.mip_rules_mobile.specs.Timing.{doubled}
 use Rattle.mip_rules_mobile.specs.Trials.{Start, Rest, makes, lacks_home, lacks_careof}
 use Rattle.mip_rules_mobile.specs.Sendings.{AsksHome, AsksCareof}
 use Rattle.mip_rules_mobile.specs.Steps.{Sends, Tries, Updates, Waits}
-use Rattle.mip_rules_mobile.specs.HomeQuestions.{home_of}
+use Rattle.mip_rules_mobile.specs.HomeQuestions.{home_of, binding_number_of}
 use Rattle.mip_rules_mobile.specs.RowQuestions.{first_cookie, second_cookie, peer_of_row, trial_of, wait_of_row}
 use Rattle.mip_rules_mobile.specs.Turns.{Turn, noted}
 use Rattle.mip_rules_mobile.specs.OutRules.{goes_out}
@@ -64,7 +64,7 @@ source_for (Away careof) home made = if is_some made.careof then Some careof els
 abbrev pub sends_update : Option Address → ℕ → Address → Made → ℕ → Turn → Turn
 sends_update None row peer made wait t = t
 sends_update (Some source) row peer made wait t =
-    waits row wait (noted (Updates row (record { home = home_of t.known; source = source; peer = peer; made = made })) t)
+    waits row wait (noted (Updates row (record { home = home_of t.known; source = source; peer = peer; number = binding_number_of t.known; made = made })) t)
 
 -- with tokens too old the trial starts anew; too soon after three others, nothing is sent at this time
 abbrev pub makes_with : Option (Result Made Refused) → ℕ → Address → ℕ → Turn → Turn

@@ -14,13 +14,13 @@ ghost use Rattle.mip_rules_mobile.specs.Calls.{Call, Leave, Take, Tick, Restart}
 ghost use Rattle.mip_rules_mobile.specs.Sendings.{PeerUpdate};
 ghost use Rattle.mip_rules_mobile.specs.Steps.{Step, Detaches, Seeks, is_call, answers_of};
 ghost use Rattle.mip_rules_mobile.specs.Known.{Known};
-ghost use Rattle.mip_rules_mobile.specs.HomeQuestions.{home_of, standing_said, registered_said, latest_said, agent_said, owes_said, next_said, next_to};
+ghost use Rattle.mip_rules_mobile.specs.HomeQuestions.{home_of, binding_number_of, standing_said, registered_said, latest_said, agent_said, owes_said, next_said, next_to};
 ghost use Rattle.mip_rules_mobile.specs.DiscoveryQuestions.{found_said, chosen_said, is_choice};
 ghost use Rattle.mip_rules_mobile.specs.Questions.{after, known};
 ghost use Rattle.mip_rules_mobile.specs.Turns.{Stands, with_turn};
 ghost use Rattle.mip_rules_mobile.specs.RowQuestions.{is_touched_row, wait_of_row};
 ghost use Rattle.mip_rules_mobile.specs.Told.{last_told, next_in};
-ghost use Rattle.mip_rules_mobile.specs.Counted.{this_life, is_search, is_solicitation, cookies_drawn, how_many};
+ghost use Rattle.mip_rules_mobile.specs.Counted.{this_life, is_search, is_solicitation, is_place, cookies_drawn, how_many};
 ghost use Rattle.mip_rules_mobile.specs.Searching.{is_over, is_turn, search_with};
 ghost use Rattle.mip_rules_mobile.specs.Wording.{wait_said, touched_said, bound_said, resend_said, bound_at};
 ghost use Rattle.mip_rules_mobile.specs.Fitting.{IsUpdateOf, EachFits};
@@ -181,11 +181,13 @@ pub fn each_row_is_the_last_told()
 {}
 
 /// The identifiers of discoveries and of solicitations begin at 1 in each life and go on by one, modulo 65536; cookies are those
-/// drawn since the last restart, modulo 2^64.
+/// drawn since the last restart, modulo 2^64; the number of a binding that is asked for counts the places since then, modulo the
+/// numbers that a binding may have.
 pub fn numbers_are_counted_in_each_life()
     ensures discoveries { (home : Address) (declared : Option Address) (numbers : ℕ) (secrets : Life) (past : List (Stamped Step)) → (known home declared numbers secrets past).discoveries ≡ (1 + how_many is_search (this_life past)) % 65536 }
     ensures solicitations { (home : Address) (declared : Option Address) (numbers : ℕ) (secrets : Life) (past : List (Stamped Step)) → (known home declared numbers secrets past).solicitations ≡ (1 + how_many is_solicitation (this_life past)) % 65536 }
     ensures cookies { (home : Address) (declared : Option Address) (numbers : ℕ) (secrets : Life) (past : List (Stamped Step)) → (known home declared numbers secrets past).cookies ≡ cookies_drawn (this_life past) % 2 ^ 64 }
+    ensures numbers { (home : Address) (declared : Option Address) (numbers : ℕ) (secrets : Life) (past : List (Stamped Step)) → 0 < numbers → binding_number_of (known home declared numbers secrets past) ≡ how_many (is_place home) (this_life past) % numbers }
 {}
 
 /// A discovery runs from its beginning until it is given up or answered, or the mobile leaves or restarts: with the identifier that

@@ -1,4 +1,4 @@
-use Rattle.std.proofs.Common.{ap, ◌∙◌}
+use Rattle.std.proofs.Common.{ℕ, ap, ◌∙◌}
 use Rattle.mip_rules_mobile.specs.Questions.{after}
 use Rattle.mip_rules_mobile.specs.Steps.{Arrives}
 use Rattle.mip_kept.specs.Seen.{seen}
@@ -6,10 +6,12 @@ use Rattle.mip_desk.proofs.Noted.{shown}
 use Rattle.std.specs.Prelude.{None}
 use Rattle.mip_words.specs.declared.address.Address.{Address}
 use Rattle.mip_rules_mobile.specs.declared.standing.Standing.{Standing}
-use Rattle.mip_rules_mobile.specs.HomeQuestions.{standing_at}
+use Rattle.mip_rules_mobile.specs.HomeQuestions.{home_of, standing_at}
 use Rattle.mip_desk.proofs.desk.Desk.arrive.Goals as goal
 
 pub returns : goal.returns
 unfolding after
 returns c = λ t shows.
-    shown (Arrives c.args.address) c.args.self.now c.self.inside.moment.0 (seen c.self.inside.known) _ c.self.inside.answers c.push.new.self t c.self.view_is c.in_ok-push.ensures.ok (ap (λ (s : Standing). record (seen c.self.inside.known) { standing = s; registered = None }) (c.standing_at-self-inside.ensures ∙ ap (λ (h : Address). standing_at h c.args.address) c.self.invariant.own)) shows
+    shown (Arrives c.args.address) c.args.self.now c.self.inside.moment.0 (seen c.self.inside.known) _ c.self.inside.answers c.push.new.self t c.self.view_is c.in_ok-push.ensures.ok 
+    (ap (λ (s : Standing). record (seen c.self.inside.known) { standing = s; places = c.places_after.result; registered = None }) (c.standing_at-self-inside.ensures ∙ ap (λ (h : Address). standing_at h c.args.address) c.self.invariant.own)
+    ∙ ap (λ (n : ℕ). record (seen c.self.inside.known) { standing = standing_at (home_of (seen c.self.inside.known)) c.args.address; places = n; registered = None }) c.places_after.ensures) shows

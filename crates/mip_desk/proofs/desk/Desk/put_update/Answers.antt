@@ -7,7 +7,7 @@ use Rattle.mip_entries.specs.declared.entry.Entry.{Entry}
 use Rattle.mip_entries.specs.declared.entry.Entry.TheVariants as entries
 use Rattle.mip_bulist.specs.Lists.{ListSeen}
 use Rattle.mip_rules_mobile.specs.declared.peer.Peer.{Peer}
-use Rattle.mip_rules_mobile.specs.HomeQuestions.{home_of}
+use Rattle.mip_rules_mobile.specs.HomeQuestions.{home_of, binding_number_of}
 use Rattle.mip_rules_mobile.specs.Questions.{after}
 use Rattle.mip_rules_mobile.specs.RowQuestions.{with_peer, touched}
 use Rattle.mip_rules_mobile.specs.Sendings.{PeerUpdate}
@@ -35,7 +35,7 @@ invariant_of-self-2 c = record {
 pub returns : goal.returns
 unfolding after
 returns c = λ t packet shows.
-    let u : PeerUpdate = record { home = home_of c.args.self.now.known; source = c.args.source; peer = c.args.peer; made = c.args.made.now } in
+    let u : PeerUpdate = record { home = home_of c.args.self.now.known; source = c.args.source; peer = c.args.peer; number = binding_number_of c.args.self.now.known; made = c.args.made.now } in
     let made : Answer = Note (entries.Made myself c.args.peer 0 c.args.made.now.home c.args.made.now.careof) in
     shown (Updates c.args.row u) c.args.self.now c.self.inside.moment.0 (seen c.self.inside.known) _ c.self.inside.answers c.push-2.new.self t c.self.view_is
     (c.in_ok-push-2.ensures.ok

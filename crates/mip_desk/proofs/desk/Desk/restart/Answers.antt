@@ -11,4 +11,4 @@ unfolding after
 returns c = λ t shows.
     shown (Restarts c.args.secrets) c.args.self.now c.self.inside.moment.0 (seen c.self.inside.known) _ c.self.inside.answers c.push.new.self t c.self.view_is c.in_ok-push.ensures.ok
     (c.in_ok-self-inside.ensures.known
-    ∙ ap (λ (h : Address). record (fresh h c.self.inside.known.declared c.args.secrets) { last = c.self.inside.known.last; standing = c.self.inside.known.standing }) c.self.invariant.own) shows
+    ∙ ap (λ (h : Address). record (fresh h c.self.inside.known.declared c.self.inside.known.part.known.cache.numbers c.args.secrets) { last = c.self.inside.known.last; standing = c.self.inside.known.standing }) c.self.invariant.own) shows
