@@ -213,7 +213,7 @@ length_filled items (s ∷ ss) filled = by (find s.0 items) filled.0 (length_fil
     by None some more = absurd (false≢true some)
     by (Some x) some more = omega arith
 
-has_place : (rows : List Home) (at : ℕ) → at < length rows → is_some (slice_get rows at) ≡ true
+pub has_place : (rows : List Home) (at : ℕ) → at < length rows → is_some (slice_get rows at) ≡ true
 has_place [] at inside = absurd (omega arith)
 has_place (r ∷ rs) zero inside = refl
 has_place (r ∷ rs) (suc at) inside = has_place rs at (omega arith)
