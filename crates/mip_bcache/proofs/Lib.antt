@@ -8,3 +8,5 @@ pub mod Searches
 pub mod Spares
 pub mod Listed
 pub mod Renewals
+pub mod Pasts
+pub mod Views

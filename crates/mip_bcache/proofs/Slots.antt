@@ -54,9 +54,9 @@ all_found P k (x ∷ xs) rows holds rest = pick (x.slot == k) (all_found P k xs 
     pick false more = more
 
 -- what holds of all items' values holds of all rows
-pub all_rows : (P : Home → Type 0) (items : Items) (ss : List Slot) → AllByRecursion (λ x. P x.value) items → AllByRecursion P (homes_of items ss)
-all_rows P items [] all = tt
-all_rows P items (s ∷ ss) all = all_found P s.0 items (homes_of items ss) all (all_rows P items ss all)
+pub all_homes : (P : Home → Type 0) (items : Items) (ss : List Slot) → AllByRecursion (λ x. P x.value) items → AllByRecursion P (homes_of items ss)
+all_homes P items [] all = tt
+all_homes P items (s ∷ ss) all = all_found P s.0 items (homes_of items ss) all (all_homes P items ss all)
 
 -- all rows are kept where none is over
 pub kept_all : (now : ℕ) (rows : List Home) → AllByRecursion (λ r. now < due_of r) rows → kept_by due_of now rows ≡ rows
@@ -88,7 +88,7 @@ pub none_over : (now : ℕ) (x : Item Home) (xs : Items) (ss : List Slot) → Is
 none_over now x xs ss loose less =
     let is = loose.due.0 in
     let first : now < due_of x.value = omega arith in
-    kept_all now (homes_of (x ∷ xs) ss) (all_rows (λ (r : Home). now < due_of r) (x ∷ xs) ss (first, due_later now x.due xs less loose.order.0 loose.due.1))
+    kept_all now (homes_of (x ∷ xs) ss) (all_homes (λ (r : Home). now < due_of r) (x ∷ xs) ss (first, due_later now x.due xs less loose.order.0 loose.due.1))
 
 -- a row that is over may leave its slot
 pub one_over : (now : ℕ) (x : Item Home) (xs : Items) (ss : List Slot) → find x.slot xs ≡ None → due_of x.value ≤ now → kept_by due_of now (homes_of (x ∷ xs) ss) ≡ kept_by due_of now (homes_of xs ss)
