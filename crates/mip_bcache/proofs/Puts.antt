@@ -278,14 +278,14 @@ module _ (t : TableSeen) (table : IsTable t) (row : Home) (well : IsHome t.numbe
       let rows : homes_of (put x old) (insert t.homes at n) ≡ put_by key_of row (homes_in t) =
       rows_insert old (put x old) n x IsAny by t.homes at inside any table.filled ∙ gap.added row refl in
       let loose : IsLoose (put x old) (insert t.homes at n) = record {
-            apart = apart_insert old (put x old) n x IsAny by t.homes at inside any table.filled table.loose.apart;
-            slots = slots_put x old none table.loose.slots;
-            inside =
-                all_put (λ (y : Item Home). has_slot y.slot (insert t.homes at n) ≡ true) x old (has_insert_same t.homes at n inside)
-                (all_map (λ (y : Item Home). has_slot y.slot t.homes ≡ true) (λ (y : Item Home). has_slot y.slot (insert t.homes at n) ≡ true) old (λ y has. has_insert y.slot t.homes at n inside has) table.loose.inside);
-            due = all_put (λ (y : Item Home). y.due ≡ due_of y.value) x old refl table.loose.due;
-            order = put_order x old table.loose.order;
-          } in
+        apart = apart_insert old (put x old) n x IsAny by t.homes at inside any table.filled table.loose.apart;
+        slots = slots_put x old none table.loose.slots;
+        inside =
+            all_put (λ (y : Item Home). has_slot y.slot (insert t.homes at n) ≡ true) x old (has_insert_same t.homes at n inside)
+            (all_map (λ (y : Item Home). has_slot y.slot t.homes ≡ true) (λ (y : Item Home). has_slot y.slot (insert t.homes at n) ≡ true) old (λ y has. has_insert y.slot t.homes at n inside has) table.loose.inside);
+        due = all_put (λ (y : Item Home). y.due ≡ due_of y.value) x old refl table.loose.due;
+        order = put_order x old table.loose.order;
+      } in
       let counted = length_rows (put x old) (insert t.homes at n) loose in
       let longer = length_insert t.homes at n inside in
       let in_slots = length_filled (put x old) (insert t.homes at n) (filled_insert old (put x old) n x IsAny by t.homes at inside any table.filled) in
@@ -337,19 +337,19 @@ module _ (t : TableSeen) (table : IsTable t) (row : Home) (well : IsHome t.numbe
       let rows : homes_of (put x left) (set t.homes at n) ≡ put_by key_of row (homes_in t) =
       rows_set old (put x left) n x IsOther by t.homes at inside others table.filled ∙ place.replaced row refl in
       let loose : IsLoose (put x left) (set t.homes at n) = record {
-            apart = apart_set old (put x left) n x IsOther by t.homes at inside others table.filled table.loose.apart;
-            slots = slots_put x left none (slots_without k old table.loose.slots);
-            inside =
-                all_put (λ (y : Item Home). has_slot y.slot (set t.homes at n) ≡ true) x left (has_set_same t.homes at n inside)
-                (all_map (λ (y : Item Home). (y.slot ≢ k) × (has_slot y.slot t.homes ≡ true)) (λ (y : Item Home). has_slot y.slot (set t.homes at n) ≡ true) left
-                (λ y both. has_set y.slot t.homes at n d (λ is. both.0 (sym is)) both.1)
-                (all_without (λ (y : Item Home). has_slot y.slot t.homes ≡ true) k old table.loose.inside));
-            due =
-                all_put (λ (y : Item Home). y.due ≡ due_of y.value) x left refl
-                (all_map (λ (y : Item Home). (y.slot ≢ k) × (y.due ≡ due_of y.value)) (λ (y : Item Home). y.due ≡ due_of y.value) left (λ y both. both.1)
-                (all_without (λ (y : Item Home). y.due ≡ due_of y.value) k old table.loose.due));
-            order = put_order x left (without_order k old table.loose.order);
-          } in
+        apart = apart_set old (put x left) n x IsOther by t.homes at inside others table.filled table.loose.apart;
+        slots = slots_put x left none (slots_without k old table.loose.slots);
+        inside =
+            all_put (λ (y : Item Home). has_slot y.slot (set t.homes at n) ≡ true) x left (has_set_same t.homes at n inside)
+            (all_map (λ (y : Item Home). (y.slot ≢ k) × (has_slot y.slot t.homes ≡ true)) (λ (y : Item Home). has_slot y.slot (set t.homes at n) ≡ true) left
+            (λ y both. has_set y.slot t.homes at n d (λ is. both.0 (sym is)) both.1)
+            (all_without (λ (y : Item Home). has_slot y.slot t.homes ≡ true) k old table.loose.inside));
+        due =
+            all_put (λ (y : Item Home). y.due ≡ due_of y.value) x left refl
+            (all_map (λ (y : Item Home). (y.slot ≢ k) × (y.due ≡ due_of y.value)) (λ (y : Item Home). y.due ≡ due_of y.value) left (λ y both. both.1)
+            (all_without (λ (y : Item Home). y.due ≡ due_of y.value) k old table.loose.due));
+        order = put_order x left (without_order k old table.loose.order);
+      } in
       let counted = length_rows (put x left) (set t.homes at n) loose in
       let longer = length_set t.homes at n in
       let in_slots = length_filled (put x left) (set t.homes at n) (filled_set old (put x left) n x IsOther by t.homes at inside others table.filled) in

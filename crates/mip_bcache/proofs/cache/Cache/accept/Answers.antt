@@ -1,4 +1,4 @@
-use Rattle.std.proofs.Common.{◌≡◌, ◌<◌, ℕ, List, [], ◌∷◌, ◌++◌, map, false, ap, sym, ◌∙◌, subst}
+use Rattle.std.proofs.Common.{◌≡◌, ◌<◌, ℕ, List, [], ◌∷◌, ◌++◌, map, Bool, true, false, refl, ap, sym, ◌∙◌, subst}
 use Rattle.std.specs.Prelude.{not}
 use Rattle.mip_binding.specs.Rows.{find_by, put_by}
 use Rattle.mip_bcache.specs.Seen.{CacheSeen, HomeRows, StandsFor, home_of, acceptance, rows_made, rows_left, no_room, has_no_room, with_acceptance}
@@ -8,10 +8,20 @@ use Rattle.mip_bcache.proofs.Views.{room_seen}
 use Rattle.mip_bcache.proofs.cache.Cache.accept.Goals as goal
 
 pub accept-requires-clause-number : goal.accept-requires-clause-number
-accept-requires-clause-number c = ?
+accept-requires-clause-number c =
+    subst (λ (n : ℕ). c.args.number < n) (sym (ap (λ (v : CacheSeen). v.numbers) (c.self.view_is ∙ c.give_up.ensures.homes))) c.requires.number
 
 pub accept-requires-clause-free : goal.accept-requires-clause-free
-accept-requires-clause-free c = ?
+accept-requires-clause-free c =
+    let t = c.self.inside.table in
+    let room = sym c.has_room.ensures.found ∙ c.if-not-has_room.false in
+    room_seen t.room c.args.home.0 (homes_in (seen t))
+    ∙ ap (λ (v : CacheSeen). no_room home_of v.limit c.args.home.0 v.homes) (c.self.view_is ∙ c.give_up.ensures.homes)
+    ∙ by (has_no_room c.args.self.now c.args.home.0 c.args.now.0) room
+  where
+    by : (b : Bool) → not b ≡ true → b ≡ false
+    by true e = sym e
+    by false e = refl
 
 pub returns-clause-ok : goal.returns-clause-ok
 returns-clause-ok c =
