@@ -3,6 +3,7 @@ use Rattle.std.proofs.Common.{◌≡◌, ℕ, ◌<◌, List, [], ◌∷◌, ◌+
 use Rattle.std.specs.Prelude.{◌≢◌, is_some, map, nat_lt, ◌==◌, Option, Some, None, if◌then◌else◌}
 use Rattle.std.specs.List.{flat_map, AllByRecursion}
 use Rattle.std.proofs.lemmas.Bool.{cond_both, cond-true, cond-false, eq-eqb, ne_eqb, ltb-true}
+use Rattle.std.proofs.lemmas.Bool.Decides.{nat_tests}
 use Rattle.mip_words.specs.declared.address.Address.{Address}
 use Rattle.mip_words.specs.declared.ids.NodeId.{NodeId}
 use Rattle.mip_words.specs.declared.moment.Moment.{Moment}
@@ -117,6 +118,10 @@ module _ (xs : List Acceptance) (now : ℕ) where
   rows_live : AllByRecursion (IsOfLive xs now) (rows_of xs now)
   rows_live = homes_live (kept_homes now (homes xs)) remembered
 
+kept_to-is : (s : Setup) (past : List Entry) (n home : ℕ) → kept_to s past n home ≡ until_of (home_after home (accepted_by s.start past n))
+unfolding kept_to
+kept_to-is s past n home = refl
+
 address_is : (a b : Address) → a.0 ≡ b.0 → a ≡ b
 address_is a b e = ap (λ (n : ℕ). let x : Address = record { 0 = n } in x) e
 
@@ -199,8 +204,9 @@ module _ (s : Setup) (past : List Entry) (each : EachAfter (Meets s) [] past) (n
 
       -- the sequence is kept to the moment of the row
       until_is : f.kept.until ≡ kept_to s past n m.home.0
-      unfolding kept_to
-      until_is = sym (ap until_of f.found) ∙ ap (λ (h : ℕ). until_of (home_after h (accepted_by s.start past n))) home_one
+      until_is =
+          sym (ap until_of f.found) ∙ ap (λ (h : ℕ). until_of (home_after h (accepted_by s.start past n))) home_one
+          ∙ sym (kept_to-is s past n m.home.0)
 
       kept_same : row.kept_until ≡ record { 0 = kept_to s past n m.home.0 }
       kept_same = moment_is row.kept_until (record { 0 = kept_to s past n m.home.0 }) (ap (λ (r : BindingRow). r.kept_until) f.row ∙ until_is)
@@ -244,5 +250,5 @@ kept_to-floor s past n home now = by (home_after home (accepted_by s.start past 
     some k false = refl
 
     by : (o : Option HomeKept) → is_some (sequence_in now o) ≡ nat_lt now (until_of o)
-    by None = cond_both (ltb now 0) _ _ (λ (b : Bool). false ≡ b) (λ below. absurd (let less = ltb-true now 0 below in omega arith)) (λ above. refl)
+    by None = grind (arith, nat_tests)
     by (Some k) = some k (nat_lt now k.until)
