@@ -4,7 +4,7 @@ ghost use Rattle.mip_ipv6.specs.Packet.{packet as tree, is_routable_if_any, name
 ghost use Rattle.mip_nonce.specs.Secrets.{cookie_of};
 ghost use Rattle.mip_says.specs.Says.{message_in};
 ghost use Rattle.mip_binding.specs.Acceptance.{Acceptance};
-ghost use Rattle.mip_binding.specs.Rows.{kept_rows, table};
+ghost use Rattle.mip_binding.specs.Homes.{shown_rows};
 ghost use Rattle.mip_binding.specs.Held.{held};
 ghost use Rattle.mip_bcache.specs.Seen.{StandsFor, rows_at, seen_row};
 ghost use Rattle.mip_entries.specs.Stamped.{Stamped};
@@ -115,7 +115,7 @@ impl Correspondent {
     pub fn row(&self, now: Moment, place: u32) -> Option<&Row>
         requires { self.now.known.last.0 ≤ now.0 }
         ensures found { option_copied result ≡ slice_get (rows_at self.now.known.cache now.0) place }
-        ensures answers { (past : List Acceptance) → StandsFor self.now.known.cache past → option_map seen_row (option_copied result) ≡ slice_get (kept_rows now.0 (table past)) place }
+        ensures answers { (past : List Acceptance) → StandsFor self.now.known.cache past → option_map seen_row (option_copied result) ≡ slice_get (shown_rows past now.0) place }
         ensures few { length (rows_at self.now.known.cache now.0) < 2 ^ 32 }
     {
         self.known.cache.row(now, place)
