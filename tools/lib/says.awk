@@ -14,11 +14,14 @@ function meaning(status) {
     return "refused"
 }
 
+# The number of a binding, where it is not the one that each home has.
+function under(number) { return number == 0 ? "" : " under number " number }
+
 # What a correspondent says of an update, and where the tokens of the last accepted one came from.
 function says_of_update(word) {
     if (word == "accepted") {
         judge = $2
-        return "accepted " $3 ", " familiar($4) " is at " familiar($6) ", sequence " $7 ", until " $8 " ms"
+        return "accepted " $3 ", " familiar($4) " is at " familiar($6) under($5) ", sequence " $7 ", until " $8 " ms"
     }
     if (word == "denied") return "denied " $3 ", status " $4 ", " meaning($4)
     if (word == "dropped") return "dropped " $3 ", " $4
@@ -52,7 +55,7 @@ function says_of_node(word) {
     if (word == "up") return "up " $3 ", protocol " $6 " from " familiar($4)
     if (word == "unsent") return "cannot send, " $3
     if (word == "restarted") return "restarts, and has lost what it kept"
-    if (word == "row") return "row " familiar($3) " is at " familiar($5) ", sequence " $6 ", until " $7 " ms, kept until " $8 " ms"
+    if (word == "row") return "row " familiar($3) " is at " familiar($5) under($4) ", sequence " $6 ", until " $7 " ms, kept until " $8 " ms"
     if (word == "settled") return "with " $3 ", data can be exchanged, " $4
     return ""
 }

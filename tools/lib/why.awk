@@ -149,7 +149,7 @@ function why_field(kind, s) {
 
 # What the first field from the left has against it, or what the whole line has.
 function why_fields(    kind, n, i, why) {
-    n = split($1 == "mip" ? "1-1" : $1 == "seed" ? "seed" : $1 == "start" ? "0-1099511627776" : kinds_of[$1], kind, " ")
+    n = split($1 == "mip" ? "1-2" : $1 == "seed" ? "seed" : $1 == "start" ? "0-1099511627776" : kinds_of[$1], kind, " ")
     for (i = 1; i <= n; i++) {
         why = why_field(kind[i], $(i + 1))
         if (why != "") return why
@@ -173,7 +173,7 @@ function why_layout() {
 }
 
 function why_head() {
-    if (bad == 1) return "the first line is `mip 1`"
+    if (bad == 1) return "the first line is `mip 1` or `mip 2`"
     if (bad == 2) return "the second line is `seed` and 64 digits"
     return "the third line is `start` and a moment in milliseconds"
 }
@@ -234,8 +234,15 @@ function sentence(    why) {
     return why_fields()
 }
 
+# From version 2 on an update names the number of its binding.
+function numbers_updates() {
+    names_of["bind"] = names_of["bind"] " NUMBER"
+    kinds_of["bind"] = kinds_of["bind"] " 0-7"
+}
+
 # What stands before the bad line.
 function remember() {
+    if ($1 == "mip" && $2 == 2) numbers_updates()
     if ($1 == "run") running = 1
     if ($1 == "wait") waited += $2
     if ($1 == "carry") carried += $2

@@ -492,8 +492,8 @@ module _ (s : Setup) (bad : Entry → Bool) (may : ℕ → Address → Type 0) (
   event_calm run (Payload node to proto payload) none c = acts_calm run node.0 (calls.Send to proto payload) c
   event_calm run (Inject o link packet) none c = injected_calm o link.0 packet run c
   event_calm run (Probe o link careof source peer cookie) none c = injected_calm o link.0 (probe_packet careof source peer cookie.0) run c
-  event_calm run (Bind o link ends sequence lifetime kh kc) none c =
-      injected_if_calm o link.0 (update_packet (record { source = ends.source; peer = ends.peer; home = ends.home; careof = ends.careof; sequence = sequence; lifetime = lifetime }) run.posts kh kc) run c
+  event_calm run (Bind o link ends sequence lifetime kh kc number) none c =
+      injected_if_calm o link.0 (update_packet (record { source = ends.source; peer = ends.peer; home = ends.home; careof = ends.careof; sequence = sequence; lifetime = lifetime; number = number }) run.posts kh kc) run c
   event_calm run (Tell o link kt kp) none c = injected_if_calm o link.0 (test_packet run.posts kt kp) run c
   event_calm run (Listen o link) none c = either (hears_in run.past o link.0) entries.Idle (entries.Listening o (link_id link.0)) run refl refl c
   event_calm run (Deaf o link) none c = either (hears_in run.past o link.0) (entries.Deafened o (link_id link.0)) entries.Idle run refl refl c

@@ -14,6 +14,7 @@ use Rattle.mip_schedule.specs.Contents.{Content}
 use Rattle.mip_schedule.specs.EventTimes.{waited, carried, is_reserved, misfit, untimely}
 use Rattle.mip_schedule.specs.Lawful.{IsEvent}
 use Rattle.mip_schedule.specs.Reading.{reading}
+use Rattle.mip_schedule.specs.Versions.{is_numbered}
 use Rattle.mip_schedule.specs.declared.event.Event.{Event}
 use Rattle.mip_schedule.specs.declared.event.Event.TheVariants.{Payload, Carry}
 use Rattle.mip_schedule.proofs.LawfulLaws.{read_so}
@@ -48,25 +49,25 @@ behind_test : (test : Bool) (why : Reason) (o : Option Reason) → (if test then
 behind_test true why o e = absurd cc
 behind_test false why o e = (refl, e)
 
-payload_can : (ds : List Declaration) (before : List Event) (node : NodeId) (to : Address) (proto : ℕ) (payload : List ℕ) → IsEvent ds before (Payload node to proto payload) → IsPayload proto payload
+payload_can : (numbered : Bool) (ds : List Declaration) (before : List Event) (node : NodeId) (to : Address) (proto : ℕ) (payload : List ℕ) → IsEvent numbered ds before (Payload node to proto payload) → IsPayload proto payload
 unfolding untimely misfit
-payload_can ds before node to proto payload is =
+payload_can numbered ds before node to proto payload is =
     let timely = behind_test (nat_le 20000 (length before)) reasons.Limit (misfit ds (waited before) (carried before) (Payload node to proto payload)) is.fits in
     let free = behind_test (is_reserved proto) reasons.Number None timely.1 in
     let kind = data_proto proto free.0 in
     record { of_data = kind.0; body = kind.1; short = is.within.2 }
 
-event_can : (ds : List Declaration) (before : List Event) (e : Event) → IsEvent ds before e → CanSend e
-event_can ds before (Payload node to proto payload) is = payload_can ds before node to proto payload is
-event_can ds before _ is = tt
+event_can : (numbered : Bool) (ds : List Declaration) (before : List Event) (e : Event) → IsEvent numbered ds before e → CanSend e
+event_can numbered ds before (Payload node to proto payload) is = payload_can numbered ds before node to proto payload is
+event_can numbered ds before _ is = tt
 
 -- each event of what is read, and of the same where packets are carried one by one
-each_can : (c : Content) → ((before : List Event) (e : Event) (after : List Event) → c.events ≡ before ++ e ∷ after → IsEvent c.declarations before e) → AllByRecursion CanSend c.events
+each_can : (c : Content) → ((before : List Event) (e : Event) (after : List Event) → c.events ≡ before ++ e ∷ after → IsEvent (is_numbered c.version) c.declarations before e) → AllByRecursion CanSend c.events
 each_can c each = by [] c.events refl
   where
     by : (front es : List Event) → c.events ≡ front ++ es → AllByRecursion CanSend es
     by front [] whole = tt
-    by front (e ∷ es) whole = (event_can c.declarations front e (each front e es whole), by (front ++ e ∷ []) es (whole ∙ sym (append_assoc front (e ∷ []) es)))
+    by front (e ∷ es) whole = (event_can (is_numbered c.version) c.declarations front e (each front e es whole), by (front ++ e ∷ []) es (whole ∙ sym (append_assoc front (e ∷ []) es)))
 
 carries_can : (n : ℕ) (es : List Event) → AllByRecursion CanSend es → AllByRecursion CanSend (replicate n (Carry 1) ++ es)
 carries_can zero es all = all

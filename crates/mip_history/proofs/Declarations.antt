@@ -10,6 +10,7 @@ use Rattle.mip_words.specs.declared.ids.LinkId.{LinkId}
 use Rattle.mip_schedule.specs.Contents.{Content}
 use Rattle.mip_schedule.specs.DeclarationTimes.{gives_prefix, is_on_link, is_interface_taken, is_full, has_no_room, misplaced, undeclared}
 use Rattle.mip_schedule.specs.Lawful.{IsWithin, IsLawful}
+use Rattle.mip_schedule.specs.Versions.{is_numbered}
 use Rattle.mip_declared.specs.Places.{members, AreFew}
 use Rattle.mip_declared.specs.declared.declaration.Declaration.{Declaration}
 use Rattle.mip_declared.specs.declared.declaration.Declaration.TheVariants as declare
@@ -112,26 +113,26 @@ module _ (all : List Declaration) (stand : MayStand all) where
       (on_link front link address (passed (has_no_room front) (misplaced front link address) (stand front (declare.Mobile name link address agent) ds whole)))
 
 -- what an event names
-event_names : (ds : List Declaration) (e : Event) → IsWithin ds e → Names ds e
-event_names ds (events.Move node link) within = within
-event_names ds (events.Advertise link) within = within
-event_names ds (events.Inject o link packet) within = (within.0, within.1)
-event_names ds (events.Probe o link careof source peer cookie) within = (within.0, within.1)
-event_names ds (events.Bind o link ends sequence lifetime kh kc) within = (within.0, within.1)
-event_names ds (events.Tell o link kt kp) within = within
-event_names ds (events.Listen o link) within = within
-event_names ds (events.Deaf o link) within = within
-event_names ds (events.Squat o address) within = within.0
-event_names ds (events.Yield o address) within = within.0
-event_names ds (events.Restart node) within = within
-event_names ds (events.Settle a b) within = within
-event_names ds _ within = tt
+event_names : (numbered : Bool) (ds : List Declaration) (e : Event) → IsWithin numbered ds e → Names ds e
+event_names numbered ds (events.Move node link) within = within
+event_names numbered ds (events.Advertise link) within = within
+event_names numbered ds (events.Inject o link packet) within = (within.0, within.1)
+event_names numbered ds (events.Probe o link careof source peer cookie) within = (within.0, within.1)
+event_names numbered ds (events.Bind o link ends sequence lifetime kh kc number) within = (within.0, within.1)
+event_names numbered ds (events.Tell o link kt kp) within = within
+event_names numbered ds (events.Listen o link) within = within
+event_names numbered ds (events.Deaf o link) within = within
+event_names numbered ds (events.Squat o address) within = within.0
+event_names numbered ds (events.Yield o address) within = within.0
+event_names numbered ds (events.Restart node) within = within
+event_names numbered ds (events.Settle a b) within = within
+event_names numbered ds _ within = tt
 
 module _ (c : Content) (lawful : IsLawful c) where
   names_from : (front es : List Event) → c.events ≡ front ++ es → AllByRecursion (Names c.declarations) es
   names_from front [] whole = tt
   names_from front (e ∷ es) whole =
-      (event_names c.declarations e ((lawful.events front e es whole).within), names_from (front ++ e ∷ []) es (whole ∙ sym (append_assoc front (e ∷ []) es)))
+      (event_names (is_numbered c.version) c.declarations e ((lawful.events front e es whole).within), names_from (front ++ e ∷ []) es (whole ∙ sym (append_assoc front (e ∷ []) es)))
 
   module _ (few : AreFew c.declarations) where
     is_of : IsOf c.declarations (setup_of c)

@@ -51,7 +51,7 @@ Names ds (Move node link) = IsNode ds node × IsLinkIfAny ds link
 Names ds (Advertise link) = IsLink ds link
 Names ds (Inject o link packet) = IsOutsider ds o × IsLink ds link
 Names ds (Probe o link careof source peer cookie) = IsOutsider ds o × IsLink ds link
-Names ds (Bind o link ends sequence lifetime kh kc) = IsOutsider ds o × IsLink ds link
+Names ds (Bind o link ends sequence lifetime kh kc number) = IsOutsider ds o × IsLink ds link
 Names ds (Tell o link kt kp) = IsOutsider ds o × IsLink ds link
 Names ds (Listen o link) = IsOutsider ds o × IsLink ds link
 Names ds (Deaf o link) = IsOutsider ds o × IsLink ds link
@@ -297,8 +297,8 @@ module _ (ds : List Declaration) (s : Setup) (of : IsOf ds s) where
   r-happens run (Payload node to proto payload) names q = d-acts ds s of node.0 (calls.Send to proto payload) run q
   r-happens run (Inject o link packet) names q = r-injected o link packet run names.0 names.1 q
   r-happens run (Probe o link careof source peer cookie) names q = r-injected o link (probe_packet careof source peer cookie.0) run names.0 names.1 q
-  r-happens run (Bind o link ends sequence lifetime kh kc) names q =
-      r-injected_if o link (update_packet (record { source = ends.source; peer = ends.peer; home = ends.home; careof = ends.careof; sequence = sequence; lifetime = lifetime }) run.posts kh kc) run names.0 names.1 q
+  r-happens run (Bind o link ends sequence lifetime kh kc number) names q =
+      r-injected_if o link (update_packet (record { source = ends.source; peer = ends.peer; home = ends.home; careof = ends.careof; sequence = sequence; lifetime = lifetime; number = number }) run.posts kh kc) run names.0 names.1 q
   r-happens run (Tell o link kt kp) names q = r-injected_if o link (test_packet run.posts kt kp) run names.0 names.1 q
   r-happens run (Listen o link) names q = one-of (hears_in run.past o link.0) entries.Idle (entries.Listening o (link_id link.0)) run tt names q
   r-happens run (Deaf o link) names q = one-of (hears_in run.past o link.0) (entries.Deafened o (link_id link.0)) entries.Idle run names tt q

@@ -119,8 +119,8 @@ happened s run (Advertise link) is = still s run _ (advertised_goes s run link.0
 happened s run (Payload node to proto payload) is = acted s node.0 (calls.Send to proto payload) run is refl
 happened s run (Inject o link packet) is = injected_goes s run o link.0 packet is
 happened s run (Probe o link careof source peer cookie) is = injected_goes s run o link.0 (probe_packet careof source peer cookie.0) is
-happened s run (Bind o link ends sequence lifetime kh kc) is =
-    injected_if_goes s run o link.0 (update_packet (record { source = ends.source; peer = ends.peer; home = ends.home; careof = ends.careof; sequence = sequence; lifetime = lifetime }) run.posts kh kc) is
+happened s run (Bind o link ends sequence lifetime kh kc number) is =
+    injected_if_goes s run o link.0 (update_packet (record { source = ends.source; peer = ends.peer; home = ends.home; careof = ends.careof; sequence = sequence; lifetime = lifetime; number = number }) run.posts kh kc) is
 happened s run (Tell o link kt kp) is = injected_if_goes s run o link.0 (test_packet run.posts kt kp) is
 happened s run (Listen o link) is = one_of s run (hears_in run.past o link.0) entries.Idle (entries.Listening o (link_id link.0)) is refl refl
 happened s run (Deaf o link) is = one_of s run (hears_in run.past o link.0) (entries.Deafened o (link_id link.0)) entries.Idle is refl refl

@@ -289,8 +289,8 @@ module _ (s : Setup) (P : Run → Type 0) (keeps : Keeps s P) where
   walk_happens run (Payload node to proto payload) p = keeps.acted run node.0 (calls.Send to proto payload) tt refl refl p
   walk_happens run (Inject o link packet) p = walk_injected o link.0 packet run p
   walk_happens run (Probe o link careof source peer cookie) p = walk_injected o link.0 (probe_packet careof source peer cookie.0) run p
-  walk_happens run (Bind o link ends sequence lifetime kh kc) p =
-      walk_injected_if o link.0 (update_packet (record { source = ends.source; peer = ends.peer; home = ends.home; careof = ends.careof; sequence = sequence; lifetime = lifetime }) run.posts kh kc) run p
+  walk_happens run (Bind o link ends sequence lifetime kh kc number) p =
+      walk_injected_if o link.0 (update_packet (record { source = ends.source; peer = ends.peer; home = ends.home; careof = ends.careof; sequence = sequence; lifetime = lifetime; number = number }) run.posts kh kc) run p
   walk_happens run (Tell o link kt kp) p = walk_injected_if o link.0 (test_packet run.posts kt kp) run p
   walk_happens run (Listen o link) p = keeps_either s P one (hears_in run.past o link.0) entries.Idle (entries.Listening o (link_id link.0)) run refl refl p
   walk_happens run (Deaf o link) p = keeps_either s P one (hears_in run.past o link.0) (entries.Deafened o (link_id link.0)) entries.Idle run refl refl p

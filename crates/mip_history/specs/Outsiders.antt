@@ -14,6 +14,7 @@ use Rattle.mip_signals.specs.Messages.{home_init_packet, careof_init_packet, hom
 use Rattle.mip_signals.specs.Authenticated.{authenticated_packet}
 use Rattle.mip_entries.specs.declared.entry.Entry.TheVariants.{Injected, Listening, Deafened, Idle}
 use Rattle.mip_links.specs.Table.{Post, holder_outside}
+use Rattle.mip_rules_mobile.specs.Sendings.{number_option}
 use Rattle.mip_history.specs.Setup.{Setup}
 use Rattle.mip_history.specs.Runs.{Run, note}
 use Rattle.mip_history.specs.Questions.{hears_in}
@@ -54,7 +55,8 @@ abbrev pub careof_told : List Post → Option ℕ → Option (Option Told)
 careof_told posts None = Some None
 careof_told posts (Some k) = option_and_then (λ t. Some (Some t)) (test_in 1 posts k)
 
--- what `bind` says: the update's addresses, its sequence and its lifetime in units of 4 s
+-- what `bind` says: the update's addresses, its sequence, its lifetime in units of 4 s, and the number of the binding that it
+-- asks for
 pub record Binding : Type 0 where
   pub source : Address
   pub peer : Address
@@ -62,6 +64,7 @@ pub record Binding : Type 0 where
   pub careof : Address
   pub sequence : ℕ
   pub lifetime : ℕ
+  pub number : ℕ
 
 abbrev pub unless_same : Address → Address → Option Address
 unless_same address source = if address.0 == source.0 then None else Some address
@@ -70,13 +73,14 @@ unless_same address source = if address.0 == source.0 then None else Some addres
 abbrev pub bind_head : Binding → Head
 bind_head b = node_head b.source b.peer None (unless_same b.home b.source) mobility_header
 
--- an Alternate Care-of Address where the care-of address is not the source; flag A is set. RFC 6275 section 6.1.7
+-- an Alternate Care-of Address where the care-of address is not the source, and a Binding Number where it is not 0; flag A is
+-- set. RFC 6275 section 6.1.7
 abbrev pub bind_message : Binding → (home careof : ℕ) → Said
 bind_message b i j = Update b.sequence true false false false b.lifetime (record {
   advice = None;
   alternate = unless_same b.careof b.source;
   nonces = Some (record { home = i; careof = j });
-  number = None;
+  number = number_option b.number;
   authorization = None;
 })
 

@@ -91,8 +91,8 @@ happens s run (Advertise link) = advertised s run link.0
 happens s run (Payload node to proto payload) = acts s node.0 (calls.Send to proto payload) run
 happens s run (Inject o link packet) = injected s run o link.0 packet
 happens s run (Probe o link careof source peer cookie) = injected s run o link.0 (probe_packet careof source peer cookie.0)
-happens s run (Bind o link ends sequence lifetime kh kc) =
-    injected_if s run o link.0 (update_packet (record { source = ends.source; peer = ends.peer; home = ends.home; careof = ends.careof; sequence = sequence; lifetime = lifetime }) run.posts kh kc)
+happens s run (Bind o link ends sequence lifetime kh kc number) =
+    injected_if s run o link.0 (update_packet (record { source = ends.source; peer = ends.peer; home = ends.home; careof = ends.careof; sequence = sequence; lifetime = lifetime; number = number }) run.posts kh kc)
 happens s run (Tell o link kt kp) = injected_if s run o link.0 (test_packet run.posts kt kp)
 happens s run (Listen o link) = listens run o link.0
 happens s run (Deaf o link) = deafens run o link.0

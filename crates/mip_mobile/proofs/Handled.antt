@@ -60,8 +60,8 @@ handled gives k now call desk asked left out told puts puts_after answers shows 
       taken = all;
       away = λ careof here elsewhere stays. from-after_put gives careof (answers_of (turn_of k now call).steps) answers all (away-call k now call careof here elsewhere stays);
       known = same;
-      stands = λ home declared secrets past stands.
-          subst (λ (l : Known). Stands home declared secrets (with_turn past (turn_of k now call)) l) (sym same) (call-stands home declared secrets past k now call stands);
+      stands = λ home declared numbers secrets past stands.
+          subst (λ (l : Known). Stands home declared numbers secrets (with_turn past (turn_of k now call)) l) (sym same) (call-stands home declared numbers secrets past k now call stands);
       sent = sent;
       answered = subst (λ (xs : List Answer). puts_after ≡ puts ++ puts_of xs answers) own answered;
       refused = λ number shield packet is_take some. ap tables_of same ∙ refused-call gives k now call answers all number shield packet is_take some;

@@ -37,8 +37,8 @@ refuses (Note entry) = tells_of_refusal entry
 pub record Handles (gives : Put → Bool) (before : Known) (now : ℕ) (call : Call) (out : Told) (puts : Answered) (answers : List Answer) (after : Known) (left : Told) (puts_after : Answered) : Type 0 where
   pub taken : PutsAll gives (answers_of (turn_of before now call).steps) answers
   pub known : after ≡ (turn_of before now call).known
-  pub stands : (home : Address) (declared : Option Address) (secrets : Life) (past : List (Stamped Step)) → Stands home declared secrets past before
-      → Stands home declared secrets (with_turn past (turn_of before now call)) after
+  pub stands : (home : Address) (declared : Option Address) (numbers : ℕ) (secrets : Life) (past : List (Stamped Step)) → Stands home declared numbers secrets past before
+      → Stands home declared numbers secrets (with_turn past (turn_of before now call)) after
   pub away : (careof : Address) → before.standing ≡ Away careof → IsElsewhere before → stays_put call ≡ true → AreFrom careof answers
   pub sent : left ≡ option_map (λ items. items ++ sends_of answers) out
   pub answered : puts_after ≡ puts ++ puts_of (answers_of (turn_of before now call).steps) answers

@@ -4,7 +4,7 @@ ghost use Rattle.std.specs.Prelude.{◌≡◌, ◌≢◌, ℕ, ◌≤◌, ◌<�
 ghost use Rattle.mip_words.specs.Addresses.{is_routable};
 ghost use Rattle.mip_ipv6.specs.Packet.{names_no_body};
 ghost use Rattle.mip_rules_correspondent.specs.Rules.{is_data};
-ghost use Rattle.mip_bcache.specs.Seen.{kept_at};
+ghost use Rattle.mip_bcache.specs.Seen.{rows_at};
 ghost use Rattle.mip_bulist.specs.Timers.{first_due};
 ghost use Rattle.mip_tunnel.specs.Tunnel.{hop_of};
 ghost use Rattle.mip_outside.specs.Cause.{Rose};
@@ -51,12 +51,15 @@ impl<C: Clock + Drop, W: Wire + Drop> Machine<C, W> {
         secrets: Secrets,
         clock: C,
         wire: W,
+        numbers: u8,
     ) -> Result<Machine<C, W>, Memory>
-        requires { IsTrue (is_routable home.0) }
-        ensures known { IfOk result (λ m. m.desk ≡ record { moment = 0; known = fresh home declared secrets; answers = [] }) }
+        requires home { IsTrue (is_routable home.0) }
+        requires some { 1 ≤ numbers }
+        requires few { numbers ≤ 8 }
+        ensures known { IfOk result (λ m. m.desk ≡ record { moment = 0; known = fresh home declared numbers secrets; answers = [] }) }
         ensures parts { IfOk result (λ m. (m.clock ≡ clock) × (m.wire ≡ wire) × (m.fault ≡ None)) }
     {
-        let desk = Desk::open(alloc, home, declared, secrets)?;
+        let desk = Desk::open(alloc, home, declared, secrets, numbers)?;
         Ok(Machine {
             desk,
             clock,
@@ -86,10 +89,10 @@ impl<C: Clock + Drop, W: Wire + Drop> Machine<C, W> {
         self.desk.standing()
     }
 
-    /// The row at a place among those that its correspondent part keeps, in order of home address.
+    /// The row at a place among those that its correspondent part keeps, in order of home address, then of number.
     pub fn row(&self, now: Moment, place: u32) -> Option<&Row>
         requires { self.now.desk.moment ≤ now.0 }
-        ensures { option_copied result ≡ slice_get (kept_at self.now.desk.known.part.known.cache now.0) place }
+        ensures { option_copied result ≡ slice_get (rows_at self.now.desk.known.part.known.cache now.0) place }
     {
         self.desk.kept_row(now, place)
     }

@@ -5,7 +5,7 @@ ghost use Rattle.mip_words.specs.Addresses.{is_routable};
 ghost use Rattle.mip_ipv6.specs.Packet.{names_no_body};
 ghost use Rattle.mip_outside.specs.Cause.{Rose};
 ghost use Rattle.mip_outside.specs.Moments.{moments_after};
-ghost use Rattle.mip_bcache.specs.Seen.{kept_at};
+ghost use Rattle.mip_bcache.specs.Seen.{rows_at};
 ghost use Rattle.mip_bulist.specs.Timers.{first_due};
 ghost use Rattle.mip_rules_correspondent.specs.Rules.{is_data};
 ghost use Rattle.mip_rules_mobile.specs.Calls as calls;
@@ -43,7 +43,8 @@ pub enum Mobile<C: Clock, W: Wire> {
 pub type Turned<C, W> = (Mobile<C, W>, Result<Answers, StationFault>);
 
 impl<C: Clock + Drop, W: Wire + Drop> Mobile<C, W> {
-    /// A new mobile, at home: its home address, the agent that it is declared with, and the secrets of its first life.
+    /// A new mobile, at home: its home address, the agent that it is declared with, the secrets of its first life, and how many
+    /// numbers a home's bindings may have.
     pub fn new(
         alloc: Global,
         home: Address,
@@ -51,13 +52,16 @@ impl<C: Clock + Drop, W: Wire + Drop> Mobile<C, W> {
         secrets: Secrets,
         clock: C,
         wire: W,
+        numbers: u8,
     ) -> Result<Mobile<C, W>, Memory>
-        requires { IsTrue (is_routable home.0) }
-        ensures known { IfOk result (λ m. (machine_of m).desk ≡ record { moment = 0; known = fresh home declared secrets; answers = [] }) }
+        requires home { IsTrue (is_routable home.0) }
+        requires some { 1 ≤ numbers }
+        requires few { numbers ≤ 8 }
+        ensures known { IfOk result (λ m. (machine_of m).desk ≡ record { moment = 0; known = fresh home declared numbers secrets; answers = [] }) }
         ensures parts { IfOk result (λ m. ((machine_of m).clock ≡ clock) × ((machine_of m).wire ≡ wire) × ((machine_of m).fault ≡ None)) }
         ensures typed { IfOk result (λ m. IsTyped m) }
     {
-        let machine = Machine::new(alloc, home, declared, secrets, clock, wire)?;
+        let machine = Machine::new(alloc, home, declared, secrets, clock, wire, numbers)?;
         Ok(Mobile::of(machine))
     }
 
@@ -116,10 +120,10 @@ impl<C: Clock + Drop, W: Wire + Drop> Mobile<C, W> {
         }
     }
 
-    /// The row at a place among those that its correspondent part keeps, in order of home address.
+    /// The row at a place among those that its correspondent part keeps, in order of home address, then of number.
     pub fn row(&self, now: Moment, place: u32) -> Option<&Row>
         requires { (machine_of self.now).desk.moment ≤ now.0 }
-        ensures { option_copied result ≡ slice_get (kept_at (machine_of self.now).desk.known.part.known.cache now.0) place }
+        ensures { option_copied result ≡ slice_get (rows_at (machine_of self.now).desk.known.part.known.cache now.0) place }
     {
         match self {
             Mobile::Detached(station) => station.machine.row(now, place),

@@ -35,17 +35,17 @@ use Rattle.mip_history.specs.Setup.{Kind}
 use Rattle.mip_history.specs.Setup.Kind.{Correspondent as OfCorrespondent, Agent as OfAgent, Mobile as OfMobile}
 use Rattle.mip_nodes.specs.Roles.{last_of, new_role}
 
-pub new_last : (seed : List ℕ) (n life : ℕ) (own : Address) (kind : Kind) → last_of (new_role seed n life own kind) ≡ 0
-new_last seed n life own (OfCorrespondent room) = refl
-new_last seed n life own (OfAgent preference seconds room serves) = refl
-new_last seed n life own (OfMobile agent) = refl
+pub new_last : (seed : List ℕ) (n life : ℕ) (own : Address) (kind : Kind) (numbers : ℕ) → last_of (new_role seed n life own kind numbers) ≡ 0
+new_last seed n life own (OfCorrespondent room) numbers = refl
+new_last seed n life own (OfAgent preference seconds room serves) numbers = refl
+new_last seed n life own (OfMobile agent) numbers = refl
 
 -- what a call leaves known is that of the past with it
-pub knows_on : (me : Identity) (now room : ℕ) (past : List (Stamped Step)) (call : correspondents.Call)
-    → (turn_of me (known room past) now call).known ≡ known room (with_turn past (turn_of me (known room past) now call))
-knows_on me now room past call =
-    let t = turn_of me (known room past) now call in
-    stands-known room (with_turn past t) t.known (call-stands room past (known room past) now me call (known-stands room past (known room past) refl))
+pub knows_on : (me : Identity) (now room numbers : ℕ) (past : List (Stamped Step)) (call : correspondents.Call)
+    → (turn_of me (known room numbers past) now call).known ≡ known room numbers (with_turn past (turn_of me (known room numbers past) now call))
+knows_on me now room numbers past call =
+    let t = turn_of me (known room numbers past) now call in
+    stands-known room numbers (with_turn past t) t.known (call-stands room numbers past (known room numbers past) now me call (known-stands room numbers past (known room numbers past) refl))
 
 agent-stands : (serves : List Address) (past : List (Stamped agent_steps.Step)) → agent_turns.Stands serves past (agent_questions.known serves past)
 unfolding agent_questions.known StandsBy
@@ -58,35 +58,35 @@ agent_knows_on me now serves past call =
     let t = agent_doing.turn_of me k now call in
     agent_pasts.stands-known serves (agent_turns.with_turn past t) t.known (agent_calls.call-stands serves past k now me call (agent-stands serves past))
 
-mobile-stands : (home : Address) (declared : Option Address) (secrets : Life) (past : List (Stamped mobile_steps.Step)) → mobile_turns.Stands home declared secrets past (mobile_questions.known home declared secrets past)
+mobile-stands : (home : Address) (declared : Option Address) (numbers : ℕ) (secrets : Life) (past : List (Stamped mobile_steps.Step)) → mobile_turns.Stands home declared numbers secrets past (mobile_questions.known home declared numbers secrets past)
 unfolding mobile_questions.known StandsBy
-mobile-stands home declared secrets past = refl
+mobile-stands home declared numbers secrets past = refl
 
-pub mobile_knows_on : (now : ℕ) (home : Address) (declared : Option Address) (secrets : Life) (past : List (Stamped mobile_steps.Step)) (call : mobiles.Call)
-    → (mobile_doing.turn_of (mobile_questions.known home declared secrets past) now call).known ≡ mobile_questions.known home declared secrets (mobile_turns.with_turn past (mobile_doing.turn_of (mobile_questions.known home declared secrets past) now call))
-mobile_knows_on now home declared secrets past call =
-    let k = mobile_questions.known home declared secrets past in
+pub mobile_knows_on : (now : ℕ) (home : Address) (declared : Option Address) (numbers : ℕ) (secrets : Life) (past : List (Stamped mobile_steps.Step)) (call : mobiles.Call)
+    → (mobile_doing.turn_of (mobile_questions.known home declared numbers secrets past) now call).known ≡ mobile_questions.known home declared numbers secrets (mobile_turns.with_turn past (mobile_doing.turn_of (mobile_questions.known home declared numbers secrets past) now call))
+mobile_knows_on now home declared numbers secrets past call =
+    let k = mobile_questions.known home declared numbers secrets past in
     let t = mobile_doing.turn_of k now call in
-    mobile_calls.stands-known home declared secrets (mobile_turns.with_turn past t) t.known (mobile_calls.call-stands home declared secrets past k now call (mobile-stands home declared secrets past))
+    mobile_calls.stands-known home declared numbers secrets (mobile_turns.with_turn past t) t.known (mobile_calls.call-stands home declared numbers secrets past k now call (mobile-stands home declared numbers secrets past))
 
 -- nothing behind it, each knows what a new one does
-pub known_first : (room : ℕ) → known room [] ≡ fresh room
+pub known_first : (room numbers : ℕ) → known room numbers [] ≡ fresh room numbers
 unfolding known
-known_first room = refl
+known_first room numbers = refl
 
 pub agent_known_first : (serves : List Address) → agent_questions.known serves [] ≡ agent_questions.fresh serves
 unfolding agent_questions.known
 agent_known_first serves = refl
 
-pub mobile_known_first : (home : Address) (declared : Option Address) (secrets : Life) → mobile_questions.known home declared secrets [] ≡ mobile_questions.fresh home declared secrets
+pub mobile_known_first : (home : Address) (declared : Option Address) (numbers : ℕ) (secrets : Life) → mobile_questions.known home declared numbers secrets [] ≡ mobile_questions.fresh home declared numbers secrets
 unfolding mobile_questions.known
-mobile_known_first home declared secrets = refl
+mobile_known_first home declared numbers secrets = refl
 
 -- a mobile keeps its home address through all its lives
 home-fold : (k : Known) (past : List (Stamped mobile_steps.Step)) → home_of (known_by after k past) ≡ home_of k
 home-fold k [] = refl
 home-fold k (s ∷ past) = home-fold (after k s) past ∙ home-kept k s
 
-pub mobile_home : (home : Address) (declared : Option Address) (secrets : Life) (past : List (Stamped mobile_steps.Step)) → home_of (mobile_questions.known home declared secrets past) ≡ home
+pub mobile_home : (home : Address) (declared : Option Address) (numbers : ℕ) (secrets : Life) (past : List (Stamped mobile_steps.Step)) → home_of (mobile_questions.known home declared numbers secrets past) ≡ home
 unfolding mobile_questions.known
-mobile_home home declared secrets past = home-fold (mobile_questions.fresh home declared secrets) past
+mobile_home home declared numbers secrets past = home-fold (mobile_questions.fresh home declared numbers secrets) past

@@ -1,13 +1,13 @@
 -- What a mobile of a run knows: nothing any more, once memory was wanting in a call.
 use Rattle.std.specs.Prelude.{◌≡◌, ◌≤◌, Bool, true, false}
 use Rattle.mip_rules_mobile.specs.Known.{Known}
-use Rattle.mip_rules_mobile.specs.HomeQuestions.{home_of}
+use Rattle.mip_rules_mobile.specs.HomeQuestions.{home_of, numbers_of}
 use Rattle.mip_rules_mobile.specs.Questions.{fresh}
 use Rattle.mip_mobility.specs.Seen.{DeskSeen}
 
 abbrev pub known_unless : Bool → Known → Known
 known_unless false k = k
-known_unless true k = fresh (home_of k) k.declared k.part.identity.secrets
+known_unless true k = fresh (home_of k) k.declared (numbers_of k) k.part.identity.secrets
 
 -- the call under way is no later than the last one
 abbrev pub IsCalm : Bool → DeskSeen → Type 0

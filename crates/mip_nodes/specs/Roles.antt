@@ -1,7 +1,7 @@
 -- The role of a node, and what it does about a call.
 use Rattle.std.specs.Prelude.{◌≡◌, ◌≤◌, ℕ, List, [], ◌∷◌, length, map, Bool, true, false, ◌&&◌, ◌==◌, Option, Some, None, option_map, slice_get}
 use Rattle.mip_words.specs.declared.address.Address.{Address}
-use Rattle.mip_bcache.specs.Seen.{kept_at}
+use Rattle.mip_bcache.specs.Seen.{rows_at as cache_rows}
 use Rattle.mip_bulist.specs.Timers.{first_due}
 use Rattle.mip_entries.specs.declared.answer.Answer.{Answer}
 use Rattle.mip_entries.specs.declared.answer.Answer.TheVariants.{Send, Note}
@@ -62,11 +62,11 @@ due_of (Correspondent c) = None
 due_of (Agent a) = option_map (λ e. e.end.0) (slice_get a.known.ends 0)
 due_of (Mobile k) = option_map (λ m. m.0) (first_due k.list.timers)
 
--- the rows that it keeps as node n, in order of home
+-- the rows that it keeps as node n, in order of home, then of number
 abbrev pub rows_of : ℕ → Role → ℕ → List Entry
-rows_of n (Correspondent c) now = map (row_entry n) (kept_at c.known.cache now)
+rows_of n (Correspondent c) now = map (row_entry n) (cache_rows c.known.cache now)
 rows_of n (Agent a) now = map (home_entry n) (rows_at now a.known.homes)
-rows_of n (Mobile k) now = map (row_entry n) (kept_at k.part.known.cache now)
+rows_of n (Mobile k) now = map (row_entry n) (cache_rows k.part.known.cache now)
 
 -- the homes that it has registered, in order of address
 abbrev pub homes_of : Role → ℕ → List HomeRow
@@ -85,13 +85,13 @@ is_roaming (Correspondent c) = false
 is_roaming (Agent a) = false
 is_roaming (Mobile k) = true
 
--- node n in this life, with nothing behind it; a mobile is in its first
-abbrev pub new_role : List ℕ → ℕ → ℕ → Address → Kind → Role
-new_role seed n life own (OfCorrespondent room) =
-    Correspondent (record { identity = record { own = own; secrets = record { seed = seed; node = n; life = life }; room = room }; known = correspondent_questions.fresh room })
-new_role seed n life own (OfAgent preference seconds room serves) =
+-- node n in this life, with nothing behind it, where a home's bindings may have so many numbers; a mobile is in its first
+abbrev pub new_role : List ℕ → ℕ → ℕ → Address → Kind → (numbers : ℕ) → Role
+new_role seed n life own (OfCorrespondent room) numbers =
+    Correspondent (record { identity = record { own = own; secrets = record { seed = seed; node = n; life = life }; room = room }; known = correspondent_questions.fresh room numbers })
+new_role seed n life own (OfAgent preference seconds room serves) numbers =
     Agent (record { identity = record { own = own; preference = preference; life = seconds; room = room }; known = agent_questions.fresh serves })
-new_role seed n life own (OfMobile agent) = Mobile (mobile_questions.fresh own agent (record { seed = seed; node = n; life = 0 }))
+new_role seed n life own (OfMobile agent) numbers = Mobile (mobile_questions.fresh own agent numbers (record { seed = seed; node = n; life = 0 }))
 
 -- an entry that tells of no packet that is posted, heard or handed over: those are the network's
 abbrev pub is_apart : Entry → Bool

@@ -41,28 +41,28 @@ pub fn answers_are_whole()
 /// What a call leaves known is that of the past with its turn, whatever the role.
 #[tactic(auto, using(crate::proofs::RoleLaws::knows_on, crate::proofs::RoleLaws::agent_knows_on, crate::proofs::RoleLaws::mobile_knows_on))]
 pub fn roles_stand_for_their_pasts()
-    ensures correspondent { (me : Identity) (now room : ℕ) (past : List (Stamped correspondent_steps.Step)) (call : correspondents.Call)
-        → (correspondent_doing.turn_of me (correspondent_questions.known room past) now call).known
-        ≡ correspondent_questions.known room (correspondent_turns.with_turn past (correspondent_doing.turn_of me (correspondent_questions.known room past) now call)) }
+    ensures correspondent { (me : Identity) (now room numbers : ℕ) (past : List (Stamped correspondent_steps.Step)) (call : correspondents.Call)
+        → (correspondent_doing.turn_of me (correspondent_questions.known room numbers past) now call).known
+        ≡ correspondent_questions.known room numbers (correspondent_turns.with_turn past (correspondent_doing.turn_of me (correspondent_questions.known room numbers past) now call)) }
     ensures agent { (me : agent.Identity) (now : ℕ) (serves : List Address) (past : List (Stamped agent_steps.Step)) (call : agents.Call)
         → (agent_doing.turn_of me (agent_questions.known serves past) now call).known
         ≡ agent_questions.known serves (agent_turns.with_turn past (agent_doing.turn_of me (agent_questions.known serves past) now call)) }
-    ensures mobile { (now : ℕ) (home : Address) (declared : Option Address) (secrets : Life) (past : List (Stamped mobile_steps.Step)) (call : mobiles.Call)
-        → (mobile_doing.turn_of (mobile_questions.known home declared secrets past) now call).known
-        ≡ mobile_questions.known home declared secrets (mobile_turns.with_turn past (mobile_doing.turn_of (mobile_questions.known home declared secrets past) now call)) }
+    ensures mobile { (now : ℕ) (home : Address) (declared : Option Address) (numbers : ℕ) (secrets : Life) (past : List (Stamped mobile_steps.Step)) (call : mobiles.Call)
+        → (mobile_doing.turn_of (mobile_questions.known home declared numbers secrets past) now call).known
+        ≡ mobile_questions.known home declared numbers secrets (mobile_turns.with_turn past (mobile_doing.turn_of (mobile_questions.known home declared numbers secrets past) now call)) }
 {}
 
 /// With nothing behind it, each knows what a new one does, whose last moment is 0.
 #[tactic(auto, using(crate::proofs::RoleLaws::known_first, crate::proofs::RoleLaws::agent_known_first, crate::proofs::RoleLaws::mobile_known_first, crate::proofs::RoleLaws::new_last))]
 pub fn new_roles_have_nothing_behind_them()
-    ensures correspondent { (room : ℕ) → correspondent_questions.known room [] ≡ correspondent_questions.fresh room }
+    ensures correspondent { (room numbers : ℕ) → correspondent_questions.known room numbers [] ≡ correspondent_questions.fresh room numbers }
     ensures agent { (serves : List Address) → agent_questions.known serves [] ≡ agent_questions.fresh serves }
-    ensures mobile { (home : Address) (declared : Option Address) (secrets : Life) → mobile_questions.known home declared secrets [] ≡ mobile_questions.fresh home declared secrets }
-    ensures last { (seed : List ℕ) (n life : ℕ) (own : Address) (kind : Kind) → last_of (new_role seed n life own kind) ≡ 0 }
+    ensures mobile { (home : Address) (declared : Option Address) (numbers : ℕ) (secrets : Life) → mobile_questions.known home declared numbers secrets [] ≡ mobile_questions.fresh home declared numbers secrets }
+    ensures last { (seed : List ℕ) (n life : ℕ) (own : Address) (kind : Kind) (numbers : ℕ) → last_of (new_role seed n life own kind numbers) ≡ 0 }
 {}
 
 /// A mobile keeps its home address through all its lives.
 #[tactic(auto, using(crate::proofs::RoleLaws::mobile_home))]
 pub fn mobiles_keep_their_home()
-    ensures { (home : Address) (declared : Option Address) (secrets : Life) (past : List (Stamped mobile_steps.Step)) → home_of (mobile_questions.known home declared secrets past) ≡ home }
+    ensures { (home : Address) (declared : Option Address) (numbers : ℕ) (secrets : Life) (past : List (Stamped mobile_steps.Step)) → home_of (mobile_questions.known home declared numbers secrets past) ≡ home }
 {}

@@ -2,7 +2,7 @@
 
 ghost use Rattle.std.specs.Prelude.{◌≡◌, ◌≤◌, ◌<◌, ◌^◌, ◌==◌, ◌&&◌, true, false, IfOk, OnOk, is_some, option_copied, option_map, slice_get};
 ghost use Rattle.mip_words.specs.Addresses.{is_routable};
-ghost use Rattle.mip_bcache.specs.Seen.{kept_at};
+ghost use Rattle.mip_bcache.specs.Seen.{rows_at};
 ghost use Rattle.mip_bulist.specs.Timers.{first_due};
 ghost use Rattle.mip_rules_mobile.specs.Doing.{turn_of};
 ghost use Rattle.mip_rules_correspondent.specs.Questions.{held_of};
@@ -54,11 +54,14 @@ impl MobileRole {
         home: Address,
         agent: Option<Address>,
         secrets: Secrets,
+        numbers: u8,
     ) -> Result<MobileRole, Memory>
-        requires { is_routable home.0 ≡ true }
-        ensures { IfOk result (λ r. r ≡ fresh home agent secrets) }
+        requires home { is_routable home.0 ≡ true }
+        requires some { 1 ≤ numbers }
+        requires few { numbers ≤ 8 }
+        ensures { IfOk result (λ r. r ≡ fresh home agent numbers secrets) }
     {
-        let desk = Desk::open(alloc, home, agent, secrets)?;
+        let desk = Desk::open(alloc, home, agent, secrets, numbers)?;
         Ok(MobileRole {
             desk,
             failed: false,
@@ -99,10 +102,10 @@ impl MobileRole {
         if self.failed { None } else { self.desk.due() }
     }
 
-    /// The row at a place among those that its correspondent part keeps, in order of home address.
+    /// The row at a place among those that its correspondent part keeps, in order of home address, then of number.
     pub fn row(&self, now: Moment, place: u32) -> Option<&Row>
         requires { self.now.last.0 ≤ now.0 }
-        ensures { option_copied result ≡ slice_get (kept_at self.now.part.known.cache now.0) place }
+        ensures { option_copied result ≡ slice_get (rows_at self.now.part.known.cache now.0) place }
     {
         if self.failed {
             None

@@ -60,7 +60,8 @@ fn home_entry(node: NodeId, row: Option<HomeRow>) -> Option<Entry>
 }
 
 impl Role {
-    /// The role of a node in a life, with nothing behind it; a mobile is in its first.
+    /// The role of a node in a life, with nothing behind it, where a home's bindings may have so many numbers; a mobile is in its
+    /// first.
     pub fn new(
         alloc: Global,
         seed: &[u8; 32],
@@ -68,14 +69,17 @@ impl Role {
         life: u32,
         own: Address,
         kind: &Kind,
+        numbers: u8,
     ) -> Result<Role, Memory>
-        requires { IsFitKind own (kind_of kind.now) }
-        ensures { IfOk result (λ r. r ≡ new_role seed.now node.0 life own (kind_of kind.now)) }
+        requires kind { IsFitKind own (kind_of kind.now) }
+        requires some { 1 ≤ numbers }
+        requires few { numbers ≤ 8 }
+        ensures { IfOk result (λ r. r ≡ new_role seed.now node.0 life own (kind_of kind.now) numbers) }
     {
         match kind {
             Kind::Correspondent { room } => {
                 let secrets = Secrets::new(seed, node, life);
-                let role = Correspondent::new(alloc, own, secrets, *room)?;
+                let role = Correspondent::new(alloc, own, secrets, *room, numbers)?;
                 Ok(Role::Correspondent(role))
             }
             Kind::Agent {
@@ -89,7 +93,9 @@ impl Role {
             }
             Kind::Mobile { agent } => {
                 let secrets = Secrets::new(seed, node, 0);
-                Ok(Role::Mobile(MobileRole::new(alloc, own, *agent, secrets)?))
+                Ok(Role::Mobile(MobileRole::new(
+                    alloc, own, *agent, secrets, numbers,
+                )?))
             }
         }
     }
@@ -127,7 +133,7 @@ impl Role {
         }
     }
 
-    /// The row at a place among those that it keeps as this node, in order of home.
+    /// The row at a place among those that it keeps as this node, in order of home, then of number.
     pub fn entry(&self, node: NodeId, now: Moment, place: u32) -> Option<Entry>
         requires { last_of self.now ≤ now.0 }
         ensures { result ≡ slice_get (rows_of node.0 self.now now.0) place }

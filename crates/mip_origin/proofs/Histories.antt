@@ -92,9 +92,9 @@ module _ (s : Setup) (Q : Type 0) where
   goes_happens run (Payload node to proto payload) plain good = goes_adds s Q run _ (adds_acts s Q node.0 run good (calls.Send to proto payload) refl plain tt)
   goes_happens run (Inject o link packet) plain good = goes_adds s Q run _ (adds_injected s Q o link.0 packet run good)
   goes_happens run (Probe o link careof source peer cookie) plain good = goes_adds s Q run _ (adds_injected s Q o link.0 (probe_packet careof source peer cookie.0) run good)
-  goes_happens run (Bind o link ends sequence lifetime kh kc) plain good =
+  goes_happens run (Bind o link ends sequence lifetime kh kc number) plain good =
       goes_adds s Q run _
-      (adds_injected_if s Q o link.0 (update_packet (record { source = ends.source; peer = ends.peer; home = ends.home; careof = ends.careof; sequence = sequence; lifetime = lifetime }) run.posts kh kc) run good)
+      (adds_injected_if s Q o link.0 (update_packet (record { source = ends.source; peer = ends.peer; home = ends.home; careof = ends.careof; sequence = sequence; lifetime = lifetime; number = number }) run.posts kh kc) run good)
   goes_happens run (Tell o link kt kp) plain good = goes_adds s Q run _ (adds_injected_if s Q o link.0 (test_packet run.posts kt kp) run good)
   goes_happens run (Listen o link) plain good = goes_adds s Q run _ (adds_either s Q (hears_in run.past o link.0) entries.Idle (entries.Listening o (link_id link.0)) run refl refl good)
   goes_happens run (Deaf o link) plain good = goes_adds s Q run _ (adds_either s Q (hears_in run.past o link.0) (entries.Deafened o (link_id link.0)) entries.Idle run refl refl good)

@@ -1,6 +1,6 @@
 -- A schedule sends plain data, and the acceptances of its history are marked.
 use Rattle.std.proofs.Common.{◌≡◌, ℕ, ◌≤◌, List, [], ◌∷◌, ◌++◌, true, false, refl, sym, ap, ◌∙◌, subst}
-use Rattle.std.specs.Prelude.{Ok, not}
+use Rattle.std.specs.Prelude.{Ok, not, Bool}
 use Rattle.std.specs.List.{sum_by, AllByRecursion}
 use Rattle.std.proofs.lemmas.List.{append_assoc}
 use Rattle.std.proofs.lemmas.Bool.{and_parts, not-true}
@@ -14,6 +14,7 @@ use Rattle.mip_declared.specs.declared.declaration.Declaration.{Declaration}
 use Rattle.mip_schedule.specs.declared.event.Event.{Event}
 use Rattle.mip_schedule.specs.declared.event.Event.TheVariants.{Payload}
 use Rattle.mip_schedule.specs.Reading.{reading}
+use Rattle.mip_schedule.specs.Versions.{is_numbered}
 use Rattle.mip_schedule.specs.Spelling.{spelling}
 use Rattle.mip_rules_correspondent.specs.Rules.{is_data}
 use Rattle.mip_history.specs.Setup.{setup_of}
@@ -32,13 +33,13 @@ plain_proto proto is = (
   (λ e. let both = sym (ap is_payload e) ∙ is in absurd cc),
 )
 
-plain_event : (ds : List Declaration) (before : List Event) (event : Event) → IsEvent ds before event → IsPlainEvent event
-plain_event ds before (Payload node to proto payload) is = plain_proto proto (payload_fits ds before node to proto payload is)
-plain_event ds before _ is = tt
+plain_event : (numbered : Bool) (ds : List Declaration) (before : List Event) (event : Event) → IsEvent numbered ds before event → IsPlainEvent event
+plain_event numbered ds before (Payload node to proto payload) is = plain_proto proto (payload_fits numbered ds before node to proto payload is)
+plain_event numbered ds before _ is = tt
 
 -- each event stands after those before it
 abbrev AreEvents : Content → Type 0
-AreEvents c = (before : List Event) (e : Event) (after : List Event) → c.events ≡ before ++ e ∷ after → IsEvent c.declarations before e
+AreEvents c = (before : List Event) (e : Event) (after : List Event) → c.events ≡ before ++ e ∷ after → IsEvent (is_numbered c.version) c.declarations before e
 
 plain_events : (c : Content) → AreEvents c → ArePlain c
 plain_events c each = by [] c.events refl
@@ -46,7 +47,7 @@ plain_events c each = by [] c.events refl
     by : (before rest : List Event) → c.events ≡ before ++ rest → AllByRecursion IsPlainEvent rest
     by before [] whole = tt
     by before (event ∷ rest) whole =
-        (plain_event c.declarations before event (each before event rest whole), by (before ++ event ∷ []) rest (whole ∙ sym (append_assoc before (event ∷ []) rest)))
+        (plain_event (is_numbered c.version) c.declarations before event (each before event rest whole), by (before ++ event ∷ []) rest (whole ∙ sym (append_assoc before (event ∷ []) rest)))
 
 abbrev pub AreMarked : Type 0
 AreMarked = (c : Content) → ArePlain c → sum_by waited_by c.events ≤ 36000000 → EachIsMarked (setup_of c) (permitted c)

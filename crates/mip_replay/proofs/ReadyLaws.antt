@@ -10,6 +10,7 @@ use Rattle.mip_links.specs.Table.{Asked}
 use Rattle.mip_schedule.specs.Contents.{Content, holding}
 use Rattle.mip_schedule.specs.EventTimes.{wait_of, waited, carried, is_reserved, is_packet, misfit, untimely}
 use Rattle.mip_schedule.specs.Lawful.{IsEvent, IsLawful, IsLink, IsNode, IsOutsider}
+use Rattle.mip_schedule.specs.Versions.{is_numbered, numbers_in}
 use Rattle.mip_declared.specs.Places.{AreFew}
 use Rattle.mip_declared.specs.declared.declaration.Declaration.{Declaration}
 use Rattle.mip_schedule.specs.declared.event.Event.{Event}
@@ -102,7 +103,7 @@ restarts_few n (event ∷ events) = omega (arith, sum_by-cons (restarted_by n) e
 
 -- a schedule with these events
 abbrev so_far : Content → List Event → Content
-so_far c events = holding c.seed c.start c.declarations events
+so_far c events = holding c.version c.seed c.start c.declarations events
 
 moment_is : AreWaits → (c : Content) (events : List Event) → moment_in (setup_of c).start (run_of (setup_of c) events).past ≡ c.start.0 + waited events
 unfolding permitted waited
@@ -113,10 +114,14 @@ unfolding permitted
 life_is lives c events n = omega (arith, lives (so_far c events) n, restarts_few n events)
 
 -- what an event sends as data may be sent
-pub payload_fits : (ds : List Declaration) (before : List Event) (node : NodeId) (to : Address) (proto : ℕ) (payload : List ℕ) → IsEvent ds before (Payload node to proto payload) → is_payload proto ≡ true
+pub payload_fits : (numbered : Bool) (ds : List Declaration) (before : List Event) (node : NodeId) (to : Address) (proto : ℕ) (payload : List ℕ) → IsEvent numbered ds before (Payload node to proto payload) → is_payload proto ≡ true
 unfolding misfit
-payload_fits ds before node to proto payload is =
+payload_fits numbered ds before node to proto payload is =
     data_fits proto (passed (is_reserved proto) reasons.Number None (timely ds (length before) (waited before) (carried before) (Payload node to proto payload) is.fits).1).0
+
+few_numbers : (numbered : Bool) → numbers_in numbered ≤ 8
+few_numbers true = omega arith
+few_numbers false = omega arith
 
 module _ (waits : AreWaits) (lives : AreRestarts) (c : Content) (lawful : IsLawful c) (few : AreFew c.declarations)
     (before : List Event) (e : EngineSeen) (at : IsAt e (setup_of c) (run_of (setup_of c) before)) where
@@ -136,7 +141,7 @@ module _ (waits : AreWaits) (lives : AreRestarts) (c : Content) (lawful : IsLawf
       let links : length e.net.links ≡ length (links_in ds) = ap (λ (q : Asked). length q.links) at.asked in
       omega (arith, declared, links, many_links ds)
 
-  wait_ready : (ms : ℕ) → IsEvent ds before (Wait ms) → IsReady e (Wait ms)
+  wait_ready : (ms : ℕ) → IsEvent (is_numbered c.version) ds before (Wait ms) → IsReady e (Wait ms)
   wait_ready ms is =
       let fits = wait_fits ds (waited before) (carried before) ms (timely ds (length before) (waited before) (carried before) (Wait ms) is.fits).1 in
       (omega (arith, at.now, moment_is waits c before, fits, lawful.start), record { setup = setup_of c; events = before; stands = at })
@@ -150,16 +155,16 @@ module _ (waits : AreWaits) (lives : AreRestarts) (c : Content) (lawful : IsLawf
       let life = ap (λ (x : NodeSeen). x.life) found.2 in
       omega (arith, life, life_is lives c before n, short)
 
-  fits : (event : Event) → IsEvent ds before event → (length before < 20000) × (misfit ds (waited before) (carried before) event ≡ None)
+  fits : (event : Event) → IsEvent (is_numbered c.version) ds before event → (length before < 20000) × (misfit ds (waited before) (carried before) event ≡ None)
   fits event is = timely ds (length before) (waited before) (carried before) event is.fits
 
-  pub ready : (event : Event) → IsEvent ds before event → IsReady e event
+  pub ready : (event : Event) → IsEvent (is_numbered c.version) ds before event → IsReady e event
   unfolding misfit
   ready (Wait ms) is = wait_ready ms is
   ready (Advertise link) is = link_there link is.within
   ready (Payload node to proto payload) is = (data_fits proto (passed (is_reserved proto) reasons.Number None (fits _ is).1).0, is.within.2)
   ready (Inject o link packet) is = packet_fits packet (fits _ is).1
-  ready (Bind o link ends sequence lifetime kh kc) is = is.within.4
+  ready (Bind o link ends sequence lifetime kh kc number) is = (is.within.4, omega (arith, is.within.6, few_numbers (is_numbered c.version)))
   ready (Listen o link) is = ear o link is.within.0 is.within.1
   ready (Deaf o link) is = ear o link is.within.0 is.within.1
   ready (Squat o address) is = outsider_there o is.within.0

@@ -12,4 +12,4 @@ abbrev pub asking : Asking → runs.Asking
 asking a = record { kind = kind_of a.kind; cookie = a.cookie.0 }
 
 abbrev pub binding : Binding → runs.Binding
-binding b = record { source = b.source; peer = b.peer; home = b.home; careof = b.careof; sequence = b.sequence; lifetime = b.lifetime }
+binding b = record { source = b.source; peer = b.peer; home = b.home; careof = b.careof; sequence = b.sequence; lifetime = b.lifetime; number = b.number }

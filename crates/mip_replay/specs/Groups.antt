@@ -12,7 +12,7 @@ is_posting _ = false
 
 -- an outsider posts an update
 abbrev pub is_bind : Event → Bool
-is_bind (Bind outsider link ends sequence lifetime home_test careof_test) = true
+is_bind (Bind outsider link ends sequence lifetime home_test careof_test number) = true
 is_bind _ = false
 
 -- a node is asked something

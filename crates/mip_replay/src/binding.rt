@@ -1,7 +1,9 @@
-ghost use Rattle.std.specs.Prelude.{◌≡◌, ◌≤◌, length, true, IfOk, option_map, Some};
+ghost use Rattle.std.specs.Prelude.{◌≡◌, ◌<◌, ◌≤◌, length, true, IfOk, IfSome, option_map, Some};
 ghost use Rattle.mip_words.specs.Addresses.{is_routable};
 ghost use Rattle.mip_options.specs.declared.indices.Indices.{Indices as IndicesSeen};
 ghost use Rattle.mip_mobhdr.specs.Said.{said_plain};
+ghost use Rattle.mip_mobhdr.specs.Spelling.{HasNumber};
+ghost use Rattle.mip_rules_mobile.specs.Sendings.{number_option};
 ghost use Rattle.mip_signals.specs.Authenticated.{authenticated_packet};
 ghost use Rattle.mip_history.specs.Outsiders.{bind_head, bind_message, bind_packet, unless_same};
 ghost use Rattle.mip_replay.specs.Forged as seen;
@@ -16,7 +18,8 @@ use mip_tokens::{Kbm, PreparedKbm};
 use mip_words::{Address, Bytes, Memory};
 use std::alloc::Global;
 
-/// What the update of an outsider says: its addresses, its sequence, and its lifetime in units of 4 s.
+/// What the update of an outsider says: its addresses, its sequence, its lifetime in units of 4 s, and the number of the
+/// binding that it asks for.
 #[derive(Clone, Copy)]
 pub(crate) struct Binding {
     pub source: Address,
@@ -25,6 +28,7 @@ pub(crate) struct Binding {
     pub careof: Address,
     pub sequence: u16,
     pub lifetime: u16,
+    pub number: u8,
 }
 
 fn unless_same(address: Address, source: Address) -> Option<Address>
@@ -45,9 +49,21 @@ fn head(binding: Binding) -> Head
     node_head(binding.source, binding.peer, None, home, MOBILITY_HEADER)
 }
 
-/// The update (RFC 6275 section 6.1.7), with an Alternate Care-of Address where the care-of address is not the source.
+/// The Binding Number by which a number is asked for: none asks for 0.
+fn number_option(number: u8) -> Option<u8>
+    requires { number < 8 }
+    ensures value { result ≡ number_option number }
+    ensures few { IfSome result (λ n. n < 8) }
+{
+    if number == 0 { None } else { Some(number) }
+}
+
+/// The update (RFC 6275 section 6.1.7), with an Alternate Care-of Address where the care-of address is not the source, and a
+/// Binding Number where it is not 0.
 fn message(binding: Binding, indices: Indices) -> Plain
-    ensures { said_plain result ≡ bind_message (seen.binding binding) indices.home indices.careof }
+    requires { binding.number < 8 }
+    ensures value { said_plain result ≡ bind_message (seen.binding binding) indices.home indices.careof }
+    ensures number { HasNumber (said_plain result) }
 {
     Plain::Update {
         sequence: binding.sequence,
@@ -60,7 +76,7 @@ fn message(binding: Binding, indices: Indices) -> Plain
             advice: None,
             alternate: unless_same(binding.careof, binding.source),
             nonces: Some(indices),
-            number: None,
+            number: number_option(binding.number),
             authorization: None,
         },
     }
@@ -75,7 +91,8 @@ fn authenticated_packet(
     kbm: Kbm,
     careof: Address,
 ) -> Result<Bytes, Memory>
-    requires { is_routable binding.home.0 ≡ true }
+    requires home { is_routable binding.home.0 ≡ true }
+    requires number { binding.number < 8 }
     ensures is { IfOk result (λ b. b ≡ authenticated_packet (bind_head (seen.binding binding)) kbm.0 careof binding.peer (bind_message (seen.binding binding) indices.home indices.careof)) }
     ensures long { IfOk result (λ b. 40 ≤ length b) }
 {
@@ -98,7 +115,8 @@ pub(crate) fn bind_packet(
     home: Told,
     careof: Option<Told>,
 ) -> Result<Bytes, Memory>
-    requires { is_routable binding.home.0 ≡ true }
+    requires home { is_routable binding.home.0 ≡ true }
+    requires number { binding.number < 8 }
     ensures is { IfOk result (λ b. b ≡ bind_packet (seen.binding binding) (seen.told home) (option_map seen.told careof)) }
     ensures long { IfOk result (λ b. 40 ≤ length b) }
 {

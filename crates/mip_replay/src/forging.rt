@@ -1,6 +1,6 @@
 //! The packets of outsiders: inits of tests, tests and updates.
 
-ghost use Rattle.std.specs.Prelude.{◌≡◌, ◌≤◌, length, true, IfOk, IfSome, OnOk, option_map, Option, Some, ℕ};
+ghost use Rattle.std.specs.Prelude.{◌≡◌, ◌<◌, ◌≤◌, length, true, IfOk, IfSome, OnOk, option_map, Option, Some, ℕ};
 ghost use Rattle.mip_words.specs.Addresses.{is_routable};
 ghost use Rattle.mip_says.specs.Says.{kind_of};
 ghost use Rattle.mip_history.specs.Setup.{Setup};
@@ -72,7 +72,8 @@ fn update_from(
     home: u64,
     careof: Option<u64>,
 ) -> Result<Option<Bytes>, Memory>
-    requires { is_routable binding.home.0 ≡ true }
+    requires home { is_routable binding.home.0 ≡ true }
+    requires number { binding.number < 8 }
     ensures is { IfOk result (λ b. b ≡ update_packet (seen.binding binding) engine.now.net.posts home careof) }
     ensures long { IfOk result (λ b. IfSome b (λ p. 40 ≤ length p)) }
 {
@@ -164,7 +165,8 @@ pub(crate) fn bind(
     home: u64,
     careof: Option<u64>,
 ) -> Result<(), Memory>
-    requires { is_routable binding.home.0 ≡ true }
+    requires home { is_routable binding.home.0 ≡ true }
+    requires number { binding.number < 8 }
     ensures stands { (s : Setup) (run : Run) → IsAt engine.old s run → OnOk result (IsAt engine.new s (injected_if s run outsider link.0 (update_packet (seen.binding binding) run.posts home careof))) }
     ensures kept { OnOk result (engine.new.told ≡ engine.old.told) }
 {

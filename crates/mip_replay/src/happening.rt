@@ -36,6 +36,7 @@ fn outsider_binds(alloc: Global, engine: &mut Engine, event: &Event) -> Result<(
         lifetime,
         home_test,
         careof_test,
+        number,
     } = event
     else {
         unreachable!();
@@ -48,6 +49,7 @@ fn outsider_binds(alloc: Global, engine: &mut Engine, event: &Event) -> Result<(
         careof: ends.careof,
         sequence: *sequence,
         lifetime: *lifetime,
+        number: *number,
     };
     let careof_test = match careof_test {
         Some(number) => Some(u64::from(*number)),
