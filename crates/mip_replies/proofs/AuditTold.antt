@@ -49,10 +49,10 @@ end_compared start now names whole told same is =
     ∙ ap (difference_from start) (sym (append-nil (trace_text names told))) ∙ is []
 
 -- and is judged so
-pub piece_judged : {X Y : Type 0} (start before : Progress) (names own : Names) (whole next told items rest : List Entry) (e : AuditFault) → own ≡ names → whole ≡ next ++ rest
+pub piece_judged : (X Y : Type 0) (start before : Progress) (names own : Names) (whole next told items rest : List Entry) (e : AuditFault) → own ≡ names → whole ≡ next ++ rest
     → next ≡ told ++ items → IsCompared start before names told
-    → OnDiffers {X} (Err e) (λ line. (more : List ℕ) → difference_from before (trace_text own items ++ more) ≡ Some line)
-    → Judges {Y} (Err e) (difference_from start (trace_text names whole))
-piece_judged start before names own whole next told items rest (faults.Differs line) same split is first put =
+    → OnDiffers {X = X} (Err e) (λ line. (more : List ℕ) → difference_from before (trace_text own items ++ more) ≡ Some line)
+    → Judges {X = Y} (Err e) (difference_from start (trace_text names whole))
+piece_judged X Y start before names own whole next told items rest (faults.Differs line) same split is first put =
     piece_differs start before names own whole next told items rest (Some line) same split is first put
-piece_judged start before names own whole next told items rest faults.Memory same split is first put = tt
+piece_judged X Y start before names own whole next told items rest faults.Memory same split is first put = tt

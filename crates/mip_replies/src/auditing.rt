@@ -1,12 +1,12 @@
 //! What is answered to a trace that another program wrote.
 
-ghost use Rattle.std.specs.Prelude.{◌≡◌, ◌+◌, ◌≤◌, [], length, IfOk, None, Some};
+ghost use Rattle.std.specs.Prelude.{◌≡◌, ◌≢◌, ◌≤◌, length, IfOk, None, Some};
 ghost use Rattle.mip_audit.specs.Cutting.{cut_text};
 ghost use Rattle.mip_audit.specs.Differences.{difference, Judges};
 ghost use Rattle.mip_schedule.specs.Reading.{reading};
 ghost use Rattle.mip_schedule.specs.Schedules.{content};
 ghost use Rattle.mip_replies.specs.Answers.{audit_answer, cut_answer, is_long_audit, trace_of, verdict_answer};
-ghost use Rattle.mip_replies.specs.Told.{IsConclusive};
+ghost use Rattle.mip_replies.specs.Told.{IsConclusive, IsStatus};
 
 use crate::lengths::{ends, event_lines};
 use crate::reply::Reply;
@@ -36,6 +36,7 @@ pub fn audited(alloc: Global, input: &[u8]) -> Result<Reply, Memory>
     requires { length input.now ≤ 16777216 }
     ensures answers { IfOk result (λ reply. reply ≡ audit_answer input.now) }
     ensures conclusive { IfOk result (λ reply. IsConclusive reply.status) }
+    ensures statuses { IfOk result (λ reply. IsStatus reply.status × (reply.status ≢ 1)) }
 {
     match cut_trace(input) {
         Some((schedule, trace)) => judged(alloc, schedule, trace),
@@ -48,6 +49,7 @@ fn judged(alloc: Global, schedule: &[u8], trace: &[u8]) -> Result<Reply, Memory>
     requires { length schedule.now ≤ 16777216 }
     ensures answers { IfOk result (λ reply. reply ≡ cut_answer schedule.now (Some (schedule.now, trace.now))) }
     ensures conclusive { IfOk result (λ reply. IsConclusive reply.status) }
+    ensures statuses { IfOk result (λ reply. IsStatus reply.status × (reply.status ≢ 1)) }
 {
     if is_long(schedule, trace) {
         return Reply::copy(alloc, Status::TOO_LONG, b"long\n");
@@ -64,6 +66,7 @@ fn uncut(alloc: Global, text: &[u8]) -> Result<Reply, Memory>
     requires { length text.now ≤ 16777216 }
     ensures answers { IfOk result (λ reply. reply ≡ cut_answer text.now None) }
     ensures conclusive { IfOk result (λ reply. IsConclusive reply.status) }
+    ensures statuses { IfOk result (λ reply. IsStatus reply.status × (reply.status ≢ 1)) }
 {
     if is_long(text, b"") {
         return Reply::copy(alloc, Status::TOO_LONG, b"long\n");
@@ -86,6 +89,7 @@ fn is_long(schedule: &[u8], trace: &[u8]) -> bool
 fn compared(alloc: Global, schedule: &Schedule, trace: &[u8]) -> Result<Reply, Memory>
     ensures answers { IfOk result (λ reply. reply ≡ verdict_answer (difference trace.now (trace_of (content schedule.now)))) }
     ensures conclusive { IfOk result (λ reply. IsConclusive reply.status) }
+    ensures statuses { IfOk result (λ reply. IsStatus reply.status × (reply.status ≢ 1)) }
 {
     match audit(alloc, schedule, trace) {
         Ok(()) => Reply::copy(alloc, Status::OK, b"yes\n"),

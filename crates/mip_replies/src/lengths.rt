@@ -1,6 +1,6 @@
 //! How many lines a text has, before it is read.
 
-ghost use Rattle.std.specs.Prelude.{◌≡◌, ◌+◌, length};
+ghost use Rattle.std.specs.Prelude.{◌≡◌, ◌+◌, ◌≤◌, length};
 ghost use Rattle.mip_lines.specs.Cutting.{parts};
 ghost use Rattle.mip_replies.specs.Lengths.{event_lines, line_ends};
 
