@@ -128,12 +128,12 @@ last_not p rs r i found fails past e =
     ∙ ap (λ (b : Bool). if b then Some r else last_where p rs) (sym fails)
     ∙ sym (last_where-push p rs r)
 
-pub drop_at : (rs : List Row) (i : ℕ) (d : Row) → i < length rs → drop i rs ≡ get_or rs i d ∷ drop (i + 1) rs
+pub drop_at : {X : Type 0} (xs : List X) (i : ℕ) (d : X) → i < length xs → drop i xs ≡ get_or xs i d ∷ drop (i + 1) xs
 drop_at [] i d inside = absurd (omega arith)
-drop_at (r ∷ rs) zero d inside = refl
-drop_at (r ∷ rs) (suc i) d inside =
+drop_at (x ∷ xs) zero d inside = refl
+drop_at {X = X} (x ∷ xs) (suc i) d inside =
     let e : suc i + 1 ≡ suc (i + 1) = omega arith in
-    drop_at rs i d (omega arith) ∙ ap (λ (n : ℕ). get_or rs i d ∷ drop n (r ∷ rs)) (sym e)
+    drop_at xs i d (omega arith) ∙ ap (λ (n : ℕ). get_or xs i d ∷ drop n (x ∷ xs)) (sym e)
 
 pub latest_on : (rs : List Row) (i late moment : ℕ) → i < length rs → latest late (drop i rs) ≡ latest moment rs → latest (max late (get_or rs i blank).end.0) (drop (i + 1) rs) ≡ latest moment rs
 latest_on rs i late moment inside e =

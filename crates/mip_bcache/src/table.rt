@@ -4,7 +4,7 @@ ghost use Rattle.std.specs.Prelude.{◌≡◌, ◌+◌, ◌*◌, ◌^◌, ◌<�
 ghost use Rattle.std.specs.List.{AllByRecursion, flat_map};
 ghost use Rattle.mip_binding.specs.Rows.{find_by, put_by, kept_by};
 ghost use Rattle.mip_chain.specs.Chain.{find as find_slot, put};
-ghost use Rattle.mip_bcache.specs.Seen.{home_of, no_room, rows_made, rows_left, rows_of_home};
+ghost use Rattle.mip_bcache.specs.Seen.{home_of, stands, stands_under, stands_at, last_row, any_row, no_room, rows_made, rows_left, rows_of_home};
 ghost use Rattle.mip_bcache.specs.Table.{seen, key_of, due_of, rows_seen, key_at, kept_in, homes_in, count_of, count_in, item_for, later, IsHome, IsSpare, IsShelved, IsStocked, IsPlace, IsGap, IsTable};
 
 use crate::accepted::Accepted;
@@ -73,7 +73,7 @@ impl Table {
     }
 
     /// The rows of a home, where its sequence is still kept.
-    pub fn kept_home(&self, now: Moment, home: Address) -> Option<&Home>
+    fn kept_home(&self, now: Moment, home: Address) -> Option<&Home>
         requires { IsTable (seen self.now) }
         ensures { option_copied result ≡ find_by key_of home.0 (kept_by due_of now.0 (homes_in (seen self.now))) }
     {
@@ -82,6 +82,50 @@ impl Table {
             Some(found)
         } else {
             None
+        }
+    }
+
+    /// The sequence of a home, where it is still kept.
+    pub fn kept_sequence(&self, now: Moment, home: Address) -> Option<u16>
+        requires { IsTable (seen self.now) }
+        ensures { result ≡ option_map (λ h. h.sequence) (option_map rows_seen (find_by key_of home.0 (kept_by due_of now.0 (homes_in (seen self.now))))) }
+    {
+        match self.kept_home(now, home) {
+            Some(kept) => Some(kept.last.sequence),
+            None => None,
+        }
+    }
+
+    /// The row of a home whose binding stands; of several the one accepted last.
+    pub fn standing(&self, now: Moment, home: Address) -> Option<&Row>
+        requires { IsTable (seen self.now) }
+        ensures { option_copied result ≡ last_row (stands home.0 now.0) (option_map rows_seen (find_by key_of home.0 (kept_by due_of now.0 (homes_in (seen self.now))))) }
+    {
+        match self.kept_home(now, home) {
+            Some(kept) => kept.standing(now, home),
+            None => None,
+        }
+    }
+
+    /// The row of a home under a number, where its binding stands.
+    pub fn standing_under(&self, now: Moment, home: Address, number: u8) -> Option<&Row>
+        requires { IsTable (seen self.now) }
+        ensures { option_copied result ≡ last_row (stands_under home.0 number now.0) (option_map rows_seen (find_by key_of home.0 (kept_by due_of now.0 (homes_in (seen self.now))))) }
+    {
+        match self.kept_home(now, home) {
+            Some(kept) => kept.standing_under(now, home, number),
+            None => None,
+        }
+    }
+
+    /// Whether a home has a binding that stands at this care-of address.
+    pub fn holds(&self, now: Moment, home: Address, careof: Address) -> bool
+        requires { IsTable (seen self.now) }
+        ensures { result ≡ any_row (stands_at home.0 now.0 careof.0) (option_map rows_seen (find_by key_of home.0 (kept_by due_of now.0 (homes_in (seen self.now))))) }
+    {
+        match self.kept_home(now, home) {
+            Some(kept) => kept.holds(now, home, careof),
+            None => false,
         }
     }
 

@@ -25,7 +25,7 @@ loop-number-preserved c =
     record { within = let test = c.loop-number-test.true in omega arith; has = has }
 
 pub returns-then-place-eq0-clause-found : goal.returns-then-place-eq0-clause-found
-returns-then-place-eq0-clause-found c = 
+returns-then-place-eq0-clause-found c =
     let less : c.loop-number.number < 8 = let few = c.requires.few in let test = c.loop-number-test.true in omega arith in
     pass_here (live_in c.args.self.now) (rows_of_home (rows_seen c.args.self.now)) c.loop-number.number c.loop-number.place c.args.place.now c.in-Some.row.now less (sym c.under.ensures ∙ ap option_copied c.in-Some.is) c.if-place-eq0.true c.loop-number.invariant.has
 
