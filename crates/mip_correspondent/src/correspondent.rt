@@ -5,7 +5,7 @@ ghost use Rattle.mip_nonce.specs.Secrets.{cookie_of};
 ghost use Rattle.mip_says.specs.Says.{message_in};
 ghost use Rattle.mip_binding.specs.Acceptance.{Acceptance};
 ghost use Rattle.mip_binding.specs.Homes.{shown_rows};
-ghost use Rattle.mip_binding.specs.Held.{held};
+ghost use Rattle.mip_binding.specs.Held.{held, holds};
 ghost use Rattle.mip_bcache.specs.Seen.{StandsFor, rows_at, seen_row};
 ghost use Rattle.mip_entries.specs.Stamped.{Stamped};
 ghost use Rattle.mip_rules_correspondent.specs.Steps.{Step, answers_of};
@@ -107,6 +107,7 @@ impl Correspondent {
     pub fn holds(&self, now: Moment, home: Address, careof: Address) -> bool
         requires { self.now.known.last.0 ≤ now.0 }
         ensures found { result ≡ holds_for self.now.known now.0 home careof }
+        ensures answers { (past : List Acceptance) → StandsFor self.now.known.cache past → result ≡ holds past home.0 now.0 careof.0 }
     {
         self.known.cache.holds(now, home, careof)
     }

@@ -146,7 +146,7 @@ module _ (s : Setup) (from run : Run) (beside : IsBeside from run) where
   -- a turn of a node is what it would have been
   module _ (n : ℕ) (own : Address) where
     correspondent_beside : (room : ℕ) (c : part_calls.Call)
-        → part_doing.turn_of (identity_in s run n own room) (known_in run n room) (now_in s run) c ≡ part_doing.turn_of (identity_in s from n own room) (known_in from n room) (now_in s from) c
+        → part_doing.turn_of (identity_in s run n own room) (known_in s run n room) (now_in s run) c ≡ part_doing.turn_of (identity_in s from n own room) (known_in s from n room) (now_in s from) c
     correspondent_beside room c =
         by (ap (λ (life : ℕ). let x : Identity = record { own = own; secrets = secrets_in s n life; room = room } in x) (life_beside n))
         (ap (λ (l : List (List (Stamped part_steps.Step))). part_questions.known room (slice_index_or l n [])) beside.pasts) now_beside
@@ -166,7 +166,7 @@ module _ (s : Setup) (from run : Run) (beside : IsBeside from run) where
     mobile_beside : (agent : Option Address) (c : mobile_calls.Call)
         → mobile_doing.turn_of (mobile_known_in s run n own agent) (now_in s run) c ≡ mobile_doing.turn_of (mobile_known_in s from n own agent) (now_in s from) c
     mobile_beside agent c =
-        by (ap (λ (l : List (List (Stamped mobile_steps.Step))). mobile_questions.known own agent (secrets_in s n 0) (slice_index_or l n [])) beside.mobiles) now_beside
+        by (ap (λ (l : List (List (Stamped mobile_steps.Step))). mobile_questions.known own agent s.numbers (secrets_in s n 0) (slice_index_or l n [])) beside.mobiles) now_beside
       where
         by : {k l : mobiles.Known} {t u : ℕ} → k ≡ l → t ≡ u → mobile_doing.turn_of k t c ≡ mobile_doing.turn_of l u c
         by a b = cc
@@ -212,10 +212,10 @@ module _ (s : Setup) (from run : Run) (beside : IsBeside from run) (n : ℕ) (ow
   taken = acts s n (Take number shield bytes) run
 
   pub correspondent_hands_up : (room : ℕ) (p : Packet) → slice_get s.hosts n ≡ Some (record { address = own; kind = Correspondent room })
-      → BeginsWith (up number p) (part_steps.answers_of (part_doing.turn_of (identity_in s from n own room) (known_in from n room) (now_in s from) (part_calls.Take number shield bytes)).steps)
+      → BeginsWith (up number p) (part_steps.answers_of (part_doing.turn_of (identity_in s from n own room) (known_in s from n room) (now_in s from) (part_calls.Take number shield bytes)).steps)
       → LeavesFirst run taken (up_entry n number p)
   correspondent_hands_up room p host begins =
-      let turn : part_turns.Turn = part_doing.turn_of (identity_in s run n own room) (known_in run n room) (now_in s run) (part_calls.Take number shield bytes) in
+      let turn : part_turns.Turn = part_doing.turn_of (identity_in s run n own room) (known_in s run n room) (now_in s run) (part_calls.Take number shield bytes) in
       let next : Run = with_past n (part_turns.with_turn (past_at run n) turn) run in
       let same = correspondent_beside s from run beside n own room (part_calls.Take number shield bytes) in
       let left = up_left s n (link_or_first s own.0) next number p (part_steps.answers_of turn.steps)

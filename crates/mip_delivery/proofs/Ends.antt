@@ -52,16 +52,16 @@ module _ (s : Setup) (run : Run) (n : ℕ) where
 
   module _ (own : Address) (w : Way) (of_data : is_data w.proto ≡ true) (plain : w.proto ≢ 135) where
     pub correspondent_straight : (room : ℕ) → slice_get s.hosts n ≡ Some (record { address = own; kind = Correspondent room })
-        → w.destination.0 ≡ own.0 → is_some w.route ≡ false → (is_some w.home ≡ true → holds_option (known_in run n room) (now_in s run) w.source w.home ≡ true) → TakesStraight w
+        → w.destination.0 ≡ own.0 → is_some w.route ≡ false → (is_some w.home ≡ true → holds_option (known_in s run n room) (now_in s run) w.source w.home ≡ true) → TakesStraight w
     correspondent_straight room host mine straight holds beside is number hop bytes c =
         correspondent_hands_up s run beside is n own number None bytes room (data_on w hop) host
         (record {
           rest = [];
-          is = taken_by_correspondent (identity_in s run n own room) (known_in run n room) (now_in s run) number None bytes (data_on w hop) (record {
+          is = taken_by_correspondent (identity_in s run n own room) (known_in s run n room) (now_in s run) number None bytes (data_on w hop) (record {
             read = c.read;
             plain = of_data;
             passes =
-                data_passed (correspondents.standing_of (identity_in s run n own room) (known_in run n room) (now_in s run) (head_on w hop)) (place_in bytes (data_on w hop)) (data_on w hop) plain
+                data_passed (correspondents.standing_of (identity_in s run n own room) (known_in s run n room) (now_in s run) (head_on w hop)) (place_in bytes (data_on w hop)) (data_on w hop) plain
                 (eq-eqb w.destination.0 own.0 mine) (λ e. absurd (let both : true ≡ false = sym e ∙ straight in cc)) holds;
           });
         })

@@ -32,7 +32,7 @@ abbrev host : Address → Host
 host a = record { address = a; kind = Correspondent 4 }
 
 abbrev s : Setup
-s = record { seed = []; start = 0; links = 1 ∷ []; hosts = host own ∷ host to ∷ []; outsiders = 0 }
+s = record { seed = []; start = 0; links = 1 ∷ []; hosts = host own ∷ host to ∷ []; outsiders = 0; numbers = 1 }
 
 abbrev run : Run
 run = run_of s []

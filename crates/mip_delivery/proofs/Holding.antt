@@ -153,7 +153,7 @@ abroad_along : (k : Known) (past : List (Stamped Step)) → IsAbroad (home_of k)
 abroad_along k [] old = old
 abroad_along k (x ∷ past) old = abroad_along (after k x) past (abroad_after k x old)
 
-pub known_abroad : (home : Address) (declared : Option Address) (secrets : Life) (past : List (Stamped Step)) → IsAbroad home (known home declared secrets past).standing
+pub known_abroad : (home : Address) (declared : Option Address) (numbers : ℕ) (secrets : Life) (past : List (Stamped Step)) → IsAbroad home (known home declared numbers secrets past).standing
 unfolding known
-known_abroad home declared secrets past =
-    subst (λ (h : Address). IsAbroad h (known home declared secrets past).standing) (past-home home declared secrets past) (abroad_along (fresh home declared secrets) past tt)
+known_abroad home declared numbers secrets past =
+    subst (λ (h : Address). IsAbroad h (known home declared numbers secrets past).standing) (past-home home declared numbers secrets past) (abroad_along (fresh home declared numbers secrets) past tt)

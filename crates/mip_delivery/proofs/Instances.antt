@@ -63,16 +63,16 @@ passes_from s place a b mine = data_passed s place (data_from a b) (λ e. omega 
 
 module _ (secrets : Life) (now : ℕ) where
   -- a correspondent with address 2
-  here : IsDataHere (record { own = address 2; secrets = secrets; room = 16 }) (correspondents.fresh 16) now (bytes_from 1 2) (data_from 1 2)
+  here : IsDataHere (record { own = address 2; secrets = secrets; room = 16 }) (correspondents.fresh 16 1) now (bytes_from 1 2) (data_from 1 2)
   here = record {
     read = read_from 1 2 (omega arith) (omega arith);
     plain = refl;
-    passes = passes_from (standing_of (record { own = address 2; secrets = secrets; room = 16 }) (correspondents.fresh 16) now (straight (address 1) (address 2) 17)) (place_in (bytes_from 1 2) (data_from 1 2)) 1 2 refl;
+    passes = passes_from (standing_of (record { own = address 2; secrets = secrets; room = 16 }) (correspondents.fresh 16 1) now (straight (address 1) (address 2) 17)) (place_in (bytes_from 1 2) (data_from 1 2)) 1 2 refl;
   }
 
   -- a mobile at home, with home address 2
   abbrev at_home : Known
-  at_home = fresh (address 2) None secrets
+  at_home = fresh (address 2) None 1 secrets
 
   outside : IsDataStraight at_home now (bytes_from 1 2) (data_from 1 2)
   outside = record {

@@ -111,11 +111,11 @@ module _ (s : Setup) (run : Run) (n : ℕ) (own to : Address) (proto : ℕ) (pay
 
   pub correspondent_leaves : (room : ℕ) → slice_get s.hosts n ≡ Some (record { address = own; kind = Correspondent room }) → SendsOne (left_by s run (sending n to proto payload ∷ [])) (length run.posts) n
   correspondent_leaves room host =
-      let turn : part_turns.Turn = part_doing.turn_of (identity_in s run n own room) (known_in run n room) (now_in s run) (part_calls.Send to proto payload) in
+      let turn : part_turns.Turn = part_doing.turn_of (identity_in s run n own room) (known_in s run n room) (now_in s run) (part_calls.Send to proto payload) in
       let behind : Run = with_past n (part_turns.with_turn (past_at run n) turn) run in
       subst Leaves (sym host)
       (subst (λ (l : List Answer). SendsOne (drop (length run.past) (answered s n (link_or_first s own.0) behind l).past) (length run.posts) n)
-      (sym (sent_by_correspondent (identity_in s run n own room) (known_in run n room) (now_in s run) to proto payload))
+      (sym (sent_by_correspondent (identity_in s run n own room) (known_in s run n room) (now_in s run) to proto payload))
       (one_sent s n (link_or_first s own.0) behind None _))
 
   pub mobile_leaves : (agent : Option Address) → slice_get s.hosts n ≡ Some (record { address = own; kind = Mobile agent }) → can_send (mobile_known_in s run n own agent) (now_in s run) ≡ true

@@ -58,13 +58,13 @@ module _ (s : Setup) (run : Run) (n : ℕ) (own to : Address) (proto : ℕ) (pay
   call = calls.Send to proto payload
 
   pub correspondent_posts : (room : ℕ) → slice_get s.hosts n ≡ Some (record { address = own; kind = Correspondent room })
-      → Posts s run after (data_packet (part_doing.data_head own to proto (held_of (known_in run n room) (now_in s run) to)) payload)
+      → Posts s run after (data_packet (part_doing.data_head own to proto (held_of (known_in s run n room) (now_in s run) to)) payload)
   correspondent_posts room host =
-      let turn : part_turns.Turn = part_doing.turn_of (identity_in s run n own room) (known_in run n room) (now_in s run) (part_calls.Send to proto payload) in
+      let turn : part_turns.Turn = part_doing.turn_of (identity_in s run n own room) (known_in s run n room) (now_in s run) (part_calls.Send to proto payload) in
       let next : Run = with_past n (part_turns.with_turn (past_at run n) turn) run in
-      let packet : List ℕ = data_packet (part_doing.data_head own to proto (held_of (known_in run n room) (now_in s run) to)) payload in
+      let packet : List ℕ = data_packet (part_doing.data_head own to proto (held_of (known_in s run n room) (now_in s run) to)) payload in
       let left = send_left s n (link_or_first s own.0) next packet (part_steps.answers_of turn.steps)
-      (sent_by_correspondent (identity_in s run n own room) (known_in run n room) (now_in s run) to proto payload) in
+      (sent_by_correspondent (identity_in s run n own room) (known_in s run n room) (now_in s run) to proto payload) in
       subst (λ (o : Option Host). Posts s run (by_host s n call run o) packet) (sym host) (record { link = link_or_first s own.0; posts = left.posts })
 
   module _ (agent : Option Address) (host : slice_get s.hosts n ≡ Some (record { address = own; kind = Mobile agent })) where

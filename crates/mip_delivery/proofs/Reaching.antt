@@ -274,7 +274,7 @@ module _ (s : Setup) (bad : Entry → Bool) (may : ℕ → Address → Type 0) (
     where
       kinds : (own : Address) (kind : Kind) → slice_get s.hosts n ≡ Some (record { address = own; kind = kind }) → Calm (by_kind s n own call run kind)
       kinds own (Correspondent room) host =
-          asks_calm (λ (x : correspondent_calls.Call) (r : Run). turned s n own (correspondent_turn (identity_in s r n own room) (known_in r n room) (now_in s r) x) r) (for_correspondent call) run
+          asks_calm (λ (x : correspondent_calls.Call) (r : Run). turned s n own (correspondent_turn (identity_in s r n own room) (known_in s r n room) (now_in s r) x) r) (for_correspondent call) run
           (λ (x : correspondent_calls.Call). answers_calm n _ _ _ (all_may may n (mild.free n (ap is_agent_host host)) _) (record { rest = c.rest; whole = c.whole; calm = c.calm; stands = c.stands })) c
       kinds own (Agent preference life room serves) host =
           asks_calm (λ (x : agent_calls.Call) (r : Run). agent_turned s n own (turn_of (agent_of own preference life room) (agent_known_in r n serves) (now_in s r) x) r) (for_agent (around_in run n None) call) run
@@ -451,7 +451,7 @@ module _ (s : Setup) (bad : Entry → Bool) (may : ℕ → Address → Type 0) (
   home_rows_calm n (r ∷ rows) = home_rows_calm n rows
 
   kind_calm : (n : ℕ) (own : Address) (run : Run) (kind : Kind) → list_any is_special (rows_by_kind s n own run kind) ≡ false
-  kind_calm n own run (Correspondent room) = rows_calm n (kept_at (known_in run n room).cache (now_in s run))
+  kind_calm n own run (Correspondent room) = rows_calm n (kept_at (known_in s run n room).cache (now_in s run))
   kind_calm n own run (Agent preference life room serves) = home_rows_calm n (rows_at (now_in s run) (agent_known_in run n serves).homes)
   kind_calm n own run (Mobile agent) = rows_calm n (kept_at (mobile_known_in s run n own agent).part.known.cache (now_in s run))
 

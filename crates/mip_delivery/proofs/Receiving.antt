@@ -1,15 +1,16 @@
 -- What the receiver of two settled ends does with data, anywhere in a stretch that is quiet for them; and what its agent does.
 use Rattle.std.proofs.Common.{◌≡◌, ◌≢◌, ℕ, List, true, false, ◌⊎◌, inl, inr, refl, sym, ap, ◌∙◌, arith}
-use Rattle.std.specs.Prelude.{Option, Some, None, is_some, option_map, ◌==◌, slice_get}
-use Rattle.std.specs.Option.{option_map_or, option_or}
+use Rattle.std.specs.Prelude.{Option, Some, None, is_some, ◌==◌, slice_get}
+use Rattle.std.specs.Option.{option_or}
 use Rattle.std.proofs.lemmas.Bool.{eq-eqb, eqb-true}
 use Rattle.std.proofs.lemmas.Option.{slice_get_within}
 use Rattle.mip_words.specs.declared.address.Address.{Address}
-use Rattle.mip_binding.specs.Held.{held}
+use Rattle.mip_binding.specs.Held.{held, holds}
+use Rattle.mip_binding.proofs.HeldLaws.{held_is_one}
 use Rattle.mip_links.specs.Table.{is_address, holder_outside}
 use Rattle.mip_rules_correspondent.specs.Rules.{is_data, holds_option}
 use Rattle.mip_rules_correspondent.specs.declared.known.Known as parts
-use Rattle.mip_rules_correspondent.specs.Questions.{held_of}
+use Rattle.mip_rules_correspondent.specs.Questions.{holds_for}
 use Rattle.mip_rules_agent.specs.Questions.{careof_at}
 use Rattle.mip_rules_mobile.specs.declared.standing.Standing.{Standing}
 use Rattle.mip_rules_mobile.specs.declared.standing.Standing.TheVariants.{Detached, AtHome, Away}
@@ -28,7 +29,7 @@ use Rattle.mip_history.specs.Bound.{accepted_by}
 use Rattle.mip_history.specs.Permitted.{run_of}
 use Rattle.mip_history.specs.Found.{address_of}
 use Rattle.mip_history.specs.Told.{present_in, agent_in, careof_in}
-use Rattle.mip_history.proofs.Histories.{run_held, part_held}
+use Rattle.mip_history.proofs.Histories.{run_holds, part_holds as part_holds_it}
 use Rattle.mip_history.proofs.Registrations.{run_careof}
 use Rattle.mip_settled.proofs.AsTold.{found_as_told, registered_as_told}
 use Rattle.mip_settled.proofs.Declared.{declared_of_run}
@@ -95,14 +96,6 @@ agent_kind s events g now home careof agent registered told = by (slice_get s.ho
     by None there = absurd (never (ap is_agent_host there))
     by (Some host) there = of_kind host.address host.kind there
 
--- what is held for a home address is the source of data in its name
-holds_from : (k : parts.Known) (now : ℕ) (source home : Address) → option_map (λ a. a.0) (held_of k now home) ≡ Some source.0 → holds_option k now source (Some home) ≡ true
-holds_from k now source home is = by (held_of k now home) is
-  where
-    by : (o : Option Address) → option_map (λ (a : Address). a.0) o ≡ Some source.0 → option_map_or (λ (a : Address). a.0 == source.0) o false ≡ true
-    by None e = absurd cc
-    by (Some a) e = eq-eqb a.0 source.0 (let same : a.0 ≡ source.0 = cc in same)
-
 -- data on this way is in nobody's name, or in that of a home address whose binding node y holds
 abbrev pub IsNamed : Setup → List Event → ℕ → Address → Way → Type 0
 IsNamed s events y own w =
@@ -113,30 +106,30 @@ module _ (s : Setup) (orderly : IsOrderly s) (events : List Event) (y : ℕ) (ow
   abbrev run : Run
   run = run_of s events
 
-  holds_by : (k : parts.Known) → option_map (λ a. a.0) (held_of k (now_in s run) own) ≡ held (accepted_by s.start run.past y) own.0 (now_in s run)
+  holds_by : (k : parts.Known) → holds_for k (now_in s run) own w.source ≡ holds (accepted_by s.start run.past y) own.0 (now_in s run) w.source.0
       → is_some w.home ≡ true → holds_option k (now_in s run) w.source w.home ≡ true
   holds_by k is some = by named
     where
       by : IsNamed s events y own w → holds_option k (now_in s run) w.source w.home ≡ true
       by (inl none) = absurd (let both : true ≡ false = sym some ∙ ap (λ (o : Option Address). is_some o) none in cc)
-      by (inr x) = ap (holds_option k (now_in s run) w.source) x.0 ∙ holds_from k (now_in s run) w.source own (is ∙ x.1)
+      by (inr x) = ap (holds_option k (now_in s run) w.source) x.0 ∙ is ∙ held_is_one (accepted_by s.start run.past y) own.0 (now_in s run) w.source.0 x.1
 
   module _ (agent : Option Address) (host : slice_get s.hosts y ≡ Some (record { address = to; kind = Mobile agent })) where
     abbrev k : Known
     k = mobile_known_in s run y to agent
 
     home_is : home_of k ≡ to
-    home_is = past-home to agent (secrets_in s y 0) (mobile_past_at run y)
+    home_is = past-home to agent s.numbers (secrets_in s y 0) (mobile_past_at run y)
 
     uses : Some present ≡ address_of to k.standing
     uses = sym found ∙ found_as_told s events y to agent host
 
     part_holds : is_some w.home ≡ true → holds_option k.part.known (now_in s run) w.source w.home ≡ true
-    part_holds = holds_by k.part.known (part_held s events y to agent own host)
+    part_holds = holds_by k.part.known (part_holds_it s events y to agent own host w.source)
 
     mobile_home : (present.0 == to.0) ≡ true → w.destination.0 ≡ to.0 → is_some w.route ≡ false → TakesStraight s run y w
     mobile_home here mine straight =
-        let st : k.standing ≡ AtHome = stands_home to present k.standing (known_abroad to agent (secrets_in s y 0) (mobile_past_at run y)) here uses in
+        let st : k.standing ≡ AtHome = stands_home to present k.standing (known_abroad to agent s.numbers (secrets_in s y 0) (mobile_past_at run y)) here uses in
         mobile_straight s run y to w of_data plain agent host
         (ap (λ (x : Standing). mobiles.is_address_of x (home_of k) w.destination) st ∙ eq-eqb w.destination.0 (home_of k).0 (mine ∙ ap (λ (a : Address). a.0) (sym home_is)))
         (λ e. absurd (let both : true ≡ false = sym e ∙ straight in cc)) part_holds
@@ -163,7 +156,7 @@ module _ (s : Setup) (orderly : IsOrderly s) (events : List Event) (y : ℕ) (ow
 
   -- at home it takes data for its home address
   pub home_straight : IsCorrespondentAt s y to ⊎ IsMobileAt s y to → (present.0 == to.0) ≡ true → w.destination.0 ≡ to.0 → is_some w.route ≡ false → TakesStraight s run y w
-  home_straight (inl x) here mine straight = correspondent_straight s run y to w of_data plain x.0 x.1 mine straight (holds_by (known_in run y x.0) (run_held s events y to x.0 own x.1))
+  home_straight (inl x) here mine straight = correspondent_straight s run y to w of_data plain x.0 x.1 mine straight (holds_by (known_in s run y x.0) (run_holds s events y to x.0 own x.1 w.source))
   home_straight (inr x) here mine straight = mobile_home x.0 x.1 here mine straight
 
 -- an end that is away is a mobile

@@ -182,7 +182,7 @@ module _ (s : Setup) (orderly : IsOrderly s) (before more : List Event) (single 
 
   from_correspondent : IsCorrespondentAt s x own → GoesOut
   from_correspondent k =
-      let o : Option Address = held_of (known_in start x k.0) (now_in s start) to in
+      let o : Option Address = held_of (known_in s start x k.0) (now_in s start) to in
       let ranges = kind_of x own (inl k) in
       record {
         one = correspondent_leaves s start x own to proto payload k.0 k.1;
@@ -196,7 +196,7 @@ module _ (s : Setup) (orderly : IsOrderly s) (before more : List Event) (single 
     k = mobile_known_in s start x own agent
 
     home_is : home_of k ≡ own
-    home_is = past-home own agent (secrets_in s x 0) (mobile_past_at start x)
+    home_is = past-home own agent s.numbers (secrets_in s x 0) (mobile_past_at start x)
 
     uses : Some here.present ≡ address_of own k.standing
     uses = sym here.found ∙ found_as_told s before x own agent host
@@ -209,7 +209,7 @@ module _ (s : Setup) (orderly : IsOrderly s) (before more : List Event) (single 
 
     from_home : (here.present.0 == own.0) ≡ true → GoesOut
     from_home at =
-        let st : k.standing ≡ AtHome = stands_home own here.present k.standing (known_abroad own agent (secrets_in s x 0) (mobile_past_at start x)) at uses in
+        let st : k.standing ≡ AtHome = stands_home own here.present k.standing (known_abroad own agent s.numbers (secrets_in s x 0) (mobile_past_at start x)) at uses in
         record {
           one = mobile_leaves s start x own to proto payload agent host (ap (λ (z : Standing). sends_from z (registered_agent k (now_in s start))) st);
           arrives =

@@ -154,7 +154,7 @@ module _ (s : Setup) (orderly : IsOrderly s) (homeless : AreHomeless s) (before 
   kind = end_kind s before y to ends.receiver ends.destination
 
   home_is : home_of k ≡ own
-  home_is = past-home own agent (secrets_in s x 0) (mobile_past_at start x)
+  home_is = past-home own agent s.numbers (secrets_in s x 0) (mobile_past_at start x)
 
   module _ (apart : (here.present.0 == own.0) ≡ false) where
     away : IsAway (now_in s start) start.past x own here.present

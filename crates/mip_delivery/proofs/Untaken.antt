@@ -109,7 +109,7 @@ module _ (s : Setup) (n : ℕ) (own : Address) (agent : Option Address) (host : 
     so : told run ≡ knows run
 
   past_same : (run later : Run) → mobile_past_at later n ≡ mobile_past_at run n → knows later ≡ knows run
-  past_same run later same = ap (λ (l : List (Stamped Step)). address_of own (let k : Known = known own agent (secrets_in s n 0) l in k.standing)) same
+  past_same run later same = ap (λ (l : List (Stamped Step)). address_of own (let k : Known = known own agent s.numbers (secrets_in s n 0) l in k.standing)) same
 
   entry_so : (run : Run) (e : Entry) → found_says n e ≡ None → told run ≡ knows run → told (note e run) ≡ knows (note e run)
   entry_so run e none so = tells_same s (found_says n) (Some own) run e none ∙ so
@@ -242,7 +242,7 @@ module _ (s : Setup) (n : ℕ) (own : Address) (agent : Option Address) (host : 
 
   nothing_so : told (nothing s) ≡ knows (nothing s)
   unfolding known
-  nothing_so = sym (ap (λ (l : List (Stamped Step)). address_of own (let k : Known = known own agent (secrets_in s n 0) l in k.standing)) (no_past s s.hosts n))
+  nothing_so = sym (ap (λ (l : List (Stamped Step)). address_of own (let k : Known = known own agent s.numbers (secrets_in s n 0) l in k.standing)) (no_past s s.hosts n))
 
   pub found_so : (events : List Event) → told (run_of s events) ≡ knows (run_of s events)
   found_so events = (walk_run s IsSo keeps_so events (record { roaming = roaming_nothing s; so = nothing_so })).so

@@ -130,12 +130,12 @@ acts_calmly s n call run is calm = acts_goes s n call run is (λ own room e. min
     mine own room e (Restart secrets) calm = absurd cc
     mine own room e (Send to proto payload) calm =
         let me = identity_in s run n own room in
-        let k = known_in run n room in
+        let k = known_in s run n room in
         let q = sent_none me k (now_in s run) to proto payload in
         turned_quietly s n own run (turn_of me k (now_in s run) (correspondents.Send to proto payload)) is (slice_get_within s.hosts n _ e) (ap is_correspondent_host e) q.0 q.1
     mine own room e (Refresh home) calm =
         let me = identity_in s run n own room in
-        let k = known_in run n room in
+        let k = known_in s run n room in
         let q = refreshed_none me k (now_in s run) home in
         turned_quietly s n own run (turn_of me k (now_in s run) (correspondents.Refresh home)) is (slice_get_within s.hosts n _ e) (ap is_correspondent_host e) q.0 q.1
     mine own room e _ calm = noted_goes s run entries.Idle is refl

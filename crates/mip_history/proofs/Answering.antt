@@ -74,7 +74,7 @@ quiet_answers s n from run (answer ∷ answers) none =
 
 -- what a correspondent does, where it accepts nothing
 none_accepting : (step : Step) → is_acceptance step ≡ false → list_any is_accepting (answer_of step) ≡ false
-none_accepting (Accepts number home accepted) none = absurd cc
+none_accepting (Accepts number home binding accepted) none = absurd cc
 none_accepting _ none = refl
 
 all_silent : (steps : List Step) → list_any is_acceptance steps ≡ false → list_any is_accepting (answers_of steps) ≡ false

@@ -241,9 +241,9 @@ module _ (ds : List Declaration) (s : Setup) (of : IsOf ds s) where
   d-by_kind n own call run within p (Correspondent room) =
       d-asks _ (for_correspondent call) run p
       (λ (c : correspondent_calls.Call).
-      let t = correspondent_doing.turn_of (identity_in s run n own room) (known_in run n room) (now_in s run) c in
+      let t = correspondent_doing.turn_of (identity_in s run n own room) (known_in s run n room) (now_in s run) c in
       d-answered n (link_or_first s own.0) _ (correspondents.answers_of t.steps) within
-      (part_reasons (correspondents.answers_of t.steps) (correspondent_answers.call-whole (identity_in s run n own room) (known_in run n room) (now_in s run) c)) p)
+      (part_reasons (correspondents.answers_of t.steps) (correspondent_answers.call-whole (identity_in s run n own room) (known_in s run n room) (now_in s run) c)) p)
   d-by_kind n own call run within p (Agent preference life room serves) =
       d-asks _ (for_agent (around_in run n None) call) run p
       (λ (c : agent_calls.Call).

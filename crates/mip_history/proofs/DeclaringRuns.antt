@@ -10,7 +10,7 @@ use Rattle.mip_words.specs.declared.ids.NodeId.{NodeId}
 use Rattle.mip_words.specs.declared.shield.Shield.{Shield}
 use Rattle.mip_words.specs.declared.why.Why.{Why}
 use Rattle.mip_bcache.specs.declared.row.Row.{Row}
-use Rattle.mip_bcache.specs.Seen.{kept_at}
+use Rattle.mip_bcache.specs.Seen as caches
 use Rattle.mip_entries.specs.declared.entry.Entry.{Entry}
 use Rattle.mip_entries.specs.declared.entry.Entry.TheVariants as entries
 use Rattle.mip_entries.specs.Completed.{node_id}
@@ -269,9 +269,9 @@ module _ (ds : List Declaration) (s : Setup) (of : IsOf ds s) where
   r-shown n run q = by (slice_get s.hosts n) refl
     where
       rows : IsNode ds (node_id n) → (own : Address) (kind : Kind) → AllByRecursion (IsDeclared ds) (rows_by_kind s n own run kind)
-      rows is own (Correspondent room) = all_map ds s of (row_entry n) (kept_at (known_in run n room).cache (now_in s run)) (λ r. is)
+      rows is own (Correspondent room) = all_map ds s of (row_entry n) (caches.rows_at (known_in s run n room).cache (now_in s run)) (λ r. is)
       rows is own (Agent preference life room serves) = all_map ds s of (home_entry n) (rows_at (now_in s run) (agent_known_in run n serves).homes) (λ r. is)
-      rows is own (Mobile agent) = all_map ds s of (row_entry n) (kept_at (mobile_known_in s run n own agent).part.known.cache (now_in s run)) (λ r. is)
+      rows is own (Mobile agent) = all_map ds s of (row_entry n) (caches.rows_at (mobile_known_in s run n own agent).part.known.cache (now_in s run)) (λ r. is)
 
       by : (o : Option Host) → slice_get s.hosts n ≡ o → Q (rows_shown s n run o)
       by None e = d-idle ds s of run q

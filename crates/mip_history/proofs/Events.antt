@@ -6,7 +6,7 @@ use Rattle.std.proofs.lemmas.List.Sums.{sum_by-cons}
 use Rattle.mip_words.specs.declared.address.Address.{Address}
 use Rattle.mip_words.specs.declared.ids.LinkId.{LinkId}
 use Rattle.mip_bcache.specs.declared.row.Row.{Row}
-use Rattle.mip_bcache.specs.Seen.{kept_at}
+use Rattle.mip_bcache.specs.Seen as caches
 use Rattle.mip_entries.specs.declared.entry.Entry.{Entry}
 use Rattle.mip_entries.specs.declared.entry.Entry.TheVariants as entries
 use Rattle.mip_entries.specs.Completed.{node_id}
@@ -84,9 +84,9 @@ homes_quiet n [] = refl
 homes_quiet n (r ∷ rows) = homes_quiet n rows
 
 kind_quiet : (s : Setup) (n : ℕ) (own : Address) (run : Run) (kind : Kind) → list_any is_met (rows_by_kind s n own run kind) ≡ false
-kind_quiet s n own run (Correspondent room) = rows_quiet n (kept_at (known_in run n room).cache (now_in s run))
+kind_quiet s n own run (Correspondent room) = rows_quiet n (caches.rows_at (known_in s run n room).cache (now_in s run))
 kind_quiet s n own run (Agent preference life room serves) = homes_quiet n (rows_at (now_in s run) (agent_known_in run n serves).homes)
-kind_quiet s n own run (Mobile agent) = rows_quiet n (kept_at (mobile_known_in s run n own agent).part.known.cache (now_in s run))
+kind_quiet s n own run (Mobile agent) = rows_quiet n (caches.rows_at (mobile_known_in s run n own agent).part.known.cache (now_in s run))
 
 shown_goes : (s : Setup) (n : ℕ) (run : Run) → IsRun s run → Passes s run (shown s n run) 0 (λ n. 0)
 shown_goes s n run is = by (slice_get s.hosts n)

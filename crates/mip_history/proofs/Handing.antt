@@ -29,6 +29,7 @@ use Rattle.mip_rules_correspondent.specs.Calls.{Take}
 use Rattle.mip_rules_correspondent.specs.Doing.{turn_of}
 use Rattle.mip_rules_correspondent.specs.Taken.{IsUpdateTaken}
 use Rattle.mip_rules_correspondent.proofs.Acceptances.{floor-answers, full-answers}
+use Rattle.mip_rules_correspondent.proofs.Pasts.{known-numbers}
 use Rattle.mip_rules_correspondent.proofs.VerdictLaws.{sound}
 use Rattle.mip_links.specs.Table.{Post}
 use Rattle.mip_history.specs.Setup.{Setup, is_correspondent_host, is_correspondent_at}
@@ -77,23 +78,24 @@ reads_as bytes (Some link) q read = by (packet_of bytes) refl (sym (packet_of_lo
         }
     by (Err fault) is e = absurd cc
 
-bench_same : (own : Address) (now : ℕ) {s t : Life} {a b : Option ℕ} {x y : Bool} → s ≡ t → a ≡ b → x ≡ y
-    → (let k : Bench = record { own = own; secrets = s; now = now; floor = a; full = x } in k) ≡ record { own = own; secrets = t; now = now; floor = b; full = y }
-bench_same own now o p q = cc
+bench_same : (own : Address) (now : ℕ) {s t : Life} {a b : Option ℕ} {x y : Bool} {m n : ℕ} → s ≡ t → a ≡ b → x ≡ y → m ≡ n
+    → (let k : Bench = record { own = own; secrets = s; now = now; floor = a; full = x; numbers = m } in k) ≡ record { own = own; secrets = t; now = now; floor = b; full = y; numbers = n }
+bench_same own now o p q r = cc
 
 -- the judge of a turn is the one of the history
 pub judge_same : (s : Setup) (past : List Entry) (n : ℕ) (own : Address) (secrets : Life) (room : ℕ) (steps : List (Stamped Step)) → secrets ≡ secrets_in s n (life_in past n) → IsPast s past steps n
     → (r : Registration) (home : Address) → home ≡ home_of r
-    → bench (record { own = own; secrets = secrets; room = room }) (known room steps) (moment_in s.start past) r ≡ judge_in s past n own room home.0
+    → bench (record { own = own; secrets = secrets; room = room }) (known room s.numbers steps) (moment_in s.start past) r ≡ judge_in s past n own room home.0
 judge_same s past n own secrets room steps mine p r home same =
     let now : ℕ = moment_in s.start past in
     bench_same own now mine
-    (floor-answers room steps p.rises now (home_of r) p.early
+    (floor-answers room s.numbers steps p.rises now (home_of r) p.early
     ∙ ap (λ (xs : List Acceptance). floor xs (home_of r).0 now) p.accepted
     ∙ ap (λ (h : Address). floor (accepted_by s.start past n) h.0 now) (sym same))
-    (full-answers room steps p.rises now (home_of r) p.early
+    (full-answers room s.numbers steps p.rises now (home_of r) p.early
     ∙ ap (λ (xs : List Acceptance). is_full room xs (home_of r).0 now) p.accepted
     ∙ ap (λ (h : Address). is_full room (accepted_by s.start past n) h.0 now) (sym same))
+    (known-numbers room s.numbers steps)
 
 -- a packet is handed over to a node
 module _ (s : Setup) (k n : ℕ) (post : Post) (before : Run) (is : IsRun s before) (posted : slice_get before.posts k ≡ Some post) where
@@ -124,19 +126,19 @@ module _ (s : Setup) (k n : ℕ) (post : Post) (link : Option ℕ) (before : Run
   abbrev pub me : Identity
   me = identity_in s run n own room
 
-  same_judge : (r : Registration) (home : Address) → home ≡ home_of r → bench me (known_in run n room) (now_in s run) r ≡ judge_in s run.past n own room home.0
+  same_judge : (r : Registration) (home : Address) → home ≡ home_of r → bench me (known_in s run n room) (now_in s run) r ≡ judge_in s run.past n own room home.0
   same_judge r home same = judge_same s run.past n own me.secrets room (past_at run n) refl (run_is.pasts n corresponds) r home same
 
   abbrev steps : List Step
-  steps = (turn_of me (known_in run n room) (now_in s run) (Take k post.shield (handed_over post.packet link))).steps
+  steps = (turn_of me (known_in s run n room) (now_in s run) (Take k post.shield (handed_over post.packet link))).steps
 
   -- an update that is accepted stands behind its packet
-  stands : (u : IsUpdateTaken me (known_in run n room) (now_in s run) k post.shield (handed_over post.packet link) steps) → IsAccepted s run.past n k u.home u.accepted
+  stands : (u : IsUpdateTaken me (known_in s run n room) (now_in s run) k post.shield (handed_over post.packet link) steps) → IsAccepted s run.past n k u.home u.binding u.accepted
   stands u =
       let as_posted = reads_as post.packet link u.packet u.read in
-      let accepts : verdict (judge_in s run.past n own room u.home.0) u.registration as_posted.packet.body ≡ Accept u.home u.accepted u.granted u.kbm =
-      ap (λ (b : Bench). verdict b u.registration as_posted.packet.body) (sym (same_judge u.registration u.home (accepted_home _ u.registration u.packet.body u.home u.accepted u.granted u.kbm u.verdict_is)))
-      ∙ ap (λ (l : List ℕ). verdict (bench me (known_in run n room) (now_in s run) u.registration) u.registration l) (sym as_posted.body)
+      let accepts : verdict (judge_in s run.past n own room u.home.0) u.registration as_posted.packet.body ≡ Accept u.home u.binding u.accepted u.granted u.kbm =
+      ap (λ (b : Bench). verdict b u.registration as_posted.packet.body) (sym (same_judge u.registration u.home (accepted_home _ u.registration u.packet.body u.home u.binding u.accepted u.granted u.kbm u.verdict_is)))
+      ∙ ap (λ (l : List ℕ). verdict (bench me (known_in s run n room) (now_in s run) u.registration) u.registration l) (sym as_posted.body)
       ∙ u.verdict_is in
       record {
         own = own;
@@ -156,24 +158,24 @@ module _ (s : Setup) (k n : ℕ) (post : Post) (link : Option ℕ) (before : Run
         granted = u.granted;
         kbm = u.kbm;
         verdict_is = accepts;
-        sound = sound (judge_in s run.past n own room u.home.0) u.registration as_posted.packet.body u.home u.accepted u.granted u.kbm accepts;
+        sound = sound (judge_in s run.past n own room u.home.0) u.registration as_posted.packet.body u.home u.binding u.accepted u.granted u.kbm accepts;
       }
     where
       same : {a b : Address} {x y : Option Address} {l m : List ℕ} → b ≡ a → y ≡ x → m ≡ l → registration_in a x l ≡ registration_in b y m
       same p q r = cc
 
-  pub handed_to : Goes s run (turned s n own (turn_of me (known_in run n room) (now_in s run) (Take k post.shield (handed_over post.packet link))) run)
+  pub handed_to : Goes s run (turned s n own (turn_of me (known_in s run n room) (now_in s run) (Take k post.shield (handed_over post.packet link))) run)
   handed_to = by found.1
     where
       t : Turn
-      t = turn_of me (known_in run n room) (now_in s run) (Take k post.shield (handed_over post.packet link))
+      t = turn_of me (known_in s run n room) (now_in s run) (Take k post.shield (handed_over post.packet link))
 
-      found : (t.now ≡ now_in s run) × ((list_any is_acceptance t.steps ≡ false) ⊎ IsUpdateTaken me (known_in run n room) (now_in s run) k post.shield (handed_over post.packet link) t.steps)
-      found = taken_is me (known_in run n room) (now_in s run) k post.shield (handed_over post.packet link)
+      found : (t.now ≡ now_in s run) × ((list_any is_acceptance t.steps ≡ false) ⊎ IsUpdateTaken me (known_in s run n room) (now_in s run) k post.shield (handed_over post.packet link) t.steps)
+      found = taken_is me (known_in s run n room) (now_in s run) k post.shield (handed_over post.packet link)
 
-      by : ((list_any is_acceptance t.steps ≡ false) ⊎ IsUpdateTaken me (known_in run n room) (now_in s run) k post.shield (handed_over post.packet link) t.steps) → Goes s run (turned s n own t run)
+      by : ((list_any is_acceptance t.steps ≡ false) ⊎ IsUpdateTaken me (known_in s run n room) (now_in s run) k post.shield (handed_over post.packet link) t.steps) → Goes s run (turned s n own t run)
       by (inl none) = turned_quietly s n own run t run_is inside corresponds found.0 none
       by (inr u) =
           subst (λ (at : ℕ). Goes s run (done s n (link_or_first s own.0) at t.steps run)) (sym found.0)
           (subst (λ (l : List Step). Goes s run (done s n (link_or_first s own.0) (now_in s run) l run)) (sym u.steps_are)
-          (accepting_turn s n (link_or_first s own.0) run run_is inside corresponds (Take k post.shield (handed_over post.packet link)) k u.home u.accepted u.rest u.none (stands u)))
+          (accepting_turn s n (link_or_first s own.0) run run_is inside corresponds (Take k post.shield (handed_over post.packet link)) k u.home u.binding u.accepted u.rest u.none (stands u)))

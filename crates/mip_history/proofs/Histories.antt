@@ -9,19 +9,19 @@ use Rattle.mip_words.specs.declared.ids.LinkId.{LinkId}
 use Rattle.mip_lists.specs.EachAfter.{EachAfter}
 use Rattle.mip_lists.proofs.EachLaws.{each_at}
 use Rattle.mip_binding.specs.Acceptance.{Acceptance}
-use Rattle.mip_binding.specs.Held.{held, floor, is_full}
+use Rattle.mip_binding.specs.Held.{held, holds, floor, is_full}
 use Rattle.mip_entries.specs.declared.entry.Entry.{Entry}
 use Rattle.mip_entries.specs.declared.entry.Entry.TheVariants as entries
 use Rattle.mip_schedule.specs.Contents.{Content}
 use Rattle.mip_schedule.specs.declared.event.Event.{Event}
 use Rattle.mip_rules_correspondent.specs.declared.known.Known.{Known}
 use Rattle.mip_rules_correspondent.specs.Steps.{Step}
-use Rattle.mip_rules_correspondent.specs.Questions.{known, held_of, floor_of, is_full_for}
+use Rattle.mip_rules_correspondent.specs.Questions.{known, held_of, holds_for, floor_of, is_full_for}
 use Rattle.mip_rules_correspondent.specs.Seen.{CorrespondentSeen}
 use Rattle.mip_rules_mobile.specs.Questions.{part_room}
 use Rattle.mip_rules_mobile.proofs.PartLives.{part_is}
 use Rattle.mip_entries.specs.Stamped.{Stamped}
-use Rattle.mip_rules_correspondent.proofs.Acceptances.{held-answers, floor-answers, full-answers}
+use Rattle.mip_rules_correspondent.proofs.Acceptances.{held-answers, holds-answers, floor-answers, full-answers}
 use Rattle.mip_history.specs.Setup.{Setup, setup_of, is_correspondent_host}
 use Rattle.mip_history.specs.Setup.Kind.{Correspondent, Mobile}
 use Rattle.mip_history.specs.Runs.{Run, past_at, mobile_past_at}
@@ -30,11 +30,11 @@ use Rattle.mip_history.specs.Claims.{is_free_for}
 use Rattle.mip_history.specs.Knowing.{known_in, now_in, secrets_in, mobile_known_in, part_in}
 use Rattle.mip_history.specs.Permitted.{opening_claims, run_of, permitted}
 use Rattle.mip_history.specs.Passing.{waited_by, restarted_by}
-use Rattle.mip_history.specs.Bound.{accepted_by, held_in, packet_in, packets_of, is_accepted, HasAccepted, IsBound}
+use Rattle.mip_history.specs.Bound.{accepted_by, held_in, held_under_in, packet_in, packets_of, is_accepted, HasAccepted, IsBound, IsBoundUnder}
 use Rattle.mip_history.proofs.Runs.{Meets, IsPast}
 use Rattle.mip_history.proofs.Numbered.{packet_numbered}
 use Rattle.mip_history.proofs.Events.{run_passes}
-use Rattle.mip_history.proofs.Bindings.{held_is_bound}
+use Rattle.mip_history.proofs.Bindings.{held_is_bound, under_is_bound}
 
 -- a fact of each entry holds of a front
 each-front : (P : List Entry → Entry → Type 0) (front xs ys : List Entry) → EachAfter P front (xs ++ ys) → EachAfter P front xs
@@ -53,6 +53,11 @@ pub permitted_held : (c : Content) (before after : List Entry) (n home careof : 
     → IsBound (setup_of c) before n home careof
 permitted_held c before after n home careof whole held =
     held_is_bound (setup_of c) before (each-front (Meets (setup_of c)) [] before after (subst (λ (l : List Entry). EachAfter (Meets (setup_of c)) [] l) whole (permitted_each c))) n home careof held
+
+pub permitted_under : (c : Content) (before after : List Entry) (n home number careof : ℕ) → permitted c ≡ before ++ after → held_under_in (setup_of c) before n home number ≡ Some careof
+    → IsBoundUnder (setup_of c) before n home number careof
+permitted_under c before after n home number careof whole held =
+    under_is_bound (setup_of c) before (each-front (Meets (setup_of c)) [] before after (subst (λ (l : List Entry). EachAfter (Meets (setup_of c)) [] l) whole (permitted_each c))) n home careof number held
 
 pub permitted_accepted : (c : Content) (before : List Entry) (e : Entry) (after : List Entry) → permitted c ≡ before ++ e ∷ after → is_accepted e ≡ true → HasAccepted (setup_of c) before e
 permitted_accepted c before e after whole accepted = by e accepted (meets_at c before e after whole)
@@ -111,19 +116,25 @@ module _ (s : Setup) (events : List Event) (n : ℕ) (own : Address) (room : ℕ
   past_is : IsPast s (run_of s events).past (past_at (run_of s events) n) n
   past_is = (run_passes s events).run.pasts n (ap is_correspondent_host is)
 
-  pub run_held : option_map (λ a. a.0) (held_of (known_in (run_of s events) n room) (now_in s (run_of s events)) home) ≡ held_in s (run_of s events).past n home.0
+  pub run_held : option_map (λ a. a.0) (held_of (known_in s (run_of s events) n room) (now_in s (run_of s events)) home) ≡ held_in s (run_of s events).past n home.0
   run_held =
-      held-answers room (past_at run n) past_is.rises (now_in s run) home past_is.early
+      held-answers room s.numbers (past_at run n) past_is.rises (now_in s run) home past_is.early
       ∙ ap (λ (xs : List Acceptance). held xs home.0 (now_in s run)) past_is.accepted
 
-  pub run_floor : floor_of (known_in (run_of s events) n room) (now_in s (run_of s events)) home ≡ floor (accepted_by s.start (run_of s events).past n) home.0 (now_in s (run_of s events))
+  pub run_holds : (careof : Address) → holds_for (known_in s (run_of s events) n room) (now_in s (run_of s events)) home careof
+      ≡ holds (accepted_by s.start (run_of s events).past n) home.0 (now_in s (run_of s events)) careof.0
+  run_holds careof =
+      holds-answers room s.numbers (past_at run n) past_is.rises (now_in s run) home past_is.early careof
+      ∙ ap (λ (xs : List Acceptance). holds xs home.0 (now_in s run) careof.0) past_is.accepted
+
+  pub run_floor : floor_of (known_in s (run_of s events) n room) (now_in s (run_of s events)) home ≡ floor (accepted_by s.start (run_of s events).past n) home.0 (now_in s (run_of s events))
   run_floor =
-      floor-answers room (past_at run n) past_is.rises (now_in s run) home past_is.early
+      floor-answers room s.numbers (past_at run n) past_is.rises (now_in s run) home past_is.early
       ∙ ap (λ (xs : List Acceptance). floor xs home.0 (now_in s run)) past_is.accepted
 
-  pub run_full : is_full_for (known_in (run_of s events) n room) (now_in s (run_of s events)) home ≡ is_full room (accepted_by s.start (run_of s events).past n) home.0 (now_in s (run_of s events))
+  pub run_full : is_full_for (known_in s (run_of s events) n room) (now_in s (run_of s events)) home ≡ is_full room (accepted_by s.start (run_of s events).past n) home.0 (now_in s (run_of s events))
   run_full =
-      full-answers room (past_at run n) past_is.rises (now_in s run) home past_is.early
+      full-answers room s.numbers (past_at run n) past_is.rises (now_in s run) home past_is.early
       ∙ ap (λ (xs : List Acceptance). is_full room xs home.0 (now_in s run)) past_is.accepted
 
 -- and what the correspondent part of a mobile keeps
@@ -137,24 +148,31 @@ module _ (s : Setup) (events : List Event) (n : ℕ) (own : Address) (agent : Op
   life_is : IsPast s (run_of s events).past (part_in s (run_of s events) n own).past n
   life_is = ((run_passes s events).run.parts n own agent is).past
 
-  part_known : (mobile_known_in s (run_of s events) n own agent).part.known ≡ known part_room (part_in s (run_of s events) n own).past
-  part_known = ap (λ (c : CorrespondentSeen). c.known) (part_is own agent (secrets_in s n 0) (mobile_past_at after n))
+  part_known : (mobile_known_in s (run_of s events) n own agent).part.known ≡ known part_room s.numbers (part_in s (run_of s events) n own).past
+  part_known = ap (λ (c : CorrespondentSeen). c.known) (part_is own agent s.numbers (secrets_in s n 0) (mobile_past_at after n))
 
   pub part_held : option_map (λ a. a.0) (held_of (mobile_known_in s (run_of s events) n own agent).part.known (now_in s (run_of s events)) home) ≡ held_in s (run_of s events).past n home.0
   part_held =
       ap (λ (k : Known). option_map (λ (a : Address). a.0) (held_of k (now_in s after) home)) part_known
-      ∙ held-answers part_room life life_is.rises (now_in s after) home life_is.early
+      ∙ held-answers part_room s.numbers life life_is.rises (now_in s after) home life_is.early
       ∙ ap (λ (xs : List Acceptance). held xs home.0 (now_in s after)) life_is.accepted
+
+  pub part_holds : (careof : Address) → holds_for (mobile_known_in s (run_of s events) n own agent).part.known (now_in s (run_of s events)) home careof
+      ≡ holds (accepted_by s.start (run_of s events).past n) home.0 (now_in s (run_of s events)) careof.0
+  part_holds careof =
+      ap (λ (k : Known). holds_for k (now_in s after) home careof) part_known
+      ∙ holds-answers part_room s.numbers life life_is.rises (now_in s after) home life_is.early careof
+      ∙ ap (λ (xs : List Acceptance). holds xs home.0 (now_in s after) careof.0) life_is.accepted
 
   pub part_floor : floor_of (mobile_known_in s (run_of s events) n own agent).part.known (now_in s (run_of s events)) home ≡ floor (accepted_by s.start (run_of s events).past n) home.0 (now_in s (run_of s events))
   part_floor =
       ap (λ (k : Known). floor_of k (now_in s after) home) part_known
-      ∙ floor-answers part_room life life_is.rises (now_in s after) home life_is.early
+      ∙ floor-answers part_room s.numbers life life_is.rises (now_in s after) home life_is.early
       ∙ ap (λ (xs : List Acceptance). floor xs home.0 (now_in s after)) life_is.accepted
 
   pub part_full : is_full_for (mobile_known_in s (run_of s events) n own agent).part.known (now_in s (run_of s events)) home
       ≡ is_full part_room (accepted_by s.start (run_of s events).past n) home.0 (now_in s (run_of s events))
   part_full =
       ap (λ (k : Known). is_full_for k (now_in s after) home) part_known
-      ∙ full-answers part_room life life_is.rises (now_in s after) home life_is.early
+      ∙ full-answers part_room s.numbers life life_is.rises (now_in s after) home life_is.early
       ∙ ap (λ (xs : List Acceptance). is_full part_room xs home.0 (now_in s after)) life_is.accepted

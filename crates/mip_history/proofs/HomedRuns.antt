@@ -60,7 +60,7 @@ module _ (s : Setup) (n : ℕ) (run : Run) (h : IsHomed s run) where
       let k : mobile_known.Known = mobile_known_in s run n own agent in
       let t : mobile_turns.Turn = mobile_doing.turn_of k (now_in s run) c in
       let under : AreShieldedFrom own (mobiles.answers_of t.steps) =
-      subst (λ (a : Address). AreShieldedFrom a (mobiles.answers_of t.steps)) (past-home own agent (secrets_in s n 0) (mobile_past_at run n)) (call-shielded k (now_in s run) c) in
+      subst (λ (a : Address). AreShieldedFrom a (mobiles.answers_of t.steps)) (past-home own agent s.numbers (secrets_in s n 0) (mobile_past_at run n)) (call-shielded k (now_in s run) c) in
       homed_answers s n _ (mobiles.answers_of t.steps) (with_mobile_past n (mobile_turns.with_turn (mobile_past_at run n) t) run)
       (mobile_fine s n own agent host (mobiles.answers_of t.steps) under) (record { agents = h.agents; each = h.each; under = h.under; homes = h.homes })
 
@@ -89,7 +89,7 @@ module _ (s : Setup) (n : ℕ) (run : Run) (h : IsHomed s run) where
   homed_by_kind : (own : Address) (call : Call) → IsCall s run n call → (kind : Kind) → slice_get s.hosts n ≡ Some (record { address = own; kind = kind }) → IsHomed s (by_kind s n own call run kind)
   homed_by_kind own call handed (Correspondent room) host =
       homed_asks s _ (for_correspondent call) run h
-      (λ (c : correspondent_calls.Call). homed_correspondent own (correspondent_doing.turn_of (identity_in s run n own room) (known_in run n room) (now_in s run) c))
+      (λ (c : correspondent_calls.Call). homed_correspondent own (correspondent_doing.turn_of (identity_in s run n own room) (known_in s run n room) (now_in s run) c))
   homed_by_kind own call handed (Agent preference life room serves) host = homed_agent own preference life room serves host call handed
   homed_by_kind own call handed (Mobile agent) host =
       homed_asks s _ (for_mobile (around_in run n (Some own.0)) own call) run h (λ (c : mobile_calls.Call). homed_mobile own agent host c)

@@ -59,7 +59,7 @@ pub correspondent_fine : (s : Setup) (n : ℕ) (steps : List correspondents.Step
 correspondent_fine s n [] = tt
 correspondent_fine s n (correspondents.Called call ∷ steps) = correspondent_fine s n steps
 correspondent_fine s n (correspondents.Sends packet ∷ steps) = (tt, correspondent_fine s n steps)
-correspondent_fine s n (correspondents.Accepts number home a ∷ steps) = (refl, correspondent_fine s n steps)
+correspondent_fine s n (correspondents.Accepts number home binding a ∷ steps) = (refl, correspondent_fine s n steps)
 correspondent_fine s n (correspondents.Denies number status ∷ steps) = (refl, correspondent_fine s n steps)
 correspondent_fine s n (correspondents.Drops number why ∷ steps) = (refl, correspondent_fine s n steps)
 correspondent_fine s n (correspondents.HandsUp number source destination proto payload ∷ steps) = (refl, correspondent_fine s n steps)

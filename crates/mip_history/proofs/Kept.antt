@@ -62,13 +62,13 @@ module _ (n home now m : ℕ) (near : now < m + 240000) where
       entries_kept (lived n l e) (advance n home a e) es parts.1 rises.1 (entry_kept l a e parts.0 rises.0 k)
 
 -- what is kept of a home that was accepted less than 240 s before, in the same life
-pub last_stands : (start n k : ℕ) (home : Address) (before between : List Entry) (a : Accepted) (now : ℕ) → now < moment_in start before + 240000
+pub last_stands : (start n k : ℕ) (home : Address) (binding : ℕ) (before between : List Entry) (a : Accepted) (now : ℕ) → now < moment_in start before + 240000
     → list_any (is_restart_of n) between ≡ false → AllByRecursion (IsNotBefore (moment_in start before)) between
-    → floor (accepted_by start (before ++ accepted_entry n k home a ∷ between) n) home.0 now ≡ Some (last_in n home.0 a.sequence between)
+    → floor (accepted_by start (before ++ accepted_entry n k home binding a ∷ between) n) home.0 now ≡ Some (last_in n home.0 a.sequence between)
 unfolding accepted_by
-last_stands start n k home before between a now near alive rises =
-    ap (λ (l : Lived). floor l.accepted home.0 now) (fold-append (lived n) from before (accepted_entry n k home a ∷ between))
-    ∙ (entries_kept n home.0 now (moment_in start before) near (lived n middle (accepted_entry n k home a)) (record { last = a.sequence; all = 0 }) between alive rises first).kept
+last_stands start n k home binding before between a now near alive rises =
+    ap (λ (l : Lived). floor l.accepted home.0 now) (fold-append (lived n) from before (accepted_entry n k home binding a ∷ between))
+    ∙ (entries_kept n home.0 now (moment_in start before) near (lived n middle (accepted_entry n k home binding a)) (record { last = a.sequence; all = 0 }) between alive rises first).kept
   where
     from : Lived
     from = record { at = start; accepted = [] }
@@ -77,9 +77,9 @@ last_stands start n k home before between a now near alive rises =
     middle = fold (lived n) from before
 
     own : (mine : Bool) → mine ≡ true → IsKept n home.0 now (moment_in start before) near
-        (if mine then record { at = middle.at; accepted = middle.accepted ++ acceptance_at middle.at home 0 a.careof a.sequence a.end ∷ [] } else middle) a.sequence
-    own true is = accepted_here n home.0 now (moment_in start before) near middle home 0 a.careof a.sequence a.end (omega (arith, lived_at n from before)) refl
+        (if mine then record { at = middle.at; accepted = middle.accepted ++ acceptance_at middle.at home binding a.careof a.sequence a.end ∷ [] } else middle) a.sequence
+    own true is = accepted_here n home.0 now (moment_in start before) near middle home binding a.careof a.sequence a.end (omega (arith, lived_at n from before)) refl
     own false is = absurd cc
 
-    first : IsKept n home.0 now (moment_in start before) near (lived n middle (accepted_entry n k home a)) a.sequence
+    first : IsKept n home.0 now (moment_in start before) near (lived n middle (accepted_entry n k home binding a)) a.sequence
     first = own (n == n) (eq-eqb n n refl)

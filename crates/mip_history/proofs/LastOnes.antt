@@ -48,28 +48,28 @@ module _ {X : Type 0} (question : List Acceptance → X) (n home : ℕ) (other :
       ap (λ (l : Lived). question l.accepted) (fold-append (lived n) (record { at = start; accepted = [] }) past es)
       ∙ entries_same (fold (lived n) (record { at = start; accepted = [] }) past) es alive none
 
-module _ (s : Setup) (before : List Entry) (n k : ℕ) (home : Address) (a : Accepted) (after : List Entry) (alive : list_any (is_restart_of n) after ≡ false) (none : list_any (is_accepted_for n home.0) after ≡ false) where
+module _ (s : Setup) (before : List Entry) (n k : ℕ) (home : Address) (binding : ℕ) (a : Accepted) (after : List Entry) (alive : list_any (is_restart_of n) after ≡ false) (none : list_any (is_accepted_for n home.0) after ≡ false) where
   abbrev x : Acceptance
-  x = acceptance (moment_in s.start before) home 0 a
+  x = acceptance (moment_in s.start before) home binding a
 
   counts : {X : Type 0} (question : List Acceptance → X) → ((xs : List Acceptance) (y : Acceptance) → y.home ≢ home.0 → question (xs ++ y ∷ []) ≡ question xs)
-      → question (accepted_by s.start (before ++ accepted_entry n k home a ∷ after) n) ≡ question (accepted_by s.start before n ++ x ∷ [])
+      → question (accepted_by s.start (before ++ accepted_entry n k home binding a ∷ after) n) ≡ question (accepted_by s.start before n ++ x ∷ [])
   counts {X = X} question other =
-      ap (λ (l : List Entry). question (accepted_by s.start l n)) (sym (append_assoc before (accepted_entry n k home a ∷ []) after))
-      ∙ later_same question n home.0 other s.start (before ++ accepted_entry n k home a ∷ []) after alive none
-      ∙ ap question (accepted_more s.start n k before home a)
+      ap (λ (l : List Entry). question (accepted_by s.start l n)) (sym (append_assoc before (accepted_entry n k home binding a ∷ []) after))
+      ∙ later_same question n home.0 other s.start (before ++ accepted_entry n k home binding a ∷ []) after alive none
+      ∙ ap question (accepted_more s.start n k before home binding a)
 
   module _ (now : ℕ) where
-    last_held : held (accepted_by s.start (before ++ accepted_entry n k home a ∷ after) n) home.0 now ≡ held (accepted_by s.start before n ++ x ∷ []) home.0 now
+    last_held : held (accepted_by s.start (before ++ accepted_entry n k home binding a ∷ after) n) home.0 now ≡ held (accepted_by s.start before n ++ x ∷ []) home.0 now
     last_held = counts (λ xs. held xs home.0 now) (λ xs y other. held-other xs y home.0 now other)
 
-    pub last_binds : a.careof.0 ≢ home.0 → now < a.end.0 → held (accepted_by s.start (before ++ accepted_entry n k home a ∷ after) n) home.0 now ≡ Some a.careof.0
+    pub last_binds : a.careof.0 ≢ home.0 → now < a.end.0 → held (accepted_by s.start (before ++ accepted_entry n k home binding a ∷ after) n) home.0 now ≡ Some a.careof.0
     last_binds away early = last_held ∙ held-binds (accepted_by s.start before n) x now away early
 
-    pub last_deletes : a.careof.0 ≡ home.0 → held (accepted_by s.start (before ++ accepted_entry n k home a ∷ after) n) home.0 now ≡ None
+    pub last_deletes : a.careof.0 ≡ home.0 → held (accepted_by s.start (before ++ accepted_entry n k home binding a ∷ after) n) home.0 now ≡ None
     last_deletes same = last_held ∙ held-deletes (accepted_by s.start before n) x now same
 
-    pub last_kept : now < kept_until_of x → floor (accepted_by s.start (before ++ accepted_entry n k home a ∷ after) n) home.0 now ≡ Some a.sequence
+    pub last_kept : now < kept_until_of x → floor (accepted_by s.start (before ++ accepted_entry n k home binding a ∷ after) n) home.0 now ≡ Some a.sequence
     last_kept early =
         counts (λ xs. floor xs home.0 now) (λ xs y other. floor-other xs y home.0 now other)
         ∙ floor-stands (accepted_by s.start before n) x now early

@@ -155,7 +155,7 @@ due_same s a b m did went = by (slice_get s.hosts m)
     of_kind own (Correspondent room) = refl
     of_kind own (Agent preference life room serves) = ap (λ (l : List (Stamped agents.Step)). first_end (agent_questions.known serves l).ends) did
     of_kind own (Mobile agent) =
-        ap (λ (l : List (Stamped mobiles.Step)). option_map (λ (m : Moment). m.0) (first_due (mobile_questions.known own agent (secrets_in s m 0) l).list.timers)) went
+        ap (λ (l : List (Stamped mobiles.Step)). option_map (λ (m : Moment). m.0) (first_due (mobile_questions.known own agent s.numbers (secrets_in s m 0) l).list.timers)) went
 
     by : (o : Option Host) → due_by_host s b m o ≡ due_by_host s a m o
     by None = refl
@@ -255,14 +255,14 @@ module _ (s : Setup) (run : Run) (is : IsRun s run) (n : ℕ) (home : Address) (
   gone_same : AreSame between gone
   gone_same = same_answered s n (unwrap_or (stands_on s run n home) 0) between (mobiles.answers_of tick.steps)
 
-  roams : mobile_turns.Stands home agent (secrets_in s n 0) (mobile_past_at run n) knew
+  roams : mobile_turns.Stands home agent s.numbers (secrets_in s n 0) (mobile_past_at run n) knew
   unfolding mobile_questions.known StandsBy
   roams = refl
 
-  learnt : mobile_questions.known home agent (secrets_in s n 0) longer ≡ tick.known
+  learnt : mobile_questions.known home agent s.numbers (secrets_in s n 0) longer ≡ tick.known
   learnt =
-      sym (mobile_stands.stands-known home agent (secrets_in s n 0) longer tick.known
-      (mobile_stands.call-stands home agent (secrets_in s n 0) (mobile_past_at run n) knew at mobile_calls.Tick roams))
+      sym (mobile_stands.stands-known home agent s.numbers (secrets_in s n 0) longer tick.known
+      (mobile_stands.call-stands home agent s.numbers (secrets_in s n 0) (mobile_past_at run n) knew at mobile_calls.Tick roams))
 
   here : mobile_past_at gone n ≡ longer
   here =
@@ -272,9 +272,9 @@ module _ (s : Setup) (run : Run) (is : IsRun s run) (n : ℕ) (home : Address) (
 
   silent : is_due (option_map (λ (m : Moment). m.0) (first_due (mobile_known_in s gone n home agent).list.timers)) at ≡ false
   silent =
-      ap (λ (l : List (Stamped mobiles.Step)). is_due (option_map (λ (m : Moment). m.0) (first_due (mobile_questions.known home agent (secrets_in s n 0) l).list.timers)) at) here
+      ap (λ (l : List (Stamped mobiles.Step)). is_due (option_map (λ (m : Moment). m.0) (first_due (mobile_questions.known home agent s.numbers (secrets_in s n 0) l).list.timers)) at) here
       ∙ ap (λ (x : mobile_known.Known). is_due (option_map (λ (m : Moment). m.0) (first_due x.list.timers)) at) learnt
-      ∙ none_rings at tick.known.list.timers (tick-empties knew at (timers-order home agent (secrets_in s n 0) (mobile_past_at run n)))
+      ∙ none_rings at tick.known.list.timers (tick-empties knew at (timers-order home agent s.numbers (secrets_in s n 0) (mobile_past_at run n)))
 
   mobile_ticked : IsTicked s run n gone
   mobile_ticked = record {

@@ -92,7 +92,7 @@ nothing_is s = record {
   kept = record { packets = refl; each = tt };
   pasts = λ n mine. subst (λ (l : List (Stamped Step)). IsPast s [] l n) (sym (no_past s.hosts n)) (record { accepted = refl; rises = tt; early = tt });
   parts = λ n home agent host.
-      subst (λ (l : List (Stamped mobiles.Step)). IsPart s [] (part_life home (secrets_in s n 0) l) n) (sym (no_mobile_past s.hosts n))
+      subst (λ (l : List (Stamped mobiles.Step)). IsPart s [] (part_life home s.numbers (secrets_in s n 0) l) n) (sym (no_mobile_past s.hosts n))
       (record { secrets = refl; past = record { accepted = refl; rises = tt; early = tt } });
 }
 

@@ -111,14 +111,14 @@ module _ (s : Setup) (k n : ℕ) (post : Post) (link : Option ℕ) (before : Run
     -- the judge of the part is the one of the history
     same_judge : bench_of known.part ≡ judge_in s run.past n own part_room x.taken.home.0
     same_judge =
-        ap bench_of (part_is own agent (secrets_in s n 0) (mobile_past_at run n))
+        ap bench_of (part_is own agent s.numbers (secrets_in s n 0) (mobile_past_at run n))
         ∙ judge_same s run.past n own p.secrets part_room p.past p_is.secrets p_is.past x.taken.registration x.taken.home
-        (accepted_home _ x.taken.registration x.packet.body x.taken.home x.taken.accepted x.taken.granted x.taken.kbm x.taken.verdict_is)
+        (accepted_home _ x.taken.registration x.packet.body x.taken.home x.taken.binding x.taken.accepted x.taken.granted x.taken.kbm x.taken.verdict_is)
 
     as_posted : ReadsIn post.packet x.packet
     as_posted = reads_in post.packet link x.packet (subst (λ (l : List ℕ). IsReadIn l x.packet) (sym (ap bytes_in x.call)) (came-read known (now_in s run) x.tunnelled x.shield x.bytes x.packet x.came))
 
-    accepts : verdict (judge_in s run.past n own part_room x.taken.home.0) x.taken.registration as_posted.packet.body ≡ Accept x.taken.home x.taken.accepted x.taken.granted x.taken.kbm
+    accepts : verdict (judge_in s run.past n own part_room x.taken.home.0) x.taken.registration as_posted.packet.body ≡ Accept x.taken.home x.taken.binding x.taken.accepted x.taken.granted x.taken.kbm
     accepts =
         ap (λ (b : Bench). verdict b x.taken.registration as_posted.packet.body) (sym same_judge)
         ∙ ap (λ (l : List ℕ). verdict (bench_of known.part) x.taken.registration l) (sym as_posted.body)
@@ -128,7 +128,7 @@ module _ (s : Setup) (k n : ℕ) (post : Post) (link : Option ℕ) (before : Run
     same_asks p q r = cc
 
     -- an update that is accepted stands behind its packet
-    stands_at : IsAccepted s run.past n k x.taken.home x.taken.accepted
+    stands_at : IsAccepted s run.past n k x.taken.home x.taken.binding x.taken.accepted
     stands_at = record {
       own = own;
       kind = Mobile agent;
@@ -147,11 +147,11 @@ module _ (s : Setup) (k n : ℕ) (post : Post) (link : Option ℕ) (before : Run
       granted = x.taken.granted;
       kbm = x.taken.kbm;
       verdict_is = accepts;
-      sound = sound (judge_in s run.past n own part_room x.taken.home.0) x.taken.registration as_posted.packet.body x.taken.home x.taken.accepted x.taken.granted x.taken.kbm accepts;
+      sound = sound (judge_in s run.past n own part_room x.taken.home.0) x.taken.registration as_posted.packet.body x.taken.home x.taken.binding x.taken.accepted x.taken.granted x.taken.kbm accepts;
     }
 
-    stands : IsAccepted s run.past n x.number x.taken.home x.taken.accepted
-    stands = subst (λ (number : ℕ). IsAccepted s run.past n number x.taken.home x.taken.accepted) (ap number_in x.call) stands_at
+    stands : IsAccepted s run.past n x.number x.taken.home x.taken.binding x.taken.accepted
+    stands = subst (λ (number : ℕ). IsAccepted s run.past n number x.taken.home x.taken.binding x.taken.accepted) (ap number_in x.call) stands_at
 
   pub handed_to_part : Goes s run (mobile_turned s n own (turn_of known (now_in s run) c) run)
   handed_to_part = mobile_turn s n own agent run run_is host_is c refl stands

@@ -44,25 +44,25 @@ mobile_apart s n unmoved m home agent e same =
     clash (sym (ap is_mobile_host e) ∙ ap (λ (k : ℕ). is_mobile_host (slice_get s.hosts k)) same ∙ unmoved)
 
 -- what steps of one moment make of the part
-abbrev pub goes_along : Address → ℕ → PartLife → List Step → PartLife
-goes_along home now p steps = fold (λ (q : PartLife) (s : Stamped Step). part_goes_on home q s.at s.step) p (stamped now steps)
+abbrev pub goes_along : Address → (numbers : ℕ) → ℕ → PartLife → List Step → PartLife
+goes_along home numbers now p steps = fold (λ (q : PartLife) (s : Stamped Step). part_goes_on home numbers q s.at s.step) p (stamped now steps)
 
-silent_step : (home : Address) (now : ℕ) (p : PartLife) (step : Step) → concerns_part step ≡ false → part_goes_on home p now step ≡ p
-silent_step home now p (Parts call) none = absurd cc
-silent_step home now p (Restarts secrets) none = absurd cc
-silent_step home now p _ none = refl
+silent_step : (home : Address) (numbers now : ℕ) (p : PartLife) (step : Step) → concerns_part step ≡ false → part_goes_on home numbers p now step ≡ p
+silent_step home numbers now p (Parts call) none = absurd cc
+silent_step home numbers now p (Restarts secrets) none = absurd cc
+silent_step home numbers now p _ none = refl
 
-silent_steps : (home : Address) (now : ℕ) (p : PartLife) (steps : List Step) → list_any concerns_part steps ≡ false → goes_along home now p steps ≡ p
-silent_steps home now p [] none = refl
-silent_steps home now p (step ∷ steps) none =
+silent_steps : (home : Address) (numbers now : ℕ) (p : PartLife) (steps : List Step) → list_any concerns_part steps ≡ false → goes_along home numbers now p steps ≡ p
+silent_steps home numbers now p [] none = refl
+silent_steps home numbers now p (step ∷ steps) none =
     let both = or_parts (concerns_part step) (list_any concerns_part steps) none in
-    ap (λ (q : PartLife). goes_along home now q steps) (silent_step home now p step both.0) ∙ silent_steps home now p steps both.1
+    ap (λ (q : PartLife). goes_along home numbers now q steps) (silent_step home numbers now p step both.0) ∙ silent_steps home numbers now p steps both.1
 
 -- the part behind a turn
-pub life_along : (home : Address) (secrets : Life) (old : List (Stamped Step)) (now : ℕ) (steps : List Step)
-    → part_life home secrets (old ++ stamped now steps) ≡ goes_along home now (part_life home secrets old) steps
+pub life_along : (home : Address) (numbers : ℕ) (secrets : Life) (old : List (Stamped Step)) (now : ℕ) (steps : List Step)
+    → part_life home numbers secrets (old ++ stamped now steps) ≡ goes_along home numbers now (part_life home numbers secrets old) steps
 unfolding part_life
-life_along home secrets old now steps = fold-append (λ (q : PartLife) (s : Stamped Step). part_goes_on home q s.at s.step) (new_part secrets) old (stamped now steps)
+life_along home numbers secrets old now steps = fold-append (λ (q : PartLife) (s : Stamped Step). part_goes_on home numbers q s.at s.step) (new_part secrets) old (stamped now steps)
 
 abbrev address_or : Address → Option Host → Address
 address_or d None = d
@@ -76,7 +76,7 @@ module _ (s : Setup) (n : ℕ) (home : Address) (agent : Option Address) (before
   mobile_inside : n < length before.mobile_pasts
   mobile_inside = let i = slice_get_within s.hosts n (record { address = home; kind = Mobile agent }) host_is in let c = is.mobiles in omega (arith, i, c)
 
-  pub part_goes : (past : List Entry) (next : List (Stamped Step)) → IsPart s past (part_life home (secrets_in s n 0) next) n
+  pub part_goes : (past : List Entry) (next : List (Stamped Step)) → IsPart s past (part_life home s.numbers (secrets_in s n 0) next) n
       → ((m : ℕ) → m ≢ n → accepted_by s.start past m ≡ accepted_by s.start before.past m)
       → moment_in s.start past ≡ moment_in s.start before.past
       → ((m : ℕ) → m ≢ n → life_in past m ≡ life_in before.past m)
@@ -88,10 +88,10 @@ module _ (s : Setup) (n : ℕ) (home : Address) (agent : Option Address) (before
     mobiles = length-set before.mobile_pasts n next ∙ is.mobiles;
     kept = kept;
     pasts = λ m within. past_stays s before.past past _ m (others m (differs s m n within (ap is_correspondent_host host_is))) moment (is.pasts m within);
-    parts = λ m address other host. elim (cases_eq m n) as (λ _. IsPart s past (part_life address (secrets_in s m 0) (slice_index_or (slice_set before.mobile_pasts n next) m [])) m) [
+    parts = λ m address other host. elim (cases_eq m n) as (λ _. IsPart s past (part_life address s.numbers (secrets_in s m 0) (slice_index_or (slice_set before.mobile_pasts n next) m [])) m) [
       | inl e ↦ this m address other host e
       | inr apart ↦
-          subst (λ (l : List (Stamped Step)). IsPart s past (part_life address (secrets_in s m 0) l) m) (sym (get_or-set_other before.mobile_pasts n m next [] apart))
+          subst (λ (l : List (Stamped Step)). IsPart s past (part_life address s.numbers (secrets_in s m 0) l) m) (sym (get_or-set_other before.mobile_pasts n m next [] apart))
           (part_stays s before.past past (part_in s before m address) m (others m apart) moment (lives m apart) (is.parts m address other host))
     ];
   }
@@ -100,12 +100,12 @@ module _ (s : Setup) (n : ℕ) (home : Address) (agent : Option Address) (before
       here = get_or-set_same before.mobile_pasts n next [] mobile_inside
 
       this : (m : ℕ) (address : Address) (other : Option Address) → slice_get s.hosts m ≡ Some (record { address = address; kind = Mobile other }) → m ≡ n
-          → IsPart s past (part_life address (secrets_in s m 0) (slice_index_or (slice_set before.mobile_pasts n next) m [])) m
+          → IsPart s past (part_life address s.numbers (secrets_in s m 0) (slice_index_or (slice_set before.mobile_pasts n next) m [])) m
       this m address other host e =
           let same : home ≡ address = same_host (sym host_is ∙ ap (λ (k : ℕ). slice_get s.hosts k) (sym e) ∙ host) in
-          subst (λ (k : ℕ). IsPart s past (part_life address (secrets_in s k 0) (slice_index_or (slice_set before.mobile_pasts n next) k [])) k) (sym e)
-          (subst (λ (a : Address). IsPart s past (part_life a (secrets_in s n 0) (slice_index_or (slice_set before.mobile_pasts n next) n [])) n) same
-          (subst (λ (l : List (Stamped Step)). IsPart s past (part_life home (secrets_in s n 0) l) n) (sym here) mine))
+          subst (λ (k : ℕ). IsPart s past (part_life address s.numbers (secrets_in s k 0) (slice_index_or (slice_set before.mobile_pasts n next) k [])) k) (sym e)
+          (subst (λ (a : Address). IsPart s past (part_life a s.numbers (secrets_in s n 0) (slice_index_or (slice_set before.mobile_pasts n next) n [])) n) same
+          (subst (λ (l : List (Stamped Step)). IsPart s past (part_life home s.numbers (secrets_in s n 0) l) n) (sym here) mine))
 
 -- what a mobile's call leaves, from its steps
 abbrev pub mobile_done : Setup → ℕ → ℕ → ℕ → List Step → Run → Run
@@ -127,19 +127,19 @@ module _ (s : Setup) (n : ℕ) (home : Address) (agent : Option Address) (run : 
   p_is : IsPart s run.past (part_in s run n home) n
   p_is = is.parts n home agent host_is
 
-  known_part : k.part ≡ part_of home p
-  known_part = part_is home agent (secrets_in s n 0) old
+  known_part : k.part ≡ part_of home s.numbers p
+  known_part = part_is home agent s.numbers (secrets_in s n 0) old
 
   -- a turn at a moment and with these steps, from a history on
   module _ (from : ℕ) (steps : List Step) where
     abbrev next : List (Stamped Step)
     next = old ++ stamped now steps
 
-    next_life : part_life home (secrets_in s n 0) (mobile_past_at run n ++ stamped now steps) ≡ goes_along home now (part_in s run n home) steps
-    next_life = life_along home (secrets_in s n 0) old now steps
+    next_life : part_life home s.numbers (secrets_in s n 0) (mobile_past_at run n ++ stamped now steps) ≡ goes_along home s.numbers now (part_in s run n home) steps
+    next_life = life_along home s.numbers (secrets_in s n 0) old now steps
 
     -- the part goes on, and the history stands
-    calm_turn : IsPart s run.past (part_life home (secrets_in s n 0) (mobile_past_at run n ++ stamped now steps)) n → IsQuiet s (with_mobile_past n next run) (mobile_done s n from now steps run)
+    calm_turn : IsPart s run.past (part_life home s.numbers (secrets_in s n 0) (mobile_past_at run n ++ stamped now steps)) n → IsQuiet s (with_mobile_past n next run) (mobile_done s n from now steps run)
         → Goes s run (mobile_done s n from now steps run)
     calm_turn mine quiet =
         let middle = with_mobile_past n next run in
@@ -148,16 +148,16 @@ module _ (s : Setup) (n : ℕ) (home : Address) (agent : Option Address) (run : 
 
     silent_turn : list_any concerns_part steps ≡ false → Goes s run (mobile_done s n from now steps run)
     silent_turn none =
-        calm_turn (subst (λ (q : PartLife). IsPart s run.past q n) (sym (next_life ∙ silent_steps home now p steps none)) p_is)
+        calm_turn (subst (λ (q : PartLife). IsPart s run.past q n) (sym (next_life ∙ silent_steps home s.numbers now p steps none)) p_is)
         (quiet_answers s n from (with_mobile_past n next run) (answers_of steps) (mobile_silence steps none))
 
   -- the turn of the part
   abbrev part_turn : parts.Call → List part_steps.Step
-  part_turn call = (turn_at (part_of home p) now call).steps
+  part_turn call = (turn_at (part_of home s.numbers p) now call).steps
 
-  asked_life : (call : parts.Call) → (let q : PartLife = part_goes_on home p now (Parts call) in q) ≡ record { secrets = p.secrets; past = p.past ++ stamped now (part_turn call) }
+  asked_life : (call : parts.Call) → (let q : PartLife = part_goes_on home s.numbers p now (Parts call) in q) ≡ record { secrets = p.secrets; past = p.past ++ stamped now (part_turn call) }
   asked_life call =
-      let c = part_of home p in
+      let c = part_of home s.numbers p in
       ap (λ (at : ℕ). let q : PartLife = record { secrets = p.secrets; past = p.past ++ stamped at (part_turn call) } in q) (part_moments.call-now c.identity c.known now call)
 
   asked_turn : (from : ℕ) (c : Call) (call : parts.Call) (rest : List Step) → list_any concerns_part rest ≡ false → list_any part_steps.is_acceptance (turn_at k.part now call).steps ≡ false
@@ -169,8 +169,8 @@ module _ (s : Setup) (n : ℕ) (home : Address) (agent : Option Address) (run : 
       steps : List Step
       steps = Called c ∷ Parts call ∷ rest
 
-      life : part_life home (secrets_in s n 0) (mobile_past_at run n ++ stamped now (Called c ∷ Parts call ∷ rest)) ≡ record { secrets = p.secrets; past = p.past ++ stamped now (part_turn call) }
-      life = next_life from steps ∙ silent_steps home now (part_goes_on home p now (Parts call)) rest none ∙ asked_life call
+      life : part_life home s.numbers (secrets_in s n 0) (mobile_past_at run n ++ stamped now (Called c ∷ Parts call ∷ rest)) ≡ record { secrets = p.secrets; past = p.past ++ stamped now (part_turn call) }
+      life = next_life from steps ∙ silent_steps home s.numbers now (part_goes_on home s.numbers p now (Parts call)) rest none ∙ asked_life call
 
       gone : IsPart s run.past (record { secrets = p.secrets; past = p.past ++ stamped now (part_turn call) }) n
       gone = record {
@@ -180,33 +180,33 @@ module _ (s : Setup) (n : ℕ) (home : Address) (agent : Option Address) (run : 
       }
 
   -- it accepts an update
-  module _ (c : Call) (x : IsPartTaken k now c (turn_of k now c).steps) (stands : IsAccepted s run.past n x.number x.taken.home x.taken.accepted) (from : ℕ) where
+  module _ (c : Call) (x : IsPartTaken k now c (turn_of k now c).steps) (stands : IsAccepted s run.past n x.number x.taken.home x.taken.binding x.taken.accepted) (from : ℕ) where
     abbrev call : parts.Call
     call = parts.Part x.number x.packet
 
     abbrev past : List Entry
-    past = run.past ++ accepted_entry n x.number x.taken.home x.taken.accepted ∷ []
+    past = run.past ++ accepted_entry n x.number x.taken.home x.taken.binding x.taken.accepted ∷ []
 
     abbrev taken : List Step
-    taken = Called c ∷ Parts call ∷ Notes (accepted_note x.number x.taken.home x.taken.accepted) ∷ x.rest
+    taken = Called c ∷ Parts call ∷ Notes (accepted_note x.number x.taken.home x.taken.binding x.taken.accepted) ∷ x.rest
 
     abbrev part_taken : List part_steps.Step
-    part_taken = part_steps.Called call ∷ part_steps.Accepts x.number x.taken.home x.taken.accepted ∷ x.taken.rest
+    part_taken = part_steps.Called call ∷ part_steps.Accepts x.number x.taken.home x.taken.binding x.taken.accepted ∷ x.taken.rest
 
     part_taken_is : part_turn call ≡ part_taken
     part_taken_is = ap (λ (y : CorrespondentSeen). (turn_at y now call).steps) (sym known_part) ∙ x.taken.steps_are
 
-    taken_life : part_life home (secrets_in s n 0) (mobile_past_at run n ++ stamped now taken) ≡ record { secrets = p.secrets; past = p.past ++ stamped now part_taken }
+    taken_life : part_life home s.numbers (secrets_in s n 0) (mobile_past_at run n ++ stamped now taken) ≡ record { secrets = p.secrets; past = p.past ++ stamped now part_taken }
     taken_life =
         next_life from taken
-        ∙ silent_steps home now (part_goes_on home p now (Parts call)) x.rest x.none
+        ∙ silent_steps home s.numbers now (part_goes_on home s.numbers p now (Parts call)) x.rest x.none
         ∙ asked_life call
         ∙ ap (λ (l : List part_steps.Step). let q : PartLife = record { secrets = p.secrets; past = p.past ++ stamped now l } in q) part_taken_is
 
     mine : IsPart s past (record { secrets = p.secrets; past = p.past ++ stamped now part_taken }) n
     mine = record {
-      secrets = p_is.secrets ∙ ap (λ (l : ℕ). secrets_in s n l) (sym (accepted_lives n x.number run.past x.taken.home x.taken.accepted n));
-      past = accepting_past s run.past p.past n x.number x.taken.home x.taken.accepted call x.taken.rest x.taken.none p_is.past;
+      secrets = p_is.secrets ∙ ap (λ (l : ℕ). secrets_in s n l) (sym (accepted_lives n x.number run.past x.taken.home x.taken.binding x.taken.accepted n));
+      past = accepting_past s run.past p.past n x.number x.taken.home x.taken.binding x.taken.accepted call x.taken.rest x.taken.none p_is.past;
     }
 
     abbrev middle : Run
@@ -215,28 +215,28 @@ module _ (s : Setup) (n : ℕ) (home : Address) (agent : Option Address) (run : 
     middle_is : IsRun s middle
     middle_is =
         part_goes s n home agent run is host_is past (old ++ stamped now taken) (subst (λ (q : PartLife). IsPart s past q n) (sym taken_life) mine)
-        (λ m other. accepted_other s.start m n x.number run.past x.taken.home x.taken.accepted other)
-        (accepted_moment s.start n x.number run.past x.taken.home x.taken.accepted) (λ m other. accepted_lives n x.number run.past x.taken.home x.taken.accepted m)
-        (accepted_kept s run.past run.posts n x.number x.taken.home x.taken.accepted stands is.kept)
+        (λ m other. accepted_other s.start m n x.number run.past x.taken.home x.taken.binding x.taken.accepted other)
+        (accepted_moment s.start n x.number run.past x.taken.home x.taken.binding x.taken.accepted) (λ m other. accepted_lives n x.number run.past x.taken.home x.taken.binding x.taken.accepted m)
+        (accepted_kept s run.past run.posts n x.number x.taken.home x.taken.binding x.taken.accepted stands is.kept)
 
     taken_turn : Goes s run (mobile_done s n from now taken run)
     unfolding answered
     taken_turn =
-        let left = marked_with n x.number x.taken.home x.taken.accepted middle run.past in
+        let left = marked_with n x.number x.taken.home x.taken.binding x.taken.accepted middle run.past in
         goes_then s run middle _
         (record {
           run = middle_is;
-          moment = accepted_moment s.start n x.number run.past x.taken.home x.taken.accepted;
-          life = λ m. accepted_lives n x.number run.past x.taken.home x.taken.accepted m;
+          moment = accepted_moment s.start n x.number run.past x.taken.home x.taken.binding x.taken.accepted;
+          life = λ m. accepted_lives n x.number run.past x.taken.home x.taken.binding x.taken.accepted m;
         })
         (goes_quietly s middle _ middle_is
         (quiet_then s middle left (answered s n from left (answers_of x.rest))
-        (quiet_mark s n x.number x.taken.home x.taken.accepted run.past middle refl)
+        (quiet_mark s n x.number x.taken.home x.taken.binding x.taken.accepted run.past middle refl)
         (quiet_answers s n from left (answers_of x.rest) (mobile_silence x.rest x.none))))
 
   -- a call that is no restart
   pub mobile_turn : (c : Call) → is_restart c ≡ false
-      → ((x : IsPartTaken k now c (turn_of k now c).steps) → IsAccepted s run.past n x.number x.taken.home x.taken.accepted)
+      → ((x : IsPartTaken k now c (turn_of k now c).steps) → IsAccepted s run.past n x.number x.taken.home x.taken.binding x.taken.accepted)
       → Goes s run (mobile_turned s n home (turn_of k now c) run)
   mobile_turn c other stands =
       subst (λ (at : ℕ). Goes s run (mobile_done s n from at (turn_of k now c).steps run)) (sym (call-now k now c)) (by (call-part k now c other))
@@ -250,12 +250,12 @@ module _ (s : Setup) (n : ℕ) (home : Address) (agent : Option Address) (run : 
       by (Accepting x) = subst (λ (l : List Step). Goes s run (mobile_done s n from now l run)) (sym x.steps_are) (taken_turn c x (stands x) from)
 
 -- a restart begins the part anew, and no update is accepted in it
-pub reborn_life : (home : Address) (first : Life) (old : List (Stamped Step)) (now : ℕ) (secrets : Life) (steps : List Step) → IsPartReborn secrets steps
-    → part_life home first (old ++ stamped now steps) ≡ new_part secrets
-reborn_life home first old now secrets steps r =
-    ap (λ (l : List Step). part_life home first (old ++ stamped now l)) r.steps_are
-    ∙ life_along home first old now (Called (Restart secrets) ∷ Restarts secrets ∷ r.rest)
-    ∙ silent_steps home now (new_part secrets) r.rest r.none
+pub reborn_life : (home : Address) (numbers : ℕ) (first : Life) (old : List (Stamped Step)) (now : ℕ) (secrets : Life) (steps : List Step) → IsPartReborn secrets steps
+    → part_life home numbers first (old ++ stamped now steps) ≡ new_part secrets
+reborn_life home numbers first old now secrets steps r =
+    ap (λ (l : List Step). part_life home numbers first (old ++ stamped now l)) r.steps_are
+    ∙ life_along home numbers first old now (Called (Restart secrets) ∷ Restarts secrets ∷ r.rest)
+    ∙ silent_steps home numbers now (new_part secrets) r.rest r.none
 
 pub quiet_reborn : (s : Setup) (n from : ℕ) (run : Run) (secrets : Life) (steps : List Step) → IsPartReborn secrets steps → IsQuiet s run (answered s n from run (answers_of steps))
 quiet_reborn s n from run secrets steps r =

@@ -1,27 +1,27 @@
--- Where an acceptance that counts stands among the entries.
+-- Where an acceptance that lives stands among the entries.
 use Rattle.std.proofs.Common.{◌≡◌, ℕ, List, [], ◌∷◌, ◌++◌, Bool, true, false, ◌⊎◌, inl, inr, refl, sym, ap, ◌∙◌, subst}
-use Rattle.std.specs.Prelude.{fold, unwrap_or, ◌==◌, ◌&&◌, ◌||◌, if◌then◌else◌, Option}
+use Rattle.std.specs.Prelude.{◌≢◌, fold, is_some, ◌==◌, ◌||◌, if◌then◌else◌, Option}
 use Rattle.std.specs.List.{list_any}
-use Rattle.std.proofs.lemmas.List.Folds.{list_any-append}
-use Rattle.std.proofs.lemmas.Bool.{cond_both, or_parts, eqb-true}
+use Rattle.std.proofs.lemmas.List.{append_assoc, append-nil}
+use Rattle.std.proofs.lemmas.List.Sums.{fold-append}
+use Rattle.std.proofs.lemmas.Bool.{eqb-true, eqb-false}
 use Rattle.mip_words.specs.declared.address.Address.{Address}
 use Rattle.mip_words.specs.declared.ids.NodeId.{NodeId}
 use Rattle.mip_words.specs.declared.moment.Moment.{Moment}
 use Rattle.mip_binding.specs.Acceptance.{Acceptance}
-use Rattle.mip_binding.specs.Held.{is_of}
+use Rattle.mip_lists.specs.EachAfter.{EachAfter}
+use Rattle.mip_binding.specs.Held.{floor, Lives}
+use Rattle.mip_binding.proofs.LifeLaws.{IsOutlived}
 use Rattle.mip_entries.specs.declared.entry.Entry.{Entry}
 use Rattle.mip_entries.specs.declared.entry.Entry.TheVariants as entries
-use Rattle.mip_history.specs.Questions.{moment_says, moment_in}
-use Rattle.mip_history.specs.Bound.{Lived, lived, is_restart_of}
+use Rattle.mip_history.specs.Setup.{Setup}
+use Rattle.mip_history.specs.Questions.{moment_in}
+use Rattle.mip_history.specs.Bound.{Lived, lived, accepted_by, floor_in, is_restart_of, Outlives}
+use Rattle.mip_history.proofs.Turns.{lived_at}
 
 -- the acceptance that an entry made, at a moment
 abbrev pub acceptance_at : ℕ → Address → ℕ → Address → ℕ → Moment → Acceptance
 acceptance_at at home binding careof sequence end = record { at = at; home = home.0; number = binding; careof = careof.0; sequence = sequence; end = end.0 }
-
--- an entry by which a node accepted an update of a home, under a number
-abbrev pub is_numbered_for : ℕ → ℕ → ℕ → Entry → Bool
-is_numbered_for n home number (entries.Accepted node k h binding careof sequence end i j) = (n == node.0) && ((h.0 == home) && (binding == number))
-is_numbered_for n home number _ = false
 
 -- the last item of a list, where another one stands in it
 record EndsWith (xs : List Acceptance) (x : Acceptance) (before : List Acceptance) (a : Acceptance) (after : List Acceptance) : Type 0 where
@@ -43,18 +43,39 @@ last_of (y ∷ ys) x (b ∷ before) a after e = by (last_of ys x before a after 
     by (inl same) = inl same
     by (inr w) = inr (record { more = w.more; after_is = w.after_is; front_is = let same : y ≡ b = cc in let front = w.front_is in cc })
 
-module _ (n home number : ℕ) (a : Acceptance) where
-  -- it was accepted before these entries, and counts behind them
-  record WasBefore (xs : List Acceptance) (past : List Entry) : Type 0 where
+-- what outlives a list outlives its front, and then its last item
+outlived-last : (home number : ℕ) (front more : List Acceptance) (x : Acceptance) → Lives home number front (more ++ x ∷ []) → Lives home number front more × IsOutlived home number (front ++ more) x
+outlived-last home number front [] x lives = (tt, subst (λ (l : List Acceptance). IsOutlived home number l x) (sym (append-nil front)) lives.0)
+outlived-last home number front (y ∷ more) x lives =
+    let rest = outlived-last home number (front ++ y ∷ []) more x lives.1 in
+    ((lives.0, rest.0), subst (λ (l : List Acceptance). IsOutlived home number l x) (append_assoc front (y ∷ []) more) rest.1)
+
+-- what a node has accepted of its present life behind a history, and when
+abbrev pub life_of : Setup → ℕ → List Entry → Lived
+life_of s n front = fold (lived n) (record { at = s.start; accepted = [] }) front
+
+life-push : (s : Setup) (n : ℕ) (front : List Entry) (e : Entry) → life_of s n (front ++ e ∷ []) ≡ lived n (life_of s n front) e
+life-push s n front e = fold-append (lived n) (record { at = s.start; accepted = [] }) front (e ∷ [])
+
+life-at : (s : Setup) (n : ℕ) (front : List Entry) → (life_of s n front).at ≡ moment_in s.start front
+life-at s n front = lived_at n (record { at = s.start; accepted = [] }) front
+
+life-accepted : (s : Setup) (n : ℕ) (front : List Entry) → accepted_by s.start front n ≡ (life_of s n front).accepted
+unfolding accepted_by
+life-accepted s n front = refl
+
+module _ (s : Setup) (n home : ℕ) (a : Acceptance) where
+  -- it was accepted before these entries, which stand behind a front, and outlives them
+  record WasBefore (front past : List Entry) : Type 0 where
     before : List Acceptance
     after : List Acceptance
-    whole : xs ≡ before ++ a ∷ after
-    last : list_any (is_of home number) after ≡ false
+    whole : (life_of s n front).accepted ≡ before ++ a ∷ after
+    lives : Lives home a.number (before ++ a ∷ []) after
     this_life : list_any (is_restart_of n) past ≡ false
-    none_after : list_any (is_numbered_for n home number) past ≡ false
+    outlives : EachAfter (Outlives s n home a.number) front past
 
-  -- or its entry is one of these, which begin at a moment
-  pub record IsPlaced (m : ℕ) (past : List Entry) : Type 0 where
+  -- or its entry is one of these, and outlives those behind it
+  pub record IsPlaced (front past : List Entry) : Type 0 where
     pub before : List Entry
     pub node : NodeId
     pub k : ℕ
@@ -65,18 +86,16 @@ module _ (n home number : ℕ) (a : Acceptance) where
     pub end : Moment
     pub i : ℕ
     pub j : Option ℕ
-    pub at : ℕ
     pub after : List Entry
-    pub whole : past ≡ before ++ entries.Accepted node k of binding careof sequence end i j ∷ after
+    pub whole : front ++ past ≡ before ++ entries.Accepted node k of binding careof sequence end i j ∷ after
     pub of_node : n ≡ node.0
-    pub moment : at ≡ moment_in m before
-    pub is : acceptance_at at of binding careof sequence end ≡ a
+    pub is : acceptance_at (moment_in s.start before) of binding careof sequence end ≡ a
     pub this_life : list_any (is_restart_of n) after ≡ false
-    pub none_after : list_any (is_numbered_for n home number) after ≡ false
+    pub outlives : EachAfter (Outlives s n home a.number) (before ++ entries.Accepted node k of binding careof sequence end i j ∷ []) after
 
-  further : (m : ℕ) (e : Entry) (past : List Entry) → IsPlaced (unwrap_or (moment_says e) m) past → IsPlaced m (e ∷ past)
-  further m e past p = record {
-    before = e ∷ p.before;
+  further : (front : List Entry) (e : Entry) (past : List Entry) → IsPlaced (front ++ e ∷ []) past → IsPlaced front (e ∷ past)
+  further front e past p = record {
+    before = p.before;
     node = p.node;
     k = p.k;
     of = p.of;
@@ -86,107 +105,120 @@ module _ (n home number : ℕ) (a : Acceptance) where
     end = p.end;
     i = p.i;
     j = p.j;
-    at = p.at;
     after = p.after;
-    whole = ap (λ (es : List Entry). e ∷ es) p.whole;
+    whole = sym (append_assoc front (e ∷ []) past) ∙ p.whole;
     of_node = p.of_node;
-    moment = p.moment;
     is = p.is;
     this_life = p.this_life;
-    none_after = p.none_after;
+    outlives = p.outlives;
   }
 
-  restarted_before : (same : Bool) (xs : List Acceptance) (past : List Entry) (node : NodeId) → (n == node.0) ≡ same
-      → WasBefore (if same then [] else xs) past → WasBefore xs (entries.Restarted node ∷ past)
-  restarted_before true xs past node is w = absurd (not_empty w.before a w.after w.whole)
-  restarted_before false xs past node is w = record {
-    before = w.before;
-    after = w.after;
-    whole = w.whole;
-    last = w.last;
-    this_life = ap (λ (b : Bool). b || list_any (is_restart_of n) past) is ∙ w.this_life;
-    none_after = w.none_after;
-  }
+  -- one entry more, behind which it lives
+  module _ (front past : List Entry) (before after : List Acceptance) (lives : Lives home a.number (before ++ a ∷ []) after) (this_life : list_any (is_restart_of n) past ≡ false) where
+    abbrev l : Lived
+    l = life_of s n front
 
-  accepted_before : (same : Bool) (l : Lived) (past : List Entry) (node : NodeId) (k : ℕ) (of : Address) (binding : ℕ) (careof : Address) (sequence : ℕ) (end : Moment) (i : ℕ) (j : Option ℕ) → (n == node.0) ≡ same
-      → WasBefore (let x : Lived = (if same then record { at = l.at; accepted = l.accepted ++ acceptance_at l.at of binding careof sequence end ∷ [] } else l) in x.accepted) past
-      → WasBefore l.accepted (entries.Accepted node k of binding careof sequence end i j ∷ past) ⊎ IsPlaced l.at (entries.Accepted node k of binding careof sequence end i j ∷ past)
-  accepted_before true l past node k of binding careof sequence end i j is w =
-      by (last_of l.accepted (acceptance_at l.at of binding careof sequence end) w.before a w.after w.whole)
-    where
-      by : (acceptance_at l.at of binding careof sequence end ≡ a) ⊎ EndsWith l.accepted (acceptance_at l.at of binding careof sequence end) w.before a w.after
-          → WasBefore l.accepted (entries.Accepted node k of binding careof sequence end i j ∷ past) ⊎ IsPlaced l.at (entries.Accepted node k of binding careof sequence end i j ∷ past)
-      by (inl same) = inr (record {
-        before = [];
-        node = node;
-        k = k;
-        of = of;
-        binding = binding;
-        careof = careof;
-        sequence = sequence;
-        end = end;
-        i = i;
-        j = j;
-        at = l.at;
-        after = past;
-        whole = refl;
-        of_node = eqb-true n node.0 is;
-        moment = refl;
-        is = same;
-        this_life = w.this_life;
-        none_after = w.none_after;
-      })
-      by (inr ends) =
-          let both = sym (list_any-append (is_of home number) ends.more (acceptance_at l.at of binding careof sequence end ∷ [])) ∙ ap (list_any (is_of home number)) (sym ends.after_is) ∙ w.last in
-          let parts = or_parts (list_any (is_of home number) ends.more) (((of.0 == home) && (binding == number)) || false) both in
-          let mine = or_parts ((of.0 == home) && (binding == number)) false parts.1 in
-          inl (record {
-            before = w.before;
-            after = ends.more;
-            whole = ends.front_is;
-            last = parts.0;
-            this_life = w.this_life;
-            none_after =
-                ap (λ (b : Bool). (b && ((of.0 == home) && (binding == number))) || list_any (is_numbered_for n home number) past) is
-                ∙ ap (λ (b : Bool). b || list_any (is_numbered_for n home number) past) mine.0
-                ∙ w.none_after;
-          })
-  accepted_before false l past node k of binding careof sequence end i j is w = inl (record {
-    before = w.before;
-    after = w.after;
-    whole = w.whole;
-    last = w.last;
-    this_life = w.this_life;
-    none_after = ap (λ (b : Bool). (b && ((of.0 == home) && (binding == number))) || list_any (is_numbered_for n home number) past) is ∙ w.none_after;
+    Found : Entry → Type 0
+    Found e = WasBefore front (e ∷ past) ⊎ IsPlaced front (e ∷ past)
+
+    restarted_before : (same : Bool) (node : NodeId) → (n == node.0) ≡ same → EachAfter (Outlives s n home a.number) (front ++ entries.Restarted node ∷ []) past
+        → (if same then [] else (life_of s n front).accepted) ≡ before ++ a ∷ after → WasBefore front (entries.Restarted node ∷ past)
+    restarted_before true node is outlives whole = absurd (not_empty before a after whole)
+    restarted_before false node is outlives whole = record {
+      before = before;
+      after = after;
+      whole = whole;
+      lives = lives;
+      this_life = ap (λ (b : Bool). b || list_any (is_restart_of n) past) is ∙ this_life;
+      outlives = (tt, outlives);
+    }
+
+    accepted_before : (same : Bool) (node : NodeId) (k : ℕ) (of : Address) (binding : ℕ) (careof : Address) (sequence : ℕ) (end : Moment) (i : ℕ) (j : Option ℕ) → (n == node.0) ≡ same
+        → EachAfter (Outlives s n home a.number) (front ++ entries.Accepted node k of binding careof sequence end i j ∷ []) past
+        → (let x : Lived = (if same then record { at = (life_of s n front).at; accepted = (life_of s n front).accepted ++ acceptance_at (life_of s n front).at of binding careof sequence end ∷ [] } else life_of s n front) in x.accepted) ≡ before ++ a ∷ after
+        → WasBefore front (entries.Accepted node k of binding careof sequence end i j ∷ past) ⊎ IsPlaced front (entries.Accepted node k of binding careof sequence end i j ∷ past)
+    accepted_before true node k of binding careof sequence end i j is outlives whole =
+        by (last_of l.accepted x before a after whole)
+      where
+        x : Acceptance
+        x = acceptance_at (life_of s n front).at of binding careof sequence end
+
+        outlived : IsOutlived home a.number (life_of s n front).accepted (acceptance_at (life_of s n front).at of binding careof sequence end)
+            → n ≡ node.0 → of.0 ≡ home → (careof.0 ≢ home) × (binding ≢ a.number) × (is_some (floor_in s front n home) ≡ true)
+        outlived one mine same =
+            let parts = one same in (
+              λ at_home. eqb-false careof.0 of.0 parts.0 (at_home ∙ sym same),
+              parts.1,
+              ap (λ (xs : List Acceptance). is_some (floor xs home (moment_in s.start front))) (life-accepted s n front)
+                  ∙ ap (λ (at : ℕ). is_some (floor (life_of s n front).accepted home at)) (sym (life-at s n front)) ∙ parts.2,
+            )
+
+        by : (acceptance_at (life_of s n front).at of binding careof sequence end ≡ a) ⊎ EndsWith (life_of s n front).accepted (acceptance_at (life_of s n front).at of binding careof sequence end) before a after
+            → WasBefore front (entries.Accepted node k of binding careof sequence end i j ∷ past) ⊎ IsPlaced front (entries.Accepted node k of binding careof sequence end i j ∷ past)
+        by (inl same) = inr (record {
+          before = front;
+          node = node;
+          k = k;
+          of = of;
+          binding = binding;
+          careof = careof;
+          sequence = sequence;
+          end = end;
+          i = i;
+          j = j;
+          after = past;
+          whole = refl;
+          of_node = eqb-true n node.0 is;
+          is = ap (λ (at : ℕ). acceptance_at at of binding careof sequence end) (sym (life-at s n front)) ∙ same;
+          this_life = this_life;
+          outlives = outlives;
+        })
+        by (inr ends) =
+            let parts = outlived-last home a.number (before ++ a ∷ []) ends.more x (subst (Lives home a.number (before ++ a ∷ [])) ends.after_is lives) in
+            let one = subst (λ (xs : List Acceptance). IsOutlived home a.number xs x) (append_assoc before (a ∷ []) ends.more ∙ sym ends.front_is) parts.1 in
+            inl (record {
+              before = before;
+              after = ends.more;
+              whole = ends.front_is;
+              lives = parts.0;
+              this_life = this_life;
+              outlives = (outlived one, outlives);
+            })
+    accepted_before false node k of binding careof sequence end i j is outlives whole = inl (record {
+      before = before;
+      after = after;
+      whole = whole;
+      lives = lives;
+      this_life = this_life;
+      outlives = (λ mine. absurd (eqb-false n node.0 is mine), outlives);
+    })
+
+    entry_before : (e : Entry) → EachAfter (Outlives s n home a.number) (front ++ e ∷ []) past → (lived n (life_of s n front) e).accepted ≡ before ++ a ∷ after → WasBefore front (e ∷ past) ⊎ IsPlaced front (e ∷ past)
+    entry_before (entries.Restarted node) outlives whole = inl (restarted_before (n == node.0) node refl outlives whole)
+    entry_before (entries.Accepted node k of binding careof sequence end i j) outlives whole = accepted_before (n == node.0) node k of binding careof sequence end i j refl outlives whole
+    entry_before _ outlives whole = inl (record { before = before; after = after; whole = whole; lives = lives; this_life = this_life; outlives = (tt, outlives) })
+
+  placed_from : (front past : List Entry) (before after : List Acceptance) → (life_of s n (front ++ past)).accepted ≡ before ++ a ∷ after → Lives home a.number (before ++ a ∷ []) after
+      → WasBefore front past ⊎ IsPlaced front past
+  placed_from front [] before after whole lives = inl (record {
+    before = before;
+    after = after;
+    whole = ap (λ (l : List Entry). let x : Lived = life_of s n l in x.accepted) (sym (append-nil front)) ∙ whole;
+    lives = lives;
+    this_life = refl;
+    outlives = tt;
   })
-
-  entry_before : (l : Lived) (e : Entry) (past : List Entry) → WasBefore (lived n l e).accepted past → WasBefore l.accepted (e ∷ past) ⊎ IsPlaced l.at (e ∷ past)
-  entry_before l (entries.Restarted node) past w = inl (restarted_before (n == node.0) l.accepted past node refl w)
-  entry_before l (entries.Accepted node k of binding careof sequence end i j) past w = accepted_before (n == node.0) l past node k of binding careof sequence end i j refl w
-  entry_before l _ past w = inl (record { before = w.before; after = w.after; whole = w.whole; last = w.last; this_life = w.this_life; none_after = w.none_after })
-
-  -- the moment goes on with the entries
-  lived_at : (l : Lived) (e : Entry) → (lived n l e).at ≡ unwrap_or (moment_says e) l.at
-  lived_at l (entries.At moment) = refl
-  lived_at l (entries.Restarted node) = refl
-  lived_at l (entries.Accepted node k of binding careof sequence end i j) =
-      cond_both (n == node.0) (record { at = l.at; accepted = l.accepted ++ acceptance_at l.at of binding careof sequence end ∷ [] }) l (λ (x : Lived). x.at ≡ l.at) (λ _. refl) (λ _. refl)
-  lived_at l _ = refl
-
-  placed_from : (l : Lived) (past : List Entry) (before after : List Acceptance) → (fold (lived n) l past).accepted ≡ before ++ a ∷ after → list_any (is_of home number) after ≡ false
-      → WasBefore l.accepted past ⊎ IsPlaced l.at past
-  placed_from l [] before after whole last = inl (record { before = before; after = after; whole = whole; last = last; this_life = refl; none_after = refl })
-  placed_from l (e ∷ past) before after whole last = by (placed_from (lived n l e) past before after whole last)
+  placed_from front (e ∷ past) before after whole lives =
+      by (placed_from (front ++ e ∷ []) past before after (ap (λ (l : List Entry). let x : Lived = life_of s n l in x.accepted) (append_assoc front (e ∷ []) past) ∙ whole) lives)
     where
-      by : WasBefore (lived n l e).accepted past ⊎ IsPlaced (lived n l e).at past → WasBefore l.accepted (e ∷ past) ⊎ IsPlaced l.at (e ∷ past)
-      by (inl w) = entry_before l e past w
-      by (inr p) = inr (further l.at e past (subst (λ (m : ℕ). IsPlaced m past) (lived_at l e) p))
+      by : WasBefore (front ++ e ∷ []) past ⊎ IsPlaced (front ++ e ∷ []) past → WasBefore front (e ∷ past) ⊎ IsPlaced front (e ∷ past)
+      by (inl w) = entry_before front past w.before w.after w.lives w.this_life e w.outlives (ap (λ (x : Lived). x.accepted) (sym (life-push s n front e)) ∙ w.whole)
+      by (inr p) = inr (further front e past p)
 
-  -- what a life that began with nothing has accepted, stands among its entries
-  pub placed : (at : ℕ) (past : List Entry) (before after : List Acceptance) → (fold (lived n) (record { at = at; accepted = [] }) past).accepted ≡ before ++ a ∷ after
-      → list_any (is_of home number) after ≡ false → IsPlaced at past
-  placed at past before after whole last = by (placed_from (record { at = at; accepted = [] }) past before after whole last)
+  -- what a node has accepted in its present life, and what lives of it, stands among its entries
+  pub placed : (past : List Entry) (before after : List Acceptance) → accepted_by s.start past n ≡ before ++ a ∷ after → Lives home a.number (before ++ a ∷ []) after → IsPlaced [] past
+  placed past before after whole lives = by (placed_from [] past before after (sym (life-accepted s n past) ∙ whole) lives)
     where
-      by : WasBefore [] past ⊎ IsPlaced at past → IsPlaced at past
+      by : WasBefore [] past ⊎ IsPlaced [] past → IsPlaced [] past
       by (inl w) = absurd (not_empty w.before a w.after w.whole)
       by (inr p) = p

@@ -56,32 +56,34 @@ packet_stays k front es bytes posted =
 
 -- what stands behind an acceptance, by its entry
 record Stood (s : Setup) (past : List Entry) (n k : ℕ) (home : Address) (sequence : ℕ) : Type 0 where
+  binding : ℕ
   accepted : Accepted
   of_sequence : accepted.sequence ≡ sequence
-  stands : IsAccepted s past n k home accepted
+  stands : IsAccepted s past n k home binding accepted
 
-stood : (s : Setup) (past : List Entry) (n k : ℕ) (home : Address) (a : Accepted) → HasAccepted s past (accepted_entry n k home a) → Stood s past n k home a.sequence
-stood s past n k home a has =
+stood : (s : Setup) (past : List Entry) (n k : ℕ) (home : Address) (binding : ℕ) (a : Accepted) → HasAccepted s past (accepted_entry n k home binding a) → Stood s past n k home a.sequence
+stood s past n k home binding a has =
     let e = has.is in
     let nodes : node_id has.node ≡ node_id n = cc in
     record {
+      binding = has.binding;
       accepted = has.accepted;
       of_sequence = cc;
       stands = moved (ap (λ (x : NodeId). x.0) nodes) (cc) (cc) has.stands;
     }
   where
-    moved : {m l : ℕ} {h : Address} {x : Accepted} → m ≡ n → l ≡ k → h ≡ home → IsAccepted s past m l h x → IsAccepted s past n k home x
-    moved {m} {l} {h} {x} em el eh stands =
-        subst (λ (y : Address). IsAccepted s past n k y x) eh
-        (subst (λ (y : ℕ). IsAccepted s past n y h x) el
-        (subst (λ (y : ℕ). IsAccepted s past y l h x) em stands))
+    moved : {m l : ℕ} {h : Address} {b : ℕ} {x : Accepted} → m ≡ n → l ≡ k → h ≡ home → IsAccepted s past m l h b x → IsAccepted s past n k home b x
+    moved {m} {l} {h} {b} {x} em el eh stands =
+        subst (λ (y : Address). IsAccepted s past n k y b x) eh
+        (subst (λ (y : ℕ). IsAccepted s past n y h b x) el
+        (subst (λ (y : ℕ). IsAccepted s past y l h b x) em stands))
 
 packet_is : (x y : List ℕ) → Some x ≡ Some y → x ≡ y
 packet_is x y e = cc
 
 -- the packet of an acceptance is the one that carries the update in the whole history
-same_packet : (s : Setup) (front es : List Entry) (n k : ℕ) (home : Address) (a : Accepted) (key : Key) (is : IsAccepted s front n k home a) (u : CarriesUpdate (front ++ es) k key) → u.packet ≡ is.bytes
-same_packet s front es n k home a key is u = packet_is u.packet is.bytes (sym u.posted ∙ packet_stays k front es is.bytes is.posted)
+same_packet : (s : Setup) (front es : List Entry) (n k : ℕ) (home : Address) (binding : ℕ) (a : Accepted) (key : Key) (is : IsAccepted s front n k home binding a) (u : CarriesUpdate (front ++ es) k key) → u.packet ≡ is.bytes
+same_packet s front es n k home binding a key is u = packet_is u.packet is.bytes (sym u.posted ∙ packet_stays k front es is.bytes is.posted)
 
 -- what is read of a packet says what the packet carries
 read_says : (kind : Kind) (bytes : List ℕ) (p : Packet) → p.head.proto ≡ 135 → IsReadBy kind bytes p → carried bytes ≡ says p
@@ -92,36 +94,36 @@ read_says (Mobile agent) bytes p mobility (Within outer read opens) =
     carried_opened bytes outer p outer.head.source read opens
     ∙ carried_plain outer.body p (opened-reads outer.head.source outer p opens) (λ t. omega (arith, mobility))
 
-accepted_says : (s : Setup) (front es : List Entry) (n k : ℕ) (home : Address) (a : Accepted) (key : Key) (is : IsAccepted s front n k home a) → CarriesUpdate (front ++ es) k key → says is.packet ≡ Update key
-accepted_says s front es n k home a key is u =
+accepted_says : (s : Setup) (front es : List Entry) (n k : ℕ) (home : Address) (binding : ℕ) (a : Accepted) (key : Key) (is : IsAccepted s front n k home binding a) → CarriesUpdate (front ++ es) k key → says is.packet ≡ Update key
+accepted_says s front es n k home binding a key is u =
     sym (read_says is.kind is.bytes is.packet is.mobility is.read)
-    ∙ ap carried (sym (same_packet s front es n k home a key is u))
+    ∙ ap carried (sym (same_packet s front es n k home binding a key is u))
     ∙ u.says
 
-module _ (c : Content) (short : sum_by waited_by c.events ≤ 36000000) (before between after : List Entry) (n k l : ℕ) (home : Address) (a b : Accepted)
-    (whole : permitted c ≡ before ++ accepted_entry n k home a ∷ between ++ accepted_entry n l home b ∷ after) (alive : list_any (is_restart_of n) between ≡ false) (again : IsRepeat (permitted c) k l) where
+module _ (c : Content) (short : sum_by waited_by c.events ≤ 36000000) (before between after : List Entry) (n k l : ℕ) (home : Address) (x y : ℕ) (a b : Accepted)
+    (whole : permitted c ≡ before ++ accepted_entry n k home x a ∷ between ++ accepted_entry n l home y b ∷ after) (alive : list_any (is_restart_of n) between ≡ false) (again : IsRepeat (permitted c) k l) where
   abbrev s : Setup
   s = setup_of c
 
   abbrev middle : List Entry
-  middle = before ++ accepted_entry n k home a ∷ between
+  middle = before ++ accepted_entry n k home x a ∷ between
 
   abbrev later : List Entry
-  later = accepted_entry n l home b ∷ after
+  later = accepted_entry n l home y b ∷ after
 
   abbrev since : List Entry
   since = between ++ later
 
-  from_first : permitted c ≡ before ++ accepted_entry n k home a ∷ since
-  from_first = whole ∙ append_assoc before (accepted_entry n k home a ∷ between) later
+  from_first : permitted c ≡ before ++ accepted_entry n k home x a ∷ since
+  from_first = whole ∙ append_assoc before (accepted_entry n k home x a ∷ between) later
 
   first : Stood s before n k home a.sequence
-  first = stood s before n k home a (permitted_accepted c before (accepted_entry n k home a) since from_first refl)
+  first = stood s before n k home x a (permitted_accepted c before (accepted_entry n k home x a) since from_first refl)
 
   second : Stood s middle n l home b.sequence
-  second = stood s middle n l home b (permitted_accepted c middle (accepted_entry n l home b) after whole refl)
+  second = stood s middle n l home y b (permitted_accepted c middle (accepted_entry n l home y b) after whole refl)
 
-  carries_first : CarriesUpdate (before ++ accepted_entry n k home a ∷ since) k again.key
+  carries_first : CarriesUpdate (before ++ accepted_entry n k home x a ∷ since) k again.key
   carries_first = subst (λ (p : List Entry). CarriesUpdate p k again.key) from_first again.first
 
   carries_second : CarriesUpdate (middle ++ later) l again.key
@@ -131,8 +133,8 @@ module _ (c : Content) (short : sum_by waited_by c.events ≤ 36000000) (before 
   same : AsksSame first.stands.registration second.stands.registration
   same =
       asks_same first.stands.packet second.stands.packet again.key
-      (accepted_says s before (accepted_entry n k home a ∷ since) n k home first.accepted again.key first.stands carries_first)
-      (accepted_says s middle later n l home second.accepted again.key second.stands carries_second)
+      (accepted_says s before (accepted_entry n k home x a ∷ since) n k home first.binding first.accepted again.key first.stands carries_first)
+      (accepted_says s middle later n l home second.binding second.accepted again.key second.stands carries_second)
       first.stands.registration first.stands.asks second.stands.registration second.stands.asks
 
   -- the moments rise from the start to the end
@@ -142,11 +144,11 @@ module _ (c : Content) (short : sum_by waited_by c.events ≤ 36000000) (before 
   each_middle : EachAfter (Meets s) [] middle
   each_middle = each_front (Meets s) [] middle later each
 
-  rises : AllByRecursion (IsNotBefore (moment_in s.start before)) (accepted_entry n k home a ∷ between) × (moment_in s.start before ≤ moment_in s.start middle)
-  rises = rises_from s (moment_in s.start before) before (accepted_entry n k home a ∷ between) (each_rest (Meets s) [] before (accepted_entry n k home a ∷ between) each_middle) (omega arith)
+  rises : AllByRecursion (IsNotBefore (moment_in s.start before)) (accepted_entry n k home x a ∷ between) × (moment_in s.start before ≤ moment_in s.start middle)
+  rises = rises_from s (moment_in s.start before) before (accepted_entry n k home x a ∷ between) (each_rest (Meets s) [] before (accepted_entry n k home x a ∷ between) each_middle) (omega arith)
 
   after_start : s.start ≤ moment_in s.start before
-  after_start = (rises_from s s.start [] before (each_front (Meets s) [] before (accepted_entry n k home a ∷ between) each_middle) (omega arith)).1
+  after_start = (rises_from s s.start [] before (each_front (Meets s) [] before (accepted_entry n k home x a ∷ between) each_middle) (omega arith)).1
 
   before_end : moment_in s.start middle ≤ moment_in s.start (permitted c)
   before_end = subst (λ (p : List Entry). moment_in s.start middle ≤ moment_in s.start p) (sym whole)
@@ -158,23 +160,23 @@ module _ (c : Content) (short : sum_by waited_by c.events ≤ 36000000) (before 
   -- the nonce of the home token is one
   near : moment_in s.start middle < moment_in s.start before + 240000
   near =
-      let x = first.stands.sound.genuine in
-      let y = second.stands.sound.genuine in
-      let named : Some x.indices ≡ Some y.indices = sym x.named ∙ same.nonces ∙ y.named in
-      let one : x.indices ≡ y.indices = cc in
-      same_nonce (moment_in s.start before) (moment_in s.start middle) x.indices.home first.accepted.home_nonce second.accepted.home_nonce
-      x.home_nonce
-      (subst (λ (i : Indices). IsNonce (moment_in s.start middle) i.home second.accepted.home_nonce) (sym one) y.home_nonce)
+      let f = first.stands.sound.genuine in
+      let g = second.stands.sound.genuine in
+      let named : Some f.indices ≡ Some g.indices = sym f.named ∙ same.nonces ∙ g.named in
+      let one : f.indices ≡ g.indices = cc in
+      same_nonce (moment_in s.start before) (moment_in s.start middle) f.indices.home first.accepted.home_nonce second.accepted.home_nonce
+      f.home_nonce
+      (subst (λ (i : Indices). IsNonce (moment_in s.start middle) i.home second.accepted.home_nonce) (sym one) g.home_nonce)
       rises.1 within
 
   kept : floor (accepted_by s.start middle n) home.0 (moment_in s.start middle) ≡ Some (last_in n home.0 a.sequence between)
-  kept = last_stands s.start n k home before between a (moment_in s.start middle) near alive rises.0.1
+  kept = last_stands s.start n k home x before between a (moment_in s.start middle) near alive rises.0.1
 
   sequence_is : second.stands.registration.sequence ≡ b.sequence
   sequence_is = sym second.stands.sound.of_sequence ∙ second.of_sequence
 
-  pub permitted_repeats : (rounds : ℕ) × (0 < rounds) × (advanced n home.0 a.sequence (between ++ accepted_entry n l home b ∷ []) ≡ rounds * 65536)
+  pub permitted_repeats : (rounds : ℕ) × (0 < rounds) × (advanced n home.0 a.sequence (between ++ accepted_entry n l home y b ∷ []) ≡ rounds * 65536)
   permitted_repeats =
-      gone_round n l home a.sequence between b
+      gone_round n l home y a.sequence between b
       (sym sequence_is ∙ sym same.sequence ∙ sym first.stands.sound.of_sequence ∙ first.of_sequence)
       (subst (λ (q : ℕ). is_after q (last_in n home.0 a.sequence between) ≡ true) sequence_is (second.stands.sound.newer _ kept))

@@ -148,10 +148,10 @@ module _ (s : Setup) (run : Run) (n : ℕ) (is : IsRun s run) where
     abbrev moved : List (Stamped mobile_steps.Step)
     moved = mobile_past_at run n ++ stamped (now_in s next) turn.steps
 
-    begins_anew : IsPart s past (part_life home (secrets_in s n 0) (mobile_past_at run n ++ stamped (now_in s next) turn.steps)) n
+    begins_anew : IsPart s past (part_life home s.numbers (secrets_in s n 0) (mobile_past_at run n ++ stamped (now_in s next) turn.steps)) n
     begins_anew =
         subst (λ (q : PartLife). IsPart s past q n)
-        (sym (reborn_life home (secrets_in s n 0) (mobile_past_at run n) (now_in s next) secrets turn.steps reborn))
+        (sym (reborn_life home s.numbers (secrets_in s n 0) (mobile_past_at run n) (now_in s next) secrets turn.steps reborn))
         (record { secrets = refl; past = past_of_this })
 
     mobile_reborn : Passes s run (mobile_turned s n home turn next) 0 (again n)

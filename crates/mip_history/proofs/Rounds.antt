@@ -35,26 +35,26 @@ rounds_of : (first all : ℕ) → (first + all) % 65536 ≡ first % 65536 → 0 
 rounds_of first all same ahead = (all / 65536, omega arith, omega arith)
 
 -- how far they went on at one acceptance more
-advance_own : (n l : ℕ) (home : Address) (b : Accepted) (a : Advance) → advance n home.0 a (accepted_entry n l home b) ≡ record { last = b.sequence; all = a.all + step_from (a.last % 65536) b.sequence }
-advance_own n l home b a = cond-true ((n == n) && (home.0 == home.0)) _ _ (and_from (n == n) (home.0 == home.0) (eq-eqb n n refl) (eq-eqb home.0 home.0 refl))
+advance_own : (n l : ℕ) (home : Address) (y : ℕ) (b : Accepted) (a : Advance) → advance n home.0 a (accepted_entry n l home y b) ≡ record { last = b.sequence; all = a.all + step_from (a.last % 65536) b.sequence }
+advance_own n l home y b a = cond-true ((n == n) && (home.0 == home.0)) _ _ (and_from (n == n) (home.0 == home.0) (eq-eqb n n refl) (eq-eqb home.0 home.0 refl))
 
 -- the last sequence in between
 abbrev pub last_in : ℕ → ℕ → ℕ → List Entry → ℕ
 last_in n home first es = (fold (advance n home) (record { last = first; all = 0 }) es).last
 
 -- where the last step is ahead, and the sequence is the first one again, they have gone round
-pub gone_round : (n l : ℕ) (home : Address) (first : ℕ) (between : List Entry) (b : Accepted) → b.sequence ≡ first → is_after b.sequence (last_in n home.0 first between) ≡ true
-    → (rounds : ℕ) × (0 < rounds) × (advanced n home.0 first (between ++ accepted_entry n l home b ∷ []) ≡ rounds * 65536)
+pub gone_round : (n l : ℕ) (home : Address) (y : ℕ) (first : ℕ) (between : List Entry) (b : Accepted) → b.sequence ≡ first → is_after b.sequence (last_in n home.0 first between) ≡ true
+    → (rounds : ℕ) × (0 < rounds) × (advanced n home.0 first (between ++ accepted_entry n l home y b ∷ []) ≡ rounds * 65536)
 unfolding advanced
-gone_round n l home first between b same after =
+gone_round n l home y first between b same after =
     (rounds.0, rounds.1, whole ∙ rounds.2)
   where
     from : Advance
     from = fold (advance n home.0) (record { last = first; all = 0 }) between
 
-    whole : (fold (advance n home.0) (record { last = first; all = 0 }) (between ++ accepted_entry n l home b ∷ [])).all ≡ from.all + step_from (from.last % 65536) b.sequence
+    whole : (fold (advance n home.0) (record { last = first; all = 0 }) (between ++ accepted_entry n l home y b ∷ [])).all ≡ from.all + step_from (from.last % 65536) b.sequence
     whole =
-        ap (λ (a : Advance). a.all) (fold-append (advance n home.0) (record { last = first; all = 0 }) between (accepted_entry n l home b ∷ []) ∙ advance_own n l home b from)
+        ap (λ (a : Advance). a.all) (fold-append (advance n home.0) (record { last = first; all = 0 }) between (accepted_entry n l home y b ∷ []) ∙ advance_own n l home y b from)
 
     back : (first + (from.all + step_from (from.last % 65536) b.sequence)) % 65536 ≡ first % 65536
     back =

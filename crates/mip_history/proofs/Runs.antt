@@ -124,7 +124,7 @@ quiet_run s a b quiet run = record {
   kept = quiet.kept run.kept;
   pasts = λ n mine. by n (run.pasts n mine);
   parts = λ n home agent host.
-      subst (λ (life : PartLife). IsPart s b.past life n) (ap (λ (l : List (List (Stamped mobile_steps.Step))). part_life home (secrets_in s n 0) (slice_index_or l n [])) (sym quiet.mobiles))
+      subst (λ (life : PartLife). IsPart s b.past life n) (ap (λ (l : List (List (Stamped mobile_steps.Step))). part_life home s.numbers (secrets_in s n 0) (slice_index_or l n [])) (sym quiet.mobiles))
       (part_stays s a.past b.past (part_in s a n home) n (quiet.accepted n) quiet.moment (quiet.life n) (run.parts n home agent host));
 }
   where

@@ -1,41 +1,39 @@
--- Each row that is shown is that of the last acceptance of its home.
-use Rattle.std.proofs.Common.{◌≡◌, ℕ, ◌+◌, ◌<◌, ◌≤◌, List, [], ◌∷◌, ◌++◌, max, Bool, true, false, ltb, refl, sym, ap, ◌∙◌, subst, arith}
-use Rattle.std.specs.Prelude.{◌≢◌, map, ◌==◌, ◌&&◌, ◌||◌, Option, Some, None, option_map, if◌then◌else◌, slice_get}
-use Rattle.std.specs.List.{list_any, AllByRecursion}
-use Rattle.std.proofs.lemmas.List.{append_assoc}
-use Rattle.std.proofs.lemmas.Bool.{cond_both, cond-true, cond-false, or_parts, eq-eqb, ne_eqb, ltb-true}
+-- Each row that is shown is that of an acceptance that lives.
+use Rattle.std.proofs.Common.{◌≡◌, ℕ, ◌<◌, List, [], ◌∷◌, ◌++◌, Bool, true, false, ltb, refl, sym, ap, ◌∙◌, subst, arith}
+use Rattle.std.specs.Prelude.{◌≢◌, is_some, map, nat_lt, ◌==◌, Option, Some, None, if◌then◌else◌}
+use Rattle.std.specs.List.{flat_map, AllByRecursion}
+use Rattle.std.proofs.lemmas.Bool.{cond_both, cond-true, cond-false, eq-eqb, ne_eqb, ltb-true}
+use Rattle.std.proofs.lemmas.Bool.Decides.{nat_tests}
 use Rattle.mip_words.specs.declared.address.Address.{Address}
 use Rattle.mip_words.specs.declared.ids.NodeId.{NodeId}
 use Rattle.mip_words.specs.declared.moment.Moment.{Moment}
 use Rattle.mip_lists.specs.EachAfter.{EachAfter}
-use Rattle.mip_lists.specs.Last.{last_where, StandsLast}
 use Rattle.mip_lists.proofs.EachLaws.{each_at}
-use Rattle.mip_lists.proofs.LastLaws.{last_where-found}
-use Rattle.mip_binding.specs.Acceptance.{Acceptance, kept_until_of}
-use Rattle.mip_binding.specs.Held.{is_of, HomeKept, after_row, home_after}
-use Rattle.mip_binding.specs.Rows.{BindingRow, RisesBy, find_by, kept_by, kept_rows, row_of, table}
-use Rattle.mip_binding.proofs.RowLaws.{all-kept}
-use Rattle.mip_binding.proofs.TableLaws.{rises-table, home_after-table, home_after-last}
+use Rattle.mip_binding.specs.Acceptance.{Acceptance, Binding}
+use Rattle.mip_binding.specs.Rows.{BindingRow, RisesBy, find_by, kept_by, add_found, found_by, all_numbers}
+use Rattle.mip_binding.specs.Homes.{HomeKept, home_key, until_key, number_key, home_after, homes, kept_homes, shown_in, shown_home, shown_rows as rows_of}
+use Rattle.mip_binding.specs.Held.{floor, sequence_in, LivesIn}
+use Rattle.mip_binding.proofs.RowLaws.{all-kept, all-find}
+use Rattle.mip_binding.proofs.HomeLaws.{rises-homes, home_after-homes}
+use Rattle.mip_binding.proofs.LifeLaws.{AllLive, all-live}
 use Rattle.mip_bcache.specs.declared.row.Row.{Row}
-use Rattle.mip_bcache.specs.Seen.{CacheSeen, seen_row, kept_at}
-use Rattle.mip_bcache.proofs.Pasts.{kept_same}
+use Rattle.mip_bcache.specs.Seen.{seen_row, rows_at}
+use Rattle.mip_bcache.proofs.Pasts.{rows_same}
 use Rattle.mip_entries.specs.declared.entry.Entry.{Entry}
 use Rattle.mip_entries.specs.declared.entry.Entry.TheVariants as entries
 use Rattle.mip_entries.specs.Completed.{node_id}
 use Rattle.mip_entries.specs.Stamped.{Stamped}
-use Rattle.mip_rules_correspondent.specs.declared.known.Known.{Known}
 use Rattle.mip_rules_correspondent.specs.Steps.{Step}
 use Rattle.mip_rules_correspondent.specs.Pasts.{accepted_in}
 use Rattle.mip_rules_correspondent.specs.Questions.{known}
-use Rattle.mip_rules_correspondent.proofs.Acceptances.{cache-stands, early}
+use Rattle.mip_rules_correspondent.proofs.Acceptances.{cache-stands, cache-alike, early}
 use Rattle.mip_history.specs.Setup.{Setup}
 use Rattle.mip_history.specs.Questions.{moment_in}
 use Rattle.mip_history.specs.Nodes.{row_entry}
-use Rattle.mip_history.specs.Bound.{accepted_by, accepted_entry, is_accepted_for, HasAccepted}
-use Rattle.mip_history.specs.Shown.{kept_to, IsLastAcceptance}
+use Rattle.mip_history.specs.Bound.{accepted_by, accepted_entry, HasAccepted, Outlives}
+use Rattle.mip_history.specs.Shown.{until_of, kept_to, IsLastAcceptance}
 use Rattle.mip_history.proofs.Runs.{Meets, IsPast}
-use Rattle.mip_history.proofs.Places.{is_numbered_for, IsPlaced, placed}
-use Rattle.mip_history.proofs.Bindings.{each_rest, none_accepted}
+use Rattle.mip_history.proofs.Places.{IsPlaced, placed}
 
 all_two : {X : Type 0} (P Q R : X → Type 0) (xs : List X) → ((x : X) → P x → Q x → R x) → AllByRecursion P xs → AllByRecursion Q xs → AllByRecursion R xs
 all_two P Q R [] go ps qs = tt
@@ -67,45 +65,62 @@ kept_lasts until now [] = tt
 kept_lasts {X = X} until now (x ∷ xs) =
     cond_both (ltb now (until x)) (x ∷ kept_by until now xs) (kept_by until now xs) (AllByRecursion (λ (y : X). now < until y)) (λ lasts. (ltb-true now (until x) lasts, kept_lasts until now xs)) (λ over. kept_lasts until now xs)
 
--- a row is that of the last acceptance of its home
-record IsOfLast (xs : List Acceptance) (r : BindingRow) : Type 0 where
-  acceptance : Acceptance
-  before : List Acceptance
-  after : List Acceptance
-  whole : xs ≡ before ++ acceptance ∷ after
-  row : r ≡ row_of acceptance
-  last : list_any (λ a. a.home == r.home) after ≡ false
+-- a row is that of a binding that lives, of a home whose sequence is kept
+record IsOfLive (xs : List Acceptance) (now : ℕ) (r : BindingRow) : Type 0 where
+  home : ℕ
+  kept : HomeKept
+  found : home_after home xs ≡ Some kept
+  lasts : now < kept.until
+  binding : Binding
+  lives : LivesIn xs home binding
+  row : r ≡ shown_in kept binding
 
-abbrev live_of : Option HomeKept → List BindingRow
-live_of None = []
-live_of (Some kept) = kept.live
+all_append : {X : Type 0} (P : X → Type 0) (xs ys : List X) → AllByRecursion P xs → AllByRecursion P ys → AllByRecursion P (xs ++ ys)
+all_append P [] ys first second = second
+all_append P (x ∷ xs) ys first second = (first.0, all_append P xs ys first.1 second)
 
-row_last : (xs : List Acceptance) (r : BindingRow) → find_by (λ r. r.home) r.home (table xs) ≡ Some r → IsOfLast xs r
-row_last xs r found = by (last_where (λ (a : Acceptance). a.home == r.home) xs) refl
+-- what holds of all items holds of those that are found
+all_found : {X : Type 0} (P : X → Type 0) (key : X → ℕ) (xs : List X) (keys : List ℕ) → AllByRecursion P xs → AllByRecursion P (found_by key xs keys)
+all_found P key xs [] all = tt
+all_found {X = X} P key xs (k ∷ keys) all = by (find_by key k xs) (λ x is. all-find P key k xs x all is) (all_found P key xs keys all)
   where
-    both : option_map after_row (Some r) ≡ option_map (λ (a : Acceptance). after_row (row_of a)) (last_where (λ (a : Acceptance). a.home == r.home) xs)
-    both = ap (option_map after_row) (sym found) ∙ sym (home_after-table xs r.home) ∙ home_after-last xs r.home
+    by : (o : Option X) → ((x : X) → o ≡ Some x → P x) → AllByRecursion P (found_by key xs keys) → AllByRecursion P (add_found o (found_by key xs keys))
+    by None one more = more
+    by (Some x) one more = (one x refl, more)
 
-    by : (o : Option Acceptance) → last_where (λ (a : Acceptance). a.home == r.home) xs ≡ o → IsOfLast xs r
-    by None is = absurd (let e : r ∷ [] ≡ live_of (option_map (λ (a : Acceptance). after_row (row_of a)) None) = ap live_of (both ∙ ap (option_map (λ (a : Acceptance). after_row (row_of a))) is) in cc)
-    by (Some a) is =
-        let e : r ∷ [] ≡ row_of a ∷ [] = ap live_of (both ∙ ap (option_map (λ (a : Acceptance). after_row (row_of a))) is) in
-        let at : StandsLast (λ (a : Acceptance). a.home == r.home) xs a = last_where-found (λ (a : Acceptance). a.home == r.home) xs a is in
-        record { acceptance = a; before = at.before; after = at.after; whole = at.whole; row = cc; last = at.none_after }
+module _ (xs : List Acceptance) (now : ℕ) where
+  -- a home whose sequence is kept, and what is remembered of it
+  record IsRemembered (k : HomeKept) : Type 0 where
+    found : home_after k.home xs ≡ Some k
+    lasts : now < k.until
 
-rows_last : (xs : List Acceptance) → AllByRecursion (IsOfLast xs) (table xs)
-rows_last xs = all_of (table xs) (each_found (λ (r : BindingRow). r.home) (table xs) (rises-table xs))
-  where
-    all_of : (rows : List BindingRow) → AllByRecursion (λ (r : BindingRow). find_by (λ (r : BindingRow). r.home) r.home (table xs) ≡ Some r) rows → AllByRecursion (IsOfLast xs) rows
-    all_of [] all = tt
-    all_of (r ∷ rows) all = (row_last xs r all.0, all_of rows all.1)
+  home_live : (k : HomeKept) → IsRemembered k → AllByRecursion (IsOfLive xs now) (shown_home k)
+  home_live k is = all_map (shown_in k) (IsOfLive xs now) (found_by number_key k.live all_numbers) (all_of (found_by number_key k.live all_numbers) (all_found (LivesIn xs k.home) number_key k.live all_numbers lives))
+    where
+      lives : AllByRecursion (LivesIn xs k.home) k.live
+      lives = subst (AllLive xs k.home) is.found (all-live xs k.home)
 
--- no later acceptance of a home has its number either
-none_numbered : (home number : ℕ) (xs : List Acceptance) → list_any (λ a. a.home == home) xs ≡ false → list_any (is_of home number) xs ≡ false
-none_numbered home number [] none = refl
-none_numbered home number (a ∷ xs) none =
-    let parts = or_parts (a.home == home) (list_any (λ (a : Acceptance). a.home == home) xs) none in
-    ap (λ (b : Bool). (b && (a.number == number)) || list_any (is_of home number) xs) parts.0 ∙ none_numbered home number xs parts.1
+      all_of : (bs : List Binding) → AllByRecursion (LivesIn xs k.home) bs → AllByRecursion (λ (b : Binding). IsOfLive xs now (shown_in k b)) bs
+      all_of [] all = tt
+      all_of (b ∷ bs) all = (record { home = k.home; kept = k; found = is.found; lasts = is.lasts; binding = b; lives = all.0; row = refl }, all_of bs all.1)
+
+  homes_live : (ks : List HomeKept) → AllByRecursion IsRemembered ks → AllByRecursion (IsOfLive xs now) (flat_map shown_home ks)
+  homes_live [] all = tt
+  homes_live (k ∷ ks) all = all_append (IsOfLive xs now) (shown_home k) (flat_map shown_home ks) (home_live k all.0) (homes_live ks all.1)
+
+  remembered : AllByRecursion IsRemembered (kept_homes now (homes xs))
+  remembered =
+      all_two (λ (k : HomeKept). find_by home_key k.home (homes xs) ≡ Some k) (λ (k : HomeKept). now < k.until) IsRemembered (kept_homes now (homes xs))
+      (λ k found lasts. record { found = home_after-homes xs k.home ∙ found; lasts = lasts })
+      (all-kept (λ (k : HomeKept). find_by home_key k.home (homes xs) ≡ Some k) until_key now (homes xs) (each_found home_key (homes xs) (rises-homes xs)))
+      (kept_lasts until_key now (homes xs))
+
+  rows_live : AllByRecursion (IsOfLive xs now) (rows_of xs now)
+  rows_live = homes_live (kept_homes now (homes xs)) remembered
+
+kept_to-is : (s : Setup) (past : List Entry) (n home : ℕ) → kept_to s past n home ≡ until_of (home_after home (accepted_by s.start past n))
+unfolding kept_to
+kept_to-is s past n home = refl
 
 address_is : (a b : Address) → a.0 ≡ b.0 → a ≡ b
 address_is a b e = ap (λ (n : ℕ). let x : Address = record { 0 = n } in x) e
@@ -114,32 +129,27 @@ moment_is : (a b : Moment) → a.0 ≡ b.0 → a ≡ b
 moment_is a b e = ap (λ (n : ℕ). let x : Moment = record { 0 = n } in x) e
 
 module _ (s : Setup) (past : List Entry) (each : EachAfter (Meets s) [] past) (n : ℕ) where
-  abbrev xs : List Acceptance
-  xs = accepted_by s.start past n
-
   -- the entry of the acceptance
-  shown_at : (row : Row) (f : IsOfLast (accepted_by s.start past n) (seen_row row)) → moment_in s.start past < row.kept_until.0
-      → IsPlaced n row.home.0 f.acceptance.number f.acceptance s.start past → IsLastAcceptance s past n (row_entry n row)
-  shown_at row f lasts p =
+  shown_at : (row : Row) (f : IsOfLive (accepted_by s.start past n) (moment_in s.start past) (seen_row row)) → IsPlaced s n f.home f.lives.acceptance [] past → IsLastAcceptance s past n (row_entry n row)
+  shown_at row f p =
       record {
         before = p.before;
         number = m.number;
         home = m.home;
+        binding = m.binding;
         accepted = m.accepted;
         after = p.after;
-        whole = p.whole ∙ ap (λ (e : Entry). p.before ++ e ∷ p.after) (m.is ∙ ap (λ (k : ℕ). accepted_entry k m.number m.home m.accepted) node_is);
+        whole = p.whole ∙ ap (λ (e : Entry). p.before ++ e ∷ p.after) entry_is;
         shows =
             ap (λ (h : Address). entries.Row (node_id n) h row.number row.careof row.sequence row.end row.kept_until) home_same
             ∙ ap (λ (b : ℕ). entries.Row (node_id n) m.home b row.careof row.sequence row.end row.kept_until) number_same
-            ∙ ap (λ (h : Address). entries.Row (node_id n) m.home 0 h row.sequence row.end row.kept_until) careof_same
-            ∙ ap (λ (q : ℕ). entries.Row (node_id n) m.home 0 m.accepted.careof q row.end row.kept_until) sequence_same
-            ∙ ap (λ (t : Moment). entries.Row (node_id n) m.home 0 m.accepted.careof m.accepted.sequence t row.kept_until) end_same
-            ∙ ap (λ (t : Moment). entries.Row (node_id n) m.home 0 m.accepted.careof m.accepted.sequence m.accepted.end t) kept_same_moment;
-        kept = subst (λ (t : ℕ). moment_in s.start past < t) kept_is lasts;
+            ∙ ap (λ (h : Address). entries.Row (node_id n) m.home m.binding h row.sequence row.end row.kept_until) careof_same
+            ∙ ap (λ (q : ℕ). entries.Row (node_id n) m.home m.binding m.accepted.careof q row.end row.kept_until) sequence_same
+            ∙ ap (λ (t : Moment). entries.Row (node_id n) m.home m.binding m.accepted.careof m.accepted.sequence t row.kept_until) end_same
+            ∙ ap (λ (t : Moment). entries.Row (node_id n) m.home m.binding m.accepted.careof m.accepted.sequence m.accepted.end t) kept_same;
+        kept = subst (λ (t : ℕ). moment_in s.start past < t) until_is f.lasts;
         this_life = p.this_life;
-        last = none_accepted s n m.home.0 (p.before ++ entry ∷ []) p.after behind
-            (subst (λ (number : ℕ). list_any (is_numbered_for n m.home.0 number) p.after ≡ false) (sym (ap (λ (a : Acceptance). a.number) p.is) ∙ binding_is)
-            (subst (λ (h : ℕ). list_any (is_numbered_for n h f.acceptance.number) p.after ≡ false) (ap (λ (h : Address). h.0) home_same) p.none_after));
+        lives = outlived;
       }
     where
       entry : Entry
@@ -150,9 +160,6 @@ module _ (s : Setup) (past : List Entry) (each : EachAfter (Meets s) [] past) (n
 
       m : HasAccepted s p.before (entries.Accepted p.node p.k p.of p.binding p.careof p.sequence p.end p.i p.j)
       m = each_at (Meets s) [] p.before (entries.Accepted p.node p.k p.of p.binding p.careof p.sequence p.end p.i p.j) p.after split
-
-      behind : EachAfter (Meets s) (p.before ++ entry ∷ []) p.after
-      behind = each_rest (Meets s) [] (p.before ++ entry ∷ []) p.after (subst (λ (l : List Entry). EachAfter (Meets s) [] l) (sym (append_assoc p.before (entry ∷ []) p.after)) split)
 
       home_is : p.of ≡ m.home
       home_is = let e = m.is in cc
@@ -166,62 +173,82 @@ module _ (s : Setup) (past : List Entry) (each : EachAfter (Meets s) [] past) (n
       end_is : p.end ≡ m.accepted.end
       end_is = let e = m.is in cc
 
-      binding_is : p.binding ≡ 0
+      binding_is : p.binding ≡ m.binding
       binding_is = let e = m.is in cc
 
       node_is : m.node ≡ n
       node_is = let e = m.is in let same : p.node ≡ node_id m.node = cc in sym (p.of_node ∙ ap (λ (x : NodeId). x.0) same)
 
+      entry_is : entries.Accepted p.node p.k p.of p.binding p.careof p.sequence p.end p.i p.j ≡ accepted_entry n m.number m.home m.binding m.accepted
+      entry_is = m.is ∙ ap (λ (k : ℕ). accepted_entry k m.number m.home m.binding m.accepted) node_is
+
+      -- the home is one
+      home_one : f.home ≡ m.home.0
+      home_one = sym (ap (λ (a : Acceptance). a.home) p.is ∙ f.lives.of_home) ∙ ap (λ (h : Address). h.0) home_is
+
       -- the row has what the acceptance has
       home_same : row.home ≡ m.home
-      home_same = address_is row.home p.of (ap (λ (r : BindingRow). r.home) f.row ∙ sym (ap (λ (a : Acceptance). a.home) p.is)) ∙ home_is
+      home_same = address_is row.home p.of (ap (λ (r : BindingRow). r.home) f.row ∙ sym (ap (λ (a : Acceptance). a.home) p.is ∙ ap (λ (b : Binding). b.home) f.lives.is)) ∙ home_is
 
-      number_same : row.number ≡ 0
-      number_same = ap (λ (r : BindingRow). r.number) f.row ∙ sym (ap (λ (a : Acceptance). a.number) p.is) ∙ binding_is
+      number_same : row.number ≡ m.binding
+      number_same = ap (λ (r : BindingRow). r.number) f.row ∙ sym (ap (λ (a : Acceptance). a.number) p.is ∙ ap (λ (b : Binding). b.number) f.lives.is) ∙ binding_is
 
       careof_same : row.careof ≡ m.accepted.careof
-      careof_same = address_is row.careof p.careof (ap (λ (r : BindingRow). r.careof) f.row ∙ sym (ap (λ (a : Acceptance). a.careof) p.is)) ∙ careof_is
+      careof_same = address_is row.careof p.careof (ap (λ (r : BindingRow). r.careof) f.row ∙ sym (ap (λ (a : Acceptance). a.careof) p.is ∙ ap (λ (b : Binding). b.careof) f.lives.is)) ∙ careof_is
 
       sequence_same : row.sequence ≡ m.accepted.sequence
-      sequence_same = ap (λ (r : BindingRow). r.sequence) f.row ∙ sym (ap (λ (a : Acceptance). a.sequence) p.is) ∙ sequence_is
+      sequence_same = ap (λ (r : BindingRow). r.sequence) f.row ∙ sym (ap (λ (a : Acceptance). a.sequence) p.is ∙ ap (λ (b : Binding). b.sequence) f.lives.is) ∙ sequence_is
 
       end_same : row.end ≡ m.accepted.end
-      end_same = moment_is row.end p.end (ap (λ (r : BindingRow). r.end) f.row ∙ sym (ap (λ (a : Acceptance). a.end) p.is)) ∙ end_is
+      end_same = moment_is row.end p.end (ap (λ (r : BindingRow). r.end) f.row ∙ sym (ap (λ (a : Acceptance). a.end) p.is ∙ ap (λ (b : Binding). b.end) f.lives.is)) ∙ end_is
 
-      kept_is : row.kept_until.0 ≡ kept_to s p.before m.accepted
-      kept_is =
-          ap (λ (r : BindingRow). r.kept_until) f.row
-          ∙ sym (ap kept_until_of p.is)
-          ∙ ap (λ (t : ℕ). max p.end.0 (t + 240000)) p.moment
-          ∙ ap (λ (t : Moment). max t.0 (moment_in s.start p.before + 240000)) end_is
+      -- the sequence is kept to the moment of the row
+      until_is : f.kept.until ≡ kept_to s past n m.home.0
+      until_is =
+          sym (ap until_of f.found) ∙ ap (λ (h : ℕ). until_of (home_after h (accepted_by s.start past n))) home_one
+          ∙ sym (kept_to-is s past n m.home.0)
 
-      kept_same_moment : row.kept_until ≡ record { 0 = kept_to s p.before m.accepted }
-      kept_same_moment = moment_is row.kept_until (record { 0 = kept_to s p.before m.accepted }) kept_is
+      kept_same : row.kept_until ≡ record { 0 = kept_to s past n m.home.0 }
+      kept_same = moment_is row.kept_until (record { 0 = kept_to s past n m.home.0 }) (ap (λ (r : BindingRow). r.kept_until) f.row ∙ until_is)
 
-  shown_row : (row : Row) → IsOfLast (accepted_by s.start past n) (seen_row row) → moment_in s.start past < row.kept_until.0 → IsLastAcceptance s past n (row_entry n row)
-  unfolding accepted_by
-  shown_row row f lasts =
-      shown_at row f lasts
-      (placed n row.home.0 f.acceptance.number f.acceptance s.start past f.before f.after f.whole (none_numbered row.home.0 f.acceptance.number f.after f.last))
+      outlived : EachAfter (Outlives s n m.home.0 m.binding) (p.before ++ accepted_entry n m.number m.home m.binding m.accepted ∷ []) p.after
+      outlived =
+          subst (λ (e : Entry). EachAfter (Outlives s n m.home.0 m.binding) (p.before ++ e ∷ []) p.after) entry_is
+          (subst (λ (h : ℕ). EachAfter (Outlives s n h m.binding) (p.before ++ entry ∷ []) p.after) home_one
+          (subst (λ (number : ℕ). EachAfter (Outlives s n f.home number) (p.before ++ entry ∷ []) p.after) (sym (ap (λ (a : Acceptance). a.number) p.is) ∙ binding_is) p.outlives))
 
-  -- rows that are those of the table
-  pub shown_rows : (rows : List Row) → map seen_row rows ≡ kept_rows (moment_in s.start past) (table (accepted_by s.start past n)) → AllByRecursion (IsLastAcceptance s past n) (map (row_entry n) rows)
+  shown_row : (row : Row) → IsOfLive (accepted_by s.start past n) (moment_in s.start past) (seen_row row) → IsLastAcceptance s past n (row_entry n row)
+  shown_row row f = shown_at row f (placed s n f.home f.lives.acceptance past f.lives.before f.lives.after f.lives.whole f.lives.lives)
+
+  -- rows that are those of the acceptances
+  pub shown_rows : (rows : List Row) → map seen_row rows ≡ rows_of (accepted_by s.start past n) (moment_in s.start past) → AllByRecursion (IsLastAcceptance s past n) (map (row_entry n) rows)
   shown_rows rows are =
-      let until : BindingRow → ℕ = λ r. r.kept_until in
+      let xs : List Acceptance = accepted_by s.start past n in
       let now : ℕ = moment_in s.start past in
-      let lasts : AllByRecursion (λ (r : BindingRow). now < r.kept_until) (map seen_row rows) =
-      subst (AllByRecursion (λ (r : BindingRow). now < r.kept_until)) (sym are) (kept_lasts until now (table (accepted_by s.start past n))) in
-      let last : AllByRecursion (IsOfLast (accepted_by s.start past n)) (map seen_row rows) =
-      subst (AllByRecursion (IsOfLast (accepted_by s.start past n))) (sym are) (all-kept (IsOfLast (accepted_by s.start past n)) until now (table (accepted_by s.start past n)) (rows_last (accepted_by s.start past n))) in
       all_map (row_entry n) (IsLastAcceptance s past n) rows
-      (all_two (λ (r : Row). IsOfLast (accepted_by s.start past n) (seen_row r)) (λ (r : Row). now < r.kept_until.0) (λ (r : Row). IsLastAcceptance s past n (row_entry n r)) rows
-      (λ r f later. shown_row r f later)
-      (all_unmap seen_row (IsOfLast (accepted_by s.start past n)) rows last)
-      (all_unmap seen_row (λ (r : BindingRow). now < r.kept_until) rows lasts))
+      (all_one rows (all_unmap seen_row (IsOfLive xs now) rows (subst (AllByRecursion (IsOfLive xs now)) (sym are) (rows_live xs now))))
+    where
+      all_one : (rows : List Row) → AllByRecursion (λ (r : Row). IsOfLive (accepted_by s.start past n) (moment_in s.start past) (seen_row r)) rows → AllByRecursion (λ (r : Row). IsLastAcceptance s past n (row_entry n r)) rows
+      all_one [] all = tt
+      all_one (r ∷ rows) all = (shown_row r all.0, all_one rows all.1)
 
 -- what a past of a correspondent keeps
 pub past_rows : (s : Setup) (past : List Entry) (steps : List (Stamped Step)) (n room : ℕ) → IsPast s past steps n
-    → map seen_row (kept_at (known room steps).cache (moment_in s.start past)) ≡ kept_rows (moment_in s.start past) (table (accepted_by s.start past n))
+    → map seen_row (rows_at (known room s.numbers steps).cache (moment_in s.start past)) ≡ rows_of (accepted_by s.start past n) (moment_in s.start past)
 past_rows s past steps n room is =
-    kept_same (known room steps).cache (accepted_in steps) (cache-stands room steps is.rises) (moment_in s.start past) (early room steps is.rises (moment_in s.start past) (record { 0 = 0 }) is.early)
-    ∙ ap (λ (l : List Acceptance). kept_rows (moment_in s.start past) (table l)) is.accepted
+    rows_same (known room s.numbers steps).cache (accepted_in steps) (cache-stands room s.numbers steps is.rises) (moment_in s.start past) (early room s.numbers steps is.rises (moment_in s.start past) (record { 0 = 0 }) is.early)
+    (cache-alike room s.numbers steps is.rises)
+    ∙ ap (λ (l : List Acceptance). rows_of l (moment_in s.start past)) is.accepted
+
+-- the sequence of a home is kept to this moment, and no longer
+pub kept_to-floor : (s : Setup) (past : List Entry) (n home now : ℕ) → is_some (floor (accepted_by s.start past n) home now) ≡ nat_lt now (kept_to s past n home)
+unfolding floor kept_to
+kept_to-floor s past n home now = by (home_after home (accepted_by s.start past n))
+  where
+    some : (k : HomeKept) (b : Bool) → is_some (if b then Some k.sequence else None) ≡ b
+    some k true = refl
+    some k false = refl
+
+    by : (o : Option HomeKept) → is_some (sequence_in now o) ≡ nat_lt now (until_of o)
+    by None = grind (arith, nat_tests)
+    by (Some k) = some k (nat_lt now k.until)

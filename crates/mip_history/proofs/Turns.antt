@@ -54,7 +54,7 @@ unfolding accepted_in
 accepted_turn past turn = flat_map-append (λ (t : Stamped Step). acceptance_in t.at t.step) past turn
 
 none_in : (at : ℕ) (step : Step) → is_acceptance step ≡ false → acceptance_in at step ≡ []
-none_in at (Accepts number home accepted) none = absurd cc
+none_in at (Accepts number home binding accepted) none = absurd cc
 none_in at _ none = refl
 
 none_accepted : (at : ℕ) (steps : List Step) → list_any is_acceptance steps ≡ false → accepted_in (stamped at steps) ≡ []
@@ -87,57 +87,57 @@ quiet_past s past old n steps none p = record {
 }
 
 -- the history with one acceptance more
-pub accepted_more : (start n k : ℕ) (past : List Entry) (home : Address) (a : Accepted)
-    → accepted_by start (past ++ accepted_entry n k home a ∷ []) n ≡ accepted_by start past n ++ acceptance (moment_in start past) home 0 a ∷ []
+pub accepted_more : (start n k : ℕ) (past : List Entry) (home : Address) (binding : ℕ) (a : Accepted)
+    → accepted_by start (past ++ accepted_entry n k home binding a ∷ []) n ≡ accepted_by start past n ++ acceptance (moment_in start past) home binding a ∷ []
 unfolding accepted_by
-accepted_more start n k past home a =
-    ap (λ (l : Lived). l.accepted) (fold-append (lived n) (record { at = start; accepted = [] }) past (accepted_entry n k home a ∷ []))
+accepted_more start n k past home binding a =
+    ap (λ (l : Lived). l.accepted) (fold-append (lived n) (record { at = start; accepted = [] }) past (accepted_entry n k home binding a ∷ []))
     ∙ by (fold (lived n) (record { at = start; accepted = [] }) past) (lived_at n (record { at = start; accepted = [] }) past) (n == n) (eq-eqb n n refl)
   where
     by : (l : Lived) → l.at ≡ moment_in start past → (b : Bool) → b ≡ true
-        → (let x : Lived = (if b then record { at = l.at; accepted = l.accepted ++ acceptance l.at home 0 a ∷ [] } else l) in x.accepted) ≡ l.accepted ++ acceptance (moment_in start past) home 0 a ∷ []
-    by l at true is = ap (λ (m : ℕ). l.accepted ++ acceptance m home 0 a ∷ []) at
+        → (let x : Lived = (if b then record { at = l.at; accepted = l.accepted ++ acceptance l.at home binding a ∷ [] } else l) in x.accepted) ≡ l.accepted ++ acceptance (moment_in start past) home binding a ∷ []
+    by l at true is = ap (λ (m : ℕ). l.accepted ++ acceptance m home binding a ∷ []) at
     by l at false is = absurd cc
 
-pub accepted_moment : (start n k : ℕ) (past : List Entry) (home : Address) (a : Accepted) → moment_in start (past ++ accepted_entry n k home a ∷ []) ≡ moment_in start past
-accepted_moment start n k past home a = fold-append (λ (at : ℕ) (x : Entry). unwrap_or (moment_says x) at) start past (accepted_entry n k home a ∷ [])
+pub accepted_moment : (start n k : ℕ) (past : List Entry) (home : Address) (binding : ℕ) (a : Accepted) → moment_in start (past ++ accepted_entry n k home binding a ∷ []) ≡ moment_in start past
+accepted_moment start n k past home binding a = fold-append (λ (at : ℕ) (x : Entry). unwrap_or (moment_says x) at) start past (accepted_entry n k home binding a ∷ [])
 
-pub accepted_lives : (n k : ℕ) (past : List Entry) (home : Address) (a : Accepted) (m : ℕ) → life_in (past ++ accepted_entry n k home a ∷ []) m ≡ life_in past m
-accepted_lives n k past home a m = fold-append (restarts m) 0 past (accepted_entry n k home a ∷ [])
+pub accepted_lives : (n k : ℕ) (past : List Entry) (home : Address) (binding : ℕ) (a : Accepted) (m : ℕ) → life_in (past ++ accepted_entry n k home binding a ∷ []) m ≡ life_in past m
+accepted_lives n k past home binding a m = fold-append (restarts m) 0 past (accepted_entry n k home binding a ∷ [])
 
 -- and its packets are the same
-pub accepted_kept : (s : Setup) (past : List Entry) (posts : List Post) (n k : ℕ) (home : Address) (a : Accepted) → IsAccepted s past n k home a → IsKept s past posts → IsKept s (past ++ accepted_entry n k home a ∷ []) posts
-accepted_kept s past posts n k home a stands kept = record {
-  packets = filter_map-append packet_posted past (accepted_entry n k home a ∷ []) ∙ append-nil (packets_of past) ∙ kept.packets;
-  each = each-append (Meets s) [] past (accepted_entry n k home a ∷ []) kept.each
-      (record { node = n; number = k; home = home; accepted = a; is = refl; stands = stands }, tt);
+pub accepted_kept : (s : Setup) (past : List Entry) (posts : List Post) (n k : ℕ) (home : Address) (binding : ℕ) (a : Accepted) → IsAccepted s past n k home binding a → IsKept s past posts → IsKept s (past ++ accepted_entry n k home binding a ∷ []) posts
+accepted_kept s past posts n k home binding a stands kept = record {
+  packets = filter_map-append packet_posted past (accepted_entry n k home binding a ∷ []) ∙ append-nil (packets_of past) ∙ kept.packets;
+  each = each-append (Meets s) [] past (accepted_entry n k home binding a ∷ []) kept.each
+      (record { node = n; number = k; home = home; binding = binding; accepted = a; is = refl; stands = stands }, tt);
 }
 
-pub accepted_other : (start m n k : ℕ) (past : List Entry) (home : Address) (a : Accepted) → m ≢ n
-    → accepted_by start (past ++ accepted_entry n k home a ∷ []) m ≡ accepted_by start past m
+pub accepted_other : (start m n k : ℕ) (past : List Entry) (home : Address) (binding : ℕ) (a : Accepted) → m ≢ n
+    → accepted_by start (past ++ accepted_entry n k home binding a ∷ []) m ≡ accepted_by start past m
 unfolding accepted_by
-accepted_other start m n k past home a other =
-    ap (λ (l : Lived). l.accepted) (fold-append (lived m) (record { at = start; accepted = [] }) past (accepted_entry n k home a ∷ []))
+accepted_other start m n k past home binding a other =
+    ap (λ (l : Lived). l.accepted) (fold-append (lived m) (record { at = start; accepted = [] }) past (accepted_entry n k home binding a ∷ []))
     ∙ by (fold (lived m) (record { at = start; accepted = [] }) past) (m == n) (ne_eqb m n other)
   where
-    by : (l : Lived) (b : Bool) → b ≡ false → (let x : Lived = (if b then record { at = l.at; accepted = l.accepted ++ acceptance l.at home 0 a ∷ [] } else l) in x.accepted) ≡ l.accepted
+    by : (l : Lived) (b : Bool) → b ≡ false → (let x : Lived = (if b then record { at = l.at; accepted = l.accepted ++ acceptance l.at home binding a ∷ [] } else l) in x.accepted) ≡ l.accepted
     by l true is = absurd cc
     by l false is = refl
 
 -- a past goes on by a turn in which an update is accepted, and so does the history
-pub accepting_past : (s : Setup) (past : List Entry) (old : List (Stamped Step)) (n number : ℕ) (home : Address) (a : Accepted) (call : Call) (rest : List Step) → list_any is_acceptance rest ≡ false → IsPast s past old n
-    → IsPast s (past ++ accepted_entry n number home a ∷ []) (old ++ stamped (moment_in s.start past) (Called call ∷ Accepts number home a ∷ rest)) n
+pub accepting_past : (s : Setup) (past : List Entry) (old : List (Stamped Step)) (n number : ℕ) (home : Address) (binding : ℕ) (a : Accepted) (call : Call) (rest : List Step) → list_any is_acceptance rest ≡ false → IsPast s past old n
+    → IsPast s (past ++ accepted_entry n number home binding a ∷ []) (old ++ stamped (moment_in s.start past) (Called call ∷ Accepts number home binding a ∷ rest)) n
 unfolding accepted_in
-accepting_past s past old n number home a call rest none p = record {
+accepting_past s past old n number home binding a call rest none p = record {
   accepted =
-      accepted_turn old (stamped (moment_in s.start past) (Called call ∷ Accepts number home a ∷ rest))
-      ∙ ap (λ (l : List Acceptance). accepted_in old ++ acceptance (moment_in s.start past) home 0 a ∷ l) (none_accepted (moment_in s.start past) rest none)
-      ∙ ap (λ (l : List Acceptance). l ++ acceptance (moment_in s.start past) home 0 a ∷ []) p.accepted
-      ∙ sym (accepted_more s.start n number past home a);
-  rises = rises_turn 0 (moment_in s.start past) old (Called call ∷ Accepts number home a ∷ rest) (omega arith) p.early p.rises;
+      accepted_turn old (stamped (moment_in s.start past) (Called call ∷ Accepts number home binding a ∷ rest))
+      ∙ ap (λ (l : List Acceptance). accepted_in old ++ acceptance (moment_in s.start past) home binding a ∷ l) (none_accepted (moment_in s.start past) rest none)
+      ∙ ap (λ (l : List Acceptance). l ++ acceptance (moment_in s.start past) home binding a ∷ []) p.accepted
+      ∙ sym (accepted_more s.start n number past home binding a);
+  rises = rises_turn 0 (moment_in s.start past) old (Called call ∷ Accepts number home binding a ∷ rest) (omega arith) p.early p.rises;
   early =
-      subst (λ (at : ℕ). AllByRecursion (λ t. t.at ≤ at) (old ++ stamped (moment_in s.start past) (Called call ∷ Accepts number home a ∷ rest))) (sym (accepted_moment s.start n number past home a))
-      (early_turn (moment_in s.start past) old (Called call ∷ Accepts number home a ∷ rest) p.early);
+      subst (λ (at : ℕ). AllByRecursion (λ t. t.at ≤ at) (old ++ stamped (moment_in s.start past) (Called call ∷ Accepts number home binding a ∷ rest))) (sym (accepted_moment s.start n number past home binding a))
+      (early_turn (moment_in s.start past) old (Called call ∷ Accepts number home binding a ∷ rest) p.early);
 }
 
 -- what a node does in a turn, from the history before it
@@ -153,15 +153,15 @@ abbrev pub mark_of_accepted : ℕ → ℕ → Address → Accepted → List Entr
 mark_of_accepted n number home a past =
     mark_entry (mark_in past (record { node = node_id n; number = number; home = home; careof = a.careof; home_index = index_of a.home_nonce; careof_index = option_map index_of a.careof_nonce }))
 
-abbrev pub marked_with : ℕ → ℕ → Address → Accepted → Run → List Entry → Run
-marked_with n number home a run past = at_past (past ++ accepted_entry n number home a ∷ mark_of_accepted n number home a past ∷ []) run
+abbrev pub marked_with : ℕ → ℕ → Address → ℕ → Accepted → Run → List Entry → Run
+marked_with n number home binding a run past = at_past (past ++ accepted_entry n number home binding a ∷ mark_of_accepted n number home a past ∷ []) run
 
-pub quiet_mark : (s : Setup) (n number : ℕ) (home : Address) (a : Accepted) (past : List Entry) (run : Run) → run.past ≡ past ++ accepted_entry n number home a ∷ []
-    → IsQuiet s run (marked_with n number home a run past)
-quiet_mark s n number home a past run is =
+pub quiet_mark : (s : Setup) (n number : ℕ) (home : Address) (binding : ℕ) (a : Accepted) (past : List Entry) (run : Run) → run.past ≡ past ++ accepted_entry n number home binding a ∷ []
+    → IsQuiet s run (marked_with n number home binding a run past)
+quiet_mark s n number home binding a past run is =
     let mark : Entry = mark_of_accepted n number home a past in
     let update : AcceptedUpdate = record { node = node_id n; number = number; home = home; careof = a.careof; home_index = index_of a.home_nonce; careof_index = option_map index_of a.careof_nonce } in
-    subst (λ (l : List Entry). IsQuiet s run (at_past l run)) (ap (λ (l : List Entry). l ++ mark ∷ []) is ∙ append_assoc past (accepted_entry n number home a ∷ []) (mark ∷ []))
+    subst (λ (l : List Entry). IsQuiet s run (at_past l run)) (ap (λ (l : List Entry). l ++ mark ∷ []) is ∙ append_assoc past (accepted_entry n number home binding a ∷ []) (mark ∷ []))
     (quiet_notes s (mark ∷ []) run (ap (λ (b : Bool). b || false) (mark_quiet (mark_in past update))))
 
 module _ (s : Setup) (n from : ℕ) (run : Run) (is : IsRun s run) (inside : n < length s.hosts) (corresponds : is_correspondent_at s n ≡ true) where
@@ -212,24 +212,24 @@ module _ (s : Setup) (n from : ℕ) (run : Run) (is : IsRun s run) (inside : n <
       refl (λ m. refl)
       (quiet_steps s n from middle steps none)
 
-  pub accepting_turn : (call : Call) (number : ℕ) (home : Address) (a : Accepted) (rest : List Step) → list_any is_acceptance rest ≡ false
-      → IsAccepted s run.past n number home a
-      → Goes s run (done s n from (moment_in s.start run.past) (Called call ∷ Accepts number home a ∷ rest) run)
+  pub accepting_turn : (call : Call) (number : ℕ) (home : Address) (binding : ℕ) (a : Accepted) (rest : List Step) → list_any is_acceptance rest ≡ false
+      → IsAccepted s run.past n number home binding a
+      → Goes s run (done s n from (moment_in s.start run.past) (Called call ∷ Accepts number home binding a ∷ rest) run)
   unfolding answered
-  accepting_turn call number home a rest none stands =
-      quietly middle (answered s n from (marked_with n number home a middle run.past) (answers_of rest))
-      (goes_on steps (run.past ++ accepted_entry n number home a ∷ [])
-      (accepting_past s run.past (past_at run n) n number home a call rest none (is.pasts n corresponds))
-      (λ m other. accepted_other s.start m n number run.past home a other)
-      (accepted_moment s.start n number run.past home a) (accepted_lives n number run.past home a)
-      (accepted_kept s run.past run.posts n number home a stands is.kept))
-      (accepted_moment s.start n number run.past home a) (accepted_lives n number run.past home a)
-      (quiet_then s middle (marked_with n number home a middle run.past) (answered s n from (marked_with n number home a middle run.past) (answers_of rest))
-      (quiet_mark s n number home a run.past middle refl)
-      (quiet_steps s n from (marked_with n number home a middle run.past) rest none))
+  accepting_turn call number home binding a rest none stands =
+      quietly middle (answered s n from (marked_with n number home binding a middle run.past) (answers_of rest))
+      (goes_on steps (run.past ++ accepted_entry n number home binding a ∷ [])
+      (accepting_past s run.past (past_at run n) n number home binding a call rest none (is.pasts n corresponds))
+      (λ m other. accepted_other s.start m n number run.past home binding a other)
+      (accepted_moment s.start n number run.past home binding a) (accepted_lives n number run.past home binding a)
+      (accepted_kept s run.past run.posts n number home binding a stands is.kept))
+      (accepted_moment s.start n number run.past home binding a) (accepted_lives n number run.past home binding a)
+      (quiet_then s middle (marked_with n number home binding a middle run.past) (answered s n from (marked_with n number home binding a middle run.past) (answers_of rest))
+      (quiet_mark s n number home binding a run.past middle refl)
+      (quiet_steps s n from (marked_with n number home binding a middle run.past) rest none))
     where
       steps : List Step
-      steps = Called call ∷ Accepts number home a ∷ rest
+      steps = Called call ∷ Accepts number home binding a ∷ rest
 
       middle : Run
-      middle = at_past (run.past ++ accepted_entry n number home a ∷ []) (with_past n (past_at run n ++ stamped (moment_in s.start run.past) steps) run)
+      middle = at_past (run.past ++ accepted_entry n number home binding a ∷ []) (with_past n (past_at run n ++ stamped (moment_in s.start run.past) steps) run)

@@ -8,7 +8,7 @@ use Rattle.mip_words.specs.declared.address.Address.{Address}
 use Rattle.mip_words.specs.declared.ids.LinkId.{LinkId}
 use Rattle.mip_words.specs.declared.ids.NodeId.{NodeId}
 use Rattle.mip_bcache.specs.declared.row.Row.{Row}
-use Rattle.mip_bcache.specs.Seen.{kept_at}
+use Rattle.mip_bcache.specs.Seen as caches
 use Rattle.mip_entries.specs.declared.entry.Entry.{Entry}
 use Rattle.mip_entries.specs.declared.entry.Entry.TheVariants as entries
 use Rattle.mip_entries.specs.Completed.{node_id}
@@ -66,9 +66,9 @@ homes_idle n [] = refl
 homes_idle n (r ∷ rows) = homes_idle n rows
 
 kind_idle : (s : Setup) (n : ℕ) (own : Address) (run : Run) (kind : Kind) → list_any is_busy (rows_by_kind s n own run kind) ≡ false
-kind_idle s n own run (Correspondent room) = rows_idle n (kept_at (known_in run n room).cache (now_in s run))
+kind_idle s n own run (Correspondent room) = rows_idle n (caches.rows_at (known_in s run n room).cache (now_in s run))
 kind_idle s n own run (Agent preference life room serves) = homes_idle n (rows_at (now_in s run) (agent_known_in run n serves).homes)
-kind_idle s n own run (Mobile agent) = rows_idle n (kept_at (mobile_known_in s run n own agent).part.known.cache (now_in s run))
+kind_idle s n own run (Mobile agent) = rows_idle n (caches.rows_at (mobile_known_in s run n own agent).part.known.cache (now_in s run))
 
 pool_posted : (flies : Bool) (posts : List Post) (k : ℕ) (post : Post) → (if flies then slice_get posts k else None) ≡ Some post → slice_get posts k ≡ Some post
 pool_posted true posts k post e = e

@@ -43,8 +43,8 @@ advanced n home last es = (fold (advance n home) (record { last = last; all = 0 
 -- once or more
 abbrev pub RepeatsAfterRounds : Setup → List Entry → Type 0
 RepeatsAfterRounds s past =
-    (before between after : List Entry) (n k l : ℕ) (home : Address) (a b : Accepted)
-    → past ≡ before ++ accepted_entry n k home a ∷ between ++ accepted_entry n l home b ∷ after
+    (before between after : List Entry) (n k l : ℕ) (home : Address) (x y : ℕ) (a b : Accepted)
+    → past ≡ before ++ accepted_entry n k home x a ∷ between ++ accepted_entry n l home y b ∷ after
     → list_any (is_restart_of n) between ≡ false
     → IsRepeat past k l
-    → (rounds : ℕ) × (0 < rounds) × (advanced n home.0 a.sequence (between ++ accepted_entry n l home b ∷ []) ≡ rounds * 65536)
+    → (rounds : ℕ) × (0 < rounds) × (advanced n home.0 a.sequence (between ++ accepted_entry n l home y b ∷ []) ≡ rounds * 65536)

@@ -32,8 +32,8 @@ secrets_in s n life = record { seed = s.seed; node = n; life = life }
 abbrev pub identity_in : Setup → Run → ℕ → Address → ℕ → Identity
 identity_in s run n own room = record { own = own; secrets = secrets_in s n (life_in run.past n); room = room }
 
-abbrev pub known_in : Run → ℕ → ℕ → Known
-known_in run n room = known room (past_at run n)
+abbrev pub known_in : Setup → Run → ℕ → ℕ → Known
+known_in s run n room = known room s.numbers (past_at run n)
 
 -- agent n, and what it knows in its present life
 abbrev pub agent_of : Address → (preference life room : ℕ) → agent.Identity
@@ -44,11 +44,11 @@ agent_known_in run n serves = agent_questions.known serves (agent_past_at run n)
 
 -- what mobile n knows, through all its lives
 abbrev pub mobile_known_in : Setup → Run → ℕ → (home : Address) → (agent : Option Address) → mobiles.Known
-mobile_known_in s run n home agent = mobile_questions.known home agent (secrets_in s n 0) (mobile_past_at run n)
+mobile_known_in s run n home agent = mobile_questions.known home agent s.numbers (secrets_in s n 0) (mobile_past_at run n)
 
 -- the correspondent part of mobile n, since it last restarted
 abbrev pub part_in : Setup → Run → ℕ → (home : Address) → PartLife
-part_in s run n home = part_life home (secrets_in s n 0) (mobile_past_at run n)
+part_in s run n home = part_life home s.numbers (secrets_in s n 0) (mobile_past_at run n)
 
 -- the link on which a mobile with this home stands
 abbrev pub stands_on : Setup → Run → ℕ → (home : Address) → Option ℕ

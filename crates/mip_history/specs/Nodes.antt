@@ -1,7 +1,7 @@
 -- What a node does in a turn, and what becomes of it in the run.
 use Rattle.std.specs.Prelude.{ℕ, List, [], ◌∷◌, length, fold, map, Option, Some, None, is_some, unwrap_or, slice_get}
 use Rattle.mip_words.specs.declared.address.Address.{Address}
-use Rattle.mip_bcache.specs.Seen.{kept_at}
+use Rattle.mip_bcache.specs.Seen as caches
 use Rattle.mip_bcache.specs.declared.row.Row.{Row}
 use Rattle.mip_entries.specs.declared.answer.Answer.{Answer}
 use Rattle.mip_entries.specs.declared.answer.Answer.TheVariants.{Send, Note}
@@ -79,7 +79,7 @@ asks does (Some call) run = does call run
 -- node n does what it does about a call
 abbrev pub by_kind : Setup → ℕ → Address → Call → Run → Kind → Run
 by_kind s n own call run (Correspondent room) =
-    asks (λ c run. turned s n own (correspondent_doing.turn_of (identity_in s run n own room) (known_in run n room) (now_in s run) c) run) (for_correspondent call) run
+    asks (λ c run. turned s n own (correspondent_doing.turn_of (identity_in s run n own room) (known_in s run n room) (now_in s run) c) run) (for_correspondent call) run
 by_kind s n own call run (Agent preference life room serves) =
     asks (λ c run. agent_turned s n own (agent_doing.turn_of (agent_of own preference life room) (agent_known_in run n serves) (now_in s run) c) run)
     (for_agent (around_in run n None) call) run
@@ -103,14 +103,14 @@ abbrev pub home_entry : ℕ → HomeRow → Entry
 home_entry n r = ShownRow (node_id n) r.home 0 r.careof r.sequence r.end r.end
 
 abbrev pub rows_by_kind : Setup → ℕ → Address → Run → Kind → List Entry
-rows_by_kind s n own run (Correspondent room) = map (row_entry n) (kept_at (known_in run n room).cache (now_in s run))
+rows_by_kind s n own run (Correspondent room) = map (row_entry n) (caches.rows_at (known_in s run n room).cache (now_in s run))
 rows_by_kind s n own run (Agent preference life room serves) = map (home_entry n) (rows_at (now_in s run) (agent_known_in run n serves).homes)
-rows_by_kind s n own run (Mobile agent) = map (row_entry n) (kept_at (mobile_known_in s run n own agent).part.known.cache (now_in s run))
+rows_by_kind s n own run (Mobile agent) = map (row_entry n) (caches.rows_at (mobile_known_in s run n own agent).part.known.cache (now_in s run))
 
 abbrev pub rows_shown : Setup → ℕ → Run → Option Host → Run
 rows_shown s n run None = note Idle run
 rows_shown s n run (Some host) = notes (rows_by_kind s n host.address run host.kind) run
 
--- the rows that node n keeps, in order of home: those of a cache, or an agent's registrations
+-- the rows that node n keeps, in order of home, then of number: those of a cache, or an agent's registrations
 abbrev pub shown : Setup → ℕ → Run → Run
 shown s n run = rows_shown s n run (slice_get s.hosts n)

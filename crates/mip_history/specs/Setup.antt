@@ -33,6 +33,8 @@ pub record Setup : Type 0 where
   pub hosts : List Host
   -- how many outsiders there are
   pub outsiders : ℕ
+  -- how many bindings a node has for each home
+  pub numbers : ℕ
 
 -- how many homes the binding cache of a node keeps: that of a correspondent, or of the correspondent part of a mobile. An agent
 -- has none
@@ -114,4 +116,5 @@ setup_of s = record {
   links = links_in s.declarations;
   hosts = hosts_in s.declarations;
   outsiders = outsiders_in s.declarations;
+  numbers = 1;
 }

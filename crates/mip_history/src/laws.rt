@@ -1,6 +1,6 @@
 //! Laws of the permitted history.
 
-ghost use Rattle.std.specs.Prelude.{◌≡◌, ◌≢◌, ℕ, ◌+◌, ◌<◌, ◌≤◌, max, List, [], ◌∷◌, ◌++◌, length, map, Bool, true, false, Option, Some, None, option_map, slice_get};
+ghost use Rattle.std.specs.Prelude.{◌≡◌, ◌≢◌, ℕ, ◌+◌, ◌<◌, ◌≤◌, max, List, [], ◌∷◌, ◌++◌, length, map, nat_lt, Bool, true, false, Option, Some, None, is_some, option_map, slice_get};
 ghost use Rattle.std.specs.List.{list_any, sum_by, AllByRecursion};
 ghost use Rattle.mip_words.specs.declared.address.Address.{Address};
 ghost use Rattle.mip_words.specs.declared.moment.Moment.{Moment};
@@ -15,10 +15,10 @@ ghost use Rattle.mip_schedule.specs.Lawful.{IsLawful};
 ghost use Rattle.mip_declared.specs.Places.{AreFew};
 ghost use Rattle.mip_schedule.specs.declared.event.Event.{Event};
 ghost use Rattle.mip_bcache.specs.declared.accepted.Accepted.{Accepted};
-ghost use Rattle.mip_binding.specs.Held.{floor, is_full};
-ghost use Rattle.mip_binding.specs.Rows.{kept_rows, table};
-ghost use Rattle.mip_bcache.specs.Seen.{kept_at, seen_row};
-ghost use Rattle.mip_rules_correspondent.specs.Questions.{held_of, floor_of, is_full_for};
+ghost use Rattle.mip_binding.specs.Held.{holds, floor, is_full};
+ghost use Rattle.mip_binding.specs.Homes.{shown_rows};
+ghost use Rattle.mip_bcache.specs.Seen.{rows_at, seen_row};
+ghost use Rattle.mip_rules_correspondent.specs.Questions.{held_of, holds_for, floor_of, is_full_for};
 ghost use Rattle.mip_rules_mobile.specs.Questions.{part_room};
 ghost use Rattle.mip_history.specs.Setup.{Setup, setup_of};
 ghost use Rattle.mip_history.specs.Setup.Kind.{Correspondent, Agent, Mobile};
@@ -34,9 +34,9 @@ ghost use Rattle.mip_history.specs.Passing.{waited_by, restarted_by};
 ghost use Rattle.mip_history.specs.Again.{RepeatsAfterRounds};
 ghost use Rattle.mip_history.specs.Naming.{IsDeclared};
 ghost use Rattle.mip_history.specs.Nodes.{rows_by_kind};
-ghost use Rattle.mip_history.specs.Shown.{IsLastAcceptance};
+ghost use Rattle.mip_history.specs.Shown.{kept_to, IsLastAcceptance};
 ghost use Rattle.mip_history.specs.Registered.{is_agent_at, registration_entry, last_registration, registered_in, IsRegistration, IsRegistered, HomeChange};
-ghost use Rattle.mip_history.specs.Bound.{accepted_by, held_in, packet_in, packets_of, accepted_entry, is_accepted, is_restart_of, is_accepted_for, HasAccepted, IsBound};
+ghost use Rattle.mip_history.specs.Bound.{accepted_by, held_in, held_under_in, packet_in, packets_of, accepted_entry, is_accepted, is_restart_of, is_accepted_for, HasAccepted, IsBound, IsBoundUnder};
 
 /// A schedule with one event more is run by letting that event happen last.
 pub fn event_after_event()
@@ -44,11 +44,13 @@ pub fn event_after_event()
 {}
 
 /// At each place of the permitted history of every schedule, a node holds a care-of address by an update that it accepted, a
-/// correspondent or the correspondent part of a mobile: the last one of its home in the life that the node has there, whose
-/// packet had just been handed to the node, with the verdict Accept on its bytes by the secrets of that life, at that moment,
-/// with what was kept of the home just before. RFC 6275 section 9.5.1.
+/// correspondent or the correspondent part of a mobile: one of the life that the node has there, which no later one of its
+/// home has ended, whose packet had just been handed to the node, with the verdict Accept on its bytes by the secrets of that
+/// life, at that moment, with what was kept of the home just before. RFC 6275 section 9.5.1. One that is held under a number
+/// was accepted under it.
 pub fn held_was_accepted()
-    ensures { (c : Content) (before after : List Entry) (n home careof : ℕ) → permitted c ≡ before ++ after → held_in (setup_of c) before n home ≡ Some careof → IsBound (setup_of c) before n home careof }
+    ensures held { (c : Content) (before after : List Entry) (n home careof : ℕ) → permitted c ≡ before ++ after → held_in (setup_of c) before n home ≡ Some careof → IsBound (setup_of c) before n home careof }
+    ensures under { (c : Content) (before after : List Entry) (n home number careof : ℕ) → permitted c ≡ before ++ after → held_under_in (setup_of c) before n home number ≡ Some careof → IsBoundUnder (setup_of c) before n home number careof }
 {}
 
 /// Every update that a correspondent or a mobile ever accepted had just been handed over, with that verdict; no other node accepts one.
@@ -57,47 +59,53 @@ pub fn accepted_was_handed()
 {}
 
 /// In any history, the last update of a home that a node accepted in its present life is the one that counts: to its end
-/// its care-of address is held, unless it is the home address, and to the moment at which it is given up its sequence
+/// its care-of address is held, unless it is the home address, and to that end and for 240 s at least its sequence
 /// is kept.
 pub fn last_acceptance_counts()
-    ensures binds { (s : Setup) (before : List Entry) (n k : ℕ) (home : Address) (a : Accepted) (after : List Entry)
+    ensures binds { (s : Setup) (before : List Entry) (n k : ℕ) (home : Address) (binding : ℕ) (a : Accepted) (after : List Entry)
         → list_any (is_restart_of n) after ≡ false → list_any (is_accepted_for n home.0) after ≡ false → a.careof.0 ≢ home.0
-        → moment_in s.start (before ++ accepted_entry n k home a ∷ after) < a.end.0 → held_in s (before ++ accepted_entry n k home a ∷ after) n home.0 ≡ Some a.careof.0 }
-    ensures deletes { (s : Setup) (before : List Entry) (n k : ℕ) (home : Address) (a : Accepted) (after : List Entry)
+        → moment_in s.start (before ++ accepted_entry n k home binding a ∷ after) < a.end.0 → held_in s (before ++ accepted_entry n k home binding a ∷ after) n home.0 ≡ Some a.careof.0 }
+    ensures deletes { (s : Setup) (before : List Entry) (n k : ℕ) (home : Address) (binding : ℕ) (a : Accepted) (after : List Entry)
         → list_any (is_restart_of n) after ≡ false → list_any (is_accepted_for n home.0) after ≡ false → a.careof.0 ≡ home.0
-        → held_in s (before ++ accepted_entry n k home a ∷ after) n home.0 ≡ None }
-    ensures floor { (s : Setup) (before : List Entry) (n k : ℕ) (home : Address) (a : Accepted) (after : List Entry) (now : ℕ)
+        → held_in s (before ++ accepted_entry n k home binding a ∷ after) n home.0 ≡ None }
+    ensures floor { (s : Setup) (before : List Entry) (n k : ℕ) (home : Address) (binding : ℕ) (a : Accepted) (after : List Entry) (now : ℕ)
         → list_any (is_restart_of n) after ≡ false → list_any (is_accepted_for n home.0) after ≡ false → now < max a.end.0 (moment_in s.start before + 240000)
-        → floor (accepted_by s.start (before ++ accepted_entry n k home a ∷ after) n) home.0 now ≡ Some a.sequence }
+        → floor (accepted_by s.start (before ++ accepted_entry n k home binding a ∷ after) n) home.0 now ≡ Some a.sequence }
 {}
 
 /// What a correspondent keeps of a home is what the history says of it, and so is what the correspondent part of a mobile keeps.
 pub fn nodes_keep_what_was_accepted()
     ensures held { (s : Setup) (events : List Event) (n : ℕ) (own : Address) (room : ℕ) (home : Address) → slice_get s.hosts n ≡ Some (record { address = own; kind = Correspondent room })
-        → option_map (λ a. a.0) (held_of (known_in (run_of s events) n room) (now_in s (run_of s events)) home) ≡ held_in s (run_of s events).past n home.0 }
+        → option_map (λ a. a.0) (held_of (known_in s (run_of s events) n room) (now_in s (run_of s events)) home) ≡ held_in s (run_of s events).past n home.0 }
+    ensures holds { (s : Setup) (events : List Event) (n : ℕ) (own : Address) (room : ℕ) (home careof : Address) → slice_get s.hosts n ≡ Some (record { address = own; kind = Correspondent room })
+        → holds_for (known_in s (run_of s events) n room) (now_in s (run_of s events)) home careof ≡ holds (accepted_by s.start (run_of s events).past n) home.0 (now_in s (run_of s events)) careof.0 }
     ensures floor { (s : Setup) (events : List Event) (n : ℕ) (own : Address) (room : ℕ) (home : Address) → slice_get s.hosts n ≡ Some (record { address = own; kind = Correspondent room })
-        → floor_of (known_in (run_of s events) n room) (now_in s (run_of s events)) home ≡ floor (accepted_by s.start (run_of s events).past n) home.0 (now_in s (run_of s events)) }
+        → floor_of (known_in s (run_of s events) n room) (now_in s (run_of s events)) home ≡ floor (accepted_by s.start (run_of s events).past n) home.0 (now_in s (run_of s events)) }
     ensures full { (s : Setup) (events : List Event) (n : ℕ) (own : Address) (room : ℕ) (home : Address) → slice_get s.hosts n ≡ Some (record { address = own; kind = Correspondent room })
-        → is_full_for (known_in (run_of s events) n room) (now_in s (run_of s events)) home ≡ is_full room (accepted_by s.start (run_of s events).past n) home.0 (now_in s (run_of s events)) }
+        → is_full_for (known_in s (run_of s events) n room) (now_in s (run_of s events)) home ≡ is_full room (accepted_by s.start (run_of s events).past n) home.0 (now_in s (run_of s events)) }
     ensures part_held { (s : Setup) (events : List Event) (n : ℕ) (own : Address) (agent : Option Address) (home : Address) → slice_get s.hosts n ≡ Some (record { address = own; kind = Mobile agent })
         → option_map (λ a. a.0) (held_of (mobile_known_in s (run_of s events) n own agent).part.known (now_in s (run_of s events)) home) ≡ held_in s (run_of s events).past n home.0 }
+    ensures part_holds { (s : Setup) (events : List Event) (n : ℕ) (own : Address) (agent : Option Address) (home careof : Address) → slice_get s.hosts n ≡ Some (record { address = own; kind = Mobile agent })
+        → holds_for (mobile_known_in s (run_of s events) n own agent).part.known (now_in s (run_of s events)) home careof ≡ holds (accepted_by s.start (run_of s events).past n) home.0 (now_in s (run_of s events)) careof.0 }
     ensures part_floor { (s : Setup) (events : List Event) (n : ℕ) (own : Address) (agent : Option Address) (home : Address) → slice_get s.hosts n ≡ Some (record { address = own; kind = Mobile agent })
         → floor_of (mobile_known_in s (run_of s events) n own agent).part.known (now_in s (run_of s events)) home ≡ floor (accepted_by s.start (run_of s events).past n) home.0 (now_in s (run_of s events)) }
     ensures part_full { (s : Setup) (events : List Event) (n : ℕ) (own : Address) (agent : Option Address) (home : Address) → slice_get s.hosts n ≡ Some (record { address = own; kind = Mobile agent })
         → is_full_for (mobile_known_in s (run_of s events) n own agent).part.known (now_in s (run_of s events)) home ≡ is_full part_room (accepted_by s.start (run_of s events).past n) home.0 (now_in s (run_of s events)) }
 {}
 
-/// Each row that a correspondent shows, or a mobile of its correspondent part, is that of the last update of its home which the
-/// node accepted in its present life, whose sequence is still kept; and the rows are all that the table of its acceptances keeps.
+/// Each row that a correspondent shows, or a mobile of its correspondent part, is that of the last update of its home under its
+/// number which the node accepted in its present life, which no later one ended, while the sequence of the home is still kept,
+/// to the moment of the row; and the rows are all that its acceptances leave.
 pub fn rows_are_last_acceptances()
     ensures rows { (s : Setup) (events : List Event) (n : ℕ) (own : Address) (room : ℕ) → slice_get s.hosts n ≡ Some (record { address = own; kind = Correspondent room })
         → AllByRecursion (IsLastAcceptance s (run_of s events).past n) (rows_by_kind s n own (run_of s events) (Correspondent room)) }
     ensures table { (s : Setup) (events : List Event) (n : ℕ) (own : Address) (room : ℕ) → slice_get s.hosts n ≡ Some (record { address = own; kind = Correspondent room })
-        → map seen_row (kept_at (known_in (run_of s events) n room).cache (now_in s (run_of s events))) ≡ kept_rows (now_in s (run_of s events)) (table (accepted_by s.start (run_of s events).past n)) }
+        → map seen_row (rows_at (known_in s (run_of s events) n room).cache (now_in s (run_of s events))) ≡ shown_rows (accepted_by s.start (run_of s events).past n) (now_in s (run_of s events)) }
+    ensures until { (s : Setup) (past : List Entry) (n home now : ℕ) → is_some (floor (accepted_by s.start past n) home now) ≡ nat_lt now (kept_to s past n home) }
     ensures part_rows { (s : Setup) (events : List Event) (n : ℕ) (own : Address) (agent : Option Address) → slice_get s.hosts n ≡ Some (record { address = own; kind = Mobile agent })
         → AllByRecursion (IsLastAcceptance s (run_of s events).past n) (rows_by_kind s n own (run_of s events) (Mobile agent)) }
     ensures part_table { (s : Setup) (events : List Event) (n : ℕ) (own : Address) (agent : Option Address) → slice_get s.hosts n ≡ Some (record { address = own; kind = Mobile agent })
-        → map seen_row (kept_at (mobile_known_in s (run_of s events) n own agent).part.known.cache (now_in s (run_of s events))) ≡ kept_rows (now_in s (run_of s events)) (table (accepted_by s.start (run_of s events).past n)) }
+        → map seen_row (rows_at (mobile_known_in s (run_of s events) n own agent).part.known.cache (now_in s (run_of s events))) ≡ shown_rows (accepted_by s.start (run_of s events).past n) (now_in s (run_of s events)) }
 {}
 
 /// Moments do not fall, and time goes on by what the schedule waits.

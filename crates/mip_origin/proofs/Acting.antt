@@ -98,15 +98,15 @@ no_restart k now c other = by (call-part k now c other)
     by (Accepting x) = ap (list_any begins_anew) x.steps_are ∙ no_anew x.rest x.none
 
 -- without one the part keeps its secrets
-step_secrets : (home : Address) (p : PartLife) (at : ℕ) (step : Step) → begins_anew step ≡ false → (part_goes_on home p at step).secrets ≡ p.secrets
-step_secrets home p at (Restarts secrets) none = absurd cc
-step_secrets home p at _ none = refl
+step_secrets : (home : Address) (numbers : ℕ) (p : PartLife) (at : ℕ) (step : Step) → begins_anew step ≡ false → (part_goes_on home numbers p at step).secrets ≡ p.secrets
+step_secrets home numbers p at (Restarts secrets) none = absurd cc
+step_secrets home numbers p at _ none = refl
 
-life_secrets : (home : Address) (p : PartLife) (at : ℕ) (steps : List Step) → list_any begins_anew steps ≡ false → (goes_along home at p steps).secrets ≡ p.secrets
-life_secrets home p at [] none = refl
-life_secrets home p at (step ∷ steps) none =
+life_secrets : (home : Address) (numbers : ℕ) (p : PartLife) (at : ℕ) (steps : List Step) → list_any begins_anew steps ≡ false → (goes_along home numbers at p steps).secrets ≡ p.secrets
+life_secrets home numbers p at [] none = refl
+life_secrets home numbers p at (step ∷ steps) none =
     let parts = or_parts (begins_anew step) (list_any begins_anew steps) none in
-    life_secrets home (part_goes_on home p at step) at steps parts.1 ∙ step_secrets home p at step parts.0
+    life_secrets home numbers (part_goes_on home numbers p at step) at steps parts.1 ∙ step_secrets home numbers p at step parts.0
 
 -- another node lives on as one begins anew
 pub lives_apart : (s : Setup) (run : Run) (n m : ℕ) → m ≢ n → life_of s (run.past ++ entries.Restarted (node_id n) ∷ []) m ≡ life_of s run.past m
@@ -120,14 +120,14 @@ at_past past run = record run { past = past }
 
 module _ (s : Setup) (n : ℕ) (own : Address) (agent : Option Address) (host_is : slice_get s.hosts n ≡ Some (record { address = own; kind = Mobile agent })) where
   -- mobile n goes on in a history, and its part has the secrets of its life there
-  secrets_set : (a : Run) (past : List Entry) (next : List (Stamped Step)) → ((m : ℕ) → m ≢ n → life_of s past m ≡ life_of s a.past m) → (part_life own (secrets_in s n 0) next).secrets ≡ life_of s past n
+  secrets_set : (a : Run) (past : List Entry) (next : List (Stamped Step)) → ((m : ℕ) → m ≢ n → life_of s past m ≡ life_of s a.past m) → (part_life own s.numbers (secrets_in s n 0) next).secrets ≡ life_of s past n
       → HaveSecrets s a → HaveSecrets s (with_mobile_past n next (at_past past a))
   secrets_set a past next lives mine have = (
     length-set a.mobile_pasts n next ∙ have.0,
-    λ m address other host. elim (cases_eq m n) as (λ _. (part_life address (secrets_in s m 0) (slice_index_or (slice_set a.mobile_pasts n next) m [])).secrets ≡ life_of s past m) [
+    λ m address other host. elim (cases_eq m n) as (λ _. (part_life address s.numbers (secrets_in s m 0) (slice_index_or (slice_set a.mobile_pasts n next) m [])).secrets ≡ life_of s past m) [
       | inl e ↦ this m address other host e
       | inr apart ↦
-          ap (λ (l : List (Stamped Step)). let p : PartLife = part_life address (secrets_in s m 0) l in p.secrets) (get_or-set_other a.mobile_pasts n m next [] apart)
+          ap (λ (l : List (Stamped Step)). let p : PartLife = part_life address s.numbers (secrets_in s m 0) l in p.secrets) (get_or-set_other a.mobile_pasts n m next [] apart)
           ∙ have.1 m address other host
           ∙ sym (lives m apart)
     ],
@@ -137,12 +137,12 @@ module _ (s : Setup) (n : ℕ) (own : Address) (agent : Option Address) (host_is
       inside = let i = slice_get_within s.hosts n (record { address = own; kind = Mobile agent }) host_is in let l = have.0 in omega (arith, i, l)
 
       this : (m : ℕ) (address : Address) (other : Option Address) → slice_get s.hosts m ≡ Some (record { address = address; kind = Mobile other }) → m ≡ n
-          → (part_life address (secrets_in s m 0) (slice_index_or (slice_set a.mobile_pasts n next) m [])).secrets ≡ life_of s past m
+          → (part_life address s.numbers (secrets_in s m 0) (slice_index_or (slice_set a.mobile_pasts n next) m [])).secrets ≡ life_of s past m
       this m address other host e =
           let same : own ≡ address = same_host (sym host_is ∙ ap (λ (k : ℕ). slice_get s.hosts k) (sym e) ∙ host) in
-          subst (λ (k : ℕ). (let p : PartLife = part_life address (secrets_in s k 0) (slice_index_or (slice_set a.mobile_pasts n next) k []) in p.secrets) ≡ life_of s past k) (sym e)
-          (subst (λ (h : Address). (let p : PartLife = part_life h (secrets_in s n 0) (slice_index_or (slice_set a.mobile_pasts n next) n []) in p.secrets) ≡ life_of s past n) same
-          (ap (λ (l : List (Stamped Step)). let p : PartLife = part_life own (secrets_in s n 0) l in p.secrets) (get_or-set_same a.mobile_pasts n next [] inside) ∙ mine))
+          subst (λ (k : ℕ). (let p : PartLife = part_life address s.numbers (secrets_in s k 0) (slice_index_or (slice_set a.mobile_pasts n next) k []) in p.secrets) ≡ life_of s past k) (sym e)
+          (subst (λ (h : Address). (let p : PartLife = part_life h s.numbers (secrets_in s n 0) (slice_index_or (slice_set a.mobile_pasts n next) n []) in p.secrets) ≡ life_of s past n) same
+          (ap (λ (l : List (Stamped Step)). let p : PartLife = part_life own s.numbers (secrets_in s n 0) l in p.secrets) (get_or-set_same a.mobile_pasts n next [] inside) ∙ mine))
 
   kind_is : kind_at s n ≡ Some (Mobile agent)
   kind_is = ap (option_map (λ (h : Host). h.kind)) host_is
@@ -176,18 +176,18 @@ module _ (s : Setup) (n : ℕ) (own : Address) (agent : Option Address) (host_is
       none = no_restart known (now_in s run) c other
 
       mine : HaveSecrets s run → known.part.identity.secrets ≡ life_of s run.past n
-      mine have = ap (λ (x : CorrespondentSeen). x.identity.secrets) (part_is own agent (secrets_in s n 0) (mobile_past_at run n)) ∙ have.1 n own agent host_is
+      mine have = ap (λ (x : CorrespondentSeen). x.identity.secrets) (part_is own agent s.numbers (secrets_in s n 0) (mobile_past_at run n)) ∙ have.1 n own agent host_is
 
       right : AllByRecursion (IsRight s (Q × HaveSecrets s run) run.past n) (answers_of (turn_at c).steps)
       right =
-          mobile_right s (Q × HaveSecrets s run) run.past n own agent (secrets_in s n 0) c (now_in s run) came kind_is refl asked (mobile_past_at run n) known (turn_at c).steps refl (good.mobiles n)
+          mobile_right s (Q × HaveSecrets s run) run.past n own agent s.numbers (secrets_in s n 0) c (now_in s run) came kind_is refl asked (mobile_past_at run n) known (turn_at c).steps refl (good.mobiles n)
           (call-fits known (now_in s run) c) (λ q. mine q.1) (λ q. call-says known (now_in s run) c (plain q.0)) none
 
       secrets_next : HaveSecrets s run → HaveSecrets s (next c)
       secrets_next have =
           secrets_set run run.past (gone c) (λ m other. refl)
-          (ap (λ (p : PartLife). p.secrets) (life_along own (secrets_in s n 0) (mobile_past_at run n) (turn_at c).now (turn_at c).steps)
-          ∙ life_secrets own (part_in s run n own) (turn_at c).now (turn_at c).steps none
+          (ap (λ (p : PartLife). p.secrets) (life_along own s.numbers (secrets_in s n 0) (mobile_past_at run n) (turn_at c).now (turn_at c).steps)
+          ∙ life_secrets own s.numbers (part_in s run n own) (turn_at c).now (turn_at c).steps none
           ∙ have.1 n own agent host_is) have
 
       pub adds_roams : Adds s Q run (mobile_turned s n own (turn_at c) run)
@@ -252,8 +252,8 @@ module _ (s : Setup) (n : ℕ) (own : Address) (agent : Option Address) (host_is
 
         by : EachFits c now k (Called c ∷ Restarts secrets ∷ r.rest) → EachAnswer (SaysRight c now) now k (Called c ∷ Restarts secrets ∷ r.rest) → AllByRecursion (IsRight s (Q × HaveSecrets s base) again.past n) (answers_of r.rest)
         by fits says =
-            mobile_right s (Q × HaveSecrets s base) again.past n own agent (secrets_in s n 0) c now tt kind_is refl (λ inner e. absurd cc) ((old ++ first ∷ []) ++ second ∷ []) (after (after k first) second) r.rest
-            (ap (λ (l : Known). after l second) (known_more own agent (secrets_in s n 0) old first) ∙ known_more own agent (secrets_in s n 0) (old ++ first ∷ []) second)
+            mobile_right s (Q × HaveSecrets s base) again.past n own agent s.numbers (secrets_in s n 0) c now tt kind_is refl (λ inner e. absurd cc) ((old ++ first ∷ []) ++ second ∷ []) (after (after k first) second) r.rest
+            (ap (λ (l : Known). after l second) (known_more own agent s.numbers (secrets_in s n 0) old first) ∙ known_more own agent s.numbers (secrets_in s n 0) (old ++ first ∷ []) second)
             (all_both (λ (y : Stamped Step). IsGiven again.past n y.step) (old ++ first ∷ []) (second ∷ []) (all_both (λ (y : Stamped Step). IsGiven again.past n y.step) old (first ∷ []) (good.mobiles n) (tt, tt)) (tt, tt))
             fits.1.1 (λ q. lost (after k first) second refl) (λ q. says.1.1) (no_anew r.rest r.none)
 
@@ -268,23 +268,23 @@ module _ (s : Setup) (n : ℕ) (own : Address) (agent : Option Address) (host_is
     pub restart_secrets : HaveSecrets s base → HaveSecrets s (next Q again good (mobiles.Restart secrets))
     restart_secrets have =
         secrets_set base again.past (gone Q again good (mobiles.Restart secrets)) (λ m other. lives_apart s base n m other)
-        (ap (λ (p : PartLife). p.secrets) (reborn_life own (secrets_in s n 0) (mobile_past_at again n) begun_anew.now secrets begun_anew.steps r)) have
+        (ap (λ (p : PartLife). p.secrets) (reborn_life own s.numbers (secrets_in s n 0) (mobile_past_at again n) begun_anew.now secrets begun_anew.steps r)) have
 
 module _ (s : Setup) (Q : Type 0) (n : ℕ) (run : Run) (good : IsGood run) where
   -- a correspondent
   module _ (own : Address) (room : ℕ) (kind : kind_at s n ≡ Some (Correspondent room)) where
     abbrev corresponds : correspondents.Call → Run → Run
-    corresponds c run = turned s n own (correspondent_doing.turn_of (identity_in s run n own room) (known_in run n room) (now_in s run) c) run
+    corresponds c run = turned s n own (correspondent_doing.turn_of (identity_in s run n own room) (known_in s run n room) (now_in s run) c) run
 
     adds_corresponds : (c : correspondents.Call) → (Q → SendsPlainData c) → Adds s Q run (corresponds c run)
     adds_corresponds c plain =
         let me : Identity = identity_in s run n own room in
-        let turn : correspondent_turns.Turn = correspondent_doing.turn_of me (known_in run n room) (now_in s run) c in
+        let turn : correspondent_turns.Turn = correspondent_doing.turn_of me (known_in s run n room) (now_in s run) c in
         let next : Run = with_past n (correspondent_turns.with_turn (past_at run n) turn) run in
         let still : IsGood next = record { packets = good.packets; mobiles = good.mobiles } in
         adds_then s Q run next _ (adds_same s Q run next refl refl still)
         (adds_answers s Q n (link_or_first s own.0) (correspondent_steps.answers_of turn.steps) next still
-        (correspondent_right s Q run.past n me (now_in s run) room kind refl refl turn.steps (λ q. call-own-tests me (known_in run n room) (now_in s run) c (plain q))))
+        (correspondent_right s Q run.past n me (now_in s run) room kind refl refl turn.steps (λ q. call-own-tests me (known_in s run n room) (now_in s run) c (plain q))))
 
     adds_correspondent : (call : Call) → (Q → IsPlainCall call) → Adds s Q run (asks corresponds (for_correspondent call) run)
     adds_correspondent (Take number shield packet) plain = adds_corresponds (correspondents.Take number shield packet) (λ q. tt)

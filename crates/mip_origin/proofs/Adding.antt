@@ -130,7 +130,7 @@ pub secrets_stay : (s : Setup) (a b : Run) → b.mobile_pasts ≡ a.mobile_pasts
 secrets_stay s a b same lives have = (
   ap (λ (l : List (List (Stamped mobile_steps.Step))). length l) same ∙ have.0,
   λ n home agent host.
-      ap (λ (l : List (List (Stamped mobile_steps.Step))). let p : PartLife = part_life home (secrets_in s n 0) (slice_index_or l n []) in p.secrets) same
+      ap (λ (l : List (List (Stamped mobile_steps.Step))). let p : PartLife = part_life home s.numbers (secrets_in s n 0) (slice_index_or l n []) in p.secrets) same
       ∙ have.1 n home agent host
       ∙ sym (lives n),
 )

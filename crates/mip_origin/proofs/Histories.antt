@@ -54,7 +54,7 @@ homes_idle n (r ∷ rows) = homes_idle n rows
 module _ (s : Setup) (Q : Type 0) where
   -- what is shown and lost, and a mobile that moves
   shown_idle : (n : ℕ) (own : Address) (run : Run) (kind : Kind) → list_any is_busy (rows_by_kind s n own run kind) ≡ false
-  shown_idle n own run (Correspondent room) = rows_idle n (kept_at (known_in run n room).cache (now_in s run))
+  shown_idle n own run (Correspondent room) = rows_idle n (kept_at (known_in s run n room).cache (now_in s run))
   shown_idle n own run (Agent preference life room serves) = homes_idle n (rows_at (now_in s run) (agent_known_in run n serves).homes)
   shown_idle n own run (Mobile agent) = rows_idle n (kept_at (mobile_known_in s run n own agent).part.known.cache (now_in s run))
 
@@ -169,7 +169,7 @@ first_secrets s = (
 
     first : (n : ℕ) (home : Address) → (part_in s (opened s) n home).secrets ≡ life_of s (opened s).past n
     first n home =
-        ap (λ (l : List (Stamped mobiles.Step)). let p : PartLife = part_life home (secrets_in s n 0) l in p.secrets) (no_mobile_past s.hosts n)
+        ap (λ (l : List (Stamped mobiles.Step)). let p : PartLife = part_life home s.numbers (secrets_in s n 0) l in p.secrets) (no_mobile_past s.hosts n)
         ∙ sym (untimed_life s [] (opening_claims s) n (all_untimed (opening_claims s) quiet))
 
 -- the whole history of a schedule

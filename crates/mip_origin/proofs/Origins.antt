@@ -138,16 +138,17 @@ is_acceptance (entries.Accepted node number home binding careof sequence end i j
 is_acceptance _ a told = absurd cc
 
 -- the origin of one acceptance
-origin_at : (s : Setup) (past : List Entry) (n k : ℕ) (home : Address) (accepted : Accepted) (hot : ℕ) (cot : Option ℕ) (update : ℕ)
-    → EachAfter (Meets s) [] past → EachAfter (IsOwnEntry s) [] past → moment_in s.start past ≤ s.start + 36000000 → IsAccepted s past n k home accepted
+origin_at : (s : Setup) (past : List Entry) (n k : ℕ) (home : Address) (binding : ℕ) (accepted : Accepted) (hot : ℕ) (cot : Option ℕ) (update : ℕ)
+    → EachAfter (Meets s) [] past → EachAfter (IsOwnEntry s) [] past → moment_in s.start past ≤ s.start + 36000000 → IsAccepted s past n k home binding accepted
     → mark_in past (update_of n k home accepted) ≡ Origin hot cot update
-    → IsOriginOf s past (accepted_entry n k home accepted) (update_of n k home accepted) hot cot update
-origin_at s past n k home accepted hot cot update each own short stands mark =
+    → IsOriginOf s past (accepted_entry n k home binding accepted) (update_of n k home accepted) hot cot update
+origin_at s past n k home binding accepted hot cot update each own short stands mark =
     let a : AcceptedUpdate = update_of n k home accepted in
     let origin : HasOrigin past a hot cot update = origin_stands past a hot cot update (lawful_sights past s each own) mark in
     let genuine = stands.sound.genuine in
     let tested : AreTested s n = accepted_tests s n stands.own stands.kind stands.room stands.is_host stands.has_room in
     record {
+      binding = binding;
       accepted = accepted;
       is = refl;
       stands = stands;
@@ -186,7 +187,7 @@ permitted_origin c plain short before e after whole a told hot cot update mark =
     by each own within h =
         let u : AcceptedUpdate = update_of h.node h.number h.home h.accepted in
         let same : u ≡ a = same_update u a (sym (ap update_accepted h.is) ∙ told) in
-        let here : IsOriginOf (setup_of c) before (accepted_entry h.node h.number h.home h.accepted) u hot cot update =
-        origin_at (setup_of c) before h.node h.number h.home h.accepted hot cot update each own within h.stands (ap (mark_in before) same ∙ mark) in
+        let here : IsOriginOf (setup_of c) before (accepted_entry h.node h.number h.home h.binding h.accepted) u hot cot update =
+        origin_at (setup_of c) before h.node h.number h.home h.binding h.accepted hot cot update each own within h.stands (ap (mark_in before) same ∙ mark) in
         subst (λ (x : Entry). IsOriginOf (setup_of c) before x a hot cot update) (sym h.is)
-        (subst (λ (v : AcceptedUpdate). IsOriginOf (setup_of c) before (accepted_entry h.node h.number h.home h.accepted) v hot cot update) same here)
+        (subst (λ (v : AcceptedUpdate). IsOriginOf (setup_of c) before (accepted_entry h.node h.number h.home h.binding h.accepted) v hot cot update) same here)

@@ -58,9 +58,9 @@ unfolding after
 secrets_after k x none = part_secrets k.part x.at x.step none
 
 -- what is known with one step more
-pub known_more : (own : Address) (agent : Option Address) (secrets : Life) (past : List (Stamped Step)) (x : Stamped Step) → after (known own agent secrets past) x ≡ known own agent secrets (past ++ x ∷ [])
+pub known_more : (own : Address) (agent : Option Address) (numbers : ℕ) (secrets : Life) (past : List (Stamped Step)) (x : Stamped Step) → after (known own agent numbers secrets past) x ≡ known own agent numbers secrets (past ++ x ∷ [])
 unfolding known
-known_more own agent secrets past x = sym (fold-append after (fresh own agent secrets) past (x ∷ []))
+known_more own agent numbers secrets past x = sym (fold-append after (fresh own agent numbers secrets) past (x ∷ []))
 
 module _ (s : Setup) (Q : Type 0) (front : List Entry) (n : ℕ) where
   abbrev AllRight : List Answer → Type 0
@@ -77,7 +77,7 @@ module _ (s : Setup) (Q : Type 0) (front : List Entry) (n : ℕ) where
     correspondent_right [] own = tt
     correspondent_right (parts.Called call ∷ steps) own = correspondent_right steps (λ q. (own q).1)
     correspondent_right (parts.Sends packet ∷ steps) own = (λ q. sent_own packet (own q).0, correspondent_right steps (λ q. (own q).1))
-    correspondent_right (parts.Accepts number home a ∷ steps) own = (tt, correspondent_right steps (λ q. (own q).1))
+    correspondent_right (parts.Accepts number home binding a ∷ steps) own = (tt, correspondent_right steps (λ q. (own q).1))
     correspondent_right (parts.Denies number status ∷ steps) own = (tt, correspondent_right steps (λ q. (own q).1))
     correspondent_right (parts.Drops number why ∷ steps) own = (tt, correspondent_right steps (λ q. (own q).1))
     correspondent_right (parts.HandsUp number source destination proto payload ∷ steps) own = (tt, correspondent_right steps (λ q. (own q).1))
@@ -112,7 +112,7 @@ module _ (s : Setup) (Q : Type 0) (front : List Entry) (n : ℕ) where
   own_noted (entries.Made node peer number home careof) own = absurd cc
   own_noted _ own = tt
 
-  module _ (own : Address) (agent : Option Address) (secrets : Life) (c : Call) (now : ℕ) (came : HasTaken front n c) (kind : kind_at s n ≡ Some (Mobile agent))
+  module _ (own : Address) (agent : Option Address) (numbers : ℕ) (secrets : Life) (c : Call) (now : ℕ) (came : HasTaken front n c) (kind : kind_at s n ≡ Some (Mobile agent))
       (moment : now ≡ moment_in s.start front) (asked : (inner : List ℕ) → c ≡ calls.Tunnel inner → ⊥) where
     -- what it says is a test of its own, or none
     says_own : (me : Identity) (packet : List ℕ) → SaysOwn c me now packet → IsOwnTest me.secrets now (carried packet)
@@ -127,13 +127,13 @@ module _ (s : Setup) (Q : Type 0) (front : List Entry) (n : ℕ) where
         (subst (λ (l : Life). IsOwnTest l (moment_in s.start front) (carried packet)) mine
         (subst (λ (t : ℕ). IsOwnTest k.part.identity.secrets t (carried packet)) moment (says_own k.part.identity packet says)))
 
-    update_right : (past : List (Stamped Step)) (k : Known) (row : ℕ) (u : PeerUpdate) → k ≡ known own agent secrets past → AreGiven front n past → IsUpdateOf now k row u
+    update_right : (past : List (Stamped Step)) (k : Known) (row : ℕ) (u : PeerUpdate) → k ≡ known own agent numbers secrets past → AreGiven front n past → IsUpdateOf now k row u
         → (Q → k.part.identity.secrets ≡ life_of s front n) → (Q → AllByRecursion (SaysRight c now k) (answer_of (Updates row u))) → AllRight (answer_of (Updates row u))
     update_right past k row u is given of mine says =
-        let from : IsMadeFrom past row u.made = update-from own agent secrets past now row u (subst (λ (l : Known). IsUpdateOf now l row u) is of) in
+        let from : IsMadeFrom past row u.made = update-from own agent numbers secrets past now row u (subst (λ (l : Known). IsUpdateOf now l row u) is of) in
         ((made_home front n row past u.made given from, made_careof front n row past u.made u.made.careof given from.careof), (λ q. sent_right k (update_packet u) (mine q) (says q).1.0, tt))
 
-    step_right : (past : List (Stamped Step)) (k : Known) (step : Step) → k ≡ known own agent secrets past → AreGiven front n past → Fits c now k step
+    step_right : (past : List (Stamped Step)) (k : Known) (step : Step) → k ≡ known own agent numbers secrets past → AreGiven front n past → Fits c now k step
         → (Q → k.part.identity.secrets ≡ life_of s front n) → (Q → AllByRecursion (SaysRight c now k) (answer_of step)) → AllRight (answer_of step)
     step_right past k (Called call) is given fits mine says = tt
     step_right past k (Parts call) is given fits mine says = tt
@@ -167,13 +167,13 @@ module _ (s : Setup) (Q : Type 0) (front : List Entry) (n : ℕ) where
     step_right past k (Stops work) is given fits mine says = tt
     step_right past k (Rings work) is given fits mine says = tt
 
-    pub mobile_right : (past : List (Stamped Step)) (k : Known) (steps : List Step) → k ≡ known own agent secrets past → AreGiven front n past → EachFits c now k steps
+    pub mobile_right : (past : List (Stamped Step)) (k : Known) (steps : List Step) → k ≡ known own agent numbers secrets past → AreGiven front n past → EachFits c now k steps
         → (Q → k.part.identity.secrets ≡ life_of s front n) → (Q → EachAnswer (SaysRight c now) now k steps) → list_any begins_anew steps ≡ false → AllRight (answers_of steps)
     mobile_right past k [] is given fits mine says none = tt
     mobile_right past k (step ∷ steps) is given fits mine says none =
         let x : Stamped Step = record { at = now; step = step } in
         let parts = or_parts (begins_anew step) (list_any begins_anew steps) none in
         all_both (IsRight s Q front n) (answer_of step) (answers_of steps) (step_right past k step is given fits.0 mine (λ q. (says q).0))
-        (mobile_right (past ++ x ∷ []) (after k x) steps (ap (λ (l : Known). after l x) is ∙ known_more own agent secrets past x)
+        (mobile_right (past ++ x ∷ []) (after k x) steps (ap (λ (l : Known). after l x) is ∙ known_more own agent numbers secrets past x)
         (all_both (λ (y : Stamped Step). IsGiven front n y.step) past (x ∷ []) given (fit_given front n c now k step came fits.0, tt)) fits.1
         (λ q. secrets_after k x parts.0 ∙ mine q) (λ q. (says q).1) parts.1)

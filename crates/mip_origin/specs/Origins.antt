@@ -25,9 +25,10 @@ IsCareofToken s past n careof _ _ = ⊥
 -- behind this history an update was accepted, and these packets are its origin
 pub record IsOriginOf (s : Setup) (past : List Entry) (e : Entry) (a : AcceptedUpdate) (hot : ℕ) (cot : Option ℕ) (update : ℕ) : Type 0 where
   -- the verdict on its bytes: its nonces were valid then, and its sequence comes after the one that was kept
+  pub binding : ℕ
   pub accepted : Accepted
-  pub is : e ≡ accepted_entry a.node.0 a.number a.home accepted
-  pub stands : IsAccepted s past a.node.0 a.number a.home accepted
+  pub is : e ≡ accepted_entry a.node.0 a.number a.home binding accepted
+  pub stands : IsAccepted s past a.node.0 a.number a.home binding accepted
   -- the packets HOT, COT and UPDATE stand in the history, and both tokens had reached the maker of the update
   pub origin : HasOrigin past a hot cot update
   -- both tokens are those of the nonces under which the update was accepted

@@ -115,7 +115,7 @@ module _ (s : Setup) (u : ℕ) (since : s.start ≤ u) (peer : Address) where
   goes_on : (n : ℕ) (own : Address) (agent : Option Address) (run later : Run) → tells s (binding_told n peer) None later ≡ tells s (binding_told n peer) None run → (Early later → Early run)
       → mobile_past_at later n ≡ mobile_past_at run n → IsBoundAs run n own agent → IsBoundAs later n own agent
   goes_on n own agent run later same early past b =
-      let is : mobile_known_in s later n own agent ≡ mobile_known_in s run n own agent = ap (known own agent (secrets_in s n 0)) past in
+      let is : mobile_known_in s later n own agent ≡ mobile_known_in s run n own agent = ap (known own agent s.numbers (secrets_in s n 0)) past in
       record {
         so = λ now. ap (lies_ahead u) same ∙ b.so (early now) ∙ ap (λ (k : Known). lies_ahead u (bound_of k peer)) (sym is);
         rows = subst HasRowsOf (sym is) b.rows;
@@ -338,7 +338,7 @@ module _ (s : Setup) (u : ℕ) (since : s.start ≤ u) (peer : Address) where
   new_bound : (n : ℕ) (own : Address) (agent : Option Address) → mobile_past_at (nothing s) n ≡ [] → IsBoundAs (nothing s) n own agent
   unfolding known
   new_bound n own agent past =
-      let fresh : mobile_known_in s (nothing s) n own agent ≡ known own agent (secrets_in s n 0) [] = ap (known own agent (secrets_in s n 0)) past in
+      let fresh : mobile_known_in s (nothing s) n own agent ≡ known own agent s.numbers (secrets_in s n 0) [] = ap (known own agent s.numbers (secrets_in s n 0)) past in
       record {
         so = λ early. sym (ap (λ (k : Known). lies_ahead u (bound_of k peer)) fresh);
         rows = subst HasRowsOf (sym fresh) new_rows;

@@ -96,7 +96,7 @@ module _ {S : Type 0} (s : Setup) (says : Entry → Option S) (d : S) (apart : I
       kinds : (own : Address) (kind : Kind) → IsSilentKind says n kind → tells s says d (by_kind s n own call run kind) ≡ tells s says d run
       kinds own (Correspondent room) silent =
           asks_silent _ (for_correspondent call) run (λ c.
-          let turn : correspondent_turns.Turn = correspondent_doing.turn_of (identity_in s run n own room) (known_in run n room) (now_in s run) c in
+          let turn : correspondent_turns.Turn = correspondent_doing.turn_of (identity_in s run n own room) (known_in s run n room) (now_in s run) c in
           silent_answers _ _ (correspondents.answers_of turn.steps) (silent_steps correspondents.answer_of says n silent turn.steps))
       kinds own (Agent preference life room serves) silent =
           asks_silent _ (for_agent (around_in run n None) call) run (λ c.

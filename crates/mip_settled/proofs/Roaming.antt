@@ -223,7 +223,7 @@ module _ (s : Setup) where
         → (IsNode n → tells s (registration_told n) None later ≡ tells s (registration_told n) None run)
         → stands_on s later n own ≡ stands_on s run n own → mobile_past_at later n ≡ mobile_past_at run n → IsFound s run n own agent → IsFound s later n own agent
     goes_on present registered spot past f =
-        let same : mobile_known_in s later n own agent ≡ mobile_known_in s run n own agent = ap (known own agent (secrets_in s n 0)) past in
+        let same : mobile_known_in s later n own agent ≡ mobile_known_in s run n own agent = ap (known own agent s.numbers (secrets_in s n 0)) past in
         record {
           present = present ∙ f.present ∙ ap (λ (k : Known). address_of own k.standing) (sym same);
           registered = λ node. registered node ∙ f.registered node ∙ ap (λ (k : Known). k.registered) (sym same);
@@ -271,16 +271,16 @@ module _ (s : Setup) where
     then_ c = mobile_turned s n own (turn c) run
 
     pub home : home_of k ≡ own
-    home = past-home own agent (secrets_in s n 0) (mobile_past_at run n)
+    home = past-home own agent s.numbers (secrets_in s n 0) (mobile_past_at run n)
 
     pub known_then : (c : mobiles.Call) → mobile_known_in s (then_ c) n own agent ≡ (turn c).known
     unfolding known StandsBy
     known_then c =
         let past : List (Stamped Step) = with_turn (mobile_past_at run n) (turn c) in
         let inside : n < length s.hosts = slice_get_within s.hosts n (record { address = own; kind = Mobile agent }) host in
-        ap (λ (l : List (List (Stamped Step))). known own agent (secrets_in s n 0) (slice_index_or l n [])) (pasts_answers (slice_set run.mobile_pasts n past) n _ (middle c) (answers_of (turn c).steps) refl)
-        ∙ ap (known own agent (secrets_in s n 0)) (get_or-set_same run.mobile_pasts n past [] (omega (arith, long, inside)))
-        ∙ sym (stands-known own agent (secrets_in s n 0) past (turn c).known (call-stands own agent (secrets_in s n 0) (mobile_past_at run n) k now c refl))
+        ap (λ (l : List (List (Stamped Step))). known own agent s.numbers (secrets_in s n 0) (slice_index_or l n [])) (pasts_answers (slice_set run.mobile_pasts n past) n _ (middle c) (answers_of (turn c).steps) refl)
+        ∙ ap (known own agent s.numbers (secrets_in s n 0)) (get_or-set_same run.mobile_pasts n past [] (omega (arith, long, inside)))
+        ∙ sym (stands-known own agent s.numbers (secrets_in s n 0) past (turn c).known (call-stands own agent s.numbers (secrets_in s n 0) (mobile_past_at run n) k now c refl))
 
     spot_then : (c : mobiles.Call) → stands_on s (then_ c) n own ≡ stands_on s run n own
     spot_then c = answers_mute s (moved_says n) (link_of s.links own.0) (moved_quiet n) n (moved_mute n n) _ (middle c) (answers_of (turn c).steps)
@@ -537,7 +537,7 @@ module _ (s : Setup) where
   new_found : (n : ℕ) (own : Address) (agent : Option Address) (run : Run) → run.past ≡ [] → mobile_past_at run n ≡ [] → IsFound s run n own agent
   unfolding known
   new_found n own agent run none past =
-      let fresh : mobile_known_in s run n own agent ≡ known own agent (secrets_in s n 0) [] = ap (known own agent (secrets_in s n 0)) past in
+      let fresh : mobile_known_in s run n own agent ≡ known own agent s.numbers (secrets_in s n 0) [] = ap (known own agent s.numbers (secrets_in s n 0)) past in
       let here : (mobile_known_in s run n own agent).standing ≡ AtHome = ap (λ (x : Known). x.standing) fresh in
       let bare : (mobile_known_in s run n own agent).registered ≡ None = ap (λ (x : Known). x.registered) fresh in
       record {

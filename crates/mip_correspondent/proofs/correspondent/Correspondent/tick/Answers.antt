@@ -14,7 +14,7 @@ use Rattle.mip_correspondent.proofs.correspondent.Correspondent.tick.Goals as go
 pub invariant_of-self : goal.invariant_of-self
 invariant_of-self c =
     let inside = c.self.inside in
-    subst (λ (cache : CacheSeen). IsSound (record { identity = inside.identity; known = record { last = c.args.now; cache = cache } })) (sym c.give_up-given_up.ensures.rows)
+    subst (λ (cache : CacheSeen). IsSound (record { identity = inside.identity; known = record { last = c.args.now; cache = cache } })) (sym c.give_up-given_up.ensures.homes)
     (ticked_sound inside.identity inside.known c.args.now.0 c.self.invariant)
 
 -- what is known afterwards
@@ -24,11 +24,11 @@ leaves inside old now cache same rows =
 
 pub returns-clause-after : goal.returns-clause-after
 returns-clause-after c =
-    ap (λ (k : Known). record { identity = c.self.inside.identity; known = k }) (leaves (record { identity = c.self.inside.identity; known = c.self.inside.known }) c.args.self.now c.args.now.0 c.give_up-given_up.new.self c.self.view_is c.give_up-given_up.ensures.rows)
+    ap (λ (k : Known). record { identity = c.self.inside.identity; known = k }) (leaves (record { identity = c.self.inside.identity; known = c.self.inside.known }) c.args.self.now c.args.now.0 c.give_up-given_up.new.self c.self.view_is c.give_up-given_up.ensures.homes)
     ∙ ap (λ (s : CorrespondentSeen). record { identity = s.identity; known = (turn_at c.args.self.now c.args.now.0 calls.Tick).known }) c.self.view_is
 
 pub returns-clause-stands : goal.returns-clause-stands
 returns-clause-stands c = λ room numbers past stands.
     let s = c.args.self.now in
     subst (λ (k : Known). Stands room numbers (with_turn past (turn_at s c.args.now.0 calls.Tick)) k)
-    (sym (leaves (record { identity = c.self.inside.identity; known = c.self.inside.known }) s c.args.now.0 c.give_up-given_up.new.self c.self.view_is c.give_up-given_up.ensures.rows)) (call-stands room numbers past s.known c.args.now.0 s.identity calls.Tick stands)
+    (sym (leaves (record { identity = c.self.inside.identity; known = c.self.inside.known }) s c.args.now.0 c.give_up-given_up.new.self c.self.view_is c.give_up-given_up.ensures.homes)) (call-stands room numbers past s.known c.args.now.0 s.identity calls.Tick stands)
