@@ -1,6 +1,12 @@
+pub mod Homes
+pub mod Numbers
 pub mod Places
-pub mod Pasts
 pub mod Slots
 pub mod Closing
 pub mod Puts
 pub mod Searches
+pub mod Spares
+pub mod Listed
+pub mod Renewals
+pub mod Pasts
+pub mod Views

@@ -157,11 +157,10 @@ rows_made now home number a left = record {
 }
 
 -- the rows that an acceptance leaves beside its own: those of other numbers. A deletion leaves none, and
--- neither does one that comes when no sequence of its home is kept
-abbrev pub rows_left : ℕ → Address → ℕ → Accepted → Option HomeRows → List Row
-rows_left now home number a None = []
-rows_left now home number a (Some h) =
-    if not (a.careof.0 == home.0) && nat_lt now h.until then others_by number_of number h.live else []
+-- neither does the first of a home
+abbrev pub rows_left : Address → ℕ → Accepted → Option HomeRows → List Row
+rows_left home number a None = []
+rows_left home number a (Some h) = if a.careof.0 == home.0 then [] else others_by number_of number h.live
 
 -- homes past their time are given up
 abbrev pub expired : ℕ → CacheSeen → CacheSeen
@@ -172,7 +171,7 @@ abbrev pub with_acceptance : ℕ → Address → ℕ → Accepted → CacheSeen 
 with_acceptance now home number a cache =
     record cache {
       last = now;
-      homes = put_by home_of (rows_made now home number a (rows_left now home number a (home_at cache home.0 now))) (kept_at cache now);
+      homes = put_by home_of (rows_made now home number a (rows_left home number a (home_at cache home.0 now))) (kept_at cache now);
     }
 
 -- all rows of a cache, home by home
@@ -180,7 +179,7 @@ abbrev pub live_rows : CacheSeen → List Row
 live_rows cache = flat_map (λ h. h.live) cache.homes
 
 -- the rows that are listed: those of the homes whose sequence is kept, in order of home, then of number
-abbrev pub rows_of_home : HomeRows → List Row
+unfoldable pub rows_of_home : HomeRows → List Row
 rows_of_home h = found_by number_of h.live all_numbers
 
 abbrev pub rows_at : CacheSeen → ℕ → List Row

@@ -66,7 +66,7 @@ impl Cache {
         ensures found { option_copied result ≡ standing_at self.now home.0 now.0 }
         ensures answers { (past : List Acceptance) → StandsFor self.now past → option_map (λ r. r.careof.0) (option_copied result) ≡ held past home.0 now.0 }
     {
-        self.table.kept_home(now, home)?.standing(now)
+        self.table.standing(now, home)
     }
 
     /// The row of a home under a number, where its binding stands.
@@ -75,7 +75,7 @@ impl Cache {
         ensures found { option_copied result ≡ standing_under self.now home.0 number now.0 }
         ensures answers { (past : List Acceptance) → StandsFor self.now past → option_map (λ r. r.careof.0) (option_copied result) ≡ held_under past home.0 number now.0 }
     {
-        self.table.kept_home(now, home)?.standing_under(now, number)
+        self.table.standing_under(now, home, number)
     }
 
     /// Whether a home has a binding that stands at this care-of address.
@@ -84,10 +84,7 @@ impl Cache {
         ensures found { result ≡ holds_at self.now home.0 now.0 careof.0 }
         ensures answers { (past : List Acceptance) → StandsFor self.now past → result ≡ holds past home.0 now.0 careof.0 }
     {
-        match self.table.kept_home(now, home) {
-            Some(kept) => kept.holds(now, careof),
-            None => false,
-        }
+        self.table.holds(now, home, careof)
     }
 
     /// The sequence that an update for a home must come after, if one is kept.
@@ -96,7 +93,7 @@ impl Cache {
         ensures found { result ≡ floor_at self.now home.0 now.0 }
         ensures answers { (past : List Acceptance) → StandsFor self.now past → result ≡ floor past home.0 now.0 }
     {
-        Some(self.table.kept_home(now, home)?.sequence())
+        self.table.kept_sequence(now, home)
     }
 
     /// Whether `accept` takes an acceptance for this home.

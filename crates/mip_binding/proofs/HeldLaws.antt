@@ -4,7 +4,7 @@ use Rattle.std.specs.Prelude.{Option, Some, None, option_map, is_some, ◌||◌,
 use Rattle.std.specs.List.{list_any, AllByRecursion}
 use Rattle.std.proofs.lemmas.Bool.Decides.{nat_tests}
 use Rattle.mip_lists.specs.Last.{or_else, last_where, StandsLast}
-use Rattle.mip_lists.proofs.LastLaws.{last_where-push, last_where-found, all-last}
+use Rattle.mip_lists.proofs.LastLaws.{last_where-push, last_where-none, last_where-found, all-last}
 use Rattle.mip_binding.specs.Acceptance.{Acceptance, Binding, binding_of, is_deletion, kept_until_of}
 use Rattle.mip_binding.specs.Rows.{RisesBy, ApartBy, find_by}
 use Rattle.mip_binding.specs.Homes.{HomeKept, home_key, until_key, number_key, kept_with, home_after, homes, kept_homes}
@@ -295,3 +295,58 @@ living-held xs home now b lives away ahead = by (home_after home xs) (live-last 
     by (Some k) last =
         let here : stands_under home b.number now b ≡ true = grind (arith, nat_tests) in
         ap (option_map (λ (c : Binding). c.careof)) (last-stricter (stands_under home b.number now) (λ (c : Binding). number_key c == b.number) under k.live b last here)
+
+-- where a sequence is no longer kept, no binding of its home stands
+module _ (home now : ℕ) (p : Binding → Bool) (stands : (b : Binding) → p b ≡ true → is_standing home now b ≡ true) where
+  none_stands : (until : ℕ) (bs : List Binding) → until ≤ now → AllByRecursion (λ b. b.end ≤ until) bs → list_any p bs ≡ false
+  none_stands until [] over ends = refl
+  none_stands until (b ∷ bs) over ends = by (p b) refl (none_stands until bs over ends.1)
+    where
+      by : (passes : Bool) → p b ≡ passes → list_any p bs ≡ false → (passes || list_any p bs) ≡ false
+      by true e more = let standing = stands b e in let end = ends.0 in absurd (grind (arith, nat_tests))
+      by false e more = more
+
+  kept_careof : (o : Option HomeKept) → IsWellIf o → careof_where p (if_kept until_key now o) ≡ careof_where p o
+  kept_careof None well = refl
+  kept_careof (Some k) well = by (nat_lt now k.until) refl
+    where
+      by : (b : Bool) → nat_lt now k.until ≡ b → careof_where p (if b then Some k else None) ≡ careof_where p (Some k)
+      by true e = refl
+      by false e =
+          let over : k.until ≤ now = grind (arith, nat_tests) in
+          sym (ap (option_map (λ (b : Binding). b.careof)) (last_where-none p k.live (none_stands k.until k.live over well.ends)))
+
+  kept_any : (o : Option HomeKept) → IsWellIf o → any_lives p (if_kept until_key now o) ≡ any_lives p o
+  kept_any None well = refl
+  kept_any (Some k) well = by (nat_lt now k.until) refl
+    where
+      by : (b : Bool) → nat_lt now k.until ≡ b → any_lives p (if b then Some k else None) ≡ any_lives p (Some k)
+      by true e = refl
+      by false e =
+          let over : k.until ≤ now = grind (arith, nat_tests) in
+          sym (none_stands k.until k.live over well.ends)
+
+  found_careof : (xs : List Acceptance) → careof_where p (home_after home xs) ≡ careof_where p (find_by home_key home (kept_homes now (homes xs)))
+  found_careof xs =
+      sym (kept_careof (home_after home xs) (home_after-well xs home))
+      ∙ ap (λ (o : Option HomeKept). careof_where p (if_kept until_key now o)) (home_after-homes xs home)
+      ∙ sym (ap (careof_where p) (find-kept home_key until_key now home (homes xs) (rises-homes xs)))
+
+  found_any : (xs : List Acceptance) → any_lives p (home_after home xs) ≡ any_lives p (find_by home_key home (kept_homes now (homes xs)))
+  found_any xs =
+      sym (kept_any (home_after home xs) (home_after-well xs home))
+      ∙ ap (λ (o : Option HomeKept). any_lives p (if_kept until_key now o)) (home_after-homes xs home)
+      ∙ sym (ap (any_lives p) (find-kept home_key until_key now home (homes xs) (rises-homes xs)))
+
+-- what is held for a home is held by the home that is found among those whose sequence is kept
+pub held-homes : (xs : List Acceptance) (home now : ℕ) → held xs home now ≡ careof_where (is_standing home now) (find_by home_key home (kept_homes now (homes xs)))
+unfolding held
+held-homes xs home now = found_careof home now (is_standing home now) (λ b standing. standing) xs
+
+pub under-homes : (xs : List Acceptance) (home number now : ℕ) → held_under xs home number now ≡ careof_where (stands_under home number now) (find_by home_key home (kept_homes now (homes xs)))
+unfolding held_under
+under-homes xs home number now = found_careof home now (stands_under home number now) (under-stands home number now) xs
+
+pub holds-homes : (xs : List Acceptance) (home now careof : ℕ) → holds xs home now careof ≡ any_lives (stands_at home now careof) (find_by home_key home (kept_homes now (homes xs)))
+unfolding holds
+holds-homes xs home now careof = found_any home now (stands_at home now careof) (λ b e. grind (arith, nat_tests)) xs

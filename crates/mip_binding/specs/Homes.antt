@@ -72,7 +72,7 @@ shown_in kept b = record {
 }
 
 -- the bindings of a home that live, in order of number
-abbrev pub shown_home : HomeKept → List BindingRow
+unfoldable pub shown_home : HomeKept → List BindingRow
 shown_home kept = map (shown_in kept) (found_by number_key kept.live all_numbers)
 
 -- the bindings that live of the homes whose sequence is kept, in order of home, then of number

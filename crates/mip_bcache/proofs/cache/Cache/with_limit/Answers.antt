@@ -1,20 +1,24 @@
-use Rattle.std.proofs.Common.{◌≡◌, List, ℕ, [], sym, ap, ◌∙◌, subst}
-use Rattle.mip_bcache.specs.declared.row.Row.{Row}
-use Rattle.mip_bcache.specs.Seen.{CacheSeen, StandsFor}
-use Rattle.mip_bcache.specs.Table.{seen, rows_in}
+use Rattle.std.proofs.Common.{◌≡◌, List, ℕ, [], map, sym, ap, ◌∙◌, subst}
+use Rattle.mip_bcache.specs.declared.home.Home.{Home}
+use Rattle.mip_bcache.specs.Seen.{CacheSeen, StandsFor, empty_cache}
+use Rattle.mip_bcache.specs.Table.{seen, homes_in, rows_seen}
 use Rattle.mip_bcache.proofs.Pasts.{empty_stands}
+use Rattle.mip_bcache.proofs.cache.Cache.with_limit.Goals.{In_ok-table}
 use Rattle.mip_bcache.proofs.cache.Cache.with_limit.Goals as goal
 
-abbrev view : ℕ → List Row → CacheSeen
-view limit rows = record { limit = limit; last = 0; rows = rows }
+abbrev view : ℕ → ℕ → List Home → CacheSeen
+view limit numbers hs = record { limit = limit; numbers = numbers; last = 0; homes = map rows_seen hs }
 
 -- the cache that is made
-new_is : (c : goal.In_ok-table) → view c.in_ok-table.table.room (rows_in (seen c.in_ok-table.table)) ≡ view c.args.limit []
+new_is : (c : In_ok-table) → view c.in_ok-table.table.room c.in_ok-table.table.numbers (homes_in (seen c.in_ok-table.table)) ≡ empty_cache c.args.limit c.args.numbers
 new_is c =
-    ap (λ (limit : ℕ). view limit (rows_in (seen c.in_ok-table.table))) c.in_ok-table.ensures.0 ∙ ap (view c.args.limit) c.in_ok-table.ensures.2
+    let e = c.in_ok-table.ensures in
+    ap (λ (limit : ℕ). view limit c.in_ok-table.table.numbers (homes_in (seen c.in_ok-table.table))) e.room
+    ∙ ap (λ (numbers : ℕ). view c.args.limit numbers (homes_in (seen c.in_ok-table.table))) e.numbers
+    ∙ ap (view c.args.limit c.args.numbers) e.homes
 
 pub returns-clause-ok : goal.returns-clause-ok
 returns-clause-ok c = new_is c
 
 pub returns-clause-stands : goal.returns-clause-stands
-returns-clause-stands c = subst (λ (v : CacheSeen). StandsFor v []) (sym (new_is c)) (empty_stands c.args.limit)
+returns-clause-stands c = subst (λ (v : CacheSeen). StandsFor v []) (sym (new_is c)) (empty_stands c.args.limit c.args.numbers)
