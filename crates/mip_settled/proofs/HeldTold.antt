@@ -64,7 +64,7 @@ module _ (n home : ℕ) where
         ∙ ap (λ (k : HomeKept). Some k) (kept_with-left (home_after home l.accepted) x)
 
     -- what it leaves of the others
-    left_is : (ends : Bool) → ends_others home r (binding_of x) ≡ ends → (e : Entry) → accepted_told n home e ≡ Some (binding_of x)
+    left_is : (ends : Bool) → ends_others home r.at r.until (binding_of x) ≡ ends → (e : Entry) → accepted_told n home e ≡ Some (binding_of x)
         → left_in n home ((if ends then [] else r.entries) ++ e ∷ []) ≡ left_by (home_after home l.accepted) x ++ binding_of x ∷ []
     left_is true is e told = left_more n home [] e (binding_of x) told ∙ ap (λ (bs : List Binding). bs ++ binding_of x ∷ []) (sym (by (home_after home l.accepted) refl))
       where
@@ -88,11 +88,11 @@ module _ (n home : ℕ) where
 
     told_more : (e : Entry) → accepted_told n home e ≡ Some (binding_of x) → Agrees (record { at = l.at; accepted = l.accepted ++ x ∷ [] }) (with_told n home r e (Some (binding_of x)))
     told_more e told =
-        let left = left_is (ends_others home r (binding_of x)) refl e told in
+        let left = left_is (ends_others home r.at r.until (binding_of x)) refl e told in
         record {
           at = agrees.at;
           until =
-              ap (λ (m : ℕ). latest (m + max_nonce_lifetime) (left_in n home ((if ends_others home r (binding_of x) then [] else r.entries) ++ e ∷ []))) (agrees.at ∙ sym at)
+              ap (λ (m : ℕ). latest (m + max_nonce_lifetime) (left_in n home ((if ends_others home r.at r.until (binding_of x) then [] else r.entries) ++ e ∷ []))) (agrees.at ∙ sym at)
               ∙ ap (latest (x.at + max_nonce_lifetime)) left ∙ sym (ap until_in after_is);
           live = left ∙ sym (ap live_in after_is);
         }

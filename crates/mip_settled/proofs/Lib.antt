@@ -8,6 +8,7 @@ pub mod Bindings
 pub mod Early
 pub mod AsTold
 pub mod LeftLaws
+pub mod Recalls
 pub mod HeldTold
 pub mod AnyNode
 pub mod Never

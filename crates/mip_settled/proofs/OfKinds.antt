@@ -139,31 +139,35 @@ acceptance_mute n m other link k _ = refl
 -- what was said once is not unsaid
 said : (n : ℕ) (past : List Entry) → asked (acceptance_says n) true past ≡ false → ⊥
 said n [] e = absurd cc
-said n (entries.Accepted node number h binding careof sequence end i j ∷ past) e = by (n == node.0) e
+said n (entries.Accepted node number h binding careof sequence end i j ∷ past) e = by (n == node.0) (said n past) e
   where
-    by : (mine : Bool) → asked (acceptance_says n) (unwrap_or (if mine then Some true else None) true) past ≡ false → ⊥
-    by true e = said n past e
-    by false e = said n past e
+    by : (mine : Bool) → (asked (acceptance_says n) true past ≡ false → ⊥) → asked (acceptance_says n) (unwrap_or (if mine then Some true else None) true) past ≡ false → ⊥
+    by true more e = more e
+    by false more e = more e
 said n (_ ∷ past) e = said n past e
 
 -- where nothing was accepted, nothing is held
-held_stays_none : (n home now : ℕ) (l : Lived) (past : List Entry) → held l.accepted home now ≡ None → asked (acceptance_says n) false past ≡ false → held (let m : Lived = fold (lived n) l past in m.accepted) home now ≡ None
+abbrev HoldsNone : (n home now : ℕ) → Lived → List Entry → Type 0
+HoldsNone n home now l past = held (let m : Lived = fold (lived n) l past in m.accepted) home now ≡ None
+
+held_stays_none : (n home now : ℕ) (l : Lived) (past : List Entry) → held l.accepted home now ≡ None → asked (acceptance_says n) false past ≡ false → HoldsNone n home now l past
 held_stays_none n home now l [] none never = none
 held_stays_none n home now l (entries.At moment ∷ past) none never = held_stays_none n home now (record { at = moment.0; accepted = l.accepted }) past none never
-held_stays_none n home now l (entries.Restarted node ∷ past) none never = by (n == node.0)
+held_stays_none n home now l (entries.Restarted node ∷ past) none never =
+    by (n == node.0) (held_stays_none n home now (record { at = l.at; accepted = [] }) past (held-none home now) never) (held_stays_none n home now l past none never)
   where
-    by : (mine : Bool) → held (let m : Lived = fold (lived n) (record { at = l.at; accepted = if mine then [] else l.accepted }) past in m.accepted) home now ≡ None
-    by true = held_stays_none n home now (record { at = l.at; accepted = [] }) past (held-none home now) never
-    by false = held_stays_none n home now l past none never
-held_stays_none n home now l (entries.Accepted node number h binding careof sequence end i j ∷ past) none never = by (n == node.0) never
+    by : (mine : Bool) → HoldsNone n home now (record { at = l.at; accepted = [] }) past → HoldsNone n home now l past → HoldsNone n home now (record { at = l.at; accepted = if mine then [] else l.accepted }) past
+    by true anew on = anew
+    by false anew on = on
+held_stays_none n home now l (entries.Accepted node number h binding careof sequence end i j ∷ past) none never = by (n == node.0) (held_stays_none n home now l past none) never
   where
     x : Acceptance
     x = record { at = l.at; home = h.0; number = binding; careof = careof.0; sequence = sequence; end = end.0 }
 
-    by : (mine : Bool) → asked (acceptance_says n) (unwrap_or (if mine then Some true else None) false) past ≡ false
-        → held (let m : Lived = fold (lived n) (if mine then record { at = l.at; accepted = l.accepted ++ x ∷ [] } else l) past in m.accepted) home now ≡ None
-    by true e = absurd (said n past e)
-    by false e = held_stays_none n home now l past none e
+    by : (mine : Bool) → (asked (acceptance_says n) false past ≡ false → HoldsNone n home now l past) → asked (acceptance_says n) (unwrap_or (if mine then Some true else None) false) past ≡ false
+        → HoldsNone n home now (if mine then record { at = l.at; accepted = l.accepted ++ x ∷ [] } else l) past
+    by true on e = absurd (said n past e)
+    by false on e = on e
 held_stays_none n home now l (_ ∷ past) none never = held_stays_none n home now l past none never
 
 module _ (s : Setup) (n : ℕ) (is_agent : is_agent_host (slice_get s.hosts n) ≡ true) where

@@ -48,8 +48,8 @@ pub record Remembered : Type 0 where
   pub entries : List Entry
 
 -- a binding ends those before it: it is at home, or the sequence of the home was no longer kept
-abbrev pub ends_others : (home : ℕ) → Remembered → Binding → Bool
-ends_others home r b = (b.careof == home) || not (nat_lt r.at r.until)
+abbrev pub ends_others : (home at until : ℕ) → Binding → Bool
+ends_others home at until b = (b.careof == home) || not (nat_lt at until)
 
 abbrev pub with_more : Remembered → List Entry → Entry → Remembered
 with_more r es e = record { at = r.at; until = r.until; entries = es ++ e ∷ [] }
@@ -57,7 +57,7 @@ with_more r es e = record { at = r.at; until = r.until; entries = es ++ e ∷ []
 abbrev pub with_told : (n home : ℕ) → Remembered → Entry → Option Binding → Remembered
 with_told n home r e None = with_more r r.entries e
 with_told n home r e (Some b) =
-    let es = (if ends_others home r b then [] else r.entries) ++ e ∷ [] in
+    let es = (if ends_others home r.at r.until b then [] else r.entries) ++ e ∷ [] in
     record { at = r.at; until = latest (r.at + max_nonce_lifetime) (left_in n home es); entries = es }
 
 abbrev pub remembered_step : (n home : ℕ) → Remembered → Entry → Remembered

@@ -82,6 +82,7 @@ fn left_first(entry: &Entry, more: &[Entry], node: NodeId, home: Address) -> Opt
 }
 
 /// The latest end of the bindings that these entries leave, and this moment at least.
+#[tactic(auto, using(crate::proofs::LeftLaws::latest_next))]
 pub fn latest_end(entries: &[Entry], node: NodeId, home: Address, moment: u128) -> u128
     ensures { result ≡ latest moment (left_in node.0 home.0 entries.now) }
 {
