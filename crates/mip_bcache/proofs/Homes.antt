@@ -1,12 +1,12 @@
 -- What is known of the rows of one home.
-use Rattle.std.proofs.Common.{◌≡◌, ◌≢◌, ℕ, zero, suc, ◌+◌, ◌-◌, ◌<◌, ◌≤◌, max, List, [], ◌∷◌, ◌++◌, Bool, true, false, length, map, take, drop, get_or, set, refl, sym, ap, subst, ◌∙◌, arith, append_assoc, drop_of_length-le}
-use Rattle.std.specs.Prelude.{Option, Some, None, option_map, is_some, not, ◌==◌, ◌||◌, slice_get, if◌then◌else◌, vec_capacity}
-use Rattle.std.specs.List.{AllByRecursion, filter, list_any}
+use Rattle.std.proofs.Common.{◌≡◌, ◌≢◌, ℕ, zero, suc, ◌+◌, ◌<◌, ◌≤◌, max, List, [], ◌∷◌, ◌++◌, Bool, true, false, length, map, take, drop, get_or, set, refl, sym, ap, subst, ◌∙◌, arith, drop_of_length-le}
+use Rattle.std.specs.Prelude.{Option, Some, None, not, ◌==◌, if◌then◌else◌}
+use Rattle.std.specs.List.{AllByRecursion}
 use Rattle.std.proofs.lemmas.Bool.Decides.{nat_tests}
 use Rattle.mip_lists.specs.Last.{or_else, last_where}
 use Rattle.mip_lists.proofs.LastLaws.{last_where-push}
-use Rattle.mip_binding.specs.Rows.{ApartBy, find_by, others_by, found_by, add_found, all_numbers}
-use Rattle.mip_binding.proofs.RowLaws.{all-filtered, all-push, others-other, apart-others, apart-push}
+use Rattle.mip_binding.specs.Rows.{ApartBy, others_by}
+use Rattle.mip_binding.proofs.RowLaws.{apart-others}
 use Rattle.mip_bcache.specs.declared.row.Row.{Row}
 use Rattle.mip_bcache.specs.Seen.{number_of, latest, until_set}
 

@@ -1,7 +1,7 @@
 -- What a cache answers is what the acceptances say for which it stands.
 use Rattle.std.proofs.Common.{◌≡◌, ℕ, ◌+◌, ◌<◌, ◌≤◌, max, List, [], ◌∷◌, ◌++◌, Bool, true, false, length, refl, sym, ap, subst, ◌∙◌, arith}
 use Rattle.std.specs.Prelude.{Option, Some, None, option_map, is_some, map, not, nat_lt, ◌&&◌, ◌==◌, slice_get, if◌then◌else◌}
-use Rattle.std.specs.List.{AllByRecursion, flat_map, list_any}
+use Rattle.std.specs.List.{AllByRecursion, flat_map}
 use Rattle.std.proofs.lemmas.Option.{slice_get-map}
 use Rattle.std.proofs.lemmas.List.{length-map}
 use Rattle.std.proofs.lemmas.Bool.Decides.{nat_tests}
@@ -11,13 +11,13 @@ use Rattle.mip_binding.specs.Acceptance.{Acceptance, Binding, binding_of}
 use Rattle.mip_binding.specs.Rows.{BindingRow, find_by, put_by, kept_by, others_by, found_by, add_found, all_numbers}
 use Rattle.mip_binding.specs.Homes.{HomeKept, home_key, until_key, number_key, latest as latest_of, kept_of, kept_with, homes, kept_homes, shown_in, shown_home, shown_rows}
 use Rattle.mip_binding.specs.Held.{is_standing, stands_under as standing_number, stands_at as standing_careof, careof_where, any_lives, held, held_under, holds, floor, is_full, homes_with_floor}
-use Rattle.mip_binding.proofs.RowLaws.{kept-kept, map-kept, map-put, map-find, kept-put, find-kept, if_kept, rises-kept, all-kept, all-find, last-map, any-map, others-map}
+use Rattle.mip_binding.proofs.RowLaws.{kept-kept, map-kept, map-put, map-find, kept-put, rises-kept, all-find, last-map, any-map, others-map}
 use Rattle.mip_binding.proofs.HomeLaws.{left_by, kept_with-left, kept_with-kept, kept_with-until, homes-none, homes-push, rises-homes}
 use Rattle.mip_binding.proofs.HeldLaws.{held-homes, under-homes, holds-homes, floor-homes}
 use Rattle.mip_words.specs.declared.address.Address.{Address}
 use Rattle.mip_bcache.specs.declared.row.Row.{Row}
 use Rattle.mip_bcache.specs.declared.accepted.Accepted.{Accepted}
-use Rattle.mip_bcache.specs.Seen.{HomeRows, CacheSeen, StandsFor, empty_cache, home_of, until_of, number_of, seen_binding, seen_row, seen_home, kept_at, home_at, stands, stands_under, stands_at, last_row, any_row, standing_at, standing_under, holds_at, floor_at, has_no_room, acceptance, row_for, latest, until_set, until_with, rows_made, rows_left, expired, with_acceptance, rows_of_home, rows_at}
+use Rattle.mip_bcache.specs.Seen.{HomeRows, CacheSeen, StandsFor, empty_cache, home_of, until_of, number_of, seen_binding, seen_row, seen_home, kept_at, home_at, last_row, any_row, standing_at, standing_under, holds_at, floor_at, has_no_room, acceptance, row_for, latest, until_set, until_with, rows_made, rows_left, expired, with_acceptance, rows_of_home, rows_at}
 
 pub empty_stands : (limit numbers : ℕ) → StandsFor (empty_cache limit numbers) []
 empty_stands limit numbers = record { same = sym (ap (kept_homes 0) homes-none) }

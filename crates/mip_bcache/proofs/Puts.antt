@@ -14,7 +14,7 @@ use Rattle.mip_chain.proofs.ItemLaws.{put_order, without_order}
 use Rattle.mip_bcache.specs.declared.row.Row.{Row}
 use Rattle.mip_bcache.specs.declared.home.Home.{Home}
 use Rattle.mip_bcache.specs.Seen.{no_room}
-use Rattle.mip_bcache.specs.Table.{key_of, due_of, IsSound, IsPlace, IsGap, TableSeen, add_home, homes_of, homes_in, item_for, AreApart, HaveSlots, has_slot, IsFilled, IsTable, IsHome, IsSpare, IsStocked, IsLoose}
+use Rattle.mip_bcache.specs.Table.{key_of, due_of, IsSound, IsPlace, IsGap, TableSeen, add_home, homes_of, homes_in, item_for, AreApart, HaveSlots, has_slot, IsFilled, IsTable, IsHome, IsSpare, IsLoose}
 use Rattle.mip_bcache.proofs.Places.{all_at}
 use Rattle.mip_bcache.proofs.Slots.{Items, find_put_same, find_put_other, find_without_other, find_without_none, rows_agree, length_rows}
 

@@ -1,8 +1,7 @@
 -- What an acceptance makes of a home.
 use Rattle.std.proofs.Common.{◌≡◌, ◌≢◌, ℕ, ◌+◌, ◌<◌, ◌≤◌, List, [], ◌∷◌, ◌++◌, Bool, true, false, length, length-append, map, refl, sym, ap, subst, ◌∙◌, arith, vec_capacity}
-use Rattle.std.specs.Prelude.{Option, Some, None, option_map, ◌==◌, if◌then◌else◌}
+use Rattle.std.specs.Prelude.{Option, Some, option_map, ◌==◌, if◌then◌else◌}
 use Rattle.std.specs.List.{AllByRecursion}
-use Rattle.std.specs.Global.{Vec}
 use Rattle.mip_words.specs.declared.address.Address.{Address}
 use Rattle.mip_binding.specs.Rows.{ApartBy, find_by, put_by, others_by}
 use Rattle.mip_binding.proofs.RowLaws.{all-push, all-filtered, apart-push, apart-others, others-other, map-put, map-find}
@@ -10,7 +9,7 @@ use Rattle.mip_bcache.specs.declared.row.Row.{Row}
 use Rattle.mip_bcache.specs.declared.home.Home.{Home}
 use Rattle.mip_bcache.specs.declared.accepted.Accepted.{Accepted}
 use Rattle.mip_bcache.specs.Seen.{HomeRows, home_of, number_of, until_set, until_with, row_for, rows_made, rows_left}
-use Rattle.mip_bcache.specs.Table.{live_in, key_of, due_of, rows_seen, TableSeen, homes_in, IsHome, IsSpare}
+use Rattle.mip_bcache.specs.Table.{live_in, key_of, due_of, rows_seen, TableSeen, homes_in, IsHome}
 use Rattle.mip_bcache.proofs.Homes.{as_many_numbers}
 
 -- rows that are kept to another moment have their numbers

@@ -1,11 +1,10 @@
 -- What a contract sees of a table.
-use Rattle.std.proofs.Common.{◌≡◌, ℕ, ◌+◌, ◌*◌, ◌^◌, ◌<◌, ◌≤◌, List, [], ◌∷◌, ◌++◌, length, length-append, refl, sym, ap, subst, ◌∙◌, arith, suc-mul, mul-le-mul_right}
+use Rattle.std.proofs.Common.{◌≡◌, ℕ, ◌+◌, ◌*◌, ◌^◌, ◌<◌, ◌≤◌, List, [], ◌∷◌, length, length-append, refl, sym, ap, subst, ◌∙◌, arith, suc-mul, mul-le-mul_right}
 use Rattle.std.specs.Prelude.{Option, Some, None, option_map, is_some, map, not, ◌&&◌, ◌==◌}
 use Rattle.std.specs.List.{AllByRecursion, flat_map}
 use Rattle.std.proofs.lemmas.List.{length-map}
 use Rattle.mip_binding.specs.Rows.{find_by, kept_by}
 use Rattle.mip_binding.proofs.RowLaws.{map-kept, map-find, all-kept, all-map, length-kept}
-use Rattle.mip_bcache.specs.declared.row.Row.{Row}
 use Rattle.mip_bcache.specs.declared.home.Home.{Home}
 use Rattle.mip_bcache.specs.Seen.{HomeRows, home_of, until_of, no_room, rows_of_home}
 use Rattle.mip_bcache.specs.Table.{live_in, key_of, due_of, rows_seen, TableSeen, homes_in, count_of, IsHome, IsTable}

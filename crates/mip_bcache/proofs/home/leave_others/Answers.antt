@@ -1,4 +1,4 @@
-use Rattle.std.proofs.Common.{◌≡◌, ◌≢◌, List, ◌++◌, [], ◌∷◌, Bool, true, false, length, length-append, vec_len, vec_capacity, not, ◌≤◌, ap, sym, ◌∙◌, arith, rules, if◌then◌else◌}
+use Rattle.std.proofs.Common.{◌≡◌, List, ◌++◌, [], ◌∷◌, Bool, true, false, length, length-append, vec_len, vec_capacity, not, ◌≤◌, ap, sym, ◌∙◌, arith, rules, if◌then◌else◌}
 use Rattle.std.specs.Prelude.{◌==◌}
 use Rattle.std.proofs.lemmas.Fn.{filter_same}
 use Rattle.std.proofs.lemmas.Bool.Decides.{nat_tests}

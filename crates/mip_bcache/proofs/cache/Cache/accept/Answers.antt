@@ -1,7 +1,7 @@
 use Rattle.std.proofs.Common.{◌≡◌, ◌<◌, ℕ, List, [], ◌∷◌, ◌++◌, map, Bool, true, false, refl, ap, sym, ◌∙◌, subst}
 use Rattle.std.specs.Prelude.{not}
 use Rattle.mip_binding.specs.Rows.{find_by, put_by}
-use Rattle.mip_bcache.specs.Seen.{CacheSeen, HomeRows, StandsFor, home_of, acceptance, rows_made, rows_left, no_room, has_no_room, with_acceptance}
+use Rattle.mip_bcache.specs.Seen.{CacheSeen, HomeRows, StandsFor, home_of, acceptance, rows_made, rows_left, no_room, has_no_room}
 use Rattle.mip_bcache.specs.Table.{seen, homes_in, rows_seen}
 use Rattle.mip_bcache.proofs.Pasts.{accept_stands}
 use Rattle.mip_bcache.proofs.Views.{room_seen}

@@ -1,10 +1,9 @@
-use Rattle.std.proofs.Common.{◌≡◌, ◌+◌, ℕ, List, length, map, ap, sym, ◌∙◌, subst, arith}
+use Rattle.std.proofs.Common.{ℕ, List, length, map, ap, sym, ◌∙◌, subst, arith}
 use Rattle.mip_bcache.specs.declared.home.Home.{Home}
 use Rattle.mip_bcache.specs.Seen.{CacheSeen, HomeRows, StandsFor, expired, live_rows}
 use Rattle.mip_bcache.specs.Table.{seen, homes_in, rows_seen}
 use Rattle.mip_bcache.proofs.Pasts.{expire_stands}
 use Rattle.mip_bcache.proofs.Views.{kept_seen, count_seen}
-use Rattle.mip_bcache.proofs.cache.Cache.expire.Given.{Over}
 use Rattle.mip_bcache.proofs.cache.Cache.expire.Goals as goal
 
 pub returns-clause-homes : goal.returns-clause-homes

@@ -1,7 +1,7 @@
 use Rattle.std.proofs.Common.{◌≡◌, ap, ◌∙◌, subst}
 use Rattle.std.specs.Prelude.{not}
 use Rattle.mip_binding.specs.Rows.{kept_by}
-use Rattle.mip_bcache.specs.Seen.{CacheSeen, HomeRows, home_of, no_room, has_no_room}
+use Rattle.mip_bcache.specs.Seen.{CacheSeen, home_of, no_room, has_no_room}
 use Rattle.mip_bcache.specs.Table.{seen, due_of, homes_in}
 use Rattle.mip_bcache.proofs.Pasts.{room_answers}
 use Rattle.mip_bcache.proofs.Views.{kept_seen, room_seen}

@@ -1,5 +1,5 @@
-use Rattle.std.proofs.Common.{◌≡◌, ◌≤◌, ℕ, List, [], ◌∷◌, ◌++◌, ◌+◌, length, length-append, map, refl, sym, ap, subst, ◌∙◌, arith, vec_len, vec_capacity, option_to_list}
-use Rattle.std.specs.Prelude.{Option, Some, None, false}
+use Rattle.std.proofs.Common.{◌≡◌, ◌≤◌, ℕ, List, [], ◌∷◌, ◌++◌, ◌+◌, length, length-append, refl, sym, ap, subst, ◌∙◌, arith, vec_len, vec_capacity, option_to_list}
+use Rattle.std.specs.Prelude.{Option, None, false}
 use Rattle.std.specs.List.{AllByRecursion, insert}
 use Rattle.std.specs.Global.{Vec}
 use Rattle.mip_chain.specs.Chain.{ChainSeen, put}
@@ -7,7 +7,7 @@ use Rattle.mip_chain.specs.declared.slot.Slot.{Slot}
 use Rattle.mip_bcache.specs.declared.row.Row.{Row}
 use Rattle.mip_bcache.specs.declared.home.Home.{Home}
 use Rattle.mip_bcache.specs.Seen.{HomeRows, rows_made, no_room}
-use Rattle.mip_bcache.specs.Table.{TableSeen, seen, key_of, homes_in, rows_seen, item_for, IsHome, IsSpare, IsGap}
+use Rattle.mip_bcache.specs.Table.{seen, key_of, homes_in, rows_seen, item_for, IsSpare, IsGap}
 use Rattle.mip_bcache.proofs.Slots.{length_rows}
 use Rattle.mip_bcache.proofs.Puts.{IsPut, changed, added, as_many, slot_free}
 use Rattle.mip_bcache.proofs.Renewals.{made_well, none_left, put_seen, all_front}

@@ -1,8 +1,8 @@
-use Rattle.std.proofs.Common.{◌≡◌, ℕ, ◌+◌, ◌≤◌, List, [], ◌∷◌, length, length-append, vec_capacity, sym, ap, subst, ◌∙◌, arith}
-use Rattle.mip_chain.specs.Chain.{ChainSeen, without_due}
+use Rattle.std.proofs.Common.{◌≡◌, ℕ, ◌+◌, [], ◌∷◌, length-append, vec_capacity, sym, ap, subst, ◌∙◌, arith}
+use Rattle.mip_chain.specs.Chain.{ChainSeen}
 use Rattle.mip_bcache.specs.declared.home.Home.{Home}
-use Rattle.mip_bcache.specs.Table.{live_in, count_in, later, IsStocked}
-use Rattle.mip_bcache.proofs.Spares.{IsPopped, popped, few_live, count_fits, none_due, shelved}
+use Rattle.mip_bcache.specs.Table.{count_in, later, IsStocked}
+use Rattle.mip_bcache.proofs.Spares.{popped, few_live, count_fits, none_due, shelved}
 use Rattle.mip_bcache.proofs.table.Table.empty_slots.Given.{Over}
 use Rattle.mip_bcache.proofs.table.Table.empty_slots.Goals.{After-shelve-given_up, In_default}
 use Rattle.mip_bcache.proofs.table.Table.empty_slots.Goals as goal

@@ -1,12 +1,11 @@
-use Rattle.std.proofs.Common.{arith, ◌≡◌, ◌+◌, ℕ, List, length, refl, sym, ap, subst, ◌∙◌, rules, vec_capacity}
+use Rattle.std.proofs.Common.{arith, ◌≡◌, ◌+◌, ℕ, List, sym, ap, subst, ◌∙◌, rules, vec_capacity}
 use Rattle.std.proofs.lemmas.Fn.{filter_same}
 use Rattle.std.specs.Global.{Vec}
-use Rattle.mip_chain.specs.Chain.{Item, ChainSeen}
+use Rattle.mip_chain.specs.Chain.{ChainSeen}
 use Rattle.mip_chain.specs.declared.slot.Slot.{Slot}
-use Rattle.mip_bcache.specs.declared.row.Row.{Row}
 use Rattle.mip_bcache.specs.declared.home.Home.{Home}
 use Rattle.mip_bcache.specs.declared.table.Table.{Table}
-use Rattle.mip_bcache.specs.Table.{TableSeen, seen, homes_in, homes_of, count_of, count_in, later, IsTable, IsStocked}
+use Rattle.mip_bcache.specs.Table.{TableSeen, seen, homes_in, count_of, count_in, later, IsTable, IsStocked}
 use Rattle.mip_bcache.proofs.Closing.{closed_same, closed, is_filled, given_up, homes_left, table_left, count_left}
 use Rattle.mip_bcache.proofs.table.Table.give_up.Given.{Over}
 use Rattle.mip_bcache.proofs.table.Table.give_up.Goals.{After-retain, Then-given_up-eq0}

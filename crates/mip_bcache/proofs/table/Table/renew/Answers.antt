@@ -1,13 +1,12 @@
-use Rattle.std.proofs.Common.{◌≤◌, ◌≡◌, ◌<◌, ◌+◌, ℕ, List, [], ◌∷◌, true, length, map, get_or, set, refl, sym, ap, subst, ◌∙◌, arith, vec_capacity}
+use Rattle.std.proofs.Common.{◌≤◌, ◌≡◌, ◌<◌, ◌+◌, ℕ, length, get_or, set, refl, sym, ap, subst, ◌∙◌, arith, vec_capacity}
 use Rattle.std.specs.Prelude.{Option, Some, None, option_map, is_some, slice_get}
 use Rattle.std.specs.Vec.{with_item}
 use Rattle.mip_chain.specs.Chain.{Item, ChainSeen, find, put, without}
 use Rattle.mip_chain.specs.declared.slot.Slot.{Slot}
-use Rattle.mip_bcache.specs.declared.row.Row.{Row}
 use Rattle.mip_bcache.specs.declared.home.Home.{Home}
 use Rattle.mip_bcache.specs.declared.table.Table.{Table}
-use Rattle.mip_bcache.specs.Seen.{HomeRows, row_for, rows_left}
-use Rattle.mip_bcache.specs.Table.{TableSeen, seen, key_of, homes_in, rows_seen, item_for, IsHome, IsTable, IsPlace}
+use Rattle.mip_bcache.specs.Seen.{HomeRows, row_for}
+use Rattle.mip_bcache.specs.Table.{TableSeen, seen, key_of, homes_in, item_for, IsHome, IsTable, IsPlace}
 use Rattle.mip_bcache.proofs.Puts.{IsPut, replaced, as_many, slot_left, has_place}
 use Rattle.mip_bcache.proofs.Searches.{row_at_place}
 use Rattle.mip_bcache.proofs.Renewals.{made_well, are_left, others_left, left_fit, put_seen}

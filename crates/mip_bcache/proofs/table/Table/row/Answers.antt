@@ -1,5 +1,5 @@
 use Rattle.std.proofs.Common.{◌≡◌, ◌<◌, ◌≤◌, ℕ, ◌+◌, List, drop, get_or, length, sym, ap, subst, ◌∙◌}
-use Rattle.std.specs.Prelude.{Some, None, is_some, option_copied, slice_get}
+use Rattle.std.specs.Prelude.{Some, is_some, option_copied, slice_get}
 use Rattle.mip_chain.specs.Chain.{find}
 use Rattle.mip_chain.specs.declared.slot.Slot.{Slot}
 use Rattle.mip_bcache.specs.Table.{homes_of, kept_in}
