@@ -9,7 +9,7 @@ use Rattle.mip_lists.proofs.EachLaws.{each-append}
 use Rattle.mip_words.specs.declared.address.Address.{Address}
 use Rattle.mip_words.specs.declared.ids.LinkId.{LinkId}
 use Rattle.mip_bcache.specs.declared.row.Row.{Row}
-use Rattle.mip_bcache.specs.Seen.{kept_at}
+use Rattle.mip_bcache.specs.Seen as caches
 use Rattle.mip_entries.specs.declared.entry.Entry.{Entry}
 use Rattle.mip_entries.specs.declared.entry.Entry.TheVariants as entries
 use Rattle.mip_entries.specs.Completed.{node_id}
@@ -54,9 +54,9 @@ homes_idle n (r ∷ rows) = homes_idle n rows
 module _ (s : Setup) (Q : Type 0) where
   -- what is shown and lost, and a mobile that moves
   shown_idle : (n : ℕ) (own : Address) (run : Run) (kind : Kind) → list_any is_busy (rows_by_kind s n own run kind) ≡ false
-  shown_idle n own run (Correspondent room) = rows_idle n (kept_at (known_in s run n room).cache (now_in s run))
+  shown_idle n own run (Correspondent room) = rows_idle n (caches.rows_at (known_in s run n room).cache (now_in s run))
   shown_idle n own run (Agent preference life room serves) = homes_idle n (rows_at (now_in s run) (agent_known_in run n serves).homes)
-  shown_idle n own run (Mobile agent) = rows_idle n (kept_at (mobile_known_in s run n own agent).part.known.cache (now_in s run))
+  shown_idle n own run (Mobile agent) = rows_idle n (caches.rows_at (mobile_known_in s run n own agent).part.known.cache (now_in s run))
 
   adds_shown : (n : ℕ) (run : Run) → IsGood run → Adds s Q run (shown s n run)
   adds_shown n run good = by (slice_get s.hosts n)
