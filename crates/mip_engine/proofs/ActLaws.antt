@@ -49,28 +49,28 @@ module _ (e : EngineSeen) (s : Setup) (run : Run) (at : IsAt e s run) (n : ℕ) 
   here kind = node_in s run n (record { address = own; kind = kind })
 
   -- a correspondent that knows what a call leaves known
-  correspondent_on : (room : ℕ) (call : correspondents.Call) → At (OfCorrespondent room) → (let me = identity_in s run n own room in let t = correspondent_doing.turn_of me (known_in run n room) (now_in s run) call in
+  correspondent_on : (room : ℕ) (call : correspondents.Call) → At (OfCorrespondent room) → (let me = identity_in s run n own room in let t = correspondent_doing.turn_of me (known_in s run n room) (now_in s run) call in
       with_role (Correspondent (record { identity = me; known = t.known })) (here (OfCorrespondent room))
       ≡ node_in s (with_past n (correspondent_turns.with_turn (past_at run n) t) run) n (record { address = own; kind = OfCorrespondent room }))
   correspondent_on room call is_host =
       let me = identity_in s run n own room in
-      let past = correspondent_turns.with_turn (past_at run n) (correspondent_doing.turn_of me (known_in run n room) (now_in s run) call) in
+      let past = correspondent_turns.with_turn (past_at run n) (correspondent_doing.turn_of me (known_in s run n room) (now_in s run) call) in
       let inside = slice_get_within s.hosts n _ is_host in
       let same : slice_index_or (slice_set run.pasts n past) n [] ≡ past = get_or-set_same run.pasts n past [] (omega (arith, inside, at.pasts)) in
       ap (λ k. with_role (Correspondent (record { identity = me; known = k })) (here (OfCorrespondent room)))
-      (knows_on me (now_in s run) room (past_at run n) call ∙ ap (known room) (sym same))
+      (knows_on me (now_in s run) room s.numbers (past_at run n) call ∙ ap (known room s.numbers) (sym same))
 
   -- what a correspondent does, once it is known what the call is to it
   pub correspondent_acts : (room : ℕ) → At (OfCorrespondent room) → slice_get e.nodes n ≡ Some (here (OfCorrespondent room)) → (from : ℕ) → unwrap_or (link_of s.links own.0) 0 ≡ from
-      → (o : Option correspondents.Call) → (let me = identity_in s run n own room in let k = known_in run n room in let now = now_in s run in
+      → (o : Option correspondents.Call) → (let me = identity_in s run n own room in let k = known_in s run n room in let now = now_in s run in
       Acts e s n (here (OfCorrespondent room)) from
       (or_same (Correspondent (record { identity = me; known = k })) (λ x. Correspondent (record { identity = me; known = (correspondent_doing.turn_of me k now x).known })) o)
       (or_idle (λ x. correspondent_steps.answers_of (correspondent_doing.turn_of me k now x).steps) o)
-      (asks (λ c run. turned s n own (correspondent_doing.turn_of (identity_in s run n own room) (known_in run n room) (now_in s run) c) run) o run))
+      (asks (λ c run. turned s n own (correspondent_doing.turn_of (identity_in s run n own room) (known_in s run n room) (now_in s run) c) run) o run))
   correspondent_acts room is_host there from sends None = acts_idle e s run at n (here (OfCorrespondent room)) from there
   correspondent_acts room is_host there from sends (Some call) =
       let me = identity_in s run n own room in
-      let t = correspondent_doing.turn_of me (known_in run n room) (now_in s run) call in
+      let t = correspondent_doing.turn_of me (known_in s run n room) (now_in s run) call in
       let past = correspondent_turns.with_turn (past_at run n) t in
       record {
         next = with_past n past run;
@@ -116,7 +116,7 @@ module _ (e : EngineSeen) (s : Setup) (run : Run) (at : IsAt e s run) (n : ℕ) 
       let inside = slice_get_within s.hosts n _ is_host in
       let same : slice_index_or (slice_set run.mobile_pasts n past) n [] ≡ past = get_or-set_same run.mobile_pasts n past [] (omega (arith, inside, at.mobile_pasts)) in
       ap (λ k. with_role (Mobile k) (here (OfMobile agent)))
-      (mobile_knows_on (now_in s run) own agent (secrets_in s n 0) (mobile_past_at run n) call ∙ ap (mobile_questions.known own agent (secrets_in s n 0)) (sym same))
+      (mobile_knows_on (now_in s run) own agent s.numbers (secrets_in s n 0) (mobile_past_at run n) call ∙ ap (mobile_questions.known own agent s.numbers (secrets_in s n 0)) (sym same))
 
   pub mobile_acts : (agent : Option Address) → At (OfMobile agent) → slice_get e.nodes n ≡ Some (here (OfMobile agent)) → (from : ℕ) → unwrap_or (stands_on s run n own) 0 ≡ from
       → (o : Option mobiles.Call) → (let k = mobile_known_in s run n own agent in let now = now_in s run in

@@ -34,10 +34,10 @@ calm_push nodes now c calm room early = record { early = calm.early; few = omega
     by (y ∷ ys) all (suc m) x found = by ys (λ m x found. all (suc m) x found) m x found
 
 -- a node in its next life was called at no later moment
-pub reborn_early : (seed : List ℕ) (n : ℕ) (c : NodeSeen) (now : ℕ) → last_of c.role ≤ now → last_of (reborn seed n c).role ≤ now
-reborn_early seed n c now early = by c.role early
+pub reborn_early : (seed : List ℕ) (numbers n : ℕ) (c : NodeSeen) (now : ℕ) → last_of c.role ≤ now → last_of (reborn seed numbers n c).role ≤ now
+reborn_early seed numbers n c now early = by c.role early
   where
-    by : (role : Role) → last_of role ≤ now → last_of (next_role role (new_role seed n (suc c.life) c.host.address c.host.kind)) ≤ now
-    by (Correspondent x) early = omega (arith, new_last seed n (suc c.life) c.host.address c.host.kind)
-    by (Agent x) early = omega (arith, new_last seed n (suc c.life) c.host.address c.host.kind)
+    by : (role : Role) → last_of role ≤ now → last_of (next_role role (new_role seed numbers n (suc c.life) c.host.address c.host.kind)) ≤ now
+    by (Correspondent x) early = omega (arith, new_last seed numbers n (suc c.life) c.host.address c.host.kind)
+    by (Agent x) early = omega (arith, new_last seed numbers n (suc c.life) c.host.address c.host.kind)
     by (Mobile k) early = early

@@ -95,6 +95,7 @@ module _ (e : EngineSeen) (s : Setup) (run : Run) (n : ℕ) (x : Entry) (of : Is
     agent_pasts = at.agent_pasts;
     mobile_pasts = at.mobile_pasts;
     outsiders = at.outsiders;
+    numbers = at.numbers;
     now = at.now ∙ sym (moment-push s.start run.past x ∙ ap (λ (o : Option ℕ). unwrap_or o (moment_in s.start run.past)) of.moment);
     history = history-same e s run x at;
     numbered = numbered_apart run.posts run.past x of.apart at.numbered;

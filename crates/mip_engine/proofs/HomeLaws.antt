@@ -10,4 +10,4 @@ use Rattle.mip_nodes.proofs.RoleLaws.{mobile_home}
 
 -- through all its lives a mobile has the home that it was declared with
 pub home_in : (s : Setup) (run : Run) (n : ℕ) (home : Address) (agent : Option Address) → home_of (mobile_known_in s run n home agent) ≡ home
-home_in s run n home agent = mobile_home home agent (secrets_in s n 0) (mobile_past_at run n)
+home_in s run n home agent = mobile_home home agent s.numbers (secrets_in s n 0) (mobile_past_at run n)

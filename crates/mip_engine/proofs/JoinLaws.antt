@@ -328,11 +328,11 @@ module _ (e : EngineSeen) (s : Setup) (front rest : List Host) (host : Host) (pl
 
 -- an engine to which nothing has happened, as the start of a setup
 abbrev pub setup_at : EngineSeen → List Host → Setup
-setup_at e hosts = record { seed = e.seed; start = e.moment; links = e.net.links; hosts = hosts; outsiders = e.outsiders }
+setup_at e hosts = record { seed = e.seed; start = e.moment; links = e.net.links; hosts = hosts; outsiders = e.outsiders; numbers = e.numbers }
 
-pub is_new : (e : EngineSeen) (seed : List ℕ) (start : ℕ) (links : List ℕ) (outsiders : ℕ) → e ≡ new_engine seed start links outsiders
-    → e ≡ new_engine e.seed e.moment e.net.links e.outsiders
-is_new e seed start links outsiders is = is ∙ sym (ap (λ (x : EngineSeen). new_engine x.seed x.moment x.net.links x.outsiders) is)
+pub is_new : (e : EngineSeen) (seed : List ℕ) (start : ℕ) (links : List ℕ) (outsiders numbers : ℕ) → e ≡ new_engine seed start links outsiders numbers
+    → e ≡ new_engine e.seed e.moment e.net.links e.outsiders e.numbers
+is_new e seed start links outsiders numbers is = is ∙ sym (ap (λ (x : EngineSeen). new_engine x.seed x.moment x.net.links x.outsiders x.numbers) is)
 
 -- the links of a schedule are few
 pub links_few : (xs : List Prefix) (ds : List Declaration) → map (λ (p : Prefix). p.0) xs ≡ links_in ds → AreFew ds → length xs ≤ 32

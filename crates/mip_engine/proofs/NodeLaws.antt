@@ -144,6 +144,7 @@ module _ (e : EngineSeen) (s : Setup) (run : Run) (at : IsAt e s run) (n : ℕ) 
         agent_pasts = d.agent_pasts ∙ at.agent_pasts;
         mobile_pasts = d.mobile_pasts ∙ at.mobile_pasts;
         outsiders = at.outsiders;
+        numbers = at.numbers;
         now = rw d.past at.now;
         history = at.history ∙ sym d.past;
         numbered = rw (d.posts, d.past) at.numbered;

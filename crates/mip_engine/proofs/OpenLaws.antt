@@ -60,7 +60,7 @@ deaf o l = by (nat_lt o 8 && nat_lt l 32)
     by false = refl
 
 -- nothing has happened, and there is no node
-pub at_new : (s : Setup) → IsAt (new_engine s.seed s.start s.links s.outsiders) (with_hosts [] s) (opened (with_hosts [] s))
+pub at_new : (s : Setup) → IsAt (new_engine s.seed s.start s.links s.outsiders s.numbers) (with_hosts [] s) (opened (with_hosts [] s))
 at_new s =
     let firsts : declared_of (replicate 40 None) ≡ (λ (by : ℕ). None) = fun_ext (λ (by : ℕ). none_first 40 by) in
     record {
@@ -77,6 +77,7 @@ at_new s =
       agent_pasts = refl;
       mobile_pasts = refl;
       outsiders = refl;
+      numbers = refl;
       now = refl;
       history = refl;
       numbered = numbered_none;
@@ -111,20 +112,20 @@ no_past (h ∷ hosts) (suc m) = no_past hosts m
 
 -- a node with nothing behind it
 node_first : (s : Setup) (run : Run) (m : ℕ) (h : Host) → life_in run.past m ≡ 0 → ((home : Option ℕ) → spot_in home run.past m ≡ home)
-    → past_at run m ≡ [] → agent_past_at run m ≡ [] → mobile_past_at run m ≡ [] → node_in s run m h ≡ new_node s.seed m (link_of s.links h.address.0) h
+    → past_at run m ≡ [] → agent_past_at run m ≡ [] → mobile_past_at run m ≡ [] → node_in s run m h ≡ new_node s.seed s.numbers m (link_of s.links h.address.0) h
 node_first s run m h life spot past agent mobile = made (life_in run.past m) (spot_in (link_of s.links h.address.0) run.past m) (role_in s run m h.address h.kind) life (spot (link_of s.links h.address.0)) (by h.address h.kind)
   where
-    made : (l : ℕ) (o : Option ℕ) (r : Role) → l ≡ 0 → o ≡ link_of s.links h.address.0 → r ≡ new_role s.seed m 0 h.address h.kind
-        → ◌≡◌ {A = NodeSeen} (record { host = h; life = l; spot = o; role = r }) (new_node s.seed m (link_of s.links h.address.0) h)
+    made : (l : ℕ) (o : Option ℕ) (r : Role) → l ≡ 0 → o ≡ link_of s.links h.address.0 → r ≡ new_role s.seed s.numbers m 0 h.address h.kind
+        → ◌≡◌ {A = NodeSeen} (record { host = h; life = l; spot = o; role = r }) (new_node s.seed s.numbers m (link_of s.links h.address.0) h)
     made l o r e f g = cc
 
-    by : (own : Address) (kind : Kind) → role_in s run m own kind ≡ new_role s.seed m 0 own kind
+    by : (own : Address) (kind : Kind) → role_in s run m own kind ≡ new_role s.seed s.numbers m 0 own kind
     by own (OfCorrespondent room) =
-        ap (λ (l : ℕ). Correspondent (record { identity = record { own = own; secrets = secrets_in s m l; room = room }; known = known_in run m room })) life
-        ∙ ap (λ (k : Known). Correspondent (record { identity = record { own = own; secrets = secrets_in s m 0; room = room }; known = k })) (ap (known room) past ∙ known_first room)
+        ap (λ (l : ℕ). Correspondent (record { identity = record { own = own; secrets = secrets_in s m l; room = room }; known = known_in s run m room })) life
+        ∙ ap (λ (k : Known). Correspondent (record { identity = record { own = own; secrets = secrets_in s m 0; room = room }; known = k })) (ap (known room s.numbers) past ∙ known_first room s.numbers)
     by own (OfAgent preference seconds room serves) =
         ap (λ (k : agent_known.Known). Agent (record { identity = record { own = own; preference = preference; life = seconds; room = room }; known = k })) (ap (agent_questions.known serves) agent ∙ agent_known_first serves)
-    by own (OfMobile declared) = ap (λ (k : mobile_known.Known). Mobile k) (ap (mobile_questions.known own declared (secrets_in s m 0)) mobile ∙ mobile_known_first own declared (secrets_in s m 0))
+    by own (OfMobile declared) = ap (λ (k : mobile_known.Known). Mobile k) (ap (mobile_questions.known own declared s.numbers (secrets_in s m 0)) mobile ∙ mobile_known_first own declared s.numbers (secrets_in s m 0))
 
 push_nodes : {A B : Type 0} (xs : List A) (ys : List B) (f : ℕ → B → A) (x : A) (y : B) → ((m : ℕ) → slice_get xs m ≡ option_map (f m) (slice_get ys m)) → x ≡ f (length ys) y
     → (m : ℕ) → slice_get (xs ++ x ∷ []) m ≡ option_map (f m) (slice_get (ys ++ y ∷ []) m)
@@ -165,7 +166,7 @@ module _ (e : EngineSeen) (s : Setup) (hosts : List Host) (host : Host) (small :
   past_is = ap (λ (x : Entry). (opened before).past ++ x ∷ []) claim_is
 
   abbrev node : ℕ → Host → NodeSeen
-  node m h = new_node s.seed m (link_of s.links h.address.0) h
+  node m h = new_node s.seed s.numbers m (link_of s.links h.address.0) h
 
   lives : (run : Run) → (more : List Entry) → run.past ≡ (opened before).past ++ more → ((m : ℕ) → fold (restarts m) 0 more ≡ 0) → (m : ℕ) → life_in run.past m ≡ 0
   lives run more is none m =
@@ -187,15 +188,16 @@ module _ (e : EngineSeen) (s : Setup) (hosts : List Host) (host : Host) (small :
           (spots (opened before) [] (sym (append-nil (opened before).past)) (λ k home. refl) m)
           (no_past hosts m) (no_past hosts m) (no_past hosts m))
 
-  new_is : new_node e.seed (length e.nodes) (link_of e.net.links host.address.0) host ≡ node (length hosts) host
+  new_is : new_node e.seed e.numbers (length e.nodes) (link_of e.net.links host.address.0) host ≡ node (length hosts) host
   new_is =
-      ap (λ (n : ℕ). new_node e.seed n (link_of e.net.links host.address.0) host) n_is
-      ∙ ap (λ (seed : List ℕ). new_node seed (length hosts) (link_of e.net.links host.address.0) host) at.seed
-      ∙ ap (λ (q : Asked). new_node s.seed (length hosts) (link_of q.links host.address.0) host) at.asked
+      ap (λ (n : ℕ). new_node e.seed e.numbers n (link_of e.net.links host.address.0) host) n_is
+      ∙ ap (λ (seed : List ℕ). new_node seed e.numbers (length hosts) (link_of e.net.links host.address.0) host) at.seed
+      ∙ ap (λ (numbers : ℕ). new_node s.seed numbers (length hosts) (link_of e.net.links host.address.0) host) at.numbers
+      ∙ ap (λ (q : Asked). new_node s.seed s.numbers (length hosts) (link_of q.links host.address.0) host) at.asked
 
-  are : (m : ℕ) → slice_get (e.nodes ++ new_node e.seed (length e.nodes) (link_of e.net.links host.address.0) host ∷ []) m ≡ option_map (node_in after arrived m) (slice_get (hosts ++ host ∷ []) m)
+  are : (m : ℕ) → slice_get (e.nodes ++ new_node e.seed e.numbers (length e.nodes) (link_of e.net.links host.address.0) host ∷ []) m ≡ option_map (node_in after arrived m) (slice_get (hosts ++ host ∷ []) m)
   are m =
-      push_nodes e.nodes hosts node (new_node e.seed (length e.nodes) (link_of e.net.links host.address.0) host) host were new_is m ∙ by (slice_get (hosts ++ host ∷ []) m)
+      push_nodes e.nodes hosts node (new_node e.seed e.numbers (length e.nodes) (link_of e.net.links host.address.0) host) host were new_is m ∙ by (slice_get (hosts ++ host ∷ []) m)
     where
       by : (o : Option Host) → option_map (node m) o ≡ option_map (node_in after arrived m) o
       by None = refl
@@ -214,11 +216,12 @@ module _ (e : EngineSeen) (s : Setup) (hosts : List Host) (host : Host) (small :
     spots = at.spots;
     firsts = claims.firsts;
     nodes = are;
-    count = length_push e.nodes (new_node e.seed (length e.nodes) (link_of e.net.links host.address.0) host) ∙ ap (λ (n : ℕ). n + 1) n_is ∙ sym (length_push hosts host);
+    count = length_push e.nodes (new_node e.seed e.numbers (length e.nodes) (link_of e.net.links host.address.0) host) ∙ ap (λ (n : ℕ). n + 1) n_is ∙ sym (length_push hosts host);
     pasts = length-map (hosts ++ host ∷ []) (λ (h : Host). let l : List (Stamped Step) = [] in l);
     agent_pasts = length-map (hosts ++ host ∷ []) (λ (h : Host). let l : List (Stamped agents.Step) = [] in l);
     mobile_pasts = length-map (hosts ++ host ∷ []) (λ (h : Host). let l : List (Stamped mobiles.Step) = [] in l);
     outsiders = at.outsiders;
+    numbers = at.numbers;
     now = claims.now ∙ ap (λ (past : List Entry). moment_in s.start past) past_is;
     history = claims.history ∙ past_is;
     numbered = subst (λ (past : List Entry). IsNumbered [] past) past_is claims.numbered;

@@ -71,6 +71,7 @@ at_left e s run k at = record {
   agent_pasts = at.agent_pasts;
   mobile_pasts = at.mobile_pasts;
   outsiders = at.outsiders;
+  numbers = at.numbers;
   now = at.now;
   history = at.history;
   numbered = at.numbered;
@@ -78,14 +79,14 @@ at_left e s run k at = record {
 
 -- no entries
 pub with_none : (e : EngineSeen) → with_entries [] e ≡ e
-with_none e = ap (λ (h : List Entry). record { seed = e.seed; net = e.net; nodes = e.nodes; outsiders = e.outsiders; moment = e.moment; past = h; told = e.told }) (append-nil e.past)
+with_none e = ap (λ (h : List Entry). record { seed = e.seed; net = e.net; nodes = e.nodes; outsiders = e.outsiders; numbers = e.numbers; moment = e.moment; past = h; told = e.told }) (append-nil e.past)
 
 pub notes_none : (run : Run) → notes [] run ≡ run
 notes_none run = ap (λ (h : List Entry). record { past = h; pasts = run.pasts; agent_pasts = run.agent_pasts; mobile_pasts = run.mobile_pasts; posts = run.posts; flying = run.flying }) (append-nil run.past)
 
 -- entries behind entries
 pub with_more : (xs ys : List Entry) (e : EngineSeen) → with_entries ys (with_entries xs e) ≡ with_entries (xs ++ ys) e
-with_more xs ys e = ap (λ (h : List Entry). record { seed = e.seed; net = e.net; nodes = e.nodes; outsiders = e.outsiders; moment = e.moment; past = h; told = e.told }) (append_assoc e.past xs ys)
+with_more xs ys e = ap (λ (h : List Entry). record { seed = e.seed; net = e.net; nodes = e.nodes; outsiders = e.outsiders; numbers = e.numbers; moment = e.moment; past = h; told = e.told }) (append_assoc e.past xs ys)
 
 pub notes_more : (xs ys : List Entry) (run : Run) → notes ys (notes xs run) ≡ notes (xs ++ ys) run
 notes_more xs ys run = ap (λ (h : List Entry). record { past = h; pasts = run.pasts; agent_pasts = run.agent_pasts; mobile_pasts = run.mobile_pasts; posts = run.posts; flying = run.flying }) (append_assoc run.past xs ys)
@@ -150,6 +151,7 @@ at_posting e s run post x silent number bytes at = record {
   agent_pasts = at.agent_pasts;
   mobile_pasts = at.mobile_pasts;
   outsiders = at.outsiders;
+  numbers = at.numbers;
   now = now-same e s run x silent.timeless at;
   history = history-same e s run x at;
   numbered = numbered_posted run.posts run.past x post number bytes at.numbered;

@@ -143,6 +143,7 @@ at_silent e s run x quiet numbered at = record {
   agent_pasts = at.agent_pasts;
   mobile_pasts = at.mobile_pasts;
   outsiders = at.outsiders;
+  numbers = at.numbers;
   now = now-same e s run x quiet.timeless at;
   history = history-same e s run x at;
   numbered = numbered;

@@ -3,7 +3,7 @@ use Rattle.std.proofs.Common.{◌≡◌, ℕ, zero, suc, ◌+◌, List, [], ◌�
 use Rattle.std.specs.Prelude.{Some, None, slice_get, take, map}
 use Rattle.std.specs.List.{AllByRecursion}
 use Rattle.mip_words.specs.declared.address.Address.{Address}
-use Rattle.mip_bcache.specs.Seen.{kept_at}
+use Rattle.mip_bcache.specs.Seen.{rows_at as cache_rows}
 use Rattle.mip_bcache.specs.declared.row.Row.{Row}
 use Rattle.mip_entries.specs.declared.entry.Entry.{Entry}
 use Rattle.mip_entries.specs.declared.entry.Entry.TheVariants.{Idle}
@@ -34,9 +34,9 @@ quiet_homes n [] = tt
 quiet_homes n (r ∷ rows) = (quiet_by (home_entry n r) refl refl, quiet_homes n rows)
 
 quiet_shown : (n : ℕ) (role : Role) (now : ℕ) → AllByRecursion IsQuiet (rows_of n role now)
-quiet_shown n (Correspondent c) now = quiet_rows n (kept_at c.known.cache now)
+quiet_shown n (Correspondent c) now = quiet_rows n (cache_rows c.known.cache now)
 quiet_shown n (Agent a) now = quiet_homes n (rows_at now a.known.homes)
-quiet_shown n (Mobile k) now = quiet_rows n (kept_at k.part.known.cache now)
+quiet_shown n (Mobile k) now = quiet_rows n (cache_rows k.part.known.cache now)
 
 module _ (e : EngineSeen) (s : Setup) (run : Run) (at : IsAt e s run) (n : ℕ) where
   pub at_shown : (role : Role) → IsAt (with_entries (rows_of n role e.moment) e) s (notes (rows_of n role e.moment) run)

@@ -22,6 +22,8 @@ pub record EngineSeen : Type 0 where
   pub net : NetSeen
   pub nodes : List NodeSeen
   pub outsiders : ℕ
+  -- how many numbers the bindings of a home may have
+  pub numbers : ℕ
   pub moment : ℕ
   -- the history so far, and what was given away of it
   pub past : List Entry
@@ -56,7 +58,7 @@ at_moment now e = record e { moment = now }
 
 -- node n in its next life
 abbrev pub reborn : ℕ → NodeSeen → EngineSeen → EngineSeen
-reborn n c e = with_node n (nodes.reborn e.seed n c) e
+reborn n c e = with_node n (nodes.reborn e.seed e.numbers n c) e
 
 -- node n stands on a link, or on none, where there is such a node
 abbrev pub stood_by : ℕ → Option ℕ → EngineSeen → Option NodeSeen → EngineSeen
@@ -71,8 +73,9 @@ abbrev pub joined : Host → EngineSeen → EngineSeen
 joined host e = record {
   seed = e.seed;
   net = claimed e.net (length e.nodes) host.address;
-  nodes = e.nodes ++ new_node e.seed (length e.nodes) (link_of e.net.links host.address.0) host ∷ [];
+  nodes = e.nodes ++ new_node e.seed e.numbers (length e.nodes) (link_of e.net.links host.address.0) host ∷ [];
   outsiders = e.outsiders;
+  numbers = e.numbers;
   moment = e.moment;
   past = e.past ++ Claimed (length e.nodes) (record { 0 = unwrap_or (link_of e.net.links host.address.0) 0 }) host.address ∷ [];
   told = e.told;
@@ -100,9 +103,9 @@ heard_by shield by link k e =
     if is_some shield then e else with_entries (heards (λ o. ears_of e by link o) k e.outsiders) e
 
 -- before the first node: nothing has happened
-abbrev pub new_engine : List ℕ → ℕ → List ℕ → ℕ → EngineSeen
-new_engine seed start links outsiders =
-    record { seed = seed; net = new_net links; nodes = []; outsiders = outsiders; moment = start; past = []; told = [] }
+abbrev pub new_engine : List ℕ → ℕ → List ℕ → (outsiders numbers : ℕ) → EngineSeen
+new_engine seed start links outsiders numbers =
+    record { seed = seed; net = new_net links; nodes = []; outsiders = outsiders; numbers = numbers; moment = start; past = []; told = [] }
 
 -- a claim is tried
 abbrev pub tried : NetSeen → ℕ → Address → Option ClaimFault → NetSeen

@@ -17,7 +17,7 @@ use Rattle.mip_engine.specs.Numbering.{IsNumbered}
 
 -- node n of a run, as it knows what its past leaves known
 abbrev pub role_in : Setup → Run → ℕ → Address → Kind → Role
-role_in s run n own (OfCorrespondent room) = Correspondent (record { identity = identity_in s run n own room; known = known_in run n room })
+role_in s run n own (OfCorrespondent room) = Correspondent (record { identity = identity_in s run n own room; known = known_in s run n room })
 role_in s run n own (OfAgent preference life room serves) =
     Agent (record { identity = agent_of own preference life room; known = agent_known_in run n serves })
 role_in s run n own (OfMobile agent) = Mobile (mobile_known_in s run n own agent)
@@ -46,6 +46,7 @@ pub record IsAt (e : EngineSeen) (s : Setup) (run : Run) : Type 0 where
   pub agent_pasts : length run.agent_pasts ≡ length s.hosts
   pub mobile_pasts : length run.mobile_pasts ≡ length s.hosts
   pub outsiders : e.outsiders ≡ s.outsiders
+  pub numbers : e.numbers ≡ s.numbers
   pub now : e.moment ≡ moment_in s.start run.past
   pub history : e.past ≡ run.past
   pub numbered : IsNumbered run.posts run.past

@@ -5,6 +5,7 @@ ghost use Rattle.mip_entries.specs.declared.entry.Entry.TheVariants.{At};
 ghost use Rattle.mip_history.specs.Nodes.{marks_of};
 ghost use Rattle.mip_marks.specs.Entries.{update_accepted};
 ghost use Rattle.mip_marks.specs.Marks.{mark_in};
+ghost use Rattle.mip_schedule.specs.Versions.{numbers_of_version};
 ghost use Rattle.mip_engine.specs.Engines.{new_engine, with_entry, with_entries, all_told, at_moment};
 ghost use Rattle.mip_engine.specs.Numbering.{IsNumbered};
 
@@ -31,12 +32,14 @@ pub struct Engine {
     net: Net,
     nodes: Vec<Node>,
     outsiders: u8,
+    version: u8,
     moment: Moment,
     chronicle: Chronicle,
 }
 
 impl Model for Engine {
     ghost use Rattle.mip_chronicle.specs.Given.{past_of};
+    ghost use Rattle.mip_schedule.specs.Versions.{numbers_of_version};
     ghost use Rattle.mip_engine.specs.Engines.{EngineSeen, IsCalm};
 
     ghost Value = { EngineSeen };
@@ -46,6 +49,7 @@ impl Model for Engine {
       net = e.net;
       nodes = e.nodes.items;
       outsiders = e.outsiders;
+      numbers = numbers_of_version e.version;
       moment = e.moment.0;
       past = past_of e.chronicle;
       told = e.chronicle.told;
@@ -55,18 +59,19 @@ impl Model for Engine {
 }
 
 impl Engine {
-    /// A run in which nothing has happened, with room for one packet of each of this many events.
+    /// A run of a schedule of this version in which nothing has happened, with room for one packet of each of this many events.
     pub(crate) fn new(
         alloc: Global,
         seed: &[u8; 32],
         start: Moment,
         links: &[Prefix],
         outsiders: u8,
+        version: u8,
         events: usize,
     ) -> Result<Engine, Memory>
         requires few { length links.now ≤ 32 }
         requires early { start.0 < 2 ^ 62 }
-        ensures { IfOk result (λ e. e ≡ new_engine seed.now start.0 (map (λ p. p.0) links.now) outsiders) }
+        ensures { IfOk result (λ e. e ≡ new_engine seed.now start.0 (map (λ p. p.0) links.now) outsiders (numbers_of_version version)) }
     {
         let mut net = Net::new(alloc, links)?;
         net.reserve_posts(events)?;
@@ -75,6 +80,7 @@ impl Engine {
             net,
             nodes: Vec::new(alloc),
             outsiders,
+            version,
             moment: start,
             chronicle: Chronicle::new(alloc)?,
         })

@@ -149,8 +149,8 @@ impl Engine {
     /// Each node takes its address, in order of declaration.
     fn join_all(&mut self, alloc: Global, hosts: Vec<Host>) -> Result<(), Memory>
         requires placed { ArePlaced self.old.net.links hosts.items }
-        requires new { self.old ≡ new_engine self.old.seed self.old.moment self.old.net.links self.old.outsiders }
-        ensures stands { (s : Setup) → s.hosts ≡ hosts.items → self.old ≡ new_engine s.seed s.start s.links s.outsiders → OnOk result (IsAt self.new s (opened s)) }
+        requires new { self.old ≡ new_engine self.old.seed self.old.moment self.old.net.links self.old.outsiders self.old.numbers }
+        ensures stands { (s : Setup) → s.hosts ≡ hosts.items → self.old ≡ new_engine s.seed s.start s.links s.outsiders s.numbers → OnOk result (IsAt self.new s (opened s)) }
         ensures kept { OnOk result (self.new.told ≡ self.old.told) }
     {
         for host in hosts {
@@ -177,6 +177,7 @@ impl Engine {
             schedule.start,
             links.as_slice(),
             outsiders_in(ds),
+            schedule.version,
             schedule.events.len(),
         )?;
         engine.join_all(alloc, hosts)?;

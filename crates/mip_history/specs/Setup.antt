@@ -5,6 +5,7 @@ use Rattle.mip_words.specs.declared.address.Address.{Address}
 use Rattle.mip_words.specs.declared.ids.NodeId.{NodeId}
 use Rattle.mip_rules_mobile.specs.Questions as mobiles
 use Rattle.mip_schedule.specs.Contents.{Content}
+use Rattle.mip_schedule.specs.Versions.{numbers_of_version}
 use Rattle.mip_declared.specs.declared.declaration.Declaration.{Declaration}
 use Rattle.mip_declared.specs.declared.declaration.Declaration.TheVariants as declare
 
@@ -116,5 +117,5 @@ setup_of s = record {
   links = links_in s.declarations;
   hosts = hosts_in s.declarations;
   outsiders = outsiders_in s.declarations;
-  numbers = 1;
+  numbers = numbers_of_version s.version;
 }

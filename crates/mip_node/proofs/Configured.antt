@@ -35,17 +35,17 @@ fits serves (Mobile address agent) own homes = own
 
 -- a new role is that of the configuration, and has had no call
 pub new_is : {E : Type 0} (c : Content) (r : Result Role E) (own : Address) (kind : Kind) → own ≡ address_of c.role → kind ≡ kind_in c
-    → IfOk r (λ x. x ≡ new_role c.seed c.node.0 0 own kind) → IfOk r (λ x. x ≡ new_role_of c)
+    → IfOk r (λ x. x ≡ new_role c.seed 1 c.node.0 0 own kind) → IfOk r (λ x. x ≡ new_role_of c)
 unfolding new_role_of
 new_is c (Err e) own kind is_own is_kind new = tt
 new_is c (Ok x) own kind is_own is_kind new =
-    new ∙ ap (λ (a : Address). new_role c.seed c.node.0 0 a kind) is_own ∙ ap (new_role c.seed c.node.0 0 (address_of c.role)) is_kind
+    new ∙ ap (λ (a : Address). new_role c.seed 1 c.node.0 0 a kind) is_own ∙ ap (new_role c.seed 1 c.node.0 0 (address_of c.role)) is_kind
 
-pub new_is_early : {E : Type 0} (seed : List ℕ) (n : ℕ) (own : Address) (kind : Kind) (r : Result Role E) → IfOk r (λ x. x ≡ new_role seed n 0 own kind) → IfOk r (λ x. IsBy x 0)
+pub new_is_early : {E : Type 0} (seed : List ℕ) (numbers n : ℕ) (own : Address) (kind : Kind) (r : Result Role E) → IfOk r (λ x. x ≡ new_role seed numbers n 0 own kind) → IfOk r (λ x. IsBy x 0)
 unfolding IsBy
-new_is_early seed n own kind (Err e) new = tt
-new_is_early seed n own kind (Ok x) new =
-    let first : last_of (new_role seed n 0 own kind) ≡ 0 = new_last seed n 0 own kind in
+new_is_early seed numbers n own kind (Err e) new = tt
+new_is_early seed numbers n own kind (Ok x) new =
+    let first : last_of (new_role seed numbers n 0 own kind) ≡ 0 = new_last seed numbers n 0 own kind in
     subst (λ (y : Role). last_of y ≤ 0) (sym new) (omega arith)
 
 payload_of : (b0 b41 b43 b44 b50 b51 b58 b59 b60 b135 : Bool)

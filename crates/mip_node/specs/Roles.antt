@@ -50,7 +50,7 @@ detached role = if is_roaming role then role_after role 0 Leave else role
 
 -- the role of a configured node, with nothing behind it
 unfoldable pub new_role_of : Content → Role
-new_role_of c = new_role c.seed c.node.0 0 (address_of c.role) (kind_in c)
+new_role_of c = new_role c.seed 1 c.node.0 0 (address_of c.role) (kind_in c)
 
 -- and before its first turn
 unfoldable pub first_role : Content → Role

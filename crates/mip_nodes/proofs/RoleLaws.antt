@@ -35,10 +35,10 @@ use Rattle.mip_history.specs.Setup.{Kind}
 use Rattle.mip_history.specs.Setup.Kind.{Correspondent as OfCorrespondent, Agent as OfAgent, Mobile as OfMobile}
 use Rattle.mip_nodes.specs.Roles.{last_of, new_role}
 
-pub new_last : (seed : List ℕ) (n life : ℕ) (own : Address) (kind : Kind) (numbers : ℕ) → last_of (new_role seed n life own kind numbers) ≡ 0
-new_last seed n life own (OfCorrespondent room) numbers = refl
-new_last seed n life own (OfAgent preference seconds room serves) numbers = refl
-new_last seed n life own (OfMobile agent) numbers = refl
+pub new_last : (seed : List ℕ) (numbers n life : ℕ) (own : Address) (kind : Kind) → last_of (new_role seed numbers n life own kind) ≡ 0
+new_last seed numbers n life own (OfCorrespondent room) = refl
+new_last seed numbers n life own (OfAgent preference seconds room serves) = refl
+new_last seed numbers n life own (OfMobile agent) = refl
 
 -- what a call leaves known is that of the past with it
 pub knows_on : (me : Identity) (now room numbers : ℕ) (past : List (Stamped Step)) (call : correspondents.Call)

@@ -19,9 +19,9 @@ pub record NodeSeen : Type 0 where
   pub spot : Option ℕ
   pub role : Role
 
--- node n in its first life, with nothing behind it
-abbrev pub new_node : List ℕ → ℕ → Option ℕ → Host → NodeSeen
-new_node seed n spot host = record { host = host; life = 0; spot = spot; role = new_role seed n 0 host.address host.kind }
+-- node n in its first life, with nothing behind it, where a home's bindings may have so many numbers
+abbrev pub new_node : List ℕ → (numbers : ℕ) → ℕ → Option ℕ → Host → NodeSeen
+new_node seed numbers n spot host = record { host = host; life = 0; spot = spot; role = new_role seed numbers n 0 host.address host.kind }
 
 abbrev pub with_role : Role → NodeSeen → NodeSeen
 with_role role c = record { host = c.host; life = c.life; spot = c.spot; role = role }
@@ -52,8 +52,8 @@ next_role (Agent a) new = new
 next_role (Mobile k) new = Mobile k
 
 -- node n in its next life
-abbrev pub reborn : List ℕ → ℕ → NodeSeen → NodeSeen
-reborn seed n c = with_life (suc c.life) (with_role (next_role c.role (new_role seed n (suc c.life) c.host.address c.host.kind)) c)
+abbrev pub reborn : List ℕ → (numbers : ℕ) → ℕ → NodeSeen → NodeSeen
+reborn seed numbers n c = with_life (suc c.life) (with_role (next_role c.role (new_role seed numbers n (suc c.life) c.host.address c.host.kind)) c)
 
 -- an agent as it advertises itself
 abbrev pub seen_router : RouterRead → Router

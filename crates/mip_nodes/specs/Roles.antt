@@ -86,12 +86,12 @@ is_roaming (Agent a) = false
 is_roaming (Mobile k) = true
 
 -- node n in this life, with nothing behind it, where a home's bindings may have so many numbers; a mobile is in its first
-abbrev pub new_role : List ℕ → ℕ → ℕ → Address → Kind → (numbers : ℕ) → Role
-new_role seed n life own (OfCorrespondent room) numbers =
+abbrev pub new_role : List ℕ → (numbers : ℕ) → ℕ → ℕ → Address → Kind → Role
+new_role seed numbers n life own (OfCorrespondent room) =
     Correspondent (record { identity = record { own = own; secrets = record { seed = seed; node = n; life = life }; room = room }; known = correspondent_questions.fresh room numbers })
-new_role seed n life own (OfAgent preference seconds room serves) numbers =
+new_role seed numbers n life own (OfAgent preference seconds room serves) =
     Agent (record { identity = record { own = own; preference = preference; life = seconds; room = room }; known = agent_questions.fresh serves })
-new_role seed n life own (OfMobile agent) numbers = Mobile (mobile_questions.fresh own agent numbers (record { seed = seed; node = n; life = 0 }))
+new_role seed numbers n life own (OfMobile agent) = Mobile (mobile_questions.fresh own agent numbers (record { seed = seed; node = n; life = 0 }))
 
 -- an entry that tells of no packet that is posted, heard or handed over: those are the network's
 abbrev pub is_apart : Entry → Bool

@@ -39,18 +39,22 @@ impl Model for Node {
 }
 
 impl Node {
-    /// A node in its first life, with nothing behind it. It stands on a link, or on none.
+    /// A node in its first life, with nothing behind it, where a home's bindings may have so many numbers. It stands on a link, or
+    /// on none.
     pub fn new(
         alloc: Global,
         seed: &[u8; 32],
         node: NodeId,
         spot: Option<LinkId>,
         host: Host,
+        numbers: u8,
     ) -> Result<Node, Memory>
-        requires { IsFit host }
-        ensures { IfOk result (λ c. c ≡ new_node seed.now node.0 (option_map (λ l. l.0) spot) host) }
+        requires host { IsFit host }
+        requires some { 1 ≤ numbers }
+        requires few { numbers ≤ 8 }
+        ensures { IfOk result (λ c. c ≡ new_node seed.now numbers node.0 (option_map (λ l. l.0) spot) host) }
     {
-        let role = Role::new(alloc, seed, node, 0, host.address(), host.kind())?;
+        let role = Role::new(alloc, seed, node, 0, host.address(), host.kind(), numbers)?;
         Ok(Node {
             host,
             life: 0,
@@ -61,15 +65,31 @@ impl Node {
 
     /// Its next life begins: a correspondent and an agent have nothing behind them. A mobile is yet to be told. After want of
     /// memory the node is as it was.
-    pub fn begin_life(&mut self, alloc: Global, seed: &[u8; 32], node: NodeId) -> Result<(), Memory>
-        requires { self.old.life + 1 < 2 ^ 32 }
-        ensures ok { OnOk result (self.new ≡ reborn seed.now node.0 self.old) }
+    pub fn begin_life(
+        &mut self,
+        alloc: Global,
+        seed: &[u8; 32],
+        node: NodeId,
+        numbers: u8,
+    ) -> Result<(), Memory>
+        requires life { self.old.life + 1 < 2 ^ 32 }
+        requires some { 1 ≤ numbers }
+        requires few { numbers ≤ 8 }
+        ensures ok { OnOk result (self.new ≡ reborn seed.now numbers node.0 self.old) }
         ensures err { OnErr result (self.new ≡ self.old) }
     {
         let life = self.life + 1;
         if !self.role.is_roaming() {
             let kind = self.host.kind();
-            self.role = Role::new(alloc, seed, node, life, self.host.address(), kind)?;
+            self.role = Role::new(
+                alloc,
+                seed,
+                node,
+                life,
+                self.host.address(),
+                kind,
+                numbers,
+            )?;
         }
         self.life = life;
         Ok(())

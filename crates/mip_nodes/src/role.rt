@@ -74,7 +74,7 @@ impl Role {
         requires kind { IsFitKind own (kind_of kind.now) }
         requires some { 1 ≤ numbers }
         requires few { numbers ≤ 8 }
-        ensures { IfOk result (λ r. r ≡ new_role seed.now node.0 life own (kind_of kind.now) numbers) }
+        ensures { IfOk result (λ r. r ≡ new_role seed.now numbers node.0 life own (kind_of kind.now)) }
     {
         match kind {
             Kind::Correspondent { room } => {

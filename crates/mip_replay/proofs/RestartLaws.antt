@@ -47,11 +47,11 @@ module _ (e : EngineSeen) (s : Setup) (run : Run) (at : IsAt e s run) (n : ℕ) 
   stays home = spot-push home run.past (Restarted (node_id n)) n
 
   reborn_kind : (own : Address) (kind : Kind) → slice_get s.hosts n ≡ Some (record { address = own; kind = kind })
-      → nodes.reborn s.seed n (node_in s run n (record { address = own; kind = kind })) ≡ node_in s (renewed n run kind) n (record { address = own; kind = kind })
+      → nodes.reborn s.seed s.numbers n (node_in s run n (record { address = own; kind = kind })) ≡ node_in s (renewed n run kind) n (record { address = own; kind = kind })
   reborn_kind own (OfCorrespondent room) is_host =
       let inside = slice_get_within s.hosts n _ is_host in
       let empty : slice_index_or (slice_set run.pasts n []) n [] ≡ [] = get_or-set_same run.pasts n [] [] (omega (arith, inside, at.pasts)) in
-      rw (lived, stays (link_of s.links own.0), empty, known_first room) refl
+      rw (lived, stays (link_of s.links own.0), empty, known_first room s.numbers) refl
   reborn_kind own (OfAgent preference life room serves) is_host =
       let inside = slice_get_within s.hosts n _ is_host in
       let empty : slice_index_or (slice_set run.agent_pasts n []) n [] ≡ [] = get_or-set_same run.agent_pasts n [] [] (omega (arith, inside, at.agent_pasts)) in
@@ -65,9 +65,10 @@ module _ (e : EngineSeen) (s : Setup) (run : Run) (at : IsAt e s run) (n : ℕ) 
       let host = found.0 in
       let after = emptied n run host.kind in
       let middle = node_in s after n host in
-      let next = nodes.reborn e.seed n c in
+      let next = nodes.reborn e.seed e.numbers n c in
       let is_node : next ≡ node_in s (renewed n run host.kind) n host =
-      ap (λ (seed : List ℕ). nodes.reborn seed n c) at.seed ∙ ap (λ (x : NodeSeen). nodes.reborn s.seed n x) (sym found.2) ∙ reborn_kind host.address host.kind found.1 in
+      ap (λ (seed : List ℕ). nodes.reborn seed e.numbers n c) at.seed ∙ ap (λ (numbers : ℕ). nodes.reborn s.seed numbers n c) at.numbers
+      ∙ ap (λ (x : NodeSeen). nodes.reborn s.seed s.numbers n x) (sym found.2) ∙ reborn_kind host.address host.kind found.1 in
       let emptied_at : IsAt (with_node n middle e) s after = at_node e s run at n middle host after found.1 (differs host.kind) refl in
       let noted_at = at_entry_here (with_node n middle e) s after n (Restarted (node_id n)) (of_restart n) emptied_at host next found.1 is_node in
       let same_host : host ≡ c.host = ap (λ (x : NodeSeen). x.host) found.2 in

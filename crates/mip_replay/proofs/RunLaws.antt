@@ -42,6 +42,7 @@ at_told e s run at = record {
   agent_pasts = at.agent_pasts;
   mobile_pasts = at.mobile_pasts;
   outsiders = at.outsiders;
+  numbers = at.numbers;
   now = at.now;
   history = at.history;
   numbered = at.numbered;

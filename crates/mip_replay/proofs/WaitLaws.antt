@@ -36,6 +36,7 @@ at_come e s run moment at = record {
   agent_pasts = at.agent_pasts;
   mobile_pasts = at.mobile_pasts;
   outsiders = at.outsiders;
+  numbers = at.numbers;
   now = sym (moment-push s.start run.past (At moment));
   history = history-same e s run (At moment) at;
   numbered = numbered_apart run.posts run.past (At moment) refl at.numbered;

@@ -15,6 +15,7 @@ use crate::engine::Engine;
 use mip_entries::{Answers, Entry};
 use mip_nodes::{Call, HomeRow, Host, Node, Router};
 use mip_nonce::Secrets;
+use mip_schedule::numbers_of;
 use mip_words::{Address, LinkId, Memory, Moment, NodeId};
 use std::alloc::Global;
 
@@ -121,7 +122,12 @@ impl Engine {
         ensures { (c : NodeSeen) → slice_get self.old.nodes node.0 ≡ Some c → OnOk result (self.new ≡ reborn node.0 c self.old) }
     {
         let place = usize::from(node.0);
-        self.nodes[place].begin_life(alloc, &self.seed, node)
+        self.nodes[place].begin_life(
+            alloc,
+            &self.seed,
+            node,
+            numbers_of(self.version),
+        )
     }
 
     /// What a node draws its secrets from in its present life.
@@ -146,7 +152,7 @@ impl Engine {
         }
     }
 
-    /// The row at a place among those that a node keeps, in order of home address.
+    /// The row at a place among those that a node keeps, in order of home address, then of number.
     #[tactic(auto, using(std::proofs::lemmas::Option::get_or_from_slice_get))]
     pub(crate) fn row(&self, node: NodeId, place: u32) -> Option<Entry>
         ensures { (c : NodeSeen) → slice_get self.now.nodes node.0 ≡ Some c → result ≡ slice_get (rows_of node.0 c.role self.now.moment) place }
@@ -178,7 +184,14 @@ impl Engine {
         let Some(link) = self.net.link_of(address) else {
             unreachable!()
         };
-        let node = Node::new(alloc, &self.seed, NodeId(number), Some(link), host)?;
+        let node = Node::new(
+            alloc,
+            &self.seed,
+            NodeId(number),
+            Some(link),
+            host,
+            numbers_of(self.version),
+        )?;
         self.nodes.push(node)?;
         self.chronicle.push(Entry::Claimed {
             who: number,

@@ -6,4 +6,4 @@ pub returns-clause-role : goal.returns-clause-role
 returns-clause-role c = new_is (said c.args.setting.now) c.new.result _ _ c.address_of-own.ensures c.in_ok-kind.ensures c.new.ensures
 
 pub returns-clause-timely : goal.returns-clause-timely
-returns-clause-timely c = new_is_early _ _ _ _ c.new.result c.new.ensures
+returns-clause-timely c = new_is_early _ _ _ _ _ c.new.result c.new.ensures

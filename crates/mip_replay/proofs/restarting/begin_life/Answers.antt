@@ -19,13 +19,13 @@ begin_anew-requires c =
     let n = c.args.node.0 in
     let found = there_is e.nodes n c.requires.node in
     let here = c.in_ok-note.ensures ∙ ap (λ (x : EngineSeen). with_entry (Restarted c.args.node) x) (c.in_ok-renew.ensures found.0 found.1) in
-    omega (arith, c.requires.node, ap (λ (x : EngineSeen). length x.nodes) here, length-set e.nodes n (nodes.reborn e.seed n found.0))
+    omega (arith, c.requires.node, ap (λ (x : EngineSeen). length x.nodes) here, length-set e.nodes n (nodes.reborn e.seed e.numbers n found.0))
 
 pub returns-clause-stands : goal.returns-clause-stands
 returns-clause-stands c = λ s run node at there.
     let e = c.args.engine.now in
     let n = c.args.node.0 in
-    let next = nodes.reborn e.seed n node in
+    let next = nodes.reborn e.seed e.numbers n node in
     let here = c.in_ok-note.ensures ∙ ap (λ (x : EngineSeen). with_entry (Restarted c.args.node) x) (c.in_ok-renew.ensures node there) in
     let now_there : slice_get c.note.new.self.nodes n ≡ Some next = ap (λ (x : EngineSeen). slice_get x.nodes n) here ∙ set_here e.nodes n next c.requires.node in
     let after = renewed n run node.host.kind in

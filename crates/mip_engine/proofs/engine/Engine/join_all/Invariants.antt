@@ -8,7 +8,7 @@ use Rattle.mip_engine.proofs.engine.Engine.join_all.Given as goal
 
 abbrev pub invariant-loop-host : goal.invariant-loop-host
 invariant-loop-host l = record {
-  runs : (s : Setup) → l.fn.self ≡ new_engine s.seed s.start s.links s.outsiders → IsAt l.self (with_hosts l.yielded s) (opened (with_hosts l.yielded s));
+  runs : (s : Setup) → l.fn.self ≡ new_engine s.seed s.start s.links s.outsiders s.numbers → IsAt l.self (with_hosts l.yielded s) (opened (with_hosts l.yielded s));
   kept : l.self.told ≡ l.fn.self.told;
   split : l.fn.hosts.items ≡ l.yielded ++ l.host-iterator.rest.items;
 }

@@ -2,6 +2,7 @@ use Rattle.std.proofs.Common.{◌≡◌, ℕ, List, length, map, sym, ap, ◌∙
 use Rattle.mip_words.specs.declared.prefix.Prefix.{Prefix}
 use Rattle.mip_declared.specs.Places.{AreFew}
 use Rattle.mip_schedule.specs.Schedules.{content}
+use Rattle.mip_schedule.specs.Versions.{numbers_of_version}
 use Rattle.mip_declared.specs.declared.declaration.Declaration.{Declaration}
 use Rattle.mip_history.specs.Setup.{Host, setup_of, links_in, hosts_in, outsiders_in}
 use Rattle.mip_engine.specs.Engines.{EngineSeen, new_engine}
@@ -28,7 +29,7 @@ join_all-requires c =
     record {
       placed = subst (λ (l : List ℕ). ArePlaced l c.in_ok-hosts.hosts.items) links
           (subst (λ (hs : List Host). ArePlaced (links_in s.declarations) hs) hosts (nodes_placed s c.requires.lawful c.requires.few));
-      new = is_new c.in_ok-engine.engine s.seed s.start.0 (map (λ (p : Prefix). p.0) c.as_slice.result.now) c.outsiders_in.result c.in_ok-engine.ensures;
+      new = is_new c.in_ok-engine.engine s.seed s.start.0 (map (λ (p : Prefix). p.0) c.as_slice.result.now) c.outsiders_in.result (numbers_of_version s.version) c.in_ok-engine.ensures;
     }
 
 pub returns-clause-stands : goal.returns-clause-stands
@@ -41,5 +42,5 @@ returns-clause-stands c =
     let outsiders : c.outsiders_in.result ≡ s.outsiders = c.outsiders_in.ensures ∙ ap outsiders_in ds in
     c.in_ok-join_all.ensures.stands s hosts
     (c.in_ok-engine.ensures
-    ∙ ap (λ (l : List ℕ). new_engine s.seed s.start l c.outsiders_in.result) links
-    ∙ ap (λ (n : ℕ). new_engine s.seed s.start s.links n) outsiders)
+    ∙ ap (λ (l : List ℕ). new_engine s.seed s.start l c.outsiders_in.result s.numbers) links
+    ∙ ap (λ (n : ℕ). new_engine s.seed s.start s.links n s.numbers) outsiders)
