@@ -144,10 +144,12 @@ module _ (me : Identity) (k : Known) (now number : ℕ) (shield : Option Shield)
   -- so a call whose answers tell of a refusal leaves all tables and all claims as they were
   pub refused-call : list_any refuses (answers_of turn.steps) ≡ true → KeepsTables k turn.known × ((claims : ℕ → Bool) → claims_by turn.steps claims ≡ claims)
   refused-call some =
-      let keeps = refused-keeps (sym (steps-refuse turn.steps) ∙ some) in
-      (record {
-        homes = keeps.0;
-        ends = keeps.1;
-        plan = call-plan me k now (calls.Take number shield bytes claim);
-        agents = call-agents me k now (calls.Take number shield bytes claim);
-      }, λ claims. claims-left turn.steps claims keeps.2)
+      let keeps = refused-keeps (sym (steps-refuse turn.steps) ∙ some) in (
+        record {
+          homes = keeps.0;
+          ends = keeps.1;
+          plan = call-plan me k now (calls.Take number shield bytes claim);
+          agents = call-agents me k now (calls.Take number shield bytes claim);
+        },
+        λ claims. claims-left turn.steps claims keeps.2,
+      )
