@@ -154,5 +154,6 @@ pub fn settled(history: &History, start: Moment, a: NodeId, b: NodeId) -> bool
 {
     let entries = history.as_slice();
     let now = moment(entries, start);
-    a.0 != b.0 && (is_settled_to(entries, start, now, a, b) && is_settled_to(entries, start, now, b, a))
+    a.0 != b.0
+        && (is_settled_to(entries, start, now, a, b) && is_settled_to(entries, start, now, b, a))
 }

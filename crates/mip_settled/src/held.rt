@@ -119,7 +119,13 @@ fn first_alive(history: &[Entry], start: Moment, node: NodeId, home: Address) ->
 }
 
 /// The care-of address that a node holds for a home at a moment: of its bindings that stand, that of the last one accepted.
-pub fn held(history: &[Entry], start: Moment, now: Moment, node: NodeId, home: Address) -> Option<Address>
+pub fn held(
+    history: &[Entry],
+    start: Moment,
+    now: Moment,
+    node: NodeId,
+    home: Address,
+) -> Option<Address>
     ensures { option_map (λ a. a.0) result ≡ held (accepted_by start.0 history.now node.0) home.0 now.0 }
 {
     let first = first_alive(history, start, node, home);
