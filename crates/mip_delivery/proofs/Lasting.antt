@@ -16,7 +16,7 @@ use Rattle.mip_binding.specs.Rows.{others_by}
 use Rattle.mip_binding.specs.Homes.{HomeKept, number_key, joins, kept_with, home_step, home_after}
 use Rattle.mip_binding.specs.Held.{is_standing, careof_where, held}
 use Rattle.mip_binding.proofs.RowLaws.{all-filtered, all-push}
-use Rattle.mip_binding.proofs.HomeLaws.{left_by, kept_with-left}
+use Rattle.mip_binding.proofs.HomeLaws.{left_by as left_of, kept_with-left}
 use Rattle.mip_binding.proofs.HeldLaws.{held-other}
 use Rattle.mip_entries.specs.declared.entry.Entry.{Entry}
 use Rattle.mip_entries.specs.declared.entry.Entry.TheVariants as entries
@@ -52,7 +52,7 @@ abbrev HomeLasts : (now later : ℕ) → Option HomeKept → Type 0
 HomeLasts now later None = Unit {0}
 HomeLasts now later (Some k) = AllByRecursion (BindingLasts now later) k.live
 
-left_lasts : (now later : ℕ) (o : Option HomeKept) (a : Acceptance) → HomeLasts now later o → AllByRecursion (BindingLasts now later) (left_by o a)
+left_lasts : (now later : ℕ) (o : Option HomeKept) (a : Acceptance) → HomeLasts now later o → AllByRecursion (BindingLasts now later) (left_of o a)
 left_lasts now later None a so = tt
 left_lasts now later (Some k) a so = by (joins k a)
   where
@@ -67,7 +67,7 @@ home_lasts now later home o (x ∷ xs) so all = home_lasts now later home (home_
     by : (mine : Bool) → HomeLasts now later (if mine then Some (kept_with o x) else o)
     by true =
         subst (λ (k : HomeKept). HomeLasts now later (Some k)) (sym (kept_with-left o x))
-        (all-push (BindingLasts now later) (left_by o x) (binding_of x) (left_lasts now later o x so) all.0)
+        (all-push (BindingLasts now later) (left_of o x) (binding_of x) (left_lasts now later o x so) all.0)
     by false = so
 
 last_same : (home now later : ℕ) (bs : List Binding) → AllByRecursion (BindingLasts now later) bs → last_where (is_standing home later) bs ≡ last_where (is_standing home now) bs

@@ -1,7 +1,6 @@
 -- What a node holds for a home is what its entries leave, in its present life.
 use Rattle.std.proofs.Common.{◌≡◌, ℕ, ◌+◌, List, [], ◌∷◌, ◌++◌, Bool, true, false, refl, sym, ap, subst, ◌∙◌, arith}
-use Rattle.std.specs.Prelude.{Option, Some, None, fold, option_map, not, ◌==◌, ◌&&◌, ◌||◌, nat_lt, if◌then◌else◌}
-use Rattle.std.proofs.lemmas.List.Sums.{fold-append}
+use Rattle.std.specs.Prelude.{Option, Some, None, fold, option_map, ◌==◌, ◌&&◌, if◌then◌else◌}
 use Rattle.std.proofs.lemmas.Bool.{eqb-true}
 use Rattle.std.proofs.lemmas.Bool.Decides.{nat_tests}
 use Rattle.mip_constants.specs.Constants.{max_nonce_lifetime}
@@ -9,9 +8,9 @@ use Rattle.mip_words.specs.declared.address.Address.{Address}
 use Rattle.mip_words.specs.declared.moment.Moment.{Moment}
 use Rattle.mip_words.specs.declared.ids.NodeId.{NodeId}
 use Rattle.mip_lists.specs.Last.{last_where}
-use Rattle.mip_binding.specs.Acceptance.{Acceptance, Binding, binding_of, is_deletion}
+use Rattle.mip_binding.specs.Acceptance.{Acceptance, Binding, binding_of}
 use Rattle.mip_binding.specs.Rows.{others_by}
-use Rattle.mip_binding.specs.Homes.{HomeKept, number_key, latest, kept_of, kept_with, home_step, home_after}
+use Rattle.mip_binding.specs.Homes.{HomeKept, number_key, latest, kept_of, kept_with, home_after}
 use Rattle.mip_binding.specs.Held.{is_standing, careof_where, held}
 use Rattle.mip_binding.proofs.HomeLaws.{left_by, kept_with-left, home_after-push}
 use Rattle.mip_entries.specs.declared.entry.Entry.{Entry}

@@ -3,17 +3,14 @@
 use Rattle.std.proofs.Common.{◌≡◌, ◌≢◌, ℕ, List, [], ◌∷◌, ◌++◌, Bool, true, false, refl, sym, ap, ◌∙◌}
 use Rattle.std.specs.Prelude.{Option, Some, None, option_map, unwrap_or, fold, ◌==◌, ◌&&◌, if◌then◌else◌, slice_get}
 use Rattle.std.specs.List.{AllByRecursion}
-use Rattle.std.proofs.lemmas.Bool.{ne_eqb, eqb-true}
+use Rattle.std.proofs.lemmas.Bool.{ne_eqb}
 use Rattle.mip_words.specs.declared.address.Address.{Address}
-use Rattle.mip_words.specs.declared.ids.LinkId.{LinkId}
-use Rattle.mip_words.specs.declared.moment.Moment.{Moment}
 use Rattle.mip_lists.specs.Asked.{asked}
 use Rattle.mip_binding.specs.Acceptance.{Acceptance}
 use Rattle.mip_binding.specs.Held.{held}
 use Rattle.mip_binding.proofs.HeldLaws.{held-none}
 use Rattle.mip_entries.specs.declared.entry.Entry.{Entry}
 use Rattle.mip_entries.specs.declared.entry.Entry.TheVariants as entries
-use Rattle.mip_entries.specs.Completed.{node_id, named}
 use Rattle.mip_rules_correspondent.specs.Steps as correspondents
 use Rattle.mip_rules_correspondent.specs.Wholes.{is_own}
 use Rattle.mip_rules_agent.specs.Steps as agents
@@ -28,7 +25,7 @@ use Rattle.mip_rules_mobile.specs.Doing.{turn_of}
 use Rattle.mip_rules_mobile.specs.Fitting.{Fits, EachFits}
 use Rattle.mip_rules_mobile.proofs.Fits.{call-fits}
 use Rattle.mip_schedule.specs.declared.event.Event.{Event}
-use Rattle.mip_history.specs.Setup.{Setup, Host, Kind, is_mobile_kind, is_mobile_host}
+use Rattle.mip_history.specs.Setup.{Setup, Kind, is_mobile_kind, is_mobile_host}
 use Rattle.mip_history.specs.Setup.Kind.{Correspondent, Agent, Mobile}
 use Rattle.mip_history.specs.Bound.{Lived, lived, accepted_by}
 use Rattle.mip_history.specs.Permitted.{run_of}
@@ -39,7 +36,7 @@ use Rattle.mip_history.proofs.Keeping.{is_busy}
 use Rattle.mip_settled.proofs.Answered.{IsQuiet, IsMute}
 use Rattle.mip_settled.proofs.Questions.{present_quiet, present_mute}
 use Rattle.mip_settled.proofs.Leaving.{binding_quiet, binding_mute}
-use Rattle.mip_settled.proofs.Never.{IsSilentEntry, IsSilent, IsSilentKind, IsApart, IsNever, never_told}
+use Rattle.mip_settled.proofs.Never.{IsSilentEntry, IsSilent, IsSilentKind, IsNever, never_told}
 
 -- a mobile is another node than one that is none
 apart_of_mobile : (s : Setup) (n m : ℕ) → is_mobile_host (slice_get s.hosts n) ≡ false → is_mobile_host (slice_get s.hosts m) ≡ true → n ≢ m
