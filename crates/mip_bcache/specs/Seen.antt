@@ -167,12 +167,11 @@ abbrev pub expired : ℕ → CacheSeen → CacheSeen
 expired now cache = record cache { last = now; homes = kept_at cache now }
 
 -- and an acceptance changes its home
+abbrev pub homes_with : ℕ → Address → ℕ → Accepted → List HomeRows → List HomeRows
+homes_with now home number a hs = put_by home_of (rows_made now home number a (rows_left home number a (find_by home_of home.0 hs))) hs
+
 abbrev pub with_acceptance : ℕ → Address → ℕ → Accepted → CacheSeen → CacheSeen
-with_acceptance now home number a cache =
-    record cache {
-      last = now;
-      homes = put_by home_of (rows_made now home number a (rows_left home number a (home_at cache home.0 now))) (kept_at cache now);
-    }
+with_acceptance now home number a cache = record cache { last = now; homes = homes_with now home number a (kept_at cache now) }
 
 -- all rows of a cache, home by home
 abbrev pub live_rows : CacheSeen → List Row

@@ -1,8 +1,8 @@
 -- How a cache lies in memory: homes in the slots of a chain, and these slots in order of home.
-use Rattle.std.specs.Prelude.{◌≡◌, ◌≢◌, ℕ, ◌+◌, ◌*◌, ◌^◌, ◌≤◌, ◌<◌, List, [], ◌∷◌, ◌++◌, Option, Some, None, Bool, true, is_some, nat_lt, length, ◌==◌, if◌then◌else◌, vec_capacity, slice_get, slice_set}
+use Rattle.std.specs.Prelude.{◌≡◌, ◌≢◌, ℕ, ◌+◌, ◌*◌, ◌^◌, ◌≤◌, ◌<◌, List, [], ◌∷◌, ◌++◌, Option, Some, None, Bool, true, is_some, map, nat_lt, length, ◌==◌, if◌then◌else◌, vec_capacity, slice_get, slice_set}
 use Rattle.std.specs.List.{AllByRecursion, list_any, insert}
 use Rattle.std.specs.Global.{Vec}
-use Rattle.mip_binding.specs.Rows.{RisesBy, ApartBy, find_by, put_by}
+use Rattle.mip_binding.specs.Rows.{RisesBy, ApartBy, find_by, put_by, kept_by}
 use Rattle.mip_chain.specs.Chain.{Item, ChainSeen, AreInOrder, find}
 use Rattle.mip_chain.specs.declared.slot.Slot.{Slot}
 use Rattle.mip_bcache.specs.declared.row.Row.{Row}
@@ -84,6 +84,14 @@ homes_of items (s ∷ ss) = add_home (find s.0 items) (homes_of items ss)
 
 abbrev pub homes_in : TableSeen → List Home
 homes_in t = homes_of t.chain.items t.homes
+
+-- what a contract of the cache sees of them
+abbrev pub homes_seen : TableSeen → List HomeRows
+homes_seen t = map rows_seen (homes_in t)
+
+-- a home whose sequence is kept at a moment
+abbrev pub kept_home : TableSeen → ℕ → ℕ → Option Home
+kept_home t home now = find_by key_of home (kept_by due_of now (homes_in t))
 
 -- the address of the home that was looked up, 0 where there is none
 abbrev pub key_found : Option (Item Home) → ℕ

@@ -23,13 +23,12 @@ pub struct Cache {
 }
 
 impl Model for Cache {
-    ghost use Rattle.std.specs.Prelude.{map};
     ghost use Rattle.mip_bcache.specs.Seen.{CacheSeen};
-    ghost use Rattle.mip_bcache.specs.Table.{seen, homes_in, rows_seen, IsTable};
+    ghost use Rattle.mip_bcache.specs.Table.{seen, homes_seen, IsTable};
 
     ghost Value = { CacheSeen };
 
-    ghost view = { λ c. record { limit = c.table.room; numbers = c.table.numbers; last = c.last.0; homes = map rows_seen (homes_in (seen c.table)) } };
+    ghost view = { λ c. record { limit = c.table.room; numbers = c.table.numbers; last = c.last.0; homes = homes_seen (seen c.table) } };
 
     ghost invariant = { λ c. IsTable (seen c.table) };
 }

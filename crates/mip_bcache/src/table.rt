@@ -2,10 +2,10 @@
 
 ghost use Rattle.std.specs.Prelude.{◌≡◌, ◌+◌, ◌*◌, ◌^◌, ◌<◌, ◌≤◌, ◌==◌, false, length, map, filter, is_some, None, option_copied, option_map, IfOk, [], IfErr, slice_get, vec_capacity};
 ghost use Rattle.std.specs.List.{AllByRecursion, flat_map};
-ghost use Rattle.mip_binding.specs.Rows.{find_by, put_by, kept_by};
+ghost use Rattle.mip_binding.specs.Rows.{find_by, kept_by};
 ghost use Rattle.mip_chain.specs.Chain.{find as find_slot, put};
-ghost use Rattle.mip_bcache.specs.Seen.{home_of, stands, stands_under, stands_at, last_row, any_row, no_room, rows_made, rows_left, rows_of_home};
-ghost use Rattle.mip_bcache.specs.Table.{seen, key_of, due_of, rows_seen, key_at, kept_in, homes_in, count_of, count_in, item_for, later, IsHome, IsSpare, IsShelved, IsStocked, IsPlace, IsGap, IsTable};
+ghost use Rattle.mip_bcache.specs.Seen.{stands, stands_under, stands_at, last_row, any_row, no_room, homes_with, rows_of_home};
+ghost use Rattle.mip_bcache.specs.Table.{seen, key_of, due_of, rows_seen, key_at, kept_in, homes_in, homes_seen, kept_home, count_of, count_in, item_for, later, IsHome, IsSpare, IsShelved, IsStocked, IsPlace, IsGap, IsTable};
 
 use crate::accepted::Accepted;
 use crate::home::Home;
@@ -75,7 +75,7 @@ impl Table {
     /// The rows of a home, where its sequence is still kept.
     fn kept_home(&self, now: Moment, home: Address) -> Option<&Home>
         requires { IsTable (seen self.now) }
-        ensures { option_copied result ≡ find_by key_of home.0 (kept_by due_of now.0 (homes_in (seen self.now))) }
+        ensures { option_copied result ≡ kept_home (seen self.now) home.0 now.0 }
     {
         let found = self.find(home)?;
         if now.0 < found.last.kept_until.0 {
@@ -88,7 +88,7 @@ impl Table {
     /// The sequence of a home, where it is still kept.
     pub fn kept_sequence(&self, now: Moment, home: Address) -> Option<u16>
         requires { IsTable (seen self.now) }
-        ensures { result ≡ option_map (λ h. h.sequence) (option_map rows_seen (find_by key_of home.0 (kept_by due_of now.0 (homes_in (seen self.now))))) }
+        ensures { result ≡ option_map (λ h. h.sequence) (option_map rows_seen (kept_home (seen self.now) home.0 now.0)) }
     {
         match self.kept_home(now, home) {
             Some(kept) => Some(kept.last.sequence),
@@ -99,7 +99,7 @@ impl Table {
     /// The row of a home whose binding stands; of several the one accepted last.
     pub fn standing(&self, now: Moment, home: Address) -> Option<&Row>
         requires { IsTable (seen self.now) }
-        ensures { option_copied result ≡ last_row (stands home.0 now.0) (option_map rows_seen (find_by key_of home.0 (kept_by due_of now.0 (homes_in (seen self.now))))) }
+        ensures { option_copied result ≡ last_row (stands home.0 now.0) (option_map rows_seen (kept_home (seen self.now) home.0 now.0)) }
     {
         match self.kept_home(now, home) {
             Some(kept) => kept.standing(now, home),
@@ -110,7 +110,7 @@ impl Table {
     /// The row of a home under a number, where its binding stands.
     pub fn standing_under(&self, now: Moment, home: Address, number: u8) -> Option<&Row>
         requires { IsTable (seen self.now) }
-        ensures { option_copied result ≡ last_row (stands_under home.0 number now.0) (option_map rows_seen (find_by key_of home.0 (kept_by due_of now.0 (homes_in (seen self.now))))) }
+        ensures { option_copied result ≡ last_row (stands_under home.0 number now.0) (option_map rows_seen (kept_home (seen self.now) home.0 now.0)) }
     {
         match self.kept_home(now, home) {
             Some(kept) => kept.standing_under(now, home, number),
@@ -121,7 +121,7 @@ impl Table {
     /// Whether a home has a binding that stands at this care-of address.
     pub fn holds(&self, now: Moment, home: Address, careof: Address) -> bool
         requires { IsTable (seen self.now) }
-        ensures { result ≡ any_row (stands_at home.0 now.0 careof.0) (option_map rows_seen (find_by key_of home.0 (kept_by due_of now.0 (homes_in (seen self.now))))) }
+        ensures { result ≡ any_row (stands_at home.0 now.0 careof.0) (option_map rows_seen (kept_home (seen self.now) home.0 now.0)) }
     {
         match self.kept_home(now, home) {
             Some(kept) => kept.holds(now, home, careof),
@@ -225,7 +225,7 @@ impl Table {
         requires number { number < (seen self.old).numbers }
         requires free { no_room key_of (seen self.old).room home.0 (homes_in (seen self.old)) ≡ false }
         ensures table { IsTable (seen self.new) }
-        ensures homes { map rows_seen (homes_in (seen self.new)) ≡ put_by home_of (rows_made now.0 home number accepted (rows_left home number accepted (find_by home_of home.0 (map rows_seen (homes_in (seen self.old)))))) (map rows_seen (homes_in (seen self.old))) }
+        ensures homes { homes_seen (seen self.new) ≡ homes_with now.0 home number accepted (homes_seen (seen self.old)) }
         ensures room { ((seen self.new).room ≡ (seen self.old).room) × ((seen self.new).numbers ≡ (seen self.old).numbers) }
     {
         match self.place(home) {
@@ -241,7 +241,7 @@ impl Table {
         requires number { number < (seen self.old).numbers }
         requires place { IsPlace (homes_in (seen self.old)) home.0 at }
         ensures table { IsTable (seen self.new) }
-        ensures homes { map rows_seen (homes_in (seen self.new)) ≡ put_by home_of (rows_made now.0 home number accepted (rows_left home number accepted (find_by home_of home.0 (map rows_seen (homes_in (seen self.old)))))) (map rows_seen (homes_in (seen self.old))) }
+        ensures homes { homes_seen (seen self.new) ≡ homes_with now.0 home number accepted (homes_seen (seen self.old)) }
         ensures room { ((seen self.new).room ≡ (seen self.old).room) × ((seen self.new).numbers ≡ (seen self.old).numbers) }
     {
         let old = self.homes[at];
@@ -262,7 +262,7 @@ impl Table {
         requires gap { IsGap (homes_in (seen self.old)) home.0 at }
         requires free { no_room key_of (seen self.old).room home.0 (homes_in (seen self.old)) ≡ false }
         ensures table { IsTable (seen self.new) }
-        ensures homes { map rows_seen (homes_in (seen self.new)) ≡ put_by home_of (rows_made now.0 home number accepted (rows_left home number accepted (find_by home_of home.0 (map rows_seen (homes_in (seen self.old)))))) (map rows_seen (homes_in (seen self.old))) }
+        ensures homes { homes_seen (seen self.new) ≡ homes_with now.0 home number accepted (homes_seen (seen self.old)) }
         ensures room { ((seen self.new).room ≡ (seen self.old).room) × ((seen self.new).numbers ≡ (seen self.old).numbers) }
     {
         match self.spare.pop() {

@@ -1,19 +1,24 @@
 ghost use Rattle.std.specs.Prelude.{◌≡◌, ◌<◌, ◌≤◌, IfSome};
 
-use mip_bcache::{Accepted, Cache};
+use mip_bcache::{Accepted, Cache, Row};
 use mip_chain::Steps;
 use mip_words::{Address, Moment};
 use std::alloc::Global;
 use std::marker::Brand;
 use std::sync::ledger::{Blank, Ledger};
 
-const ACCEPTED: Accepted = Accepted {
-    careof: Address(9),
-    sequence: 7,
-    end: Moment(40_000),
-    home_nonce: 0,
-    careof_nonce: Some(0),
-};
+// What an update said that was accepted.
+fn accepted(careof: u128, sequence: u16, end: u64) -> Accepted
+    ensures { result.careof.0 ≡ careof }
+{
+    Accepted {
+        careof: Address(careof),
+        sequence,
+        end: Moment(end),
+        home_nonce: 0,
+        careof_nonce: Some(0),
+    }
+}
 
 // How many rows are given up, over a ledger of its own.
 fn counted<G: Ledger>(cache: &mut Cache, now: u64, blank: Blank) -> u32
@@ -21,7 +26,8 @@ fn counted<G: Ledger>(cache: &mut Cache, now: u64, blank: Blank) -> u32
     requires name { blank.name ≡ G.name }
     requires parts { blank.parts ≡ G.parts }
     requires some { 0 < blank.parts }
-    ensures { cache.new.last ≡ now }
+    ensures last { cache.new.last ≡ now }
+    ensures numbers { cache.new.numbers ≡ cache.old.numbers }
 {
     let mut steps = Steps::<G>::new(blank);
     cache.expire(Moment(now), &mut steps)
@@ -29,7 +35,8 @@ fn counted<G: Ledger>(cache: &mut Cache, now: u64, blank: Blank) -> u32
 
 fn expired(cache: &mut Cache, now: u64) -> u32
     requires { cache.old.last ≤ now }
-    ensures { cache.new.last ≡ now }
+    ensures last { cache.new.last ≡ now }
+    ensures numbers { cache.new.numbers ≡ cache.old.numbers }
 {
     counted::<Brand>(cache, now, Blank::new(1))
 }
@@ -38,9 +45,11 @@ fn expired(cache: &mut Cache, now: u64) -> u32
 fn is_taken(cache: &mut Cache, now: u64, home: u128) -> bool
     requires later { cache.old.last ≤ now }
     requires early { now < 1_000_000 }
-    ensures { cache.new.last ≤ now }
+    requires some { 0 < cache.old.numbers }
+    ensures last { cache.new.last ≤ now }
+    ensures numbers { cache.new.numbers ≡ cache.old.numbers }
 {
-    match cache.accept(Moment(now), Address(home), 0, ACCEPTED) {
+    match cache.accept(Moment(now), Address(home), 0, accepted(9, 7, 40_000)) {
         Ok(()) => true,
         Err(_) => false,
     }
@@ -48,9 +57,10 @@ fn is_taken(cache: &mut Cache, now: u64, home: u128) -> bool
 
 // A cache for three homes, with 3, 1 and 2 accepted at 0 in this order, each to 40,000.
 fn three_homes(alloc: Global) -> Option<Cache>
-    ensures { IfSome result (λ c. c.last ≡ 0) }
+    ensures last { IfSome result (λ c. c.last ≡ 0) }
+    ensures numbers { IfSome result (λ c. c.numbers ≡ 1) }
 {
-    let mut cache = Cache::with_limit(alloc, 3).ok()?;
+    let mut cache = Cache::with_limit(alloc, 3, 1).ok()?;
     if is_taken(&mut cache, 0, 3) && is_taken(&mut cache, 0, 1) && is_taken(&mut cache, 0, 2) {
         Some(cache)
     } else {
@@ -94,6 +104,109 @@ fn room_of_ended_rows(alloc: Global) -> Option<(bool, Option<u128>, Option<u128>
     ))
 }
 
+// Whether a binding of home 1 is taken.
+fn is_bound(cache: &mut Cache, now: u64, number: u8, careof: u128, sequence: u16, end: u64) -> bool
+    requires later { cache.old.last ≤ now }
+    requires early { now < 1_000_000 }
+    requires number { number < cache.old.numbers }
+    requires away { careof ≡ 1 → number ≡ 0 }
+    ensures last { cache.new.last ≤ now }
+    ensures numbers { cache.new.numbers ≡ cache.old.numbers }
+{
+    match cache.accept(
+        Moment(now),
+        Address(1),
+        number,
+        accepted(careof, sequence, end),
+    ) {
+        Ok(()) => true,
+        Err(_) => false,
+    }
+}
+
+// A cache for one home with eight numbers. At 0 number 0 is bound to 10 until 30,000, then number 1 to 11
+// until 500,000, then number 2 to 12 until 40,000. No sequence tells which came last: each is after the one
+// before, and 65,533 is not after 1.
+fn three_bindings(alloc: Global) -> Option<Cache>
+    ensures last { IfSome result (λ c. c.last ≡ 0) }
+    ensures numbers { IfSome result (λ c. c.numbers ≡ 8) }
+{
+    let mut cache = Cache::with_limit(alloc, 1, 8).ok()?;
+    if is_bound(&mut cache, 0, 0, 10, 1, 30_000)
+        && is_bound(&mut cache, 0, 1, 11, 32_767, 500_000)
+        && is_bound(&mut cache, 0, 2, 12, 65_533, 40_000)
+    {
+        Some(cache)
+    } else {
+        None
+    }
+}
+
+fn careof_of(row: &Row) -> u128 {
+    row.careof.0
+}
+
+// The care-of address that is held at a moment, that under number 1, and whether 12 is one of them.
+fn held_at(alloc: Global, now: u64) -> Option<(Option<u128>, Option<u128>, bool)> {
+    let cache = three_bindings(alloc)?;
+    Some((
+        cache.look(Moment(now), Address(1)).map(careof_of),
+        cache.look_at(Moment(now), Address(1), 1).map(careof_of),
+        cache.holds(Moment(now), Address(1), Address(12)),
+    ))
+}
+
+// The sequence that is kept, and whether there is room for another home.
+fn floor_at(alloc: Global, now: u64) -> Option<(Option<u16>, bool)> {
+    let cache = three_bindings(alloc)?;
+    Some((
+        cache.floor(Moment(now), Address(1)),
+        cache.has_room(Moment(now), Address(2)),
+    ))
+}
+
+// Number, care-of address and the end of the home's sequence, of the row at a place.
+fn row_at(cache: &Cache, now: u64, place: u32) -> Option<(u8, u128, u64)>
+    requires { cache.now.last ≤ now }
+{
+    let row = cache.row(Moment(now), place)?;
+    Some((row.number, row.careof.0, row.kept_until.0))
+}
+
+// The last two of three rows.
+fn last_rows(alloc: Global) -> Option<[Option<(u8, u128, u64)>; 2]> {
+    let cache = three_bindings(alloc)?;
+    Some([row_at(&cache, 0, 1), row_at(&cache, 0, 2)])
+}
+
+// The rows after number 1 is bound anew.
+fn rows_of_a_number_again(alloc: Global) -> Option<[Option<(u8, u128, u64)>; 2]> {
+    let mut cache = three_bindings(alloc)?;
+    is_bound(&mut cache, 0, 1, 13, 2, 50_000);
+    Some([row_at(&cache, 0, 1), row_at(&cache, 0, 3)])
+}
+
+// The rows after a deletion.
+fn rows_of_a_deletion(alloc: Global) -> Option<[Option<(u8, u128, u64)>; 2]> {
+    let mut cache = three_bindings(alloc)?;
+    is_bound(&mut cache, 0, 0, 1, 3, 0);
+    Some([row_at(&cache, 0, 0), row_at(&cache, 0, 1)])
+}
+
+// The rows after number 5 is bound when no sequence is kept any more.
+fn rows_after_the_floor(alloc: Global) -> Option<[Option<(u8, u128, u64)>; 2]> {
+    let mut cache = three_bindings(alloc)?;
+    is_bound(&mut cache, 500_000, 5, 15, 4, 510_000);
+    Some([row_at(&cache, 500_000, 0), row_at(&cache, 500_000, 1)])
+}
+
+// How many rows are given up a millisecond before the home's sequence ends, and as it does.
+fn rows_given_up(alloc: Global) -> Option<(u32, u32)> {
+    let mut cache = three_bindings(alloc)?;
+    let early = expired(&mut cache, 499_999);
+    Some((early, expired(&mut cache, 500_000)))
+}
+
 #[test]
 fn rows_stand_in_order_of_home(rt: HostRuntime) {
     assert_eq!(rt;
@@ -112,22 +225,59 @@ fn ended_rows_make_room_by_themselves(rt: HostRuntime) {
     assert_eq!(rt; room_of_ended_rows(rt.alloc()), Some((true, Some(4), None)));
 }
 
-// Homes 3 and 1 are accepted at 0, each to 40,000, and keep their sequence to 240,000.
 #[test]
-fn two_homes_fill_a_cache_until_240_s(rt: HostRuntime) {
-    let mut cache = Cache::with_limit(rt.alloc(), 2).expect(&rt, "memory");
-    cache
-        .accept(Moment(0), Address(3), 0, ACCEPTED)
-        .expect(&rt, "room");
-    cache
-        .accept(Moment(0), Address(1), 0, ACCEPTED)
-        .expect(&rt, "room");
-    assert_eq!(rt; cache.row(Moment(0), 0).map(|row| row.home.0), Some(1));
-    assert_eq!(rt; cache.row(Moment(0), 1).map(|row| row.home.0), Some(3));
-    assert!(rt; cache.look(Moment(39_999), Address(1)).is_some());
-    assert!(rt; cache.look(Moment(40_000), Address(1)).is_none());
-    assert_eq!(rt; cache.floor(Moment(239_999), Address(1)), Some(7));
-    assert!(rt; !cache.has_room(Moment(239_999), Address(4)));
-    assert!(rt; cache.has_room(Moment(240_000), Address(4)));
-    assert_eq!(rt; cache.give_up(Moment(240_000)), 2);
+fn the_last_binding_that_stands_is_held(rt: HostRuntime) {
+    assert_eq!(rt; held_at(rt.alloc(), 39_999), Some((Some(12), Some(11), true)));
+}
+
+#[test]
+fn an_earlier_binding_is_held_when_the_last_ends(rt: HostRuntime) {
+    assert_eq!(rt; held_at(rt.alloc(), 40_000), Some((Some(11), Some(11), false)));
+}
+
+#[test]
+fn a_sequence_is_kept_to_the_end_of_every_binding(rt: HostRuntime) {
+    assert_eq!(rt; floor_at(rt.alloc(), 499_999), Some((Some(65_533), false)));
+}
+
+#[test]
+fn a_sequence_ends_with_the_last_binding(rt: HostRuntime) {
+    assert_eq!(rt; floor_at(rt.alloc(), 500_000), Some((None, true)));
+}
+
+#[test]
+fn rows_of_a_home_stand_in_order_of_number(rt: HostRuntime) {
+    assert_eq!(rt;
+        last_rows(rt.alloc()),
+        Some([Some((1, 11, 500_000)), Some((2, 12, 500_000))])
+    );
+}
+
+#[test]
+fn a_number_has_one_row(rt: HostRuntime) {
+    assert_eq!(rt;
+        rows_of_a_number_again(rt.alloc()),
+        Some([Some((1, 13, 240_000)), None])
+    );
+}
+
+#[test]
+fn a_deletion_ends_all_numbers(rt: HostRuntime) {
+    assert_eq!(rt;
+        rows_of_a_deletion(rt.alloc()),
+        Some([Some((0, 1, 240_000)), None])
+    );
+}
+
+#[test]
+fn rows_end_with_the_sequence_of_their_home(rt: HostRuntime) {
+    assert_eq!(rt;
+        rows_after_the_floor(rt.alloc()),
+        Some([Some((5, 15, 740_000)), None])
+    );
+}
+
+#[test]
+fn rows_are_counted_when_a_home_is_given_up(rt: HostRuntime) {
+    assert_eq!(rt; rows_given_up(rt.alloc()), Some((0, 3)));
 }
