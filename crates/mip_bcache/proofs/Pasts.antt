@@ -11,7 +11,7 @@ use Rattle.mip_binding.specs.Acceptance.{Acceptance, Binding, binding_of}
 use Rattle.mip_binding.specs.Rows.{BindingRow, find_by, put_by, kept_by, others_by, found_by, add_found, all_numbers}
 use Rattle.mip_binding.specs.Homes.{HomeKept, home_key, until_key, number_key, latest as latest_of, kept_of, kept_with, homes, kept_homes, shown_in, shown_home, shown_rows}
 use Rattle.mip_binding.specs.Held.{is_standing, stands_under as standing_number, stands_at as standing_careof, careof_where, any_lives, held, held_under, holds, floor, is_full, homes_with_floor}
-use Rattle.mip_binding.proofs.RowLaws.{kept-kept, map-kept, map-put, map-find, kept-put, rises-kept, all-find, last-map, any-map, others-map}
+use Rattle.mip_binding.proofs.RowLaws.{kept-kept, map-kept, map-put, map-find, kept-put, rises-kept, all-kept, all-put, all-find, last-map, any-map, others-map}
 use Rattle.mip_binding.proofs.HomeLaws.{left_by, kept_with-left, kept_with-kept, kept_with-until, homes-none, homes-push, rises-homes}
 use Rattle.mip_binding.proofs.HeldLaws.{held-homes, under-homes, holds-homes, floor-homes}
 use Rattle.mip_words.specs.declared.address.Address.{Address}
@@ -164,10 +164,14 @@ module _ (cache : CacheSeen) (past : List Acceptance) (stood : StandsFor cache p
       by None = refl
       by (Some h) = refl
 
+  -- and so are the rows that are listed
+  pub rows_same : AllByRecursion HasUntils (kept_at cache now) → map seen_row (rows_at cache now) ≡ shown_rows past now
+  rows_same untils = all_shown (kept_at cache now) untils ∙ ap (flat_map shown_home) kept_same
+
   pub row_answers : AllByRecursion HasUntils (kept_at cache now) → (place : ℕ) → option_map seen_row (slice_get (rows_at cache now) place) ≡ slice_get (shown_rows past now) place
   row_answers untils place =
       sym (slice_get-map seen_row (rows_at cache now) place)
-      ∙ ap (λ (rs : List BindingRow). slice_get rs place) (all_shown (kept_at cache now) untils ∙ ap (flat_map shown_home) kept_same)
+      ∙ ap (λ (rs : List BindingRow). slice_get rs place) (rows_same untils)
 
   pub expire_stands : StandsFor (expired now cache) past
   expire_stands = record { same = ap (map seen_home) (kept-kept until_of now now cache.homes (omega arith)) ∙ kept_same }
@@ -193,3 +197,20 @@ module _ (cache : CacheSeen) (past : List Acceptance) (stood : StandsFor cache p
             ∙ sym (kept-put home_key until_key now k (homes past) (rises-homes past) lasts)
             ∙ ap (kept_homes now) (sym (homes-push past x));
       }
+
+-- each row of a cache is kept as long as its home's sequence, and stays so
+abbrev pub HaveUntils : CacheSeen → Type 0
+HaveUntils cache = AllByRecursion HasUntils cache.homes
+
+untils_set : (until : ℕ) (rs : List Row) (r : Row) → r.kept_until.0 ≡ until → AllByRecursion (λ q. q.kept_until.0 ≡ until) (map (until_set until) rs ++ r ∷ [])
+untils_set until [] r is = (is, tt)
+untils_set until (q ∷ rs) r is = (refl, untils_set until rs r is)
+
+pub kept_untils : (cache : CacheSeen) (now : ℕ) → HaveUntils cache → AllByRecursion HasUntils (kept_at cache now)
+kept_untils cache now untils = all-kept HasUntils until_of now cache.homes untils
+
+pub accept_untils : (cache : CacheSeen) (now : ℕ) (home : Address) (number : ℕ) (a : Accepted) → HaveUntils cache → HaveUntils (with_acceptance now home number a cache)
+accept_untils cache now home number a untils =
+    let left = rows_left home number a (home_at cache home.0 now) in
+    let until = until_with now a left in
+    all-put HasUntils home_of (rows_made now home number a left) (kept_at cache now) (untils_set until left (row_for until home number a) refl) (kept_untils cache now untils)

@@ -149,7 +149,7 @@ module _ (s : Setup) (from run : Run) (beside : IsBeside from run) where
         → part_doing.turn_of (identity_in s run n own room) (known_in s run n room) (now_in s run) c ≡ part_doing.turn_of (identity_in s from n own room) (known_in s from n room) (now_in s from) c
     correspondent_beside room c =
         by (ap (λ (life : ℕ). let x : Identity = record { own = own; secrets = secrets_in s n life; room = room } in x) (life_beside n))
-        (ap (λ (l : List (List (Stamped part_steps.Step))). part_questions.known room (slice_index_or l n [])) beside.pasts) now_beside
+        (ap (λ (l : List (List (Stamped part_steps.Step))). part_questions.known room s.numbers (slice_index_or l n [])) beside.pasts) now_beside
       where
         by : {me you : Identity} {k l : parts.Known} {t u : ℕ} → me ≡ you → k ≡ l → t ≡ u → part_doing.turn_of me k t c ≡ part_doing.turn_of you l u c
         by a b d = cc

@@ -1,7 +1,7 @@
 -- A quiet stretch keeps what is asked of a history: entries in it say nothing, and no end comes.
 use Rattle.std.proofs.Common.{◌≡◌, ℕ, ◌≤◌, List, [], ◌∷◌, ◌++◌, Bool, true, false, refl, sym, ap, ◌∙◌, subst, arith}
-use Rattle.std.specs.Prelude.{length, drop, Option, Some, None, unwrap_or, option_map, not, ◌==◌, ◌&&◌, ◌||◌, nat_lt, if◌then◌else◌}
-use Rattle.std.specs.List.{list_any, list_all}
+use Rattle.std.specs.Prelude.{length, drop, fold, Option, Some, None, unwrap_or, option_map, not, ◌==◌, ◌&&◌, ◌||◌, nat_lt, if◌then◌else◌}
+use Rattle.std.specs.List.{list_any, list_all, AllByRecursion}
 use Rattle.std.proofs.lemmas.List.{append_assoc, append-nil}
 use Rattle.std.proofs.lemmas.List.Sums.{fold-append, sum_by-append}
 use Rattle.std.proofs.lemmas.List.Folds.{list_any-append}
@@ -10,7 +10,14 @@ use Rattle.std.proofs.lemmas.Bool.Decides.{nat_tests}
 use Rattle.mip_words.specs.declared.address.Address.{Address}
 use Rattle.mip_words.specs.declared.moment.Moment.{Moment}
 use Rattle.mip_lists.specs.Asked.{asked}
-use Rattle.mip_binding.specs.Held.{held}
+use Rattle.mip_lists.specs.Last.{or_else, last_where}
+use Rattle.mip_binding.specs.Acceptance.{Acceptance, Binding, binding_of}
+use Rattle.mip_binding.specs.Rows.{others_by}
+use Rattle.mip_binding.specs.Homes.{HomeKept, number_key, joins, kept_with, home_step, home_after}
+use Rattle.mip_binding.specs.Held.{is_standing, careof_where, held}
+use Rattle.mip_binding.proofs.RowLaws.{all-filtered, all-push}
+use Rattle.mip_binding.proofs.HomeLaws.{left_by as left_of, kept_with-left}
+use Rattle.mip_binding.proofs.HeldLaws.{held-other}
 use Rattle.mip_entries.specs.declared.entry.Entry.{Entry}
 use Rattle.mip_entries.specs.declared.entry.Entry.TheVariants as entries
 use Rattle.mip_schedule.specs.declared.event.Event.{Event}
@@ -22,19 +29,60 @@ use Rattle.mip_history.specs.Setup.{Setup}
 use Rattle.mip_history.specs.Runs.{Run}
 use Rattle.mip_history.specs.Questions.{holder_in}
 use Rattle.mip_history.specs.Knowing.{now_in}
-use Rattle.mip_history.specs.Bound.{accepted_by, held_in}
+use Rattle.mip_history.specs.Bound.{Lived, lived, accepted_by, held_in}
 use Rattle.mip_history.specs.Registered.{registration_says, last_registration}
 use Rattle.mip_history.specs.Passing.{waited_by}
 use Rattle.mip_history.specs.Permitted.{happens, run_of}
 use Rattle.mip_history.proofs.Events.{run_passes}
 use Rattle.mip_history.specs.Told.{present_in, registration_told, agent_in, careof_in}
-use Rattle.mip_settled.specs.Acceptances.{acceptance_told, careof_told}
-use Rattle.mip_settled.proofs.HeldTold.{held_told}
 use Rattle.mip_delivery.specs.Stretches.{run_on, left_by}
 use Rattle.mip_delivery.specs.Quiet.{Circle, has_node, has_address, is_loud, circle_of, end_told, lasts, IsQuiet}
 use Rattle.mip_delivery.proofs.Leaving.{drop_front}
 use Rattle.mip_delivery.proofs.Reaching.{any_may, any_stand, events_calm, none_bad}
-use Rattle.mip_delivery.proofs.Silence.{present_kept, acceptance_kept, registration_kept, is_loud_or_taken, told_kept, holder_kept}
+use Rattle.mip_delivery.proofs.Silence.{present_kept, acceptances_kept, registration_kept, is_loud_or_taken, told_kept, holder_kept}
+
+-- what is held stands as long as the ends of all that was accepted lie ahead
+abbrev LastsAs : (now later : ℕ) → Acceptance → Type 0
+LastsAs now later a = nat_lt later a.end ≡ nat_lt now a.end
+
+abbrev BindingLasts : (now later : ℕ) → Binding → Type 0
+BindingLasts now later b = nat_lt later b.end ≡ nat_lt now b.end
+
+abbrev HomeLasts : (now later : ℕ) → Option HomeKept → Type 0
+HomeLasts now later None = Unit {0}
+HomeLasts now later (Some k) = AllByRecursion (BindingLasts now later) k.live
+
+left_lasts : (now later : ℕ) (o : Option HomeKept) (a : Acceptance) → HomeLasts now later o → AllByRecursion (BindingLasts now later) (left_of o a)
+left_lasts now later None a so = tt
+left_lasts now later (Some k) a so = by (joins k a)
+  where
+    by : (b : Bool) → AllByRecursion (BindingLasts now later) (if b then others_by number_key a.number k.live else [])
+    by true = all-filtered (BindingLasts now later) _ k.live so
+    by false = tt
+
+home_lasts : (now later home : ℕ) (o : Option HomeKept) (xs : List Acceptance) → HomeLasts now later o → AllByRecursion (LastsAs now later) xs → HomeLasts now later (fold (home_step home) o xs)
+home_lasts now later home o [] so all = so
+home_lasts now later home o (x ∷ xs) so all = home_lasts now later home (home_step home o x) xs (by (x.home == home)) all.1
+  where
+    by : (mine : Bool) → HomeLasts now later (if mine then Some (kept_with o x) else o)
+    by true =
+        subst (λ (k : HomeKept). HomeLasts now later (Some k)) (sym (kept_with-left o x))
+        (all-push (BindingLasts now later) (left_of o x) (binding_of x) (left_lasts now later o x so) all.0)
+    by false = so
+
+last_same : (home now later : ℕ) (bs : List Binding) → AllByRecursion (BindingLasts now later) bs → last_where (is_standing home later) bs ≡ last_where (is_standing home now) bs
+last_same home now later [] all = refl
+last_same home now later (b ∷ bs) all =
+    ap (λ (o : Option Binding). or_else o (if is_standing home later b then Some b else None)) (last_same home now later bs all.1)
+    ∙ ap (λ (ahead : Bool). or_else (last_where (is_standing home now) bs) (if not (b.careof == home) && ahead then Some b else None)) all.0
+
+held_lasting : (xs : List Acceptance) (home now later : ℕ) → AllByRecursion (LastsAs now later) xs → held xs home later ≡ held xs home now
+unfolding held
+held_lasting xs home now later all = by (home_after home xs) (home_lasts now later home None xs tt all)
+  where
+    by : (o : Option HomeKept) → HomeLasts now later o → careof_where (is_standing home later) o ≡ careof_where (is_standing home now) o
+    by None so = refl
+    by (Some k) so = ap (option_map (λ (b : Binding). b.careof)) (last_same home now later k.live so)
 
 -- an end that lasts through a stretch lies ahead at each moment of it as at the first
 same_ahead : (from now until end : ℕ) → from ≤ now → now ≤ until → lasts from until (Some end) ≡ true → nat_lt now end ≡ nat_lt from end
@@ -64,19 +112,6 @@ module _ {V : Type 0} (says : Entry → Option (Option V)) (end_of : V → ℕ) 
   lasting_along o (e ∷ past) all l =
       let parts = and_parts (lasts from until (end_told e)) (list_all (λ (x : Entry). lasts from until (end_told x)) past) all in
       lasting_along (unwrap_or (says e) o) past parts.1 (step o e parts.0 l)
-
-accepted_end : (n home : ℕ) (e : Entry) (v : Address × Moment) → acceptance_told n home e ≡ Some (Some v) → end_told e ≡ Some v.1.0
-accepted_end n home (entries.Accepted node number h binding careof sequence end i j) v is = by ((n == node.0) && (h.0 == home)) is
-  where
-    by : (b : Bool) → (if b then Some (Some (careof, end)) else None) ≡ Some (Some v) → Some end.0 ≡ Some v.1.0
-    by true e = let same : (let x : Address × Moment = (careof, end) in x) ≡ v = cc in ap (λ (x : Address × Moment). Some x.1.0) same
-    by false e = absurd cc
-accepted_end n home (entries.Restarted node) v is = by (n == node.0) is
-  where
-    by : (b : Bool) → (let o : Option (Option (Address × Moment)) = (if b then Some None else None) in o) ≡ Some (Some v) → None ≡ Some v.1.0
-    by true e = absurd cc
-    by false e = absurd cc
-accepted_end n home _ v is = absurd cc
 
 home_end : (n : ℕ) (home : Address) (e : Entry) (v : HomeBinding) → registration_says n home e ≡ Some (Some v) → end_told e ≡ Some v.end.0
 home_end n home (entries.Home node h careof sequence end) v is = by ((n == node.0) && (h.0 == home.0)) is
@@ -137,19 +172,36 @@ module _ (s : Setup) (c : Circle) (from run : Run) (stretch : Stretch s c from r
   pub holder_stays : (a : Address) → has_address c a ≡ true → holder_in run.past a.0 ≡ holder_in from.past a.0
   holder_stays a inside = ap (λ (l : List Entry). holder_in l a.0) stretch.whole ∙ holder_kept c a inside from.past stretch.es stretch.silent
 
-  pub held_stays : (n home : ℕ) → has_node c n ≡ true → held (accepted_by s.start run.past n) home (now_in s run) ≡ held (accepted_by s.start from.past n) home (now_in s from)
-  held_stays n home inside =
-      held_told n home (now_in s run) s.start run.past
-      ∙ ap (careof_told home (now_in s run))
-      (ap (λ (l : List Entry). asked (acceptance_told n home) None l) stretch.whole ∙ acceptance_kept c n inside home from.past stretch.es stretch.silent)
-      ∙ at (asked (acceptance_told n home) None from.past)
-      (lasting_along (acceptance_told n home) (λ (v : Address × Moment). v.1.0) (accepted_end n home) (now_in s from) stretch.until None from.past stretch.lasting tt)
-      ∙ sym (held_told n home (now_in s from) s.start from.past)
+  -- the ends of what a node accepted last too
+  accepted_last : (n : ℕ) (l : Lived) (past : List Entry) → list_all (λ e. lasts (now_in s from) stretch.until (end_told e)) past ≡ true
+      → AllByRecursion (LastsAs (now_in s from) (now_in s run)) l.accepted → AllByRecursion (LastsAs (now_in s from) (now_in s run)) (let m : Lived = fold (lived n) l past in m.accepted)
+  accepted_last n l [] all so = so
+  accepted_last n l (e ∷ past) all so =
+      let parts = and_parts (lasts (now_in s from) stretch.until (end_told e)) (list_all (λ (x : Entry). lasts (now_in s from) stretch.until (end_told x)) past) all in
+      accepted_last n (lived n l e) past parts.1 (by l e so parts.0)
     where
-      at : (o : Option (Address × Moment)) → Lasts (acceptance_told n home) (λ (v : Address × Moment). v.1.0) (accepted_end n home) (now_in s from) stretch.until o
-          → careof_told home (now_in s run) o ≡ careof_told home (now_in s from) o
-      at None l = refl
-      at (Some a) l = ap (λ (b : Bool). if not (a.0.0 == home) && b then Some a.0.0 else None) (same a.1.0 l)
+      if_accepted : (b : Bool) (l : Lived) (x : Acceptance) → AllByRecursion (LastsAs (now_in s from) (now_in s run)) l.accepted → LastsAs (now_in s from) (now_in s run) x
+          → AllByRecursion (LastsAs (now_in s from) (now_in s run)) (let m : Lived = (if b then record { at = l.at; accepted = l.accepted ++ x ∷ [] } else l) in m.accepted)
+      if_accepted true l x so here = all-push (LastsAs (now_in s from) (now_in s run)) l.accepted x so here
+      if_accepted false l x so here = so
+
+      if_restarted : (b : Bool) (xs : List Acceptance) → AllByRecursion (LastsAs (now_in s from) (now_in s run)) xs → AllByRecursion (LastsAs (now_in s from) (now_in s run)) (if b then [] else xs)
+      if_restarted true xs so = tt
+      if_restarted false xs so = so
+
+      by : (l : Lived) (e : Entry) → AllByRecursion (LastsAs (now_in s from) (now_in s run)) l.accepted → lasts (now_in s from) stretch.until (end_told e) ≡ true
+          → AllByRecursion (LastsAs (now_in s from) (now_in s run)) (let m : Lived = lived n l e in m.accepted)
+      by l (entries.Accepted node number h binding careof sequence end i j) so here = if_accepted (n == node.0) l _ so (same end.0 here)
+      by l (entries.Restarted node) so here = if_restarted (n == node.0) l.accepted so
+      by l _ so here = so
+
+  pub held_stays : (n home : ℕ) → has_node c n ≡ true → held (accepted_by s.start run.past n) home (now_in s run) ≡ held (accepted_by s.start from.past n) home (now_in s from)
+  unfolding accepted_by
+  held_stays n home inside =
+      ap (λ (l : List Entry). held (accepted_by s.start l n) home (now_in s run)) stretch.whole
+      ∙ acceptances_kept c n inside (λ xs. held xs home (now_in s run)) home (λ xs x other. held-other xs x home (now_in s run) other) s.start from.past stretch.es stretch.silent
+      ∙ held_lasting (accepted_by s.start from.past n) home (now_in s from) (now_in s run)
+      (accepted_last n (record { at = s.start; accepted = [] }) from.past stretch.lasting tt)
 
   pub careof_stays : (n : ℕ) (home : Address) → has_node c n ≡ true → careof_in (now_in s run) run.past n home ≡ careof_in (now_in s from) from.past n home
   careof_stays n home inside =

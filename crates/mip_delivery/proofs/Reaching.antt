@@ -11,7 +11,7 @@ use Rattle.mip_words.specs.declared.ids.LinkId.{LinkId}
 use Rattle.mip_words.specs.declared.why.Why.{Why}
 use Rattle.mip_words.specs.declared.shield.Shield.{Shield}
 use Rattle.mip_bcache.specs.declared.row.Row.{Row}
-use Rattle.mip_bcache.specs.Seen.{kept_at}
+use Rattle.mip_bcache.specs.Seen as caches
 use Rattle.mip_entries.specs.declared.answer.Answer.{Answer}
 use Rattle.mip_entries.specs.declared.answer.Answer.TheVariants.{Send, Note}
 use Rattle.mip_entries.specs.declared.entry.Entry.{Entry}
@@ -451,9 +451,9 @@ module _ (s : Setup) (bad : Entry → Bool) (may : ℕ → Address → Type 0) (
   home_rows_calm n (r ∷ rows) = home_rows_calm n rows
 
   kind_calm : (n : ℕ) (own : Address) (run : Run) (kind : Kind) → list_any is_special (rows_by_kind s n own run kind) ≡ false
-  kind_calm n own run (Correspondent room) = rows_calm n (kept_at (known_in s run n room).cache (now_in s run))
+  kind_calm n own run (Correspondent room) = rows_calm n (caches.rows_at (known_in s run n room).cache (now_in s run))
   kind_calm n own run (Agent preference life room serves) = home_rows_calm n (rows_at (now_in s run) (agent_known_in run n serves).homes)
-  kind_calm n own run (Mobile agent) = rows_calm n (kept_at (mobile_known_in s run n own agent).part.known.cache (now_in s run))
+  kind_calm n own run (Mobile agent) = rows_calm n (caches.rows_at (mobile_known_in s run n own agent).part.known.cache (now_in s run))
 
   shown_calm : (n : ℕ) (run : Run) → Calm run → Calm (shown s n run)
   shown_calm n run c = by (slice_get s.hosts n)

@@ -1,6 +1,6 @@
 -- What entries say that are about none of a circle: nothing of its nodes and its addresses.
 use Rattle.std.proofs.Common.{◌≡◌, ℕ, List, [], ◌∷◌, ◌++◌, Bool, true, false, refl, sym, ap, ◌∙◌}
-use Rattle.std.specs.Prelude.{fold, Option, Some, None, unwrap_or, ◌==◌, ◌&&◌, ◌||◌, if◌then◌else◌}
+use Rattle.std.specs.Prelude.{◌≢◌, fold, Option, Some, None, unwrap_or, ◌==◌, ◌&&◌, ◌||◌, if◌then◌else◌}
 use Rattle.std.specs.List.{list_any}
 use Rattle.std.proofs.lemmas.List.Sums.{fold-append}
 use Rattle.std.proofs.lemmas.Bool.{or_parts, ne_eqb}
@@ -8,10 +8,12 @@ use Rattle.mip_words.specs.declared.address.Address.{Address}
 use Rattle.mip_lists.specs.Asked.{asked}
 use Rattle.mip_entries.specs.declared.entry.Entry.{Entry}
 use Rattle.mip_entries.specs.declared.entry.Entry.TheVariants as entries
+use Rattle.mip_binding.specs.Acceptance.{Acceptance}
+use Rattle.mip_history.specs.Bound.{accepted_by, is_restart_of, is_accepted_for}
 use Rattle.mip_history.specs.Questions.{holder_says, holder_in}
 use Rattle.mip_history.specs.Registered.{registration_says, last_registration}
 use Rattle.mip_history.specs.Told.{present_says, present_in, registration_told}
-use Rattle.mip_settled.specs.Acceptances.{acceptance_told}
+use Rattle.mip_history.proofs.LastOnes.{later_same}
 use Rattle.mip_delivery.specs.Quiet.{Circle, has_node, has_address, is_loud}
 
 -- entries that say nothing of a question leave its answer
@@ -63,10 +65,13 @@ module _ (c : Circle) where
     present_silent (entries.Moved node link) quiet = if_other (n == node.0) _ (other_node n node.0 inside quiet)
     present_silent _ quiet = refl
 
-    acceptance_silent : (home : ℕ) (e : Entry) → is_loud c e ≡ false → acceptance_told n home e ≡ None
+    restart_silent : (e : Entry) → is_loud c e ≡ false → is_restart_of n e ≡ false
+    restart_silent (entries.Restarted node) quiet = other_node n node.0 inside quiet
+    restart_silent _ quiet = refl
+
+    acceptance_silent : (home : ℕ) (e : Entry) → is_loud c e ≡ false → is_accepted_for n home e ≡ false
     acceptance_silent home (entries.Accepted node number h binding careof sequence end i j) quiet =
-        if_both_other (n == node.0) (h.0 == home) _ (other_node n node.0 inside (first_of_three _ _ _ quiet))
-    acceptance_silent home (entries.Restarted node) quiet = if_other (n == node.0) _ (other_node n node.0 inside quiet)
+        ap (λ (b : Bool). b && (h.0 == home)) (other_node n node.0 inside (first_of_three _ _ _ quiet))
     acceptance_silent home _ quiet = refl
 
     registration_silent : (home : Address) (e : Entry) → is_loud c e ≡ false → registration_says n home e ≡ None
@@ -78,8 +83,17 @@ module _ (c : Circle) where
     pub present_kept : (own : Address) (past es : List Entry) → list_any (is_loud c) es ≡ false → present_in (past ++ es) n own ≡ present_in past n own
     present_kept own past es quiet = asked_silent (present_says n) (is_loud c) present_silent (Some own) past es quiet
 
-    pub acceptance_kept : (home : ℕ) (past es : List Entry) → list_any (is_loud c) es ≡ false → asked (acceptance_told n home) None (past ++ es) ≡ asked (acceptance_told n home) None past
-    acceptance_kept home past es quiet = asked_silent (acceptance_told n home) (is_loud c) (acceptance_silent home) None past es quiet
+    any_silent : (p : Entry → Bool) → ((e : Entry) → is_loud c e ≡ false → p e ≡ false) → (es : List Entry) → list_any (is_loud c) es ≡ false → list_any p es ≡ false
+    any_silent p each [] quiet = refl
+    any_silent p each (e ∷ es) quiet =
+        let parts = or_parts (is_loud c e) (list_any (is_loud c) es) quiet in
+        ap (λ (b : Bool). b || list_any p es) (each e parts.0) ∙ any_silent p each es parts.1
+
+    -- what holds of its acceptances goes on
+    pub acceptances_kept : {X : Type 0} (question : List Acceptance → X) (home : ℕ) → ((xs : List Acceptance) (x : Acceptance) → x.home ≢ home → question (xs ++ x ∷ []) ≡ question xs)
+        → (start : ℕ) (past es : List Entry) → list_any (is_loud c) es ≡ false → question (accepted_by start (past ++ es) n) ≡ question (accepted_by start past n)
+    acceptances_kept question home other start past es quiet =
+        later_same question n home other start past es (any_silent (is_restart_of n) restart_silent es quiet) (any_silent (is_accepted_for n home) (acceptance_silent home) es quiet)
 
     pub registration_kept : (home : Address) (past es : List Entry) → list_any (is_loud c) es ≡ false → last_registration (past ++ es) n home ≡ last_registration past n home
     registration_kept home past es quiet = asked_silent (registration_says n home) (is_loud c) (registration_silent home) None past es quiet

@@ -1,35 +1,26 @@
 -- What a node does is quiet, unless it accepts an update.
-use Rattle.std.proofs.Common.{◌≡◌, ◌≢◌, ℕ, List, [], ◌∷◌, ◌++◌, Bool, true, false, refl, sym, ap, ◌∙◌, subst}
-use Rattle.std.specs.Prelude.{fold, Option, unwrap_or, is_some, length, ◌||◌, ◌&&◌, ◌==◌, if◌then◌else◌}
+use Rattle.std.proofs.Common.{◌≡◌, ◌≢◌, ℕ, List, [], ◌∷◌, Bool, true, false, refl, sym, ap, ◌∙◌}
+use Rattle.std.specs.Prelude.{is_some, length, ◌||◌}
 use Rattle.std.specs.List.{list_any, AllByRecursion}
-use Rattle.std.proofs.lemmas.List.{append-nil, append_assoc}
-use Rattle.std.proofs.lemmas.List.Sums.{fold-append}
 use Rattle.std.proofs.lemmas.List.Folds.{list_any-append}
-use Rattle.std.proofs.lemmas.List.Elements.{filter_map-append}
-use Rattle.std.proofs.lemmas.Bool.{or_parts, ne_eqb}
-use Rattle.mip_words.specs.declared.address.Address.{Address}
-use Rattle.mip_words.specs.declared.moment.Moment.{Moment}
-use Rattle.mip_lists.proofs.EachLaws.{each-append}
+use Rattle.std.proofs.lemmas.Bool.{or_parts}
 use Rattle.mip_entries.specs.declared.answer.Answer.{Answer}
 use Rattle.mip_entries.specs.declared.answer.Answer.TheVariants.{Send, Note}
 use Rattle.mip_entries.specs.declared.entry.Entry.{Entry}
 use Rattle.mip_entries.specs.declared.entry.Entry.TheVariants as entries
-use Rattle.mip_entries.specs.Completed.{node_id, named}
-use Rattle.mip_marks.specs.declared.accepted_update.AcceptedUpdate.{AcceptedUpdate}
+use Rattle.mip_entries.specs.Completed.{named}
 use Rattle.mip_marks.specs.declared.mark.Mark.{Mark}
 use Rattle.mip_marks.specs.declared.mark.Mark.TheVariants.{Origin, Forged}
 use Rattle.mip_marks.specs.Entries.{mark_entry}
-use Rattle.mip_marks.specs.Marks.{mark_in}
 use Rattle.mip_rules_correspondent.specs.Steps.{Step, Accepts, answer_of, answers_of, is_acceptance}
 use Rattle.mip_rules_agent.specs.Wholes as agents
 use Rattle.mip_rules_mobile.specs.Steps as mobiles
 use Rattle.mip_rules_mobile.specs.Part.{tells_of_acceptance, concerns_part}
 use Rattle.mip_history.specs.Setup.{Setup, is_correspondent_at}
-use Rattle.mip_history.specs.Runs.{Run, note, notes}
-use Rattle.mip_history.specs.Questions.{moment_says, restarts}
+use Rattle.mip_history.specs.Runs.{Run}
 use Rattle.mip_history.specs.Nodes.{left_by, answered_one, answered}
-use Rattle.mip_history.specs.Bound.{Lived, lived, accepted_by, packet_posted, packets_of, is_accepted}
-use Rattle.mip_history.proofs.Runs.{Meets, IsQuiet, quiet_same, quiet_then, quiet_notes, is_met}
+use Rattle.mip_history.specs.Bound.{is_accepted}
+use Rattle.mip_history.proofs.Runs.{IsQuiet, quiet_same, quiet_then, quiet_notes, is_met}
 use Rattle.mip_history.proofs.Posts.{quiet_sent}
 use Rattle.mip_history.proofs.Claiming.{quiet_claims, quiet_gives_up}
 

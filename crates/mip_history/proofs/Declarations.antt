@@ -1,5 +1,5 @@
 -- What a schedule that keeps to its declarations names is declared, and so is what stands in its permitted history.
-use Rattle.std.proofs.Common.{◌≡◌, ℕ, zero, suc, ◌<◌, ◌≤◌, List, [], ◌∷◌, ◌++◌, Bool, true, false, length, refl, sym, ap, ◌∙◌, arith}
+use Rattle.std.proofs.Common.{◌≡◌, ℕ, suc, ◌<◌, ◌≤◌, List, [], ◌∷◌, ◌++◌, Bool, true, false, length, refl, sym, ap, ◌∙◌, arith}
 use Rattle.std.specs.Prelude.{not, ◌||◌, Option, Some, None, slice_get, if◌then◌else◌}
 use Rattle.std.specs.List.{AllByRecursion}
 use Rattle.std.proofs.lemmas.List.{append_assoc}
@@ -19,7 +19,7 @@ use Rattle.mip_schedule.specs.declared.event.Event.TheVariants as events
 use Rattle.mip_declared.specs.declared.places.Sort.TheVariants as sorts
 use Rattle.mip_declared.specs.declared.reason.Reason.{Reason}
 use Rattle.mip_declared.specs.declared.reason.Reason.TheVariants as reasons
-use Rattle.mip_history.specs.Setup.{links_in, hosts_from, hosts_in, outsiders_in, setup_of}
+use Rattle.mip_history.specs.Setup.{links_in, hosts_from, outsiders_in, setup_of}
 use Rattle.mip_history.specs.Permitted.{permitted}
 use Rattle.mip_history.specs.Naming.{IsDeclared}
 use Rattle.mip_history.proofs.Declaring.{IsOf}

@@ -1,6 +1,6 @@
 -- Whatever happens in a run leaves entries of what is declared: claims, packets, what nodes do.
-use Rattle.std.proofs.Common.{◌≡◌, ℕ, zero, suc, ◌+◌, ◌-◌, ◌<◌, ◌≤◌, List, [], ◌∷◌, ◌++◌, Bool, true, false, length, inl, inr, refl, sym, ap, ◌∙◌, subst, arith}
-use Rattle.std.specs.Prelude.{◌⊎◌, fold, map, Option, Some, None, unwrap_or, is_some, not, ◌==◌, ◌&&◌, nat_lt, if◌then◌else◌, slice_get}
+use Rattle.std.proofs.Common.{◌≡◌, ℕ, zero, suc, ◌+◌, ◌<◌, ◌≤◌, List, [], ◌∷◌, Bool, true, false, length, inl, inr, refl, ◌∙◌, arith}
+use Rattle.std.specs.Prelude.{fold, map, Option, Some, None, unwrap_or, is_some, not, ◌==◌, ◌&&◌, nat_lt, if◌then◌else◌, slice_get}
 use Rattle.std.specs.List.{AllByRecursion}
 use Rattle.std.proofs.lemmas.Bool.{cond_both}
 use Rattle.std.proofs.lemmas.Bool.Decides.{nat_tests}
@@ -8,7 +8,6 @@ use Rattle.std.proofs.lemmas.Option.{slice_get_within}
 use Rattle.mip_words.specs.declared.address.Address.{Address}
 use Rattle.mip_words.specs.declared.shield.Shield.{Shield}
 use Rattle.mip_words.specs.declared.why.Why.TheVariants.{Shield as NotForIt}
-use Rattle.mip_bcache.specs.declared.row.Row.{Row}
 use Rattle.mip_lists.specs.Last.{or_else}
 use Rattle.mip_entries.specs.declared.answer.Answer.{Answer}
 use Rattle.mip_entries.specs.declared.answer.Answer.TheVariants.{Send, Note}
@@ -25,7 +24,6 @@ use Rattle.mip_rules_correspondent.specs.Steps as correspondents
 use Rattle.mip_rules_correspondent.specs.Calls as correspondent_calls
 use Rattle.mip_rules_correspondent.specs.Doing as correspondent_doing
 use Rattle.mip_rules_correspondent.proofs.Answers as correspondent_answers
-use Rattle.mip_rules_agent.specs.declared.home_row.HomeRow.{HomeRow}
 use Rattle.mip_rules_agent.specs.Steps as agents
 use Rattle.mip_rules_agent.specs.Calls as agent_calls
 use Rattle.mip_rules_agent.specs.Doing as agent_doing
@@ -33,7 +31,7 @@ use Rattle.mip_rules_agent.proofs.Answers as agent_answers
 use Rattle.mip_rules_mobile.specs.Steps as mobiles
 use Rattle.mip_rules_mobile.specs.Calls as mobile_calls
 use Rattle.mip_rules_mobile.specs.Doing as mobile_doing
-use Rattle.mip_schedule.specs.Lawful.{IsLink, IsNode, IsOutsider}
+use Rattle.mip_schedule.specs.Lawful.{IsLink, IsNode}
 use Rattle.mip_declared.specs.Places.{members}
 use Rattle.mip_declared.specs.declared.declaration.Declaration.{Declaration}
 use Rattle.mip_declared.specs.declared.places.Sort.TheVariants as sorts

@@ -1,15 +1,12 @@
 -- The entries of every schedule that keeps to its declarations are of what is declared.
 use Rattle.std.proofs.Common.{◌≡◌, ℕ, zero, suc, ◌+◌, ◌<◌, ◌≤◌, List, [], ◌∷◌, ◌++◌, Bool, true, false, length, max, inl, inr, refl, arith, length-append}
-use Rattle.std.specs.Prelude.{fold, map, Option, Some, None, unwrap_or, ◌==◌, ◌&&◌, nat_lt, if◌then◌else◌, slice_get, slice_index_or}
+use Rattle.std.specs.Prelude.{fold, Option, Some, None, unwrap_or, ◌==◌, ◌&&◌, nat_lt, if◌then◌else◌, slice_get, slice_index_or}
 use Rattle.std.specs.List.{AllByRecursion}
 use Rattle.std.proofs.lemmas.Bool.{cond_both}
 use Rattle.std.proofs.lemmas.Option.{slice_get_within}
 use Rattle.mip_words.specs.declared.address.Address.{Address}
 use Rattle.mip_words.specs.declared.ids.LinkId.{LinkId}
 use Rattle.mip_words.specs.declared.ids.NodeId.{NodeId}
-use Rattle.mip_words.specs.declared.shield.Shield.{Shield}
-use Rattle.mip_words.specs.declared.why.Why.{Why}
-use Rattle.mip_bcache.specs.declared.row.Row.{Row}
 use Rattle.mip_bcache.specs.Seen as caches
 use Rattle.mip_entries.specs.declared.entry.Entry.{Entry}
 use Rattle.mip_entries.specs.declared.entry.Entry.TheVariants as entries
@@ -26,7 +23,7 @@ use Rattle.mip_links.specs.declared.delivery.Delivery.{Delivery}
 use Rattle.mip_links.specs.declared.delivery.Delivery.TheVariants.{Idle, Gone, Outsider, Node}
 use Rattle.mip_history.specs.Setup.{Setup, Host, Kind, is_mobile_at}
 use Rattle.mip_history.specs.Setup.Kind.{Correspondent, Agent, Mobile}
-use Rattle.mip_history.specs.Runs.{Run, note, notes, without, with_past, with_agent_past}
+use Rattle.mip_history.specs.Runs.{Run, note, without, with_past, with_agent_past}
 use Rattle.mip_history.specs.Questions.{hears_in, life_in, asked_in}
 use Rattle.mip_history.specs.Calls as calls
 use Rattle.mip_history.specs.Calls.{Take}
@@ -34,13 +31,13 @@ use Rattle.mip_history.specs.Claims.{link_id}
 use Rattle.mip_history.specs.Homes.{gives_up}
 use Rattle.mip_history.specs.Knowing.{now_in, secrets_in, known_in, agent_known_in, mobile_known_in}
 use Rattle.mip_history.specs.Nodes.{acts, row_entry, home_entry, rows_by_kind, rows_shown, shown}
-use Rattle.mip_history.specs.Delivery.{handed_over, overheard_at, hears_there, held_by_outsider, handed, is_no_holder, became, arrival_link, arrived, delivered, carried_one, carried}
+use Rattle.mip_history.specs.Delivery.{handed_over, overheard_at, hears_there, handed, is_no_holder, became, arrival_link, arrived, delivered, carried_one, carried}
 use Rattle.mip_history.specs.Outsiders.{injected, injected_if, probe_packet, update_packet, test_packet}
 use Rattle.mip_history.specs.Waiting.{Waiting, due_of, earliest, comes_to, is_due, ticks_one, ticked, works, works_on, works_until, waited}
-use Rattle.mip_history.specs.Advertising.{Router, router_by_host, router_at, hears_of_router, hears_of_node, hears_of_first, hears_of_all, agents_hear, roams_by_host, roams_on, mobile_told, mobiles_told}
+use Rattle.mip_history.specs.Advertising.{Router, router_by_host, router_at, hears_of_router, hears_of_node, hears_of_first, hears_of_all, agents_hear, roams_by_host, mobile_told, mobiles_told}
 use Rattle.mip_history.specs.Restarting.{homes_left, reborn_by_kind, reborn_by_host, restarted}
 use Rattle.mip_history.specs.Settled.{is_settled}
-use Rattle.mip_history.specs.Permitted.{is_first_agent, anycast_at, claimed_entry, claims_of, claims_from, opening_claims, opened, lost, moves, moves_if, happens, run_of}
+use Rattle.mip_history.specs.Permitted.{is_first_agent, anycast_at, claimed_entry, claims_of, claims_from, opened, lost, moves, moves_if, happens, run_of}
 use Rattle.mip_history.specs.Naming.{IsDeclared}
 use Rattle.mip_history.proofs.Reasons.{all_append}
 use Rattle.mip_history.proofs.Declaring.{IsOf, P, d-notes, d-note, d-idle, link_is, node_is, d-claims, d-gives_up, d-overheard, d-posted, d-acts, IsRight, delivery_right, all_map}

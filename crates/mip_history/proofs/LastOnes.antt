@@ -42,7 +42,7 @@ module _ {X : Type 0} (question : List Acceptance → X) (n home : ℕ) (other :
       let b = or_parts (is_accepted_for n home e) (list_any (is_accepted_for n home) es) none in
       entries_same (lived n l e) es a.1 b.1 ∙ entry_same l e a.0 b.0
 
-  later_same : (start : ℕ) (past es : List Entry) → list_any (is_restart_of n) es ≡ false → list_any (is_accepted_for n home) es ≡ false → question (accepted_by start (past ++ es) n) ≡ question (accepted_by start past n)
+  pub later_same : (start : ℕ) (past es : List Entry) → list_any (is_restart_of n) es ≡ false → list_any (is_accepted_for n home) es ≡ false → question (accepted_by start (past ++ es) n) ≡ question (accepted_by start past n)
   unfolding accepted_by
   later_same start past es alive none =
       ap (λ (l : Lived). question l.accepted) (fold-append (lived n) (record { at = start; accepted = [] }) past es)

@@ -18,7 +18,7 @@ mod Restarting
 pub mod Opening
 pub mod Events
 mod Places
-mod LastOnes
+pub mod LastOnes
 pub mod Bindings
 pub mod Histories
 mod Rounds

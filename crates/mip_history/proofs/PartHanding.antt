@@ -1,10 +1,8 @@
 -- Deliveries to mobiles: what the correspondent part reads is the packet that was posted, but for its hop limit, or the one within
 -- its tunnel.
-use Rattle.std.proofs.Common.{◌≡◌, ℕ, List, [], ◌∷◌, ◌++◌, refl, sym, ap, ◌∙◌, subst}
-use Rattle.std.specs.Prelude.{Option, Some, Result, Ok, Err, not, ◌==◌, if◌then◌else◌, slice_get, unwrap_or}
+use Rattle.std.proofs.Common.{◌≡◌, ℕ, List, [], refl, sym, ap, ◌∙◌, subst}
+use Rattle.std.specs.Prelude.{Option, Some, Result, Ok, Err, not, ◌==◌, if◌then◌else◌, slice_get}
 use Rattle.mip_words.specs.declared.address.Address.{Address}
-use Rattle.mip_words.specs.declared.shield.Shield.{Shield}
-use Rattle.mip_ipv6.specs.declared.not_packet.NotPacket.{NotPacket}
 use Rattle.mip_ipv6.specs.Packet.{Packet}
 use Rattle.mip_ipv6.specs.Reading.{packet_of}
 use Rattle.mip_tunnel.specs.declared.exit_fault.ExitFault.{ExitFault}
@@ -12,8 +10,7 @@ use Rattle.mip_tunnel.specs.declared.exit_fault.ExitFault.TheVariants.{NotTunnel
 use Rattle.mip_tunnel.specs.Tunnel.{inner, opened}
 use Rattle.mip_entries.specs.declared.entry.Entry.TheVariants as entries
 use Rattle.mip_entries.specs.Completed.{node_id}
-use Rattle.mip_updates.specs.declared.registration.Registration.{Registration}
-use Rattle.mip_updates.specs.Registrations.{registration_in, home_of}
+use Rattle.mip_updates.specs.Registrations.{registration_in}
 use Rattle.mip_rules_correspondent.specs.declared.verdict.Verdict.TheVariants.{Accept}
 use Rattle.mip_rules_correspondent.specs.Verdicts.{Bench, verdict}
 use Rattle.mip_rules_correspondent.specs.Rules.{bench}
@@ -24,7 +21,7 @@ use Rattle.mip_rules_mobile.specs.Calls.{Call, Take}
 use Rattle.mip_rules_mobile.specs.Known.{Known}
 use Rattle.mip_rules_mobile.specs.Questions.{part_room}
 use Rattle.mip_rules_mobile.specs.Doing.{turn_of}
-use Rattle.mip_rules_mobile.specs.Part.{PartLife, part_of, IsReadIn, Itself, Within, IsPartTaken}
+use Rattle.mip_rules_mobile.specs.Part.{PartLife, IsReadIn, Itself, Within, IsPartTaken}
 use Rattle.mip_rules_mobile.proofs.PartLives.{part_is}
 use Rattle.mip_rules_mobile.proofs.Trusts.{came-read}
 use Rattle.mip_links.specs.Table.{Post}
@@ -36,7 +33,7 @@ use Rattle.mip_history.specs.Nodes.{mobile_turned}
 use Rattle.mip_history.specs.Delivery.{handed_over}
 use Rattle.mip_history.specs.Bound.{judge_in, IsAccepted}
 use Rattle.mip_history.proofs.Runs.{IsPart, IsRun, Goes}
-use Rattle.mip_history.proofs.Handing.{ReadsAs, reads_as, judge_same, handed_run, handed_packet}
+use Rattle.mip_history.proofs.Handing.{reads_as, judge_same, handed_run, handed_packet}
 use Rattle.mip_history.proofs.PartTurns.{mobile_turn}
 
 -- what is handed over has in it what was posted

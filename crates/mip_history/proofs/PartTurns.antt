@@ -1,5 +1,5 @@
 -- A turn of a mobile keeps a run: its correspondent part goes on as the history does, whether it accepts an update or not.
-use Rattle.std.proofs.Common.{◌≡◌, ◌≢◌, ℕ, ◌<◌, List, [], ◌∷◌, ◌++◌, Bool, true, false, length, inl, inr, refl, sym, ap, ◌∙◌, subst, arith, length-set}
+use Rattle.std.proofs.Common.{◌≡◌, ◌≢◌, ℕ, ◌<◌, List, [], ◌∷◌, ◌++◌, false, length, inl, inr, refl, sym, ap, ◌∙◌, subst, arith, length-set}
 use Rattle.std.specs.Prelude.{fold, Option, Some, None, unwrap_or, slice_get, slice_set, slice_index_or}
 use Rattle.std.specs.List.{list_any}
 use Rattle.std.proofs.lemmas.List.{get_or-set_same, get_or-set_other}
@@ -8,32 +8,28 @@ use Rattle.std.proofs.lemmas.Option.{slice_get_within}
 use Rattle.std.proofs.lemmas.Bool.{or_parts, cases_eq}
 use Rattle.mip_words.specs.declared.address.Address.{Address}
 use Rattle.mip_nonce.specs.Secrets.{Life}
-use Rattle.mip_bcache.specs.declared.accepted.Accepted.{Accepted}
 use Rattle.mip_entries.specs.declared.entry.Entry.{Entry}
 use Rattle.mip_entries.specs.Stamped.{Stamped, stamped}
 use Rattle.mip_rules_correspondent.specs.Calls as parts
 use Rattle.mip_rules_correspondent.specs.Steps as part_steps
-use Rattle.mip_rules_correspondent.specs.Turns.{with_turn}
 use Rattle.mip_rules_correspondent.specs.Seen.{CorrespondentSeen, turn_at}
 use Rattle.mip_rules_correspondent.proofs.Moments as part_moments
 use Rattle.mip_rules_mobile.specs.Calls.{Call, Restart}
 use Rattle.mip_rules_mobile.specs.Steps.{Step, Called, Parts, Notes, Restarts, answers_of}
 use Rattle.mip_rules_mobile.specs.Known.{Known}
-use Rattle.mip_rules_mobile.specs.Turns.{Turn}
-use Rattle.mip_rules_mobile.specs.Turns as mobile_turns
 use Rattle.mip_rules_mobile.specs.Doing.{turn_of}
 use Rattle.mip_rules_mobile.specs.Part.{PartLife, part_of, part_goes_on, new_part, part_life, concerns_part, accepted_note, IsPartTaken, IsPartTurn, Silent, Asked, Accepting, is_restart, IsPartReborn}
 use Rattle.mip_rules_mobile.proofs.Calls.{call-now}
 use Rattle.mip_rules_mobile.proofs.PartLives.{part_is}
 use Rattle.mip_rules_mobile.proofs.PartTurns.{call-part}
-use Rattle.mip_history.specs.Setup.{Setup, Host, Kind, is_correspondent_host, is_correspondent_at, is_mobile_host}
+use Rattle.mip_history.specs.Setup.{Setup, Host, is_correspondent_host, is_mobile_host}
 use Rattle.mip_history.specs.Setup.Kind.{Mobile}
 use Rattle.mip_history.specs.Runs.{Run, mobile_past_at, with_mobile_past}
 use Rattle.mip_history.specs.Questions.{moment_in, life_in}
 use Rattle.mip_history.specs.Knowing.{now_in, secrets_in, mobile_known_in, part_in, stands_on}
 use Rattle.mip_history.specs.Nodes.{answered, mobile_turned}
 use Rattle.mip_history.specs.Bound.{accepted_by, accepted_entry, IsAccepted}
-use Rattle.mip_history.proofs.Runs.{IsKept, IsPast, IsPart, past_stays, part_stays, IsRun, IsQuiet, Goes, goes_quietly, goes_then, quiet_then}
+use Rattle.mip_history.proofs.Runs.{IsKept, IsPart, past_stays, part_stays, IsRun, IsQuiet, Goes, goes_quietly, goes_then, quiet_then}
 use Rattle.mip_history.proofs.Answering.{clash, differs, quiet_answers, mobile_silence}
 use Rattle.mip_history.proofs.Turns.{quiet_past, accepting_past, accepted_moment, accepted_lives, accepted_kept, accepted_other, at_past, marked_with, quiet_mark}
 

@@ -1,6 +1,6 @@
 -- The reasons in what nodes leave, and the causes in marks.
 use Rattle.std.proofs.Common.{◌≡◌, ℕ, List, [], ◌∷◌, ◌++◌, Bool, true, false, refl, arith}
-use Rattle.std.specs.Prelude.{◌≤◌, Option, Some, None, ◌||◌}
+use Rattle.std.specs.Prelude.{Option, Some, None, ◌||◌}
 use Rattle.std.specs.List.{AllByRecursion}
 use Rattle.std.proofs.lemmas.Bool.{cond_both}
 use Rattle.mip_words.specs.declared.address.Address.{Address}
@@ -20,7 +20,6 @@ use Rattle.mip_marks.specs.Pairs.{Pair, gives, pair_by}
 use Rattle.mip_marks.specs.Causes.{Claim, home_claim, careof_claim, is_used_early, is_named_otherwise}
 use Rattle.mip_marks.specs.Marks.{by_claims, by_pair, by_post, by_first, by_key, mark_of, mark_in}
 use Rattle.mip_rules_correspondent.specs.Wholes as parts
-use Rattle.mip_rules_correspondent.specs.Steps as part_steps
 use Rattle.mip_rules_agent.specs.Wholes as agents
 use Rattle.mip_rules_mobile.specs.Calls.{Call}
 use Rattle.mip_rules_mobile.specs.Steps.{Step, answer_of, answers_of}

@@ -1,20 +1,16 @@
 -- An update is accepted again only where the sequences of its home have gone round since.
-use Rattle.std.proofs.Common.{◌≡◌, ℕ, ◌+◌, ◌-◌, ◌*◌, ◌<◌, ◌≤◌, List, [], ◌∷◌, ◌++◌, length, false, true, refl, sym, ap, ◌∙◌, subst, arith}
-use Rattle.std.specs.Prelude.{fold, Option, Some, Ok}
+use Rattle.std.proofs.Common.{◌≡◌, ℕ, ◌+◌, ◌*◌, ◌<◌, ◌≤◌, List, [], ◌∷◌, ◌++◌, false, true, refl, sym, ap, ◌∙◌, subst, arith}
+use Rattle.std.specs.Prelude.{fold, Option, Some}
 use Rattle.std.specs.List.{list_any, sum_by, AllByRecursion}
 use Rattle.std.proofs.lemmas.List.{append_assoc}
 use Rattle.std.proofs.lemmas.List.Sums.{fold-append}
 use Rattle.std.proofs.lemmas.List.Folds.{fold_stays}
-use Rattle.mip_words.specs.Numbers.{IsBytes}
 use Rattle.mip_words.specs.Sequence.{is_after}
 use Rattle.mip_words.specs.declared.address.Address.{Address}
 use Rattle.mip_words.specs.declared.ids.NodeId.{NodeId}
-use Rattle.mip_words.proofs.Fields.{IsBytes-drop}
 use Rattle.mip_lists.specs.EachAfter.{EachAfter}
 use Rattle.mip_lists.specs.Last.{or_else}
 use Rattle.mip_ipv6.specs.Packet.{Packet}
-use Rattle.mip_ipv6.specs.Reading.{packet_of}
-use Rattle.mip_ipv6.proofs.Packets.{read_stands}
 use Rattle.mip_options.specs.declared.indices.Indices.{Indices}
 use Rattle.mip_says.specs.Says.{Key, carried, says}
 use Rattle.mip_says.specs.Says.Carried.{Update}

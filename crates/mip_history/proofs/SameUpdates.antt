@@ -1,5 +1,5 @@
 -- Two packets that carry the same update ask the same.
-use Rattle.std.proofs.Common.{◌≡◌, ℕ, ◌-◌, ◌<◌, ◌≤◌, List, [], ◌∷◌, ◌++◌, length, take, drop, Bool, true, false, refl, sym, ap, ◌∙◌, subst, zero, suc, ◌+◌, not, ◌&&◌, ◌||◌, eqb, ltb, arith, length-append, length-drop, length-take, take-append-drop, cond}
+use Rattle.std.proofs.Common.{◌≡◌, ℕ, ◌-◌, ◌≤◌, List, [], ◌∷◌, ◌++◌, length, take, drop, Bool, true, false, refl, sym, ap, ◌∙◌, subst, zero, suc, ◌+◌, not, ◌&&◌, ◌||◌, eqb, ltb, arith, length-append, length-drop, length-take, take-append-drop, cond}
 use Rattle.std.specs.Prelude.{Option, Some, None, Result, Ok, Err, ◌==◌, slice_index}
 use Rattle.std.specs.Option.{option_map_or}
 use Rattle.std.specs.Result.{result_ok}

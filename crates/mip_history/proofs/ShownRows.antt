@@ -18,7 +18,7 @@ use Rattle.mip_binding.proofs.HomeLaws.{rises-homes, home_after-homes}
 use Rattle.mip_binding.proofs.LifeLaws.{AllLive, all-live}
 use Rattle.mip_bcache.specs.declared.row.Row.{Row}
 use Rattle.mip_bcache.specs.Seen.{seen_row, rows_at}
-use Rattle.mip_bcache.proofs.Pasts.{rows_same}
+use Rattle.mip_bcache.proofs.Pasts.{rows_same, kept_untils}
 use Rattle.mip_entries.specs.declared.entry.Entry.{Entry}
 use Rattle.mip_entries.specs.declared.entry.Entry.TheVariants as entries
 use Rattle.mip_entries.specs.Completed.{node_id}
@@ -26,7 +26,7 @@ use Rattle.mip_entries.specs.Stamped.{Stamped}
 use Rattle.mip_rules_correspondent.specs.Steps.{Step}
 use Rattle.mip_rules_correspondent.specs.Pasts.{accepted_in}
 use Rattle.mip_rules_correspondent.specs.Questions.{known}
-use Rattle.mip_rules_correspondent.proofs.Acceptances.{cache-stands, cache-alike, early}
+use Rattle.mip_rules_correspondent.proofs.Acceptances.{cache-stands, cache-untils, early}
 use Rattle.mip_history.specs.Setup.{Setup}
 use Rattle.mip_history.specs.Questions.{moment_in}
 use Rattle.mip_history.specs.Nodes.{row_entry}
@@ -95,6 +95,7 @@ module _ (xs : List Acceptance) (now : ℕ) where
     lasts : now < k.until
 
   home_live : (k : HomeKept) → IsRemembered k → AllByRecursion (IsOfLive xs now) (shown_home k)
+  unfolding shown_home
   home_live k is = all_map (shown_in k) (IsOfLive xs now) (found_by number_key k.live all_numbers) (all_of (found_by number_key k.live all_numbers) (all_found (LivesIn xs k.home) number_key k.live all_numbers lives))
     where
       lives : AllByRecursion (LivesIn xs k.home) k.live
@@ -237,7 +238,7 @@ pub past_rows : (s : Setup) (past : List Entry) (steps : List (Stamped Step)) (n
     → map seen_row (rows_at (known room s.numbers steps).cache (moment_in s.start past)) ≡ rows_of (accepted_by s.start past n) (moment_in s.start past)
 past_rows s past steps n room is =
     rows_same (known room s.numbers steps).cache (accepted_in steps) (cache-stands room s.numbers steps is.rises) (moment_in s.start past) (early room s.numbers steps is.rises (moment_in s.start past) (record { 0 = 0 }) is.early)
-    (cache-alike room s.numbers steps is.rises)
+    (kept_untils (known room s.numbers steps).cache (moment_in s.start past) (cache-untils room s.numbers steps is.rises))
     ∙ ap (λ (l : List Acceptance). rows_of l (moment_in s.start past)) is.accepted
 
 -- the sequence of a home is kept to this moment, and no longer

@@ -1,5 +1,5 @@
 -- An update that is accepted again. RFC 6275 section 9.5.1
-use Rattle.std.specs.Prelude.{◌≡◌, ℕ, ◌+◌, ◌*◌, ◌%◌, ◌<◌, List, [], ◌∷◌, ◌++◌, fold, true, false, ◌&&◌, ◌==◌, if◌then◌else◌, Some}
+use Rattle.std.specs.Prelude.{◌≡◌, ℕ, ◌+◌, ◌*◌, ◌%◌, ◌<◌, List, [], ◌∷◌, ◌++◌, fold, false, ◌&&◌, ◌==◌, if◌then◌else◌, Some}
 use Rattle.std.specs.List.{list_any}
 use Rattle.mip_words.specs.Sequence.{step_from}
 use Rattle.mip_words.specs.declared.address.Address.{Address}

@@ -1,5 +1,5 @@
 -- The permitted history of a schedule: the opening claims, and then what each event leaves.
-use Rattle.std.specs.Prelude.{ℕ, List, [], ◌∷◌, ◌++◌, length, fold, map, Bool, true, false, not, ◌==◌, if◌then◌else◌, Option, Some, None, unwrap_or, slice_index_or}
+use Rattle.std.specs.Prelude.{ℕ, List, [], ◌∷◌, ◌++◌, length, fold, map, Bool, true, false, not, ◌==◌, if◌then◌else◌, Option, Some, unwrap_or, slice_index_or}
 use Rattle.std.specs.List.{list_any}
 use Rattle.mip_words.specs.declared.address.Address.{Address}
 use Rattle.mip_words.specs.declared.ids.LinkId.{LinkId}

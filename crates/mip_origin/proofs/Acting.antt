@@ -1,6 +1,6 @@
 -- A node acts: the run goes on by entries that are right.
 use Rattle.std.proofs.Common.{◌≡◌, ◌≢◌, ℕ, suc, ◌<◌, List, [], ◌∷◌, ◌++◌, Bool, true, false, length, inl, inr, refl, sym, ap, ◌∙◌, subst, arith, length-set}
-use Rattle.std.specs.Prelude.{fold, Option, Some, None, option_map, unwrap_or, ◌||◌, ◌==◌, if◌then◌else◌, slice_get, slice_set, slice_index_or}
+use Rattle.std.specs.Prelude.{Option, Some, None, option_map, unwrap_or, ◌||◌, if◌then◌else◌, slice_get, slice_set, slice_index_or}
 use Rattle.std.specs.List.{list_any, AllByRecursion}
 use Rattle.std.proofs.lemmas.List.{get_or-set_same, get_or-set_other}
 use Rattle.std.proofs.lemmas.List.Sums.{fold-append}

@@ -1,7 +1,7 @@
 -- Time goes on, routers advertise themselves, and nodes begin anew: the run goes on by entries that are right.
 use Rattle.std.proofs.Common.{◌≡◌, ℕ, zero, suc, ◌+◌, List, [], ◌∷◌, ◌++◌, Bool, true, false, length, max, refl, sym, ap, ◌∙◌, subst}
 use Rattle.std.specs.Prelude.{Option, Some, None, ◌==◌, ◌&&◌, nat_lt, if◌then◌else◌, slice_get, slice_index_or}
-use Rattle.std.proofs.lemmas.List.{append_assoc, append-nil}
+use Rattle.std.proofs.lemmas.List.{append_assoc}
 use Rattle.std.proofs.lemmas.List.Sums.{fold-append}
 use Rattle.mip_words.specs.declared.address.Address.{Address}
 use Rattle.mip_nonce.specs.Secrets.{Life}

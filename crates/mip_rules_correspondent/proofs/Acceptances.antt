@@ -8,7 +8,7 @@ use Rattle.mip_binding.specs.Acceptance.{Acceptance}
 use Rattle.mip_binding.specs.Held.{held, holds, floor, is_full}
 use Rattle.mip_bcache.specs.declared.row.Row.{Row}
 use Rattle.mip_bcache.specs.Seen.{CacheSeen, StandsFor, standing_at, expired}
-use Rattle.mip_bcache.proofs.Pasts.{AreKeptAlike, empty_stands, look_answers, holds_answers, floor_answers, room_answers, expire_stands, accept_stands, empty_alike, expire_alike, accept_alike}
+use Rattle.mip_bcache.proofs.Pasts.{HaveUntils, empty_stands, look_answers, holds_answers, floor_answers, room_answers, expire_stands, accept_stands, kept_untils, accept_untils}
 use Rattle.mip_entries.specs.Stamped.{Stamped}
 use Rattle.mip_turns.specs.Pasts.{RisesFrom, last_at}
 use Rattle.mip_turns.proofs.PastLaws.{last_early}
@@ -23,14 +23,14 @@ pub record Follows (cache : CacheSeen) (xs : List Acceptance) (limit at : ℕ) :
   pub stands : StandsFor cache xs
   pub limit_is : cache.limit ≡ limit
   pub early : cache.last ≤ at
-  pub alike : AreKeptAlike cache
+  pub untils : HaveUntils cache
 
 quiet : (cache : CacheSeen) (xs : List Acceptance) (limit from at : ℕ) → from ≤ at → Follows cache xs limit from → Follows cache (xs ++ []) limit at
 quiet cache xs limit from at later f = record {
   stands = subst (λ (l : List Acceptance). StandsFor cache l) (sym (append-nil xs)) f.stands;
   limit_is = f.limit_is;
   early = let e = f.early in omega arith;
-  alike = f.alike;
+  untils = f.untils;
 }
 
 stepped : (cache : CacheSeen) (xs : List Acceptance) (limit from at : ℕ) (step : Step) → from ≤ at → Follows cache xs limit from → Follows (cache_after cache at step) (xs ++ acceptance_in at step) limit at
@@ -38,7 +38,7 @@ stepped cache xs limit from at (Accepts number home binding accepted) later f = 
   stands = accept_stands cache xs f.stands at (let e = f.early in omega arith) home binding accepted;
   limit_is = f.limit_is;
   early = omega arith;
-  alike = accept_alike cache at home binding accepted f.alike;
+  untils = accept_untils cache at home binding accepted f.untils;
 }
 stepped cache xs limit from at (Called call) later f = by (is_tick call)
   where
@@ -47,7 +47,7 @@ stepped cache xs limit from at (Called call) later f = by (is_tick call)
       stands = subst (λ (l : List Acceptance). StandsFor (expired at cache) l) (sym (append-nil xs)) (expire_stands cache xs f.stands at (let e = f.early in omega arith));
       limit_is = f.limit_is;
       early = omega arith;
-      alike = expire_alike cache at f.alike;
+      untils = kept_untils cache at f.untils;
     }
     by false = quiet cache xs limit from at later f
 stepped cache xs limit from at (Sends packet) later f = quiet cache xs limit from at later f
@@ -68,14 +68,14 @@ followed k xs limit from (s ∷ past) rises f =
 module _ (room numbers : ℕ) (past : List (Stamped Step)) (rises : RisesFrom 0 past) where
   follows : Follows (known room numbers past).cache (accepted_in past) room (last_at 0 past)
   unfolding known
-  follows = followed (fresh room numbers) [] room 0 past rises (record { stands = empty_stands room numbers; limit_is = refl; early = omega arith; alike = empty_alike room numbers })
+  follows = followed (fresh room numbers) [] room 0 past rises (record { stands = empty_stands room numbers; limit_is = refl; early = omega arith; untils = tt })
 
   pub cache-stands : StandsFor (known room numbers past).cache (accepted_in past)
   cache-stands = follows.stands
 
-  -- and each of its rows is kept to the moment to which the sequence of its home is
-  pub cache-alike : AreKeptAlike (known room numbers past).cache
-  cache-alike = follows.alike
+  -- and each of its rows is kept as long as its home's sequence
+  pub cache-untils : HaveUntils (known room numbers past).cache
+  cache-untils = follows.untils
 
   module _ (now : ℕ) (home : Address) (all : AllByRecursion (λ s. s.at ≤ now) past) where
     pub early : (known room numbers past).cache.last ≤ now

@@ -7,10 +7,11 @@ pub mod Leaving
 pub mod Bindings
 pub mod Early
 pub mod AsTold
+pub mod LeftLaws
+pub mod Recalls
 pub mod HeldTold
 pub mod AnyNode
 pub mod Never
 pub mod OfKinds
 pub mod Declared
-pub mod Starts
 pub mod Examples

@@ -1,5 +1,5 @@
 -- What no node of a kind tells: a question that goes unanswered over every run.
-use Rattle.std.proofs.Common.{◌≡◌, ◌≢◌, ℕ, List, [], ◌∷◌, Bool, true, false, length, inl, inr, refl, ap, ◌∙◌, subst}
+use Rattle.std.proofs.Common.{◌≡◌, ◌≢◌, ℕ, List, [], ◌∷◌, true, length, inl, inr, refl, ap, ◌∙◌, subst}
 use Rattle.std.specs.Prelude.{Option, Some, None, unwrap_or, slice_get}
 use Rattle.std.specs.List.{AllByRecursion}
 use Rattle.std.proofs.lemmas.Bool.{cases_eq}
@@ -32,7 +32,6 @@ use Rattle.mip_history.specs.Knowing.{now_in, identity_in, known_in, agent_of, a
 use Rattle.mip_history.specs.Claims.{link_id}
 use Rattle.mip_history.specs.Nodes.{left_by, answered_one, answered, asks, by_kind, by_host, acts}
 use Rattle.mip_history.specs.Permitted.{run_of}
-use Rattle.mip_history.proofs.Opening.{nothing}
 use Rattle.mip_history.proofs.Reasons.{all_append}
 use Rattle.mip_history.proofs.Keeping.{Keeps, emptied, emptied_by_kind, emptied_by_host}
 use Rattle.mip_history.proofs.Walking.{walk_run}

@@ -1,17 +1,16 @@
 -- What each kind of node never tells: only mobiles move, use care-of addresses and are bound, an agent accepts no update for
 -- others, and only agents register homes.
-use Rattle.std.proofs.Common.{◌≡◌, ◌≢◌, ℕ, List, [], ◌∷◌, Bool, true, false, refl, sym, ap, ◌∙◌}
-use Rattle.std.specs.Prelude.{Option, Some, None, option_map, unwrap_or, ◌==◌, ◌&&◌, if◌then◌else◌, slice_get}
+use Rattle.std.proofs.Common.{◌≡◌, ◌≢◌, ℕ, List, [], ◌∷◌, ◌++◌, Bool, true, false, refl, sym, ap, ◌∙◌}
+use Rattle.std.specs.Prelude.{Option, Some, None, option_map, unwrap_or, fold, ◌==◌, ◌&&◌, if◌then◌else◌, slice_get}
 use Rattle.std.specs.List.{AllByRecursion}
-use Rattle.std.proofs.lemmas.Bool.{ne_eqb, eqb-true}
+use Rattle.std.proofs.lemmas.Bool.{ne_eqb}
 use Rattle.mip_words.specs.declared.address.Address.{Address}
-use Rattle.mip_words.specs.declared.ids.LinkId.{LinkId}
-use Rattle.mip_words.specs.declared.moment.Moment.{Moment}
 use Rattle.mip_lists.specs.Asked.{asked}
+use Rattle.mip_binding.specs.Acceptance.{Acceptance}
 use Rattle.mip_binding.specs.Held.{held}
+use Rattle.mip_binding.proofs.HeldLaws.{held-none}
 use Rattle.mip_entries.specs.declared.entry.Entry.{Entry}
 use Rattle.mip_entries.specs.declared.entry.Entry.TheVariants as entries
-use Rattle.mip_entries.specs.Completed.{node_id, named}
 use Rattle.mip_rules_correspondent.specs.Steps as correspondents
 use Rattle.mip_rules_correspondent.specs.Wholes.{is_own}
 use Rattle.mip_rules_agent.specs.Steps as agents
@@ -26,20 +25,18 @@ use Rattle.mip_rules_mobile.specs.Doing.{turn_of}
 use Rattle.mip_rules_mobile.specs.Fitting.{Fits, EachFits}
 use Rattle.mip_rules_mobile.proofs.Fits.{call-fits}
 use Rattle.mip_schedule.specs.declared.event.Event.{Event}
-use Rattle.mip_history.specs.Setup.{Setup, Host, Kind, is_mobile_kind, is_mobile_host}
+use Rattle.mip_history.specs.Setup.{Setup, Kind, is_mobile_kind, is_mobile_host}
 use Rattle.mip_history.specs.Setup.Kind.{Correspondent, Agent, Mobile}
-use Rattle.mip_history.specs.Bound.{accepted_by}
+use Rattle.mip_history.specs.Bound.{Lived, lived, accepted_by}
 use Rattle.mip_history.specs.Permitted.{run_of}
 use Rattle.mip_history.specs.Registered.{is_agent_kind, is_agent_host, registration_says}
 use Rattle.mip_history.specs.Told.{present_says, present_in, binding_told, is_bound_in, careof_in}
 use Rattle.mip_history.proofs.Reasons.{all_append}
 use Rattle.mip_history.proofs.Keeping.{is_busy}
-use Rattle.mip_settled.specs.Acceptances.{acceptance_told, careof_told}
 use Rattle.mip_settled.proofs.Answered.{IsQuiet, IsMute}
-use Rattle.mip_settled.proofs.HeldTold.{held_told}
 use Rattle.mip_settled.proofs.Questions.{present_quiet, present_mute}
 use Rattle.mip_settled.proofs.Leaving.{binding_quiet, binding_mute}
-use Rattle.mip_settled.proofs.Never.{IsSilentEntry, IsSilent, IsSilentKind, IsApart, IsNever, never_told}
+use Rattle.mip_settled.proofs.Never.{IsSilentEntry, IsSilent, IsSilentKind, IsNever, never_told}
 
 -- a mobile is another node than one that is none
 apart_of_mobile : (s : Setup) (n m : ℕ) → is_mobile_host (slice_get s.hosts n) ≡ false → is_mobile_host (slice_get s.hosts m) ≡ true → n ≢ m
@@ -110,44 +107,80 @@ module _ (s : Setup) (n : ℕ) (none : is_mobile_host (slice_get s.hosts n) ≡ 
   bound_to_none events peer now = ap (lies_ahead now) (never_told s (binding_told n peer) None n (binding_never peer) events)
 
 -- an agent accepts nothing
-acceptance_agent : (n home : ℕ) (step : agents.Step) → AllByRecursion (IsSilent (acceptance_told n home) n) (agents.answer_of step)
-acceptance_agent n home (agents.Called call) = tt
-acceptance_agent n home agents.Rang = tt
-acceptance_agent n home (agents.Sends shield packet) = (tt, tt)
-acceptance_agent n home _ = ((λ k. refl), tt)
+abbrev acceptance_says : ℕ → Entry → Option Bool
+acceptance_says n (entries.Accepted node number h binding careof sequence end i j) = if n == node.0 then Some true else None
+acceptance_says n _ = None
 
-acceptance_kind : (n home : ℕ) (kind : Kind) → is_agent_kind kind ≡ true → IsSilentKind (acceptance_told n home) n kind
-acceptance_kind n home (Agent preference life room serves) is = acceptance_agent n home
-acceptance_kind n home (Correspondent room) is = absurd cc
-acceptance_kind n home (Mobile agent) is = absurd cc
+acceptance_agent : (n : ℕ) (step : agents.Step) → AllByRecursion (IsSilent (acceptance_says n) n) (agents.answer_of step)
+acceptance_agent n (agents.Called call) = tt
+acceptance_agent n agents.Rang = tt
+acceptance_agent n (agents.Sends shield packet) = (tt, tt)
+acceptance_agent n _ = ((λ k. refl), tt)
 
-acceptance_quiet : (n home : ℕ) → IsQuiet (acceptance_told n home)
-acceptance_quiet n home = record { idle = idle; sent = λ number m shielded packet. refl }
+acceptance_kind : (n : ℕ) (kind : Kind) → is_agent_kind kind ≡ true → IsSilentKind (acceptance_says n) n kind
+acceptance_kind n (Agent preference life room serves) is = acceptance_agent n
+acceptance_kind n (Correspondent room) is = absurd cc
+acceptance_kind n (Mobile agent) is = absurd cc
+
+acceptance_quiet : (n : ℕ) → IsQuiet (acceptance_says n)
+acceptance_quiet n = record { idle = idle; sent = λ number m shielded packet. refl }
   where
-    idle : (e : Entry) → is_busy e ≡ false → acceptance_told n home e ≡ None
+    idle : (e : Entry) → is_busy e ≡ false → acceptance_says n e ≡ None
     idle (entries.Accepted node number h binding careof sequence end i j) is = absurd cc
-    idle (entries.Restarted node) is = absurd cc
     idle _ is = refl
 
-acceptance_mute : (n m home : ℕ) → n ≢ m → IsMute (acceptance_told n home) m
-acceptance_mute n m home other link k (entries.Accepted node number h binding careof sequence end i j) =
-    ap (λ (b : Bool). if b && (h.0 == home) then Some (Some (careof, end)) else None) (ne_eqb n m other)
-acceptance_mute n m home other link k (entries.Restarted node) = ap (λ (b : Bool). if b then Some None else None) (ne_eqb n m other)
-acceptance_mute n m home other link k _ = refl
+acceptance_mute : (n m : ℕ) → n ≢ m → IsMute (acceptance_says n) m
+acceptance_mute n m other link k (entries.Accepted node number h binding careof sequence end i j) = ap (λ (b : Bool). if b then Some true else None) (ne_eqb n m other)
+acceptance_mute n m other link k _ = refl
+
+-- what was said once is not unsaid
+said : (n : ℕ) (past : List Entry) → asked (acceptance_says n) true past ≡ false → ⊥
+said n [] e = absurd cc
+said n (entries.Accepted node number h binding careof sequence end i j ∷ past) e = by (n == node.0) (said n past) e
+  where
+    by : (mine : Bool) → (asked (acceptance_says n) true past ≡ false → ⊥) → asked (acceptance_says n) (unwrap_or (if mine then Some true else None) true) past ≡ false → ⊥
+    by true more e = more e
+    by false more e = more e
+said n (_ ∷ past) e = said n past e
+
+-- where nothing was accepted, nothing is held
+abbrev HoldsNone : (n home now : ℕ) → Lived → List Entry → Type 0
+HoldsNone n home now l past = held (let m : Lived = fold (lived n) l past in m.accepted) home now ≡ None
+
+held_stays_none : (n home now : ℕ) (l : Lived) (past : List Entry) → held l.accepted home now ≡ None → asked (acceptance_says n) false past ≡ false → HoldsNone n home now l past
+held_stays_none n home now l [] none never = none
+held_stays_none n home now l (entries.At moment ∷ past) none never = held_stays_none n home now (record { at = moment.0; accepted = l.accepted }) past none never
+held_stays_none n home now l (entries.Restarted node ∷ past) none never =
+    by (n == node.0) (held_stays_none n home now (record { at = l.at; accepted = [] }) past (held-none home now) never) (held_stays_none n home now l past none never)
+  where
+    by : (mine : Bool) → HoldsNone n home now (record { at = l.at; accepted = [] }) past → HoldsNone n home now l past → HoldsNone n home now (record { at = l.at; accepted = if mine then [] else l.accepted }) past
+    by true anew on = anew
+    by false anew on = on
+held_stays_none n home now l (entries.Accepted node number h binding careof sequence end i j ∷ past) none never = by (n == node.0) (held_stays_none n home now l past none) never
+  where
+    x : Acceptance
+    x = record { at = l.at; home = h.0; number = binding; careof = careof.0; sequence = sequence; end = end.0 }
+
+    by : (mine : Bool) → (asked (acceptance_says n) false past ≡ false → HoldsNone n home now l past) → asked (acceptance_says n) (unwrap_or (if mine then Some true else None) false) past ≡ false
+        → HoldsNone n home now (if mine then record { at = l.at; accepted = l.accepted ++ x ∷ [] } else l) past
+    by true on e = absurd (said n past e)
+    by false on e = on e
+held_stays_none n home now l (_ ∷ past) none never = held_stays_none n home now l past none never
 
 module _ (s : Setup) (n : ℕ) (is_agent : is_agent_host (slice_get s.hosts n) ≡ true) where
-  acceptance_never : (home : ℕ) → IsNever s (acceptance_told n home) None n
-  acceptance_never home = record {
-    apart = record { quiet = acceptance_quiet n home; taken = λ who link address holder. refl; timed = λ m. refl; injected = λ number o link packet. refl };
-    own = λ host is. acceptance_kind n home host.kind (sym (ap is_agent_host is) ∙ is_agent);
-    others = λ m other. acceptance_mute n m home other;
+  acceptance_never : IsNever s (acceptance_says n) false n
+  acceptance_never = record {
+    apart = record { quiet = acceptance_quiet n; taken = λ who link address holder. refl; timed = λ m. refl; injected = λ number o link packet. refl };
+    own = λ host is. acceptance_kind n host.kind (sym (ap is_agent_host is) ∙ is_agent);
+    others = λ m other. acceptance_mute n m other;
     moved = λ m link is. refl;
-    restarted = λ m. ended (n == m);
+    restarted = λ m. refl;
   }
 
   pub agent_holds_none : (events : List Event) (home now : ℕ) → held (accepted_by s.start (run_of s events).past n) home now ≡ None
+  unfolding accepted_by
   agent_holds_none events home now =
-      held_told n home now s.start (run_of s events).past ∙ ap (careof_told home now) (never_told s (acceptance_told n home) None n (acceptance_never home) events)
+      held_stays_none n home now (record { at = s.start; accepted = [] }) (run_of s events).past (held-none home now) (never_told s (acceptance_says n) false n acceptance_never events)
 
 -- only agents register homes
 registration_correspondent : (n : ℕ) (home : Address) (step : correspondents.Step) → AllByRecursion (IsSilent (registration_says n home) n) (correspondents.answer_of step)

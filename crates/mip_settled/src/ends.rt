@@ -1,6 +1,6 @@
 //! Whether two ends of a history are settled.
 
-ghost use Rattle.std.specs.Prelude.{◌≡◌, ℕ, option_map, Some};
+ghost use Rattle.std.specs.Prelude.{◌≡◌, option_map, Some};
 ghost use Rattle.mip_binding.specs.Held.{held};
 ghost use Rattle.mip_links.specs.Table.{is_address};
 ghost use Rattle.mip_links.specs.Nets.{is_held_by};
@@ -97,6 +97,7 @@ fn is_bound_right(bound: bool, present: Address, held: Option<Address>) -> bool
 /// End x with this own address, found at this address, is settled towards y.
 fn is_settled_there(
     history: &[Entry],
+    start: Moment,
     now: Moment,
     x: NodeId,
     y: NodeId,
@@ -104,9 +105,9 @@ fn is_settled_there(
     peer: Address,
     present: Address,
 ) -> bool
-    ensures { (start : ℕ) → result ≡ is_settled_at now.0 history.now x.0 own peer (held (accepted_by start history.now y.0) own.0 now.0) (Some present) }
+    ensures { result ≡ is_settled_at now.0 history.now x.0 own peer (held (accepted_by start.0 history.now y.0) own.0 now.0) (Some present) }
 {
-    let held = held(history, now, y, own);
+    let held = held(history, start, now, y, own);
     is_held_by(holder(history, present), x)
         && (is_placed(history, now, x, own, present)
             && (is_held_right(own, present, held)
@@ -116,27 +117,28 @@ fn is_settled_there(
 /// End x with this own address is settled towards y.
 fn is_settled_at(
     history: &[Entry],
+    start: Moment,
     now: Moment,
     x: NodeId,
     y: NodeId,
     own: Address,
     peer: Address,
 ) -> bool
-    ensures { (start : ℕ) → result ≡ is_settled_at now.0 history.now x.0 own peer (held (accepted_by start history.now y.0) own.0 now.0) (present_in history.now x.0 own) }
+    ensures { result ≡ is_settled_at now.0 history.now x.0 own peer (held (accepted_by start.0 history.now y.0) own.0 now.0) (present_in history.now x.0 own) }
 {
     match present(history, x, own) {
-        Some(present) => is_settled_there(history, now, x, y, own, peer, present),
+        Some(present) => is_settled_there(history, start, now, x, y, own, peer, present),
         None => false,
     }
 }
 
 /// End x is settled towards y.
-fn is_settled_to(history: &[Entry], now: Moment, x: NodeId, y: NodeId) -> bool
-    ensures { (start : ℕ) → result ≡ is_settled_with now.0 start history.now x.0 y.0 (declared_in history.now x.0) (declared_in history.now y.0) }
+fn is_settled_to(history: &[Entry], start: Moment, now: Moment, x: NodeId, y: NodeId) -> bool
+    ensures { result ≡ is_settled_with now.0 start.0 history.now x.0 y.0 (declared_in history.now x.0) (declared_in history.now y.0) }
 {
     match declared(history, x.0) {
         Some(own) => match declared(history, y.0) {
-            Some(peer) => is_settled_at(history, now, x, y, own, peer),
+            Some(peer) => is_settled_at(history, start, now, x, y, own, peer),
             None => false,
         },
         None => false,
@@ -152,5 +154,6 @@ pub fn settled(history: &History, start: Moment, a: NodeId, b: NodeId) -> bool
 {
     let entries = history.as_slice();
     let now = moment(entries, start);
-    a.0 != b.0 && (is_settled_to(entries, now, a, b) && is_settled_to(entries, now, b, a))
+    a.0 != b.0
+        && (is_settled_to(entries, start, now, a, b) && is_settled_to(entries, start, now, b, a))
 }

@@ -6,6 +6,7 @@ mod ends;
 mod held;
 mod homes;
 mod laws;
+mod left;
 mod mobiles;
 
 pub use ends::settled;

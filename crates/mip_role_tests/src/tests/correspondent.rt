@@ -28,7 +28,7 @@ fn node(alloc: Global, node: u8) -> Result<Correspondent, Fail>
         *byte = place as u8;
     }
     let secrets = Secrets::new(&seed, NodeId(node), 0);
-    Ok(Correspondent::new(alloc, OWN, secrets, 2)?)
+    Ok(Correspondent::new(alloc, OWN, secrets, 2, 1)?)
 }
 
 /// Whether the node answers a packet by these lines.

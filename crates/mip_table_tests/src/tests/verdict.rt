@@ -22,7 +22,7 @@ fn an_authentic_update_is_accepted(rt: HostRuntime) {
         home: Some(home),
         message: b"\x3b\x03\x05\x00\xab\xcd\x00\x01\x80\x00\x00\x69\x04\x04\x00\x00\x00\x00\x05\x0c\xe9\x33\x1a\x17\x43\x9b\xb5\x89\x77\x23\x65\xdb",
     };
-    let cache = Cache::with_limit(rt.alloc(), 4).expect(&rt, "memory");
+    let cache = Cache::with_limit(rt.alloc(), 4, 1).expect(&rt, "memory");
     let verdict = judge(Moment(1_000), &secrets, &cache, peer, &update);
     let accepted = Accepted {
         careof,
@@ -38,6 +38,7 @@ fn an_authentic_update_is_accepted(rt: HostRuntime) {
         verdict
             == Verdict::Accept {
                 home,
+                number: 0,
                 accepted,
                 granted: 105,
                 kbm,

@@ -12,6 +12,6 @@ returns-in-Some-declared c =
     let y = c.args.y.0 in
     let first : Some c.in-Some.own ≡ declared_in past x = cc (c.declared.ensures, c.in-Some.is) in
     let second : Some c.in-Some-declared.peer ≡ declared_in past y = cc (c.declared-in-Some.ensures, c.in-Some-declared.is) in
-    λ start.
-    c.is_settled_at.ensures start ∙ ap (λ (o : Option Address). is_settled_with c.args.now.0 start past x y o (Some c.in-Some-declared.peer)) first
+    let start = c.args.start.0 in
+    c.is_settled_at.ensures ∙ ap (λ (o : Option Address). is_settled_with c.args.now.0 start past x y o (Some c.in-Some-declared.peer)) first
     ∙ ap (λ (o : Option Address). is_settled_with c.args.now.0 start past x y (declared_in past x) o) second
