@@ -6,7 +6,7 @@ BEGIN {
         "careof sent injected heard handed gone lost idle home registered unregistered refused chosen prefixes made bound unbound accepted " \
         "origin forged denied dropped up unsent restarted row settled source destination hop class flow route proto message cookie index " \
         "token sequence flags lifetime status advice nonces number alternate authorization fault icmp body bad advert holds solicit answer silent claim free got to " \
-        "self port route default payload release copies", list, " ")
+        "self port route default payload release copies trace", list, " ")
     for (i in list) known[list[i]] = 1
     # where bytes stand that are no address
     bytes_at["data"] = 5

@@ -14,7 +14,7 @@ use Rattle.mip_lines.specs.Decimals.{number_in}
 use Rattle.mip_commands.specs.Forms.{is_flag}
 use Rattle.mip_commands.specs.Commands.{address_in, alone, asking, command_named, command_of, count_in, draft_of, drafted, if_address, seed_in, turned}
 use Rattle.mip_commands.specs.declared.command.Command.{Command}
-use Rattle.mip_commands.specs.declared.command.Command.TheVariants.{Replay, Decode, Make, Sum, Node, Hub}
+use Rattle.mip_commands.specs.declared.command.Command.TheVariants.{Replay, Decode, Audit, Make, Sum, Node, Hub}
 use Rattle.mip_commands.specs.declared.draft.Draft.{Draft}
 
 no_name : (name : List ℕ) → is_flag name ≡ true → (rest : List (List ℕ)) → command_named name rest ≡ None
@@ -109,10 +109,11 @@ no_rest name rest flag =
     or_none (bytes_eq name (codes "replay")) _ _ (none_alone Replay rest flag)
     (or_none (bytes_eq name (codes "decode")) _ _ (none_alone Decode rest flag)
     (or_none (bytes_eq name (codes "claims")) _ _ (none_asking rest flag)
+    (or_none (bytes_eq name (codes "audit")) _ _ (none_alone Audit rest flag)
     (or_none (bytes_eq name (codes "make")) _ _ (none_drafted (λ d. Make d) rest flag)
     (or_none (bytes_eq name (codes "sum")) _ _ (none_drafted (λ d. Sum d) rest flag)
     (or_none (bytes_eq name (codes "node")) _ _ (none_turned (λ n. Node n) rest flag)
-    (or_none (bytes_eq name (codes "hub")) _ _ (none_turned (λ n. Hub n) rest flag) refl))))))
+    (or_none (bytes_eq name (codes "hub")) _ _ (none_turned (λ n. Hub n) rest flag) refl)))))))
 
 -- words of which one is a flag are none of the forms
 pub no_command : (words : List (List ℕ)) → list_any is_flag words ≡ true → command_of words ≡ None

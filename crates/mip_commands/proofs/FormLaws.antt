@@ -16,7 +16,7 @@ use Rattle.clap.proofs.OnLiterals.{clap_on_literals}
 use Rattle.mip_commands.specs.Forms.{forms, top, asking as asking_form, drafted as drafted_form, turned as turned_form, is_flag, asked, claims, draft, named, turns_of}
 use Rattle.mip_commands.specs.Commands.{alone, asking, command_named, command_of, drafted, turned}
 use Rattle.mip_commands.specs.declared.command.Command.{Command}
-use Rattle.mip_commands.specs.declared.command.Command.TheVariants.{Replay, Decode, Make, Sum, Node, Hub}
+use Rattle.mip_commands.specs.declared.command.Command.TheVariants.{Replay, Decode, Audit, Make, Sum, Node, Hub}
 use Rattle.mip_commands.specs.declared.draft.Draft.{Draft}
 
 pub is_free : is_simple_and_free forms ≡ true
@@ -281,9 +281,9 @@ flipped a b differ = go (bytes_eq b a) refl
 
 -- the first word names none of them
 module _ (word : Text) (r : bytes_eq (codes "replay") word ≡ false) (d : bytes_eq (codes "decode") word ≡ false) (c : bytes_eq (codes "claims") word ≡ false)
-    (m : bytes_eq (codes "make") word ≡ false) (s : bytes_eq (codes "sum") word ≡ false) (n : bytes_eq (codes "node") word ≡ false) (h : bytes_eq (codes "hub") word ≡ false) where
+    (a : bytes_eq (codes "audit") word ≡ false) (m : bytes_eq (codes "make") word ≡ false) (s : bytes_eq (codes "sum") word ≡ false) (n : bytes_eq (codes "node") word ≡ false) (h : bytes_eq (codes "hub") word ≡ false) where
   no_name : find (answers_to word) names ≡ None
-  no_name = rw (r, d, c, m, s, n, h) refl
+  no_name = rw (r, d, c, a, m, s, n, h) refl
 
   unknown : (rest : List Text) → command_of (word ∷ rest) ≡ None
   unknown rest =
@@ -291,6 +291,7 @@ module _ (word : Text) (r : bytes_eq (codes "replay") word ≡ false) (d : bytes
         flipped (codes "replay") word r,
         flipped (codes "decode") word d,
         flipped (codes "claims") word c,
+        flipped (codes "audit") word a,
         flipped (codes "make") word m,
         flipped (codes "sum") word s,
         flipped (codes "node") word n,
@@ -303,23 +304,25 @@ same name word rest e h = subst (λ w. Judged (w ∷ rest)) ((bytes_eq-Decides n
 pub judged : (words : List Text) → HasNoFlag words → Judged words
 judged [] plain = inr (kind.MissingSubcommand, [], no_words, refl)
 judged (word ∷ rest) plain =
-    by (bytes_eq (codes "replay") word) (bytes_eq (codes "decode") word) (bytes_eq (codes "claims") word) (bytes_eq (codes "make") word) (bytes_eq (codes "sum") word)
-    (bytes_eq (codes "node") word) (bytes_eq (codes "hub") word) refl refl refl refl refl refl refl
+    by (bytes_eq (codes "replay") word) (bytes_eq (codes "decode") word) (bytes_eq (codes "claims") word) (bytes_eq (codes "audit") word) (bytes_eq (codes "make") word)
+    (bytes_eq (codes "sum") word) (bytes_eq (codes "node") word) (bytes_eq (codes "hub") word) refl refl refl refl refl refl refl refl
   where
     left : HasNoFlag rest
     left = (both_false (is_flag word) (list_any is_flag rest) plain).1
 
-    by : (r d c m s n h : Bool) → bytes_eq (codes "replay") word ≡ r → bytes_eq (codes "decode") word ≡ d → bytes_eq (codes "claims") word ≡ c
-        → bytes_eq (codes "make") word ≡ m → bytes_eq (codes "sum") word ≡ s → bytes_eq (codes "node") word ≡ n → bytes_eq (codes "hub") word ≡ h → Judged (word ∷ rest)
-    by true d c m s n h is _ _ _ _ _ _ = same (codes "replay") word rest is (bare_judged (codes "replay") Replay refl refl refl (λ _ _ _ _. refl) (λ _. refl) rest left)
-    by false true c m s n h _ is _ _ _ _ _ = same (codes "decode") word rest is (bare_judged (codes "decode") Decode refl refl refl (λ _ _ _ _. refl) (λ _. refl) rest left)
-    by false false true m s n h _ _ is _ _ _ _ = same (codes "claims") word rest is (free_judged (codes "claims") refl refl refl (λ _ _ _ _. refl) (λ _. refl) rest left)
-    by false false false true s n h _ _ _ is _ _ _ = same (codes "make") word rest is (two_judged (codes "make") (λ d. Make d) refl refl refl (λ _ _ _ _. refl) (λ _. refl) rest left)
-    by false false false false true n h _ _ _ _ is _ _ = same (codes "sum") word rest is (two_judged (codes "sum") (λ d. Sum d) refl refl refl (λ _ _ _ _. refl) (λ _. refl) rest left)
-    by false false false false false true h _ _ _ _ _ is _ = same (codes "node") word rest is (one_judged (codes "node") (λ n. Node n) refl refl refl (λ _ _ _ _. refl) (λ _. refl) rest left)
-    by false false false false false false true _ _ _ _ _ _ is = same (codes "hub") word rest is (one_judged (codes "hub") (λ n. Hub n) refl refl refl (λ _ _ _ _. refl) (λ _. refl) rest left)
-    by false false false false false false false r d c m s n h =
-        inr (kind.UnknownArgument, kind.InvalidSubcommand ∷ [], stray word rest (both_false _ _ plain).0 (no_name word r d c m s n h), unknown word r d c m s n h rest)
+    by : (r d c a m s n h : Bool) → bytes_eq (codes "replay") word ≡ r → bytes_eq (codes "decode") word ≡ d → bytes_eq (codes "claims") word ≡ c
+        → bytes_eq (codes "audit") word ≡ a → bytes_eq (codes "make") word ≡ m → bytes_eq (codes "sum") word ≡ s
+        → bytes_eq (codes "node") word ≡ n → bytes_eq (codes "hub") word ≡ h → Judged (word ∷ rest)
+    by true d c a m s n h is _ _ _ _ _ _ _ = same (codes "replay") word rest is (bare_judged (codes "replay") Replay refl refl refl (λ _ _ _ _. refl) (λ _. refl) rest left)
+    by false true c a m s n h _ is _ _ _ _ _ _ = same (codes "decode") word rest is (bare_judged (codes "decode") Decode refl refl refl (λ _ _ _ _. refl) (λ _. refl) rest left)
+    by false false true a m s n h _ _ is _ _ _ _ _ = same (codes "claims") word rest is (free_judged (codes "claims") refl refl refl (λ _ _ _ _. refl) (λ _. refl) rest left)
+    by false false false true m s n h _ _ _ is _ _ _ _ = same (codes "audit") word rest is (bare_judged (codes "audit") Audit refl refl refl (λ _ _ _ _. refl) (λ _. refl) rest left)
+    by false false false false true s n h _ _ _ _ is _ _ _ = same (codes "make") word rest is (two_judged (codes "make") (λ d. Make d) refl refl refl (λ _ _ _ _. refl) (λ _. refl) rest left)
+    by false false false false false true n h _ _ _ _ _ is _ _ = same (codes "sum") word rest is (two_judged (codes "sum") (λ d. Sum d) refl refl refl (λ _ _ _ _. refl) (λ _. refl) rest left)
+    by false false false false false false true h _ _ _ _ _ _ is _ = same (codes "node") word rest is (one_judged (codes "node") (λ n. Node n) refl refl refl (λ _ _ _ _. refl) (λ _. refl) rest left)
+    by false false false false false false false true _ _ _ _ _ _ _ is = same (codes "hub") word rest is (one_judged (codes "hub") (λ n. Hub n) refl refl refl (λ _ _ _ _. refl) (λ _. refl) rest left)
+    by false false false false false false false false r d c a m s n h =
+        inr (kind.UnknownArgument, kind.InvalidSubcommand ∷ [], stray word rest (both_false _ _ plain).0 (no_name word r d c a m s n h), unknown word r d c a m s n h rest)
 
 -- what is known of a parse that succeeds, and of one that fails
 module _ (a : App) (words : List Text) (is : a ≡ forms) (plain : HasNoFlag words) where

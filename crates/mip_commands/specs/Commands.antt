@@ -8,7 +8,7 @@ use Rattle.mip_words.specs.declared.address.Address.{Address}
 use Rattle.mip_words.specs.declared.address.NotAddress.{NotAddress}
 use Rattle.mip_lines.specs.Decimals.{number_in}
 use Rattle.mip_commands.specs.declared.command.Command.{Command}
-use Rattle.mip_commands.specs.declared.command.Command.TheVariants.{Replay, Decode, Claims, Make, Sum, Node, Hub}
+use Rattle.mip_commands.specs.declared.command.Command.TheVariants.{Replay, Decode, Claims, Audit, Make, Sum, Node, Hub}
 use Rattle.mip_commands.specs.declared.draft.Draft.{Draft}
 
 -- a seed has 64 digits
@@ -64,11 +64,12 @@ command_named name rest =
     if bytes_eq name (codes "replay") then alone Replay rest
     else (if bytes_eq name (codes "decode") then alone Decode rest
     else (if bytes_eq name (codes "claims") then asking rest
+    else (if bytes_eq name (codes "audit") then alone Audit rest
     else (if bytes_eq name (codes "make") then drafted Make rest
     else (if bytes_eq name (codes "sum") then drafted Sum rest
     else (if bytes_eq name (codes "node") then turned Node rest
     else (if bytes_eq name (codes "hub") then turned Hub rest
-    else None))))))
+    else None)))))))
 
 -- the command of the words, if they are one of the forms
 abbrev pub command_of : List (List ℕ) → Option Command

@@ -4,7 +4,7 @@ use Rattle.std.specs.Str.{bytes_eq}
 use Rattle.clap.specs.Words.{App, Row, Rule, first_of, new_app, new_rule, with_rule, with_subcommand}
 use Rattle.mip_commands.specs.Commands.{address_in, count_in, draft_of, seed_in, turns_in}
 use Rattle.mip_commands.specs.declared.command.Command.{Command}
-use Rattle.mip_commands.specs.declared.command.Command.TheVariants.{Replay, Decode, Claims, Make, Sum, Node, Hub}
+use Rattle.mip_commands.specs.declared.command.Command.TheVariants.{Replay, Decode, Claims, Audit, Make, Sum, Node, Hub}
 use Rattle.mip_commands.specs.declared.draft.Draft.{Draft}
 
 -- the program without its subcommands
@@ -35,10 +35,11 @@ turned name = with_rule (new_app name) (wanted (codes "turns"))
 
 -- the forms that read a schedule or a packet
 abbrev pub readers : App
-readers = with_subcommand (with_subcommand (with_subcommand top
+readers = with_subcommand (with_subcommand (with_subcommand (with_subcommand top
     (new_app (codes "replay")).top)
     (new_app (codes "decode")).top)
-    (asking (codes "claims")).top
+    (asking (codes "claims")).top)
+    (new_app (codes "audit")).top
 
 abbrev pub forms : App
 forms = with_subcommand (with_subcommand (with_subcommand (with_subcommand readers
@@ -73,11 +74,12 @@ named name address seed count turns =
     if bytes_eq name (codes "replay") then Some Replay
     else (if bytes_eq name (codes "decode") then Some Decode
     else (if bytes_eq name (codes "claims") then claims address
+    else (if bytes_eq name (codes "audit") then Some Audit
     else (if bytes_eq name (codes "make") then option_map (λ d. Make d) (draft seed count)
     else (if bytes_eq name (codes "sum") then option_map (λ d. Sum d) (draft seed count)
     else (if bytes_eq name (codes "node") then option_map (λ n. Node n) (turns_of turns)
     else (if bytes_eq name (codes "hub") then option_map (λ n. Hub n) (turns_of turns)
-    else None))))))
+    else None)))))))
 
 -- the command of the subcommand that a parse met
 abbrev pub asked : Option (List ℕ × List Row) → Option Command

@@ -10,6 +10,8 @@ pub enum Command {
     Decode,
     /// `claims` or `claims ADDRESS`: what the claims of a schedule's run are on a link, and who holds the address.
     Claims(Option<Address>),
+    /// `audit`: whether a given trace is the one of a schedule's run, and else the first line that differs.
+    Audit,
     /// `make SEED COUNT`: the schedule that is made of these.
     Make(Draft),
     /// `sum SEED COUNT`: the summary of that schedule's run.

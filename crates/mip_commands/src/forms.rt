@@ -8,7 +8,7 @@ ghost use Rattle.mip_commands.specs.Forms as specs;
 use clap::{Arg, Command};
 use std::alloc::{AllocError, Global};
 
-/// The forms: `replay`, `decode`, `claims`, `claims ADDRESS`, `make SEED COUNT`, `sum SEED COUNT`, `node TURNS` and `hub TURNS`.
+/// The forms: `replay`, `decode`, `claims`, `claims ADDRESS`, `audit`, `make SEED COUNT`, `sum SEED COUNT`, `node TURNS` and `hub TURNS`.
 pub fn forms<'a>(alloc: Global) -> Result<Command<'a>, AllocError>
     ensures { IfOk result (λ command. app_of command ≡ specs.forms) }
 {
@@ -27,7 +27,8 @@ fn readers<'a>(alloc: Global) -> Result<Command<'a>, AllocError>
     top(alloc)
         .subcommand(Command::new(alloc, "replay"))?
         .subcommand(Command::new(alloc, "decode"))?
-        .subcommand(asking(alloc, "claims")?)
+        .subcommand(asking(alloc, "claims")?)?
+        .subcommand(Command::new(alloc, "audit"))
 }
 
 /// The program without its subcommands. It has no help, since a word of help is none of the forms.

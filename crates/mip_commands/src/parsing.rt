@@ -86,6 +86,8 @@ fn named(
         Some(Command::Decode)
     } else if name == "claims" {
         claims(address)
+    } else if name == "audit" {
+        Some(Command::Audit)
     } else if name == "make" {
         Some(Command::Make(draft(seed, count)?))
     } else if name == "sum" {

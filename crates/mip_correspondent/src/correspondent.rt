@@ -1,4 +1,5 @@
-ghost use Rattle.std.specs.Prelude.{◌≡◌, ◌*◌, ℕ, ◌<◌, ◌≤◌, ◌^◌, List, IfOk, OnOk, OnErr, IfSome, IsTrue, IsFalse, length, option_copied, option_map, slice_get};
+ghost use Rattle.std.specs.Prelude.{◌≡◌, ◌*◌, ℕ, ◌<◌, ◌≤◌, ◌^◌, List, true, IfOk, OnOk, OnErr, IfSome, IsTrue, IsFalse, length, option_copied, option_map, slice_get};
+ghost use Rattle.std.specs.List.{list_any};
 ghost use Rattle.mip_words.specs.Addresses.{is_routable};
 ghost use Rattle.mip_ipv6.specs.Packet.{packet as tree, is_routable_if_any, names_no_body};
 ghost use Rattle.mip_nonce.specs.Secrets.{cookie_of};
@@ -8,6 +9,7 @@ ghost use Rattle.mip_binding.specs.Homes.{shown_rows};
 ghost use Rattle.mip_binding.specs.Held.{held, holds};
 ghost use Rattle.mip_bcache.specs.Seen.{StandsFor, rows_at, seen_row};
 ghost use Rattle.mip_entries.specs.Stamped.{Stamped};
+ghost use Rattle.mip_reception.specs.Refusing.{refuses};
 ghost use Rattle.mip_rules_correspondent.specs.Steps.{Step, answers_of};
 ghost use Rattle.mip_rules_correspondent.specs.Questions.{fresh, held_of, holds_for};
 ghost use Rattle.mip_rules_correspondent.specs.Turns.{Stands, with_turn};
@@ -136,7 +138,8 @@ impl Correspondent {
     }
 
     /// Takes a packet that was handed to the node, by its number and shield, and gives what the node
-    /// does about it, in order. After want of memory the node is as it was.
+    /// does about it, in order. After want of memory the node is as it was. A packet that it drops, and an update that it
+    /// denies, change no binding.
     pub fn take(
         &mut self,
         alloc: Global,
@@ -152,6 +155,7 @@ impl Correspondent {
         ensures stands { (room numbers : ℕ) (past : List (Stamped Step)) → Stands room numbers past self.old.known →
             OnOk result (Stands room numbers (with_turn past (turn_at self.old now.0 (calls.Take number shield packet.now))) self.new.known) }
         ensures last { OnOk result (self.new.known.last ≡ now) }
+        ensures refused { IfOk result (λ a. list_any refuses a ≡ true → self.new.known.cache ≡ self.old.known.cache) }
         ensures err { OnErr result (self.new ≡ self.old) }
     {
         let mut answers = Answers::new(alloc)?;
@@ -167,7 +171,7 @@ impl Correspondent {
     }
 
     /// Does the correspondent part of a node about a packet that has passed the node's checks: a test init, a
-    /// Binding Update, or data. After want of memory it is as it was.
+    /// Binding Update, or data. After want of memory it is as it was. An update that it drops or denies changes no binding.
     pub fn part(
         &mut self,
         alloc: Global,
@@ -184,6 +188,7 @@ impl Correspondent {
         ensures stands { (room numbers : ℕ) (past : List (Stamped Step)) → Stands room numbers past self.old.known →
             OnOk result (Stands room numbers (with_turn past (turn_at self.old now.0 (calls.Part number (tree packet.now)))) self.new.known) }
         ensures last { OnOk result (self.new.known.last ≡ now) }
+        ensures refused { IfOk result (λ a. list_any refuses a ≡ true → self.new.known.cache ≡ self.old.known.cache) }
         ensures err { OnErr result (self.new ≡ self.old) }
     {
         let mut answers = Answers::new(alloc)?;

@@ -6,12 +6,16 @@ use Rattle.std.specs.Option.{option_map}
 use Rattle.mip_words.specs.Sequence.{is_after}
 use Rattle.mip_words.specs.declared.address.Address.{Address}
 use Rattle.mip_words.specs.declared.shield.Shield.{Shield}
+use Rattle.mip_outside.specs.declared.claim.Claim.{Claim}
+use Rattle.mip_outside.specs.declared.claim.Claim.TheVariants.{Held, Waiting, Taken}
+use Rattle.mip_outside.specs.Places.{is_held, with_claim}
 use Rattle.mip_updates.specs.declared.registration.Registration.{Registration}
 use Rattle.mip_updates.specs.Registrations.{home_of, deletes}
 use Rattle.mip_rules_agent.specs.declared.bench.Bench.{Bench}
 use Rattle.mip_rules_agent.specs.declared.home_verdict.HomeVerdict.{HomeVerdict}
-use Rattle.mip_rules_agent.specs.Verdicts.{is_from, is_near, by_room, by_sequence, is_away, before_claim}
-use Rattle.mip_homeagent.specs.Changes.{unclaimed, claims_held, holding_of, holding_by, claim_part, release_part, IsOfHome}
+use Rattle.mip_rules_agent.specs.Verdicts.{is_from, is_near, by_room, by_sequence, is_away, before_claim, by_claim}
+use Rattle.mip_homeagent.specs.declared.change.Change.{Change}
+use Rattle.mip_homeagent.specs.Changes.{Claiming, unclaimed, claims_held, claims_with, holding_of, holding_by, claim_part, release_part, IsOfHome}
 
 module _ (b : Bench) (shield : Option Shield) (r : Registration) (held : Bool) where
   -- a verdict of these rows claims nothing, and it is of the home of the update
@@ -81,3 +85,21 @@ unchanged (Some claims) = refl
 pub claims_told : (claims : Option (ℕ → Bool)) (f h : (ℕ → Bool) → ℕ → Bool) → ((c : ℕ → Bool) → h c ≡ f c) → option_map f claims ≡ option_map h claims
 claims_told None f h same = refl
 claims_told (Some c) f h same = ap (λ (x : ℕ → Bool). Some x) (sym (same c))
+
+-- an address that the place gave is claimed for its registration
+pub claims_given : (b : Bench) (r : Registration) (change : Option Change) (claim : Claim) (home : Address) (old new : Option (ℕ → Bool)) → is_held claim ≡ true → deletes r ≡ false
+    → new ≡ option_map (with_claim (is_held claim) home.0) old → claims_with change ≡ claims_held (holding_by false r (by_claim b r Held)) home → new ≡ option_map (claims_with change) old
+claims_given b r change claim home old new given lasts is with =
+    is ∙ ap (λ (h : Bool). option_map (with_claim h home.0) old) given
+    ∙ ap (λ (f : Claiming). option_map f old) (sym (with ∙ ap (λ (ends : Bool). claims_held (holding_of false ends) home) lasts))
+
+-- one that it did not give is not
+pub claims_denied : (b : Bench) (r : Registration) (change : Option Change) (claim : Claim) (home : Address) (old new : Option (ℕ → Bool)) → is_held claim ≡ false
+    → new ≡ option_map (with_claim (is_held claim) home.0) old → claims_with change ≡ claims_held (holding_by false r (by_claim b r claim)) home → new ≡ option_map (claims_with change) old
+claims_denied b r change Held home old new denied is with = absurd cc
+claims_denied b r change Waiting home old new denied is with = is ∙ ap (λ (f : Claiming). option_map f old) (sym with)
+claims_denied b r change (Taken by) home old new denied is with = is ∙ ap (λ (f : Claiming). option_map f old) (sym with)
+
+pub left_denied : (claim : Claim) (home : Address) (old new : Option (ℕ → Bool)) → is_held claim ≡ false → new ≡ option_map (with_claim (is_held claim) home.0) old → new ≡ old
+left_denied claim home None new denied is = is
+left_denied claim home (Some claims) new denied is = is ∙ ap (λ (h : Bool). Some (with_claim h home.0 claims)) denied

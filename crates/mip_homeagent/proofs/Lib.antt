@@ -6,4 +6,3 @@ pub mod Befores
 pub mod Roles
 pub mod Sounds
 pub mod Turning
-pub mod Left

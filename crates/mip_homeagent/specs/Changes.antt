@@ -1,9 +1,6 @@
 -- What a call changes: the registration that it accepts.
-use Rattle.std.specs.Prelude.{◌≡◌, ◌⊎◌, ℕ, List, [], ◌++◌, Bool, true, false, Option, Some, None}
-use Rattle.std.specs.Option.{option_map}
+use Rattle.std.specs.Prelude.{◌≡◌, ℕ, List, [], ◌++◌, Bool, true, false, Option, Some, None}
 use Rattle.mip_words.specs.declared.address.Address.{Address}
-use Rattle.mip_outside.specs.declared.claim.Claim.{Claim}
-use Rattle.mip_outside.specs.declared.claim.Claim.TheVariants.{Held}
 use Rattle.mip_outside.specs.Places.{with_claim, without_claim}
 use Rattle.mip_updates.specs.declared.registration.Registration.{Registration}
 use Rattle.mip_updates.specs.Registrations.{home_of, deletes}
@@ -87,8 +84,3 @@ answers_held (Some false) home = answer_of (Releases home)
 
 abbrev pub answers_change : Address → HomeBinding → Option Bool → List Answer
 answers_change home b holding = answer_of (Registers 0 home b) ++ answers_held holding home
-
--- what want of memory leaves of the claims of a place that answers so to a claim of this address: the claims before, or with
--- that address where the place gave it
-abbrev pub AreLeft : Claim → ℕ → (old new : Option (ℕ → Bool)) → Type 0
-AreLeft claim address old new = (new ≡ old) ⊎ ((claim ≡ Held) × (new ≡ option_map (with_claim true address) old))

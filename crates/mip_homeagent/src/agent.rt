@@ -1,21 +1,21 @@
 ghost use Rattle.std.specs.Prelude.{◌≡◌, ◌≤◌, ◌<◌, ◌^◌, ℕ, List, [], true, IfOk, OnOk, OnErr, IsSomeAnd, slice_get};
-ghost use Rattle.std.specs.List.{AllByRecursion};
+ghost use Rattle.std.specs.List.{AllByRecursion, list_any};
 ghost use Rattle.std.specs.Option.{option_map};
 ghost use Rattle.mip_words.specs.Addresses.{is_routable};
 ghost use Rattle.mip_words.specs.declared.address.Address.{Address};
 ghost use Rattle.mip_entries.specs.Stamped.{Stamped};
-ghost use Rattle.mip_ipv6.specs.Reading.{packet_of};
 ghost use Rattle.mip_updates.specs.Registrations.{IsUpdate, registration_in};
 ghost use Rattle.mip_rules_agent.specs.Calls as calls;
-ghost use Rattle.mip_rules_agent.specs.Calls.{claim_for, home_in};
+ghost use Rattle.mip_rules_agent.specs.Calls.{claim_for};
 ghost use Rattle.mip_rules_agent.specs.Steps.{Step, answers_of};
 ghost use Rattle.mip_rules_agent.specs.Claims.{claims_by};
 ghost use Rattle.mip_rules_agent.specs.Questions.{fresh, careof_at, rows_at};
 ghost use Rattle.mip_rules_agent.specs.Turns.{Stands, with_turn};
 ghost use Rattle.mip_rules_agent.specs.Verdicts.{verdict};
 ghost use Rattle.mip_rules_agent.specs.Rules.{bench};
+ghost use Rattle.mip_rules_agent.specs.Refusing.{KeepsTables};
+ghost use Rattle.mip_reception.specs.Refusing.{refuses};
 ghost use Rattle.mip_rules_agent.specs.Seen.{turn_at, called};
-ghost use Rattle.mip_homeagent.specs.Changes.{AreLeft};
 ghost use Rattle.mip_homeagent.specs.Soundness.{HasRoom};
 
 use crate::answering::note_ends;
@@ -187,8 +187,8 @@ impl HomeAgent {
     }
 
     /// Takes a packet that was handed to the agent, by its number and shield, and gives what it does about it, in order.
-    /// After want of memory it is as it was; the place may have given it the home address of the packet.
-    #[tactic(auto, using(crate::proofs::Left::left_alone))]
+    /// After want of memory the agent is as it was, and so are the claims of its place. A packet that it drops, and an
+    /// update that it denies, change none of its tables and no claim.
     pub fn take<P: Place>(
         &mut self,
         alloc: Global,
@@ -206,7 +206,8 @@ impl HomeAgent {
         ensures stands { (serves : List Address) (past : List (Stamped Step)) → Stands serves past self.old.known →
             OnOk result (Stands serves (with_turn past (turn_at self.old now.0 (calls.Take number shield packet.now (claim_for (P.around place.old) packet.now)))) self.new.known) }
         ensures claims { OnOk result (P.claims place.new ≡ option_map (claims_by (turn_at self.old now.0 (calls.Take number shield packet.now (claim_for (P.around place.old) packet.now))).steps) (P.claims place.old)) }
-        ensures left { OnErr result (AreLeft (claim_for (P.around place.old) packet.now) (home_in (packet_of packet.now)) (P.claims place.old) (P.claims place.new)) }
+        ensures left { OnErr result (P.claims place.new ≡ P.claims place.old) }
+        ensures refused { IfOk result (λ a. list_any refuses a ≡ true → KeepsTables self.old.known self.new.known × (P.claims place.new ≡ P.claims place.old)) }
         ensures around { P.around place.new ≡ P.around place.old }
         ensures same { P.is_same place.old place.new }
         ensures last { OnOk result (self.new.known.last ≡ now.0) }

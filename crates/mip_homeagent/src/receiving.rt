@@ -1,17 +1,17 @@
 //! What a home agent does about a packet (RFC 6275 section 10).
 
-ghost use Rattle.std.specs.Prelude.{◌≡◌, ◌≤◌, ◌<◌, ◌^◌, ◌-◌, IfOk, OnOk, OnErr, IsTrue, true, Ok, Some, option_map, length};
+ghost use Rattle.std.specs.Prelude.{◌≡◌, ◌≤◌, ◌<◌, ◌^◌, ◌-◌, IfOk, OnOk, OnErr, IsTrue, true, Ok, Some, option_map, length, []};
 ghost use Rattle.std.specs.List.{AllByRecursion};
-ghost use Rattle.mip_ipv6.specs.Packet.{packet as tree, is_routable_if_any, source_of};
+ghost use Rattle.mip_ipv6.specs.Packet.{packet as tree, is_routable_if_any};
 ghost use Rattle.mip_ipv6.specs.Reading.{packet_of};
 ghost use Rattle.mip_mobhdr.specs.Said.{said};
 ghost use Rattle.mip_outside.specs.declared.claim.Claim.{Claim};
 ghost use Rattle.mip_words.specs.Numbers.{number_at};
-ghost use Rattle.mip_rules_agent.specs.Calls.{claim_for, home_in};
+ghost use Rattle.mip_rules_agent.specs.Calls.{claim_for};
 ghost use Rattle.mip_rules_agent.specs.Questions.{careof_at};
 ghost use Rattle.mip_rules_agent.specs.Rules.{holds_option, standing_of, refuses, by_proto, by_role, after_checks, by_destination, place_in, receives};
 ghost use Rattle.mip_homeagent.specs.Showing.{Goes, Leads, opened};
-ghost use Rattle.mip_homeagent.specs.Changes.{claims_with, AreLeft};
+ghost use Rattle.mip_homeagent.specs.Changes.{claims_with};
 ghost use Rattle.mip_homeagent.specs.Desks.{handing_at, claim_of};
 ghost use Rattle.mip_homeagent.specs.Soundness.{HasRoom};
 
@@ -95,7 +95,6 @@ fn take_other(
 }
 
 /// An update is taken; no other mobility message is.
-#[tactic(auto, using(crate::proofs::Left::left_alone))]
 fn take_message<P: Place>(
     alloc: Global,
     answers: &mut Answers,
@@ -108,8 +107,9 @@ fn take_message<P: Place>(
     requires later { desk.now.known.now.last ≤ desk.now.moment.0 }
     requires plain { IsTrue (is_routable_if_any packet.now.head.home) }
     requires room { HasRoom (P.around place.old) desk.now.known.now }
+    requires empty { answers.old ≡ [] }
     ensures claims { IfOk result (λ change. P.claims place.new ≡ option_map (claims_with change) (P.claims place.old)) }
-    ensures left { OnErr result (AreLeft (claim_of (P.around place.old) packet.now.head) (source_of packet.now.head).0 (P.claims place.old) (P.claims place.new)) }
+    ensures left { OnErr result (P.claims place.new ≡ P.claims place.old) }
     ensures around { P.around place.new ≡ P.around place.old }
     ensures same { P.is_same place.old place.new }
     ensures shows { IfOk result (λ change. Leads (by_role (handing_at desk.now (claim_of (P.around place.old) packet.now.head)) (tree packet.now) (Some (said message.now))) desk.now.moment.0 (opened desk.now.moment.0 desk.now.known.now) answers.old answers.new change) }
@@ -124,7 +124,6 @@ fn take_message<P: Place>(
 }
 
 /// A packet that passed the checks.
-#[tactic(auto, using(crate::proofs::Left::left_alone))]
 fn answer_role<P: Place>(
     alloc: Global,
     answers: &mut Answers,
@@ -138,8 +137,9 @@ fn answer_role<P: Place>(
     requires plain { IsTrue (is_routable_if_any packet.now.head.home) }
     requires short { length packet.now.body.now ≤ 65535 }
     requires room { HasRoom (P.around place.old) desk.now.known.now }
+    requires empty { answers.old ≡ [] }
     ensures claims { IfOk result (λ change. P.claims place.new ≡ option_map (claims_with change) (P.claims place.old)) }
-    ensures left { OnErr result (AreLeft (claim_of (P.around place.old) packet.now.head) (source_of packet.now.head).0 (P.claims place.old) (P.claims place.new)) }
+    ensures left { OnErr result (P.claims place.new ≡ P.claims place.old) }
     ensures around { P.around place.new ≡ P.around place.old }
     ensures same { P.is_same place.old place.new }
     ensures shows { IfOk result (λ change. Leads (by_role (handing_at desk.now (claim_of (P.around place.old) packet.now.head)) (tree packet.now) (option_map said message.now)) desk.now.moment.0 (opened desk.now.moment.0 desk.now.known.now) answers.old answers.new change) }
@@ -154,7 +154,6 @@ fn answer_role<P: Place>(
 }
 
 /// A packet that is not for a registered home is checked, and answered.
-#[tactic(auto, using(crate::proofs::Left::left_alone))]
 fn take_own<P: Place>(
     alloc: Global,
     answers: &mut Answers,
@@ -169,8 +168,9 @@ fn take_own<P: Place>(
     requires placed { packet.now.place ≡ place_in desk.now.bytes.now (tree packet.now) }
     requires near { packet.now.place < 2 ^ 32 - 1 }
     requires room { HasRoom (P.around place.old) desk.now.known.now }
+    requires empty { answers.old ≡ [] }
     ensures claims { IfOk result (λ change. P.claims place.new ≡ option_map (claims_with change) (P.claims place.old)) }
-    ensures left { OnErr result (AreLeft (claim_of (P.around place.old) packet.now.head) (source_of packet.now.head).0 (P.claims place.old) (P.claims place.new)) }
+    ensures left { OnErr result (P.claims place.new ≡ P.claims place.old) }
     ensures around { P.around place.new ≡ P.around place.old }
     ensures same { P.is_same place.old place.new }
     ensures shows { IfOk result (λ change. Leads (by_destination (handing_at desk.now (claim_of (P.around place.old) packet.now.head)) (tree packet.now) None) desk.now.moment.0 (opened desk.now.moment.0 desk.now.known.now) answers.old answers.new change) }
@@ -185,7 +185,6 @@ fn take_own<P: Place>(
 }
 
 /// A packet that was read: what is sent to a registered home is caught before all checks.
-#[tactic(auto, using(crate::proofs::Left::left_alone))]
 fn take_packet<P: Place>(
     alloc: Global,
     answers: &mut Answers,
@@ -201,8 +200,9 @@ fn take_packet<P: Place>(
     requires placed { packet.now.place ≡ place_in desk.now.bytes.now (tree packet.now) }
     requires near { packet.now.place < 2 ^ 32 - 1 }
     requires room { HasRoom (P.around place.old) desk.now.known.now }
+    requires empty { answers.old ≡ [] }
     ensures claims { IfOk result (λ change. P.claims place.new ≡ option_map (claims_with change) (P.claims place.old)) }
-    ensures left { OnErr result (AreLeft (claim_of (P.around place.old) packet.now.head) (source_of packet.now.head).0 (P.claims place.old) (P.claims place.new)) }
+    ensures left { OnErr result (P.claims place.new ≡ P.claims place.old) }
     ensures around { P.around place.new ≡ P.around place.old }
     ensures same { P.is_same place.old place.new }
     ensures shows { IfOk result (λ change. Leads (by_destination (handing_at desk.now (claim_of (P.around place.old) packet.now.head)) (tree packet.now) (careof_at desk.now.known.now desk.now.moment.0 packet.now.head.destination)) desk.now.moment.0 (opened desk.now.moment.0 desk.now.known.now) answers.old answers.new change) }
@@ -218,7 +218,6 @@ fn take_packet<P: Place>(
 }
 
 /// A packet is read, and answered.
-#[tactic(auto, using(crate::proofs::Left::left_alone))]
 pub fn receive<P: Place>(
     alloc: Global,
     answers: &mut Answers,
@@ -228,8 +227,9 @@ pub fn receive<P: Place>(
     requires early { desk.now.moment.0 < 2 ^ 62 }
     requires later { desk.now.known.now.last ≤ desk.now.moment.0 }
     requires room { HasRoom (P.around place.old) desk.now.known.now }
+    requires empty { answers.old ≡ [] }
     ensures claims { IfOk result (λ change. P.claims place.new ≡ option_map (claims_with change) (P.claims place.old)) }
-    ensures left { OnErr result (AreLeft (claim_for (P.around place.old) desk.now.bytes.now) (home_in (packet_of desk.now.bytes.now)) (P.claims place.old) (P.claims place.new)) }
+    ensures left { OnErr result (P.claims place.new ≡ P.claims place.old) }
     ensures around { P.around place.new ≡ P.around place.old }
     ensures same { P.is_same place.old place.new }
     ensures shows { IfOk result (λ change. Leads (receives (handing_at desk.now (claim_for (P.around place.old) desk.now.bytes.now)) (packet_of desk.now.bytes.now)) desk.now.moment.0 (opened desk.now.moment.0 desk.now.known.now) answers.old answers.new change) }

@@ -1,16 +1,16 @@
 //! What a home agent does about a Binding Update (RFC 6275 sections 10.3.1 and 10.3.2).
 
-ghost use Rattle.std.specs.Prelude.{◌≡◌, ◌≤◌, ◌<◌, ◌^◌, ◌++◌, IfOk, OnOk, OnErr, IsTrue, Bool, true, false, Some, None};
+ghost use Rattle.std.specs.Prelude.{◌≡◌, ◌≤◌, ◌<◌, ◌^◌, ◌++◌, IfOk, OnOk, OnErr, IsTrue, Bool, true, false, [], Some, None};
 ghost use Rattle.std.specs.Option.{option_map};
 ghost use Rattle.mip_ipv6.specs.Packet.{is_routable_if_any};
-ghost use Rattle.mip_outside.specs.Places.{claim_in};
+ghost use Rattle.mip_outside.specs.Places.{claim_in, is_held};
 ghost use Rattle.mip_outside.specs.declared.claim.Claim.{Claim};
 ghost use Rattle.mip_updates.specs.Registrations.{home_of, deletes};
 ghost use Rattle.mip_rules_agent.specs.Questions.{is_served};
-ghost use Rattle.mip_rules_agent.specs.Verdicts.{binding_for};
-ghost use Rattle.mip_rules_agent.specs.Rules.{acknowledges, denies, answers_if, accepts, judged, takes_update};
+ghost use Rattle.mip_rules_agent.specs.Verdicts.{binding_for, by_claim};
+ghost use Rattle.mip_rules_agent.specs.Rules.{acknowledges, denies, answers_if, accepts, claim_with, judged, takes_update};
 ghost use Rattle.mip_homeagent.specs.Showing.{Goes, Leads, opened};
-ghost use Rattle.mip_homeagent.specs.Changes.{claims_held, claims_with, holding_of, holding_by, release_part, IsOfHome, AreLeft, answers_change};
+ghost use Rattle.mip_homeagent.specs.Changes.{claims_held, claims_with, holding_of, holding_by, claim_part, release_part, IsOfHome, answers_change};
 ghost use Rattle.mip_homeagent.specs.Desks.{handing_at};
 
 use crate::answering::{
@@ -18,12 +18,13 @@ use crate::answering::{
 };
 use crate::change::Change;
 use crate::desk::Desk;
-use crate::judging::{holding_by, judge};
+use crate::judging::holding_by;
 use crate::tunnel::shield_to;
 use mip_constants::LIFETIME_UNIT;
 use mip_entries::Answers;
-use mip_outside::Place;
-use mip_rules_agent::{HomeBinding, HomeVerdict, Identity};
+use mip_home_verdict::{before_claim, by_claim};
+use mip_outside::{Claim, Place};
+use mip_rules_agent::{Bench, HomeBinding, HomeVerdict, Identity};
 use mip_updates::{Registration, home_of, status, write_ack};
 use mip_words::{Address, Memory, Moment};
 use std::alloc::Global;
@@ -204,8 +205,123 @@ fn release<P: Place>(place: &mut P, holding: Option<bool>, home: Address)
     }
 }
 
-/// A Binding Update is judged, and answered.
-#[tactic(auto, unfolding(mip_rules_agent::specs::Rules::takes_update))]
+/// What follows from a verdict that claims nothing. An address that is held no more is given up last.
+fn conclude<P: Place>(
+    alloc: Global,
+    answers: &mut Answers,
+    desk: &Desk<'_>,
+    place: &mut P,
+    registration: &Registration,
+    held: bool,
+    verdict: HomeVerdict,
+) -> Result<Option<Change>, Memory>
+    requires early { desk.now.moment.0 < 2 ^ 62 }
+    requires plain { IsTrue (is_routable_if_any registration.now.home_option) }
+    requires home { IsOfHome registration.now verdict }
+    requires unclaimed { claim_part (holding_by held registration.now verdict) ≡ None }
+    ensures claims { IfOk result (λ change. P.claims place.new ≡ option_map (claims_with change) (P.claims place.old)) }
+    ensures left { OnErr result (P.claims place.new ≡ P.claims place.old) }
+    ensures around { P.around place.new ≡ P.around place.old }
+    ensures same { P.is_same place.old place.new }
+    ensures shows { (claim : Claim) → IfOk result (λ change. Leads (judged (handing_at desk.now claim) registration.now held verdict) desk.now.moment.0 (opened desk.now.moment.0 desk.now.known.now) answers.old answers.new change) }
+{
+    let holding = holding_by(held, registration, &verdict);
+    let change = carry_out(alloc, answers, desk, registration, held, verdict)?;
+    release(place, holding, home_of(registration));
+    Ok(change)
+}
+
+/// Whether the place gave an address.
+fn is_held(claim: Claim) -> bool
+    ensures { result ≡ is_held claim }
+{
+    match claim {
+        Claim::Held => true,
+        _ => false,
+    }
+}
+
+/// Somebody else holds the home address: what was to be answered is given up, and the update denied.
+fn deny_claim(
+    alloc: Global,
+    answers: &mut Answers,
+    desk: &Desk<'_>,
+    bench: &Bench,
+    registration: &Registration,
+    claim: Claim,
+) -> Result<Option<Change>, Memory>
+    requires early { desk.now.moment.0 < 2 ^ 62 }
+    requires plain { IsTrue (is_routable_if_any registration.now.home_option) }
+    ensures claims { IfOk result (λ change. claims_with change ≡ claims_held (holding_by false registration.now (by_claim bench.now registration.now claim)) (home_of registration.now)) }
+    ensures shows { (asked : Claim) → IfOk result (λ change. Leads (judged (handing_at desk.now asked) registration.now false (by_claim bench.now registration.now claim)) desk.now.moment.0 (opened desk.now.moment.0 desk.now.known.now) [] answers.new change) }
+{
+    *answers = Answers::new(alloc)?;
+    let denied = by_claim(bench, registration, claim);
+    carry_out(alloc, answers, desk, registration, false, denied)
+}
+
+/// The home address is claimed. All memory that its registration takes is taken before, so that want of memory leaves no
+/// claim; where somebody else holds the address, what was to be answered is given up.
+fn claim_home<P: Place>(
+    alloc: Global,
+    answers: &mut Answers,
+    desk: &Desk<'_>,
+    place: &mut P,
+    bench: &Bench,
+    registration: &Registration,
+) -> Result<Option<Change>, Memory>
+    requires early { desk.now.moment.0 < 2 ^ 62 }
+    requires plain { IsTrue (is_routable_if_any registration.now.home_option) }
+    requires room { (P.around place.old).room (home_of registration.now).0 ≡ true }
+    requires lasts { deletes registration.now ≡ false }
+    requires empty { answers.old ≡ [] }
+    ensures claims { IfOk result (λ change. P.claims place.new ≡ option_map (claims_with change) (P.claims place.old)) }
+    ensures left { OnErr result (P.claims place.new ≡ P.claims place.old) }
+    ensures around { P.around place.new ≡ P.around place.old }
+    ensures same { P.is_same place.old place.new }
+    ensures shows { (claim : Claim) → IfOk result (λ change. Leads (judged (handing_at desk.now claim) registration.now false (by_claim bench.now registration.now (claim_in (P.around place.old) (home_of registration.now).0))) desk.now.moment.0 (opened desk.now.moment.0 desk.now.known.now) answers.old answers.new change) }
+{
+    let accepted = by_claim(bench, registration, Claim::Held);
+    let change = carry_out(alloc, answers, desk, registration, false, accepted)?;
+    let claim = place.claim(home_of(registration));
+    if is_held(claim) {
+        Ok(change)
+    } else {
+        drop(change);
+        deny_claim(alloc, answers, desk, bench, registration, claim)
+    }
+}
+
+/// The row of the claim. An address that the agent holds already is not claimed again.
+fn take_claim<P: Place>(
+    alloc: Global,
+    answers: &mut Answers,
+    desk: &Desk<'_>,
+    place: &mut P,
+    bench: &Bench,
+    held: bool,
+    registration: &Registration,
+) -> Result<Option<Change>, Memory>
+    requires early { desk.now.moment.0 < 2 ^ 62 }
+    requires plain { IsTrue (is_routable_if_any registration.now.home_option) }
+    requires room { (P.around place.old).room (home_of registration.now).0 ≡ true }
+    requires lasts { deletes registration.now ≡ false }
+    requires empty { answers.old ≡ [] }
+    ensures claims { IfOk result (λ change. P.claims place.new ≡ option_map (claims_with change) (P.claims place.old)) }
+    ensures left { OnErr result (P.claims place.new ≡ P.claims place.old) }
+    ensures around { P.around place.new ≡ P.around place.old }
+    ensures same { P.is_same place.old place.new }
+    ensures shows { (claim : Claim) → IfOk result (λ change. Leads (judged (handing_at desk.now claim) registration.now held (by_claim bench.now registration.now (claim_with held (claim_in (P.around place.old) (home_of registration.now).0)))) desk.now.moment.0 (opened desk.now.moment.0 desk.now.known.now) answers.old answers.new change) }
+{
+    if held {
+        let verdict = by_claim(bench, registration, Claim::Held);
+        conclude(alloc, answers, desk, place, registration, true, verdict)
+    } else {
+        claim_home(alloc, answers, desk, place, bench, registration)
+    }
+}
+
+/// A Binding Update is judged, and answered: the place is asked where the verdict rests on its answer.
 pub fn take_update<P: Place>(
     alloc: Global,
     answers: &mut Answers,
@@ -217,17 +333,17 @@ pub fn take_update<P: Place>(
     requires later { desk.now.known.now.last ≤ desk.now.moment.0 }
     requires plain { IsTrue (is_routable_if_any registration.now.home_option) }
     requires room { is_served desk.now.known.now (home_of registration.now) ≡ true → (P.around place.old).room (home_of registration.now).0 ≡ true }
+    requires empty { answers.old ≡ [] }
     ensures claims { IfOk result (λ change. P.claims place.new ≡ option_map (claims_with change) (P.claims place.old)) }
-    ensures left { OnErr result (AreLeft (claim_in (P.around place.old) (home_of registration.now).0) (home_of registration.now).0 (P.claims place.old) (P.claims place.new)) }
+    ensures left { OnErr result (P.claims place.new ≡ P.claims place.old) }
     ensures around { P.around place.new ≡ P.around place.old }
     ensures same { P.is_same place.old place.new }
     ensures shows { IfOk result (λ change. Leads (takes_update (handing_at desk.now (claim_in (P.around place.old) (home_of registration.now).0)) registration.now) desk.now.moment.0 (opened desk.now.moment.0 desk.now.known.now) answers.old answers.new change) }
 {
     let held = desk.known.holds(home_of(registration));
     let bench = desk.known.bench(desk.identity, desk.moment, registration);
-    let verdict = judge(place, &bench, desk.shield, held, registration);
-    let holding = holding_by(held, registration, &verdict);
-    let change = carry_out(alloc, answers, desk, registration, held, verdict)?;
-    release(place, holding, home_of(registration));
-    Ok(change)
+    match before_claim(&bench, desk.shield, registration) {
+        Some(verdict) => conclude(alloc, answers, desk, place, registration, held, verdict),
+        None => take_claim(alloc, answers, desk, place, &bench, held, registration),
+    }
 }

@@ -60,15 +60,7 @@ fn new_role(setting: &Setting<'_>) -> Result<Role, Memory>
     let config = setting.config;
     let kind = kind_of(setting)?;
     let own = address_of(&config.role);
-    Role::new(
-        setting.alloc,
-        &config.seed,
-        config.node,
-        0,
-        own,
-        &kind,
-        1,
-    )
+    Role::new(setting.alloc, &config.seed, config.node, 0, own, &kind, 1)
 }
 
 /// It is asked something, where nobody else holds an address.

@@ -81,15 +81,7 @@ impl Node {
         let life = self.life + 1;
         if !self.role.is_roaming() {
             let kind = self.host.kind();
-            self.role = Role::new(
-                alloc,
-                seed,
-                node,
-                life,
-                self.host.address(),
-                kind,
-                numbers,
-            )?;
+            self.role = Role::new(alloc, seed, node, life, self.host.address(), kind, numbers)?;
         }
         self.life = life;
         Ok(())

@@ -93,9 +93,7 @@ impl Role {
             }
             Kind::Mobile { agent } => {
                 let secrets = Secrets::new(seed, node, 0);
-                Ok(Role::Mobile(MobileRole::new(
-                    alloc, own, *agent, secrets, numbers,
-                )?))
+                Ok(Role::Mobile(MobileRole::new(alloc, own, *agent, secrets, numbers)?))
             }
         }
     }

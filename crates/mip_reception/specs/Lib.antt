@@ -3,3 +3,4 @@ pub mod Checks
 pub mod Replies
 pub mod Passing
 pub mod Pointer
+pub mod Refusing

@@ -1,13 +1,14 @@
 //! What each event makes of a run.
 
-ghost use Rattle.std.specs.Prelude.{◌≡◌, ◌<◌, length, true, OnOk};
+ghost use Rattle.std.specs.Prelude.{◌≡◌, ◌<◌, List, length, true, OnOk};
+ghost use Rattle.mip_schedule.specs.declared.event.Event.{Event};
 ghost use Rattle.mip_schedule.specs.declared.event.Event.TheVariants.{Settle};
 ghost use Rattle.mip_history.specs.Setup.{Setup};
 ghost use Rattle.mip_history.specs.Runs.{Run};
-ghost use Rattle.mip_history.specs.Permitted.{happens};
+ghost use Rattle.mip_history.specs.Permitted.{happens, run_of};
 ghost use Rattle.mip_replay.specs.Groups.{is_bind, is_call, is_posting};
 ghost use Rattle.mip_replay.specs.Ready.{IsReady};
-ghost use Rattle.mip_engine.specs.Standing.{IsAt, IsOfRun};
+ghost use Rattle.mip_engine.specs.Standing.{IsAt};
 
 use crate::advertising::advertise;
 use crate::binding::Binding;
@@ -159,17 +160,16 @@ fn node_is_asked(alloc: Global, engine: &mut Engine, event: &Event) -> Result<()
 fn settle(engine: &mut Engine, a: NodeId, b: NodeId) -> Result<(), Memory>
     requires first { a.0 < length engine.old.nodes }
     requires second { b.0 < length engine.old.nodes }
-    requires of_run { IsOfRun engine.old }
-    ensures stands { (s : Setup) (run : Run) → IsAt engine.old s run → OnOk result (IsAt engine.new s (happens s run (Settle a b))) }
+    ensures stands { (s : Setup) (events : List Event) → IsAt engine.old s (run_of s events) → OnOk result (IsAt engine.new s (happens s (run_of s events) (Settle a b))) }
     ensures kept { OnOk result (engine.new.told ≡ engine.old.told) }
 {
     engine.settle(a, b)
 }
 
-/// An event happens that finds the engine ready.
+/// An event happens that finds the engine ready, behind the events of a run.
 pub(crate) fn happen(alloc: Global, engine: &mut Engine, event: &Event) -> Result<(), Memory>
     requires ready { IsReady engine.old event.now }
-    ensures stands { (s : Setup) (run : Run) → IsAt engine.old s run → OnOk result (IsAt engine.new s (happens s run event.now)) }
+    ensures stands { (s : Setup) (events : List Event) → IsAt engine.old s (run_of s events) → OnOk result (IsAt engine.new s (happens s (run_of s events) event.now)) }
     ensures kept { OnOk result (engine.new.told ≡ engine.old.told) }
 {
     match event {

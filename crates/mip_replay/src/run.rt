@@ -55,7 +55,7 @@ fn run_whole(alloc: Global, schedule: &Schedule) -> Result<History, Memory>
 /// The history of a schedule: its permitted one.
 ///
 /// At each place of it a node, a correspondent or a mobile in its correspondent part, holds a care-of address only by an update
-/// that it accepted in the life that it has there, the last of its home. Each update that is accepted, whatever its mark, had just
+/// that it accepted in the life that it has there, and that no later one has ended. Each update that is accepted, whatever its mark, had just
 /// been handed over, with the verdict Accept on its bytes: authentic under nonces that were valid then, and in sequence after
 /// what stood.
 /// The same update is accepted again in one life only where the sequences of its home have gone round since then.

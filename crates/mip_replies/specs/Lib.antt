@@ -1,6 +1,7 @@
 pub mod Lengths
 pub mod Words
 pub mod Answers
+pub mod Audits
 pub mod Told
 pub mod Texts
 pub use Rattle.mip_replay.specs.Bindings

@@ -13,7 +13,7 @@ pub record IsConclusive (status : ℕ) : Type 0 where
 
 -- the statuses that there are
 abbrev pub IsStatus : ℕ → Type 0
-IsStatus status = status ≤ 8
+IsStatus status = status ≤ 9
 
 -- the whole answer was given
 abbrev pub Says : Answer → ℕ → Option (List ℕ) → Option (List ℕ) → Type 0

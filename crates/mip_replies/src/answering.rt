@@ -5,6 +5,7 @@ ghost use Rattle.mip_replies.specs.Answers.{form_answer, listing_answer};
 ghost use Rattle.mip_explain.specs.Listing.{listing_of};
 ghost use Rattle.mip_replies.specs.Told.{IsConclusive, IsStatus};
 
+use crate::auditing::audited;
 use crate::input_form::InputForm;
 use crate::reading::LIMIT;
 use crate::reply::Reply;
@@ -28,6 +29,7 @@ pub fn answer(alloc: Global, form: InputForm, input: Bytes) -> Result<Reply, Mem
     match form {
         InputForm::Schedule(told) => scheduled(alloc, told, input),
         InputForm::Packet => decode(alloc, input.as_slice()),
+        InputForm::Audit => audited(alloc, input.as_slice()),
     }
 }
 

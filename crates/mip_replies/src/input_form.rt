@@ -7,4 +7,6 @@ pub enum InputForm {
     Schedule(ToldRun),
     /// `decode`: the bytes of one packet, which are listed.
     Packet,
+    /// `audit`: a schedule, a line `trace`, and the trace that is judged.
+    Audit,
 }

@@ -1,14 +1,16 @@
-//! How many events a schedule has, before it is read.
+//! How many lines a text has, before it is read.
 
-ghost use Rattle.std.specs.Prelude.{◌≡◌, ◌+◌, length};
+ghost use Rattle.std.specs.Prelude.{◌≡◌, ◌+◌, ◌≤◌, length};
 ghost use Rattle.mip_lines.specs.Cutting.{parts};
-ghost use Rattle.mip_replies.specs.Lengths.{event_lines};
+ghost use Rattle.mip_replies.specs.Lengths.{event_lines, line_ends};
 
 use mip_lines::cut_at;
 
 /// The line ends in a text.
-fn ends(text: &[u8]) -> usize
-    ensures { result + 1 ≡ length (parts 10 text.now) }
+pub fn ends(text: &[u8]) -> usize
+    ensures parts { result + 1 ≡ length (parts 10 text.now) }
+    ensures ends { result ≡ line_ends text.now }
+    ensures most { result ≤ length text.now }
 {
     let mut count = 0;
     let mut rest = text;

@@ -2,9 +2,11 @@
 #![tactic(auto)]
 
 mod answering;
+mod auditing;
 mod claiming;
 mod input;
 mod input_form;
+mod laws;
 mod lengths;
 mod making;
 mod product;
@@ -19,6 +21,7 @@ mod tracing;
 
 pub use input::{answer_input, tell_bad};
 pub use input_form::InputForm;
+pub use laws::each_audit_is_right;
 pub use making::tell_made;
 pub use mip_replay::{
     each_acceptance_is_marked, each_delivery_arrives, each_home_is_sent, each_is_bound,

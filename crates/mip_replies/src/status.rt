@@ -25,6 +25,8 @@ impl Status {
     pub const LINK_FAULT: Status = Status(7);
     /// The input is no packet.
     pub const NOT_A_PACKET: Status = Status(8);
+    /// The trace that is audited is not the permitted one.
+    pub const DIFFERS: Status = Status(9);
 
     /// How the process ends: as the run did, or because memory ran out before it began.
     pub fn of(outcome: Result<Status, Memory>) -> Status

@@ -1,7 +1,8 @@
 -- A packet that leads to no registration changes nothing that the agent knows but the moment.
-use Rattle.std.proofs.Common.{◌≡◌, ℕ, List, true, false, inl, inr, refl, sym, ap, ◌∙◌}
-use Rattle.std.specs.Prelude.{Option}
+use Rattle.std.proofs.Common.{◌≡◌, ℕ, List, [], ◌∷◌, Bool, true, false, inl, inr, refl, sym, ap, ◌∙◌}
+use Rattle.std.specs.Prelude.{Option, ◌||◌}
 use Rattle.std.specs.List.{list_any}
+use Rattle.std.proofs.lemmas.List.Folds.{list_any-append}
 use Rattle.mip_words.specs.declared.shield.Shield.{Shield}
 use Rattle.mip_outside.specs.declared.claim.Claim.{Claim}
 use Rattle.mip_discovery.specs.declared.plan.PrefixPlan.{PrefixPlan}
@@ -11,11 +12,13 @@ use Rattle.mip_rules_agent.specs.declared.identity.Identity.{Identity}
 use Rattle.mip_rules_agent.specs.Known.{Known}
 use Rattle.mip_rules_agent.specs.Calls as calls
 use Rattle.mip_rules_agent.specs.Calls.{Call}
-use Rattle.mip_rules_agent.specs.Steps.{Step, Called, Sends, Registers, Claims, Releases, Denies, Drops, Rang, is_call, is_registration}
+use Rattle.mip_rules_agent.specs.Steps.{Step, Called, Sends, Registers, Claims, Releases, Denies, Drops, Rang, answer_of, answers_of, is_call, is_registration}
 use Rattle.mip_rules_agent.specs.Questions.{agents_called, agents_after, plan_called, plan_after, after}
 use Rattle.mip_rules_agent.specs.Turns.{Turn, begun, noted}
 use Rattle.mip_rules_agent.specs.Doing.{does, turn_of}
-use Rattle.mip_rules_agent.specs.Refusing.{is_refusal, is_claim}
+use Rattle.mip_reception.specs.Refusing.{refuses}
+use Rattle.mip_rules_agent.specs.Claims.{claims_by}
+use Rattle.mip_rules_agent.specs.Refusing.{is_refusal, is_claim, KeepsTables}
 use Rattle.mip_rules_agent.specs.Taken.{IsUpdateTaken}
 use Rattle.mip_rules_agent.proofs.Taken.{taken_is}
 use Rattle.mip_rules_agent.proofs.Walks.{every-handles}
@@ -63,6 +66,36 @@ call-plan me k now c =
     (λ step t silent own is. plan-noted step t ∙ plan-quiet step t.known.plan t.now silent ∙ is)
     (noted (Called c) (begun now k)) (plan-noted (Called c) (begun now k))
 
+-- a refusal is told, and nothing else tells of one
+step-refuses : (step : Step) → list_any refuses (answer_of step) ≡ is_refusal step
+step-refuses (Called call) = refl
+step-refuses (Sends shield packet) = refl
+step-refuses (Registers number home b) = refl
+step-refuses (Claims home) = refl
+step-refuses (Releases home) = refl
+step-refuses (Denies number status) = refl
+step-refuses (Drops number why) = refl
+step-refuses Rang = refl
+
+pub steps-refuse : (steps : List Step) → list_any refuses (answers_of steps) ≡ list_any is_refusal steps
+steps-refuse [] = refl
+steps-refuse (step ∷ steps) =
+    list_any-append refuses (answer_of step) (answers_of steps)
+    ∙ ap (λ (c : Bool). c || list_any refuses (answers_of steps)) (step-refuses step)
+    ∙ ap (λ (c : Bool). is_refusal step || c) (steps-refuse steps)
+
+-- steps that claim and give up nothing leave the claims as they were
+pub claims-left : (steps : List Step) (claims : ℕ → Bool) → list_any is_claim steps ≡ false → claims_by steps claims ≡ claims
+claims-left [] claims none = refl
+claims-left (Called call ∷ steps) claims none = claims-left steps claims none
+claims-left (Sends shield packet ∷ steps) claims none = claims-left steps claims none
+claims-left (Registers number home b ∷ steps) claims none = claims-left steps claims none
+claims-left (Claims home ∷ steps) claims none = absurd cc
+claims-left (Releases home ∷ steps) claims none = absurd cc
+claims-left (Denies number status ∷ steps) claims none = claims-left steps claims none
+claims-left (Drops number why ∷ steps) claims none = claims-left steps claims none
+claims-left (Rang ∷ steps) claims none = claims-left steps claims none
+
 module _ (me : Identity) (k : Known) (now number : ℕ) (shield : Option Shield) (bytes : List ℕ) (claim : Claim) where
   abbrev turn : Turn
   turn = turn_of me k now (calls.Take number shield bytes claim)
@@ -107,3 +140,16 @@ module _ (me : Identity) (k : Known) (now number : ℕ) (shield : Option Shield)
       let none = refused-none some in
       let homes = quiet-homes none in
       (homes.0, homes.1, quiet-claims none)
+
+  -- so a call whose answers tell of a refusal leaves all tables and all claims as they were
+  pub refused-call : list_any refuses (answers_of turn.steps) ≡ true → KeepsTables k turn.known × ((claims : ℕ → Bool) → claims_by turn.steps claims ≡ claims)
+  refused-call some =
+      let keeps = refused-keeps (sym (steps-refuse turn.steps) ∙ some) in (
+        record {
+          homes = keeps.0;
+          ends = keeps.1;
+          plan = call-plan me k now (calls.Take number shield bytes claim);
+          agents = call-agents me k now (calls.Take number shield bytes claim);
+        },
+        λ claims. claims-left turn.steps claims keeps.2,
+      )

@@ -1,7 +1,8 @@
 -- What a home agent refuses: a packet that is dropped, an update that is denied.
-use Rattle.std.specs.Prelude.{List, Bool, true, false, Option, Some, None}
+use Rattle.std.specs.Prelude.{◌≡◌, List, Bool, true, false, Option, Some, None}
 use Rattle.std.specs.List.{filter_map}
 use Rattle.mip_words.specs.declared.address.Address.{Address}
+use Rattle.mip_rules_agent.specs.Known.{Known}
 use Rattle.mip_rules_agent.specs.Steps.{Step, Claims, Releases, Denies, Drops}
 
 abbrev pub is_refusal : Step → Bool
@@ -22,3 +23,10 @@ release_of _ = None
 
 abbrev pub released : List Step → List Address
 released steps = filter_map release_of steps
+
+-- no table is changed: homes with their registrations, the ends of these, the lifetimes of the prefix, the other agents
+pub record KeepsTables (before after : Known) : Type 0 where
+  pub homes : after.homes ≡ before.homes
+  pub ends : after.ends ≡ before.ends
+  pub plan : after.plan ≡ before.plan
+  pub agents : after.agents ≡ before.agents

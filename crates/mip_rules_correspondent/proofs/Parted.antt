@@ -26,6 +26,7 @@ use Rattle.mip_rules_correspondent.specs.Turns.{Turn, begun, noted}
 use Rattle.mip_rules_correspondent.specs.Verdicts.{verdict}
 use Rattle.mip_rules_correspondent.specs.Rules.{answers_home_init, answers_careof_init, bench, denies, accepts, judged, takes_update, hands_up, by_message}
 use Rattle.mip_rules_correspondent.specs.Doing.{parts, does, turn_of}
+use Rattle.mip_rules_correspondent.specs.Refusing.{is_refusal}
 use Rattle.mip_rules_correspondent.specs.Taken.{IsUpdateParted}
 use Rattle.mip_rules_correspondent.proofs.Taken.{update_read, AcceptsNone, none_called, none_more}
 
@@ -75,8 +76,8 @@ module _ (me : Identity) (k : Known) (now number : ℕ) (p : Packet) where
       first : Turn
       first = noted (Accepts number home binding a) given
 
-      taken : (rest : List Step) → list_any is_acceptance rest ≡ false → Is (noted_all after rest first)
-      taken rest none = subst Is (sym (noted_all-is after (Called (calls.Part number p) ∷ Accepts number home binding a ∷ rest) (begun now k))) (
+      taken : (rest : List Step) → list_any is_acceptance rest ≡ false → list_any is_refusal rest ≡ false → Is (noted_all after rest first)
+      taken rest none kept = subst Is (sym (noted_all-is after (Called (calls.Part number p) ∷ Accepts number home binding a ∷ rest) (begun now k))) (
         refl,
         inr (record {
           mobility = mobility;
@@ -91,12 +92,13 @@ module _ (me : Identity) (k : Known) (now number : ℕ) (p : Packet) where
           rest = rest;
           steps_are = refl;
           none = none;
+          kept = kept;
         }),
       )
 
       by : (ack : Bool) → Is (let t : Turn = (if ack then noted (Sends (ack_packet me.own r 0 r.sequence granted (Some kbm))) first else first) in t)
-      by true = taken (Sends (ack_packet me.own r 0 r.sequence granted (Some kbm)) ∷ []) refl
-      by false = taken [] refl
+      by true = taken (Sends (ack_packet me.own r 0 r.sequence granted (Some kbm)) ∷ []) refl refl
+      by false = taken [] refl refl
 
   of_update : (r : Registration) → p.head.proto ≡ 135 → registration_in p.head.source p.head.home p.body ≡ Some r → Is (takes_update me number r p.body given)
   unfolding takes_update after

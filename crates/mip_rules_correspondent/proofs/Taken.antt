@@ -43,6 +43,7 @@ use Rattle.mip_rules_correspondent.specs.Verdicts.{Bench, by_room, by_sequence, 
 use Rattle.mip_updates.specs.Acks.{ack_packet}
 use Rattle.mip_rules_correspondent.specs.Rules.{answers_home_init, answers_careof_init, bench, denies, accepts, judged, takes_update, hands_up, by_message, is_for_part, other_why, by_role, replies, refuses, standing_of, after_checks, place_in, receives}
 use Rattle.mip_rules_correspondent.specs.Doing.{takes, request_refresh, refreshes, transmits, does, turn_of}
+use Rattle.mip_rules_correspondent.specs.Refusing.{is_refusal}
 use Rattle.mip_rules_correspondent.specs.Taken.{IsUpdateTaken}
 
 -- whichever way a choice goes
@@ -177,8 +178,8 @@ module _ (me : Identity) (k : Known) (now number : ℕ) (shield : Option Shield)
       first : Turn
       first = noted (Accepts number home binding a) given
 
-      taken : (rest : List Step) → list_any is_acceptance rest ≡ false → Is (noted_all after rest first)
-      taken rest none = subst Is (sym (noted_all-is after (Called (calls.Take number shield bytes) ∷ Accepts number home binding a ∷ rest) (begun now k))) (
+      taken : (rest : List Step) → list_any is_acceptance rest ≡ false → list_any is_refusal rest ≡ false → Is (noted_all after rest first)
+      taken rest none kept = subst Is (sym (noted_all-is after (Called (calls.Take number shield bytes) ∷ Accepts number home binding a ∷ rest) (begun now k))) (
         refl,
         inr (record {
           packet = p;
@@ -195,12 +196,13 @@ module _ (me : Identity) (k : Known) (now number : ℕ) (shield : Option Shield)
           rest = rest;
           steps_are = refl;
           none = none;
+          kept = kept;
         }),
       )
 
       by : (ack : Bool) → Is (let t : Turn = (if ack then noted (Sends (ack_packet me.own r 0 r.sequence granted (Some kbm))) first else first) in t)
-      by true = taken (Sends (ack_packet me.own r 0 r.sequence granted (Some kbm)) ∷ []) refl
-      by false = taken [] refl
+      by true = taken (Sends (ack_packet me.own r 0 r.sequence granted (Some kbm)) ∷ []) refl refl
+      by false = taken [] refl refl
 
   of_update : (p : Packet) (r : Registration) → packet_of bytes ≡ Ok p → p.head.proto ≡ 135 → registration_in p.head.source p.head.home p.body ≡ Some r → Is (takes_update me number r p.body given)
   unfolding takes_update after

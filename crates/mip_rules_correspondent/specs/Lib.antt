@@ -9,6 +9,7 @@ pub mod Rules
 pub mod Doing
 pub mod Seen
 pub mod Sendings
+pub mod Refusing
 pub mod Taken
 pub mod Pasts
 pub mod Wholes

@@ -14,6 +14,7 @@ use Rattle.mip_updates.specs.declared.registration.Registration.{Registration}
 use Rattle.mip_rules_correspondent.specs.declared.verdict.Verdict.TheVariants.{Accept}
 use Rattle.mip_rules_correspondent.specs.Calls.{Take, Part}
 use Rattle.mip_rules_correspondent.specs.Steps.{Step, Called, Accepts, is_acceptance}
+use Rattle.mip_rules_correspondent.specs.Refusing.{is_refusal}
 use Rattle.mip_updates.specs.Registrations.{registration_in}
 use Rattle.mip_rules_correspondent.specs.Verdicts.{verdict}
 use Rattle.mip_rules_correspondent.specs.Rules.{bench}
@@ -34,6 +35,7 @@ pub record IsUpdateTaken (me : Identity) (k : Known) (now number : ℕ) (shield 
   pub rest : List Step
   pub steps_are : steps ≡ Called (Take number shield bytes) ∷ Accepts number home binding accepted ∷ rest
   pub none : list_any is_acceptance rest ≡ false
+  pub kept : list_any is_refusal rest ≡ false
 
 -- the update in a packet that was handed to the correspondent part of a mobile is accepted at once, with this verdict
 pub record IsUpdateParted (me : Identity) (k : Known) (now number : ℕ) (packet : Packet) (steps : List Step) : Type 0 where
@@ -49,3 +51,4 @@ pub record IsUpdateParted (me : Identity) (k : Known) (now number : ℕ) (packet
   pub rest : List Step
   pub steps_are : steps ≡ Called (Part number packet) ∷ Accepts number home binding accepted ∷ rest
   pub none : list_any is_acceptance rest ≡ false
+  pub kept : list_any is_refusal rest ≡ false

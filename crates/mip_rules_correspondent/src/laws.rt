@@ -29,6 +29,7 @@ ghost use Rattle.mip_rules_correspondent.specs.Turns.{Turn, Stands, with_turn};
 ghost use Rattle.mip_rules_correspondent.specs.Pasts.{accepted_in};
 ghost use Rattle.mip_rules_correspondent.specs.Doing.{does, turn_of};
 ghost use Rattle.mip_rules_correspondent.specs.Sendings.{SendsOwn};
+ghost use Rattle.mip_rules_correspondent.specs.Refusing.{is_refusal, hands_over};
 ghost use Rattle.mip_rules_correspondent.specs.Taken.{IsUpdateTaken, IsUpdateParted};
 ghost use Rattle.mip_rules_correspondent.specs.Wholes.{IsWhole};
 
@@ -86,10 +87,11 @@ pub fn what_is_accepted_was_taken()
     ensures ticked { (me : Identity) (k : Known) (now : ℕ) → list_any is_acceptance (turn_of me k now Tick).steps ≡ false }
 {}
 
-/// A call that leads to no acceptance changes no row, unless it is for the passing of time: neither a packet that is dropped,
-/// nor an update that is denied or refused in silence.
+/// A packet that is dropped, and one whose update is denied, changes no row. Neither does any other call that leads to no
+/// acceptance, unless it is for the passing of time.
 pub fn refused_changes_no_row()
-    ensures { (me : Identity) (c : Call) (t : Turn) → is_tick c ≡ false → list_any is_acceptance (does me c t).steps ≡ false → (does me c t).known.cache ≡ t.known.cache }
+    ensures refused { (me : Identity) (k : Known) (now : ℕ) (c : Call) → hands_over c ≡ true → list_any is_refusal (turn_of me k now c).steps ≡ true → (turn_of me k now c).known.cache ≡ k.cache }
+    ensures silent { (me : Identity) (c : Call) (t : Turn) → is_tick c ≡ false → list_any is_acceptance (does me c t).steps ≡ false → (does me c t).known.cache ≡ t.known.cache }
 {}
 
 /// Each verdict comes where its row says, and no row before it applies.

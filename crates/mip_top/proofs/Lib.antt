@@ -1,3 +1,4 @@
 pub mod Bound
 pub mod ObeyedLaws
 pub mod EndingLaws
+pub mod AuditedLaws

@@ -5,7 +5,7 @@ use Rattle.std.specs.Io.KnownBytes.{prepend_known, IsAtEnd}
 use Rattle.std.proofs.lemmas.Bool.{cases_Bool, cases_order, lt-ltb, le-ltb}
 use Rattle.mip_outside.proofs.Known.{append_none, prepend_none}
 use Rattle.mip_commands.specs.declared.command.Command.{Command}
-use Rattle.mip_commands.specs.declared.command.Command.TheVariants.{Replay, Decode, Claims, Make, Sum, Node, Hub}
+use Rattle.mip_commands.specs.declared.command.Command.TheVariants.{Replay, Decode, Claims, Audit, Make, Sum, Node, Hub}
 use Rattle.mip_declared.specs.declared.reason.Reason.{Reason}
 use Rattle.mip_schedule.specs.Faults.{Wrong}
 use Rattle.mip_config.specs.Configs as configs
@@ -51,6 +51,7 @@ stopped_served None bytes given old new is = tt
 stopped_served (Some Replay) bytes given old new is = tt
 stopped_served (Some Decode) bytes given old new is = tt
 stopped_served (Some (Claims ask)) bytes given old new is = tt
+stopped_served (Some Audit) bytes given old new is = tt
 stopped_served (Some (Make draft)) bytes given old new is = tt
 stopped_served (Some (Sum draft)) bytes given old new is = tt
 stopped_served (Some (Node turns)) bytes given old new is = stopped_run (λ c. NodeServed c turns given old new) (configured nodes.reading bytes) given old new is
@@ -77,6 +78,7 @@ same (Some (Sum draft)) bytes all given old new none is = record { told = is.tol
 same (Some Replay) bytes all given old new none is = absurd (true≢false (sym none))
 same (Some Decode) bytes all given old new none is = absurd (true≢false (sym none))
 same (Some (Claims ask)) bytes all given old new none is = absurd (true≢false (sym none))
+same (Some Audit) bytes all given old new none is = absurd (true≢false (sym none))
 same (Some (Node turns)) bytes all given old new none is = absurd (true≢false (sym none))
 same (Some (Hub turns)) bytes all given old new none is = absurd (true≢false (sym none))
 
@@ -92,6 +94,7 @@ long : (command : Command) (bytes : List ℕ) → takes_nothing (Some command) �
 long Replay bytes takes many = rw (is_many bytes many) refl
 long Decode bytes takes many = rw (is_many bytes many) refl
 long (Claims ask) bytes takes many = rw (is_many bytes many) refl
+long Audit bytes takes many = rw (is_many bytes many) refl
 long (Node turns) bytes takes many = rw (is_many bytes many) refl
 long (Hub turns) bytes takes many = rw (is_many bytes many) refl
 long (Make draft) bytes takes many = absurd (true≢false takes)
@@ -101,6 +104,7 @@ unserved : (command : Command) (bytes : List ℕ) (given : ℕ) (old new : Outsi
 unserved Replay bytes given old new many = tt
 unserved Decode bytes given old new many = tt
 unserved (Claims ask) bytes given old new many = tt
+unserved Audit bytes given old new many = tt
 unserved (Make draft) bytes given old new many = tt
 unserved (Sum draft) bytes given old new many = tt
 unserved (Node turns) bytes given old new many = rw (is_many bytes many) tt

@@ -3,7 +3,7 @@ use Rattle.std.specs.Prelude.{ℕ, List, ◌∷◌, ◌++◌, [], length, Bool, 
 use Rattle.std.specs.declared.option.Option.{Option}
 use Rattle.mip_commands.specs.Commands.{command_of}
 use Rattle.mip_commands.specs.declared.command.Command.{Command}
-use Rattle.mip_commands.specs.declared.command.Command.TheVariants.{Replay, Decode, Claims, Make, Sum, Node, Hub}
+use Rattle.mip_commands.specs.declared.command.Command.TheVariants.{Replay, Decode, Claims, Audit, Make, Sum, Node, Hub}
 use Rattle.mip_schedule.specs.Faults.{Wrong}
 use Rattle.mip_config.specs.Reading as nodes
 use Rattle.mip_hub.specs.Reading as hubs
@@ -38,6 +38,7 @@ abbrev pub command_answer : Command → List ℕ → Option Answer
 command_answer Replay bytes = Some (form_answer (forms.Schedule runs.Trace) bytes)
 command_answer Decode bytes = Some (form_answer forms.Packet bytes)
 command_answer (Claims ask) bytes = Some (form_answer (forms.Schedule (runs.Claims ask)) bytes)
+command_answer Audit bytes = Some (form_answer forms.Audit bytes)
 command_answer (Make draft) bytes = Some (made_answer products.Schedule draft)
 command_answer (Sum draft) bytes = Some (made_answer products.Summary draft)
 command_answer (Node turns) bytes = refusal nodes.reading bytes

@@ -1,12 +1,14 @@
 //! The program, over any source, sink, clock and link.
 
-ghost use Rattle.std.specs.Prelude.{◌≡◌, ◌≢◌, ℕ, ◌≤◌, ◌⊎◌, List, length, map, string_bytes, true, false, None, IfSome, IfOk};
+ghost use Rattle.std.specs.Prelude.{◌≡◌, ◌≢◌, ℕ, ◌≤◌, ◌⊎◌, List, length, map, string_bytes, true, false, None, Some, IfSome, IfOk};
 ghost use Rattle.std.specs.Io.KnownBytes.{prepend_known, IsAtEnd};
 ghost use Rattle.mip_outside.specs.Cause.{Rose};
 ghost use Rattle.mip_schedule.specs.Reading.{reading};
 ghost use Rattle.mip_history.specs.Setup.{setup_of};
 ghost use Rattle.mip_history.specs.Permitted.{permitted};
 ghost use Rattle.mip_commands.specs.Commands.{command_of, IsWithin};
+ghost use Rattle.mip_commands.specs.declared.command.Command.TheVariants.{Audit};
+ghost use Rattle.mip_replies.specs.Audits.{IsAudited};
 ghost use Rattle.mip_replies.specs.Bindings.{EachIsBound, EachRepeatIsLate};
 ghost use Rattle.mip_replies.specs.Homes.{HomesAreSent};
 ghost use Rattle.mip_replies.specs.Marked.{EachIsMarked};
@@ -22,7 +24,8 @@ use mip_commands::{Command, parse};
 use mip_outside::{Clock, Link, Sink, Source};
 use mip_replies::{
     InputForm, Product, Status, ToldRun, answer_input, each_acceptance_is_marked,
-    each_delivery_arrives, each_home_is_sent, each_is_bound, each_repeat_is_late, tell, tell_made,
+    each_audit_is_right, each_delivery_arrives, each_home_is_sent, each_is_bound,
+    each_repeat_is_late, tell, tell_made,
 };
 use std::alloc::Global;
 
@@ -60,6 +63,11 @@ pub fn mip<S: Source, K: Sink, C: Clock, L: Link>(
     // In its run data between settled ends is handed up at the other end, with home addresses restored, where each packet of the
     // chain is delivered while nothing of what settled them changes.
     ensures delivered { IfSome (S.left source.old) (λ bytes. IfOk (reading bytes) (λ c. EachReaches (setup_of c) c.events)) }
+    // Where a given trace is audited, a yes says that it is the text of the permitted history, in which each accepted update has
+    // its mark; a no has the first line that differs, or that only one of the two has. A permitted trace within the bounds gets
+    // a yes, unless a call failed or memory ran out.
+    ensures audited { IfSome (S.left source.old) (λ bytes. command_of (map string_bytes words.now) ≡ Some Audit
+        → IsAudited bytes result.0 (K.held sink.old) (K.held sink.new)) }
 
     ensures statuses { IsStatus result.0 }
     ensures usage { result.0 ≡ 1 → command_of (map string_bytes words.now) ≡ None }
@@ -85,6 +93,7 @@ pub fn mip<S: Source, K: Sink, C: Clock, L: Link>(
     each_home_is_sent();
     each_acceptance_is_marked();
     each_delivery_arrives();
+    each_audit_is_right();
     match parse(alloc, words) {
         Ok(command) => obey(alloc, command, source, sink, clock, link),
         Err(_) => Status::MEMORY,
@@ -133,6 +142,7 @@ fn obey<S: Source, K: Sink, C: Clock, L: Link>(
                 sink,
             )
         }
+        Some(Command::Audit) => answer_input(alloc, InputForm::Audit, source, sink),
         Some(Command::Make(draft)) => tell_made(alloc, Product::Schedule, &draft, sink),
         Some(Command::Sum(draft)) => tell_made(alloc, Product::Summary, &draft, sink),
         Some(Command::Node(turns)) => run_node(alloc, turns, source, sink, clock, link),

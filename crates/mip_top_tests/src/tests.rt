@@ -13,6 +13,10 @@ const HOME_TEST: &[u8] =
 
 const HOME_TEST_CLAIM: &[u8] = b"claimed c n2 20010db8000200000000000000000002\n";
 
+/// An audit of the trace of nobody, to whom nothing happens: a yes.
+const NOTHING_AUDITED: &[u8] =
+    b"mip 1\nseed 000102030405060708090a0b0c0d0e0f101112131415161718191a1b1c1d1e1f\nstart 0\nrun\ntrace\n";
+
 fn owned(alloc: Global, words: &[&str]) -> Result<Vec<String>, Memory> {
     let mut owned = Vec::new(alloc);
     for word in words {
@@ -21,43 +25,47 @@ fn owned(alloc: Global, words: &[&str]) -> Result<Vec<String>, Memory> {
     Ok(owned)
 }
 
-fn replay<S: Source, K: Sink>(
+fn run<S: Source, K: Sink>(
     alloc: Global,
+    word: &str,
     source: &mut S,
     sink: &mut K,
 ) -> Result<Status, Memory> {
-    let words = owned(alloc, &["replay"])?;
+    let words = owned(alloc, &[word])?;
     let mut clock = SetClock::new(alloc, &[0])?;
     let mut link = SureLink::new(alloc)?;
     Ok(mip(alloc, &words, source, sink, &mut clock, &mut link))
 }
 
-/// The status of a replay whose read of this number fails, and how many bytes it writes.
-fn after_a_read_fault(alloc: Global, call: u64) -> Result<(Status, usize), Memory> {
+/// The status of a run whose read of this number fails, and how many bytes it writes.
+fn after_a_read_fault(alloc: Global, word: &str, call: u64) -> Result<(Status, usize), Memory> {
     let mut source = TextSource::new(alloc, b"mip 1\n", &[call])?;
     let mut sink = TextSink::new(alloc, &[])?;
-    let status = replay(alloc, &mut source, &mut sink)?;
+    let status = run(alloc, word, &mut source, &mut sink)?;
     Ok((status, sink.bytes().len()))
 }
 
-/// The status of a replay whose write of this number fails, and whether it writes these lines.
+/// The status of a run whose write of this number fails, and whether it writes these lines.
 fn after_a_write_fault(
     alloc: Global,
+    word: &str,
     input: &[u8],
     call: u64,
     lines: &[u8],
 ) -> Result<(Status, bool), Memory> {
     let mut source = SureSource::new(alloc, input)?;
     let mut sink = TextSink::new(alloc, &[call])?;
-    let status = replay(alloc, &mut source, &mut sink)?;
+    let status = run(alloc, word, &mut source, &mut sink)?;
     Ok((status, sink.bytes() == lines))
 }
 
 #[test]
 fn a_failed_read_has_its_status(rt: HostRuntime) -> Result<(), Fail> {
     for call in [1, 2] {
-        let found = after_a_read_fault(rt.alloc(), call)?;
-        assert_eq!(rt; found, (Status::READ_FAULT, 0));
+        let replayed = after_a_read_fault(rt.alloc(), "replay", call)?;
+        let audited = after_a_read_fault(rt.alloc(), "audit", call)?;
+        assert_eq!(rt; replayed, (Status::READ_FAULT, 0));
+        assert_eq!(rt; audited, (Status::READ_FAULT, 0));
     }
     Ok(())
 }
@@ -65,10 +73,14 @@ fn a_failed_read_has_its_status(rt: HostRuntime) -> Result<(), Fail> {
 // A line a call: where the second call fails, exactly the first line stands.
 #[test]
 fn a_failed_write_has_its_status(rt: HostRuntime) -> Result<(), Fail> {
-    let none = after_a_write_fault(rt.alloc(), b"", 1, b"")?;
-    let first = after_a_write_fault(rt.alloc(), HOME_TEST, 2, HOME_TEST_CLAIM)?;
+    let none = after_a_write_fault(rt.alloc(), "replay", b"", 1, b"")?;
+    let first = after_a_write_fault(rt.alloc(), "replay", HOME_TEST, 2, HOME_TEST_CLAIM)?;
+    let yes = after_a_write_fault(rt.alloc(), "audit", NOTHING_AUDITED, 1, b"")?;
+    let said = after_a_write_fault(rt.alloc(), "audit", NOTHING_AUDITED, 2, b"yes\n")?;
     assert_eq!(rt; none, (Status::WRITE_FAULT, true));
     assert_eq!(rt; first, (Status::WRITE_FAULT, true));
+    assert_eq!(rt; yes, (Status::WRITE_FAULT, true));
+    assert_eq!(rt; said, (Status::OK, true));
     Ok(())
 }
 

@@ -122,12 +122,7 @@ impl Engine {
         ensures { (c : NodeSeen) → slice_get self.old.nodes node.0 ≡ Some c → OnOk result (self.new ≡ reborn node.0 c self.old) }
     {
         let place = usize::from(node.0);
-        self.nodes[place].begin_life(
-            alloc,
-            &self.seed,
-            node,
-            numbers_of(self.version),
-        )
+        self.nodes[place].begin_life(alloc, &self.seed, node, numbers_of(self.version))
     }
 
     /// What a node draws its secrets from in its present life.

@@ -227,12 +227,18 @@ fn ended_rows_make_room_by_themselves(rt: HostRuntime) {
 
 #[test]
 fn the_last_binding_that_stands_is_held(rt: HostRuntime) {
-    assert_eq!(rt; held_at(rt.alloc(), 39_999), Some((Some(12), Some(11), true)));
+    assert_eq!(rt;
+        held_at(rt.alloc(), 39_999),
+        Some((Some(12), Some(11), true))
+    );
 }
 
 #[test]
 fn an_earlier_binding_is_held_when_the_last_ends(rt: HostRuntime) {
-    assert_eq!(rt; held_at(rt.alloc(), 40_000), Some((Some(11), Some(11), false)));
+    assert_eq!(rt;
+        held_at(rt.alloc(), 40_000),
+        Some((Some(11), Some(11), false))
+    );
 }
 
 #[test]

@@ -1,5 +1,8 @@
-use Rattle.std.proofs.Common.{arith, inr, sym, refl, []}
+use Rattle.std.proofs.Common.{arith, inr, sym, refl, [], map, string_bytes}
 use Rattle.mip_outside.proofs.Known.{prepend_none}
+use Rattle.mip_commands.specs.Commands.{command_of}
+use Rattle.mip_top.specs.Serving.{outside}
+use Rattle.mip_top.proofs.AuditedLaws.{audited}
 use Rattle.mip_top.proofs.Bound.{if_told}
 use Rattle.mip_top.proofs.ObeyedLaws.{whole, at_end, stopped, always}
 use Rattle.mip_top.proofs.top.mip.Goals as goal
@@ -55,3 +58,15 @@ returns-in-Err-clause-marked g c = if_told _ c.each_acceptance_is_marked.ensures
 
 pub returns-in-Err-clause-delivered : goal.returns-in-Err-clause-delivered
 returns-in-Err-clause-delivered g c = if_told _ c.each_delivery_arrives.ensures (g.S.Source.left c.args.source.now)
+
+pub returns-in-Ok-clause-audited : goal.returns-in-Ok-clause-audited
+returns-in-Ok-clause-audited g c =
+    let o = c.obey.ensures.obeyed in
+    rw (sym c.in-Ok.ensures.command) (audited c.each_audit_is_right.ensures c.in-Ok.command (g.S.Source.left c.args.source.now) _ _ _ (whole c.in-Ok.command o.0 _ _ _ _ _ o.1))
+
+pub returns-in-Err-clause-audited : goal.returns-in-Err-clause-audited
+returns-in-Err-clause-audited g c =
+    audited c.each_audit_is_right.ensures (command_of (map string_bytes c.args.words.now)) (g.S.Source.left c.args.source.now) _ _ _
+    (always (command_of (map string_bytes c.args.words.now)) 5 (g.S.Source.left c.args.source.now)
+    (outside (g.K.Sink.held c.args.sink.now) (g.C.Clock.ahead c.args.clock.now) (g.L.Link.coming c.args.link.now) (g.L.Link.sent c.args.link.now) (g.L.Link.port c.args.link.now)) _
+    (record { fault = inr refl; unwritten = refl; unsent = refl }))

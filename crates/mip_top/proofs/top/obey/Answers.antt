@@ -1,6 +1,6 @@
 use Rattle.std.proofs.Common.{rules, ◌≡◌, refl}
 use Rattle.std.specs.Prelude.{Some, None}
-use Rattle.mip_commands.specs.declared.command.Command.TheVariants.{Replay, Decode, Claims, Make, Sum, Node, Hub}
+use Rattle.mip_commands.specs.declared.command.Command.TheVariants.{Replay, Decode, Claims, Audit, Make, Sum, Node, Hub}
 use Rattle.mip_replies.specs.Answers.{form_answer}
 use Rattle.mip_replies.specs.declared.input_form.InputForm.TheVariants as forms
 use Rattle.mip_replies.specs.declared.told_run.ToldRun.TheVariants as runs
@@ -29,6 +29,11 @@ returns-in-Some-Claims-clause-obeyed g c =
     rw is
     (answered (Some (Claims ask)) (form_answer (forms.Schedule (runs.Claims ask))) _ _ _ _ _ (λ bytes. refl) (λ bytes. tt) refl
     c.answer_input-in-Some-Claims.ensures.answered)
+
+pub returns-in-Some-Audit-clause-obeyed : goal.returns-in-Some-Audit-clause-obeyed
+returns-in-Some-Audit-clause-obeyed g c =
+    let is : c.args.command ≡ Some Audit = search rules in
+    rw is (answered (Some Audit) (form_answer forms.Audit) _ _ _ _ _ (λ bytes. refl) (λ bytes. tt) refl c.answer_input-in-Some-Audit.ensures.answered)
 
 pub returns-in-Some-Make-clause-obeyed : goal.returns-in-Some-Make-clause-obeyed
 returns-in-Some-Make-clause-obeyed g c =

@@ -1,4 +1,7 @@
-use Rattle.std.proofs.Common.{refl, ap, sym, subst}
+use Rattle.std.proofs.Common.{◌≡◌, List, true, refl, ap, sym, subst, ◌∙◌}
+use Rattle.std.specs.List.{list_any}
+use Rattle.mip_entries.specs.declared.answer.Answer.{Answer}
+use Rattle.mip_reception.specs.Refusing.{refuses}
 use Rattle.std.specs.Prelude.{Option}
 use Rattle.mip_ipv6.specs.Packet.{packet as tree}
 use Rattle.mip_mobhdr.specs.Said.{Said}
@@ -10,6 +13,7 @@ use Rattle.mip_rules_correspondent.specs.declared.known.Known.{Known}
 use Rattle.mip_rules_correspondent.specs.Turns.{Stands, with_turn}
 use Rattle.mip_rules_correspondent.specs.Seen.{CorrespondentSeen, turn_at}
 use Rattle.mip_rules_correspondent.proofs.Calls.{call-stands}
+use Rattle.mip_rules_correspondent.proofs.Refusals.{refused-call}
 use Rattle.mip_correspondent.specs.Showing.{Shows, with_kept}
 use Rattle.mip_correspondent.proofs.Turning.{Ends, ends}
 use Rattle.mip_correspondent.proofs.correspondent.Correspondent.part.Goals as goal
@@ -36,3 +40,9 @@ returns-clause-stands c = λ room numbers past stands.
     let call = calls.Part c.args.number (tree c.args.packet.now) in
     subst (λ (k : Known). Stands room numbers (with_turn past (turn_at s c.args.now.0 call)) k) (sym (ap (λ (s : CorrespondentSeen). s.known) (ended c).after))
     (call-stands room numbers past s.known c.args.now.0 s.identity call stands)
+
+pub returns-clause-refused : goal.returns-clause-refused
+returns-clause-refused c = λ told.
+    let s = c.args.self.now in
+    ap (λ (s' : CorrespondentSeen). s'.known.cache) (ended c).after
+    ∙ refused-call s.identity s.known c.args.now.0 (calls.Part c.args.number (tree c.args.packet.now)) refl (subst (λ (l : List Answer). list_any refuses l ≡ true) (ended c).answered told)

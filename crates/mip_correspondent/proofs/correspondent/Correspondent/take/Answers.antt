@@ -1,4 +1,7 @@
-use Rattle.std.proofs.Common.{refl, ap, sym, subst}
+use Rattle.std.proofs.Common.{◌≡◌, List, true, refl, ap, sym, subst, ◌∙◌}
+use Rattle.std.specs.List.{list_any}
+use Rattle.mip_entries.specs.declared.answer.Answer.{Answer}
+use Rattle.mip_reception.specs.Refusing.{refuses}
 use Rattle.mip_bcache.specs.Seen.{CacheSeen}
 use Rattle.mip_rules_correspondent.specs.Doing.{takes}
 use Rattle.mip_rules_correspondent.specs.Calls as calls
@@ -6,6 +9,7 @@ use Rattle.mip_rules_correspondent.specs.declared.known.Known.{Known}
 use Rattle.mip_rules_correspondent.specs.Turns.{Stands, with_turn}
 use Rattle.mip_rules_correspondent.specs.Seen.{CorrespondentSeen, turn_at}
 use Rattle.mip_rules_correspondent.proofs.Calls.{call-stands}
+use Rattle.mip_rules_correspondent.proofs.Refusals.{refused-call}
 use Rattle.mip_correspondent.specs.Showing.{with_kept}
 use Rattle.mip_correspondent.proofs.Turning.{Ends, ends}
 use Rattle.mip_correspondent.proofs.correspondent.Correspondent.take.Goals as goal
@@ -30,3 +34,9 @@ returns-clause-stands c = λ room numbers past stands.
     let call = calls.Take c.args.number c.args.shield c.args.packet.now in
     subst (λ (k : Known). Stands room numbers (with_turn past (turn_at s c.args.now.0 call)) k) (sym (ap (λ (s : CorrespondentSeen). s.known) (ended c).after))
     (call-stands room numbers past s.known c.args.now.0 s.identity call stands)
+
+pub returns-clause-refused : goal.returns-clause-refused
+returns-clause-refused c = λ told.
+    let s = c.args.self.now in
+    ap (λ (s' : CorrespondentSeen). s'.known.cache) (ended c).after
+    ∙ refused-call s.identity s.known c.args.now.0 (calls.Take c.args.number c.args.shield c.args.packet.now) refl (subst (λ (l : List Answer). list_any refuses l ≡ true) (ended c).answered told)

@@ -1,4 +1,6 @@
-use Rattle.std.proofs.Common.{List, ap, sym, subst, ◌∙◌}
+use Rattle.std.proofs.Common.{List, ℕ, Bool, ap, sym, subst, ◌∙◌}
+use Rattle.std.specs.Prelude.{true, ◌≡◌}
+use Rattle.std.specs.List.{list_any}
 use Rattle.mip_entries.specs.declared.answer.Answer.{Answer}
 use Rattle.mip_ipv6.specs.Reading.{packet_of}
 use Rattle.mip_rules_agent.specs.Known.{Known}
@@ -10,9 +12,13 @@ use Rattle.mip_rules_agent.specs.Doing.{handing}
 use Rattle.mip_rules_agent.specs.Seen.{AgentSeen, turn_at}
 use Rattle.mip_rules_agent.proofs.Calls.{call-stands}
 use Rattle.mip_rules_agent.proofs.Moments.{call-last}
-use Rattle.mip_homeagent.specs.Changes.{with_change, claims_with}
+use Rattle.mip_rules_agent.proofs.Refusals.{refused-call}
+use Rattle.mip_rules_agent.specs.Refusing.{KeepsTables}
+use Rattle.mip_rules_agent.specs.Claims.{claims_by}
+use Rattle.mip_reception.specs.Refusing.{refuses}
+use Rattle.mip_homeagent.specs.Changes.{unclaimed, with_change, claims_with}
 use Rattle.mip_homeagent.specs.Showing.{Shows, Leads, opened}
-use Rattle.mip_homeagent.proofs.Befores.{claims_told}
+use Rattle.mip_homeagent.proofs.Befores.{claims_told, unchanged}
 use Rattle.mip_homeagent.proofs.Turning.{Ends, ends_shown, take_shown}
 use Rattle.mip_homeagent.proofs.agent.HomeAgent.take.Given.{Over}
 use Rattle.mip_homeagent.proofs.agent.HomeAgent.take.Goals as goal
@@ -51,3 +57,12 @@ pub returns-clause-last : goal.returns-clause-last
 returns-clause-last g c =
     let s = c.args.self.now in
     ap (λ (s : AgentSeen). s.known.last) (ended g c).after ∙ call-last s.identity s.known c.args.now.0 (call g c)
+
+pub returns-clause-refused : goal.returns-clause-refused
+returns-clause-refused g c = λ told.
+    let s = c.args.self.now in
+    let claim = claim_for (g.P.Place.around c.args.place.now) c.args.packet.now in
+    let keeps = refused-call s.identity s.known c.args.now.0 c.args.number c.args.shield c.args.packet.now claim (subst (λ (l : List Answer). list_any refuses l ≡ true) (ended g c).answered told) in (
+      subst (λ (s' : AgentSeen). KeepsTables s.known s'.known) (sym (ended g c).after) keeps.0,
+      c.in_ok-change.ensures.claims ∙ claims_told (g.P.Place.claims c.args.place.now) _ _ (ended g c).claimed ∙ claims_told (g.P.Place.claims c.args.place.now) (claims_by (turn_at s c.args.now.0 (call g c)).steps) unclaimed (λ claims. sym (keeps.1 claims)) ∙ sym (unchanged (g.P.Place.claims c.args.place.now)),
+    )
