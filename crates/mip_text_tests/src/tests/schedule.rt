@@ -29,6 +29,19 @@ fn what_is_read_is_written_again(rt: HostRuntime) -> Result<(), Fail> {
     Ok(())
 }
 
+// An update of version 2, which names the number of its binding.
+const NUMBERED: &[u8] =
+    b"mip 2\nseed 000102030405060708090a0b0c0d0e0f101112131415161718191a1b1c1d1e1f\nstart 5\nlink n1 20010db800000001\noutsider o\nrun\nbind o n1 20010db8000000010000000000000009 20010db8000000020000000000000002 20010db8000000010000000000000077 20010db8000000010000000000000009 65535 4 1 2 7\n";
+
+#[test]
+fn updates_of_version_2_are_numbered(rt: HostRuntime) -> Result<(), Fail> {
+    let schedule = read_schedule(rt.alloc(), NUMBERED)?;
+    assert_eq!(rt; schedule.version, 2);
+    let written = write_schedule(rt.alloc(), &schedule)?;
+    assert_eq!(rt; written.as_slice(), NUMBERED);
+    Ok(())
+}
+
 // The beginnings of texts.
 const SEEDED: &[u8] =
     b"mip 1\nseed 000102030405060708090a0b0c0d0e0f101112131415161718191a1b1c1d1e1f\n";
