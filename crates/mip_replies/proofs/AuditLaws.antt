@@ -12,7 +12,7 @@ use Rattle.mip_replay.specs.Marked.{EachIsMarked}
 use Rattle.mip_audit.specs.Cutting.{cut_text}
 use Rattle.mip_audit.specs.Differences.{difference, IsJudgedSo}
 use Rattle.mip_replies.specs.Answers.{Answer, audit_answer, compared_answer, cut_answer, form_answer, input_answer, is_long_audit, long_answer, no_text, trace_of, uncut_answer, verdict_answer}
-use Rattle.mip_replies.specs.Audits.{IsSubmitted, IsSubmittedWithin, IsGenuine, IsFalse, IsAudited}
+use Rattle.mip_replies.specs.Audits.{IsSubmitted, IsSubmittedWithin, IsGenuine, IsApartAt, IsAudited}
 use Rattle.mip_replies.specs.Lengths.{event_lines, line_ends}
 use Rattle.mip_replies.specs.Told.{Told, Says, IsConclusive}
 use Rattle.mip_replies.specs.declared.input_form.InputForm.TheVariants as forms
@@ -21,7 +21,7 @@ use Rattle.mip_replies.specs.declared.input_form.InputForm.TheVariants as forms
 abbrev Verdict : List ℕ → Answer → Type 0
 Verdict bytes a =
     ((a ≡ verdict_answer None) × IsGenuine bytes)
-    ⊎ (((line : ℕ) × (a ≡ verdict_answer (Some line)) × IsFalse bytes line) ⊎ ((a.status ≡ 2) ⊎ (a.status ≡ 6)))
+    ⊎ (((line : ℕ) × (a ≡ verdict_answer (Some line)) × IsApartAt bytes line) ⊎ ((a.status ≡ 2) ⊎ (a.status ≡ 6)))
 
 module _ (marked : (text : List ℕ) (c : Content) → reading text ≡ Ok c → EachIsMarked (setup_of c) (permitted c))
     (judged : (given other : List ℕ) → IsJudgedSo (difference given other) given other) (bytes : List ℕ) where
@@ -75,7 +75,7 @@ module _ (bytes : List ℕ) (given : ℕ) (old new : Option (List ℕ)) (a : Ans
   yes_of (inr (inr (inl k))) zero = absurd (omega (arith, zero, says.0, k))
   yes_of (inr (inr (inr k))) zero = absurd (omega (arith, zero, says.0, k))
 
-  no_of : Verdict bytes a → given ≡ 9 → (line : ℕ) × IsFalse bytes line × (new ≡ append_known old (no_text line))
+  no_of : Verdict bytes a → given ≡ 9 → (line : ℕ) × IsApartAt bytes line × (new ≡ append_known old (no_text line))
   no_of (inl k) nine = absurd (omega (arith, nine, says.0, ap (λ (x : Answer). x.status) k.0))
   no_of (inr (inl k)) nine = (k.0, k.2, says.1 ∙ ap (λ (x : Answer). append_known old x.text) k.1)
   no_of (inr (inr (inl k))) nine = absurd (omega (arith, nine, says.0, k))

@@ -35,7 +35,7 @@ pub record IsGenuine (bytes : List ℕ) : Type 0 where
   pub marked : EachIsMarked (setup_of schedule) (permitted schedule)
 
 -- the trace differs from that text in this line first
-pub record IsFalse (bytes : List ℕ) (line : ℕ) : Type 0 where
+pub record IsApartAt (bytes : List ℕ) (line : ℕ) : Type 0 where
   pub schedule : Content
   pub trace : List ℕ
   pub submitted : IsSubmitted bytes schedule trace
@@ -44,6 +44,6 @@ pub record IsFalse (bytes : List ℕ) (line : ℕ) : Type 0 where
 -- what the status of an audit says, and what the sink held before and holds now
 pub record IsAudited (bytes : List ℕ) (given : ℕ) (old new : Option (List ℕ)) : Type 0 where
   pub yes : given ≡ 0 → IsGenuine bytes × (new ≡ append_known old (codes "yes" ++ 10 ∷ []))
-  pub no : given ≡ 9 → (line : ℕ) × IsFalse bytes line × (new ≡ append_known old (no_text line))
+  pub no : given ≡ 9 → (line : ℕ) × IsApartAt bytes line × (new ≡ append_known old (no_text line))
   -- no trace of a permitted history within the bounds is refused, unless a call failed or memory ran out
   pub permitted : (c : Content) (trace : List ℕ) → IsSubmittedWithin bytes c trace → trace ≡ trace_of c → IsConclusive given → given ≡ 0

@@ -14,7 +14,8 @@ use mip_replay::each_acceptance_is_marked;
 /// mark, and a no has the first line that differs. Each permitted trace within the bounds gets a yes, unless a call failed or memory
 /// ran out.
 pub fn each_audit_is_right()
-    ensures { (bytes : List ℕ) (given : ℕ) (old new : Option (List ℕ)) → Told (form_answer forms.Audit bytes) given old new → IsAudited bytes given old new }
+    ensures { (bytes : List ℕ) (given : ℕ) (old new : Option (List ℕ)) → Told (form_answer forms.Audit bytes) given old new
+        → IsAudited bytes given old new }
 {
     each_acceptance_is_marked();
     first_differences_are_found();
