@@ -1,5 +1,6 @@
 ghost use Rattle.std.specs.Prelude.{◌≡◌, ℕ, ◌<◌, ◌≤◌, ◌^◌, [], ◌∷◌, length, IfOk, OnOk, option_copied, option_map, slice_get};
 ghost use Rattle.mip_history.specs.Nodes.{row_entry, home_entry};
+ghost use Rattle.mip_rules_correspondent.specs.Questions.{fresh};
 ghost use Rattle.mip_entries.specs.declared.answer.Answer.TheVariants.{Note};
 ghost use Rattle.mip_entries.specs.declared.entry.Entry.TheVariants.{Idle};
 ghost use Rattle.mip_nodes.specs.Calls.{asked, IsAskable};
@@ -59,6 +60,27 @@ fn home_entry(node: NodeId, row: Option<HomeRow>) -> Option<Entry>
     })
 }
 
+/// A correspondent in the life of these secrets. No memory holds more rows than 32 bits count.
+fn new_correspondent(
+    alloc: Global,
+    own: Address,
+    secrets: Secrets,
+    room: u32,
+    numbers: u8,
+) -> Result<Role, Memory>
+    requires some { 1 ≤ numbers }
+    requires few { numbers ≤ 8 }
+    ensures { IfOk result (λ r. r ≡ Role.Correspondent (record { identity = record { own = own; secrets = secrets; room = room }; known = fresh room numbers })) }
+{
+    match room.checked_mul(u32::from(numbers)) {
+        Some(_rows) => {
+            let role = Correspondent::new(alloc, own, secrets, room, numbers)?;
+            Ok(Role::Correspondent(role))
+        }
+        None => Err(Memory),
+    }
+}
+
 impl Role {
     /// The role of a node in a life, with nothing behind it, where a home's bindings may have so many numbers; a mobile is in its
     /// first.
@@ -79,8 +101,7 @@ impl Role {
         match kind {
             Kind::Correspondent { room } => {
                 let secrets = Secrets::new(seed, node, life);
-                let role = Correspondent::new(alloc, own, secrets, *room, numbers)?;
-                Ok(Role::Correspondent(role))
+                new_correspondent(alloc, own, secrets, *room, numbers)
             }
             Kind::Agent {
                 preference,
