@@ -1,7 +1,7 @@
 use Rattle.std.proofs.Common.{arith, inr, sym, refl, [], map, string_bytes}
 use Rattle.mip_outside.proofs.Known.{prepend_none}
 use Rattle.mip_commands.specs.Commands.{command_of}
-use Rattle.mip_top.specs.Serving.{outside}
+use Rattle.mip_top.specs.Serving.{Outside, outside}
 use Rattle.mip_top.proofs.AuditedLaws.{audited}
 use Rattle.mip_top.proofs.Bound.{if_told}
 use Rattle.mip_top.proofs.ObeyedLaws.{whole, at_end, stopped, always}
@@ -66,7 +66,8 @@ returns-in-Ok-clause-audited g c =
 
 pub returns-in-Err-clause-audited : goal.returns-in-Err-clause-audited
 returns-in-Err-clause-audited g c =
-    audited c.each_audit_is_right.ensures (command_of (map string_bytes c.args.words.now)) (g.S.Source.left c.args.source.now) _ _ _
-    (always (command_of (map string_bytes c.args.words.now)) 5 (g.S.Source.left c.args.source.now)
-    (outside (g.K.Sink.held c.args.sink.now) (g.C.Clock.ahead c.args.clock.now) (g.L.Link.coming c.args.link.now) (g.L.Link.sent c.args.link.now) (g.L.Link.port c.args.link.now)) _
-    (record { fault = inr refl; unwritten = refl; unsent = refl }))
+    let command = command_of (map string_bytes c.args.words.now) in
+    let left = g.S.Source.left c.args.source.now in
+    let o : Outside =
+    outside (g.K.Sink.held c.args.sink.now) (g.C.Clock.ahead c.args.clock.now) (g.L.Link.coming c.args.link.now) (g.L.Link.sent c.args.link.now) (g.L.Link.port c.args.link.now) in
+    audited c.each_audit_is_right.ensures command left 5 o o (always command 5 left o o (record { fault = inr refl; unwritten = refl; unsent = refl }))
