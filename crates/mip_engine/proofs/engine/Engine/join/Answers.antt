@@ -12,11 +12,11 @@ calm_new xs ys now c calm room new is = subst (λ (l : List NodeSeen). IsCalm l 
 pub invariant_of-self-in_err-push-2 : goal.invariant_of-self-in_err-push-2
 invariant_of-self-in_err-push-2 c =
     let node = c.in_ok-node.node in
-    let new : last_of node.role ≡ 0 = ap (λ (x : NodeSeen). last_of x.role) c.in_ok-node.ensures ∙ new_last _ _ _ _ _ in
+    let new : last_of node.role ≡ 0 = ap (λ (x : NodeSeen). last_of x.role) c.in_ok-node.ensures ∙ new_last _ _ _ _ _ _ in
     calm_new c.self.inside.nodes.items c.push.new.self.items c.self.inside.moment.0 node c.self.invariant (subst (λ (x : EngineSeen). length x.nodes < 32) (sym c.self.view_is) c.requires.few) new c.in_ok-push.ensures.items
 
 pub invariant_of-self-2 : goal.invariant_of-self-2
 invariant_of-self-2 c =
     let node = c.in_ok-node.node in
-    let new : last_of node.role ≡ 0 = ap (λ (x : NodeSeen). last_of x.role) c.in_ok-node.ensures ∙ new_last _ _ _ _ _ in
+    let new : last_of node.role ≡ 0 = ap (λ (x : NodeSeen). last_of x.role) c.in_ok-node.ensures ∙ new_last _ _ _ _ _ _ in
     calm_new c.self.inside.nodes.items c.push.new.self.items c.self.inside.moment.0 node c.self.invariant (subst (λ (x : EngineSeen). length x.nodes < 32) (sym c.self.view_is) c.requires.few) new c.in_ok-push.ensures.items
