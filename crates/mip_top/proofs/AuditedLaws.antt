@@ -3,7 +3,7 @@ use Rattle.std.proofs.Common.{◌≡◌, ℕ, List, subst}
 use Rattle.std.specs.Prelude.{Option, Some, None, IfSome}
 use Rattle.mip_commands.specs.declared.command.Command.{Command}
 use Rattle.mip_commands.specs.declared.command.Command.TheVariants.{Audit}
-use Rattle.mip_replies.specs.Answers.{Answer, form_answer}
+use Rattle.mip_replies.specs.Answers.{form_answer}
 use Rattle.mip_replies.specs.Audits.{IsAudited}
 use Rattle.mip_replies.specs.Told.{Told}
 use Rattle.mip_replies.specs.declared.input_form.InputForm.TheVariants as forms
