@@ -1,11 +1,14 @@
 -- What a run has told is a front of the permitted history.
-use Rattle.std.proofs.Common.{◌≡◌, ℕ, List, [], ◌∷◌, ◌++◌, length, take, refl, sym, ap, ◌∙◌, subst}
+use Rattle.std.proofs.Common.{◌≡◌, ℕ, ◌+◌, ◌<◌, List, [], ◌∷◌, ◌++◌, length, take, refl, sym, ap, ◌∙◌, subst}
+use Rattle.std.specs.Prelude.{get_or}
+use Rattle.std.proofs.lemmas.List.{take_more}
+use Rattle.std.proofs.lemmas.List.Sums.{fold-append}
 use Rattle.mip_entries.specs.declared.entry.Entry.{Entry}
 use Rattle.mip_schedule.specs.Contents.{Content}
 use Rattle.mip_schedule.specs.declared.event.Event.{Event}
 use Rattle.mip_history.specs.Setup.{Setup, setup_of}
 use Rattle.mip_history.specs.Runs.{Run}
-use Rattle.mip_history.specs.Permitted.{permitted, run_of}
+use Rattle.mip_history.specs.Permitted.{permitted, opened, happens, run_of}
 use Rattle.mip_history.proofs.Fronts.{front_of_run}
 use Rattle.mip_engine.specs.Engines.{EngineSeen, all_told}
 use Rattle.mip_engine.specs.Standing.{IsAt}
@@ -60,3 +63,13 @@ given_away r c is after same =
       rest = front.rest;
       front = front.whole ∙ ap (λ (l : List Entry). l ++ front.rest) (sym is.stands.history);
     })
+
+-- an engine behind one event more
+pub run_more : (e : EngineSeen) (s : Setup) (events : List Event) (i : ℕ) (event : Event) → i < length events → event ≡ get_or events i event
+    → IsAt e s (happens s (run_of s (take i events)) event) → IsAt e s (run_of s (take (i + 1) events))
+run_more e s events i event inside is at =
+    subst (λ (run : Run). IsAt e s run)
+    (ap (λ (x : Event). happens s (run_of s (take i events)) x) is
+    ∙ sym (fold-append (λ (run : Run) (x : Event). happens s run x) (opened s) (take i events) (get_or events i event ∷ []))
+    ∙ ap (λ (l : List Event). run_of s l) (sym (take_more events i event inside)))
+    at

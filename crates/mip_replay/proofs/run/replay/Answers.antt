@@ -8,7 +8,7 @@ use Rattle.mip_replay.proofs.run.replay.Goals as goal
 
 pub returns-clause-bound : goal.returns-clause-bound
 returns-clause-bound c =
-    IfOk-weaker c.run_whole.result _ _ (λ h is. bound_of c.held_was_accepted.ensures c.accepted_was_handed.ensures (content c.args.schedule.now) h is) c.run_whole.ensures
+    IfOk-weaker c.run_whole.result _ _ (λ h is. bound_of (record { held = c.held_was_accepted.ensures.held; under = c.held_was_accepted.ensures.under }) c.accepted_was_handed.ensures (content c.args.schedule.now) h is) c.run_whole.ensures
 
 pub returns-clause-repeats : goal.returns-clause-repeats
 returns-clause-repeats c =
