@@ -38,11 +38,7 @@ fn run<S: Source, K: Sink>(
 }
 
 /// The status of a run whose read of this number fails, and how many bytes it writes.
-fn after_a_read_fault(
-    alloc: Global,
-    word: &str,
-    call: u64,
-) -> Result<(Status, usize), Memory> {
+fn after_a_read_fault(alloc: Global, word: &str, call: u64) -> Result<(Status, usize), Memory> {
     let mut source = TextSource::new(alloc, b"mip 1\n", &[call])?;
     let mut sink = TextSink::new(alloc, &[])?;
     let status = run(alloc, word, &mut source, &mut sink)?;
