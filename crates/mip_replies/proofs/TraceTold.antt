@@ -1,7 +1,7 @@
 -- A trace that is written entry by entry and piece by piece.
-use Rattle.std.proofs.Common.{◌≡◌, ℕ, ◌-◌, ◌<◌, ◌≤◌, sym, ap, ◌∙◌, arith, List, [], ◌∷◌, ◌++◌, length, take, append_assoc, length-append, subst}
+use Rattle.std.proofs.Common.{◌≡◌, ℕ, ◌-◌, ◌<◌, ◌≤◌, sym, ap, ◌∙◌, arith, List, [], ◌∷◌, ◌++◌, length, take, append-nil, append_assoc, length-append, subst}
 use Rattle.std.proofs.lemmas.List.{take-append-le, take_all}
-use Rattle.std.specs.Prelude.{Option, Some, unwrap_or}
+use Rattle.std.specs.Prelude.{Option, None, Some, unwrap_or}
 use Rattle.std.specs.List.{AllByRecursion}
 use Rattle.std.specs.Io.KnownBytes.{append_known}
 use Rattle.mip_entries.specs.declared.entry.Entry.{Entry}
@@ -20,6 +20,11 @@ use Rattle.mip_trace.proofs.WrittenLaws.{text_append}
 pub told_more : (next told items piece : List Entry) (given : Option (List Entry)) → next ≡ told ++ unwrap_or given [] → given ≡ Some piece → items ≡ piece → next ≡ told ++ items
 told_more next told items piece given more some are =
     more ∙ ap (λ (o : Option (List Entry)). told ++ unwrap_or o []) some ∙ ap (λ (l : List Entry). told ++ l) (sym are)
+
+-- where no piece was left to give away all of it is told
+pub told_last : (next told whole : List Entry) (given : Option (List Entry)) → next ≡ told ++ unwrap_or given [] → given ≡ None → (given ≡ None → next ≡ whole) → told ≡ whole
+told_last next told whole given more none end =
+    sym (append-nil told) ∙ ap (λ (o : Option (List Entry)). told ++ unwrap_or o []) (sym none) ∙ sym more ∙ end none
 
 -- a piece more was written, under the names `own`
 pub piece_more : (a b c : Option (List ℕ)) (names own : Names) (next told items : List Entry) → own ≡ names → next ≡ told ++ items

@@ -1,11 +1,11 @@
-use Rattle.std.proofs.Common.{◌≡◌, ◌++◌}
+use Rattle.std.proofs.Common.{◌≡◌, ◌++◌, ◌∙◌}
 use Rattle.std.specs.Prelude.{Some, ⊤}
 use Rattle.std.proofs.lemmas.Result.{err_from_is_err_and}
 use Rattle.mip_schedule.specs.Schedules.{content}
 use Rattle.mip_history.specs.Permitted.{permitted}
 use Rattle.mip_replay.proofs.RunLaws.{told_front}
 use Rattle.mip_replies.proofs.AuditTold.{none_compared, piece_compared, piece_judged, end_compared}
-use Rattle.mip_replies.proofs.TraceTold.{told_more, less_left}
+use Rattle.mip_replies.proofs.TraceTold.{told_more, told_last, less_left}
 use Rattle.mip_replies.proofs.auditing.audit.Goals as goal
 use Rattle.mip_replies.proofs.auditing.audit.Goals.{After-as_slice}
 
@@ -42,3 +42,11 @@ returns-in_err-meet_entries c =
     rw (p.1, p.2)
     (piece_judged ⊤ ⊤ _ _ (Some c.args.schedule.now.declarations) c.in_ok-names.names (permitted s) c.next.new.self.told c.loop-run.run.told c.as_slice.result.now front.0 _
     c.in_ok-names.ensures front.1 (more (goal.at.returns-in_err-meet_entries c).After-as_slice) c.loop-run.invariant.compared c.in_err-meet_entries.ensures.differs)
+
+pub returns-in_err-end : goal.returns-in_err-end
+returns-in_err-end c =
+    let p = err_from_is_err_and c.from_residual-in_err-end.result c.from_residual-in_err-end.ensures.1 in
+    let s = content c.args.schedule.now in
+    let told : c.loop-run.run.told ≡ permitted s =
+    told_last c.next.new.self.told c.loop-run.run.told (permitted s) c.in_ok-piece.field-0 c.in_ok-piece.ensures.piece c.in_default.is c.in_ok-piece.ensures.end in
+    rw (p.1, p.2) (end_compared _ _ (Some c.args.schedule.now.declarations) (permitted s) c.loop-run.run.told told c.loop-run.invariant.compared ∙ c.in_err-end.ensures)

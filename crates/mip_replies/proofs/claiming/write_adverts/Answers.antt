@@ -1,11 +1,11 @@
-use Rattle.std.proofs.Common.{◌≡◌, ◌++◌, refl, arith}
+use Rattle.std.proofs.Common.{◌≡◌, ◌++◌, refl, sym, arith}
 use Rattle.std.proofs.lemmas.Result.{err_from_is_err_and}
 use Rattle.mip_outside.proofs.Known.{append_none}
 use Rattle.mip_schedule.specs.Schedules.{content}
 use Rattle.mip_history.specs.Permitted.{permitted}
 use Rattle.mip_replay.proofs.RunLaws.{told_front}
 use Rattle.mip_replies.proofs.ClaimsTold.{piece_text, adverts_on, adverts_part, adverts_front, part_front, rows_on}
-use Rattle.mip_replies.proofs.TraceTold.{told_more}
+use Rattle.mip_replies.proofs.TraceTold.{told_more, told_last}
 use Rattle.mip_replies.proofs.claiming.write_adverts.Goals as goal
 
 pub loop-run-init : goal.loop-run-init
@@ -75,3 +75,10 @@ returns-in_err-write_text-clause-part g c = λ _.
     (told_more next told items c.in-Some.piece c.in_ok-piece.field-0 c.in_ok-piece.ensures.piece c.in-Some.is c.as_slice-in-Some.ensures) c.loop-run.invariant.written
     (piece_text ds c.as_slice.result.now items _ _ _ c.as_slice.ensures c.clear.ensures c.in_ok-tell_entries.ensures.adverts c.as_slice-in-Some-2.ensures)
     c.in_err-write_text.ensures.err
+
+pub returns-clause-ok : goal.returns-clause-ok
+returns-clause-ok g c =
+    let s = content c.args.schedule.now in
+    let told : c.loop-run.run.told ≡ permitted s =
+    told_last c.next.new.self.told c.loop-run.run.told (permitted s) c.in_ok-piece.field-0 c.in_ok-piece.ensures.piece c.in_default.is c.in_ok-piece.ensures.end in
+    rw (sym told) c.loop-run.invariant.written
