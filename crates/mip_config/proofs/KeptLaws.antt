@@ -12,11 +12,11 @@ use Rattle.mip_words.proofs.StepLaws.{bind_ok, ok_is}
 use Rattle.mip_lines.specs.HexFields.{address_in}
 use Rattle.mip_lines.specs.Cutting.{rows_of}
 use Rattle.mip_lines.proofs.HexFieldLaws.{hex_field-spelled}
-use Rattle.mip_declared.specs.Kinds as kinds
-use Rattle.mip_declared.specs.Kinds.{to_host, address, bytes}
-use Rattle.mip_declared.specs.declared.reason.Reason.{Reason}
-use Rattle.mip_declared.specs.declared.reason.Reason.TheVariants as reasons
-use Rattle.mip_declared.proofs.KindLaws.{option_is}
+use Rattle.mip_symbols.specs.Kinds as kinds
+use Rattle.mip_symbols.specs.Kinds.{to_host, address, bytes}
+use Rattle.mip_symbols.specs.declared.reason.Reason.{Reason}
+use Rattle.mip_symbols.specs.declared.reason.Reason.TheVariants as reasons
+use Rattle.mip_symbols.proofs.KindLaws.{option_is}
 use Rattle.mip_schedule.specs.DeclarationRows.{u16, room}
 use Rattle.mip_schedule.specs.EventTimes.{is_reserved}
 use Rattle.mip_drafts.specs.Walk.{Walked, walk}

@@ -3,7 +3,7 @@ use Rattle.std.specs.Prelude.{ℕ, List, Option, Some, None, Result, Ok, codes}
 use Rattle.mip_words.specs.Steps.{◌>>=◌}
 use Rattle.mip_words.specs.declared.ids.NodeId.{NodeId}
 use Rattle.mip_lines.specs.Cutting.{rows_of}
-use Rattle.mip_declared.specs.Kinds as kinds
+use Rattle.mip_symbols.specs.Kinds as kinds
 use Rattle.mip_schedule.specs.Faults.{Wrong}
 use Rattle.mip_schedule.specs.Reading.{bad_form, head_line, version_line, seed_line}
 use Rattle.mip_drafts.specs.Walk.{Walked, walk}

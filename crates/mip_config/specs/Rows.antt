@@ -3,10 +3,10 @@ use Rattle.std.specs.Prelude.{ℕ, List, if◌then◌else◌, Option, Result, Er
 use Rattle.std.specs.Str.{bytes_eq}
 use Rattle.mip_words.specs.declared.address.Address.{Address}
 use Rattle.mip_lines.specs.Rows.{row1, row2, row4}
-use Rattle.mip_declared.specs.Kinds as kinds
-use Rattle.mip_declared.specs.Kinds.{or_none}
-use Rattle.mip_declared.specs.declared.reason.Reason.{Reason}
-use Rattle.mip_declared.specs.declared.reason.Reason.TheVariants as reasons
+use Rattle.mip_symbols.specs.Kinds as kinds
+use Rattle.mip_symbols.specs.Kinds.{or_none}
+use Rattle.mip_symbols.specs.declared.reason.Reason.{Reason}
+use Rattle.mip_symbols.specs.declared.reason.Reason.TheVariants as reasons
 use Rattle.mip_frames.specs.declared.route.Route.{Route}
 use Rattle.mip_schedule.specs.DeclarationRows.{u16, room}
 use Rattle.mip_config.specs.declared.payload.Payload.{Payload}

@@ -11,9 +11,9 @@ use crate::payload::Payload;
 use crate::payloads::Payloads;
 use crate::role::Role;
 use crate::rows::{default_row, payload_row, role_row, route_row, serve_row};
-use mip_declared::{LineFault, Reason};
 use mip_drafts::Draft;
 use mip_frames::Routes;
+use mip_symbols::{LineFault, Reason};
 use mip_words::Address;
 use std::alloc::Global;
 

@@ -11,10 +11,10 @@ use crate::config_draft::ConfigDraft;
 use crate::head::read_head;
 use crate::payloads::Payloads;
 use crate::role::Role;
-use mip_declared::Reason;
 use mip_drafts::{Cursor, read_lines};
 use mip_frames::Routes;
 use mip_schedule::ScheduleFault;
+use mip_symbols::Reason;
 use mip_words::NodeId;
 use std::alloc::Global;
 

@@ -7,8 +7,8 @@ ghost use Rattle.mip_config.specs.Heads.{head_seen};
 ghost use Rattle.mip_config.specs.Reading as reading;
 
 use crate::rows::port;
-use mip_declared::kinds::u8_in;
 use mip_schedule::{ScheduleFault, head_field, seed_line, version_line};
+use mip_symbols::kinds::u8_in;
 use mip_words::NodeId;
 
 /// What the first four lines say, and the text behind them.

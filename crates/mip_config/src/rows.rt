@@ -2,14 +2,14 @@
 
 ghost use Rattle.std.specs.Prelude.{◌≡◌, ◌∷◌, []};
 ghost use Rattle.mip_lines.specs.Cutting.{texts};
-ghost use Rattle.mip_declared.specs.Faults.{GivesLine};
+ghost use Rattle.mip_symbols.specs.Faults.{GivesLine};
 ghost use Rattle.mip_config.specs.Rows as rows;
 
 use crate::payload::Payload;
 use crate::role::Role;
-use mip_declared::kinds::{address, bytes, prefix, u8_in, u16_in, u32_in};
-use mip_declared::{LineFault, Reason};
 use mip_frames::Route;
+use mip_symbols::kinds::{address, bytes, prefix, u8_in, u16_in, u32_in};
+use mip_symbols::{LineFault, Reason};
 use mip_words::Address;
 use std::alloc::Global;
 

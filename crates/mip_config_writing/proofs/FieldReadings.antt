@@ -14,10 +14,10 @@ use Rattle.mip_words.specs.declared.prefix.Prefix.{Prefix}
 use Rattle.mip_lines.specs.HexFields.{address_hex, number_hex, hex_text}
 use Rattle.mip_lines.proofs.HexFieldLaws.{unhex_exact-again, hex_number-again, address_in-again, hex_field-again}
 use Rattle.mip_lines.proofs.Numbers.{number-again}
-use Rattle.mip_declared.specs.Kinds as kinds
-use Rattle.mip_declared.specs.Kinds.{or_reason, to_host, number, address, prefix, seed, bytes}
-use Rattle.mip_declared.specs.Spelled.{or_word}
-use Rattle.mip_declared.specs.declared.reason.Reason.TheVariants as reasons
+use Rattle.mip_symbols.specs.Kinds as kinds
+use Rattle.mip_symbols.specs.Kinds.{or_reason, to_host, number, address, prefix, seed, bytes}
+use Rattle.mip_symbols.specs.Spelled.{or_word}
+use Rattle.mip_symbols.specs.declared.reason.Reason.TheVariants as reasons
 use Rattle.mip_config.specs.Rows.{some_agent}
 use Rattle.mip_config_writing.specs.Grammar.{is_within, are_bytes, is_address, is_some_address}
 

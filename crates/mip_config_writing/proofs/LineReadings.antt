@@ -7,9 +7,9 @@ use Rattle.mip_words.specs.declared.address.Address.{Address}
 use Rattle.mip_words.specs.declared.prefix.Prefix.{Prefix}
 use Rattle.mip_lines.proofs.RowReadings.{row1-again, row2-again, row4-again}
 use Rattle.mip_lines.specs.HexFields.{address_hex, number_hex, hex_text}
-use Rattle.mip_declared.specs.Kinds as kinds
-use Rattle.mip_declared.specs.Spelled.{or_word}
-use Rattle.mip_declared.specs.declared.reason.Reason.TheVariants as reasons
+use Rattle.mip_symbols.specs.Kinds as kinds
+use Rattle.mip_symbols.specs.Spelled.{or_word}
+use Rattle.mip_symbols.specs.declared.reason.Reason.TheVariants as reasons
 use Rattle.mip_frames.specs.declared.route.Route.{Route}
 use Rattle.mip_schedule.specs.EventTimes.{is_reserved}
 use Rattle.mip_config.specs.Facts.{address_of}

@@ -9,11 +9,11 @@ use Rattle.mip_words.proofs.StepLaws.{bind_ok, ok_is}
 use Rattle.mip_lines.specs.HexFields.{address_hex}
 use Rattle.mip_lines.specs.Rows.{Spells}
 use Rattle.mip_lines.proofs.RowLaws.{row1-spelled, row2-spelled, row4-spelled}
-use Rattle.mip_declared.specs.Kinds as kinds
-use Rattle.mip_declared.specs.Spelled.{or_word}
-use Rattle.mip_declared.specs.declared.reason.Reason.{Reason}
-use Rattle.mip_declared.specs.declared.reason.Reason.TheVariants as reasons
-use Rattle.mip_declared.proofs.KindLaws.{prefix-spells, address-spells, number-spells, bytes-spells, worded}
+use Rattle.mip_symbols.specs.Kinds as kinds
+use Rattle.mip_symbols.specs.Spelled.{or_word}
+use Rattle.mip_symbols.specs.declared.reason.Reason.{Reason}
+use Rattle.mip_symbols.specs.declared.reason.Reason.TheVariants as reasons
+use Rattle.mip_symbols.proofs.KindLaws.{prefix-spells, address-spells, number-spells, bytes-spells, worded}
 use Rattle.mip_config.specs.Rows.{some_agent, route_row, default_row, agent_row, correspondent_row, mobile_row, role_row, serve_row, payload_row}
 use Rattle.mip_config.specs.declared.role.Role.{Role}
 use Rattle.mip_config_writing.specs.Spelling.{route_text, default_text, role_text, serve_text, payload_text}

@@ -15,11 +15,11 @@ use Rattle.mip_words.proofs.StepLaws.{bind_ok, ok_is}
 use Rattle.mip_lines.specs.HexFields.{address_in, hex_number}
 use Rattle.mip_lines.specs.Rows.{row1, row2, row4}
 use Rattle.mip_lines.proofs.HexFieldLaws.{unhex_exact-spelled, hex_number-spelled, hex_field-spelled}
-use Rattle.mip_declared.specs.Kinds as kinds
-use Rattle.mip_declared.specs.Kinds.{or_reason, to_host, address, prefix, seed, bytes}
-use Rattle.mip_declared.specs.declared.reason.Reason.{Reason}
-use Rattle.mip_declared.specs.declared.reason.Reason.TheVariants as reasons
-use Rattle.mip_declared.proofs.KindLaws.{number-within, option_is}
+use Rattle.mip_symbols.specs.Kinds as kinds
+use Rattle.mip_symbols.specs.Kinds.{or_reason, to_host, address, prefix, seed, bytes}
+use Rattle.mip_symbols.specs.declared.reason.Reason.{Reason}
+use Rattle.mip_symbols.specs.declared.reason.Reason.TheVariants as reasons
+use Rattle.mip_symbols.proofs.KindLaws.{number-within, option_is}
 use Rattle.mip_frames.specs.declared.route.Route.{Route}
 use Rattle.mip_schedule.specs.EventTimes.{is_reserved}
 use Rattle.mip_config.specs.Rows.{some_agent, route_row, default_row, agent_row, correspondent_row, mobile_row, role_row, serve_row, payload_row}

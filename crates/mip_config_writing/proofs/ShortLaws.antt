@@ -13,7 +13,7 @@ use Rattle.mip_words.specs.Numbers.{number_bytes}
 use Rattle.mip_words.specs.declared.address.Address.{Address}
 use Rattle.mip_lines.specs.HexFields.{address_hex, hex_text}
 use Rattle.mip_lines.specs.Lines.{spaced, line_text, lines_text}
-use Rattle.mip_declared.specs.Spelled.{or_word}
+use Rattle.mip_symbols.specs.Spelled.{or_word}
 use Rattle.mip_frames.specs.declared.route.Route.{Route}
 use Rattle.mip_schedule.specs.EventTimes.{is_reserved}
 use Rattle.mip_config.specs.Configs.{Content}

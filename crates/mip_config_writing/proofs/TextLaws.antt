@@ -9,9 +9,9 @@ use Rattle.mip_words.specs.Steps.{◌>>=◌}
 use Rattle.mip_words.proofs.StepLaws.{bind_ok, ok_is}
 use Rattle.mip_lines.specs.Cutting.{rows_of}
 use Rattle.mip_lines.proofs.LineLaws.{text-spelled}
-use Rattle.mip_declared.specs.Kinds as kinds
-use Rattle.mip_declared.specs.declared.reason.Reason.{Reason}
-use Rattle.mip_declared.proofs.KindLaws.{number-spells, number-within, seed-spells, worded}
+use Rattle.mip_symbols.specs.Kinds as kinds
+use Rattle.mip_symbols.specs.declared.reason.Reason.{Reason}
+use Rattle.mip_symbols.proofs.KindLaws.{number-spells, number-within, seed-spells, worded}
 use Rattle.mip_schedule.specs.Reading.{at_line, headed, head_field, head_line, version_line, seed_line}
 use Rattle.mip_schedule.proofs.TextLaws.{at_line_ok}
 use Rattle.mip_drafts.specs.Walk.{Walked, walk}

@@ -11,8 +11,8 @@ use Rattle.mip_words.specs.Hex.{hex_of}
 use Rattle.mip_words.specs.Steps.{◌>>=◌}
 use Rattle.mip_words.specs.declared.address.Address.{Address}
 use Rattle.mip_lines.proofs.LineLaws.{text-again}
-use Rattle.mip_declared.specs.Kinds as kinds
-use Rattle.mip_declared.specs.declared.reason.Reason.{Reason}
+use Rattle.mip_symbols.specs.Kinds as kinds
+use Rattle.mip_symbols.specs.declared.reason.Reason.{Reason}
 use Rattle.mip_frames.specs.declared.route.Route.{Route}
 use Rattle.mip_schedule.specs.Reading.{head_field, head_line, version_line, seed_line}
 use Rattle.mip_schedule.specs.Faults.{Wrong}

@@ -5,7 +5,7 @@ use Rattle.mip_words.specs.declared.address.Address.{Address}
 use Rattle.mip_words.specs.declared.ids.NodeId.{NodeId}
 use Rattle.mip_lines.specs.HexFields.{address_hex, number_hex, hex_text}
 use Rattle.mip_lines.specs.Lines.{lines_text}
-use Rattle.mip_declared.specs.Spelled.{or_word}
+use Rattle.mip_symbols.specs.Spelled.{or_word}
 use Rattle.mip_frames.specs.declared.route.Route.{Route}
 use Rattle.mip_config.specs.Configs.{Content}
 use Rattle.mip_config.specs.declared.payload.Payload.{Payload}

@@ -12,20 +12,20 @@ use Rattle.mip_updates.specs.declared.registration.Registration.{Registration}
 use Rattle.mip_rules_correspondent.specs.declared.verdict.Verdict.{Verdict}
 use Rattle.mip_rules_correspondent.specs.declared.verdict.Verdict.TheVariants.{Refuse, Deny, Accept}
 use Rattle.mip_rules_correspondent.specs.Rules.{bench}
-use Rattle.mip_rules_correspondent.specs.Turns.{Turn}
+use Rattle.mip_rules_correspondent.specs.Transitions.{Transition}
 use Rattle.mip_rules_correspondent.specs.Verdicts.{verdict}
 use Rattle.mip_verdict.specs.Benches.{bench_at}
 use Rattle.mip_rules_correspondent.proofs.VerdictLaws.{sound, number_among_them, number_at_home}
-use Rattle.mip_correspondent.specs.declared.kept.Kept.{Kept}
+use Rattle.mip_correspondent.specs.declared.accepted_binding.AcceptedBinding.{AcceptedBinding}
 use Rattle.mip_correspondent.specs.Showing.{left, Shows, kept_of, Fits}
 use Rattle.mip_correspondent.proofs.ShowingLaws.{shows-now, shows-known}
 
-pub bench-shown : (me : Identity) (r : Registration) (now : ℕ) (cache : CacheSeen) (answers : List Answer) (t : Turn) → Shows now cache answers t → bench me t.known t.now r ≡ bench_at me.own me.secrets now cache r
+pub bench-shown : (me : Identity) (r : Registration) (now : ℕ) (cache : CacheSeen) (answers : List Answer) (t : Transition) → Shows now cache answers t → bench me t.known t.now r ≡ bench_at me.own me.secrets now cache r
 bench-shown me r now cache answers t s =
     ap (λ (k : Known). bench me k t.now r) (shows-known now cache answers t s)
     ∙ ap (λ (n : ℕ). bench me (left now cache) n r) (shows-now now cache answers t s)
 
-pub kept-fits : (own : Address) (secrets : Life) (now : ℕ) (cache : CacheSeen) (r : Registration) (message : List ℕ) (v : Verdict) (kept : Option Kept) → v ≡ verdict (bench_at own secrets now cache r) r message → kept ≡ kept_of v → Fits now cache kept
+pub kept-fits : (own : Address) (secrets : Life) (now : ℕ) (cache : CacheSeen) (r : Registration) (message : List ℕ) (v : Verdict) (kept : Option AcceptedBinding) → v ≡ verdict (bench_at own secrets now cache r) r message → kept ≡ kept_of v → Fits now cache kept
 kept-fits own secrets now cache r message (Refuse why) kept is e = subst (Fits now cache) (sym e) tt
 kept-fits own secrets now cache r message (Deny status last kbm) kept is e = subst (Fits now cache) (sym e) tt
 kept-fits own secrets now cache r message (Accept home number accepted granted kbm) kept is e =

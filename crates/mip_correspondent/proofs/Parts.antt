@@ -5,20 +5,20 @@ use Rattle.mip_words.specs.declared.address.Address.{Address}
 use Rattle.mip_ipv6.specs.Packet.{Packet}
 use Rattle.mip_mobhdr.specs.Said.{Said}
 use Rattle.mip_mobhdr.specs.Said.Said.{Refresh, HomeInit, CareofInit, HomeTest, CareofTest, Update, Acknowledgement, Error}
-use Rattle.mip_says.specs.Updates.{IsReadUpdate}
+use Rattle.mip_inspection.specs.Updates.{IsReadUpdate}
 use Rattle.mip_reception.specs.Checks.{is_probe}
 use Rattle.mip_rules_correspondent.specs.declared.identity.Identity.{Identity}
 use Rattle.mip_updates.specs.declared.registration.Registration.{Registration}
 use Rattle.mip_updates.specs.Registrations.{registration, registration_said, registration_in}
 use Rattle.mip_rules_correspondent.specs.Rules.{takes_update, by_message}
-use Rattle.mip_rules_correspondent.specs.Turns.{Turn}
+use Rattle.mip_rules_correspondent.specs.Transitions.{Transition}
 
 -- what the correspondent part does about a message that asks this
-abbrev pub by_registration : Identity → ℕ → List ℕ → Option Registration → Turn → Turn
+abbrev pub by_registration : Identity → ℕ → List ℕ → Option Registration → Transition → Transition
 by_registration me number body None t = t
 by_registration me number body (Some r) t = takes_update me number r body t
 
-pub taken_registration : (me : Identity) (number : ℕ) (p : Packet) (m : Said) (t : Turn) → IsFalse (is_probe (Some m)) → by_message me number p (Some m) t ≡ by_registration me number p.body (registration_said p.head.source p.head.home (Ok m)) t
+pub taken_registration : (me : Identity) (number : ℕ) (p : Packet) (m : Said) (t : Transition) → IsFalse (is_probe (Some m)) → by_message me number p (Some m) t ≡ by_registration me number p.body (registration_said p.head.source p.head.home (Ok m)) t
 taken_registration me number p (Refresh o) t other = refl
 taken_registration me number p (HomeInit c o) t other = absurd cc
 taken_registration me number p (CareofInit c o) t other = absurd cc

@@ -10,7 +10,7 @@ use Rattle.mip_bcache.specs.declared.row.Row.{Row}
 use Rattle.mip_bcache.specs.Seen.{CacheSeen, HomeRows, home_of, until_of, kept_at, home_at, stands, last_row, standing_at, rows_made, rows_left, expired}
 use Rattle.mip_rules_correspondent.specs.declared.identity.Identity.{Identity}
 use Rattle.mip_rules_correspondent.specs.declared.known.Known.{Known}
-use Rattle.mip_correspondent.specs.declared.kept.Kept.{Kept}
+use Rattle.mip_correspondent.specs.declared.accepted_binding.AcceptedBinding.{AcceptedBinding}
 use Rattle.mip_correspondent.specs.Soundness.{HasRoutableHome, IsSound}
 use Rattle.mip_correspondent.specs.Showing.{left, with_kept, Fits}
 
@@ -29,7 +29,7 @@ held_routable cache home now row all e = by (home_at cache home now) refl e
     by None is e = absurd cc
     by (Some h) is e = found_routable home (kept_at cache now) h (all-kept HasRoutableHome until_of now cache.homes all) is
 
-pub kept_sound : (identity : Identity) (k : Known) (now : ℕ) (kept : Option Kept) → IsSound (record { identity = identity; known = k }) → k.last.0 ≤ now → Fits now k.cache kept → IsSound (record { identity = identity; known = left now (with_kept now kept k.cache) })
+pub kept_sound : (identity : Identity) (k : Known) (now : ℕ) (kept : Option AcceptedBinding) → IsSound (record { identity = identity; known = k }) → k.last.0 ≤ now → Fits now k.cache kept → IsSound (record { identity = identity; known = left now (with_kept now kept k.cache) })
 kept_sound identity k now None sound later fits = record {
   early = let e = sound.early in omega arith;
   room = sound.room;

@@ -3,13 +3,13 @@ use Rattle.std.proofs.Common.{◌≡◌, ℕ, List, [], false, sym, ap, ◌∙�
 use Rattle.mip_words.specs.declared.address.Address.{Address}
 use Rattle.mip_entries.specs.declared.answer.Answer.{Answer}
 use Rattle.mip_bcache.specs.Seen.{CacheSeen, expired}
-use Rattle.mip_turns.proofs.TurnLaws.{noted-known}
+use Rattle.mip_transitions.proofs.TurnLaws.{noted-known}
 use Rattle.mip_rules_correspondent.specs.declared.identity.Identity.{Identity}
 use Rattle.mip_rules_correspondent.specs.declared.known.Known.{Known}
 use Rattle.mip_rules_correspondent.specs.Calls.{Call, Tick, is_tick}
 use Rattle.mip_rules_correspondent.specs.Steps.{Called, Sends, answers_of}
 use Rattle.mip_rules_correspondent.specs.Questions.{held_of, after}
-use Rattle.mip_rules_correspondent.specs.Turns.{Turn, begun, noted}
+use Rattle.mip_rules_correspondent.specs.Transitions.{Transition, begun, noted}
 use Rattle.mip_rules_correspondent.specs.Doing.{handles, does, turn_of, request_refresh, refreshes, data_sent, transmits}
 use Rattle.mip_rules_correspondent.specs.Seen.{CorrespondentSeen, turn_at, called}
 use Rattle.mip_correspondent.specs.Showing.{left, Shows}
@@ -22,7 +22,7 @@ pub record Ends (old new : CorrespondentSeen) (answers : List Answer) (now : ℕ
 
 -- a call that is not for the passing of time ends with what its rule shows
 pub ends : (old inside new : CorrespondentSeen) (now : ℕ) (c : Call) (begins : List Answer) (leaves : CacheSeen → CacheSeen) (answers : List Answer) → is_tick c ≡ false → begins ≡ [] → inside ≡ old
-    → ((t : Turn) → Shows now inside.known.cache begins t → Shows now (leaves inside.known.cache) answers (handles inside.identity c t))
+    → ((t : Transition) → Shows now inside.known.cache begins t → Shows now (leaves inside.known.cache) answers (handles inside.identity c t))
     → new ≡ record { identity = old.identity; known = left now (leaves old.known.cache) } → Ends old new answers now c
 unfolding does
 ends old inside new now c begins leaves answers other none same rule is =
@@ -36,13 +36,13 @@ ends old inside new now c begins leaves answers other none same rule is =
     }
 
 -- a refresh and data go by what the turn leaves of the home
-pub refreshes-shown : (me : Identity) (home : Address) (now : ℕ) (cache : CacheSeen) (answers : List Answer) (t : Turn) → Shows now cache answers t → refreshes me home t ≡ request_refresh me home (held_of (left now cache) now home) t
+pub refreshes-shown : (me : Identity) (home : Address) (now : ℕ) (cache : CacheSeen) (answers : List Answer) (t : Transition) → Shows now cache answers t → refreshes me home t ≡ request_refresh me home (held_of (left now cache) now home) t
 unfolding refreshes
 refreshes-shown me home now cache answers t s =
     ap (λ (k : Known). request_refresh me home (held_of k t.now home) t) (shows-known now cache answers t s)
     ∙ ap (λ (n : ℕ). request_refresh me home (held_of (left now cache) n home) t) (shows-now now cache answers t s)
 
-pub transmits-shown : (me : Identity) (to : Address) (proto : ℕ) (payload : List ℕ) (now : ℕ) (cache : CacheSeen) (answers : List Answer) (t : Turn) → Shows now cache answers t
+pub transmits-shown : (me : Identity) (to : Address) (proto : ℕ) (payload : List ℕ) (now : ℕ) (cache : CacheSeen) (answers : List Answer) (t : Transition) → Shows now cache answers t
     → transmits me to proto payload t ≡ noted (Sends (data_sent me to proto payload (held_of (left now cache) now to))) t
 unfolding transmits
 transmits-shown me to proto payload now cache answers t s =

@@ -6,35 +6,35 @@ use Rattle.mip_bcache.specs.Seen.{CacheSeen, with_acceptance, has_no_room}
 use Rattle.mip_rules_correspondent.specs.declared.known.Known.{Known}
 use Rattle.mip_rules_correspondent.specs.declared.verdict.Verdict.{Verdict}
 use Rattle.mip_rules_correspondent.specs.declared.verdict.Verdict.TheVariants.{Refuse, Deny, Accept}
-use Rattle.mip_rules_correspondent.specs.Turns.{Turn, ShowsAt}
-use Rattle.mip_correspondent.specs.declared.kept.Kept.{Kept}
+use Rattle.mip_rules_correspondent.specs.Transitions.{Transition, ShowsAt}
+use Rattle.mip_correspondent.specs.declared.accepted_binding.AcceptedBinding.{AcceptedBinding}
 
 -- what is known after a call at a moment, which left this cache
 abbrev pub left : ℕ → CacheSeen → Known
 left now cache = record { last = record { 0 = now }; cache = cache }
 
 -- a turn at a moment: the last call is of then, this cache is left, and these are the answers
-abbrev pub Shows : (now : ℕ) (cache : CacheSeen) (answers : List Answer) → Turn → Type 0
+abbrev pub Shows : (now : ℕ) (cache : CacheSeen) (answers : List Answer) → Transition → Type 0
 Shows now cache answers t = ShowsAt now (left now cache) answers t
 
 -- a cache with an accepted update, if there is one
-abbrev pub with_kept : ℕ → Option Kept → CacheSeen → CacheSeen
+abbrev pub with_kept : ℕ → Option AcceptedBinding → CacheSeen → CacheSeen
 with_kept now None cache = cache
 with_kept now (Some k) cache = with_acceptance now k.home k.number k.accepted cache
 
 -- what a verdict accepts
-abbrev pub kept_of : Verdict → Option Kept
+abbrev pub kept_of : Verdict → Option AcceptedBinding
 kept_of (Refuse why) = None
 kept_of (Deny status last kbm) = None
 kept_of (Accept home number accepted granted kbm) = Some (record { home = home; number = number; accepted = accepted })
 
 -- there is room for an accepted update, its home may stand in a routing header, and its number is one of the cache's, or
 -- 0; it is 0 where the update registers the home address
-pub record IsFitting (now : ℕ) (cache : CacheSeen) (k : Kept) : Type 0 where
+pub record IsFitting (now : ℕ) (cache : CacheSeen) (k : AcceptedBinding) : Type 0 where
   pub room : has_no_room cache k.home.0 now ≡ false
   pub routable : is_routable k.home.0 ≡ true
   pub number : k.number ≢ 0 → k.number < cache.numbers
   pub deletion : k.accepted.careof.0 ≡ k.home.0 → k.number ≡ 0
 
-abbrev pub Fits : ℕ → CacheSeen → Option Kept → Type 0
+abbrev pub Fits : ℕ → CacheSeen → Option AcceptedBinding → Type 0
 Fits now cache kept = IfSome kept (IsFitting now cache)

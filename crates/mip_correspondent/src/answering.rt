@@ -4,10 +4,10 @@ ghost use Rattle.std.specs.Prelude.{◌≡◌, ℕ, ◌∷◌, [], OnOk, option_
 ghost use Rattle.mip_nonce.specs.Window.{index_of};
 ghost use Rattle.mip_bcache.specs.Seen.{CacheSeen, with_acceptance};
 ghost use Rattle.mip_rules_correspondent.specs.Steps.{answer_of, Sends, Accepts, Denies, Drops, HandsUp, Idles};
-ghost use Rattle.mip_rules_correspondent.specs.Turns.{Turn, noted};
+ghost use Rattle.mip_rules_correspondent.specs.Transitions.{Transition, noted};
 ghost use Rattle.mip_correspondent.specs.Showing.{Shows};
 
-use crate::kept::Kept;
+use crate::accepted_binding::AcceptedBinding;
 use mip_entries::{Answer, Answers, Entry};
 use mip_words::{Address, Bytes, Memory, NodeId, Why};
 use std::alloc::Global;
@@ -33,7 +33,7 @@ fn careof_index(number: Option<u64>) -> Option<u16>
 
 /// It sends a packet, unshielded.
 pub fn send(answers: &mut Answers, packet: Bytes) -> Result<(), Memory>
-    ensures { (now : ℕ) (cache : CacheSeen) (t : Turn) → Shows now cache answers.old t → OnOk result (Shows now cache answers.new (noted (Sends packet) t)) }
+    ensures { (now : ℕ) (cache : CacheSeen) (t : Transition) → Shows now cache answers.old t → OnOk result (Shows now cache answers.new (noted (Sends packet) t)) }
 {
     answers.push(Answer::Send {
         shield: None,
@@ -44,7 +44,7 @@ pub fn send(answers: &mut Answers, packet: Bytes) -> Result<(), Memory>
 
 /// It drops a packet.
 pub fn drop_packet(answers: &mut Answers, number: u64, why: Why) -> Result<(), Memory>
-    ensures { (now : ℕ) (cache : CacheSeen) (t : Turn) → Shows now cache answers.old t → OnOk result (Shows now cache answers.new (noted (Drops number why) t)) }
+    ensures { (now : ℕ) (cache : CacheSeen) (t : Transition) → Shows now cache answers.old t → OnOk result (Shows now cache answers.new (noted (Drops number why) t)) }
 {
     answers.push(Answer::Note(Entry::Dropped {
         node: MYSELF,
@@ -56,7 +56,7 @@ pub fn drop_packet(answers: &mut Answers, number: u64, why: Why) -> Result<(), M
 
 /// It denies the update in a packet.
 pub fn note_denial(answers: &mut Answers, number: u64, status: u8) -> Result<(), Memory>
-    ensures { (now : ℕ) (cache : CacheSeen) (t : Turn) → Shows now cache answers.old t → OnOk result (Shows now cache answers.new (noted (Denies number status) t)) }
+    ensures { (now : ℕ) (cache : CacheSeen) (t : Transition) → Shows now cache answers.old t → OnOk result (Shows now cache answers.new (noted (Denies number status) t)) }
 {
     answers.push(Answer::Note(Entry::Denied {
         node: MYSELF,
@@ -67,7 +67,7 @@ pub fn note_denial(answers: &mut Answers, number: u64, status: u8) -> Result<(),
 }
 
 /// The entry of an acceptance.
-fn accepted_entry(number: u64, kept: &Kept) -> Entry
+fn accepted_entry(number: u64, kept: &AcceptedBinding) -> Entry
     ensures { Answer.Note result ∷ [] ≡ answer_of (Accepts number kept.now.home kept.now.number kept.now.accepted) }
 {
     let accepted = kept.accepted;
@@ -85,8 +85,12 @@ fn accepted_entry(number: u64, kept: &Kept) -> Entry
 }
 
 /// It accepts the update in a packet: its row will stand in the cache.
-pub fn note_acceptance(answers: &mut Answers, number: u64, kept: &Kept) -> Result<(), Memory>
-    ensures { (now : ℕ) (cache : CacheSeen) (t : Turn) → Shows now cache answers.old t → OnOk result (Shows now (with_acceptance now kept.now.home kept.now.number kept.now.accepted cache) answers.new (noted (Accepts number kept.now.home kept.now.number kept.now.accepted) t)) }
+pub fn note_acceptance(
+    answers: &mut Answers,
+    number: u64,
+    kept: &AcceptedBinding,
+) -> Result<(), Memory>
+    ensures { (now : ℕ) (cache : CacheSeen) (t : Transition) → Shows now cache answers.old t → OnOk result (Shows now (with_acceptance now kept.now.home kept.now.number kept.now.accepted cache) answers.new (noted (Accepts number kept.now.home kept.now.number kept.now.accepted) t)) }
 {
     answers.push(Answer::Note(accepted_entry(number, kept)))?;
     Ok(())
@@ -102,7 +106,7 @@ pub fn hand_up(
     proto: u8,
     payload: &[u8],
 ) -> Result<(), Memory>
-    ensures { (now : ℕ) (cache : CacheSeen) (t : Turn) → Shows now cache answers.old t → OnOk result (Shows now cache answers.new (noted (HandsUp number source destination proto payload.now) t)) }
+    ensures { (now : ℕ) (cache : CacheSeen) (t : Transition) → Shows now cache answers.old t → OnOk result (Shows now cache answers.new (noted (HandsUp number source destination proto payload.now) t)) }
 {
     let payload = Bytes::copy(alloc, payload)?;
     answers.push(Answer::Note(Entry::Up {
@@ -118,7 +122,7 @@ pub fn hand_up(
 
 /// It was asked for something that can't be.
 pub fn idle(answers: &mut Answers) -> Result<(), Memory>
-    ensures { (now : ℕ) (cache : CacheSeen) (t : Turn) → Shows now cache answers.old t → OnOk result (Shows now cache answers.new (noted Idles t)) }
+    ensures { (now : ℕ) (cache : CacheSeen) (t : Transition) → Shows now cache answers.old t → OnOk result (Shows now cache answers.new (noted Idles t)) }
 {
     answers.push(Answer::Note(Entry::Idle))?;
     Ok(())

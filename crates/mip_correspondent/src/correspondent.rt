@@ -3,7 +3,7 @@ ghost use Rattle.std.specs.List.{list_any};
 ghost use Rattle.mip_words.specs.Addresses.{is_routable};
 ghost use Rattle.mip_ipv6.specs.Packet.{packet as tree, is_routable_if_any, names_no_body};
 ghost use Rattle.mip_nonce.specs.Secrets.{cookie_of};
-ghost use Rattle.mip_says.specs.Says.{message_in};
+ghost use Rattle.mip_inspection.specs.Says.{message_in};
 ghost use Rattle.mip_binding.specs.Acceptance.{Acceptance};
 ghost use Rattle.mip_binding.specs.Homes.{shown_rows};
 ghost use Rattle.mip_binding.specs.Held.{held, holds};
@@ -12,23 +12,23 @@ ghost use Rattle.mip_entries.specs.Stamped.{Stamped};
 ghost use Rattle.mip_reception.specs.Refusing.{refuses};
 ghost use Rattle.mip_rules_correspondent.specs.Steps.{Step, answers_of};
 ghost use Rattle.mip_rules_correspondent.specs.Questions.{fresh, held_of, holds_for};
-ghost use Rattle.mip_rules_correspondent.specs.Turns.{Stands, with_turn};
+ghost use Rattle.mip_rules_correspondent.specs.Transitions.{Stands, with_turn};
 ghost use Rattle.mip_rules_correspondent.specs.Rules.{is_data, is_for_part};
 ghost use Rattle.mip_rules_correspondent.specs.Calls as calls;
 ghost use Rattle.mip_rules_correspondent.specs.Seen.{turn_at, called};
 ghost use Rattle.mip_correspondent.specs.Showing.{left, with_kept, Fits};
 
-use crate::kept::Kept;
+use crate::accepted_binding::AcceptedBinding;
+use crate::packet_context::PacketContext;
 use crate::part::answer_message;
-use crate::receipt::Receipt;
 use crate::receiving::receive;
 use crate::sending::{ask_refresh, send_data};
 use mip_bcache::{AcceptFault, Cache, Row};
 use mip_entries::Answers;
+use mip_inspection::message_in;
 use mip_ipv6::PacketRef;
 use mip_nonce::Secrets;
 use mip_rules_correspondent::{Identity, Known};
-use mip_says::message_in;
 use mip_words::{Address, Cookie, Memory, Moment, Shield};
 use std::alloc::Global;
 use std::marker::Model;
@@ -126,7 +126,7 @@ impl Correspondent {
 
     /// A call at this moment ends, and an update that was accepted has its row.
     #[tactic(auto, using(crate::proofs::Rows::kept_sound))]
-    fn commit_call(&mut self, now: Moment, kept: Option<Kept>)
+    fn commit_call(&mut self, now: Moment, kept: Option<AcceptedBinding>)
         requires later { self.old.known.last.0 ≤ now.0 }
         requires early { now.0 < 2 ^ 62 }
         requires fits { Fits now.0 self.old.known.cache kept }
@@ -159,13 +159,13 @@ impl Correspondent {
         ensures err { OnErr result (self.new ≡ self.old) }
     {
         let mut answers = Answers::new(alloc)?;
-        let receipt = Receipt {
+        let context = PacketContext {
             identity: &self.identity,
             cache: &self.known.cache,
             moment: now,
             number,
         };
-        let kept = receive(alloc, &mut answers, &receipt, packet)?;
+        let kept = receive(alloc, &mut answers, &context, packet)?;
         self.commit_call(now, kept);
         Ok(answers)
     }
@@ -192,14 +192,14 @@ impl Correspondent {
         ensures err { OnErr result (self.new ≡ self.old) }
     {
         let mut answers = Answers::new(alloc)?;
-        let receipt = Receipt {
+        let context = PacketContext {
             identity: &self.identity,
             cache: &self.known.cache,
             moment: now,
             number,
         };
         let message = message_in(packet);
-        let kept = answer_message(alloc, &mut answers, &receipt, packet, &message)?;
+        let kept = answer_message(alloc, &mut answers, &context, packet, &message)?;
         self.commit_call(now, kept);
         Ok(answers)
     }
@@ -273,7 +273,7 @@ impl Correspondent {
 }
 
 /// An update that was accepted has its row.
-fn keep(cache: &mut Cache, now: Moment, kept: Option<Kept>)
+fn keep(cache: &mut Cache, now: Moment, kept: Option<AcceptedBinding>)
     requires later { cache.old.last ≤ now.0 }
     requires early { now.0 < 2 ^ 62 }
     requires numbers { 0 < cache.old.numbers }

@@ -2,11 +2,11 @@
 //! nodes, hands data up, and sends data on the direct way.
 #![tactic(auto)]
 
+mod accepted_binding;
 mod answering;
 mod correspondent;
-mod kept;
+mod packet_context;
 mod part;
-mod receipt;
 mod receiving;
 mod sending;
 mod test_init;

@@ -3,16 +3,16 @@
 ghost use Rattle.std.specs.Prelude.{◌≡◌, ◌≤◌, ◌<◌, ◌^◌, IfOk, OnOk, IsTrue, IsFalse, Some, option_map};
 ghost use Rattle.mip_ipv6.specs.Packet.{packet as tree, is_routable_if_any};
 ghost use Rattle.mip_mobhdr.specs.Said.{said};
-ghost use Rattle.mip_says.specs.Updates.{IsReadUpdate};
+ghost use Rattle.mip_inspection.specs.Updates.{IsReadUpdate};
 ghost use Rattle.mip_bcache.specs.Seen.{CacheSeen};
 ghost use Rattle.mip_reception.specs.Checks.{is_probe};
-ghost use Rattle.mip_rules_correspondent.specs.Turns.{Turn};
+ghost use Rattle.mip_rules_correspondent.specs.Transitions.{Transition};
 ghost use Rattle.mip_rules_correspondent.specs.Rules.{hands_up, is_data, is_for_part, by_message};
 ghost use Rattle.mip_correspondent.specs.Showing.{Shows, with_kept, Fits};
 
+use crate::accepted_binding::AcceptedBinding;
 use crate::answering::hand_up;
-use crate::kept::Kept;
-use crate::receipt::Receipt;
+use crate::packet_context::PacketContext;
 use crate::test_init::{answer_careof_init, answer_home_init};
 use crate::update::take_update;
 use mip_constants::protocol::{ICMPV6, IPV6, MOBILITY_HEADER, NO_NEXT_HEADER};
@@ -47,16 +47,16 @@ pub fn is_for_part(proto: u8, message: &Option<Message<'_>>) -> bool
 fn hand_up_data(
     alloc: Global,
     answers: &mut Answers,
-    receipt: &Receipt<'_>,
+    context: &PacketContext<'_>,
     packet: &PacketRef<'_>,
 ) -> Result<(), Memory>
-    ensures { (cache : CacheSeen) (t : Turn) → Shows receipt.now.moment.0 cache answers.old t → OnOk result (Shows receipt.now.moment.0 cache answers.new (hands_up receipt.now.number (tree packet.now) t)) }
+    ensures { (cache : CacheSeen) (t : Transition) → Shows context.now.moment.0 cache answers.old t → OnOk result (Shows context.now.moment.0 cache answers.new (hands_up context.now.number (tree packet.now) t)) }
 {
     let head = packet.head;
     hand_up(
         alloc,
         answers,
-        receipt.number,
+        context.number,
         head.sender(),
         head.receiver(),
         head.proto,
@@ -69,20 +69,20 @@ fn hand_up_data(
 fn answer_update(
     alloc: Global,
     answers: &mut Answers,
-    receipt: &Receipt<'_>,
+    context: &PacketContext<'_>,
     packet: &PacketRef<'_>,
     message: &Message<'_>,
-) -> Result<Option<Kept>, Memory>
-    requires early { receipt.now.moment.0 < 2 ^ 62 }
-    requires later { receipt.now.cache.now.last ≤ receipt.now.moment.0 }
+) -> Result<Option<AcceptedBinding>, Memory>
+    requires early { context.now.moment.0 < 2 ^ 62 }
+    requires later { context.now.cache.now.last ≤ context.now.moment.0 }
     requires plain { IsTrue (is_routable_if_any packet.now.head.home) }
     requires read { IsReadUpdate (Some (said message.now)) packet.now.body.now }
     requires other { IsFalse (is_probe (Some (said message.now))) }
-    ensures fits { IfOk result (Fits receipt.now.moment.0 receipt.now.cache.now) }
-    ensures shows { (t : Turn) → Shows receipt.now.moment.0 receipt.now.cache.now answers.old t → IfOk result (λ kept. Shows receipt.now.moment.0 (with_kept receipt.now.moment.0 kept receipt.now.cache.now) answers.new (by_message receipt.now.identity.now receipt.now.number (tree packet.now) (Some (said message.now)) t)) }
+    ensures fits { IfOk result (Fits context.now.moment.0 context.now.cache.now) }
+    ensures shows { (t : Transition) → Shows context.now.moment.0 context.now.cache.now answers.old t → IfOk result (λ kept. Shows context.now.moment.0 (with_kept context.now.moment.0 kept context.now.cache.now) answers.new (by_message context.now.identity.now context.now.number (tree packet.now) (Some (said message.now)) t)) }
 {
     match registration_of(packet.head.source, packet.head.home, message) {
-        Some(registration) => take_update(alloc, answers, receipt, &registration, packet.body),
+        Some(registration) => take_update(alloc, answers, context, &registration, packet.body),
         None => Ok(None),
     }
 }
@@ -91,27 +91,27 @@ fn answer_update(
 pub fn answer_message(
     alloc: Global,
     answers: &mut Answers,
-    receipt: &Receipt<'_>,
+    context: &PacketContext<'_>,
     packet: &PacketRef<'_>,
     message: &Option<Message<'_>>,
-) -> Result<Option<Kept>, Memory>
-    requires early { receipt.now.moment.0 < 2 ^ 62 }
-    requires later { receipt.now.cache.now.last ≤ receipt.now.moment.0 }
+) -> Result<Option<AcceptedBinding>, Memory>
+    requires early { context.now.moment.0 < 2 ^ 62 }
+    requires later { context.now.cache.now.last ≤ context.now.moment.0 }
     requires plain { IsTrue (is_routable_if_any packet.now.head.home) }
     requires read { IsReadUpdate (option_map said message.now) packet.now.body.now }
-    ensures fits { IfOk result (Fits receipt.now.moment.0 receipt.now.cache.now) }
-    ensures shows { (t : Turn) → Shows receipt.now.moment.0 receipt.now.cache.now answers.old t → IfOk result (λ kept. Shows receipt.now.moment.0 (with_kept receipt.now.moment.0 kept receipt.now.cache.now) answers.new (by_message receipt.now.identity.now receipt.now.number (tree packet.now) (option_map said message.now) t)) }
+    ensures fits { IfOk result (Fits context.now.moment.0 context.now.cache.now) }
+    ensures shows { (t : Transition) → Shows context.now.moment.0 context.now.cache.now answers.old t → IfOk result (λ kept. Shows context.now.moment.0 (with_kept context.now.moment.0 kept context.now.cache.now) answers.new (by_message context.now.identity.now context.now.number (tree packet.now) (option_map said message.now) t)) }
 {
     let source = packet.head.source;
     match message {
-        None => hand_up_data(alloc, answers, receipt, packet)?,
+        None => hand_up_data(alloc, answers, context, packet)?,
         Some(Message::HomeInit { cookie, .. }) => {
-            answer_home_init(alloc, answers, receipt, source, *cookie)?
+            answer_home_init(alloc, answers, context, source, *cookie)?
         }
         Some(Message::CareofInit { cookie, .. }) => {
-            answer_careof_init(alloc, answers, receipt, source, *cookie)?
+            answer_careof_init(alloc, answers, context, source, *cookie)?
         }
-        Some(other) => return answer_update(alloc, answers, receipt, packet, other),
+        Some(other) => return answer_update(alloc, answers, context, packet, other),
     }
     Ok(None)
 }

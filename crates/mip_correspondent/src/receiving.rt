@@ -5,44 +5,44 @@ ghost use Rattle.mip_words.specs.Numbers.{number_at};
 ghost use Rattle.mip_ipv6.specs.Packet.{packet as tree, is_routable_if_any};
 ghost use Rattle.mip_ipv6.specs.Reading.{packet_of};
 ghost use Rattle.mip_mobhdr.specs.Said.{said};
-ghost use Rattle.mip_says.specs.Updates.{IsReadUpdate};
+ghost use Rattle.mip_inspection.specs.Updates.{IsReadUpdate};
 ghost use Rattle.mip_bcache.specs.Seen.{CacheSeen};
-ghost use Rattle.mip_rules_correspondent.specs.Turns.{Turn};
+ghost use Rattle.mip_rules_correspondent.specs.Transitions.{Transition};
 ghost use Rattle.mip_rules_correspondent.specs.Rules.{holds_option, standing_of, refuses, other_why, by_role, place_in, receives};
 ghost use Rattle.mip_correspondent.specs.Showing.{left, Shows, with_kept, Fits};
 
+use crate::accepted_binding::AcceptedBinding;
 use crate::answering::{drop_packet, send};
-use crate::kept::Kept;
+use crate::packet_context::PacketContext;
 use crate::part::{answer_message, is_for_part};
-use crate::receipt::Receipt;
 use mip_constants::protocol::{ICMPV6, NO_NEXT_HEADER};
 use mip_entries::Answers;
 use mip_ipv6::{Head, PacketRef, read_packet};
 use mip_mobhdr::Message;
-use mip_reception::{Refusal, Standing, check, packet_why, write_reply};
+use mip_reception::{AddressMatch, Refusal, check, packet_why, write_reply};
 use mip_words::{Address, Memory, Why, u16_at};
 use std::alloc::Global;
 
 /// Whether a binding from the home address of a Home Address option to the source stands.
-fn holds_option(receipt: &Receipt<'_>, source: Address, home: Option<Address>) -> bool
-    requires { receipt.now.cache.now.last ≤ receipt.now.moment.0 }
-    ensures { result ≡ holds_option (left receipt.now.moment.0 receipt.now.cache.now) receipt.now.moment.0 source home }
+fn holds_option(context: &PacketContext<'_>, source: Address, home: Option<Address>) -> bool
+    requires { context.now.cache.now.last ≤ context.now.moment.0 }
+    ensures { result ≡ holds_option (left context.now.moment.0 context.now.cache.now) context.now.moment.0 source home }
 {
     let Some(home) = home else {
         return false;
     };
-    receipt.cache.holds(receipt.moment, home, source)
+    context.cache.holds(context.moment, home, source)
 }
 
 /// What a packet's addresses are to the node.
-fn standing(receipt: &Receipt<'_>, head: &Head) -> Standing
-    requires { receipt.now.cache.now.last ≤ receipt.now.moment.0 }
-    ensures { result ≡ standing_of receipt.now.identity.now (left receipt.now.moment.0 receipt.now.cache.now) receipt.now.moment.0 head.now }
+fn standing(context: &PacketContext<'_>, head: &Head) -> AddressMatch
+    requires { context.now.cache.now.last ≤ context.now.moment.0 }
+    ensures { result ≡ standing_of context.now.identity.now (left context.now.moment.0 context.now.cache.now) context.now.moment.0 head.now }
 {
-    Standing {
-        is_mine: head.destination.0 == receipt.identity.own.0,
+    AddressMatch {
+        is_mine: head.destination.0 == context.identity.own.0,
         takes_route: false,
-        holds: holds_option(receipt, head.source, head.home),
+        holds: holds_option(context, head.source, head.home),
     }
 }
 
@@ -51,15 +51,15 @@ fn standing(receipt: &Receipt<'_>, head: &Head) -> Standing
 fn refuse(
     alloc: Global,
     answers: &mut Answers,
-    receipt: &Receipt<'_>,
+    context: &PacketContext<'_>,
     bytes: &[u8],
     source: Address,
     refusal: Refusal,
 ) -> Result<(), Memory>
-    ensures { (cache : CacheSeen) (t : Turn) → Shows receipt.now.moment.0 cache answers.old t → OnOk result (Shows receipt.now.moment.0 cache answers.new (refuses receipt.now.identity.now receipt.now.number bytes.now source refusal t)) }
+    ensures { (cache : CacheSeen) (t : Transition) → Shows context.now.moment.0 cache answers.old t → OnOk result (Shows context.now.moment.0 cache answers.new (refuses context.now.identity.now context.now.number bytes.now source refusal t)) }
 {
-    drop_packet(answers, receipt.number, refusal.why)?;
-    match write_reply(alloc, receipt.identity.own, source, bytes, refusal.reply)? {
+    drop_packet(answers, context.number, refusal.why)?;
+    match write_reply(alloc, context.identity.own, source, bytes, refusal.reply)? {
         Some(reply) => send(answers, reply),
         None => Ok(()),
     }
@@ -81,21 +81,21 @@ fn other_why(proto: u8) -> Why
 fn answer_role(
     alloc: Global,
     answers: &mut Answers,
-    receipt: &Receipt<'_>,
+    context: &PacketContext<'_>,
     packet: &PacketRef<'_>,
     message: &Option<Message<'_>>,
-) -> Result<Option<Kept>, Memory>
-    requires early { receipt.now.moment.0 < 2 ^ 62 }
-    requires later { receipt.now.cache.now.last ≤ receipt.now.moment.0 }
+) -> Result<Option<AcceptedBinding>, Memory>
+    requires early { context.now.moment.0 < 2 ^ 62 }
+    requires later { context.now.cache.now.last ≤ context.now.moment.0 }
     requires plain { IsTrue (is_routable_if_any packet.now.head.home) }
     requires read { IsReadUpdate (option_map said message.now) packet.now.body.now }
-    ensures fits { IfOk result (Fits receipt.now.moment.0 receipt.now.cache.now) }
-    ensures shows { (t : Turn) → Shows receipt.now.moment.0 receipt.now.cache.now answers.old t → IfOk result (λ kept. Shows receipt.now.moment.0 (with_kept receipt.now.moment.0 kept receipt.now.cache.now) answers.new (by_role receipt.now.identity.now receipt.now.number (tree packet.now) (option_map said message.now) t)) }
+    ensures fits { IfOk result (Fits context.now.moment.0 context.now.cache.now) }
+    ensures shows { (t : Transition) → Shows context.now.moment.0 context.now.cache.now answers.old t → IfOk result (λ kept. Shows context.now.moment.0 (with_kept context.now.moment.0 kept context.now.cache.now) answers.new (by_role context.now.identity.now context.now.number (tree packet.now) (option_map said message.now) t)) }
 {
     if is_for_part(packet.head.proto, message) {
-        return answer_message(alloc, answers, receipt, packet, message);
+        return answer_message(alloc, answers, context, packet, message);
     }
-    drop_packet(answers, receipt.number, other_why(packet.head.proto))?;
+    drop_packet(answers, context.number, other_why(packet.head.proto))?;
     Ok(None)
 }
 
@@ -103,25 +103,25 @@ fn answer_role(
 fn take_packet(
     alloc: Global,
     answers: &mut Answers,
-    receipt: &Receipt<'_>,
+    context: &PacketContext<'_>,
     bytes: &[u8],
     packet: &PacketRef<'_>,
-) -> Result<Option<Kept>, Memory>
-    requires early { receipt.now.moment.0 < 2 ^ 62 }
-    requires later { receipt.now.cache.now.last ≤ receipt.now.moment.0 }
+) -> Result<Option<AcceptedBinding>, Memory>
+    requires early { context.now.moment.0 < 2 ^ 62 }
+    requires later { context.now.cache.now.last ≤ context.now.moment.0 }
     requires plain { IsTrue (is_routable_if_any packet.now.head.home) }
     requires placed { packet.now.place ≡ place_in bytes.now (tree packet.now) }
     requires near { packet.now.place < 2 ^ 32 - 1 }
     requires read { packet_of bytes.now ≡ Ok (tree packet.now) }
-    ensures fits { IfOk result (Fits receipt.now.moment.0 receipt.now.cache.now) }
-    ensures shows { (t : Turn) → Shows receipt.now.moment.0 receipt.now.cache.now answers.old t → IfOk result (λ kept. Shows receipt.now.moment.0 (with_kept receipt.now.moment.0 kept receipt.now.cache.now) answers.new (receives receipt.now.identity.now receipt.now.number bytes.now (packet_of bytes.now) t)) }
+    ensures fits { IfOk result (Fits context.now.moment.0 context.now.cache.now) }
+    ensures shows { (t : Transition) → Shows context.now.moment.0 context.now.cache.now answers.old t → IfOk result (λ kept. Shows context.now.moment.0 (with_kept context.now.moment.0 kept context.now.cache.now) answers.new (receives context.now.identity.now context.now.number bytes.now (packet_of bytes.now) t)) }
 {
-    match check(packet, standing(receipt, &packet.head)) {
+    match check(packet, standing(context, &packet.head)) {
         Err(refusal) => {
-            refuse(alloc, answers, receipt, bytes, packet.head.source, refusal)?;
+            refuse(alloc, answers, context, bytes, packet.head.source, refusal)?;
             Ok(None)
         }
-        Ok(message) => answer_role(alloc, answers, receipt, packet, &message),
+        Ok(message) => answer_role(alloc, answers, context, packet, &message),
     }
 }
 
@@ -129,19 +129,19 @@ fn take_packet(
 pub fn receive(
     alloc: Global,
     answers: &mut Answers,
-    receipt: &Receipt<'_>,
+    context: &PacketContext<'_>,
     bytes: &[u8],
-) -> Result<Option<Kept>, Memory>
-    requires early { receipt.now.moment.0 < 2 ^ 62 }
-    requires later { receipt.now.cache.now.last ≤ receipt.now.moment.0 }
-    ensures fits { IfOk result (Fits receipt.now.moment.0 receipt.now.cache.now) }
-    ensures shows { (t : Turn) → Shows receipt.now.moment.0 receipt.now.cache.now answers.old t → IfOk result (λ kept. Shows receipt.now.moment.0 (with_kept receipt.now.moment.0 kept receipt.now.cache.now) answers.new (receives receipt.now.identity.now receipt.now.number bytes.now (packet_of bytes.now) t)) }
+) -> Result<Option<AcceptedBinding>, Memory>
+    requires early { context.now.moment.0 < 2 ^ 62 }
+    requires later { context.now.cache.now.last ≤ context.now.moment.0 }
+    ensures fits { IfOk result (Fits context.now.moment.0 context.now.cache.now) }
+    ensures shows { (t : Transition) → Shows context.now.moment.0 context.now.cache.now answers.old t → IfOk result (λ kept. Shows context.now.moment.0 (with_kept context.now.moment.0 kept context.now.cache.now) answers.new (receives context.now.identity.now context.now.number bytes.now (packet_of bytes.now) t)) }
 {
     match read_packet(bytes) {
         Err(fault) => {
-            drop_packet(answers, receipt.number, packet_why(fault))?;
+            drop_packet(answers, context.number, packet_why(fault))?;
             Ok(None)
         }
-        Ok(packet) => take_packet(alloc, answers, receipt, bytes, &packet),
+        Ok(packet) => take_packet(alloc, answers, context, bytes, &packet),
     }
 }

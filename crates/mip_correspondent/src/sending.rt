@@ -5,15 +5,15 @@ ghost use Rattle.mip_ipv6.specs.Packet.{is_plain, names_no_body};
 ghost use Rattle.mip_words.specs.Addresses.{is_routable};
 ghost use Rattle.mip_bcache.specs.Seen.{CacheSeen};
 ghost use Rattle.mip_rules_correspondent.specs.Steps.{Sends};
-ghost use Rattle.mip_rules_correspondent.specs.Turns.{Turn, noted};
+ghost use Rattle.mip_rules_correspondent.specs.Transitions.{Transition, noted};
 ghost use Rattle.mip_rules_correspondent.specs.Doing.{request_refresh, data_sent, data_head};
 ghost use Rattle.mip_correspondent.specs.Showing.{Shows};
 
 use crate::answering::{idle, send};
 use mip_entries::Answers;
 use mip_ipv6::Head;
+use mip_packet_builders::{node_head, straight, write_data_packet, write_refresh};
 use mip_rules_correspondent::Identity;
-use mip_signals::{node_head, straight, write_data_packet, write_refresh};
 use mip_words::{Address, Memory};
 use std::alloc::Global;
 
@@ -26,7 +26,7 @@ pub fn ask_refresh(
     held: Option<Address>,
 ) -> Result<(), Memory>
     requires { IfSome held (λ _. IsTrue (is_routable home.0)) }
-    ensures { (now : ℕ) (cache : CacheSeen) (t : Turn) → Shows now cache answers.old t → OnOk result (Shows now cache answers.new (request_refresh identity.now home held t)) }
+    ensures { (now : ℕ) (cache : CacheSeen) (t : Transition) → Shows now cache answers.old t → OnOk result (Shows now cache answers.new (request_refresh identity.now home held t)) }
 {
     match held {
         None => idle(answers),
@@ -64,7 +64,7 @@ pub fn send_data(
     requires routable { IfSome held (λ _. IsTrue (is_routable to.0)) }
     requires proto { IsFalse (names_no_body proto) }
     requires short { length payload.now ≤ 512 }
-    ensures { (now : ℕ) (cache : CacheSeen) (t : Turn) → Shows now cache answers.old t → OnOk result (Shows now cache answers.new (noted (Sends (data_sent identity.now to proto payload.now held)) t)) }
+    ensures { (now : ℕ) (cache : CacheSeen) (t : Transition) → Shows now cache answers.old t → OnOk result (Shows now cache answers.new (noted (Sends (data_sent identity.now to proto payload.now held)) t)) }
 {
     let head = data_head(identity.own, to, proto, held);
     let packet = write_data_packet(alloc, &head, payload)?;

@@ -2,16 +2,16 @@
 
 ghost use Rattle.std.specs.Prelude.{◌≡◌, IfOk, OnOk};
 ghost use Rattle.mip_bcache.specs.Seen.{CacheSeen};
-ghost use Rattle.mip_rules_correspondent.specs.Turns.{Turn};
+ghost use Rattle.mip_rules_correspondent.specs.Transitions.{Transition};
 ghost use Rattle.mip_rules_correspondent.specs.Rules.{home_test, careof_test, answers_home_init, answers_careof_init};
 ghost use Rattle.mip_correspondent.specs.Showing.{Shows};
 
 use crate::answering::{index_of, send};
-use crate::receipt::Receipt;
+use crate::packet_context::PacketContext;
 use mip_entries::Answers;
 use mip_nonce::current;
+use mip_packet_builders::{write_careof_test, write_home_test};
 use mip_rules_correspondent::Identity;
-use mip_signals::{write_careof_test, write_home_test};
 use mip_tokens::{careof_token, home_token};
 use mip_words::{Address, Bytes, Cookie, Memory, Moment};
 use std::alloc::Global;
@@ -52,13 +52,13 @@ fn careof_test(
 pub fn answer_home_init(
     alloc: Global,
     answers: &mut Answers,
-    receipt: &Receipt<'_>,
+    context: &PacketContext<'_>,
     source: Address,
     cookie: Cookie,
 ) -> Result<(), Memory>
-    ensures { (cache : CacheSeen) (t : Turn) → Shows receipt.now.moment.0 cache answers.old t → OnOk result (Shows receipt.now.moment.0 cache answers.new (answers_home_init receipt.now.identity.now source cookie.0 t)) }
+    ensures { (cache : CacheSeen) (t : Transition) → Shows context.now.moment.0 cache answers.old t → OnOk result (Shows context.now.moment.0 cache answers.new (answers_home_init context.now.identity.now source cookie.0 t)) }
 {
-    let test = home_test(alloc, receipt.identity, receipt.moment, source, cookie)?;
+    let test = home_test(alloc, context.identity, context.moment, source, cookie)?;
     send(answers, test)
 }
 
@@ -67,12 +67,12 @@ pub fn answer_home_init(
 pub fn answer_careof_init(
     alloc: Global,
     answers: &mut Answers,
-    receipt: &Receipt<'_>,
+    context: &PacketContext<'_>,
     source: Address,
     cookie: Cookie,
 ) -> Result<(), Memory>
-    ensures { (cache : CacheSeen) (t : Turn) → Shows receipt.now.moment.0 cache answers.old t → OnOk result (Shows receipt.now.moment.0 cache answers.new (answers_careof_init receipt.now.identity.now source cookie.0 t)) }
+    ensures { (cache : CacheSeen) (t : Transition) → Shows context.now.moment.0 cache answers.old t → OnOk result (Shows context.now.moment.0 cache answers.new (answers_careof_init context.now.identity.now source cookie.0 t)) }
 {
-    let test = careof_test(alloc, receipt.identity, receipt.moment, source, cookie)?;
+    let test = careof_test(alloc, context.identity, context.moment, source, cookie)?;
     send(answers, test)
 }

@@ -3,15 +3,15 @@
 ghost use Rattle.std.specs.Prelude.{◌≡◌, ◌≤◌, ◌<◌, ◌^◌, Some, IfOk, OnOk, IsTrue, option_copied};
 ghost use Rattle.mip_ipv6.specs.Packet.{is_routable_if_any};
 ghost use Rattle.mip_bcache.specs.Seen.{CacheSeen, with_acceptance};
-ghost use Rattle.mip_rules_correspondent.specs.Turns.{Turn};
+ghost use Rattle.mip_rules_correspondent.specs.Transitions.{Transition};
 ghost use Rattle.mip_updates.specs.Registrations.{registration_in};
 ghost use Rattle.mip_rules_correspondent.specs.Rules.{denies, acknowledges, accepts, judged, takes_update};
 ghost use Rattle.mip_verdict.specs.Judging.{key_in};
 ghost use Rattle.mip_correspondent.specs.Showing.{Shows, with_kept, kept_of, Fits};
 
+use crate::accepted_binding::AcceptedBinding;
 use crate::answering::{drop_packet, note_acceptance, note_denial, send};
-use crate::kept::Kept;
-use crate::receipt::Receipt;
+use crate::packet_context::PacketContext;
 use mip_entries::Answers;
 use mip_rules_correspondent::Verdict;
 use mip_tokens::PreparedKbm;
@@ -25,17 +25,17 @@ use std::alloc::Global;
 fn deny(
     alloc: Global,
     answers: &mut Answers,
-    receipt: &Receipt<'_>,
+    context: &PacketContext<'_>,
     registration: &Registration,
     status: u8,
     last: u16,
     kbm: Option<&PreparedKbm>,
 ) -> Result<(), Memory>
     requires { IsTrue (is_routable_if_any registration.now.home_option) }
-    ensures { (cache : CacheSeen) (t : Turn) → Shows receipt.now.moment.0 cache answers.old t → OnOk result (Shows receipt.now.moment.0 cache answers.new (denies receipt.now.identity.now receipt.now.number registration.now status last (option_copied kbm.entry) t)) }
+    ensures { (cache : CacheSeen) (t : Transition) → Shows context.now.moment.0 cache answers.old t → OnOk result (Shows context.now.moment.0 cache answers.new (denies context.now.identity.now context.now.number registration.now status last (option_copied kbm.entry) t)) }
 {
-    let own = receipt.identity.own;
-    note_denial(answers, receipt.number, status)?;
+    let own = context.identity.own;
+    note_denial(answers, context.number, status)?;
     let ack = write_ack(alloc, own, registration, status, last, 0, kbm)?;
     send(answers, ack)
 }
@@ -44,18 +44,18 @@ fn deny(
 fn acknowledge(
     alloc: Global,
     answers: &mut Answers,
-    receipt: &Receipt<'_>,
+    context: &PacketContext<'_>,
     registration: &Registration,
     granted: u16,
     kbm: &PreparedKbm,
 ) -> Result<(), Memory>
     requires { IsTrue (is_routable_if_any registration.now.home_option) }
-    ensures { (cache : CacheSeen) (t : Turn) → Shows receipt.now.moment.0 cache answers.old t → OnOk result (Shows receipt.now.moment.0 cache answers.new (acknowledges receipt.now.identity.now registration.now granted kbm.now t)) }
+    ensures { (cache : CacheSeen) (t : Transition) → Shows context.now.moment.0 cache answers.old t → OnOk result (Shows context.now.moment.0 cache answers.new (acknowledges context.now.identity.now registration.now granted kbm.now t)) }
 {
     if !registration.ack {
         return Ok(());
     }
-    let own = receipt.identity.own;
+    let own = context.identity.own;
     let ack = write_ack(
         alloc,
         own,
@@ -73,40 +73,40 @@ fn acknowledge(
 fn accept(
     alloc: Global,
     answers: &mut Answers,
-    receipt: &Receipt<'_>,
+    context: &PacketContext<'_>,
     registration: &Registration,
-    kept: &Kept,
+    kept: &AcceptedBinding,
     granted: u16,
     kbm: &PreparedKbm,
 ) -> Result<(), Memory>
     requires { IsTrue (is_routable_if_any registration.now.home_option) }
-    ensures { (cache : CacheSeen) (t : Turn) → Shows receipt.now.moment.0 cache answers.old t → OnOk result (Shows receipt.now.moment.0 (with_acceptance receipt.now.moment.0 kept.now.home kept.now.number kept.now.accepted cache) answers.new (accepts receipt.now.identity.now receipt.now.number registration.now kept.now.home kept.now.number kept.now.accepted granted kbm.now t)) }
+    ensures { (cache : CacheSeen) (t : Transition) → Shows context.now.moment.0 cache answers.old t → OnOk result (Shows context.now.moment.0 (with_acceptance context.now.moment.0 kept.now.home kept.now.number kept.now.accepted cache) answers.new (accepts context.now.identity.now context.now.number registration.now kept.now.home kept.now.number kept.now.accepted granted kbm.now t)) }
 {
-    note_acceptance(answers, receipt.number, kept)?;
-    acknowledge(alloc, answers, receipt, registration, granted, kbm)
+    note_acceptance(answers, context.number, kept)?;
+    acknowledge(alloc, answers, context, registration, granted, kbm)
 }
 
 /// What follows from a verdict, and the key that it names.
 fn carry_out(
     alloc: Global,
     answers: &mut Answers,
-    receipt: &Receipt<'_>,
+    context: &PacketContext<'_>,
     registration: &Registration,
     verdict: Verdict,
     kbm: Option<&PreparedKbm>,
-) -> Result<Option<Kept>, Memory>
+) -> Result<Option<AcceptedBinding>, Memory>
     requires plain { IsTrue (is_routable_if_any registration.now.home_option) }
     requires key { option_copied kbm ≡ key_in verdict }
     ensures kept { IfOk result (λ kept. kept ≡ kept_of verdict) }
-    ensures shows { (cache : CacheSeen) (t : Turn) → Shows receipt.now.moment.0 cache answers.old t → IfOk result (λ kept. Shows receipt.now.moment.0 (with_kept receipt.now.moment.0 kept cache) answers.new (judged receipt.now.identity.now receipt.now.number registration.now verdict t)) }
+    ensures shows { (cache : CacheSeen) (t : Transition) → Shows context.now.moment.0 cache answers.old t → IfOk result (λ kept. Shows context.now.moment.0 (with_kept context.now.moment.0 kept cache) answers.new (judged context.now.identity.now context.now.number registration.now verdict t)) }
 {
     match verdict {
         Verdict::Refuse(why) => {
-            drop_packet(answers, receipt.number, why)?;
+            drop_packet(answers, context.number, why)?;
             Ok(None)
         }
         Verdict::Deny { status, last, .. } => {
-            deny(alloc, answers, receipt, registration, status, last, kbm)?;
+            deny(alloc, answers, context, registration, status, last, kbm)?;
             Ok(None)
         }
         Verdict::Accept {
@@ -119,12 +119,12 @@ fn carry_out(
             let Some(kbm) = kbm else {
                 unreachable!();
             };
-            let kept = Kept {
+            let kept = AcceptedBinding {
                 home,
                 number,
                 accepted,
             };
-            accept(alloc, answers, receipt, registration, &kept, granted, kbm)?;
+            accept(alloc, answers, context, registration, &kept, granted, kbm)?;
             Ok(Some(kept))
         }
     }
@@ -135,26 +135,26 @@ fn carry_out(
 pub fn take_update(
     alloc: Global,
     answers: &mut Answers,
-    receipt: &Receipt<'_>,
+    context: &PacketContext<'_>,
     registration: &Registration,
     message: &[u8],
-) -> Result<Option<Kept>, Memory>
-    requires early { receipt.now.moment.0 < 2 ^ 62 }
-    requires later { receipt.now.cache.now.last ≤ receipt.now.moment.0 }
+) -> Result<Option<AcceptedBinding>, Memory>
+    requires early { context.now.moment.0 < 2 ^ 62 }
+    requires later { context.now.cache.now.last ≤ context.now.moment.0 }
     requires plain { IsTrue (is_routable_if_any registration.now.home_option) }
     requires read { registration_in registration.now.source registration.now.home_option message.now ≡ Some registration.now }
-    ensures fits { IfOk result (Fits receipt.now.moment.0 receipt.now.cache.now) }
-    ensures shows { (t : Turn) → Shows receipt.now.moment.0 receipt.now.cache.now answers.old t → IfOk result (λ kept. Shows receipt.now.moment.0 (with_kept receipt.now.moment.0 kept receipt.now.cache.now) answers.new (takes_update receipt.now.identity.now receipt.now.number registration.now message.now t)) }
+    ensures fits { IfOk result (Fits context.now.moment.0 context.now.cache.now) }
+    ensures shows { (t : Transition) → Shows context.now.moment.0 context.now.cache.now answers.old t → IfOk result (λ kept. Shows context.now.moment.0 (with_kept context.now.moment.0 kept context.now.cache.now) answers.new (takes_update context.now.identity.now context.now.number registration.now message.now t)) }
 {
-    let identity = receipt.identity;
+    let identity = context.identity;
     let judged = verdict(
-        receipt.moment,
+        context.moment,
         &identity.secrets,
-        receipt.cache,
+        context.cache,
         identity.own,
         registration,
         message,
     );
     let kbm = judged.kbm.as_ref();
-    carry_out(alloc, answers, receipt, registration, judged.verdict, kbm)
+    carry_out(alloc, answers, context, registration, judged.verdict, kbm)
 }

@@ -20,8 +20,8 @@ use Rattle.mip_tunnel.specs.Tunnel.{hop_of, encapsulated}
 use Rattle.mip_reception.specs.declared.refusal.Refusal.{Refusal}
 use Rattle.mip_reception.specs.Checks.{checked}
 use Rattle.mip_reception.specs.Replies.{reply_packet}
-use Rattle.mip_turns.proofs.ShowLaws.{answers-noted}
-use Rattle.mip_turns.proofs.TurnLaws.{noted-known}
+use Rattle.mip_transitions.proofs.ShowLaws.{answers-noted}
+use Rattle.mip_transitions.proofs.TurnLaws.{noted-known}
 use Rattle.mip_updates.specs.declared.registration.Registration.{Registration}
 use Rattle.mip_updates.specs.Registrations.{registration, home_of, deletes}
 use Rattle.mip_rules_agent.specs.declared.identity.Identity.{Identity}
@@ -37,7 +37,7 @@ use Rattle.mip_rules_agent.specs.Calls.{Call}
 use Rattle.mip_rules_agent.specs.Steps.{Step, Called, Sends, Registers, Claims, Releases, Denies, Drops, Rang, answer_of, answers_of}
 use Rattle.mip_binding.specs.Rows.{find_by}
 use Rattle.mip_rules_agent.specs.Questions.{key_of, place_of, without_end, with_end, careof_at, holds, is_served, if_standing, row_if, rows_at, due_ends, after}
-use Rattle.mip_rules_agent.specs.Turns.{Turn, begun, noted}
+use Rattle.mip_rules_agent.specs.Transitions.{Transition, begun, noted}
 use Rattle.mip_rules_agent.specs.Verdicts.{is_from, verdict, binding_for}
 use Rattle.mip_rules_agent.specs.Rules.{Handing, shield_for, intercepts, is_careof, opens, takes_tunnel, bench, claim_with, acknowledges, denies, claims_if, answers_if, accepts, judged, takes_update, names_agents, advertises, answers_solicitation, takes_icmp, by_proto, by_role, replies, refuses, standing_of, after_checks, place_in, by_destination, receives}
 use Rattle.mip_rules_agent.specs.Doing.{takes, releases_all, ticks, advertises_all, plans, does, turn_of}
@@ -96,7 +96,7 @@ module _ (g : ℕ) (own : Address) where
   ends_after_fine k at _ fine none = none
 
   -- what a turn has answered and knows
-  pub record IsGood (t : Turn) : Type 0 where
+  pub record IsGood (t : Transition) : Type 0 where
     pub answers : AllByRecursion (MayAnswer may g) (answers_of t.steps)
     pub apart : IsApart t.known
 
@@ -110,7 +110,7 @@ module _ (g : ℕ) (own : Address) where
   fine_answers (Drops number why) fine = (tt, tt)
   fine_answers Rang fine = tt
 
-  more : (step : Step) (t : Turn) → IsFine step → IsGood t → IsGood (noted step t)
+  more : (step : Step) (t : Transition) → IsFine step → IsGood t → IsGood (noted step t)
   more step t fine good =
       let a = good.apart in
       record {
@@ -120,43 +120,43 @@ module _ (g : ℕ) (own : Address) where
         apart = subst IsApart (sym (noted-known after step t)) (record { unserved = served-same own t.known t.now step ∙ a.unserved; ends = ends_after_fine t.known t.now step fine a.ends });
       }
 
-  either : (b : Bool) (x y : Turn) → IsGood x → IsGood y → IsGood (if b then x else y)
+  either : (b : Bool) (x y : Transition) → IsGood x → IsGood y → IsGood (if b then x else y)
   either true x y p q = p
   either false x y p q = q
 
   -- over a packet that is handed over
   module _ (h : Handing) (known_apart : IsApart h.known) where
-    dropped : (why : Why) (t : Turn) → IsGood t → IsGood (noted (Drops h.number why) t)
+    dropped : (why : Why) (t : Transition) → IsGood t → IsGood (noted (Drops h.number why) t)
     dropped why t p = more (Drops h.number why) t tt p
 
-    caught : (home careof : Address) (proto : ℕ) (t : Turn) → IsGood t → IsGood (intercepts h home careof proto t)
+    caught : (home careof : Address) (proto : ℕ) (t : Transition) → IsGood t → IsGood (intercepts h home careof proto t)
     unfolding intercepts
     caught home careof proto t p =
         either (nat_lt (hop_of h.bytes) 2) _ _ (dropped whys.Hop t p)
         (either (nat_lt 65535 (length h.bytes)) _ _ (dropped whys.Size t p) (more (Sends (shield_for h.me.own home proto) (encapsulated h.me.own careof h.bytes)) t tt p))
 
-    opened : (outer : Packet) (r : Result Packet NotPacket) (t : Turn) → IsGood t → IsGood (opens h outer r t)
+    opened : (outer : Packet) (r : Result Packet NotPacket) (t : Transition) → IsGood t → IsGood (opens h outer r t)
     opened outer (Err fault) t p = dropped _ t p
     opened outer (Ok q) t p =
         either (not (is_careof h.known h.now q.head.source outer.head.source)) _ _ (dropped whys.Entry t p)
         (either (q.head.destination.0 == h.me.own.0) _ _ (dropped whys.Nested t p)
         (either ((q.head.proto == 135) && not (is_from q.head.source h.shield)) _ _ (dropped whys.Unshielded t p) (more (Sends None outer.body) t tt p)))
 
-    tunnelled : (outer : Packet) (t : Turn) → IsGood t → IsGood (takes_tunnel h outer t)
+    tunnelled : (outer : Packet) (t : Transition) → IsGood t → IsGood (takes_tunnel h outer t)
     unfolding takes_tunnel
     tunnelled outer t p = opened outer (packet_of outer.body) t p
 
-    acknowledged : (r : Registration) (status sequence lifetime : ℕ) (t : Turn) → IsGood t → IsGood (acknowledges h.me r status sequence lifetime t)
+    acknowledged : (r : Registration) (status sequence lifetime : ℕ) (t : Transition) → IsGood t → IsGood (acknowledges h.me r status sequence lifetime t)
     unfolding acknowledges
     acknowledged r status sequence lifetime t p = more (Sends _ _) t tt p
 
-    claimed : (held ends : Bool) (home : Address) (t : Turn) → home.0 ≢ own.0 → IsGood t → IsGood (claims_if held ends home t)
+    claimed : (held ends : Bool) (home : Address) (t : Transition) → home.0 ≢ own.0 → IsGood t → IsGood (claims_if held ends home t)
     claimed true true home t other p = more (Releases home) t other p
     claimed true false home t other p = p
     claimed false true home t other p = p
     claimed false false home t other p = more (Claims home) t tt p
 
-    answered : (ack : Bool) (r : Registration) (granted : ℕ) (t : Turn) → IsGood t → IsGood (answers_if ack h.me r granted t)
+    answered : (ack : Bool) (r : Registration) (granted : ℕ) (t : Transition) → IsGood t → IsGood (answers_if ack h.me r granted t)
     answered true r granted t p = acknowledged r 0 r.sequence granted t p
     answered false r granted t p = p
 
@@ -169,7 +169,7 @@ module _ (g : ℕ) (own : Address) where
         let one : own ≡ home_of r = ap (λ (n : ℕ). let a : Address = record { 0 = n } in a) (sym same) ∙ s.of_home in
         absurd (let both : true ≡ false = sym fit.served ∙ ap (is_served h.known) (sym one) ∙ known_apart.unserved in cc)
 
-    decided : (r : Registration) (v : HomeVerdict) → verdict (bench h.me h.known h.now r) h.shield (claim_with (holds h.known (home_of r)) h.claim) r ≡ v → (t : Turn) → IsGood t
+    decided : (r : Registration) (v : HomeVerdict) → verdict (bench h.me h.known h.now r) h.shield (claim_with (holds h.known (home_of r)) h.claim) r ≡ v → (t : Transition) → IsGood t
         → IsGood (judged h r (holds h.known (home_of r)) v t)
     unfolding denies accepts
     decided r (Refuse why) is t p = dropped why t p
@@ -179,16 +179,16 @@ module _ (g : ℕ) (own : Address) where
         let other = served r home careof sequence granted is in
         answered r.ack r granted (claims_if (holds h.known (home_of r)) (deletes r) home (noted step t)) (claimed (holds h.known (home_of r)) (deletes r) home (noted step t) other (more step t other p))
 
-    updated : (r : Registration) (t : Turn) → IsGood t → IsGood (takes_update h r t)
+    updated : (r : Registration) (t : Transition) → IsGood t → IsGood (takes_update h r t)
     unfolding takes_update
     updated r t p = decided r _ refl t p
 
-    solicited : (home : Address) (identifier : ℕ) (careof : Option Address) (t : Turn) → IsGood t → IsGood (answers_solicitation h home identifier careof t)
+    solicited : (home : Address) (identifier : ℕ) (careof : Option Address) (t : Transition) → IsGood t → IsGood (answers_solicitation h home identifier careof t)
     unfolding advertises
     solicited home identifier None t p = dropped _ t p
     solicited home identifier (Some careof) t p = either _ _ _ (more (Sends _ _) t tt p) (dropped _ t p)
 
-    icmp_taken : (packet : Packet) (r : Result icmp.Said IcmpFault) (t : Turn) → IsGood t → IsGood (takes_icmp h packet r t)
+    icmp_taken : (packet : Packet) (r : Result icmp.Said IcmpFault) (t : Transition) → IsGood t → IsGood (takes_icmp h packet r t)
     unfolding names_agents
     icmp_taken packet (Ok (icmp.DiscoverAsk identifier)) t p = more (Sends _ _) t tt p
     icmp_taken packet (Ok (icmp.PrefixAsk identifier)) t p = solicited (source_of packet.head) identifier (careof_at h.known h.now (source_of packet.head)) t p
@@ -198,11 +198,11 @@ module _ (g : ℕ) (own : Address) where
     icmp_taken packet (Ok (icmp.PrefixReply identifier options)) t p = dropped _ t p
     icmp_taken packet (Err fault) t p = dropped _ t p
 
-    proto_taken : (packet : Packet) (t : Turn) → IsGood t → IsGood (by_proto h packet t)
+    proto_taken : (packet : Packet) (t : Transition) → IsGood t → IsGood (by_proto h packet t)
     proto_taken packet t p =
         either _ _ _ (tunnelled packet t p) (either _ _ _ (icmp_taken packet (icmp_of (source_of packet.head) (destination_of packet.head) packet.body) t p) (dropped _ t p))
 
-    role_taken : (packet : Packet) (message : Option Said) (t : Turn) → IsGood t → IsGood (by_role h packet message t)
+    role_taken : (packet : Packet) (message : Option Said) (t : Transition) → IsGood t → IsGood (by_role h packet message t)
     role_taken packet None t p = proto_taken packet t p
     role_taken packet (Some (Update s a f l k t' o)) t p = updated (registration packet.head.source packet.head.home s a f t' o) t p
     role_taken packet (Some (Refresh options)) t p = dropped _ t p
@@ -213,44 +213,44 @@ module _ (g : ℕ) (own : Address) where
     role_taken packet (Some (Acknowledgement s k q t' o)) t p = dropped _ t p
     role_taken packet (Some (Error status home options)) t p = dropped _ t p
 
-    replied : (reply : Option (List ℕ)) (t : Turn) → IsGood t → IsGood (replies reply t)
+    replied : (reply : Option (List ℕ)) (t : Transition) → IsGood t → IsGood (replies reply t)
     replied None t p = p
     replied (Some packet) t p = more (Sends None packet) t tt p
 
-    check_taken : (packet : Packet) (r : Result (Option Said) Refusal) (t : Turn) → IsGood t → IsGood (after_checks h packet r t)
+    check_taken : (packet : Packet) (r : Result (Option Said) Refusal) (t : Transition) → IsGood t → IsGood (after_checks h packet r t)
     unfolding refuses
     check_taken packet (Err refusal) t p = replied (reply_packet h.me.own packet.head.source h.bytes refusal.reply) (noted (Drops h.number refusal.why) t) (dropped refusal.why t p)
     check_taken packet (Ok message) t p = role_taken packet message t p
 
-    destination_taken : (packet : Packet) (careof : Option Address) (t : Turn) → IsGood t → IsGood (by_destination h packet careof t)
+    destination_taken : (packet : Packet) (careof : Option Address) (t : Transition) → IsGood t → IsGood (by_destination h packet careof t)
     destination_taken packet (Some careof) t p = caught packet.head.destination careof packet.head.proto t p
     destination_taken packet None t p = check_taken packet (checked (standing_of h.me h.known h.now packet.head) (place_in h.bytes packet) packet) t p
 
-    receipt_taken : (r : Result Packet NotPacket) (t : Turn) → IsGood t → IsGood (receives h r t)
+    receipt_taken : (r : Result Packet NotPacket) (t : Transition) → IsGood t → IsGood (receives h r t)
     receipt_taken (Err fault) t p = dropped _ t p
     receipt_taken (Ok packet) t p = destination_taken packet (careof_at h.known h.now packet.head.destination) t p
 
-    taken : (t : Turn) → IsGood t → IsGood (takes h t)
+    taken : (t : Transition) → IsGood t → IsGood (takes h t)
     unfolding takes
     taken t p = receipt_taken (packet_of h.bytes) t p
 
-  released : (es : List Ending) (t : Turn) → list_any is_end_of es ≡ false → IsGood t → IsGood (releases_all es t)
+  released : (es : List Ending) (t : Transition) → list_any is_end_of es ≡ false → IsGood t → IsGood (releases_all es t)
   released [] t none p = p
   released (e ∷ es) t none p =
       let parts = or_parts (is_end_of e) (list_any is_end_of es) none in released es (noted (Releases e.home) t) parts.1 (more (Releases e.home) t (eqb-false e.home.0 own.0 parts.0) p)
 
-  ticked : (t : Turn) → IsGood t → IsGood (ticks t)
+  ticked : (t : Transition) → IsGood t → IsGood (ticks t)
   unfolding ticks
   ticked t p =
       let a = p.apart in
       more Rang (releases_all (due_ends t.now t.known.ends) t) tt (released (due_ends t.now t.known.ends) t (none_kept _ t.known.ends a.ends) p)
 
-  advertised : (me : Address) (k : Known) (now : ℕ) (rows : List HomeRow) (t : Turn) → IsGood t → IsGood (advertises_all me k now rows t)
+  advertised : (me : Address) (k : Known) (now : ℕ) (rows : List HomeRow) (t : Transition) → IsGood t → IsGood (advertises_all me k now rows t)
   unfolding advertises
   advertised me k now [] t p = p
   advertised me k now (r ∷ rows) t p = advertised me k now rows _ (more (Sends _ _) t tt p)
 
-  planned : (me : Identity) (t : Turn) → IsGood t → IsGood (plans me t)
+  planned : (me : Identity) (t : Transition) → IsGood t → IsGood (plans me t)
   unfolding plans
   planned me t p = advertised me.own t.known t.now (rows_at t.now t.known.homes) t p
 

@@ -12,8 +12,8 @@ use Rattle.mip_entries.specs.declared.entry.Entry.TheVariants as entries
 use Rattle.mip_entries.specs.Stamped.{Stamped}
 use Rattle.mip_links.specs.Table.{link_from, link_of}
 use Rattle.mip_rules_agent.specs.Rules.{anycast_of}
-use Rattle.mip_rules_mobile.specs.declared.standing.Standing.{Standing}
-use Rattle.mip_rules_mobile.specs.declared.standing.Standing.TheVariants.{AtHome, Away}
+use Rattle.mip_rules_mobile.specs.declared.attachment.Attachment.{Attachment}
+use Rattle.mip_rules_mobile.specs.declared.attachment.Attachment.TheVariants.{AtHome, Away}
 use Rattle.mip_rules_mobile.specs.Known.{Known}
 use Rattle.mip_rules_mobile.specs.Steps.{Step, Arrives, FindsTaken, Detaches}
 use Rattle.mip_rules_mobile.specs.HomeQuestions.{home_of, standing_at, standing_said}
@@ -128,7 +128,7 @@ in_range s orderly a on =
     omega (arith, below)
 
 -- a mobile that is away uses another address than its home address
-abbrev pub IsAbroad : Address → Standing → Type 0
+abbrev pub IsAbroad : Address → Attachment → Type 0
 IsAbroad home (Away careof) = (careof.0 == home.0) ≡ false
 IsAbroad home _ = Unit {0}
 
@@ -139,7 +139,7 @@ abroad_at home address = by (address.0 == home.0) refl
     by true is = tt
     by false is = is
 
-abroad_step : (home : Address) (st : Standing) (step : Step) → IsAbroad home st → IsAbroad home (unwrap_or (standing_said home step) st)
+abroad_step : (home : Address) (st : Attachment) (step : Step) → IsAbroad home st → IsAbroad home (unwrap_or (standing_said home step) st)
 abroad_step home st (Arrives address) old = abroad_at home address
 abroad_step home st (FindsTaken address holder) old = tt
 abroad_step home st Detaches old = tt

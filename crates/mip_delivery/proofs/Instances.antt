@@ -7,10 +7,10 @@ use Rattle.mip_ipv6.specs.Reading.{packet_of}
 use Rattle.mip_ipv6.specs.Spelling.{first_number, second_number, behind_bytes, fixed_bytes, packet_bytes}
 use Rattle.mip_ipv6.proofs.Canonical.{packet_back, length_fixed, length_behind, length_routing, length_options}
 use Rattle.mip_nonce.specs.Secrets.{Life}
-use Rattle.mip_signals.specs.Packets.{straight}
+use Rattle.mip_packet_builders.specs.Packets.{straight}
 use Rattle.mip_tunnel.specs.Tunnel.{lowered_packet, lowered_if_read, tunnel_packet, encapsulated}
 use Rattle.mip_tunnel.proofs.Tunnels.{packet_of_lowered, packet_of_encapsulated, opened_tunnel}
-use Rattle.mip_reception.specs.declared.standing.Standing.{Standing}
+use Rattle.mip_reception.specs.declared.address_match.AddressMatch.{AddressMatch}
 use Rattle.mip_reception.specs.Checks.{checked}
 use Rattle.mip_rules_correspondent.specs.Questions as correspondents
 use Rattle.mip_rules_correspondent.specs.Rules.{standing_of, place_in}
@@ -19,7 +19,7 @@ use Rattle.mip_rules_agent.specs.Known as agents
 use Rattle.mip_rules_agent.specs.Questions.{careof_at}
 use Rattle.mip_rules_agent.specs.Rules as agent_rules
 use Rattle.mip_rules_agent.specs.Rules.{is_careof}
-use Rattle.mip_rules_mobile.specs.declared.standing.Standing.TheVariants.{Away}
+use Rattle.mip_rules_mobile.specs.declared.attachment.Attachment.TheVariants.{Away}
 use Rattle.mip_rules_mobile.specs.Known.{Known}
 use Rattle.mip_rules_mobile.specs.Questions.{fresh}
 use Rattle.mip_rules_mobile.specs.ReceivingRules as mobiles
@@ -58,7 +58,7 @@ length_from a b =
     let first : ℕ = first_number p.head.route (second_number p.head.home p.head.proto) in
     omega (arith, length-append (fixed_bytes p.head first (length (behind_bytes p))) (behind_bytes p), length_fixed p.head first (length (behind_bytes p)), behind_from a b)
 
-passes_from : (s : Standing) (place a b : ℕ) → s.is_mine ≡ true → checked s place (data_from a b) ≡ Ok None
+passes_from : (s : AddressMatch) (place a b : ℕ) → s.is_mine ≡ true → checked s place (data_from a b) ≡ Ok None
 passes_from s place a b mine = data_passed s place (data_from a b) (λ e. omega (arith, e)) mine (λ e. absurd cc) (λ e. absurd cc)
 
 module _ (secrets : Life) (now : ℕ) where

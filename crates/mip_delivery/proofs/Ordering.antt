@@ -8,12 +8,12 @@ use Rattle.std.proofs.lemmas.Bool.{or_parts, eqb-false, eq-eqb}
 use Rattle.mip_words.specs.Addresses.{prefix_of}
 use Rattle.mip_words.specs.declared.address.Address.{Address}
 use Rattle.mip_words.specs.declared.ids.LinkId.{LinkId}
-use Rattle.mip_declared.specs.Places.{members, AreFew}
-use Rattle.mip_declared.specs.declared.declaration.Declaration.{Declaration}
-use Rattle.mip_declared.specs.declared.declaration.Declaration.TheVariants as declare
-use Rattle.mip_declared.specs.declared.places.Sort.TheVariants as sorts
-use Rattle.mip_declared.specs.declared.reason.Reason.{Reason}
-use Rattle.mip_declared.specs.declared.reason.Reason.TheVariants as reasons
+use Rattle.mip_symbols.specs.Places.{members, AreFew}
+use Rattle.mip_symbols.specs.declared.declaration.Declaration.{Declaration}
+use Rattle.mip_symbols.specs.declared.declaration.Declaration.TheVariants as declare
+use Rattle.mip_symbols.specs.declared.places.Sort.TheVariants as sorts
+use Rattle.mip_symbols.specs.declared.reason.Reason.{Reason}
+use Rattle.mip_symbols.specs.declared.reason.Reason.TheVariants as reasons
 use Rattle.mip_links.specs.Table.{link_from, link_of}
 use Rattle.mip_rules_agent.specs.Rules.{anycast_of}
 use Rattle.mip_schedule.specs.Contents.{Content}

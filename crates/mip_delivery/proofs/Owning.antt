@@ -11,12 +11,12 @@ use Rattle.mip_lists.specs.EachAfter.{EachAfter}
 use Rattle.mip_entries.specs.declared.entry.Entry.{Entry}
 use Rattle.mip_entries.specs.declared.entry.Entry.TheVariants as entries
 use Rattle.mip_entries.specs.Stamped.{Stamped}
-use Rattle.mip_turns.specs.Turns.{StandsBy}
+use Rattle.mip_transitions.specs.Transitions.{StandsBy}
 use Rattle.mip_links.specs.Table.{holder_outside}
 use Rattle.mip_rules_agent.specs.Steps as agents
 use Rattle.mip_rules_agent.specs.Known.{Known}
 use Rattle.mip_rules_agent.specs.Calls as agent_calls
-use Rattle.mip_rules_agent.specs.Turns.{Turn, Stands, with_turn}
+use Rattle.mip_rules_agent.specs.Transitions.{Transition, Stands, with_turn}
 use Rattle.mip_rules_agent.specs.Doing.{turn_of}
 use Rattle.mip_rules_agent.specs.Questions.{known, rows_at}
 use Rattle.mip_rules_agent.specs.declared.home_row.HomeRow.{HomeRow}
@@ -100,7 +100,7 @@ module _ (s : Setup) (orderly : IsOrderly s) (g : ℕ) (own : Address) (preferen
   }
 
   module _ (pasts : Pasts) (stand : Stand pasts) (now : ℕ) where
-    abbrev turn : Address → ℕ → ℕ → ℕ → List Address → ℕ → agent_calls.Call → Turn
+    abbrev turn : Address → ℕ → ℕ → ℕ → List Address → ℕ → agent_calls.Call → Transition
     turn a p l r z n c = turn_of (agent_of a p l r) (known z (slice_index_or pasts n [])) now c
 
     abbrev IsTurn : Address → ℕ → ℕ → ℕ → List Address → ℕ → agent_calls.Call → Type 0

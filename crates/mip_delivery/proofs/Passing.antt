@@ -7,9 +7,9 @@ use Rattle.mip_words.specs.declared.shield.Shield.{Shield}
 use Rattle.mip_ipv6.specs.Packet.{Packet}
 use Rattle.mip_entries.specs.declared.answer.Answer.TheVariants.{Send}
 use Rattle.mip_tunnel.specs.Tunnel.{hop_of, encapsulated}
-use Rattle.mip_turns.specs.Turns.{noted_by}
+use Rattle.mip_transitions.specs.Transitions.{noted_by}
 use Rattle.mip_outside.specs.declared.claim.Claim.{Claim}
-use Rattle.mip_reception.specs.declared.standing.Standing.{Standing}
+use Rattle.mip_reception.specs.declared.address_match.AddressMatch.{AddressMatch}
 use Rattle.mip_reception.specs.Checks.{message_at, with_home, then_home, checked}
 use Rattle.mip_rules_agent.specs.declared.identity.Identity.{Identity}
 use Rattle.mip_rules_agent.specs.Known.{Known}
@@ -46,7 +46,7 @@ plain_message : (place : ℕ) (p : Packet) → p.head.proto ≢ 135 → message_
 unfolding message_at
 plain_message place p plain = cond-false (p.head.proto == 135) _ _ (ne_eqb p.head.proto 135 plain)
 
-pub data_passed : (s : Standing) (place : ℕ) (p : Packet) → p.head.proto ≢ 135 → s.is_mine ≡ true → (is_some p.head.route ≡ true → s.takes_route ≡ true) → (is_some p.head.home ≡ true → s.holds ≡ true)
+pub data_passed : (s : AddressMatch) (place : ℕ) (p : Packet) → p.head.proto ≢ 135 → s.is_mine ≡ true → (is_some p.head.route ≡ true → s.takes_route ≡ true) → (is_some p.head.home ≡ true → s.holds ≡ true)
     → checked s place p ≡ Ok None
 unfolding checked
 data_passed s place p plain mine route home =

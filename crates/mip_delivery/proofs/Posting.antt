@@ -3,22 +3,22 @@ use Rattle.std.proofs.Common.{◌≡◌, ◌≢◌, ℕ, List, [], ◌∷◌, �
 use Rattle.std.specs.Prelude.{Option, Some, None, unwrap_or, slice_get}
 use Rattle.mip_words.specs.declared.address.Address.{Address}
 use Rattle.mip_entries.specs.declared.answer.Answer.TheVariants.{Send}
-use Rattle.mip_signals.specs.Packets.{data_packet}
+use Rattle.mip_packet_builders.specs.Packets.{data_packet}
 use Rattle.mip_tunnel.specs.Tunnel.{encapsulated}
 use Rattle.mip_links.specs.Table.{Post}
 use Rattle.mip_rules_correspondent.specs.Calls as part_calls
 use Rattle.mip_rules_correspondent.specs.Steps as part_steps
 use Rattle.mip_rules_correspondent.specs.Questions.{held_of}
-use Rattle.mip_rules_correspondent.specs.Turns as part_turns
+use Rattle.mip_rules_correspondent.specs.Transitions as part_turns
 use Rattle.mip_rules_correspondent.specs.Doing as part_doing
-use Rattle.mip_rules_mobile.specs.declared.standing.Standing.TheVariants.{AtHome, Away}
+use Rattle.mip_rules_mobile.specs.declared.attachment.Attachment.TheVariants.{AtHome, Away}
 use Rattle.mip_rules_mobile.specs.Known.{Known}
 use Rattle.mip_rules_mobile.specs.Calls as mobile_calls
 use Rattle.mip_rules_mobile.specs.Steps as mobile_steps
 use Rattle.mip_rules_mobile.specs.Sendings as sendings
 use Rattle.mip_rules_mobile.specs.HomeQuestions.{home_of, registered_agent}
 use Rattle.mip_rules_mobile.specs.RowQuestions.{bound_row_of}
-use Rattle.mip_rules_mobile.specs.Turns as mobile_turns
+use Rattle.mip_rules_mobile.specs.Transitions as mobile_turns
 use Rattle.mip_rules_mobile.specs.Doing as mobile_doing
 use Rattle.mip_schedule.specs.declared.event.Event.{Event}
 use Rattle.mip_history.specs.Setup.{Setup, Host}
@@ -60,7 +60,7 @@ module _ (s : Setup) (run : Run) (n : ℕ) (own to : Address) (proto : ℕ) (pay
   pub correspondent_posts : (room : ℕ) → slice_get s.hosts n ≡ Some (record { address = own; kind = Correspondent room })
       → Posts s run after (data_packet (part_doing.data_head own to proto (held_of (known_in s run n room) (now_in s run) to)) payload)
   correspondent_posts room host =
-      let turn : part_turns.Turn = part_doing.turn_of (identity_in s run n own room) (known_in s run n room) (now_in s run) (part_calls.Send to proto payload) in
+      let turn : part_turns.Transition = part_doing.turn_of (identity_in s run n own room) (known_in s run n room) (now_in s run) (part_calls.Send to proto payload) in
       let next : Run = with_past n (part_turns.with_turn (past_at run n) turn) run in
       let packet : List ℕ = data_packet (part_doing.data_head own to proto (held_of (known_in s run n room) (now_in s run) to)) payload in
       let left = send_left s n (link_or_first s own.0) next packet (part_steps.answers_of turn.steps)
@@ -73,7 +73,7 @@ module _ (s : Setup) (run : Run) (n : ℕ) (own to : Address) (proto : ℕ) (pay
 
     mobile_posts : (packet : List ℕ) → mobile_steps.answers_of (mobile_doing.turn_of k (now_in s run) (mobile_calls.Send to proto payload)).steps ≡ Send None packet ∷ [] → Posts s run after packet
     mobile_posts packet sends =
-        let turn : mobile_turns.Turn = mobile_doing.turn_of k (now_in s run) (mobile_calls.Send to proto payload) in
+        let turn : mobile_turns.Transition = mobile_doing.turn_of k (now_in s run) (mobile_calls.Send to proto payload) in
         let next : Run = with_mobile_past n (mobile_turns.with_turn (mobile_past_at run n) turn) run in
         let left = send_left s n (unwrap_or (stands_on s run n own) 0) next packet (mobile_steps.answers_of turn.steps) sends in
         subst (λ (o : Option Host). Posts s run (by_host s n call run o) packet) (sym host) (record { link = unwrap_or (stands_on s run n own) 0; posts = left.posts })

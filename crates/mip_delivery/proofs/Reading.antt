@@ -15,14 +15,14 @@ use Rattle.mip_words.specs.declared.prefix.Prefix.{Prefix}
 use Rattle.mip_words.proofs.StepLaws.{bind_ok, ok_is}
 use Rattle.mip_lines.specs.HexFields.{hex_number, address_in}
 use Rattle.mip_lines.proofs.HexFieldLaws.{hex_number-spelled}
-use Rattle.mip_declared.specs.Kinds as kinds
-use Rattle.mip_declared.specs.Kinds.{or_reason, to_host, address, prefix, place, node}
-use Rattle.mip_declared.specs.Places.{members, place_of, fits, is_named, is_mobile}
-use Rattle.mip_declared.specs.declared.declaration.Declaration.{Declaration}
-use Rattle.mip_declared.specs.declared.declaration.Declaration.TheVariants as declare
-use Rattle.mip_declared.specs.declared.places.Sort.TheVariants as sorts
-use Rattle.mip_declared.specs.declared.reason.Reason.{Reason}
-use Rattle.mip_declared.proofs.KindLaws.{option_is}
+use Rattle.mip_symbols.specs.Kinds as kinds
+use Rattle.mip_symbols.specs.Kinds.{or_reason, to_host, address, prefix, place, node}
+use Rattle.mip_symbols.specs.Places.{members, place_of, fits, is_named, is_mobile}
+use Rattle.mip_symbols.specs.declared.declaration.Declaration.{Declaration}
+use Rattle.mip_symbols.specs.declared.declaration.Declaration.TheVariants as declare
+use Rattle.mip_symbols.specs.declared.places.Sort.TheVariants as sorts
+use Rattle.mip_symbols.specs.declared.reason.Reason.{Reason}
+use Rattle.mip_symbols.proofs.KindLaws.{option_is}
 use Rattle.mip_schedule.specs.Contents.{Content}
 use Rattle.mip_schedule.specs.DeclarationRows.{room, u16, link_row, agent_row, correspondent_row, mobile_row, serve_row, outsider_row, node_fields, declaration_fields}
 use Rattle.mip_schedule.specs.DeclarationTimes.{undeclared, judged, declaration_line}

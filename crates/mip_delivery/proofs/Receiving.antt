@@ -12,8 +12,8 @@ use Rattle.mip_rules_correspondent.specs.Rules.{is_data, holds_option}
 use Rattle.mip_rules_correspondent.specs.declared.known.Known as parts
 use Rattle.mip_rules_correspondent.specs.Questions.{holds_for}
 use Rattle.mip_rules_agent.specs.Questions.{careof_at}
-use Rattle.mip_rules_mobile.specs.declared.standing.Standing.{Standing}
-use Rattle.mip_rules_mobile.specs.declared.standing.Standing.TheVariants.{Detached, AtHome, Away}
+use Rattle.mip_rules_mobile.specs.declared.attachment.Attachment.{Attachment}
+use Rattle.mip_rules_mobile.specs.declared.attachment.Attachment.TheVariants.{Detached, AtHome, Away}
 use Rattle.mip_rules_mobile.specs.Known.{Known}
 use Rattle.mip_rules_mobile.specs.HomeQuestions.{home_of, registered_agent}
 use Rattle.mip_rules_mobile.specs.ReceivingRules as mobiles
@@ -51,13 +51,13 @@ address_is None a is = absurd cc
 address_is (Some b) a is = ap (λ (x : Address). Some x) (same_address b a (eqb-true b.0 a.0 is))
 
 -- where a mobile uses an address, that is where it stands
-pub stands_home : (own present : Address) (st : Standing) → IsAbroad own st → (present.0 == own.0) ≡ true → Some present ≡ address_of own st → st ≡ AtHome
+pub stands_home : (own present : Address) (st : Attachment) → IsAbroad own st → (present.0 == own.0) ≡ true → Some present ≡ address_of own st → st ≡ AtHome
 stands_home own present Detached abroad here is = absurd cc
 stands_home own present AtHome abroad here is = refl
 stands_home own present (Away careof) abroad here is =
     absurd (let same : present ≡ careof = some_same present careof is in let both : true ≡ false = sym here ∙ ap (λ (a : Address). a.0 == own.0) same ∙ abroad in cc)
 
-pub stands_away : (own present : Address) (st : Standing) → (present.0 == own.0) ≡ false → Some present ≡ address_of own st → st ≡ Away present
+pub stands_away : (own present : Address) (st : Attachment) → (present.0 == own.0) ≡ false → Some present ≡ address_of own st → st ≡ Away present
 stands_away own present Detached apart is = absurd cc
 stands_away own present AtHome apart is =
     absurd (let same : present ≡ own = some_same present own is in let both : true ≡ false = sym (eq-eqb present.0 own.0 (ap (λ (a : Address). a.0) same)) ∙ apart in cc)
@@ -131,19 +131,19 @@ module _ (s : Setup) (orderly : IsOrderly s) (events : List Event) (y : ℕ) (ow
     mobile_home here mine straight =
         let st : k.standing ≡ AtHome = stands_home to present k.standing (known_abroad to agent s.numbers (secrets_in s y 0) (mobile_past_at run y)) here uses in
         mobile_straight s run y to w of_data plain agent host
-        (ap (λ (x : Standing). mobiles.is_address_of x (home_of k) w.destination) st ∙ eq-eqb w.destination.0 (home_of k).0 (mine ∙ ap (λ (a : Address). a.0) (sym home_is)))
+        (ap (λ (x : Attachment). mobiles.is_address_of x (home_of k) w.destination) st ∙ eq-eqb w.destination.0 (home_of k).0 (mine ∙ ap (λ (a : Address). a.0) (sym home_is)))
         (λ e. absurd (let both : true ≡ false = sym e ∙ straight in cc)) part_holds
 
     at_present : (present.0 == to.0) ≡ false → (a : Address) → a.0 ≡ present.0 → mobiles.is_address_of k.standing (home_of k) a ≡ true
     at_present apart a mine =
         let st : k.standing ≡ Away present = stands_away to present k.standing apart uses in
-        ap (λ (x : Standing). mobiles.is_address_of x (home_of k) a) st ∙ eq-eqb a.0 present.0 mine
+        ap (λ (x : Attachment). mobiles.is_address_of x (home_of k) a) st ∙ eq-eqb a.0 present.0 mine
 
     pub mobile_away : (present.0 == to.0) ≡ false → w.destination.0 ≡ present.0 → w.route ≡ Some to → TakesStraight s run y w
     mobile_away apart mine routed =
         let st : k.standing ≡ Away present = stands_away to present k.standing apart uses in
         mobile_straight s run y to w of_data plain agent host (at_present apart w.destination mine)
-        (λ some. ap (λ (x : Standing). mobiles.takes_route x (home_of k) w.route) st ∙ ap (mobiles.takes_route (Away present) (home_of k)) routed ∙ eq-eqb to.0 (home_of k).0 (ap (λ (a : Address). a.0) (sym home_is)))
+        (λ some. ap (λ (x : Attachment). mobiles.takes_route x (home_of k) w.route) st ∙ ap (mobiles.takes_route (Away present) (home_of k)) routed ∙ eq-eqb to.0 (home_of k).0 (ap (λ (a : Address). a.0) (sym home_is)))
         part_holds
 
     pub mobile_from_agent : (present.0 == to.0) ≡ false → (entry exit : Address) → exit.0 ≡ present.0 → agent_in (now_in s run) run.past y ≡ Some entry → w.destination.0 ≡ to.0 → is_some w.route ≡ false

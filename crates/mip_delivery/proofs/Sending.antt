@@ -7,9 +7,9 @@ use Rattle.mip_ipv6.specs.declared.head.Head.{Head}
 use Rattle.mip_ipv6.specs.Reading.{packet_of}
 use Rattle.mip_ipv6.proofs.Canonical.{packet_back}
 use Rattle.mip_entries.specs.declared.answer.Answer.TheVariants.{Send}
-use Rattle.mip_signals.specs.Packets.{data_packet}
+use Rattle.mip_packet_builders.specs.Packets.{data_packet}
 use Rattle.mip_tunnel.specs.Tunnel.{encapsulated}
-use Rattle.mip_turns.specs.Turns.{noted_by}
+use Rattle.mip_transitions.specs.Transitions.{noted_by}
 use Rattle.mip_rules_correspondent.specs.declared.identity.Identity.{Identity}
 use Rattle.mip_rules_correspondent.specs.declared.known.Known as parts
 use Rattle.mip_rules_correspondent.specs.Calls as part_calls
@@ -17,7 +17,7 @@ use Rattle.mip_rules_correspondent.specs.Steps as part_steps
 use Rattle.mip_rules_correspondent.specs.Questions.{held_of, after as part_after}
 use Rattle.mip_rules_correspondent.specs.Doing as part_doing
 use Rattle.mip_rules_correspondent.specs.Doing.{does as part_does, transmits as part_transmits}
-use Rattle.mip_rules_mobile.specs.declared.standing.Standing.TheVariants.{AtHome, Away}
+use Rattle.mip_rules_mobile.specs.declared.attachment.Attachment.TheVariants.{AtHome, Away}
 use Rattle.mip_rules_mobile.specs.Known.{Known}
 use Rattle.mip_rules_mobile.specs.Calls.{Send as Sending}
 use Rattle.mip_rules_mobile.specs.Steps.{answers_of}

@@ -5,9 +5,9 @@ use Rattle.std.proofs.lemmas.List.{append_assoc}
 use Rattle.std.proofs.lemmas.Bool.{eqb-true}
 use Rattle.mip_words.specs.declared.address.Address.{Address}
 use Rattle.mip_words.specs.declared.ids.NodeId.{NodeId}
-use Rattle.mip_declared.specs.Places.{members}
-use Rattle.mip_declared.specs.declared.declaration.Declaration.{Declaration}
-use Rattle.mip_declared.specs.declared.declaration.Declaration.TheVariants as declare
+use Rattle.mip_symbols.specs.Places.{members}
+use Rattle.mip_symbols.specs.declared.declaration.Declaration.{Declaration}
+use Rattle.mip_symbols.specs.declared.declaration.Declaration.TheVariants as declare
 use Rattle.mip_rules_agent.specs.Pasts.{is_one_of}
 use Rattle.mip_history.specs.Setup.{Host, Kind, is_mobile_host, addresses_in, with_any, served_by, hosts_from}
 use Rattle.mip_history.specs.Setup.Kind.{Agent}

@@ -8,12 +8,12 @@ use Rattle.mip_words.specs.declared.address.Address.{Address}
 use Rattle.mip_ipv6.specs.declared.head.Head.{Head}
 use Rattle.mip_ipv6.specs.Packet.{names_no_body, is_routable_if_any, IsAddressIfAny}
 use Rattle.mip_binding.specs.Held.{held}
-use Rattle.mip_signals.specs.Packets.{data_packet}
+use Rattle.mip_packet_builders.specs.Packets.{data_packet}
 use Rattle.mip_links.specs.Table.{holder_outside}
 use Rattle.mip_rules_correspondent.specs.Questions.{held_of}
 use Rattle.mip_rules_correspondent.specs.Doing as part_doing
-use Rattle.mip_rules_mobile.specs.declared.standing.Standing.{Standing}
-use Rattle.mip_rules_mobile.specs.declared.standing.Standing.TheVariants.{AtHome, Away}
+use Rattle.mip_rules_mobile.specs.declared.attachment.Attachment.{Attachment}
+use Rattle.mip_rules_mobile.specs.declared.attachment.Attachment.TheVariants.{AtHome, Away}
 use Rattle.mip_rules_mobile.specs.Known.{Known}
 use Rattle.mip_rules_mobile.specs.HomeQuestions.{home_of, registered_agent}
 use Rattle.mip_rules_mobile.specs.RowQuestions.{bound_row_of}
@@ -211,7 +211,7 @@ module _ (s : Setup) (orderly : IsOrderly s) (before more : List Event) (single 
     from_home at =
         let st : k.standing ≡ AtHome = stands_home own here.present k.standing (known_abroad own agent s.numbers (secrets_in s x 0) (mobile_past_at start x)) at uses in
         record {
-          one = mobile_leaves s start x own to proto payload agent host (ap (λ (z : Standing). sends_from z (registered_agent k (now_in s start))) st);
+          one = mobile_leaves s start x own to proto payload agent host (ap (λ (z : Attachment). sends_from z (registered_agent k (now_in s start))) st);
           arrives =
               goes own None part_o (part_held s before x own agent to host) ranges.2 tt refl (inl refl) refl
               (subst (λ (h : Head). Posts s start (happens s start first) (data_packet h payload))
@@ -238,7 +238,7 @@ module _ (s : Setup) (orderly : IsOrderly s) (before more : List Event) (single 
         by (Some row) is st registered e = record {
           one =
               mobile_leaves s start x own to proto payload agent host
-              (ap (λ (z : Standing). sends_from z (registered_agent k (now_in s start))) st ∙ registered);
+              (ap (λ (z : Attachment). sends_from z (registered_agent k (now_in s start))) st ∙ registered);
           arrives =
               goes here.present (Some own) part_o (part_held s before x own agent to host) (in_range s orderly here.present.0 (held_on_link s orderly here.present.0 before x here.holds)) ranges.2 ranges.1
               (inr (refl, held_right)) refl

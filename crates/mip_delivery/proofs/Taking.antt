@@ -5,8 +5,8 @@ use Rattle.std.proofs.lemmas.Bool.{eq-eqb}
 use Rattle.mip_words.specs.declared.shield.Shield.{Shield}
 use Rattle.mip_ipv6.specs.Packet.{Packet, source_of}
 use Rattle.mip_entries.specs.declared.answer.Answer.{Answer}
-use Rattle.mip_turns.specs.Turns.{noted_by}
-use Rattle.mip_turns.proofs.ShowLaws.{answers-noted}
+use Rattle.mip_transitions.specs.Transitions.{noted_by}
+use Rattle.mip_transitions.proofs.ShowLaws.{answers-noted}
 use Rattle.mip_rules_correspondent.specs.declared.identity.Identity.{Identity}
 use Rattle.mip_rules_correspondent.specs.declared.known.Known as parts
 use Rattle.mip_rules_correspondent.specs.Calls as part_calls
@@ -20,7 +20,7 @@ use Rattle.mip_rules_mobile.specs.Calls.{Take}
 use Rattle.mip_rules_mobile.specs.Steps.{Step, answer_of, answers_of}
 use Rattle.mip_rules_mobile.specs.HomeQuestions.{home_of}
 use Rattle.mip_rules_mobile.specs.Questions.{after}
-use Rattle.mip_rules_mobile.specs.Turns.{Turn, begun, noted}
+use Rattle.mip_rules_mobile.specs.Transitions.{Transition, begun, noted}
 use Rattle.mip_rules_mobile.specs.OutRules.{passes_all, asks_part}
 use Rattle.mip_rules_mobile.specs.PeerRules.{meets}
 use Rattle.mip_rules_mobile.specs.ReceivingRules.{takes_for_part, by_role, takes_inner, opens, takes}
@@ -61,7 +61,7 @@ module _ (k : Known) (now number : ℕ) (shield : Option Shield) (bytes : List �
       rw (is.read, is.passes, other.tunnel, other.icmp, other.nothing, other.message) refl
 
   -- its correspondent part has handed it up
-  abbrev after_part : Packet → Turn
+  abbrev after_part : Packet → Transition
   after_part p = asks_part (part_calls.Part number p) (noted (Called (Take number shield bytes)) (begun now k))
 
   up_first : (p : Packet) → NoOther p.head.proto → answers_of (after_part p).steps ≡ up number p ∷ []
@@ -76,12 +76,12 @@ module _ (k : Known) (now number : ℕ) (shield : Option Shield) (bytes : List �
       rw (is.read, is.passes, eq-eqb outer.head.proto 41 is.tunnel, is.is_agent, is.inside, other.tunnel, eq-eqb p.head.destination.0 (home_of k).0 is.home, is.straight, other.message, is.inner_passes, other.tunnel, other.icmp, other.nothing, other.message)
       refl
 
-  begins_noted : (first : Answer) (step : Step) (t : Turn) → BeginsWith first (answers_of t.steps) → BeginsWith first (answers_of (noted step t).steps)
+  begins_noted : (first : Answer) (step : Step) (t : Transition) → BeginsWith first (answers_of t.steps) → BeginsWith first (answers_of (noted step t).steps)
   begins_noted first step t so =
       record { rest = so.rest ++ answer_of step; is = answers-noted answer_of after step t ∙ ap (λ (l : List Answer). l ++ answer_of step) so.is }
 
   pub taken_tunnelled : (outer p : Packet) → IsDataTunnelled k now bytes outer p → BeginsWith (up number p) (answers_of (turn_of k now (Take number shield bytes)).steps)
   taken_tunnelled outer p is =
-      subst (λ (t : Turn). BeginsWith (up number p) (answers_of t.steps)) (sym (met_then outer p is))
-      (every-meets (Take number shield bytes) (λ (t : Turn). BeginsWith (up number p) (answers_of t.steps)) (λ step t steady fits so. begins_noted (up number p) step t so) (source_of p.head) (after_part p)
+      subst (λ (t : Transition). BeginsWith (up number p) (answers_of t.steps)) (sym (met_then outer p is))
+      (every-meets (Take number shield bytes) (λ (t : Transition). BeginsWith (up number p) (answers_of t.steps)) (λ step t steady fits so. begins_noted (up number p) step t so) (source_of p.head) (after_part p)
       (record { rest = []; is = up_first p (no_other p.head.proto is.plain) }))

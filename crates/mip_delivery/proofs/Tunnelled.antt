@@ -14,15 +14,15 @@ use Rattle.mip_lists.specs.EachAfter.{EachAfter}
 use Rattle.mip_binding.specs.Held.{held as held_by}
 use Rattle.mip_entries.specs.declared.entry.Entry.{Entry}
 use Rattle.mip_entries.specs.declared.entry.Entry.TheVariants as entries
-use Rattle.mip_signals.specs.Packets.{data_packet}
+use Rattle.mip_packet_builders.specs.Packets.{data_packet}
 use Rattle.mip_tunnel.specs.Tunnel.{encapsulated}
 use Rattle.mip_links.specs.Table.{holder_outside}
 use Rattle.mip_rules_correspondent.specs.Questions.{held_of}
 use Rattle.mip_rules_correspondent.specs.Rules.{is_data}
 use Rattle.mip_rules_correspondent.specs.Doing as part_doing
 use Rattle.mip_rules_agent.specs.Questions.{careof_at}
-use Rattle.mip_rules_mobile.specs.declared.standing.Standing.{Standing}
-use Rattle.mip_rules_mobile.specs.declared.standing.Standing.TheVariants.{Away}
+use Rattle.mip_rules_mobile.specs.declared.attachment.Attachment.{Attachment}
+use Rattle.mip_rules_mobile.specs.declared.attachment.Attachment.TheVariants.{Away}
 use Rattle.mip_rules_mobile.specs.Known.{Known}
 use Rattle.mip_rules_mobile.specs.HomeQuestions.{home_of, registered_agent}
 use Rattle.mip_rules_mobile.specs.RowQuestions.{bound_row_of}
@@ -235,7 +235,7 @@ module _ (s : Setup) (orderly : IsOrderly s) (homeless : AreHomeless s) (before 
         record {
           one =
               mobile_leaves s start x own to proto payload agent host
-              (ap (λ (z : Standing). sends_from z (registered_agent k (now_in s start))) st ∙ ap (λ (p : Option Address). is_some p) registered);
+              (ap (λ (z : Attachment). sends_from z (registered_agent k (now_in s start))) st ∙ ap (λ (p : Option Address). is_some p) registered);
           arrives = λ quiet all. by quiet all o (part_held s before x own agent to host) posts (sent_carries own None to proto payload o can is_payload.short);
         }
       where

@@ -15,13 +15,13 @@ use Rattle.mip_entries.specs.declared.entry.Entry.TheVariants as entries
 use Rattle.mip_entries.specs.Completed.{node_id, named}
 use Rattle.mip_entries.specs.Stamped.{Stamped}
 use Rattle.mip_rules_correspondent.specs.Wholes.{is_own}
-use Rattle.mip_rules_mobile.specs.declared.standing.Standing.{Standing}
-use Rattle.mip_rules_mobile.specs.declared.standing.Standing.TheVariants.{Detached}
+use Rattle.mip_rules_mobile.specs.declared.attachment.Attachment.{Attachment}
+use Rattle.mip_rules_mobile.specs.declared.attachment.Attachment.TheVariants.{Detached}
 use Rattle.mip_rules_mobile.specs.Calls as mobiles
 use Rattle.mip_rules_mobile.specs.Known.{Known}
 use Rattle.mip_rules_mobile.specs.Steps.{Step, Called, Notes, Arrives, FindsTaken, Detaches}
 use Rattle.mip_rules_mobile.specs.Questions.{after, known}
-use Rattle.mip_rules_mobile.specs.Turns.{Turn, begun, noted}
+use Rattle.mip_rules_mobile.specs.Transitions.{Transition, begun, noted}
 use Rattle.mip_rules_mobile.specs.TrialRules.{each_row}
 use Rattle.mip_rules_mobile.specs.MovingRules.{uses_prefix, releases, unbinds, leaves}
 use Rattle.mip_rules_mobile.specs.Doing.{does, turn_of}
@@ -93,7 +93,7 @@ apart_standing own k at address holder = refl
 left_standing : (k : Known) (now : ℕ) (of_home : Claim) → (turn_of k now (mobiles.Leave of_home)).known.standing ≡ Detached
 unfolding does leaves
 left_standing k now of_home =
-    let t : Turn = noted (Called (mobiles.Leave of_home)) (begun now k) in
+    let t : Transition = noted (Called (mobiles.Leave of_home)) (begun now k) in
     standing-noted Detaches (each_row unbinds (releases t.known.standing of_home t))
 
 module _ (s : Setup) (n : ℕ) (own : Address) (agent : Option Address) (host : slice_get s.hosts n ≡ Some (record { address = own; kind = Mobile agent })) (node : IsNode n) where
@@ -127,12 +127,12 @@ module _ (s : Setup) (n : ℕ) (own : Address) (agent : Option Address) (host : 
     abbrev k : Known
     k = mobile_known_in s run n own agent
 
-    abbrev SoTells : mobiles.Call → Standing → Type 0
+    abbrev SoTells : mobiles.Call → Attachment → Type 0
     SoTells c st =
         Tells s n own (IsHome n own) (λ l is. is) (found_says n) (λ (step : Step). None) (λ (l : Known). address_of own l.standing) (λ (o : Option Address). o) (found_known n own) (Some own)
         (unwrap_or (stands_on s run n own) 0) (middle s n own agent host run r.long c) st (turn s n own agent host run r.long c)
 
-    turned : (c : mobiles.Call) (st : Standing) → SoTells c st → told (then_ s n own agent host run r.long c) ≡ knows (then_ s n own agent host run r.long c)
+    turned : (c : mobiles.Call) (st : Attachment) → SoTells c st → told (then_ s n own agent host run r.long c) ≡ knows (then_ s n own agent host run r.long c)
     turned c st p = p.so ∙ ap (λ (l : Known). address_of own l.standing) (sym (known_then s n own agent host run r.long c))
 
     staying : (c : mobiles.Call) → stays_put c ≡ true → is_restart c ≡ false → told (then_ s n own agent host run r.long c) ≡ knows (then_ s n own agent host run r.long c)

@@ -21,8 +21,8 @@ use Rattle.mip_rules_agent.specs.Known as agent_known
 use Rattle.mip_rules_agent.specs.Questions.{careof_at}
 use Rattle.mip_rules_agent.specs.Rules as agents
 use Rattle.mip_rules_agent.specs.Rules.{is_careof}
-use Rattle.mip_rules_mobile.specs.declared.standing.Standing.{Standing}
-use Rattle.mip_rules_mobile.specs.declared.standing.Standing.TheVariants.{Detached, AtHome, Away}
+use Rattle.mip_rules_mobile.specs.declared.attachment.Attachment.{Attachment}
+use Rattle.mip_rules_mobile.specs.declared.attachment.Attachment.TheVariants.{Detached, AtHome, Away}
 use Rattle.mip_rules_mobile.specs.Known as mobile_known
 use Rattle.mip_rules_mobile.specs.HomeQuestions.{home_of, registered_agent, agent_of}
 use Rattle.mip_rules_mobile.specs.ReceivingRules as mobiles
@@ -34,7 +34,7 @@ pub record CanBeSent (head : Head) (payload : List ℕ) : Type 0 where
   pub size : length (behind_bytes (record { head = head; body = payload })) < 65536
 
 -- a mobile can send from its home address: at home, or away and registered with an agent. RFC 6275 section 11.3.1
-abbrev pub sends_from : Standing → Option Address → Bool
+abbrev pub sends_from : Attachment → Option Address → Bool
 sends_from Detached agent = false
 sends_from AtHome agent = true
 sends_from (Away careof) agent = is_some agent

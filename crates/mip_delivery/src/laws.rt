@@ -8,11 +8,11 @@ ghost use Rattle.mip_words.specs.declared.shield.Shield.{Shield};
 ghost use Rattle.mip_ipv6.specs.Packet.{Packet};
 ghost use Rattle.mip_ipv6.specs.Reading.{packet_of};
 ghost use Rattle.mip_entries.specs.declared.answer.Answer.TheVariants.{Send};
-ghost use Rattle.mip_signals.specs.Packets.{data_packet};
+ghost use Rattle.mip_packet_builders.specs.Packets.{data_packet};
 ghost use Rattle.mip_tunnel.specs.Tunnel.{encapsulated};
 ghost use Rattle.mip_outside.specs.declared.claim.Claim.{Claim};
 ghost use Rattle.mip_links.specs.Table.{Post, link_of, in_pool};
-ghost use Rattle.mip_reception.specs.declared.standing.Standing.{Standing};
+ghost use Rattle.mip_reception.specs.declared.address_match.AddressMatch.{AddressMatch};
 ghost use Rattle.mip_reception.specs.Checks.{checked};
 ghost use Rattle.mip_rules_correspondent.specs.declared.identity.Identity as correspondent;
 ghost use Rattle.mip_rules_correspondent.specs.declared.known.Known as correspondent_known;
@@ -26,7 +26,7 @@ ghost use Rattle.mip_rules_agent.specs.Calls as agent_calls;
 ghost use Rattle.mip_rules_agent.specs.Steps as agent_steps;
 ghost use Rattle.mip_rules_agent.specs.Rules.{shield_for};
 ghost use Rattle.mip_rules_agent.specs.Doing as agent_doing;
-ghost use Rattle.mip_rules_mobile.specs.declared.standing.Standing.TheVariants.{AtHome, Away};
+ghost use Rattle.mip_rules_mobile.specs.declared.attachment.Attachment.TheVariants.{AtHome, Away};
 ghost use Rattle.mip_rules_mobile.specs.Known as mobile_known;
 ghost use Rattle.mip_rules_mobile.specs.Calls as mobile_calls;
 ghost use Rattle.mip_rules_mobile.specs.Steps as mobile_steps;
@@ -34,7 +34,7 @@ ghost use Rattle.mip_rules_mobile.specs.Sendings as sendings;
 ghost use Rattle.mip_rules_mobile.specs.HomeQuestions.{home_of, registered_agent};
 ghost use Rattle.mip_rules_mobile.specs.RowQuestions.{bound_row_of};
 ghost use Rattle.mip_rules_mobile.specs.Doing as mobile_doing;
-ghost use Rattle.mip_declared.specs.Places.{AreFew};
+ghost use Rattle.mip_symbols.specs.Places.{AreFew};
 ghost use Rattle.mip_schedule.specs.Contents.{Content};
 ghost use Rattle.mip_schedule.specs.Lawful.{IsLawful};
 ghost use Rattle.mip_schedule.specs.Reading.{reading};
@@ -150,7 +150,7 @@ pub fn mobile_takes_tunnelled()
 /// Data passes the checks of a node that it is for: with a routing header where the node takes one, and with a Home Address option
 /// where the node holds that binding (RFC 6275 sections 6.4 and 9.3.1).
 pub fn data_passes()
-    ensures { (standing : Standing) (place : ℕ) (p : Packet) → p.head.proto ≢ mobility_header → standing.is_mine ≡ true
+    ensures { (standing : AddressMatch) (place : ℕ) (p : Packet) → p.head.proto ≢ mobility_header → standing.is_mine ≡ true
         → (is_some p.head.route ≡ true → standing.takes_route ≡ true) → (is_some p.head.home ≡ true → standing.holds ≡ true)
         → checked standing place p ≡ Ok None }
 {}

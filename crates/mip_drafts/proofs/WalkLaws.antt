@@ -7,7 +7,7 @@ use Rattle.std.proofs.lemmas.List.Splits.{length-slice_split}
 use Rattle.mip_words.specs.Steps.{◌>>=◌}
 use Rattle.mip_words.proofs.StepLaws.{bind_ok, ok_is}
 use Rattle.mip_lines.specs.Cutting.{parts, fields_of, rows_of}
-use Rattle.mip_declared.specs.declared.reason.Reason.{Reason}
+use Rattle.mip_symbols.specs.declared.reason.Reason.{Reason}
 use Rattle.mip_schedule.specs.declared.fault.ScheduleFault.{ScheduleFault}
 use Rattle.mip_schedule.specs.declared.fault.ScheduleFault.TheVariants.{Bad, Memory}
 use Rattle.mip_schedule.specs.Faults.{Wrong}

@@ -1,8 +1,8 @@
 -- What a call that adds lines to a draft answers, and what the draft then is: with memory enough, what its definition gives.
 use Rattle.std.specs.Prelude.{◌≡◌, ℕ, ⊤, Result, Ok, Err}
-use Rattle.mip_declared.specs.declared.line_fault.LineFault.{LineFault}
-use Rattle.mip_declared.specs.declared.line_fault.LineFault.TheVariants as line_faults
-use Rattle.mip_declared.specs.declared.reason.Reason.{Reason}
+use Rattle.mip_symbols.specs.declared.line_fault.LineFault.{LineFault}
+use Rattle.mip_symbols.specs.declared.line_fault.LineFault.TheVariants as line_faults
+use Rattle.mip_symbols.specs.declared.reason.Reason.{Reason}
 use Rattle.mip_schedule.specs.declared.fault.ScheduleFault.{ScheduleFault}
 use Rattle.mip_schedule.specs.declared.fault.ScheduleFault.TheVariants as faults
 use Rattle.mip_schedule.specs.Faults.{Wrong}

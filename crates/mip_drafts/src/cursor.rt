@@ -1,7 +1,7 @@
 ghost use Rattle.std.specs.Prelude.{◌≡◌};
 
-use mip_declared::Reason;
 use mip_schedule::ScheduleFault;
+use mip_symbols::Reason;
 
 /// Where the reading of a text stands: the number of the next line, counted from 1, and the text from there on.
 #[derive(Clone, Copy)]

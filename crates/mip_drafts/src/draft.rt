@@ -1,9 +1,9 @@
 ghost use Rattle.std.specs.Prelude.{List, ℕ, Result};
-ghost use Rattle.mip_declared.specs.declared.reason.Reason.{Reason};
+ghost use Rattle.mip_symbols.specs.declared.reason.Reason.{Reason};
 ghost use Rattle.mip_lines.specs.Cutting.{texts};
 ghost use Rattle.mip_drafts.specs.Adding.{Becomes};
 
-use mip_declared::LineFault;
+use mip_symbols::LineFault;
 use std::alloc::Global;
 
 /// What the lines so far said.

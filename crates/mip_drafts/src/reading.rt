@@ -6,9 +6,9 @@ ghost use Rattle.mip_drafts.specs.Walk.{walk};
 
 use crate::cursor::Cursor;
 use crate::draft::Draft;
-use mip_declared::{LineFault, Reason};
 use mip_lines::{cut_at, fields};
 use mip_schedule::ScheduleFault;
+use mip_symbols::{LineFault, Reason};
 use mip_words::Memory;
 use std::alloc::Global;
 

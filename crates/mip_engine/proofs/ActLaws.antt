@@ -8,17 +8,17 @@ use Rattle.mip_links.specs.Table.{Asked, link_of}
 use Rattle.mip_outside.specs.Places.{Around}
 use Rattle.mip_rules_correspondent.specs.Calls as correspondents
 use Rattle.mip_rules_correspondent.specs.Steps as correspondent_steps
-use Rattle.mip_rules_correspondent.specs.Turns as correspondent_turns
+use Rattle.mip_rules_correspondent.specs.Transitions as correspondent_turns
 use Rattle.mip_rules_correspondent.specs.Doing as correspondent_doing
 use Rattle.mip_rules_correspondent.specs.Questions.{known}
 use Rattle.mip_rules_agent.specs.Calls as agents
 use Rattle.mip_rules_agent.specs.Steps as agent_steps
-use Rattle.mip_rules_agent.specs.Turns as agent_turns
+use Rattle.mip_rules_agent.specs.Transitions as agent_turns
 use Rattle.mip_rules_agent.specs.Doing as agent_doing
 use Rattle.mip_rules_agent.specs.Questions as agent_questions
 use Rattle.mip_rules_mobile.specs.Calls as mobiles
 use Rattle.mip_rules_mobile.specs.Steps as mobile_steps
-use Rattle.mip_rules_mobile.specs.Turns as mobile_turns
+use Rattle.mip_rules_mobile.specs.Transitions as mobile_turns
 use Rattle.mip_rules_mobile.specs.Doing as mobile_doing
 use Rattle.mip_rules_mobile.specs.Questions as mobile_questions
 use Rattle.mip_history.specs.Setup.{Setup, Host, Kind}

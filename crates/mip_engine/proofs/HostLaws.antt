@@ -5,8 +5,8 @@ use Rattle.std.specs.Prelude.{Option, Some, None, take, get_or, slice_get, ◌==
 use Rattle.std.specs.Option.{option_and_then}
 use Rattle.mip_words.specs.declared.address.Address.{Address}
 use Rattle.mip_words.specs.declared.ids.NodeId.{NodeId}
-use Rattle.mip_declared.specs.declared.declaration.Declaration.{Declaration}
-use Rattle.mip_declared.specs.declared.declaration.Declaration.TheVariants as declare
+use Rattle.mip_symbols.specs.declared.declaration.Declaration.{Declaration}
+use Rattle.mip_symbols.specs.declared.declaration.Declaration.TheVariants as declare
 use Rattle.mip_history.specs.Setup.{Host, links_in, addresses_in, with_any, served_by, hosts_from, outsiders_in}
 use Rattle.mip_history.specs.Setup.Kind.{Correspondent as OfCorrespondent, Agent as OfAgent, Mobile as OfMobile}
 

@@ -14,12 +14,12 @@ use Rattle.mip_links.specs.Table.{Asked, link_from, link_of}
 use Rattle.mip_schedule.specs.Contents.{Content}
 use Rattle.mip_schedule.specs.DeclarationTimes.{interface_of, has_interface, is_interface_taken, gives_prefix, is_on_link, is_full, has_no_room, misplaced, undeclared}
 use Rattle.mip_schedule.specs.Lawful.{IsLawful}
-use Rattle.mip_declared.specs.Places.{AreFew, members}
-use Rattle.mip_declared.specs.declared.declaration.Declaration.{Declaration}
-use Rattle.mip_declared.specs.declared.declaration.Declaration.TheVariants as declare
-use Rattle.mip_declared.specs.declared.places.Sort.TheVariants as sorts
-use Rattle.mip_declared.specs.declared.reason.Reason.{Reason}
-use Rattle.mip_declared.specs.declared.reason.Reason.TheVariants as reasons
+use Rattle.mip_symbols.specs.Places.{AreFew, members}
+use Rattle.mip_symbols.specs.declared.declaration.Declaration.{Declaration}
+use Rattle.mip_symbols.specs.declared.declaration.Declaration.TheVariants as declare
+use Rattle.mip_symbols.specs.declared.places.Sort.TheVariants as sorts
+use Rattle.mip_symbols.specs.declared.reason.Reason.{Reason}
+use Rattle.mip_symbols.specs.declared.reason.Reason.TheVariants as reasons
 use Rattle.mip_history.specs.Setup.{Setup, Host, links_in, addresses_in, with_any, served_by, hosts_from, hosts_in, outsiders_in}
 use Rattle.mip_history.specs.Setup.Kind.{Correspondent as OfCorrespondent, Agent as OfAgent, Mobile as OfMobile}
 use Rattle.mip_history.specs.Runs.{Run}
@@ -31,7 +31,7 @@ use Rattle.mip_engine.specs.Standing.{IsAt, node_in}
 use Rattle.mip_engine.proofs.HostLaws.{hosts_from-append, links_in-append, outsiders_in-append, outsiders_more}
 use Rattle.mip_engine.proofs.RoutableLaws.{IsHost, read_routable}
 use Rattle.mip_engine.proofs.ShareLaws.{held_by_none, none_shares, none_anycast, others_share, first_alone, anycast_link, anycast_apart}
-use Rattle.mip_marks.proofs.ListLaws.{each_before}
+use Rattle.mip_provenance.proofs.ListLaws.{each_before}
 use Rattle.mip_nodes.specs.Nodes.{NodeSeen}
 use Rattle.mip_nodes.specs.Hosts.{IsFit}
 use Rattle.mip_engine.specs.Engines.{IsFree}

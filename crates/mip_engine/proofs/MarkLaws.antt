@@ -3,11 +3,11 @@ use Rattle.std.proofs.Common.{◌≡◌, List, [], ◌∷◌, refl, sym, ap, ◌
 use Rattle.std.specs.Prelude.{Option, Some, None, option_map}
 use Rattle.std.specs.List.{AllByRecursion}
 use Rattle.mip_entries.specs.declared.entry.Entry.{Entry}
-use Rattle.mip_marks.specs.declared.accepted_update.AcceptedUpdate.{AcceptedUpdate}
-use Rattle.mip_marks.specs.declared.mark.Mark.{Mark}
-use Rattle.mip_marks.specs.declared.mark.Mark.TheVariants.{Origin, Forged}
-use Rattle.mip_marks.specs.Entries.{update_accepted, mark_entry}
-use Rattle.mip_marks.specs.Marks.{mark_in}
+use Rattle.mip_provenance.specs.declared.accepted_update.AcceptedUpdate.{AcceptedUpdate}
+use Rattle.mip_provenance.specs.declared.mark.Mark.{Mark}
+use Rattle.mip_provenance.specs.declared.mark.Mark.TheVariants.{Origin, Forged}
+use Rattle.mip_provenance.specs.Entries.{update_accepted, mark_entry}
+use Rattle.mip_provenance.specs.Marks.{mark_in}
 use Rattle.mip_history.specs.Setup.{Setup}
 use Rattle.mip_history.specs.Runs.{Run}
 use Rattle.mip_history.specs.Nodes.{marks_of, marked}

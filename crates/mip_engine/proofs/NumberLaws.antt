@@ -13,11 +13,11 @@ use Rattle.mip_lists.proofs.EachLaws.{each-append}
 use Rattle.mip_entries.specs.declared.entry.Entry.{Entry}
 use Rattle.mip_entries.specs.declared.entry.Entry.TheVariants.{Sent, Injected, Heard, Handed}
 use Rattle.mip_links.specs.Table.{Post}
-use Rattle.mip_marks.specs.Entries.{packet_in, packet_told}
-use Rattle.mip_watch.specs.Stands.{number_posted}
+use Rattle.mip_provenance.specs.Entries.{packet_in, packet_told}
+use Rattle.mip_provenance_index.specs.Stands.{number_posted}
 use Rattle.mip_nodes.specs.Roles.{is_apart}
-use Rattle.mip_chronicle.specs.Packets.{bytes_posted, number_reached, comes_next, ComesNext, IsInOrder}
-use Rattle.mip_chronicle.proofs.Watching.{packet_more, or_none, told_none, told_here, told_there, get_front, get_seam}
+use Rattle.mip_recorder.specs.Packets.{bytes_posted, number_reached, comes_next, ComesNext, IsInOrder}
+use Rattle.mip_recorder.proofs.Watching.{packet_more, or_none, told_none, told_here, told_there, get_front, get_seam}
 use Rattle.mip_engine.specs.Engines.{EngineSeen}
 use Rattle.mip_engine.specs.Numbering.{IsNumbered}
 use Rattle.mip_engine.specs.Standing.{IsAt}

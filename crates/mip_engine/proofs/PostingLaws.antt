@@ -24,9 +24,9 @@ use Rattle.mip_history.specs.Nodes.{left_by, marked}
 use Rattle.mip_engine.specs.Engines.{EngineSeen, with_entry, with_entries, with_net, ears_of, heard_by}
 use Rattle.mip_engine.specs.Standing.{IsAt}
 use Rattle.mip_engine.specs.Groups.{is_plain}
-use Rattle.mip_watch.specs.Stands.{number_posted}
+use Rattle.mip_provenance_index.specs.Stands.{number_posted}
 use Rattle.mip_nodes.specs.Roles.{is_apart}
-use Rattle.mip_chronicle.specs.Packets.{bytes_posted}
+use Rattle.mip_recorder.specs.Packets.{bytes_posted}
 use Rattle.mip_engine.specs.Quiet.{IsSilent, IsQuiet}
 use Rattle.mip_engine.proofs.NumberLaws.{numbered_posted}
 use Rattle.mip_engine.proofs.QuietLaws.{at_note, at_reached, quiet_by, silent_by, asked-same, hears-same, nodes-same, now-same, history-same}

@@ -14,8 +14,8 @@ use Rattle.mip_history.specs.Setup.{Setup, Host, Kind}
 use Rattle.mip_history.specs.Setup.Kind.{Correspondent as OfCorrespondent, Agent as OfAgent, Mobile as OfMobile}
 use Rattle.mip_history.specs.Runs.{Run, note}
 use Rattle.mip_links.specs.Table.{link_of}
-use Rattle.mip_watch.specs.Stands.{number_posted}
-use Rattle.mip_chronicle.specs.Packets.{number_reached}
+use Rattle.mip_provenance_index.specs.Stands.{number_posted}
+use Rattle.mip_recorder.specs.Packets.{number_reached}
 use Rattle.mip_nodes.specs.Roles.{is_apart}
 use Rattle.mip_history.specs.Knowing.{stands_on}
 use Rattle.mip_history.specs.Questions.{moment_says, moment_in, holder_says, holder_in, claims, declared_in, listen_says, hears_in, restarts, life_in, moved_says, spot_in, asked_in}

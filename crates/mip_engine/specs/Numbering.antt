@@ -3,9 +3,9 @@ use Rattle.std.specs.Prelude.{◌≡◌, ℕ, List, length, option_map, slice_ge
 use Rattle.std.specs.List.{filter_map}
 use Rattle.mip_entries.specs.declared.entry.Entry.{Entry}
 use Rattle.mip_links.specs.Table.{Post}
-use Rattle.mip_marks.specs.Entries.{packet_in}
-use Rattle.mip_watch.specs.Stands.{number_posted}
-use Rattle.mip_chronicle.specs.Packets.{IsInOrder}
+use Rattle.mip_provenance.specs.Entries.{packet_in}
+use Rattle.mip_provenance_index.specs.Stands.{number_posted}
+use Rattle.mip_recorder.specs.Packets.{IsInOrder}
 
 pub record IsNumbered (posts : List Post) (past : List Entry) : Type 0 where
   -- packets are heard and handed over once they were posted

@@ -3,8 +3,8 @@
 ghost use Rattle.std.specs.Prelude.{◌≡◌, ◌+◌, ◌<◌, ◌≤◌, ◌^◌, ◌∷◌, ◌++◌, if◌then◌else◌, length, map, IfOk, OnOk, Option, None, Some, option_map};
 ghost use Rattle.mip_entries.specs.declared.entry.Entry.TheVariants.{At};
 ghost use Rattle.mip_history.specs.Nodes.{marks_of};
-ghost use Rattle.mip_marks.specs.Entries.{update_accepted};
-ghost use Rattle.mip_marks.specs.Marks.{mark_in};
+ghost use Rattle.mip_provenance.specs.Entries.{update_accepted};
+ghost use Rattle.mip_provenance.specs.Marks.{mark_in};
 ghost use Rattle.mip_schedule.specs.Versions.{numbers_of_version};
 ghost use Rattle.mip_engine.specs.Engines.{new_engine, with_entry, with_entries, all_told, at_moment};
 ghost use Rattle.mip_engine.specs.Numbering.{IsNumbered};
@@ -13,11 +13,11 @@ mod links;
 mod members;
 mod settling;
 
-use mip_chronicle::Chronicle;
 use mip_entries::{Entry, History};
 use mip_links::Net;
-use mip_marks::{AcceptedUpdate, Mark};
 use mip_nodes::Node;
+use mip_provenance::{AcceptedUpdate, Mark};
+use mip_recorder::Recorder;
 use mip_words::{Memory, Moment, Prefix};
 use std::alloc::Global;
 use std::marker::Model;
@@ -34,11 +34,11 @@ pub struct Engine {
     outsiders: u8,
     version: u8,
     moment: Moment,
-    chronicle: Chronicle,
+    recorder: Recorder,
 }
 
 impl Model for Engine {
-    ghost use Rattle.mip_chronicle.specs.Given.{past_of};
+    ghost use Rattle.mip_recorder.specs.Given.{past_of};
     ghost use Rattle.mip_schedule.specs.Versions.{numbers_of_version};
     ghost use Rattle.mip_engine.specs.Engines.{EngineSeen, IsCalm};
 
@@ -51,8 +51,8 @@ impl Model for Engine {
       outsiders = e.outsiders;
       numbers = numbers_of_version e.version;
       moment = e.moment.0;
-      past = past_of e.chronicle;
-      told = e.chronicle.told;
+      past = past_of e.recorder;
+      told = e.recorder.told;
     } };
 
     ghost invariant = { λ e. IsCalm e.nodes.items e.moment.0 };
@@ -82,7 +82,7 @@ impl Engine {
             outsiders,
             version,
             moment: start,
-            chronicle: Chronicle::new(alloc)?,
+            recorder: Recorder::new(alloc)?,
         })
     }
 
@@ -90,7 +90,7 @@ impl Engine {
     pub fn into_history(self) -> History
         ensures { self.past ≡ self.told ++ result }
     {
-        self.chronicle.into_history()
+        self.recorder.into_history()
     }
 
     /// How many entries were not given away.
@@ -98,7 +98,7 @@ impl Engine {
         ensures is { length self.now.past ≡ length self.now.told + result }
         ensures none { result ≡ 0 → self.now.told ≡ self.now.past }
     {
-        self.chronicle.waiting()
+        self.recorder.waiting()
     }
 
     /// The entries that were not given away. From here on they are.
@@ -106,14 +106,14 @@ impl Engine {
         ensures given { IfOk result (λ h. self.old.past ≡ self.old.told ++ h) }
         ensures after { OnOk result (self.new ≡ all_told self.old) }
     {
-        self.chronicle.take()
+        self.recorder.take()
     }
 
     /// An entry is left.
     pub fn note(&mut self, entry: Entry) -> Result<(), Memory>
         ensures { OnOk result (self.new ≡ with_entry entry self.old) }
     {
-        self.chronicle.push(entry)
+        self.recorder.push(entry)
     }
 
     /// The mark of the update that an entry accepts, if it accepts one.
@@ -124,7 +124,7 @@ impl Engine {
             return Ok(None);
         };
         let packet = self.packet(accepted.number);
-        let mark = self.chronicle.mark(&accepted, packet)?;
+        let mark = self.recorder.mark(&accepted, packet)?;
         Ok(Some(mark))
     }
 
@@ -178,7 +178,7 @@ impl Engine {
         requires early { moment.0 < 2 ^ 62 }
         ensures { OnOk result (self.new ≡ with_entry (At moment) (at_moment moment.0 self.old)) }
     {
-        self.chronicle.push(Entry::At { moment })?;
+        self.recorder.push(Entry::At { moment })?;
         self.moment = moment;
         Ok(())
     }

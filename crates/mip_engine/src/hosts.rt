@@ -3,7 +3,7 @@
 ghost use Rattle.std.specs.Prelude.{◌≡◌, ◌++◌, [], ◌∷◌, List, IfOk, OnOk, option_map};
 ghost use Rattle.std.specs.Option.{option_and_then};
 ghost use Rattle.mip_words.specs.declared.address.Address.{Address};
-ghost use Rattle.mip_declared.specs.declared.declaration.Declaration.{Declaration};
+ghost use Rattle.mip_symbols.specs.declared.declaration.Declaration.{Declaration};
 ghost use Rattle.mip_history.specs.Setup.{addresses_in, served_by, with_any, hosts_from, hosts_in};
 ghost use Rattle.std.specs.Prelude.{slice_get, length};
 

@@ -10,7 +10,7 @@ ghost use Rattle.mip_history.specs.Runs.{Run, note};
 ghost use Rattle.mip_history.specs.Permitted.{opened, claimed_entry, is_same_link, is_agent_on};
 ghost use Rattle.mip_nodes.specs.Hosts.{IsFit};
 ghost use Rattle.mip_schedule.specs.Lawful.{IsLawful};
-ghost use Rattle.mip_declared.specs.Places.{AreFew};
+ghost use Rattle.mip_symbols.specs.Places.{AreFew};
 ghost use Rattle.mip_schedule.specs.Schedules.{content};
 ghost use Rattle.mip_engine.specs.Engines.{IsFree, new_engine};
 ghost use Rattle.mip_engine.specs.Joining.{ArePlaced, hosts_of, anycast_for};

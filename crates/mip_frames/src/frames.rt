@@ -11,8 +11,8 @@ ghost use Rattle.mip_frames.specs.Lending.{IsSameWire, with_link};
 
 use crate::routes::Routes;
 use crate::sending::send_frame;
+use mip_ghost_log::GhostLog;
 use mip_outside::{Link, Put, PutFault, Wire};
-use mip_trail::Trail;
 use mip_words::Shield;
 use std::alloc::Global;
 
@@ -23,7 +23,7 @@ pub struct Frames<'a, L: Link> {
     link: &'a mut L,
     routes: &'a Routes,
     fallback: Option<u16>,
-    answered: Trail<Result<Put, PutFault>>,
+    answered: GhostLog<Result<Put, PutFault>>,
 }
 
 impl<'a, L: Link> Frames<'a, L> {
@@ -45,7 +45,7 @@ impl<'a, L: Link> Frames<'a, L> {
             link,
             routes,
             fallback,
-            answered: Trail::new(),
+            answered: GhostLog::new(),
         }
     }
 

@@ -12,7 +12,7 @@ use Rattle.mip_rules_correspondent.proofs.Taken.{refreshed_none, sent_none}
 use Rattle.mip_rules_agent.specs.declared.identity.Identity.{Identity}
 use Rattle.mip_rules_agent.specs.Known.{Known}
 use Rattle.mip_rules_agent.specs.Steps as agents
-use Rattle.mip_rules_agent.specs.Turns as agent_turns
+use Rattle.mip_rules_agent.specs.Transitions as agent_turns
 use Rattle.mip_rules_agent.specs.Calls as agent_calls
 use Rattle.mip_rules_agent.specs.Doing as agent_doing
 use Rattle.mip_rules_agent.proofs.Answers.{call-whole}

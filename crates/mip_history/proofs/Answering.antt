@@ -9,9 +9,9 @@ use Rattle.mip_entries.specs.declared.answer.Answer.TheVariants.{Send, Note}
 use Rattle.mip_entries.specs.declared.entry.Entry.{Entry}
 use Rattle.mip_entries.specs.declared.entry.Entry.TheVariants as entries
 use Rattle.mip_entries.specs.Completed.{named}
-use Rattle.mip_marks.specs.declared.mark.Mark.{Mark}
-use Rattle.mip_marks.specs.declared.mark.Mark.TheVariants.{Origin, Forged}
-use Rattle.mip_marks.specs.Entries.{mark_entry}
+use Rattle.mip_provenance.specs.declared.mark.Mark.{Mark}
+use Rattle.mip_provenance.specs.declared.mark.Mark.TheVariants.{Origin, Forged}
+use Rattle.mip_provenance.specs.Entries.{mark_entry}
 use Rattle.mip_rules_correspondent.specs.Steps.{Step, Accepts, answer_of, answers_of, is_acceptance}
 use Rattle.mip_rules_agent.specs.Wholes as agents
 use Rattle.mip_rules_mobile.specs.Steps as mobiles

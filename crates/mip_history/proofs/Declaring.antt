@@ -15,11 +15,11 @@ use Rattle.mip_entries.specs.declared.entry.Entry.{Entry}
 use Rattle.mip_entries.specs.declared.entry.Entry.TheVariants as entries
 use Rattle.mip_entries.specs.Completed.{node_id, named}
 use Rattle.mip_entries.specs.Reasons.{is_gone_why}
-use Rattle.mip_marks.specs.declared.accepted_update.AcceptedUpdate.{AcceptedUpdate}
-use Rattle.mip_marks.specs.declared.mark.Mark.{Mark}
-use Rattle.mip_marks.specs.declared.mark.Mark.TheVariants as marks
-use Rattle.mip_marks.specs.Entries.{update_accepted, mark_entry}
-use Rattle.mip_marks.specs.Marks.{mark_in}
+use Rattle.mip_provenance.specs.declared.accepted_update.AcceptedUpdate.{AcceptedUpdate}
+use Rattle.mip_provenance.specs.declared.mark.Mark.{Mark}
+use Rattle.mip_provenance.specs.declared.mark.Mark.TheVariants as marks
+use Rattle.mip_provenance.specs.Entries.{update_accepted, mark_entry}
+use Rattle.mip_provenance.specs.Marks.{mark_in}
 use Rattle.mip_rules_correspondent.specs.Steps as correspondents
 use Rattle.mip_rules_correspondent.specs.Calls as correspondent_calls
 use Rattle.mip_rules_correspondent.specs.Doing as correspondent_doing
@@ -32,9 +32,9 @@ use Rattle.mip_rules_mobile.specs.Steps as mobiles
 use Rattle.mip_rules_mobile.specs.Calls as mobile_calls
 use Rattle.mip_rules_mobile.specs.Doing as mobile_doing
 use Rattle.mip_schedule.specs.Lawful.{IsLink, IsNode}
-use Rattle.mip_declared.specs.Places.{members}
-use Rattle.mip_declared.specs.declared.declaration.Declaration.{Declaration}
-use Rattle.mip_declared.specs.declared.places.Sort.TheVariants as sorts
+use Rattle.mip_symbols.specs.Places.{members}
+use Rattle.mip_symbols.specs.declared.declaration.Declaration.{Declaration}
+use Rattle.mip_symbols.specs.declared.places.Sort.TheVariants as sorts
 use Rattle.mip_links.specs.Table.{Post, Asked, link_from, link_of, is_node, is_address, held_by, at_holder, at_link, delivery, outsider_of, destination_in}
 use Rattle.mip_links.specs.Nets.{is_held_by}
 use Rattle.mip_links.specs.declared.delivery.Delivery.{Delivery}

@@ -20,7 +20,7 @@ use Rattle.mip_rules_correspondent.specs.declared.identity.Identity.{Identity}
 use Rattle.mip_updates.specs.declared.registration.Registration.{Registration}
 use Rattle.mip_rules_correspondent.specs.Steps.{Step, is_acceptance}
 use Rattle.mip_rules_correspondent.specs.Questions.{known}
-use Rattle.mip_rules_correspondent.specs.Turns.{Turn}
+use Rattle.mip_rules_correspondent.specs.Transitions.{Transition}
 use Rattle.mip_updates.specs.Registrations.{registration_in, home_of}
 use Rattle.mip_rules_correspondent.specs.declared.verdict.Verdict.TheVariants.{Accept}
 use Rattle.mip_rules_correspondent.specs.Verdicts.{Bench, verdict}
@@ -42,11 +42,11 @@ use Rattle.mip_history.specs.Delivery.{handed_over}
 use Rattle.mip_history.specs.Bound.{accepted_by, packet_in, judge_in, IsAccepted}
 use Rattle.mip_history.proofs.Numbered.{packet_numbered}
 use Rattle.mip_history.proofs.Runs.{IsPast, IsRun, Goes, quiet_handed, quiet_run}
-use Rattle.mip_history.proofs.Turns.{done, quiet_turn, accepting_turn}
+use Rattle.mip_history.proofs.Transitions.{done, quiet_turn, accepting_turn}
 use Rattle.mip_rules_correspondent.proofs.Taken.{accepted_home, taken_is}
 
 -- a turn of a correspondent in which nothing is accepted
-pub turned_quietly : (s : Setup) (n : ℕ) (own : Address) (run : Run) (t : Turn) → IsRun s run → n < length s.hosts → is_correspondent_at s n ≡ true
+pub turned_quietly : (s : Setup) (n : ℕ) (own : Address) (run : Run) (t : Transition) → IsRun s run → n < length s.hosts → is_correspondent_at s n ≡ true
     → t.now ≡ now_in s run → list_any is_acceptance t.steps ≡ false → Goes s run (turned s n own t run)
 turned_quietly s n own run t is inside corresponds now none =
     subst (λ (at : ℕ). Goes s run (done s n (link_or_first s own.0) at t.steps run)) (sym now)
@@ -167,7 +167,7 @@ module _ (s : Setup) (k n : ℕ) (post : Post) (link : Option ℕ) (before : Run
   pub handed_to : Goes s run (turned s n own (turn_of me (known_in s run n room) (now_in s run) (Take k post.shield (handed_over post.packet link))) run)
   handed_to = by found.1
     where
-      t : Turn
+      t : Transition
       t = turn_of me (known_in s run n room) (now_in s run) (Take k post.shield (handed_over post.packet link))
 
       found : (t.now ≡ now_in s run) × ((list_any is_acceptance t.steps ≡ false) ⊎ IsUpdateTaken me (known_in s run n room) (now_in s run) k post.shield (handed_over post.packet link) t.steps)

@@ -8,7 +8,7 @@ use Rattle.mip_lists.proofs.EachLaws.{each-append}
 use Rattle.mip_entries.specs.declared.entry.Entry.TheVariants as entries
 use Rattle.mip_entries.specs.Completed.{node_id}
 use Rattle.mip_entries.specs.Stamped.{Stamped}
-use Rattle.mip_rules_correspondent.specs.Turns as correspondent_turns
+use Rattle.mip_rules_correspondent.specs.Transitions as correspondent_turns
 use Rattle.mip_rules_correspondent.specs.Steps as correspondents
 use Rattle.mip_rules_correspondent.specs.Calls as correspondent_calls
 use Rattle.mip_rules_correspondent.specs.Doing as correspondent_doing
@@ -21,7 +21,7 @@ use Rattle.mip_rules_agent.specs.Questions.{binding_of, known}
 use Rattle.mip_rules_agent.proofs.Taken.{taken_is}
 use Rattle.mip_rules_agent.proofs.HomeLaws.{tick-quiet, plan-quiet, hear-quiet}
 use Rattle.mip_rules_mobile.specs.Known as mobile_known
-use Rattle.mip_rules_mobile.specs.Turns as mobile_turns
+use Rattle.mip_rules_mobile.specs.Transitions as mobile_turns
 use Rattle.mip_rules_mobile.specs.Steps as mobiles
 use Rattle.mip_rules_mobile.specs.Calls as mobile_calls
 use Rattle.mip_rules_mobile.specs.Doing as mobile_doing
@@ -49,7 +49,7 @@ homed_asks s does None run h go = homed_other s entries.Idle run refl h
 homed_asks s does (Some call) run h go = go call
 
 module _ (s : Setup) (n : ℕ) (run : Run) (h : IsHomed s run) where
-  homed_correspondent : (own : Address) (t : correspondent_turns.Turn) → IsHomed s (turned s n own t run)
+  homed_correspondent : (own : Address) (t : correspondent_turns.Transition) → IsHomed s (turned s n own t run)
   homed_correspondent own t =
       homed_answers s n (link_or_first s own.0) (correspondents.answers_of t.steps) (with_past n (correspondent_turns.with_turn (past_at run n) t) run)
       (correspondent_fine s n t.steps) (record { agents = h.agents; each = h.each; under = h.under; homes = h.homes })
@@ -58,7 +58,7 @@ module _ (s : Setup) (n : ℕ) (run : Run) (h : IsHomed s run) where
       → IsHomed s (mobile_turned s n own (mobile_doing.turn_of (mobile_known_in s run n own agent) (now_in s run) c) run)
   homed_mobile own agent host c =
       let k : mobile_known.Known = mobile_known_in s run n own agent in
-      let t : mobile_turns.Turn = mobile_doing.turn_of k (now_in s run) c in
+      let t : mobile_turns.Transition = mobile_doing.turn_of k (now_in s run) c in
       let under : AreShieldedFrom own (mobiles.answers_of t.steps) =
       subst (λ (a : Address). AreShieldedFrom a (mobiles.answers_of t.steps)) (past-home own agent s.numbers (secrets_in s n 0) (mobile_past_at run n)) (call-shielded k (now_in s run) c) in
       homed_answers s n _ (mobiles.answers_of t.steps) (with_mobile_past n (mobile_turns.with_turn (mobile_past_at run n) t) run)

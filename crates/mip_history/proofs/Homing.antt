@@ -21,13 +21,13 @@ use Rattle.mip_entries.specs.Stamped.{Stamped}
 use Rattle.mip_updates.specs.declared.registration.Registration.{Registration}
 use Rattle.mip_updates.specs.Registrations.{registration_in, home_of}
 use Rattle.mip_rules_correspondent.specs.Steps as correspondents
-use Rattle.mip_turns.specs.Turns.{StandsBy}
+use Rattle.mip_transitions.specs.Transitions.{StandsBy}
 use Rattle.mip_rules_agent.specs.declared.identity.Identity.{Identity}
 use Rattle.mip_rules_agent.specs.declared.home_binding.HomeBinding.{HomeBinding}
 use Rattle.mip_rules_agent.specs.Known as agent_known
 use Rattle.mip_rules_agent.specs.Calls as agent_calls
 use Rattle.mip_rules_agent.specs.Steps.{Step, Called, Sends, Registers, Claims, Releases, Denies, Drops, Rang, answers_of, is_registration}
-use Rattle.mip_rules_agent.specs.Turns as agent_turns
+use Rattle.mip_rules_agent.specs.Transitions as agent_turns
 use Rattle.mip_rules_agent.specs.Questions.{known, binding_of, holds}
 use Rattle.mip_rules_agent.specs.Doing.{turn_of}
 use Rattle.mip_rules_agent.specs.Rules.{bench, claim_with}
@@ -132,7 +132,7 @@ module _ (s : Setup) (n : ℕ) (own : Address) (preference life room : ℕ) (ser
   abbrev now : ℕ
   now = now_in s run
 
-  abbrev turn : agent_calls.Call → agent_turns.Turn
+  abbrev turn : agent_calls.Call → agent_turns.Transition
   turn c = turn_of me k now c
 
   abbrev more : agent_calls.Call → List (Stamped Step)

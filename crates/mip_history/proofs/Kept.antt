@@ -17,7 +17,7 @@ use Rattle.mip_history.specs.Again.{Advance, advance}
 use Rattle.mip_history.proofs.Places.{acceptance_at}
 use Rattle.mip_history.proofs.Moments.{IsNotBefore}
 use Rattle.mip_history.proofs.Rounds.{last_in}
-use Rattle.mip_history.proofs.Turns.{lived_at}
+use Rattle.mip_history.proofs.Transitions.{lived_at}
 
 module _ (n home now m : ℕ) (near : now < m + 240000) where
   -- the moment has come, and this sequence is kept

@@ -17,7 +17,7 @@ use Rattle.mip_history.specs.Setup.{Setup}
 use Rattle.mip_history.specs.Questions.{moment_in}
 use Rattle.mip_history.specs.Bound.{Lived, lived, accepted_by, accepted_entry, is_restart_of, is_accepted_for}
 use Rattle.mip_history.proofs.Places.{acceptance_at}
-use Rattle.mip_history.proofs.Turns.{accepted_more}
+use Rattle.mip_history.proofs.Transitions.{accepted_more}
 
 -- a question that acceptances of other homes do not change
 module _ {X : Type 0} (question : List Acceptance → X) (n home : ℕ) (other : (xs : List Acceptance) (x : Acceptance) → x.home ≢ home → question (xs ++ x ∷ []) ≡ question xs) where

@@ -14,13 +14,13 @@ use Rattle.mip_entries.specs.declared.answer.Answer.TheVariants.{Send, Note}
 use Rattle.mip_entries.specs.declared.entry.Entry.{Entry}
 use Rattle.mip_entries.specs.declared.entry.Entry.TheVariants as entries
 use Rattle.mip_entries.specs.Stamped.{Stamped}
-use Rattle.mip_turns.specs.Turns.{StandsBy}
+use Rattle.mip_transitions.specs.Transitions.{StandsBy}
 use Rattle.mip_rules_agent.specs.declared.ending.Ending.{Ending}
 use Rattle.mip_rules_agent.specs.declared.identity.Identity.{Identity}
 use Rattle.mip_rules_agent.specs.Known as agent_known
 use Rattle.mip_rules_agent.specs.Steps as agents
 use Rattle.mip_rules_agent.specs.Calls as agent_calls
-use Rattle.mip_rules_agent.specs.Turns as agent_turns
+use Rattle.mip_rules_agent.specs.Transitions as agent_turns
 use Rattle.mip_rules_agent.specs.Questions as agent_questions
 use Rattle.mip_rules_agent.specs.Doing as agent_doing
 use Rattle.mip_rules_agent.proofs.Pasts as agent_pasts
@@ -29,7 +29,7 @@ use Rattle.mip_rules_agent.proofs.Ticking.{tick-leaves}
 use Rattle.mip_rules_mobile.specs.Known as mobile_known
 use Rattle.mip_rules_mobile.specs.Steps as mobiles
 use Rattle.mip_rules_mobile.specs.Calls as mobile_calls
-use Rattle.mip_rules_mobile.specs.Turns as mobile_turns
+use Rattle.mip_rules_mobile.specs.Transitions as mobile_turns
 use Rattle.mip_rules_mobile.specs.Questions as mobile_questions
 use Rattle.mip_rules_mobile.specs.Doing as mobile_doing
 use Rattle.mip_rules_mobile.proofs.Calls as mobile_stands
@@ -186,7 +186,7 @@ module _ (s : Setup) (run : Run) (is : IsRun s run) (n : ℕ) (own : Address) (p
   abbrev k : agent_known.Known
   k = agent_known_in run n serves
 
-  abbrev turn : agent_turns.Turn
+  abbrev turn : agent_turns.Transition
   turn = agent_doing.turn_of me k now agent_calls.Tick
 
   abbrev more : List (Stamped agents.Step)
@@ -238,7 +238,7 @@ module _ (s : Setup) (run : Run) (is : IsRun s run) (n : ℕ) (home : Address) (
   abbrev knew : mobile_known.Known
   knew = mobile_known_in s run n home agent
 
-  abbrev tick : mobile_turns.Turn
+  abbrev tick : mobile_turns.Transition
   tick = mobile_doing.turn_of knew at mobile_calls.Tick
 
   abbrev longer : List (Stamped mobiles.Step)

@@ -4,7 +4,7 @@ pub mod Posts
 mod Claiming
 mod Residents
 mod Answering
-mod Turns
+mod Transitions
 pub mod Numbered
 mod Handing
 pub mod PartTurns

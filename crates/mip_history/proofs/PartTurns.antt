@@ -31,7 +31,7 @@ use Rattle.mip_history.specs.Nodes.{answered, mobile_turned}
 use Rattle.mip_history.specs.Bound.{accepted_by, accepted_entry, IsAccepted}
 use Rattle.mip_history.proofs.Runs.{IsKept, IsPart, past_stays, part_stays, IsRun, IsQuiet, Goes, goes_quietly, goes_then, quiet_then}
 use Rattle.mip_history.proofs.Answering.{clash, differs, quiet_answers, mobile_silence}
-use Rattle.mip_history.proofs.Turns.{quiet_past, accepting_past, accepted_moment, accepted_lives, accepted_kept, accepted_other, at_past, marked_with, quiet_mark}
+use Rattle.mip_history.proofs.Transitions.{quiet_past, accepting_past, accepted_moment, accepted_lives, accepted_kept, accepted_other, at_past, marked_with, quiet_mark}
 
 -- a mobile is another node than one that is none
 pub mobile_apart : (s : Setup) (n : ℕ) → is_mobile_host (slice_get s.hosts n) ≡ false → (m : ℕ) (home : Address) (agent : Option Address)

@@ -17,7 +17,7 @@ use Rattle.mip_entries.specs.declared.entry.Entry.TheVariants as entries
 use Rattle.mip_history.specs.Setup.{Setup}
 use Rattle.mip_history.specs.Questions.{moment_in}
 use Rattle.mip_history.specs.Bound.{Lived, lived, accepted_by, floor_in, is_restart_of, Outlives}
-use Rattle.mip_history.proofs.Turns.{lived_at}
+use Rattle.mip_history.proofs.Transitions.{lived_at}
 
 -- the acceptance that an entry made, at a moment
 abbrev pub acceptance_at : ℕ → Address → ℕ → Address → ℕ → Moment → Acceptance

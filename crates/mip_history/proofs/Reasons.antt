@@ -4,21 +4,21 @@ use Rattle.std.specs.Prelude.{Option, Some, None, ◌||◌}
 use Rattle.std.specs.List.{AllByRecursion}
 use Rattle.std.proofs.lemmas.Bool.{cond_both}
 use Rattle.mip_words.specs.declared.address.Address.{Address}
-use Rattle.mip_says.specs.Says.{Key}
+use Rattle.mip_inspection.specs.Says.{UpdateIdentity}
 use Rattle.mip_entries.specs.declared.answer.Answer.{Answer}
 use Rattle.mip_entries.specs.declared.answer.Answer.TheVariants.{Send, Note}
 use Rattle.mip_entries.specs.declared.entry.Entry.{Entry}
 use Rattle.mip_entries.specs.declared.entry.Entry.TheVariants as entries
 use Rattle.mip_entries.specs.Reasons.{is_unsent_why, is_dropped_why}
-use Rattle.mip_marks.specs.declared.accepted_update.AcceptedUpdate.{AcceptedUpdate}
-use Rattle.mip_marks.specs.declared.mark.Mark.{Mark}
-use Rattle.mip_marks.specs.declared.mark.Mark.TheVariants as marks
-use Rattle.mip_marks.specs.Entries.{declared_in}
-use Rattle.mip_marks.specs.Sights.{Sight, sights}
-use Rattle.mip_marks.specs.Firsts.{Post, post_at, key_at, first_update}
-use Rattle.mip_marks.specs.Pairs.{Pair, gives, pair_by}
-use Rattle.mip_marks.specs.Causes.{Claim, home_claim, careof_claim, is_used_early, is_named_otherwise}
-use Rattle.mip_marks.specs.Marks.{by_claims, by_pair, by_post, by_first, by_key, mark_of, mark_in}
+use Rattle.mip_provenance.specs.declared.accepted_update.AcceptedUpdate.{AcceptedUpdate}
+use Rattle.mip_provenance.specs.declared.mark.Mark.{Mark}
+use Rattle.mip_provenance.specs.declared.mark.Mark.TheVariants as marks
+use Rattle.mip_provenance.specs.Entries.{declared_in}
+use Rattle.mip_provenance.specs.Sights.{Sight, sights}
+use Rattle.mip_provenance.specs.Firsts.{Post, post_at, key_at, first_update}
+use Rattle.mip_provenance.specs.Pairs.{Pair, gives, pair_by}
+use Rattle.mip_provenance.specs.Causes.{Claim, home_claim, careof_claim, is_used_early, is_named_otherwise}
+use Rattle.mip_provenance.specs.Marks.{by_claims, by_pair, by_post, by_first, by_key, mark_of, mark_in}
 use Rattle.mip_rules_correspondent.specs.Wholes as parts
 use Rattle.mip_rules_agent.specs.Wholes as agents
 use Rattle.mip_rules_mobile.specs.Calls.{Call}
@@ -102,15 +102,15 @@ pair_cause : (seen : List Sight) (a : AcceptedUpdate) (update : ℕ) (o : Option
 pair_cause seen a update None = (omega arith, omega arith)
 pair_cause seen a update (Some pair) = claims_cause seen (home_claim seen a pair.home) (careof_claim seen a pair) update
 
-post_cause : (seen : List Sight) (a : AcceptedUpdate) (own : Address) (key : Key) (update : ℕ) (o : Option Post) → HasCause (by_post seen a own key update o)
+post_cause : (seen : List Sight) (a : AcceptedUpdate) (own : Address) (key : UpdateIdentity) (update : ℕ) (o : Option Post) → HasCause (by_post seen a own key update o)
 post_cause seen a own key update None = (omega arith, omega arith)
 post_cause seen a own key update (Some post) = pair_cause seen a update (pair_by seen a.careof_index (gives own a.careof key) update post.maker)
 
-first_cause : (seen : List Sight) (a : AcceptedUpdate) (own : Address) (key : Key) (o : Option ℕ) → HasCause (by_first seen a own key o)
+first_cause : (seen : List Sight) (a : AcceptedUpdate) (own : Address) (key : UpdateIdentity) (o : Option ℕ) → HasCause (by_first seen a own key o)
 first_cause seen a own key None = (omega arith, omega arith)
 first_cause seen a own key (Some update) = post_cause seen a own key update (post_at seen update)
 
-key_cause : (seen : List Sight) (a : AcceptedUpdate) (own : Address) (o : Option Key) → HasCause (by_key seen a own o)
+key_cause : (seen : List Sight) (a : AcceptedUpdate) (own : Address) (o : Option UpdateIdentity) → HasCause (by_key seen a own o)
 key_cause seen a own None = (omega arith, omega arith)
 key_cause seen a own (Some key) = first_cause seen a own key (first_update seen key)
 

@@ -12,9 +12,9 @@ use Rattle.mip_lists.specs.EachAfter.{EachAfter}
 use Rattle.mip_lists.specs.Last.{or_else}
 use Rattle.mip_ipv6.specs.Packet.{Packet}
 use Rattle.mip_options.specs.declared.indices.Indices.{Indices}
-use Rattle.mip_says.specs.Says.{Key, carried, says}
-use Rattle.mip_says.specs.Says.Carried.{Update}
-use Rattle.mip_says.proofs.Sayings.{carried_plain, carried_opened}
+use Rattle.mip_inspection.specs.Says.{UpdateIdentity, carried, says}
+use Rattle.mip_inspection.specs.Says.Carried.{Update}
+use Rattle.mip_inspection.proofs.Sayings.{carried_plain, carried_opened}
 use Rattle.mip_rules_mobile.specs.Part.{Itself, Within}
 use Rattle.mip_rules_mobile.proofs.Checks.{opened-reads}
 use Rattle.mip_binding.specs.Held.{floor}
@@ -78,7 +78,7 @@ packet_is : (x y : List ℕ) → Some x ≡ Some y → x ≡ y
 packet_is x y e = cc
 
 -- the packet of an acceptance is the one that carries the update in the whole history
-same_packet : (s : Setup) (front es : List Entry) (n k : ℕ) (home : Address) (binding : ℕ) (a : Accepted) (key : Key) (is : IsAccepted s front n k home binding a) (u : CarriesUpdate (front ++ es) k key) → u.packet ≡ is.bytes
+same_packet : (s : Setup) (front es : List Entry) (n k : ℕ) (home : Address) (binding : ℕ) (a : Accepted) (key : UpdateIdentity) (is : IsAccepted s front n k home binding a) (u : CarriesUpdate (front ++ es) k key) → u.packet ≡ is.bytes
 same_packet s front es n k home binding a key is u = packet_is u.packet is.bytes (sym u.posted ∙ packet_stays k front es is.bytes is.posted)
 
 -- what is read of a packet says what the packet carries
@@ -90,7 +90,7 @@ read_says (Mobile agent) bytes p mobility (Within outer read opens) =
     carried_opened bytes outer p outer.head.source read opens
     ∙ carried_plain outer.body p (opened-reads outer.head.source outer p opens) (λ t. omega (arith, mobility))
 
-accepted_says : (s : Setup) (front es : List Entry) (n k : ℕ) (home : Address) (binding : ℕ) (a : Accepted) (key : Key) (is : IsAccepted s front n k home binding a) → CarriesUpdate (front ++ es) k key → says is.packet ≡ Update key
+accepted_says : (s : Setup) (front es : List Entry) (n k : ℕ) (home : Address) (binding : ℕ) (a : Accepted) (key : UpdateIdentity) (is : IsAccepted s front n k home binding a) → CarriesUpdate (front ++ es) k key → says is.packet ≡ Update key
 accepted_says s front es n k home binding a key is u =
     sym (read_says is.kind is.bytes is.packet is.mobility is.read)
     ∙ ap carried (sym (same_packet s front es n k home binding a key is u))

@@ -19,7 +19,7 @@ use Rattle.mip_rules_agent.specs.declared.home_row.HomeRow.{HomeRow}
 use Rattle.mip_rules_agent.specs.Questions.{rows_at}
 use Rattle.mip_rules_mobile.specs.Calls as mobiles
 use Rattle.mip_rules_mobile.specs.Steps as mobile_steps
-use Rattle.mip_rules_mobile.specs.Turns.{Turn}
+use Rattle.mip_rules_mobile.specs.Transitions.{Transition}
 use Rattle.mip_rules_mobile.specs.Doing.{turn_of}
 use Rattle.mip_rules_mobile.specs.Part.{PartLife, part_life, IsPartReborn}
 use Rattle.mip_rules_mobile.proofs.Calls.{call-now}
@@ -138,7 +138,7 @@ module _ (s : Setup) (run : Run) (n : ℕ) (is : IsRun s run) where
     abbrev secrets : Life
     secrets = secrets_in s n (life_in next.past n)
 
-    abbrev turn : Turn
+    abbrev turn : Transition
     turn = turn_of (mobile_known_in s next n home agent) (now_in s next) (mobiles.Restart secrets)
 
     reborn : IsPartReborn secrets (turn_of (mobile_known_in s next n home agent) (now_in s next) (mobiles.Restart secrets)).steps

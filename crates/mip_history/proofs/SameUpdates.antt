@@ -20,8 +20,8 @@ use Rattle.mip_mobhdr.specs.Said.{Said}
 use Rattle.mip_mobhdr.specs.Said.Said.{Refresh, HomeInit, CareofInit, HomeTest, CareofTest, Update as BindingUpdate, Acknowledgement, Error}
 use Rattle.mip_mobhdr.specs.Reading.{has_bit, or_fault, update_of, message_of}
 use Rattle.mip_tokens.specs.Token.{authenticated}
-use Rattle.mip_says.specs.Says.{Key, update_said, said_by, says}
-use Rattle.mip_says.specs.Says.Carried.{Update, Other}
+use Rattle.mip_inspection.specs.Says.{UpdateIdentity, update_said, said_by, says}
+use Rattle.mip_inspection.specs.Says.Carried.{Update, Other}
 use Rattle.mip_updates.specs.declared.registration.Registration.{Registration}
 use Rattle.mip_updates.specs.Registrations.{registration, registration_said, registration_in}
 use Rattle.mip_rules_correspondent.proofs.Taken.{update_read}
@@ -118,11 +118,11 @@ after_ends zero place v (type ∷ rest) w a e none some =
         }
 
 -- what the key says of a body
-record IsOf (key : Key) (body : List ℕ) : Type 0 where
+record IsOf (key : UpdateIdentity) (body : List ℕ) : Type 0 where
   message : authenticated body ≡ key.message
   ends : EndsWith (drop 12 body) key.authenticator
 
-module _ (key : Key) (body : List ℕ) (is : IsOf key body) where
+module _ (key : UpdateIdentity) (body : List ℕ) (is : IsOf key body) where
   long : 24 ≤ length body
   long = omega (arith, ap (λ (l : List ℕ). length l) is.ends.whole, length-append is.ends.front key.authenticator, is.ends.size, length-drop 12 body)
 
@@ -142,7 +142,7 @@ module _ (key : Key) (body : List ℕ) (is : IsOf key body) where
   rest_is = drop_split body 6 (length body - 12) (omega (arith, long)) ∙ ap (λ (l : List ℕ). slice_range body 6 (length body - 12) ++ l) last_12
 
 -- both bodies agree behind the checksum
-same_rest : (key : Key) (b c : List ℕ) → IsOf key b → IsOf key c → drop 6 b ≡ drop 6 c
+same_rest : (key : UpdateIdentity) (b c : List ℕ) → IsOf key b → IsOf key c → drop 6 b ≡ drop 6 c
 unfolding authenticated
 same_rest key b c x y =
     rest_is key b x ∙ ap (λ (l : List ℕ). l ++ key.authenticator) middle ∙ sym (rest_is key c y)
@@ -160,7 +160,7 @@ same_rest key b c x y =
     middle = let e = behind_4 in cc
 
 -- what a packet says that carries an update
-record Told (p : Packet) (key : Key) : Type 0 where
+record Told (p : Packet) (key : UpdateIdentity) : Type 0 where
   sequence : ℕ
   a : Bool
   h : Bool
@@ -172,7 +172,7 @@ record Told (p : Packet) (key : Key) : Type 0 where
   authenticator : options.authorization ≡ Some key.authenticator
   message : authenticated p.body ≡ key.message
 
-told : (p : Packet) (key : Key) → says p ≡ Update key → Told p key
+told : (p : Packet) (key : UpdateIdentity) → says p ≡ Update key → Told p key
 unfolding says
 told p key e = by (p.head.proto == 135) (message_of (source_of p.head) (destination_of p.head) p.body) refl e
   where
@@ -197,7 +197,7 @@ told p key e = by (p.head.proto == 135) (message_of (source_of p.head) (destinat
     by false r is e = absurd cc
 
 -- what it asks
-module _ (p : Packet) (key : Key) (t : Told p key) where
+module _ (p : Packet) (key : UpdateIdentity) (t : Told p key) where
   -- its fields and its options are read from these places
   record Fields : Type 0 where
     options : options_of 12 p.body ≡ Ok t.options
@@ -230,7 +230,7 @@ pub record AsksSame (r q : Registration) : Type 0 where
   pub sequence : r.sequence ≡ q.sequence
   pub nonces : r.nonces ≡ q.nonces
 
-pub asks_same : (p q : Packet) (key : Key) → says p ≡ Update key → says q ≡ Update key
+pub asks_same : (p q : Packet) (key : UpdateIdentity) → says p ≡ Update key → says q ≡ Update key
     → (r : Registration) → registration_in p.head.source p.head.home p.body ≡ Some r → (s : Registration) → registration_in q.head.source q.head.home q.body ≡ Some s → AsksSame r s
 unfolding options_of
 asks_same p q key is_first is_second r asks s repeats =

@@ -3,8 +3,8 @@ use Rattle.std.specs.Prelude.{◌≡◌, ℕ, ◌+◌, ◌*◌, ◌%◌, ◌<◌
 use Rattle.std.specs.List.{list_any}
 use Rattle.mip_words.specs.Sequence.{step_from}
 use Rattle.mip_words.specs.declared.address.Address.{Address}
-use Rattle.mip_says.specs.Says.{Key, carried}
-use Rattle.mip_says.specs.Says.Carried.{Update}
+use Rattle.mip_inspection.specs.Says.{UpdateIdentity, carried}
+use Rattle.mip_inspection.specs.Says.Carried.{Update}
 use Rattle.mip_bcache.specs.declared.accepted.Accepted.{Accepted}
 use Rattle.mip_entries.specs.declared.entry.Entry.{Entry}
 use Rattle.mip_entries.specs.declared.entry.Entry.TheVariants as entries
@@ -12,14 +12,14 @@ use Rattle.mip_history.specs.Setup.{Setup}
 use Rattle.mip_history.specs.Bound.{packet_in, accepted_entry, is_restart_of}
 
 -- packet k carries this update
-pub record CarriesUpdate (past : List Entry) (k : ℕ) (key : Key) : Type 0 where
+pub record CarriesUpdate (past : List Entry) (k : ℕ) (key : UpdateIdentity) : Type 0 where
   pub packet : List ℕ
   pub posted : packet_in past k ≡ Some packet
   pub says : carried packet ≡ Update key
 
 -- two packets carry the same update: its home and care-of addresses, what its authenticator covers, and the authenticator
 pub record IsRepeat (past : List Entry) (k l : ℕ) : Type 0 where
-  pub key : Key
+  pub key : UpdateIdentity
   pub first : CarriesUpdate past k key
   pub second : CarriesUpdate past l key
 

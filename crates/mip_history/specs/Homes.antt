@@ -4,8 +4,8 @@ use Rattle.std.specs.Prelude.{ℕ, zero, suc, Bool, true, false, ◌&&◌, ◌==
 use Rattle.mip_words.specs.declared.address.Address.{Address}
 use Rattle.mip_lists.specs.Last.{or_else}
 use Rattle.mip_entries.specs.declared.entry.Entry.TheVariants.{Claimed, Released, Idle}
-use Rattle.mip_rules_mobile.specs.declared.standing.Standing.{Standing}
-use Rattle.mip_rules_mobile.specs.declared.standing.Standing.TheVariants.{Detached, AtHome, Away}
+use Rattle.mip_rules_mobile.specs.declared.attachment.Attachment.{Attachment}
+use Rattle.mip_rules_mobile.specs.declared.attachment.Attachment.TheVariants.{Detached, AtHome, Away}
 use Rattle.mip_links.specs.Table.{link_of}
 use Rattle.mip_links.specs.Nets.{is_held_by}
 use Rattle.mip_history.specs.Setup.{Setup, Host, Kind}
@@ -15,7 +15,7 @@ use Rattle.mip_history.specs.Questions.{holder_in}
 use Rattle.mip_history.specs.Knowing.{mobile_known_in}
 use Rattle.mip_history.specs.Claims.{link_id}
 
-abbrev pub is_at_home : Standing → Bool
+abbrev pub is_at_home : Attachment → Bool
 is_at_home AtHome = true
 is_at_home Detached = false
 is_at_home (Away careof) = false

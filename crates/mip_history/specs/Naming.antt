@@ -5,7 +5,7 @@ use Rattle.mip_entries.specs.declared.entry.Entry.{Entry}
 use Rattle.mip_entries.specs.declared.entry.Entry.TheVariants as entries
 use Rattle.mip_entries.specs.Reasons.{is_gone_why, is_unsent_why, is_dropped_why}
 use Rattle.mip_schedule.specs.Lawful.{IsLink, IsNode, IsOutsider, IsLinkIfAny}
-use Rattle.mip_declared.specs.declared.declaration.Declaration.{Declaration}
+use Rattle.mip_symbols.specs.declared.declaration.Declaration.{Declaration}
 
 -- a node by its number, or an outsider by 32 more than its number
 abbrev pub IsWho : List Declaration → ℕ → Type 0

@@ -9,19 +9,19 @@ use Rattle.mip_entries.specs.declared.entry.Entry.{Entry}
 use Rattle.mip_entries.specs.declared.entry.Entry.TheVariants.{Sent, Idle, Claimed, Released, Taken, Restarted, Row as ShownRow}
 use Rattle.mip_entries.specs.Completed.{node_id, named}
 use Rattle.mip_rules_correspondent.specs.Steps as correspondents
-use Rattle.mip_rules_correspondent.specs.Turns as correspondent_turns
+use Rattle.mip_rules_correspondent.specs.Transitions as correspondent_turns
 use Rattle.mip_rules_correspondent.specs.Doing as correspondent_doing
 use Rattle.mip_rules_agent.specs.Steps as agents
-use Rattle.mip_rules_agent.specs.Turns as agent_turns
+use Rattle.mip_rules_agent.specs.Transitions as agent_turns
 use Rattle.mip_rules_agent.specs.Doing as agent_doing
 use Rattle.mip_rules_agent.specs.Questions.{rows_at}
 use Rattle.mip_rules_agent.specs.declared.home_row.HomeRow.{HomeRow}
 use Rattle.mip_rules_mobile.specs.Steps as mobiles
-use Rattle.mip_rules_mobile.specs.Turns as mobile_turns
+use Rattle.mip_rules_mobile.specs.Transitions as mobile_turns
 use Rattle.mip_rules_mobile.specs.Doing as mobile_doing
-use Rattle.mip_marks.specs.declared.accepted_update.AcceptedUpdate.{AcceptedUpdate}
-use Rattle.mip_marks.specs.Entries.{update_accepted, mark_entry}
-use Rattle.mip_marks.specs.Marks.{mark_in}
+use Rattle.mip_provenance.specs.declared.accepted_update.AcceptedUpdate.{AcceptedUpdate}
+use Rattle.mip_provenance.specs.Entries.{update_accepted, mark_entry}
+use Rattle.mip_provenance.specs.Marks.{mark_in}
 use Rattle.mip_history.specs.Setup.{Setup, Host, Kind}
 use Rattle.mip_history.specs.Setup.Kind.{Correspondent, Agent, Mobile}
 use Rattle.mip_history.specs.Runs.{Run, note, notes, past_at, agent_past_at, mobile_past_at, with_past, with_agent_past, with_mobile_past}
@@ -59,15 +59,15 @@ unfoldable pub answered : Setup → ℕ → ℕ → Run → List Answer → Run
 answered s n from run answers = fold (λ r answer. answered_one s n from r answer) run answers
 
 -- node n with this address has done a turn; a mobile sends from the link on which it stands
-abbrev pub turned : Setup → ℕ → Address → correspondent_turns.Turn → Run → Run
+abbrev pub turned : Setup → ℕ → Address → correspondent_turns.Transition → Run → Run
 turned s n own turn run =
     answered s n (link_or_first s own.0) (with_past n (correspondent_turns.with_turn (past_at run n) turn) run) (correspondents.answers_of turn.steps)
 
-abbrev pub agent_turned : Setup → ℕ → Address → agent_turns.Turn → Run → Run
+abbrev pub agent_turned : Setup → ℕ → Address → agent_turns.Transition → Run → Run
 agent_turned s n own turn run =
     answered s n (link_or_first s own.0) (with_agent_past n (agent_turns.with_turn (agent_past_at run n) turn) run) (agents.answers_of turn.steps)
 
-abbrev pub mobile_turned : Setup → ℕ → Address → mobile_turns.Turn → Run → Run
+abbrev pub mobile_turned : Setup → ℕ → Address → mobile_turns.Transition → Run → Run
 mobile_turned s n own turn run =
     answered s n (unwrap_or (stands_on s run n own) 0) (with_mobile_past n (mobile_turns.with_turn (mobile_past_at run n) turn) run) (mobiles.answers_of turn.steps)
 

@@ -6,8 +6,8 @@ use Rattle.mip_words.specs.declared.ids.NodeId.{NodeId}
 use Rattle.mip_rules_mobile.specs.Questions as mobiles
 use Rattle.mip_schedule.specs.Contents.{Content}
 use Rattle.mip_schedule.specs.Versions.{numbers_of_version}
-use Rattle.mip_declared.specs.declared.declaration.Declaration.{Declaration}
-use Rattle.mip_declared.specs.declared.declaration.Declaration.TheVariants as declare
+use Rattle.mip_symbols.specs.declared.declaration.Declaration.{Declaration}
+use Rattle.mip_symbols.specs.declared.declaration.Declaration.TheVariants as declare
 
 -- what a node is
 pub data Kind : Type 0 where

@@ -12,7 +12,7 @@ ghost use Rattle.mip_rules_agent.specs.declared.home_binding.HomeBinding.{HomeBi
 ghost use Rattle.mip_rules_agent.specs.Questions.{careof_at, kept_of};
 ghost use Rattle.mip_schedule.specs.Contents.{Content};
 ghost use Rattle.mip_schedule.specs.Lawful.{IsLawful};
-ghost use Rattle.mip_declared.specs.Places.{AreFew};
+ghost use Rattle.mip_symbols.specs.Places.{AreFew};
 ghost use Rattle.mip_schedule.specs.declared.event.Event.{Event};
 ghost use Rattle.mip_bcache.specs.declared.accepted.Accepted.{Accepted};
 ghost use Rattle.mip_binding.specs.Held.{holds, floor, is_full};

@@ -1,4 +1,4 @@
-//! The run of a schedule and its permitted history, as definitions; the entries of `mip_entries` and the marks of `mip_marks` again.
+//! The run of a schedule and its permitted history, as definitions; the entries of `mip_entries` and the marks of `mip_provenance` again.
 #![tactic(auto)]
 
 mod laws;
@@ -12,4 +12,4 @@ pub use laws::{
     repeats_come_after_rounds, rows_are_last_acceptances, work_stays_within_its_wait,
 };
 pub use mip_entries::{Answer, Answers, Entry, History, UpdateSeen};
-pub use mip_marks::{Mark, Watch};
+pub use mip_provenance::{Mark, Watch};

@@ -15,17 +15,17 @@ use Rattle.mip_rules_agent.specs.declared.served.Served.{Served}
 use Rattle.mip_rules_agent.specs.Known.{Known}
 use Rattle.mip_rules_agent.specs.Questions.{key_of, served_at, is_served}
 use Rattle.mip_rules_agent.specs.Steps.{Drops}
-use Rattle.mip_rules_agent.specs.Turns.{Turn, noted}
+use Rattle.mip_rules_agent.specs.Transitions.{Transition, noted}
 use Rattle.mip_rules_agent.specs.Rules.{Handing, takes_update, by_role}
 use Rattle.mip_homeagent.specs.Soundness.{HasRoom}
 use Rattle.mip_homeagent.proofs.Routables.{find_key}
 
 -- what the agent does about a message that asks this
-abbrev pub by_registration : Handing → Option Registration → Turn → Turn
+abbrev pub by_registration : Handing → Option Registration → Transition → Transition
 by_registration h None t = noted (Drops h.number whys.Role) t
 by_registration h (Some r) t = takes_update h r t
 
-pub role_is : (h : Handing) (p : Packet) (m : Said) (t : Turn) → by_role h p (Some m) t ≡ by_registration h (registration_said p.head.source p.head.home (Ok m)) t
+pub role_is : (h : Handing) (p : Packet) (m : Said) (t : Transition) → by_role h p (Some m) t ≡ by_registration h (registration_said p.head.source p.head.home (Ok m)) t
 role_is h p (Refresh o) t = refl
 role_is h p (HomeInit c o) t = refl
 role_is h p (CareofInit c o) t = refl

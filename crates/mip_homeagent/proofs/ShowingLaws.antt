@@ -7,9 +7,9 @@ use Rattle.mip_words.specs.declared.address.Address.{Address}
 use Rattle.mip_words.specs.declared.shield.Shield.{Shield}
 use Rattle.mip_words.specs.declared.why.Why.{Why}
 use Rattle.mip_entries.specs.declared.answer.Answer.{Answer}
-use Rattle.mip_turns.proofs.TurnLaws.{noted-steps}
-use Rattle.mip_turns.specs.Shows.{ShowsBy}
-use Rattle.mip_turns.proofs.ShowLaws as laws
+use Rattle.mip_transitions.proofs.TurnLaws.{noted-steps}
+use Rattle.mip_transitions.specs.Shows.{ShowsBy}
+use Rattle.mip_transitions.proofs.ShowLaws as laws
 use Rattle.mip_rules_agent.specs.declared.home_binding.HomeBinding.{HomeBinding}
 use Rattle.mip_rules_agent.specs.Rules.{claims_if}
 use Rattle.mip_rules_agent.specs.Known.{Known}
@@ -17,17 +17,17 @@ use Rattle.mip_rules_agent.specs.Calls.{Call}
 use Rattle.mip_rules_agent.specs.Steps.{Step, Called, Sends, Registers, Claims, Releases, Denies, Drops, answer_of, answers_of}
 use Rattle.mip_rules_agent.specs.Questions.{bound_to, with_served, ends_with, after}
 use Rattle.mip_rules_agent.specs.Claims.{claims_after, claims_by}
-use Rattle.mip_rules_agent.specs.Turns.{Turn, begun, noted}
+use Rattle.mip_rules_agent.specs.Transitions.{Transition, begun, noted}
 use Rattle.mip_homeagent.specs.Changes.{Claiming, unclaimed, with_holding, claims_held, holding_of, answers_change}
 use Rattle.mip_homeagent.specs.Showing.{Shows}
 
-claims-noted : (step : Step) (t : Turn) (claims : ℕ → Bool) → claims_by (noted step t).steps claims ≡ claims_after step (claims_by t.steps claims)
+claims-noted : (step : Step) (t : Transition) (claims : ℕ → Bool) → claims_by (noted step t).steps claims ≡ claims_after step (claims_by t.steps claims)
 claims-noted step t claims =
     ap (λ (steps : List Step). claims_by steps claims) (noted-steps after step t)
     ∙ fold-append (λ (claims : ℕ → Bool) (step : Step). claims_after step claims) claims t.steps (step ∷ [])
 
 -- a step, where its answer was appended
-pub shown : (step : Step) (now : ℕ) (known : Known) (claiming : Claiming) (answers more : List Answer) (t : Turn) → more ≡ answers ++ answer_of step → Shows now known claiming answers t
+pub shown : (step : Step) (now : ℕ) (known : Known) (claiming : Claiming) (answers more : List Answer) (t : Transition) → more ≡ answers ++ answer_of step → Shows now known claiming answers t
     → Shows now (after known (record { at = now; step = step })) (λ claims. claims_after step (claiming claims)) more (noted step t)
 shown step now known claiming answers more t e s = (
   subst (λ (l : List Answer). ShowsBy answer_of now (after known (record { at = now; step = step })) l (noted step t)) (sym e) (laws.shows-noted answer_of after step now known answers t s.0),
@@ -35,8 +35,8 @@ shown step now known claiming answers more t e s = (
 )
 
 -- steps that change nothing but the answers
-abbrev pub Continues : (Turn → Turn) → (old new : List Answer) → Type 0
-Continues rule old new = (now : ℕ) (known : Known) (claiming : Claiming) (t : Turn) → Shows now known claiming old t → Shows now known claiming new (rule t)
+abbrev pub Continues : (Transition → Transition) → (old new : List Answer) → Type 0
+Continues rule old new = (now : ℕ) (known : Known) (claiming : Claiming) (t : Transition) → Shows now known claiming old t → Shows now known claiming new (rule t)
 
 pub sent : (shield : Option Shield) (packet : List ℕ) (answers more : List Answer) → more ≡ answers ++ answer_of (Sends shield packet) → Continues (noted (Sends shield packet)) answers more
 unfolding after
@@ -55,17 +55,17 @@ pub shows_begun : (c : Call) (now : ℕ) (k : Known) → Shows now (after k (rec
 shows_begun c now k = shown (Called c) now k unclaimed [] [] (begun now k) refl (laws.shows-begun answer_of now k, λ claims. refl)
 
 -- what is shown is what the turn has
-pub shows-answers : (now : ℕ) (k : Known) (claiming : Claiming) (answers : List Answer) (t : Turn) → Shows now k claiming answers t → answers_of t.steps ≡ answers
+pub shows-answers : (now : ℕ) (k : Known) (claiming : Claiming) (answers : List Answer) (t : Transition) → Shows now k claiming answers t → answers_of t.steps ≡ answers
 shows-answers now k claiming answers t s = laws.shows-answers answer_of now k answers t s.0
 
-pub shows-known : (now : ℕ) (k : Known) (claiming : Claiming) (answers : List Answer) (t : Turn) → Shows now k claiming answers t → t.known ≡ k
+pub shows-known : (now : ℕ) (k : Known) (claiming : Claiming) (answers : List Answer) (t : Transition) → Shows now k claiming answers t → t.known ≡ k
 shows-known now k claiming answers t s = laws.shows-known answer_of now k answers t s.0
 
-pub shows-now : (now : ℕ) (k : Known) (claiming : Claiming) (answers : List Answer) (t : Turn) → Shows now k claiming answers t → t.now ≡ now
+pub shows-now : (now : ℕ) (k : Known) (claiming : Claiming) (answers : List Answer) (t : Transition) → Shows now k claiming answers t → t.now ≡ now
 shows-now now k claiming answers t s = laws.shows-now answer_of now k answers t s.0
 
 -- an update is accepted: the registration, and what becomes of the claim of its home address
-module _ (number : ℕ) (home : Address) (b : HomeBinding) (now : ℕ) (k : Known) (old more : List Answer) (t : Turn) where
+module _ (number : ℕ) (home : Address) (b : HomeBinding) (now : ℕ) (k : Known) (old more : List Answer) (t : Transition) where
   abbrev pub registered : Option Bool → Known
   registered holding = record {
     last = k.last;
@@ -75,7 +75,7 @@ module _ (number : ℕ) (home : Address) (b : HomeBinding) (now : ℕ) (k : Know
     plan = k.plan;
   }
 
-  abbrev pub first : Turn
+  abbrev pub first : Transition
   first = noted (Registers number home b) t
 
   shows_first : Shows now k unclaimed old t → Shows now (registered None) unclaimed (old ++ answer_of (Registers number home b)) first

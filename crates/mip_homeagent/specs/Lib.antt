@@ -2,5 +2,5 @@ pub mod Places
 pub mod Soundness
 pub mod Changes
 pub mod Showing
-pub mod Desks
+pub mod Contexts
 pub mod Endings

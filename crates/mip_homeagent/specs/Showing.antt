@@ -3,22 +3,22 @@ use Rattle.std.specs.Prelude.{◌≡◌, ℕ, List, Option, Bool, Result, OnOk}
 use Rattle.mip_entries.specs.declared.answer.Answer.{Answer}
 use Rattle.mip_rules_agent.specs.Known.{Known}
 use Rattle.mip_rules_agent.specs.Claims.{claims_by}
-use Rattle.mip_rules_agent.specs.Turns.{Turn, ShowsAt}
+use Rattle.mip_rules_agent.specs.Transitions.{Transition, ShowsAt}
 use Rattle.mip_homeagent.specs.declared.change.Change.{Change}
 use Rattle.mip_homeagent.specs.Changes.{Claiming, unclaimed, with_change, claims_with}
 
-abbrev pub Shows : (now : ℕ) (known : Known) → Claiming → (answers : List Answer) → Turn → Type 0
+abbrev pub Shows : (now : ℕ) (known : Known) → Claiming → (answers : List Answer) → Transition → Type 0
 Shows now known claiming answers t = ShowsAt now known answers t × ((claims : ℕ → Bool) → claims_by t.steps claims ≡ claiming claims)
 
 -- a rule that changes nothing but the answers
-abbrev pub Goes : {R E : Type 0} → Result R E → (Turn → Turn) → (old new : List Answer) → Type 0
+abbrev pub Goes : {R E : Type 0} → Result R E → (Transition → Transition) → (old new : List Answer) → Type 0
 Goes result rule old new =
-    (now : ℕ) (known : Known) (claiming : Claiming) (t : Turn) → Shows now known claiming old t → OnOk result (Shows now known claiming new (rule t))
+    (now : ℕ) (known : Known) (claiming : Claiming) (t : Transition) → Shows now known claiming old t → OnOk result (Shows now known claiming new (rule t))
 
 -- a rule that may accept a registration
-abbrev pub Leads : (Turn → Turn) → (now : ℕ) → Known → (old new : List Answer) → Option Change → Type 0
+abbrev pub Leads : (Transition → Transition) → (now : ℕ) → Known → (old new : List Answer) → Option Change → Type 0
 Leads rule now known old new change =
-    (t : Turn) → Shows now known unclaimed old t → Shows now (with_change change known) (claims_with change) new (rule t)
+    (t : Transition) → Shows now known unclaimed old t → Shows now (with_change change known) (claims_with change) new (rule t)
 
 -- what is known once a call has begun that changes neither list nor plan
 abbrev pub opened : ℕ → Known → Known

@@ -10,7 +10,7 @@ ghost use Rattle.mip_rules_agent.specs.Calls.{claim_for};
 ghost use Rattle.mip_rules_agent.specs.Steps.{Step, answers_of};
 ghost use Rattle.mip_rules_agent.specs.Claims.{claims_by};
 ghost use Rattle.mip_rules_agent.specs.Questions.{fresh, careof_at, rows_at};
-ghost use Rattle.mip_rules_agent.specs.Turns.{Stands, with_turn};
+ghost use Rattle.mip_rules_agent.specs.Transitions.{Stands, with_turn};
 ghost use Rattle.mip_rules_agent.specs.Verdicts.{verdict};
 ghost use Rattle.mip_rules_agent.specs.Rules.{bench};
 ghost use Rattle.mip_rules_agent.specs.Refusing.{KeepsTables};
@@ -18,10 +18,10 @@ ghost use Rattle.mip_reception.specs.Refusing.{refuses};
 ghost use Rattle.mip_rules_agent.specs.Seen.{turn_at, called};
 ghost use Rattle.mip_homeagent.specs.Soundness.{HasRoom};
 
+use crate::agent_state::AgentState;
 use crate::answering::note_ends;
-use crate::desk::Desk;
 use crate::ending::release_all;
-use crate::kept::Kept;
+use crate::packet_context::PacketContext;
 use crate::receiving::receive;
 use mip_discovery::PrefixPlan;
 use mip_entries::{Answers, UpdateSeen};
@@ -37,7 +37,7 @@ use std::marker::Model;
 #[derive(Drop)]
 pub struct HomeAgent {
     identity: Identity,
-    known: Kept,
+    known: AgentState,
 }
 
 impl Model for HomeAgent {
@@ -50,7 +50,7 @@ impl Model for HomeAgent {
 
 impl HomeAgent {
     /// A home agent with this address, preference and life, and room for so many of the homes that it serves.
-    #[tactic(auto, unfolding(mip_turns::specs::Turns::StandsBy))]
+    #[tactic(auto, unfolding(mip_transitions::specs::Transitions::StandsBy))]
     pub fn new(
         alloc: Global,
         own: Address,
@@ -63,7 +63,7 @@ impl HomeAgent {
         ensures made { IfOk result (λ a. a ≡ record { identity = record { own = own; preference = preference; life = life; room = room }; known = fresh serves.now }) }
         ensures stands { IfOk result (λ a. Stands serves.now [] a.known) }
     {
-        let known = Kept::new(alloc, serves)?;
+        let known = AgentState::new(alloc, serves)?;
         let identity = Identity {
             own,
             preference,
@@ -214,7 +214,7 @@ impl HomeAgent {
         ensures err { OnErr result (self.new ≡ self.old) }
     {
         let mut answers = Answers::new(alloc)?;
-        let desk = Desk {
+        let context = PacketContext {
             identity: &self.identity,
             known: &self.known,
             moment: now,
@@ -222,7 +222,7 @@ impl HomeAgent {
             shield,
             bytes: packet,
         };
-        let change = receive(alloc, &mut answers, &desk, place)?;
+        let change = receive(alloc, &mut answers, &context, place)?;
         self.known.apply_change(now, change);
         Ok(answers)
     }

@@ -2,7 +2,7 @@
 
 ghost use Rattle.std.specs.Prelude.{◌≡◌, ◌++◌, OnOk, IfOk};
 ghost use Rattle.mip_rules_agent.specs.Steps.{answer_of, Sends, Registers, Claims, Releases, Denies, Drops};
-ghost use Rattle.mip_rules_agent.specs.Turns.{noted};
+ghost use Rattle.mip_rules_agent.specs.Transitions.{noted};
 ghost use Rattle.mip_homeagent.specs.Showing.{Goes};
 ghost use Rattle.mip_homeagent.specs.Endings.{answers_released};
 

@@ -3,14 +3,14 @@
 #![tactic(auto)]
 
 mod agent;
+mod agent_state;
 mod answering;
 mod change;
-mod desk;
 mod ending;
 mod ends;
 mod homes;
 mod judging;
-mod kept;
+mod packet_context;
 mod prefixes;
 mod receiving;
 mod tunnel;

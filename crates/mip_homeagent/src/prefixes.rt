@@ -9,27 +9,27 @@ ghost use Rattle.mip_icmp.specs.Spelling.{icmp_bytes};
 ghost use Rattle.mip_icmp.specs.Reading.{icmp_of};
 ghost use Rattle.mip_ipv6.specs.Packet.{source_of, destination_of};
 ghost use Rattle.mip_rules_agent.specs.Steps.{Sends};
-ghost use Rattle.mip_rules_agent.specs.Turns.{noted};
+ghost use Rattle.mip_rules_agent.specs.Transitions.{noted};
 ghost use Rattle.mip_rules_agent.specs.Messages.{shield_to, prefix_said, prefix_packet};
 ghost use Rattle.mip_rules_agent.specs.Rules.{names_agents, answers_solicitation, takes_icmp};
 ghost use Rattle.mip_homeagent.specs.Showing.{Goes};
-ghost use Rattle.mip_homeagent.specs.Desks.{handing_at};
+ghost use Rattle.mip_homeagent.specs.Contexts.{handing_at};
 ghost use Rattle.std.specs.List.{AllByRecursion};
 ghost use Rattle.mip_rules_agent.specs.Questions.{rows_at};
 ghost use Rattle.mip_homeagent.specs.Endings.{answers_told};
 ghost use Rattle.mip_homeagent.specs.Soundness.{IsRoutable};
 
 use crate::answering::{drop_packet, send};
-use crate::desk::Desk;
 use crate::homes::row_of;
+use crate::packet_context::PacketContext;
 use crate::tunnel::shield_to;
 use mip_constants::protocol::ICMPV6;
 use mip_entries::{Answer, Answers};
 use mip_home_verdict::is_from;
 use mip_icmp::{Icmp, IcmpSet, PlainIcmp, PrefixInfo, read_icmp, write_icmp};
 use mip_ipv6::PacketRef;
+use mip_packet_builders::{node_head, write_data_packet};
 use mip_rules_agent::{HomeRow, Served};
-use mip_signals::{node_head, write_data_packet};
 use mip_words::{Address, Bytes, Memory, Moment, Why};
 use std::alloc::Global;
 
@@ -112,24 +112,24 @@ pub fn advertise(
 fn answer_solicitation(
     alloc: Global,
     answers: &mut Answers,
-    desk: &Desk<'_>,
+    context: &PacketContext<'_>,
     home: Address,
     identifier: u16,
     careof: Option<Address>,
 ) -> Result<(), Memory>
-    requires later { desk.now.known.now.last ≤ desk.now.moment.0 }
+    requires later { context.now.known.now.last ≤ context.now.moment.0 }
     requires routable { IfSome careof (λ _. is_routable home.0 ≡ true) }
-    ensures { (claim : Claim) → Goes result (answers_solicitation (handing_at desk.now claim) home identifier careof) answers.old answers.new }
+    ensures { (claim : Claim) → Goes result (answers_solicitation (handing_at context.now claim) home identifier careof) answers.old answers.new }
 {
     match careof {
-        None => drop_packet(answers, desk.number, Why::Role),
+        None => drop_packet(answers, context.number, Why::Role),
         Some(careof) => {
-            if !is_from(home, desk.shield) {
-                return drop_packet(answers, desk.number, Why::Role);
+            if !is_from(home, context.shield) {
+                return drop_packet(answers, context.number, Why::Role);
             }
-            let valid = desk.known.valid(desk.moment);
-            let preferred = desk.known.preferred(desk.moment);
-            let own = desk.identity.own;
+            let valid = context.known.valid(context.moment);
+            let preferred = context.known.preferred(context.moment);
+            let own = context.identity.own;
             advertise(
                 alloc, answers, own, home, careof, identifier, valid, preferred,
             )
@@ -142,17 +142,17 @@ fn answer_solicitation(
 fn name_agents(
     alloc: Global,
     answers: &mut Answers,
-    desk: &Desk<'_>,
+    context: &PacketContext<'_>,
     to: Address,
     identifier: u16,
 ) -> Result<(), Memory>
-    requires later { desk.now.known.now.last ≤ desk.now.moment.0 }
-    ensures { (claim : Claim) → Goes result (names_agents (handing_at desk.now claim) to identifier) answers.old answers.new }
+    requires later { context.now.known.now.last ≤ context.now.moment.0 }
+    ensures { (claim : Claim) → Goes result (names_agents (handing_at context.now claim) to identifier) answers.old answers.new }
 {
-    let me = desk.identity;
-    let packet = desk
+    let me = context.identity;
+    let packet = context
         .known
-        .answer_discovery(alloc, me, desk.moment, to, identifier)?;
+        .answer_discovery(alloc, me, context.moment, to, identifier)?;
     send(answers, None, packet)
 }
 
@@ -160,23 +160,23 @@ fn name_agents(
 pub fn take_icmp(
     alloc: Global,
     answers: &mut Answers,
-    desk: &Desk<'_>,
+    context: &PacketContext<'_>,
     packet: &PacketRef<'_>,
 ) -> Result<(), Memory>
-    requires later { desk.now.known.now.last ≤ desk.now.moment.0 }
+    requires later { context.now.known.now.last ≤ context.now.moment.0 }
     requires short { length packet.now.body.now ≤ 65535 }
-    ensures { (claim : Claim) → Goes result (takes_icmp (handing_at desk.now claim) (tree packet.now) (icmp_of (source_of packet.now.head) (destination_of packet.now.head) packet.now.body.now)) answers.old answers.new }
+    ensures { (claim : Claim) → Goes result (takes_icmp (handing_at context.now claim) (tree packet.now) (icmp_of (source_of packet.now.head) (destination_of packet.now.head) packet.now.body.now)) answers.old answers.new }
 {
     let home = packet.head.sender();
     match read_icmp(home, packet.head.receiver(), packet.body) {
         Ok(Icmp::DiscoverAsk { identifier }) => {
-            name_agents(alloc, answers, desk, packet.head.source, identifier)
+            name_agents(alloc, answers, context, packet.head.source, identifier)
         }
         Ok(Icmp::PrefixAsk { identifier }) => {
-            let careof = desk.known.careof(desk.moment, home);
-            answer_solicitation(alloc, answers, desk, home, identifier, careof)
+            let careof = context.known.careof(context.moment, home);
+            answer_solicitation(alloc, answers, context, home, identifier, careof)
         }
-        _ => drop_packet(answers, desk.number, Why::Role),
+        _ => drop_packet(answers, context.number, Why::Role),
     }
 }
 

@@ -12,12 +12,12 @@ ghost use Rattle.mip_rules_agent.specs.Questions.{careof_at};
 ghost use Rattle.mip_rules_agent.specs.Rules.{holds_option, standing_of, refuses, by_proto, by_role, after_checks, by_destination, place_in, receives};
 ghost use Rattle.mip_homeagent.specs.Showing.{Goes, Leads, opened};
 ghost use Rattle.mip_homeagent.specs.Changes.{claims_with};
-ghost use Rattle.mip_homeagent.specs.Desks.{handing_at, claim_of};
+ghost use Rattle.mip_homeagent.specs.Contexts.{handing_at, claim_of};
 ghost use Rattle.mip_homeagent.specs.Soundness.{HasRoom};
 
 use crate::answering::{drop_packet, send};
 use crate::change::Change;
-use crate::desk::Desk;
+use crate::packet_context::PacketContext;
 use crate::prefixes::take_icmp;
 use crate::tunnel::{intercept, is_careof, take_tunnel};
 use crate::update::take_update;
@@ -26,31 +26,31 @@ use mip_entries::Answers;
 use mip_ipv6::{Head, PacketRef, read_packet};
 use mip_mobhdr::Message;
 use mip_outside::Place;
-use mip_reception::{Refusal, Standing, check, packet_why, write_reply};
+use mip_reception::{AddressMatch, Refusal, check, packet_why, write_reply};
 use mip_updates::registration_of;
 use mip_words::{Address, Memory, Why, u16_at};
 use std::alloc::Global;
 
 /// Whether the home of a Home Address option has the source as its registered care-of address.
-fn holds_option(desk: &Desk<'_>, source: Address, home: Option<Address>) -> bool
-    ensures { result ≡ holds_option (opened desk.now.moment.0 desk.now.known.now) desk.now.moment.0 source home }
+fn holds_option(context: &PacketContext<'_>, source: Address, home: Option<Address>) -> bool
+    ensures { result ≡ holds_option (opened context.now.moment.0 context.now.known.now) context.now.moment.0 source home }
 {
     match home {
-        Some(home) => is_careof(desk.known, desk.moment, home, source),
+        Some(home) => is_careof(context.known, context.moment, home, source),
         None => false,
     }
 }
 
 /// What a packet's addresses are to the agent.
-fn standing(desk: &Desk<'_>, head: &Head) -> Standing
-    ensures { result ≡ standing_of desk.now.identity.now (opened desk.now.moment.0 desk.now.known.now) desk.now.moment.0 head.now }
+fn standing(context: &PacketContext<'_>, head: &Head) -> AddressMatch
+    ensures { result ≡ standing_of context.now.identity.now (opened context.now.moment.0 context.now.known.now) context.now.moment.0 head.now }
 {
-    let own = desk.identity.own;
+    let own = context.identity.own;
     let to = head.destination.0;
-    Standing {
+    AddressMatch {
         is_mine: to == own.0 || to == own.prefix().anycast().0,
         takes_route: false,
-        holds: holds_option(desk, head.source, head.home),
+        holds: holds_option(context, head.source, head.home),
     }
 }
 
@@ -59,15 +59,15 @@ fn standing(desk: &Desk<'_>, head: &Head) -> Standing
 fn refuse(
     alloc: Global,
     answers: &mut Answers,
-    desk: &Desk<'_>,
+    context: &PacketContext<'_>,
     source: Address,
     refusal: Refusal,
 ) -> Result<(), Memory>
-    ensures { (claim : Claim) → Goes result (refuses (handing_at desk.now claim) source refusal) answers.old answers.new }
+    ensures { (claim : Claim) → Goes result (refuses (handing_at context.now claim) source refusal) answers.old answers.new }
 {
-    drop_packet(answers, desk.number, refusal.why)?;
-    let own = desk.identity.own;
-    match write_reply(alloc, own, source, desk.bytes, refusal.reply)? {
+    drop_packet(answers, context.number, refusal.why)?;
+    let own = context.identity.own;
+    match write_reply(alloc, own, source, context.bytes, refusal.reply)? {
         Some(reply) => send(answers, None, reply),
         None => Ok(()),
     }
@@ -77,47 +77,47 @@ fn refuse(
 fn take_other(
     alloc: Global,
     answers: &mut Answers,
-    desk: &Desk<'_>,
+    context: &PacketContext<'_>,
     packet: &PacketRef<'_>,
 ) -> Result<(), Memory>
-    requires later { desk.now.known.now.last ≤ desk.now.moment.0 }
+    requires later { context.now.known.now.last ≤ context.now.moment.0 }
     requires short { length packet.now.body.now ≤ 65535 }
-    ensures { (claim : Claim) → Goes result (by_proto (handing_at desk.now claim) (tree packet.now)) answers.old answers.new }
+    ensures { (claim : Claim) → Goes result (by_proto (handing_at context.now claim) (tree packet.now)) answers.old answers.new }
 {
     let head = packet.head;
-    if head.proto == IPV6 && head.destination.0 == desk.identity.own.0 {
-        return take_tunnel(alloc, answers, desk, packet);
+    if head.proto == IPV6 && head.destination.0 == context.identity.own.0 {
+        return take_tunnel(alloc, answers, context, packet);
     }
     if head.proto == ICMPV6 {
-        return take_icmp(alloc, answers, desk, packet);
+        return take_icmp(alloc, answers, context, packet);
     }
-    drop_packet(answers, desk.number, Why::Role)
+    drop_packet(answers, context.number, Why::Role)
 }
 
 /// An update is taken; no other mobility message is.
 fn take_message<P: Place>(
     alloc: Global,
     answers: &mut Answers,
-    desk: &Desk<'_>,
+    context: &PacketContext<'_>,
     place: &mut P,
     packet: &PacketRef<'_>,
     message: &Message<'_>,
 ) -> Result<Option<Change>, Memory>
-    requires early { desk.now.moment.0 < 2 ^ 62 }
-    requires later { desk.now.known.now.last ≤ desk.now.moment.0 }
+    requires early { context.now.moment.0 < 2 ^ 62 }
+    requires later { context.now.known.now.last ≤ context.now.moment.0 }
     requires plain { IsTrue (is_routable_if_any packet.now.head.home) }
-    requires room { HasRoom (P.around place.old) desk.now.known.now }
+    requires room { HasRoom (P.around place.old) context.now.known.now }
     requires empty { answers.old ≡ [] }
     ensures claims { IfOk result (λ change. P.claims place.new ≡ option_map (claims_with change) (P.claims place.old)) }
     ensures left { OnErr result (P.claims place.new ≡ P.claims place.old) }
     ensures around { P.around place.new ≡ P.around place.old }
     ensures same { P.is_same place.old place.new }
-    ensures shows { IfOk result (λ change. Leads (by_role (handing_at desk.now (claim_of (P.around place.old) packet.now.head)) (tree packet.now) (Some (said message.now))) desk.now.moment.0 (opened desk.now.moment.0 desk.now.known.now) answers.old answers.new change) }
+    ensures shows { IfOk result (λ change. Leads (by_role (handing_at context.now (claim_of (P.around place.old) packet.now.head)) (tree packet.now) (Some (said message.now))) context.now.moment.0 (opened context.now.moment.0 context.now.known.now) answers.old answers.new change) }
 {
     match registration_of(packet.head.source, packet.head.home, message) {
-        Some(registration) => take_update(alloc, answers, desk, place, &registration),
+        Some(registration) => take_update(alloc, answers, context, place, &registration),
         None => {
-            drop_packet(answers, desk.number, Why::Role)?;
+            drop_packet(answers, context.number, Why::Role)?;
             Ok(None)
         }
     }
@@ -127,27 +127,27 @@ fn take_message<P: Place>(
 fn answer_role<P: Place>(
     alloc: Global,
     answers: &mut Answers,
-    desk: &Desk<'_>,
+    context: &PacketContext<'_>,
     place: &mut P,
     packet: &PacketRef<'_>,
     message: &Option<Message<'_>>,
 ) -> Result<Option<Change>, Memory>
-    requires early { desk.now.moment.0 < 2 ^ 62 }
-    requires later { desk.now.known.now.last ≤ desk.now.moment.0 }
+    requires early { context.now.moment.0 < 2 ^ 62 }
+    requires later { context.now.known.now.last ≤ context.now.moment.0 }
     requires plain { IsTrue (is_routable_if_any packet.now.head.home) }
     requires short { length packet.now.body.now ≤ 65535 }
-    requires room { HasRoom (P.around place.old) desk.now.known.now }
+    requires room { HasRoom (P.around place.old) context.now.known.now }
     requires empty { answers.old ≡ [] }
     ensures claims { IfOk result (λ change. P.claims place.new ≡ option_map (claims_with change) (P.claims place.old)) }
     ensures left { OnErr result (P.claims place.new ≡ P.claims place.old) }
     ensures around { P.around place.new ≡ P.around place.old }
     ensures same { P.is_same place.old place.new }
-    ensures shows { IfOk result (λ change. Leads (by_role (handing_at desk.now (claim_of (P.around place.old) packet.now.head)) (tree packet.now) (option_map said message.now)) desk.now.moment.0 (opened desk.now.moment.0 desk.now.known.now) answers.old answers.new change) }
+    ensures shows { IfOk result (λ change. Leads (by_role (handing_at context.now (claim_of (P.around place.old) packet.now.head)) (tree packet.now) (option_map said message.now)) context.now.moment.0 (opened context.now.moment.0 context.now.known.now) answers.old answers.new change) }
 {
     match message {
-        Some(message) => take_message(alloc, answers, desk, place, packet, message),
+        Some(message) => take_message(alloc, answers, context, place, packet, message),
         None => {
-            take_other(alloc, answers, desk, packet)?;
+            take_other(alloc, answers, context, packet)?;
             Ok(None)
         }
     }
@@ -157,30 +157,30 @@ fn answer_role<P: Place>(
 fn take_own<P: Place>(
     alloc: Global,
     answers: &mut Answers,
-    desk: &Desk<'_>,
+    context: &PacketContext<'_>,
     place: &mut P,
     packet: &PacketRef<'_>,
 ) -> Result<Option<Change>, Memory>
-    requires early { desk.now.moment.0 < 2 ^ 62 }
-    requires later { desk.now.known.now.last ≤ desk.now.moment.0 }
+    requires early { context.now.moment.0 < 2 ^ 62 }
+    requires later { context.now.known.now.last ≤ context.now.moment.0 }
     requires plain { IsTrue (is_routable_if_any packet.now.head.home) }
     requires short { length packet.now.body.now ≤ 65535 }
-    requires placed { packet.now.place ≡ place_in desk.now.bytes.now (tree packet.now) }
+    requires placed { packet.now.place ≡ place_in context.now.bytes.now (tree packet.now) }
     requires near { packet.now.place < 2 ^ 32 - 1 }
-    requires room { HasRoom (P.around place.old) desk.now.known.now }
+    requires room { HasRoom (P.around place.old) context.now.known.now }
     requires empty { answers.old ≡ [] }
     ensures claims { IfOk result (λ change. P.claims place.new ≡ option_map (claims_with change) (P.claims place.old)) }
     ensures left { OnErr result (P.claims place.new ≡ P.claims place.old) }
     ensures around { P.around place.new ≡ P.around place.old }
     ensures same { P.is_same place.old place.new }
-    ensures shows { IfOk result (λ change. Leads (by_destination (handing_at desk.now (claim_of (P.around place.old) packet.now.head)) (tree packet.now) None) desk.now.moment.0 (opened desk.now.moment.0 desk.now.known.now) answers.old answers.new change) }
+    ensures shows { IfOk result (λ change. Leads (by_destination (handing_at context.now (claim_of (P.around place.old) packet.now.head)) (tree packet.now) None) context.now.moment.0 (opened context.now.moment.0 context.now.known.now) answers.old answers.new change) }
 {
-    match check(packet, standing(desk, &packet.head)) {
+    match check(packet, standing(context, &packet.head)) {
         Err(refusal) => {
-            refuse(alloc, answers, desk, packet.head.source, refusal)?;
+            refuse(alloc, answers, context, packet.head.source, refusal)?;
             Ok(None)
         }
-        Ok(message) => answer_role(alloc, answers, desk, place, packet, &message),
+        Ok(message) => answer_role(alloc, answers, context, place, packet, &message),
     }
 }
 
@@ -188,32 +188,39 @@ fn take_own<P: Place>(
 fn take_packet<P: Place>(
     alloc: Global,
     answers: &mut Answers,
-    desk: &Desk<'_>,
+    context: &PacketContext<'_>,
     place: &mut P,
     packet: &PacketRef<'_>,
 ) -> Result<Option<Change>, Memory>
-    requires early { desk.now.moment.0 < 2 ^ 62 }
-    requires later { desk.now.known.now.last ≤ desk.now.moment.0 }
+    requires early { context.now.moment.0 < 2 ^ 62 }
+    requires later { context.now.known.now.last ≤ context.now.moment.0 }
     requires plain { IsTrue (is_routable_if_any packet.now.head.home) }
     requires short { length packet.now.body.now ≤ 65535 }
-    requires long { 40 ≤ length desk.now.bytes.now }
-    requires placed { packet.now.place ≡ place_in desk.now.bytes.now (tree packet.now) }
+    requires long { 40 ≤ length context.now.bytes.now }
+    requires placed { packet.now.place ≡ place_in context.now.bytes.now (tree packet.now) }
     requires near { packet.now.place < 2 ^ 32 - 1 }
-    requires room { HasRoom (P.around place.old) desk.now.known.now }
+    requires room { HasRoom (P.around place.old) context.now.known.now }
     requires empty { answers.old ≡ [] }
     ensures claims { IfOk result (λ change. P.claims place.new ≡ option_map (claims_with change) (P.claims place.old)) }
     ensures left { OnErr result (P.claims place.new ≡ P.claims place.old) }
     ensures around { P.around place.new ≡ P.around place.old }
     ensures same { P.is_same place.old place.new }
-    ensures shows { IfOk result (λ change. Leads (by_destination (handing_at desk.now (claim_of (P.around place.old) packet.now.head)) (tree packet.now) (careof_at desk.now.known.now desk.now.moment.0 packet.now.head.destination)) desk.now.moment.0 (opened desk.now.moment.0 desk.now.known.now) answers.old answers.new change) }
+    ensures shows { IfOk result (λ change. Leads (by_destination (handing_at context.now (claim_of (P.around place.old) packet.now.head)) (tree packet.now) (careof_at context.now.known.now context.now.moment.0 packet.now.head.destination)) context.now.moment.0 (opened context.now.moment.0 context.now.known.now) answers.old answers.new change) }
 {
     let head = packet.head;
-    match desk.known.careof(desk.moment, head.destination) {
+    match context.known.careof(context.moment, head.destination) {
         Some(careof) => {
-            intercept(alloc, answers, desk, head.destination, careof, head.proto)?;
+            intercept(
+                alloc,
+                answers,
+                context,
+                head.destination,
+                careof,
+                head.proto,
+            )?;
             Ok(None)
         }
-        None => take_own(alloc, answers, desk, place, packet),
+        None => take_own(alloc, answers, context, place, packet),
     }
 }
 
@@ -221,24 +228,24 @@ fn take_packet<P: Place>(
 pub fn receive<P: Place>(
     alloc: Global,
     answers: &mut Answers,
-    desk: &Desk<'_>,
+    context: &PacketContext<'_>,
     place: &mut P,
 ) -> Result<Option<Change>, Memory>
-    requires early { desk.now.moment.0 < 2 ^ 62 }
-    requires later { desk.now.known.now.last ≤ desk.now.moment.0 }
-    requires room { HasRoom (P.around place.old) desk.now.known.now }
+    requires early { context.now.moment.0 < 2 ^ 62 }
+    requires later { context.now.known.now.last ≤ context.now.moment.0 }
+    requires room { HasRoom (P.around place.old) context.now.known.now }
     requires empty { answers.old ≡ [] }
     ensures claims { IfOk result (λ change. P.claims place.new ≡ option_map (claims_with change) (P.claims place.old)) }
     ensures left { OnErr result (P.claims place.new ≡ P.claims place.old) }
     ensures around { P.around place.new ≡ P.around place.old }
     ensures same { P.is_same place.old place.new }
-    ensures shows { IfOk result (λ change. Leads (receives (handing_at desk.now (claim_for (P.around place.old) desk.now.bytes.now)) (packet_of desk.now.bytes.now)) desk.now.moment.0 (opened desk.now.moment.0 desk.now.known.now) answers.old answers.new change) }
+    ensures shows { IfOk result (λ change. Leads (receives (handing_at context.now (claim_for (P.around place.old) context.now.bytes.now)) (packet_of context.now.bytes.now)) context.now.moment.0 (opened context.now.moment.0 context.now.known.now) answers.old answers.new change) }
 {
-    match read_packet(desk.bytes) {
+    match read_packet(context.bytes) {
         Err(fault) => {
-            drop_packet(answers, desk.number, packet_why(fault))?;
+            drop_packet(answers, context.number, packet_why(fault))?;
             Ok(None)
         }
-        Ok(packet) => take_packet(alloc, answers, desk, place, &packet),
+        Ok(packet) => take_packet(alloc, answers, context, place, &packet),
     }
 }

@@ -6,11 +6,11 @@ ghost use Rattle.mip_ipv6.specs.Packet.{packet as tree};
 ghost use Rattle.mip_rules_agent.specs.Messages.{shield_to};
 ghost use Rattle.mip_rules_agent.specs.Rules.{shield_for, intercepts, is_careof, sends_on, takes_tunnel};
 ghost use Rattle.mip_homeagent.specs.Showing.{Goes};
-ghost use Rattle.mip_homeagent.specs.Desks.{handing_at};
+ghost use Rattle.mip_homeagent.specs.Contexts.{handing_at};
 
+use crate::agent_state::AgentState;
 use crate::answering::{drop_packet, send};
-use crate::desk::Desk;
-use crate::kept::Kept;
+use crate::packet_context::PacketContext;
 use mip_constants::protocol::MOBILITY_HEADER;
 use mip_entries::Answers;
 use mip_home_verdict::is_from;
@@ -46,25 +46,25 @@ fn shield_for(own: Address, home: Address, proto: u8) -> Option<Shield>
 pub fn intercept(
     alloc: Global,
     answers: &mut Answers,
-    desk: &Desk<'_>,
+    context: &PacketContext<'_>,
     home: Address,
     careof: Address,
     proto: u8,
 ) -> Result<(), Memory>
-    requires { 40 ≤ length desk.now.bytes.now }
-    ensures { (claim : Claim) → Goes result (intercepts (handing_at desk.now claim) home careof proto) answers.old answers.new }
+    requires { 40 ≤ length context.now.bytes.now }
+    ensures { (claim : Claim) → Goes result (intercepts (handing_at context.now claim) home careof proto) answers.old answers.new }
 {
-    let own = desk.identity.own;
-    match encapsulate(alloc, own, careof, desk.bytes) {
+    let own = context.identity.own;
+    match encapsulate(alloc, own, careof, context.bytes) {
         Ok(packet) => send(answers, shield_for(own, home, proto), packet),
-        Err(EntryFault::Hop) => drop_packet(answers, desk.number, Why::Hop),
-        Err(EntryFault::TooBig) => drop_packet(answers, desk.number, Why::Size),
+        Err(EntryFault::Hop) => drop_packet(answers, context.number, Why::Hop),
+        Err(EntryFault::TooBig) => drop_packet(answers, context.number, Why::Size),
         Err(EntryFault::Memory) => Err(Memory),
     }
 }
 
 /// Whether this is the registered care-of address of a home.
-pub fn is_careof(known: &Kept, now: Moment, home: Address, careof: Address) -> bool
+pub fn is_careof(known: &AgentState, now: Moment, home: Address, careof: Address) -> bool
     ensures { result ≡ is_careof known.now now.0 home careof }
 {
     match known.careof(now, home) {
@@ -77,21 +77,21 @@ pub fn is_careof(known: &Kept, now: Moment, home: Address, careof: Address) -> b
 fn send_on(
     alloc: Global,
     answers: &mut Answers,
-    desk: &Desk<'_>,
+    context: &PacketContext<'_>,
     outer: &PacketRef<'_>,
     inner: &PacketRef<'_>,
 ) -> Result<(), Memory>
-    ensures { (claim : Claim) → Goes result (sends_on (handing_at desk.now claim) (tree outer.now) (tree inner.now)) answers.old answers.new }
+    ensures { (claim : Claim) → Goes result (sends_on (handing_at context.now claim) (tree outer.now) (tree inner.now)) answers.old answers.new }
 {
     let home = inner.head.source;
-    if !is_careof(desk.known, desk.moment, home, outer.head.source) {
-        return drop_packet(answers, desk.number, Why::Entry);
+    if !is_careof(context.known, context.moment, home, outer.head.source) {
+        return drop_packet(answers, context.number, Why::Entry);
     }
-    if inner.head.destination.0 == desk.identity.own.0 {
-        return drop_packet(answers, desk.number, Why::Nested);
+    if inner.head.destination.0 == context.identity.own.0 {
+        return drop_packet(answers, context.number, Why::Nested);
     }
-    if inner.head.proto == MOBILITY_HEADER && !is_from(home, desk.shield) {
-        return drop_packet(answers, desk.number, Why::Unshielded);
+    if inner.head.proto == MOBILITY_HEADER && !is_from(home, context.shield) {
+        return drop_packet(answers, context.number, Why::Unshielded);
     }
     let packet = Bytes::copy(alloc, outer.body)?;
     send(answers, None, packet)
@@ -102,13 +102,13 @@ fn send_on(
 pub fn take_tunnel(
     alloc: Global,
     answers: &mut Answers,
-    desk: &Desk<'_>,
+    context: &PacketContext<'_>,
     outer: &PacketRef<'_>,
 ) -> Result<(), Memory>
-    ensures { (claim : Claim) → Goes result (takes_tunnel (handing_at desk.now claim) (tree outer.now)) answers.old answers.new }
+    ensures { (claim : Claim) → Goes result (takes_tunnel (handing_at context.now claim) (tree outer.now)) answers.old answers.new }
 {
     match read_packet(outer.body) {
-        Err(fault) => drop_packet(answers, desk.number, packet_why(fault)),
-        Ok(inner) => send_on(alloc, answers, desk, outer, &inner),
+        Err(fault) => drop_packet(answers, context.number, packet_why(fault)),
+        Ok(inner) => send_on(alloc, answers, context, outer, &inner),
     }
 }

@@ -11,14 +11,14 @@ ghost use Rattle.mip_rules_agent.specs.Verdicts.{binding_for, by_claim};
 ghost use Rattle.mip_rules_agent.specs.Rules.{acknowledges, denies, answers_if, accepts, claim_with, judged, takes_update};
 ghost use Rattle.mip_homeagent.specs.Showing.{Goes, Leads, opened};
 ghost use Rattle.mip_homeagent.specs.Changes.{claims_held, claims_with, holding_of, holding_by, claim_part, release_part, IsOfHome, answers_change};
-ghost use Rattle.mip_homeagent.specs.Desks.{handing_at};
+ghost use Rattle.mip_homeagent.specs.Contexts.{handing_at};
 
 use crate::answering::{
     drop_packet, note_claim, note_denial, note_registration, note_release, send,
 };
 use crate::change::Change;
-use crate::desk::Desk;
 use crate::judging::holding_by;
+use crate::packet_context::PacketContext;
 use crate::tunnel::shield_to;
 use mip_constants::LIFETIME_UNIT;
 use mip_entries::Answers;
@@ -53,16 +53,24 @@ fn acknowledge(
 fn deny(
     alloc: Global,
     answers: &mut Answers,
-    desk: &Desk<'_>,
+    context: &PacketContext<'_>,
     registration: &Registration,
     status: u8,
     last: u16,
 ) -> Result<(), Memory>
     requires { IsTrue (is_routable_if_any registration.now.home_option) }
-    ensures { (claim : Claim) → Goes result (denies (handing_at desk.now claim) registration.now status last) answers.old answers.new }
+    ensures { (claim : Claim) → Goes result (denies (handing_at context.now claim) registration.now status last) answers.old answers.new }
 {
-    note_denial(answers, desk.number, status)?;
-    acknowledge(alloc, answers, desk.identity, registration, status, last, 0)
+    note_denial(answers, context.number, status)?;
+    acknowledge(
+        alloc,
+        answers,
+        context.identity,
+        registration,
+        status,
+        last,
+        0,
+    )
 }
 
 /// One that was accepted is answered where flag A asks for it.
@@ -124,7 +132,7 @@ fn binding_for(now: Moment, careof: Address, sequence: u16, granted: u16) -> Hom
 fn accept(
     alloc: Global,
     answers: &mut Answers,
-    desk: &Desk<'_>,
+    context: &PacketContext<'_>,
     registration: &Registration,
     holding: Option<bool>,
     home: Address,
@@ -133,11 +141,11 @@ fn accept(
 ) -> Result<Change, Memory>
     requires { IsTrue (is_routable_if_any registration.now.home_option) }
     ensures claims { IfOk result (λ change. claims_with (Some change) ≡ claims_held holding home) }
-    ensures shows { (claim : Claim) (held : Bool) → holding ≡ holding_of held (deletes registration.now) → IfOk result (λ change. Leads (accepts (handing_at desk.now claim) registration.now held home binding granted) desk.now.moment.0 (opened desk.now.moment.0 desk.now.known.now) answers.old answers.new (Some change)) }
+    ensures shows { (claim : Claim) (held : Bool) → holding ≡ holding_of held (deletes registration.now) → IfOk result (λ change. Leads (accepts (handing_at context.now claim) registration.now held home binding granted) context.now.moment.0 (opened context.now.moment.0 context.now.known.now) answers.old answers.new (Some change)) }
 {
     note_change(answers, home, &binding, holding)?;
-    answer_if(alloc, answers, desk.identity, registration, granted)?;
-    let ends = desk.known.ends_after(alloc, home, &binding)?;
+    answer_if(alloc, answers, context.identity, registration, granted)?;
+    let ends = context.known.ends_after(alloc, home, &binding)?;
     Ok(Change {
         home,
         binding,
@@ -150,24 +158,24 @@ fn accept(
 fn carry_out(
     alloc: Global,
     answers: &mut Answers,
-    desk: &Desk<'_>,
+    context: &PacketContext<'_>,
     registration: &Registration,
     held: bool,
     verdict: HomeVerdict,
 ) -> Result<Option<Change>, Memory>
-    requires early { desk.now.moment.0 < 2 ^ 62 }
+    requires early { context.now.moment.0 < 2 ^ 62 }
     requires plain { IsTrue (is_routable_if_any registration.now.home_option) }
     requires home { IsOfHome registration.now verdict }
     ensures claims { IfOk result (λ change. claims_with change ≡ claims_held (holding_by held registration.now verdict) (home_of registration.now)) }
-    ensures shows { (claim : Claim) → IfOk result (λ change. Leads (judged (handing_at desk.now claim) registration.now held verdict) desk.now.moment.0 (opened desk.now.moment.0 desk.now.known.now) answers.old answers.new change) }
+    ensures shows { (claim : Claim) → IfOk result (λ change. Leads (judged (handing_at context.now claim) registration.now held verdict) context.now.moment.0 (opened context.now.moment.0 context.now.known.now) answers.old answers.new change) }
 {
     match verdict {
         HomeVerdict::Refuse(why) => {
-            drop_packet(answers, desk.number, why)?;
+            drop_packet(answers, context.number, why)?;
             Ok(None)
         }
         HomeVerdict::Deny { status, last } => {
-            deny(alloc, answers, desk, registration, status, last)?;
+            deny(alloc, answers, context, registration, status, last)?;
             Ok(None)
         }
         HomeVerdict::Accept {
@@ -177,11 +185,11 @@ fn carry_out(
             granted,
         } => {
             let holding = holding_by(held, registration, &verdict);
-            let binding = binding_for(desk.moment, careof, sequence, granted);
+            let binding = binding_for(context.moment, careof, sequence, granted);
             let change = accept(
                 alloc,
                 answers,
-                desk,
+                context,
                 registration,
                 holding,
                 home,
@@ -209,13 +217,13 @@ fn release<P: Place>(place: &mut P, holding: Option<bool>, home: Address)
 fn conclude<P: Place>(
     alloc: Global,
     answers: &mut Answers,
-    desk: &Desk<'_>,
+    context: &PacketContext<'_>,
     place: &mut P,
     registration: &Registration,
     held: bool,
     verdict: HomeVerdict,
 ) -> Result<Option<Change>, Memory>
-    requires early { desk.now.moment.0 < 2 ^ 62 }
+    requires early { context.now.moment.0 < 2 ^ 62 }
     requires plain { IsTrue (is_routable_if_any registration.now.home_option) }
     requires home { IsOfHome registration.now verdict }
     requires unclaimed { claim_part (holding_by held registration.now verdict) ≡ None }
@@ -223,10 +231,10 @@ fn conclude<P: Place>(
     ensures left { OnErr result (P.claims place.new ≡ P.claims place.old) }
     ensures around { P.around place.new ≡ P.around place.old }
     ensures same { P.is_same place.old place.new }
-    ensures shows { (claim : Claim) → IfOk result (λ change. Leads (judged (handing_at desk.now claim) registration.now held verdict) desk.now.moment.0 (opened desk.now.moment.0 desk.now.known.now) answers.old answers.new change) }
+    ensures shows { (claim : Claim) → IfOk result (λ change. Leads (judged (handing_at context.now claim) registration.now held verdict) context.now.moment.0 (opened context.now.moment.0 context.now.known.now) answers.old answers.new change) }
 {
     let holding = holding_by(held, registration, &verdict);
-    let change = carry_out(alloc, answers, desk, registration, held, verdict)?;
+    let change = carry_out(alloc, answers, context, registration, held, verdict)?;
     release(place, holding, home_of(registration));
     Ok(change)
 }
@@ -245,19 +253,19 @@ fn is_held(claim: Claim) -> bool
 fn deny_claim(
     alloc: Global,
     answers: &mut Answers,
-    desk: &Desk<'_>,
+    context: &PacketContext<'_>,
     bench: &Bench,
     registration: &Registration,
     claim: Claim,
 ) -> Result<Option<Change>, Memory>
-    requires early { desk.now.moment.0 < 2 ^ 62 }
+    requires early { context.now.moment.0 < 2 ^ 62 }
     requires plain { IsTrue (is_routable_if_any registration.now.home_option) }
     ensures claims { IfOk result (λ change. claims_with change ≡ claims_held (holding_by false registration.now (by_claim bench.now registration.now claim)) (home_of registration.now)) }
-    ensures shows { (asked : Claim) → IfOk result (λ change. Leads (judged (handing_at desk.now asked) registration.now false (by_claim bench.now registration.now claim)) desk.now.moment.0 (opened desk.now.moment.0 desk.now.known.now) [] answers.new change) }
+    ensures shows { (asked : Claim) → IfOk result (λ change. Leads (judged (handing_at context.now asked) registration.now false (by_claim bench.now registration.now claim)) context.now.moment.0 (opened context.now.moment.0 context.now.known.now) [] answers.new change) }
 {
     *answers = Answers::new(alloc)?;
     let denied = by_claim(bench, registration, claim);
-    carry_out(alloc, answers, desk, registration, false, denied)
+    carry_out(alloc, answers, context, registration, false, denied)
 }
 
 /// The home address is claimed. All memory that its registration takes is taken before, so that want of memory leaves no
@@ -265,12 +273,12 @@ fn deny_claim(
 fn claim_home<P: Place>(
     alloc: Global,
     answers: &mut Answers,
-    desk: &Desk<'_>,
+    context: &PacketContext<'_>,
     place: &mut P,
     bench: &Bench,
     registration: &Registration,
 ) -> Result<Option<Change>, Memory>
-    requires early { desk.now.moment.0 < 2 ^ 62 }
+    requires early { context.now.moment.0 < 2 ^ 62 }
     requires plain { IsTrue (is_routable_if_any registration.now.home_option) }
     requires room { (P.around place.old).room (home_of registration.now).0 ≡ true }
     requires lasts { deletes registration.now ≡ false }
@@ -279,16 +287,16 @@ fn claim_home<P: Place>(
     ensures left { OnErr result (P.claims place.new ≡ P.claims place.old) }
     ensures around { P.around place.new ≡ P.around place.old }
     ensures same { P.is_same place.old place.new }
-    ensures shows { (claim : Claim) → IfOk result (λ change. Leads (judged (handing_at desk.now claim) registration.now false (by_claim bench.now registration.now (claim_in (P.around place.old) (home_of registration.now).0))) desk.now.moment.0 (opened desk.now.moment.0 desk.now.known.now) answers.old answers.new change) }
+    ensures shows { (claim : Claim) → IfOk result (λ change. Leads (judged (handing_at context.now claim) registration.now false (by_claim bench.now registration.now (claim_in (P.around place.old) (home_of registration.now).0))) context.now.moment.0 (opened context.now.moment.0 context.now.known.now) answers.old answers.new change) }
 {
     let accepted = by_claim(bench, registration, Claim::Held);
-    let change = carry_out(alloc, answers, desk, registration, false, accepted)?;
+    let change = carry_out(alloc, answers, context, registration, false, accepted)?;
     let claim = place.claim(home_of(registration));
     if is_held(claim) {
         Ok(change)
     } else {
         drop(change);
-        deny_claim(alloc, answers, desk, bench, registration, claim)
+        deny_claim(alloc, answers, context, bench, registration, claim)
     }
 }
 
@@ -296,13 +304,13 @@ fn claim_home<P: Place>(
 fn take_claim<P: Place>(
     alloc: Global,
     answers: &mut Answers,
-    desk: &Desk<'_>,
+    context: &PacketContext<'_>,
     place: &mut P,
     bench: &Bench,
     held: bool,
     registration: &Registration,
 ) -> Result<Option<Change>, Memory>
-    requires early { desk.now.moment.0 < 2 ^ 62 }
+    requires early { context.now.moment.0 < 2 ^ 62 }
     requires plain { IsTrue (is_routable_if_any registration.now.home_option) }
     requires room { (P.around place.old).room (home_of registration.now).0 ≡ true }
     requires lasts { deletes registration.now ≡ false }
@@ -311,13 +319,13 @@ fn take_claim<P: Place>(
     ensures left { OnErr result (P.claims place.new ≡ P.claims place.old) }
     ensures around { P.around place.new ≡ P.around place.old }
     ensures same { P.is_same place.old place.new }
-    ensures shows { (claim : Claim) → IfOk result (λ change. Leads (judged (handing_at desk.now claim) registration.now held (by_claim bench.now registration.now (claim_with held (claim_in (P.around place.old) (home_of registration.now).0)))) desk.now.moment.0 (opened desk.now.moment.0 desk.now.known.now) answers.old answers.new change) }
+    ensures shows { (claim : Claim) → IfOk result (λ change. Leads (judged (handing_at context.now claim) registration.now held (by_claim bench.now registration.now (claim_with held (claim_in (P.around place.old) (home_of registration.now).0)))) context.now.moment.0 (opened context.now.moment.0 context.now.known.now) answers.old answers.new change) }
 {
     if held {
         let verdict = by_claim(bench, registration, Claim::Held);
-        conclude(alloc, answers, desk, place, registration, true, verdict)
+        conclude(alloc, answers, context, place, registration, true, verdict)
     } else {
-        claim_home(alloc, answers, desk, place, bench, registration)
+        claim_home(alloc, answers, context, place, bench, registration)
     }
 }
 
@@ -325,25 +333,27 @@ fn take_claim<P: Place>(
 pub fn take_update<P: Place>(
     alloc: Global,
     answers: &mut Answers,
-    desk: &Desk<'_>,
+    context: &PacketContext<'_>,
     place: &mut P,
     registration: &Registration,
 ) -> Result<Option<Change>, Memory>
-    requires early { desk.now.moment.0 < 2 ^ 62 }
-    requires later { desk.now.known.now.last ≤ desk.now.moment.0 }
+    requires early { context.now.moment.0 < 2 ^ 62 }
+    requires later { context.now.known.now.last ≤ context.now.moment.0 }
     requires plain { IsTrue (is_routable_if_any registration.now.home_option) }
-    requires room { is_served desk.now.known.now (home_of registration.now) ≡ true → (P.around place.old).room (home_of registration.now).0 ≡ true }
+    requires room { is_served context.now.known.now (home_of registration.now) ≡ true → (P.around place.old).room (home_of registration.now).0 ≡ true }
     requires empty { answers.old ≡ [] }
     ensures claims { IfOk result (λ change. P.claims place.new ≡ option_map (claims_with change) (P.claims place.old)) }
     ensures left { OnErr result (P.claims place.new ≡ P.claims place.old) }
     ensures around { P.around place.new ≡ P.around place.old }
     ensures same { P.is_same place.old place.new }
-    ensures shows { IfOk result (λ change. Leads (takes_update (handing_at desk.now (claim_in (P.around place.old) (home_of registration.now).0)) registration.now) desk.now.moment.0 (opened desk.now.moment.0 desk.now.known.now) answers.old answers.new change) }
+    ensures shows { IfOk result (λ change. Leads (takes_update (handing_at context.now (claim_in (P.around place.old) (home_of registration.now).0)) registration.now) context.now.moment.0 (opened context.now.moment.0 context.now.known.now) answers.old answers.new change) }
 {
-    let held = desk.known.holds(home_of(registration));
-    let bench = desk.known.bench(desk.identity, desk.moment, registration);
-    match before_claim(&bench, desk.shield, registration) {
-        Some(verdict) => conclude(alloc, answers, desk, place, registration, held, verdict),
-        None => take_claim(alloc, answers, desk, place, &bench, held, registration),
+    let held = context.known.holds(home_of(registration));
+    let bench = context
+        .known
+        .bench(context.identity, context.moment, registration);
+    match before_claim(&bench, context.shield, registration) {
+        Some(verdict) => conclude(alloc, answers, context, place, registration, held, verdict),
+        None => take_claim(alloc, answers, context, place, &bench, held, registration),
     }
 }

@@ -5,8 +5,8 @@ use Rattle.std.proofs.lemmas.Bool.{leb-false}
 use Rattle.mip_words.specs.Steps.{◌>>=◌}
 use Rattle.mip_words.proofs.StepLaws.{bind_ok, ok_is}
 use Rattle.mip_lines.specs.Cutting.{rows_of}
-use Rattle.mip_declared.specs.declared.reason.Reason.{Reason}
-use Rattle.mip_declared.specs.declared.reason.Reason.TheVariants as reasons
+use Rattle.mip_symbols.specs.declared.reason.Reason.{Reason}
+use Rattle.mip_symbols.specs.declared.reason.Reason.TheVariants as reasons
 use Rattle.mip_schedule.specs.Reading.{version_line}
 use Rattle.mip_drafts.specs.Walk.{walk}
 use Rattle.mip_drafts.proofs.WalkLaws.{walk_keeps}

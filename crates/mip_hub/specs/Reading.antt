@@ -3,8 +3,8 @@ use Rattle.std.specs.Prelude.{ℕ, List, [], ◌∷◌, ◌++◌, length, Bool, 
 use Rattle.std.specs.List.{list_any}
 use Rattle.mip_words.specs.Steps.{◌>>=◌}
 use Rattle.mip_lines.specs.Cutting.{rows_of}
-use Rattle.mip_declared.specs.declared.reason.Reason.{Reason}
-use Rattle.mip_declared.specs.declared.reason.Reason.TheVariants as reasons
+use Rattle.mip_symbols.specs.declared.reason.Reason.{Reason}
+use Rattle.mip_symbols.specs.declared.reason.Reason.TheVariants as reasons
 use Rattle.mip_schedule.specs.Faults.{Wrong}
 use Rattle.mip_schedule.specs.Reading.{version_line}
 use Rattle.mip_drafts.specs.Walk.{walk}

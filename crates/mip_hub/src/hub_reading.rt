@@ -13,9 +13,9 @@ use crate::hub_line::HubLine;
 use crate::hub_lines::HubLines;
 use crate::line_rows::line_fields;
 use mip_config::port_line;
-use mip_declared::{LineFault, Reason};
 use mip_drafts::{Cursor, Draft, read_lines};
 use mip_schedule::{ScheduleFault, version_line};
+use mip_symbols::{LineFault, Reason};
 use std::alloc::Global;
 
 /// How many lines there may be behind the first two.

@@ -6,8 +6,8 @@ ghost use Rattle.mip_hub.specs.Rows as rows;
 
 use crate::hub_line::HubLine;
 use mip_config::port;
-use mip_declared::Reason;
-use mip_declared::kinds::{address, prefix, u8_in, u32_in};
+use mip_symbols::Reason;
+use mip_symbols::kinds::{address, prefix, u8_in, u32_in};
 
 fn turn(field: &[u8]) -> Result<u32, Reason>
     ensures { result ≡ rows.turn field.now }

@@ -8,8 +8,8 @@ use Rattle.mip_words.specs.Addresses.{is_routable}
 use Rattle.mip_words.specs.Numbers.{number_bytes}
 use Rattle.mip_words.specs.declared.address.Address.{Address}
 use Rattle.mip_words.specs.declared.ids.NodeId.{NodeId}
-use Rattle.mip_declared.specs.Kinds.{place, link, node, some_link}
-use Rattle.mip_declared.specs.Places.{members, place_of, name_at}
+use Rattle.mip_symbols.specs.Kinds.{place, link, node, some_link}
+use Rattle.mip_symbols.specs.Places.{members, place_of, name_at}
 use Rattle.mip_schedule.specs.declared.event.Event.{Event}
 use Rattle.mip_schedule.specs.declared.event.Event.TheVariants as events
 use Rattle.mip_make.specs.Network as networks

@@ -12,14 +12,14 @@ use Rattle.mip_lines.proofs.LineLaws.{decimal_plain, hex_plain, hex_text_plain}
 use Rattle.mip_lines.proofs.RowReadings.{row1-again, row2-again, row4-again}
 use Rattle.mip_schedule.specs.EventRows.{wait_row, move_row, advertise_row, data_row, repeat_row, lose_row, carry_row, node_fields, packet_fields, outsider_fields, event_fields}
 use Rattle.mip_schedule.specs.EventTimes.{wait_of, carry_of, is_reserved, misfit}
-use Rattle.mip_declared.specs.Kinds as kinds
-use Rattle.mip_declared.specs.Spelled.{link_text, node_text}
+use Rattle.mip_symbols.specs.Kinds as kinds
+use Rattle.mip_symbols.specs.Spelled.{link_text, node_text}
 use Rattle.mip_schedule.specs.Spelling.{event_text}
-use Rattle.mip_declared.specs.declared.declaration.Declaration.{Declaration}
+use Rattle.mip_symbols.specs.declared.declaration.Declaration.{Declaration}
 use Rattle.mip_schedule.specs.declared.event.Event.{Event}
 use Rattle.mip_schedule.specs.declared.event.Event.TheVariants as events
-use Rattle.mip_declared.specs.declared.places.Sort.TheVariants as sorts
-use Rattle.mip_declared.specs.declared.reason.Reason.TheVariants as reasons
+use Rattle.mip_symbols.specs.declared.places.Sort.TheVariants as sorts
+use Rattle.mip_symbols.specs.declared.reason.Reason.TheVariants as reasons
 use Rattle.mip_make.proofs.FieldReads.{number_read, bytes_read, address_read}
 
 -- an event is read from its own line, which has plain fields; it takes little of the sums, and fits where that is left of them

@@ -9,9 +9,9 @@ use Rattle.mip_words.specs.declared.address.Address.{Address}
 use Rattle.mip_lines.specs.HexFields.{address_hex, hex_text}
 use Rattle.mip_lines.proofs.HexFieldLaws.{unhex_exact-again, address_in-again, hex_field-again}
 use Rattle.mip_lines.proofs.Numbers.{number-again}
-use Rattle.mip_declared.specs.Kinds as kinds
-use Rattle.mip_declared.specs.Kinds.{or_reason, to_host, number, address, seed, bytes}
-use Rattle.mip_declared.specs.declared.reason.Reason.TheVariants as reasons
+use Rattle.mip_symbols.specs.Kinds as kinds
+use Rattle.mip_symbols.specs.Kinds.{or_reason, to_host, number, address, seed, bytes}
+use Rattle.mip_symbols.specs.declared.reason.Reason.TheVariants as reasons
 
 pub number_read : (low high x : ℕ) → low ≤ x → x ≤ high → high < 2 ^ 64 → kinds.number low high (decimal x) ≡ Ok x
 unfolding number

@@ -16,18 +16,18 @@ use Rattle.mip_lines.proofs.RowReadings.{row4-again, row6-again}
 use Rattle.mip_schedule.specs.DeclarationRows.{link_row, agent_row, correspondent_row, mobile_row, serve_row, outsider_row, node_fields, declaration_fields}
 use Rattle.mip_schedule.specs.DeclarationTimes.{declaration_line, judged, undeclared, misplaced, is_served, is_on_link, is_prefix_taken, is_interface_taken}
 use Rattle.mip_schedule.specs.Faults.{Wrong}
-use Rattle.mip_declared.specs.Kinds as kinds
-use Rattle.mip_declared.specs.Kinds.{number, address, prefix, new_name, place, link, node, some_agent}
-use Rattle.mip_declared.specs.Names as names
-use Rattle.mip_declared.specs.Names.{is_name}
-use Rattle.mip_declared.specs.Places.{members, place_of, name_at}
+use Rattle.mip_symbols.specs.Kinds as kinds
+use Rattle.mip_symbols.specs.Kinds.{number, address, prefix, new_name, place, link, node, some_agent}
+use Rattle.mip_symbols.specs.Names as names
+use Rattle.mip_symbols.specs.Names.{is_name}
+use Rattle.mip_symbols.specs.Places.{members, place_of, name_at}
 use Rattle.mip_schedule.specs.Reading.{at_line, head_field, version_line, seed_line, start_line, head_of, is_run, declarations_of}
-use Rattle.mip_declared.specs.Spelled.{link_text}
+use Rattle.mip_symbols.specs.Spelled.{link_text}
 use Rattle.mip_schedule.specs.Spelling.{declaration_rows, declaration_text, head_rows, run_row}
-use Rattle.mip_declared.specs.declared.declaration.Declaration.{Declaration}
-use Rattle.mip_declared.specs.declared.declaration.Declaration.TheVariants as declare
-use Rattle.mip_declared.specs.declared.reason.Reason.{Reason}
-use Rattle.mip_declared.specs.declared.reason.Reason.TheVariants as reasons
+use Rattle.mip_symbols.specs.declared.declaration.Declaration.{Declaration}
+use Rattle.mip_symbols.specs.declared.declaration.Declaration.TheVariants as declare
+use Rattle.mip_symbols.specs.declared.reason.Reason.{Reason}
+use Rattle.mip_symbols.specs.declared.reason.Reason.TheVariants as reasons
 use Rattle.mip_make.specs.Network as networks
 use Rattle.mip_make.specs.Network.{name_of, agent_address, correspondent_address, numbered, agent, correspondent, first_mobile, second_mobile, serves, outsider, network}
 use Rattle.mip_make.proofs.FieldReads.{number_read, seed_read}

@@ -20,9 +20,9 @@ use Rattle.mip_schedule.specs.Lawful.{IsLawful}
 use Rattle.mip_schedule.specs.Reading.{at_line, Head, head_of, Declared, declarations_of, events_of, reading}
 use Rattle.mip_schedule.specs.Spelling.{declaration_rows, event_text, head_rows, run_row, schedule_rows, spelling}
 use Rattle.mip_schedule.specs.Versions.{is_numbered}
-use Rattle.mip_declared.specs.declared.declaration.Declaration.{Declaration}
+use Rattle.mip_symbols.specs.declared.declaration.Declaration.{Declaration}
 use Rattle.mip_schedule.specs.declared.event.Event.{Event}
-use Rattle.mip_declared.specs.declared.reason.Reason.{Reason}
+use Rattle.mip_symbols.specs.declared.reason.Reason.{Reason}
 use Rattle.mip_schedule.proofs.LawfulLaws.{read_so}
 use Rattle.mip_schedule.proofs.Walking.{waited_more, carried_more, none_waited, none_carried}
 use Rattle.mip_make.specs.Draws.{draw_of}

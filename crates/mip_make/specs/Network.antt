@@ -3,9 +3,9 @@ use Rattle.std.specs.Prelude.{ℕ, List, [], ◌∷◌, Some}
 use Rattle.mip_words.specs.declared.address.Address.{Address}
 use Rattle.mip_words.specs.declared.ids.NodeId.{NodeId}
 use Rattle.mip_words.specs.declared.ids.LinkId.{LinkId}
-use Rattle.mip_declared.specs.declared.declaration.Declaration.{Declaration}
-use Rattle.mip_declared.specs.declared.declaration.Declaration.TheVariants as declare
-use Rattle.mip_declared.specs.declared.name.Name.{Name}
+use Rattle.mip_symbols.specs.declared.declaration.Declaration.{Declaration}
+use Rattle.mip_symbols.specs.declared.declaration.Declaration.TheVariants as declare
+use Rattle.mip_symbols.specs.declared.name.Name.{Name}
 
 -- a name of one letter or two; the rest of its eight places is 0
 abbrev pub name_of : ℕ → ℕ → ℕ → Name

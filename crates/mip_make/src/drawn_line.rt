@@ -4,7 +4,7 @@ ghost use Rattle.std.specs.Prelude.{◌≡◌, ◌<◌, ◌∷◌, ◌++◌, [],
 ghost use Rattle.mip_words.specs.Numbers.{number_bytes};
 ghost use Rattle.mip_lines.specs.HexFields.{address_hex, hex_text};
 ghost use Rattle.mip_lines.specs.Lines.{line_text};
-ghost use Rattle.mip_declared.specs.Spelled.{link_text, node_text};
+ghost use Rattle.mip_symbols.specs.Spelled.{link_text, node_text};
 ghost use Rattle.mip_make.specs.Drawn as events;
 ghost use Rattle.mip_make.specs.Network as networks;
 ghost use Rattle.mip_make.specs.Made.{event_line};
@@ -16,14 +16,14 @@ use itoa::Buffer;
 use mip_lines::{put_line, put_line_hex};
 use mip_words::{Address, Bytes, Memory, u32_bytes};
 
-#[tactic(auto, unfolding(crate::specs::Network::network, mip_declared::specs::Places::name_at, mip_declared::specs::Places::members))]
+#[tactic(auto, unfolding(crate::specs::Network::network, mip_symbols::specs::Places::name_at, mip_symbols::specs::Places::members))]
 fn correspondent_name() -> &'static [u8]
     ensures { result.now ≡ node_text networks.network (networks.node 1) }
 {
     b"c"
 }
 
-#[tactic(auto, unfolding(crate::specs::Network::network, mip_declared::specs::Places::name_at, mip_declared::specs::Places::members))]
+#[tactic(auto, unfolding(crate::specs::Network::network, mip_symbols::specs::Places::name_at, mip_symbols::specs::Places::members))]
 fn mobile_name(y: u32) -> &'static [u8]
     ensures { result.now ≡ node_text networks.network (events.mobile_by y) }
 {
@@ -31,7 +31,7 @@ fn mobile_name(y: u32) -> &'static [u8]
 }
 
 /// The name of a link by its number.
-#[tactic(auto, unfolding(crate::specs::Network::network, mip_declared::specs::Places::name_at, mip_declared::specs::Places::members))]
+#[tactic(auto, unfolding(crate::specs::Network::network, mip_symbols::specs::Places::name_at, mip_symbols::specs::Places::members))]
 fn link_name(link: u32) -> &'static [u8]
     requires { link < 3 }
     ensures { result.now ≡ link_text networks.network (networks.link link) }

@@ -7,9 +7,9 @@ use crate::counts::Counts;
 use crate::word::Word;
 use itoa::Buffer;
 use mip_entries::History;
+use mip_ghost_log::GhostLog;
 use mip_lines::put_line;
 use mip_schedule::Schedule;
-use mip_trail::Trail;
 use mip_words::{Bytes, Memory};
 use std::alloc::Global;
 use std::marker::Model;
@@ -20,7 +20,7 @@ use std::marker::Model;
 #[derive(Drop)]
 pub struct Tally {
     counts: Counts,
-    told: Trail<History>,
+    told: GhostLog<History>,
 }
 
 impl Model for Tally {
@@ -42,7 +42,7 @@ impl Tally {
     {
         Tally {
             counts: Counts::none(),
-            told: Trail::new(),
+            told: GhostLog::new(),
         }
     }
 

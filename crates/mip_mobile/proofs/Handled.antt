@@ -1,4 +1,4 @@
--- A call whose desk shows the definition's turn is handled, once its answers are after_put.
+-- A call whose context shows the definition's turn is handled, once its answers are after_put.
 use Rattle.std.proofs.Common.{◌≡◌, ℕ, zero, suc, List, [], ◌∷◌, ◌++◌, take, map, Bool, sym, ap, subst, ◌∙◌, lit≤}
 use Rattle.std.proofs.lemmas.List.{append-nil}
 use Rattle.std.specs.Prelude.{Option, Result, Ok, Err, IfOk, OnErr, option_map}
@@ -8,16 +8,16 @@ use Rattle.mip_words.specs.declared.address.Address.{Address}
 use Rattle.mip_words.specs.declared.shield.Shield.{Shield}
 use Rattle.mip_entries.specs.declared.answer.Answer.{Answer}
 use Rattle.mip_entries.specs.declared.answer.Answer.TheVariants.{Send, Note}
-use Rattle.mip_turns.proofs.ShowLaws.{shows-answers}
+use Rattle.mip_transitions.proofs.ShowLaws.{shows-answers}
 use Rattle.mip_rules_mobile.specs.Calls.{Call}
 use Rattle.mip_rules_mobile.specs.Steps.{answer_of, answers_of}
 use Rattle.mip_rules_mobile.specs.Known.{Known}
-use Rattle.mip_rules_mobile.specs.Turns.{Stands, with_turn}
+use Rattle.mip_rules_mobile.specs.Transitions.{Stands, with_turn}
 use Rattle.mip_rules_mobile.specs.Doing.{turn_of}
 use Rattle.mip_rules_mobile.specs.Answering.{IsFrom, AreFrom}
 use Rattle.mip_rules_mobile.proofs.Away.{away-call}
 use Rattle.mip_rules_mobile.proofs.Calls.{call-stands, call-now}
-use Rattle.mip_mobility.specs.Seen.{DeskSeen, Shows}
+use Rattle.mip_mobility.specs.Seen.{ContextSeen, Shows}
 use Rattle.mip_mobility.proofs.Noted.{shows-known, shows-moment}
 use Rattle.mip_mobile.specs.Putting.{after_put, Puts, PutsAll, PutsFront, Told, Answered, sends_of, puts_of}
 use Rattle.mip_mobile.specs.Handling.{Handles, BreaksOff, IsLeft}
@@ -49,12 +49,12 @@ from-after_put gives careof (a ∷ asked) (b ∷ bs) all from = (one a all.0 fro
     one (Note entry) is leaves = subst (IsFrom careof) (sym is) tt
     one (Send shield packet) is leaves = by is.0 shield packet is.2 leaves
 
-pub handled : (gives : Put → Bool) (k : Known) (now : ℕ) (call : Call) (desk : DeskSeen) (asked : List Answer) (left : Known) (out told : Told) (puts puts_after : Answered) (answers : List Answer)
-    → Shows desk (turn_of k now call) → asked ≡ desk.answers → left ≡ desk.known → PutsAll gives asked answers → told ≡ option_map (λ items. items ++ sends_of answers) out
+pub handled : (gives : Put → Bool) (k : Known) (now : ℕ) (call : Call) (context : ContextSeen) (asked : List Answer) (left : Known) (out told : Told) (puts puts_after : Answered) (answers : List Answer)
+    → Shows context (turn_of k now call) → asked ≡ context.answers → left ≡ context.known → PutsAll gives asked answers → told ≡ option_map (λ items. items ++ sends_of answers) out
     → puts_after ≡ puts ++ puts_of asked answers → Handles gives k now call out puts answers left told puts_after
-handled gives k now call desk asked left out told puts puts_after answers shows is known took sent answered =
-    let same : left ≡ (turn_of k now call).known = known ∙ sym (shows-known desk (turn_of k now call) shows) in
-    let own : asked ≡ answers_of (turn_of k now call).steps = is ∙ sym (shows-answers answer_of desk.moment desk.known desk.answers (turn_of k now call) shows) in
+handled gives k now call context asked left out told puts puts_after answers shows is known took sent answered =
+    let same : left ≡ (turn_of k now call).known = known ∙ sym (shows-known context (turn_of k now call) shows) in
+    let own : asked ≡ answers_of (turn_of k now call).steps = is ∙ sym (shows-answers answer_of context.moment context.known context.answers (turn_of k now call) shows) in
     let all : PutsAll gives (answers_of (turn_of k now call).steps) answers = subst (λ (xs : List Answer). PutsAll gives xs answers) own took in
     record {
       taken = all;
@@ -85,12 +85,12 @@ from-front careof zero asked from = tt
 from-front careof (suc n) [] from = tt
 from-front careof (suc n) (a ∷ asked) from = (from.0, from-front careof n asked from.1)
 
--- a call whose desk shows the definition's turn breaks off in it, where its wire took a front of its answers
-pub breaks-off : (gives : Put → Bool) (k : Known) (now : ℕ) (call : Call) (desk : DeskSeen) (asked : List Answer) (out told : Told) (puts puts_after : Answered)
-    → Shows desk (turn_of k now call) → asked ≡ desk.answers → PutsFront gives asked out told puts puts_after → BreaksOff gives k now call out puts told puts_after
-breaks-off gives k now call desk asked out told puts puts_after shows is front =
+-- a call whose context shows the definition's turn breaks off in it, where its wire took a front of its answers
+pub breaks-off : (gives : Put → Bool) (k : Known) (now : ℕ) (call : Call) (context : ContextSeen) (asked : List Answer) (out told : Told) (puts puts_after : Answered)
+    → Shows context (turn_of k now call) → asked ≡ context.answers → PutsFront gives asked out told puts puts_after → BreaksOff gives k now call out puts told puts_after
+breaks-off gives k now call context asked out told puts puts_after shows is front =
     let own : List Answer = answers_of (turn_of k now call).steps in
-    let same : asked ≡ own = is ∙ sym (shows-answers answer_of desk.moment desk.known desk.answers (turn_of k now call) shows) in
+    let same : asked ≡ own = is ∙ sym (shows-answers answer_of context.moment context.known context.answers (turn_of k now call) shows) in
     let all : PutsAll gives (take front.count own) front.answers = subst (λ (xs : List Answer). PutsAll gives (take front.count xs) front.answers) same front.taken in
     record {
       count = front.count;
@@ -103,7 +103,7 @@ breaks-off gives k now call desk asked out told puts puts_after shows is front =
       answered = subst (λ (xs : List Answer). puts_after ≡ puts ++ (puts_of (take front.count xs) front.answers ++ map Err front.failed)) same front.answered;
     }
 
--- a desk that shows the definition's turn keeps what that leaves, once its answers are taken
-pub is-left : (k : Known) (now : ℕ) (call : Call) (desk after : DeskSeen) → Shows desk (turn_of k now call) → after ≡ record desk { answers = [] } → IsLeft after k now call
-is-left k now call desk after shows is =
-    (ap (λ (d : DeskSeen). d.known) is ∙ sym (shows-known desk (turn_of k now call) shows), ap (λ (d : DeskSeen). d.moment) is ∙ sym (shows-moment desk (turn_of k now call) shows) ∙ call-now k now call)
+-- a context that shows the definition's turn keeps what that leaves, once its answers are taken
+pub is-left : (k : Known) (now : ℕ) (call : Call) (context after : ContextSeen) → Shows context (turn_of k now call) → after ≡ record context { answers = [] } → IsLeft after k now call
+is-left k now call context after shows is =
+    (ap (λ (d : ContextSeen). d.known) is ∙ sym (shows-known context (turn_of k now call) shows), ap (λ (d : ContextSeen). d.moment) is ∙ sym (shows-moment context (turn_of k now call) shows) ∙ call-now k now call)

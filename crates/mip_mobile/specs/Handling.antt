@@ -9,15 +9,15 @@ use Rattle.mip_outside.specs.declared.put_fault.PutFault.{PutFault}
 use Rattle.mip_entries.specs.Stamped.{Stamped}
 use Rattle.mip_entries.specs.declared.answer.Answer.{Answer}
 use Rattle.mip_entries.specs.declared.answer.Answer.TheVariants.{Send, Note}
-use Rattle.mip_rules_mobile.specs.declared.standing.Standing.TheVariants.{Away}
+use Rattle.mip_rules_mobile.specs.declared.attachment.Attachment.TheVariants.{Away}
 use Rattle.mip_rules_mobile.specs.Answering.{IsElsewhere, AreFrom, stays_put}
 use Rattle.mip_rules_mobile.specs.Calls.{Call, Take}
 use Rattle.mip_rules_mobile.specs.Steps.{Step, answers_of}
 use Rattle.mip_rules_mobile.specs.Known.{Known}
 use Rattle.mip_rules_mobile.specs.Refusing.{tells_of_refusal, tables_of}
-use Rattle.mip_rules_mobile.specs.Turns.{Stands, with_turn}
+use Rattle.mip_rules_mobile.specs.Transitions.{Stands, with_turn}
 use Rattle.mip_rules_mobile.specs.Doing.{turn_of}
-use Rattle.mip_mobility.specs.Seen.{DeskSeen}
+use Rattle.mip_mobility.specs.Seen.{ContextSeen}
 use Rattle.mip_mobile.specs.Putting.{PutsAll, Told, Answered, sends_of, puts_of}
 
 -- the moment of a call: what the clock says, or the moment of the last call where that is later
@@ -59,5 +59,5 @@ pub record BreaksOff (gives : Put → Bool) (before : Known) (now : ℕ) (call :
 
 -- what a station that knew this and was called at a moment keeps once its call is over: what the definition's turn leaves known,
 -- and the moment of the call
-abbrev pub IsLeft : DeskSeen → (before : Known) (now : ℕ) (call : Call) → Type 0
-IsLeft desk before now call = (desk.known ≡ (turn_of before now call).known) × (desk.moment ≡ now)
+abbrev pub IsLeft : ContextSeen → (before : Known) (now : ℕ) (call : Call) → Type 0
+IsLeft context before now call = (context.known ≡ (turn_of before now call).known) × (context.moment ≡ now)

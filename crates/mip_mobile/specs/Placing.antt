@@ -3,8 +3,8 @@ use Rattle.std.specs.Prelude.{◌≡◌, ℕ, Bool, true, false, if◌then◌els
 use Rattle.mip_words.specs.declared.address.Address.{Address}
 use Rattle.mip_outside.specs.declared.claim.Claim.{Claim}
 use Rattle.mip_outside.specs.Places.{Around, claim_in, is_held, with_claim, without_claim}
-use Rattle.mip_rules_mobile.specs.declared.standing.Standing.{Standing}
-use Rattle.mip_rules_mobile.specs.declared.standing.Standing.TheVariants.{Detached, AtHome, Away}
+use Rattle.mip_rules_mobile.specs.declared.attachment.Attachment.{Attachment}
+use Rattle.mip_rules_mobile.specs.declared.attachment.Attachment.TheVariants.{Detached, AtHome, Away}
 use Rattle.mip_rules_mobile.specs.Calls.{Call, Attach, Leave}
 use Rattle.mip_rules_mobile.specs.Known.{Known}
 use Rattle.mip_rules_mobile.specs.HomeQuestions.{home_of}
@@ -21,22 +21,22 @@ abbrev pub Claims : Type 0
 Claims = ℕ → Bool
 
 -- once the address is given up that it held: away, the care-of address; at home, the home address, where a claim of it is granted
-abbrev pub claims_left : Standing → (home : Address) → (held : Bool) → Claims → Claims
+abbrev pub claims_left : Attachment → (home : Address) → (held : Bool) → Claims → Claims
 claims_left Detached home held claims = claims
 claims_left AtHome home held claims = if held then without_claim home.0 (with_claim true home.0 claims) else claims
 claims_left (Away careof) home held claims = without_claim careof.0 claims
 
 -- and once it asked for its address under a prefix
-abbrev pub claims_come : Standing → (home address : Address) → (held granted : Bool) → Claims → Claims
+abbrev pub claims_come : Attachment → (home address : Address) → (held granted : Bool) → Claims → Claims
 claims_come standing home address held granted claims = with_claim granted address.0 (claims_left standing home held claims)
 
 -- the claims after a call of this kind: where it uses the prefix already, they stay
-abbrev pub claims_attached : Around → Standing → (home : Address) → (prefix : ℕ) → Claims → Claims
+abbrev pub claims_attached : Around → Attachment → (home : Address) → (prefix : ℕ) → Claims → Claims
 claims_attached around standing home prefix claims =
     if uses_prefix standing home prefix then claims
     else claims_come standing home (address_under home prefix) (is_held (claim_in around home.0)) (is_held (claim_in around (address_under home prefix).0)) claims
 
-abbrev pub claims_after_leaving : Around → Standing → (home : Address) → Claims → Claims
+abbrev pub claims_after_leaving : Around → Attachment → (home : Address) → Claims → Claims
 claims_after_leaving around standing home claims = claims_left standing home (is_held (claim_in around home.0)) claims
 
 -- these are the place's answers, as far as a call needs them: none where it uses the prefix already, and the one of the home

@@ -1,7 +1,7 @@
 -- A mobile wherever it stands, and what it says of that.
 use Rattle.std.specs.Prelude.{◌≡◌}
-use Rattle.mip_rules_mobile.specs.declared.standing.Standing.{Standing}
-use Rattle.mip_rules_mobile.specs.declared.standing.Standing.TheVariants as standings
+use Rattle.mip_rules_mobile.specs.declared.attachment.Attachment.{Attachment}
+use Rattle.mip_rules_mobile.specs.declared.attachment.Attachment.TheVariants as standings
 use Rattle.mip_mobile.specs.declared.machine.Machine.{Machine}
 use Rattle.mip_mobile.specs.declared.mobile.Mobile.{Mobile}
 use Rattle.mip_mobile.specs.declared.mobile.Mobile.TheVariants.{Detached, AtHome, Away}
@@ -12,14 +12,14 @@ machine_of (AtHome s) = s.machine
 machine_of (Away s) = s.machine
 
 -- what its type says of where it stands
-abbrev pub state_of : {C W : Type 0} → Mobile C W → Standing
+abbrev pub state_of : {C W : Type 0} → Mobile C W → Attachment
 state_of (Detached s) = standings.Detached
 state_of (AtHome s) = standings.AtHome
 state_of (Away s) = standings.Away s.state.careof
 
 -- its type says where it stands
 abbrev pub IsTyped : {C W : Type 0} → Mobile C W → Type 0
-IsTyped m = state_of m ≡ (machine_of m).desk.known.standing
+IsTyped m = state_of m ≡ (machine_of m).context.known.standing
 
 -- with another clock, or another wire
 abbrev pub with_clock : {C W : Type 0} → Machine C W → C → Machine C W

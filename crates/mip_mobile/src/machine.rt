@@ -14,7 +14,7 @@ ghost use Rattle.mip_rules_mobile.specs.Calls.{Call};
 ghost use Rattle.mip_rules_mobile.specs.Steps.{Called};
 ghost use Rattle.mip_rules_mobile.specs.Known.{Known};
 ghost use Rattle.mip_rules_mobile.specs.Questions.{fresh};
-ghost use Rattle.mip_rules_mobile.specs.Turns.{begun, noted};
+ghost use Rattle.mip_rules_mobile.specs.Transitions.{begun, noted};
 ghost use Rattle.mip_rules_mobile.specs.Doing.{turn_of};
 ghost use Rattle.mip_mobility.specs.Seen.{Shows};
 ghost use Rattle.mip_mobile.specs.Handling.{Handles, BreaksOff, IsLeft, moment_of};
@@ -26,17 +26,17 @@ use crate::fault::StationFault;
 use crate::putting::send_all;
 use mip_bcache::Row;
 use mip_entries::Answers;
-use mip_mobility::Desk;
+use mip_mobility::CallContext;
 use mip_nonce::Secrets;
 use mip_outside::{Clock, Wire};
-use mip_rules_mobile::Standing;
+use mip_rules_mobile::Attachment;
 use mip_words::{Address, Memory, Moment, Shield};
 use std::alloc::Global;
 
 /// A mobile with its clock and its wire.
 #[derive(Drop)]
 pub struct Machine<C: Clock, W: Wire> {
-    pub(crate) desk: Desk,
+    pub(crate) context: CallContext,
     pub(crate) clock: C,
     pub(crate) wire: W,
     pub(crate) fault: Option<StationFault>,
@@ -56,12 +56,12 @@ impl<C: Clock + Drop, W: Wire + Drop> Machine<C, W> {
         requires home { IsTrue (is_routable home.0) }
         requires some { 1 ≤ numbers }
         requires few { numbers ≤ 8 }
-        ensures known { IfOk result (λ m. m.desk ≡ record { moment = 0; known = fresh home declared numbers secrets; answers = [] }) }
+        ensures known { IfOk result (λ m. m.context ≡ record { moment = 0; known = fresh home declared numbers secrets; answers = [] }) }
         ensures parts { IfOk result (λ m. (m.clock ≡ clock) × (m.wire ≡ wire) × (m.fault ≡ None)) }
     {
-        let desk = Desk::open(alloc, home, declared, secrets, numbers)?;
+        let context = CallContext::open(alloc, home, declared, secrets, numbers)?;
         Ok(Machine {
-            desk,
+            context,
             clock,
             wire,
             fault: None,
@@ -83,35 +83,35 @@ impl<C: Clock + Drop, W: Wire + Drop> Machine<C, W> {
     }
 
     /// Where it stands.
-    pub fn standing(&self) -> Standing
-        ensures { result ≡ self.now.desk.known.standing }
+    pub fn standing(&self) -> Attachment
+        ensures { result ≡ self.now.context.known.standing }
     {
-        self.desk.standing()
+        self.context.standing()
     }
 
     /// The row at a place among those that its correspondent part keeps, in order of home address, then of number.
     pub fn row(&self, now: Moment, place: u32) -> Option<&Row>
-        requires { self.now.desk.moment ≤ now.0 }
-        ensures { option_copied result ≡ slice_get (rows_at self.now.desk.known.part.known.cache now.0) place }
+        requires { self.now.context.moment ≤ now.0 }
+        ensures { option_copied result ≡ slice_get (rows_at self.now.context.known.part.known.cache now.0) place }
     {
-        self.desk.kept_row(now, place)
+        self.context.kept_row(now, place)
     }
 
     /// The earliest moment at which work is due.
     pub fn due(&self) -> Option<Moment>
-        ensures { result ≡ first_due self.now.desk.known.list.timers }
+        ensures { result ≡ first_due self.now.context.known.list.timers }
     {
-        self.desk.due()
+        self.context.due()
     }
 
     /// A call begins: its moment is what the clock says, or that of the last call where this is later.
     pub fn begin(&mut self, alloc: Global) -> Result<(), Memory>
-        ensures shows { (call : Call) → OnOk result (Shows self.new.desk (noted (Called call) (begun (moment_of (C.last self.new.clock) self.old.desk.moment) self.old.desk.known))) }
+        ensures shows { (call : Call) → OnOk result (Shows self.new.context (noted (Called call) (begun (moment_of (C.last self.new.clock) self.old.context.moment) self.old.context.known))) }
         ensures rest { (self.new.wire ≡ self.old.wire) × (self.new.fault ≡ self.old.fault) }
         ensures read { C.ahead self.new.clock ≡ option_map moments_after (C.ahead self.old.clock) }
     {
-        let now = self.clock.now().max(self.desk.moment().0);
-        self.desk.call(alloc, Moment(now))
+        let now = self.clock.now().max(self.context.moment().0);
+        self.context.call(alloc, Moment(now))
     }
 
     /// A call ends: its packets are handed to the wire, or its fault is kept.
@@ -121,12 +121,12 @@ impl<C: Clock + Drop, W: Wire + Drop> Machine<C, W> {
         done: Result<(), Memory>,
     ) -> Result<Answers, StationFault>
         requires { self.old.fault ≡ None }
-        ensures handles { (k : Known) (now : ℕ) (call : Call) → OnOk done (Shows self.old.desk (turn_of k now call))
-            → IfOk result (λ answers. Handles W.gives k now call (W.out self.old.wire) (W.answered self.old.wire) answers self.new.desk.known (W.out self.new.wire) (W.answered self.new.wire)) }
-        ensures front { (k : Known) (now : ℕ) (call : Call) → OnOk done (Shows self.old.desk (turn_of k now call))
+        ensures handles { (k : Known) (now : ℕ) (call : Call) → OnOk done (Shows self.old.context (turn_of k now call))
+            → IfOk result (λ answers. Handles W.gives k now call (W.out self.old.wire) (W.answered self.old.wire) answers self.new.context.known (W.out self.new.wire) (W.answered self.new.wire)) }
+        ensures front { (k : Known) (now : ℕ) (call : Call) → OnOk done (Shows self.old.context (turn_of k now call))
             → OnErr result (BreaksOff W.gives k now call (W.out self.old.wire) (W.answered self.old.wire) (W.out self.new.wire) (W.answered self.new.wire)) }
-        ensures left { (k : Known) (now : ℕ) (call : Call) → OnOk done (Shows self.old.desk (turn_of k now call))
-            → result ≢ Err StationFault.Memory → IsLeft self.new.desk k now call }
+        ensures left { (k : Known) (now : ℕ) (call : Call) → OnOk done (Shows self.old.context (turn_of k now call))
+            → result ≢ Err StationFault.Memory → IsLeft self.new.context k now call }
         ensures clock { self.new.clock ≡ self.old.clock }
         ensures well { OnOk result (self.new.fault ≡ None) }
         ensures kept { IfErr result (λ fault. self.new.fault ≡ Some fault) }
@@ -145,18 +145,18 @@ impl<C: Clock + Drop, W: Wire + Drop> Machine<C, W> {
         alloc: Global,
         done: Result<(), Memory>,
     ) -> Result<Answers, StationFault>
-        ensures handles { (k : Known) (now : ℕ) (call : Call) → OnOk done (Shows self.old.desk (turn_of k now call))
-            → IfOk result (λ answers. Handles W.gives k now call (W.out self.old.wire) (W.answered self.old.wire) answers self.new.desk.known (W.out self.new.wire) (W.answered self.new.wire)) }
-        ensures front { (k : Known) (now : ℕ) (call : Call) → OnOk done (Shows self.old.desk (turn_of k now call))
+        ensures handles { (k : Known) (now : ℕ) (call : Call) → OnOk done (Shows self.old.context (turn_of k now call))
+            → IfOk result (λ answers. Handles W.gives k now call (W.out self.old.wire) (W.answered self.old.wire) answers self.new.context.known (W.out self.new.wire) (W.answered self.new.wire)) }
+        ensures front { (k : Known) (now : ℕ) (call : Call) → OnOk done (Shows self.old.context (turn_of k now call))
             → OnErr result (BreaksOff W.gives k now call (W.out self.old.wire) (W.answered self.old.wire) (W.out self.new.wire) (W.answered self.new.wire)) }
-        ensures left { (k : Known) (now : ℕ) (call : Call) → OnOk done (Shows self.old.desk (turn_of k now call))
-            → result ≢ Err StationFault.Memory → IsLeft self.new.desk k now call }
+        ensures left { (k : Known) (now : ℕ) (call : Call) → OnOk done (Shows self.old.context (turn_of k now call))
+            → result ≢ Err StationFault.Memory → IsLeft self.new.context k now call }
         ensures rest { (self.new.clock ≡ self.old.clock) × (self.new.fault ≡ self.old.fault) }
         ensures failed { IsErrOf result StationFault.Failed → Rose (W.faults self.old.wire) (W.faults self.new.wire) }
         ensures wire { (W.faults self.old.wire ≤ W.faults self.new.wire) × W.is_same self.old.wire self.new.wire }
     {
         done?;
-        let asked = self.desk.take_answers(alloc)?;
+        let asked = self.context.take_answers(alloc)?;
         send_all(alloc, &mut self.wire, asked)
     }
 
@@ -170,9 +170,9 @@ impl<C: Clock + Drop, W: Wire + Drop> Machine<C, W> {
     ) -> Result<Answers, StationFault>
         ensures faulted { IfSome self.old.fault (λ fault. (result ≡ Err fault) × (self.new ≡ self.old)) }
         ensures read { self.old.fault ≡ None → C.ahead self.new.clock ≡ option_map moments_after (C.ahead self.old.clock) }
-        ensures handles { IfOk result (λ answers. Handles W.gives self.old.desk.known (moment_of (C.last self.new.clock) self.old.desk.moment) (calls.Take number shield packet.now) (W.out self.old.wire) (W.answered self.old.wire) answers self.new.desk.known (W.out self.new.wire) (W.answered self.new.wire)) }
-        ensures front { self.old.fault ≡ None → OnErr result (BreaksOff W.gives self.old.desk.known (moment_of (C.last self.new.clock) self.old.desk.moment) (calls.Take number shield packet.now) (W.out self.old.wire) (W.answered self.old.wire) (W.out self.new.wire) (W.answered self.new.wire)) }
-        ensures left { self.old.fault ≡ None → result ≢ Err StationFault.Memory → IsLeft self.new.desk self.old.desk.known (moment_of (C.last self.new.clock) self.old.desk.moment) (calls.Take number shield packet.now) }
+        ensures handles { IfOk result (λ answers. Handles W.gives self.old.context.known (moment_of (C.last self.new.clock) self.old.context.moment) (calls.Take number shield packet.now) (W.out self.old.wire) (W.answered self.old.wire) answers self.new.context.known (W.out self.new.wire) (W.answered self.new.wire)) }
+        ensures front { self.old.fault ≡ None → OnErr result (BreaksOff W.gives self.old.context.known (moment_of (C.last self.new.clock) self.old.context.moment) (calls.Take number shield packet.now) (W.out self.old.wire) (W.answered self.old.wire) (W.out self.new.wire) (W.answered self.new.wire)) }
+        ensures left { self.old.fault ≡ None → result ≢ Err StationFault.Memory → IsLeft self.new.context self.old.context.known (moment_of (C.last self.new.clock) self.old.context.moment) (calls.Take number shield packet.now) }
         ensures well { OnOk result (self.new.fault ≡ None) }
         ensures kept { IfErr result (λ fault. self.new.fault ≡ Some fault) }
         ensures failed { self.old.fault ≡ None → IsErrOf result StationFault.Failed → Rose (W.faults self.old.wire) (W.faults self.new.wire) }
@@ -181,33 +181,33 @@ impl<C: Clock + Drop, W: Wire + Drop> Machine<C, W> {
         if let Some(fault) = self.fault {
             return Err(fault);
         }
-        let done = self.take_desk(alloc, number, shield, packet);
+        let done = self.take_context(alloc, number, shield, packet);
         self.finish(alloc, done)
     }
 
     #[tactic(auto, unfolding(mip_rules_mobile::specs::Doing::does))]
-    fn take_desk(
+    fn take_context(
         &mut self,
         alloc: Global,
         number: u64,
         shield: Option<Shield>,
         packet: &[u8],
     ) -> Result<(), Memory>
-        ensures shows { OnOk result (Shows self.new.desk (turn_of self.old.desk.known (moment_of (C.last self.new.clock) self.old.desk.moment) (calls.Take number shield packet.now))) }
+        ensures shows { OnOk result (Shows self.new.context (turn_of self.old.context.known (moment_of (C.last self.new.clock) self.old.context.moment) (calls.Take number shield packet.now))) }
         ensures rest { (self.new.wire ≡ self.old.wire) × (self.new.fault ≡ self.old.fault) }
         ensures read { C.ahead self.new.clock ≡ option_map moments_after (C.ahead self.old.clock) }
     {
         self.begin(alloc)?;
-        mip_mobility::take(alloc, &mut self.desk, number, shield, packet)
+        mip_mobility::take(alloc, &mut self.context, number, shield, packet)
     }
 
     /// Time goes on, and due work is done.
     pub fn tick(&mut self, alloc: Global) -> Result<Answers, StationFault>
         ensures faulted { IfSome self.old.fault (λ fault. (result ≡ Err fault) × (self.new ≡ self.old)) }
         ensures read { self.old.fault ≡ None → C.ahead self.new.clock ≡ option_map moments_after (C.ahead self.old.clock) }
-        ensures handles { IfOk result (λ answers. Handles W.gives self.old.desk.known (moment_of (C.last self.new.clock) self.old.desk.moment) calls.Tick (W.out self.old.wire) (W.answered self.old.wire) answers self.new.desk.known (W.out self.new.wire) (W.answered self.new.wire)) }
-        ensures front { self.old.fault ≡ None → OnErr result (BreaksOff W.gives self.old.desk.known (moment_of (C.last self.new.clock) self.old.desk.moment) calls.Tick (W.out self.old.wire) (W.answered self.old.wire) (W.out self.new.wire) (W.answered self.new.wire)) }
-        ensures left { self.old.fault ≡ None → result ≢ Err StationFault.Memory → IsLeft self.new.desk self.old.desk.known (moment_of (C.last self.new.clock) self.old.desk.moment) calls.Tick }
+        ensures handles { IfOk result (λ answers. Handles W.gives self.old.context.known (moment_of (C.last self.new.clock) self.old.context.moment) calls.Tick (W.out self.old.wire) (W.answered self.old.wire) answers self.new.context.known (W.out self.new.wire) (W.answered self.new.wire)) }
+        ensures front { self.old.fault ≡ None → OnErr result (BreaksOff W.gives self.old.context.known (moment_of (C.last self.new.clock) self.old.context.moment) calls.Tick (W.out self.old.wire) (W.answered self.old.wire) (W.out self.new.wire) (W.answered self.new.wire)) }
+        ensures left { self.old.fault ≡ None → result ≢ Err StationFault.Memory → IsLeft self.new.context self.old.context.known (moment_of (C.last self.new.clock) self.old.context.moment) calls.Tick }
         ensures well { OnOk result (self.new.fault ≡ None) }
         ensures kept { IfErr result (λ fault. self.new.fault ≡ Some fault) }
         ensures failed { self.old.fault ≡ None → IsErrOf result StationFault.Failed → Rose (W.faults self.old.wire) (W.faults self.new.wire) }
@@ -216,18 +216,18 @@ impl<C: Clock + Drop, W: Wire + Drop> Machine<C, W> {
         if let Some(fault) = self.fault {
             return Err(fault);
         }
-        let done = self.tick_desk(alloc);
+        let done = self.tick_context(alloc);
         self.finish(alloc, done)
     }
 
     #[tactic(auto, unfolding(mip_rules_mobile::specs::Doing::does))]
-    fn tick_desk(&mut self, alloc: Global) -> Result<(), Memory>
-        ensures shows { OnOk result (Shows self.new.desk (turn_of self.old.desk.known (moment_of (C.last self.new.clock) self.old.desk.moment) calls.Tick)) }
+    fn tick_context(&mut self, alloc: Global) -> Result<(), Memory>
+        ensures shows { OnOk result (Shows self.new.context (turn_of self.old.context.known (moment_of (C.last self.new.clock) self.old.context.moment) calls.Tick)) }
         ensures rest { (self.new.wire ≡ self.old.wire) × (self.new.fault ≡ self.old.fault) }
         ensures read { C.ahead self.new.clock ≡ option_map moments_after (C.ahead self.old.clock) }
     {
         self.begin(alloc)?;
-        mip_mobility::tick(alloc, &mut self.desk)
+        mip_mobility::tick(alloc, &mut self.context)
     }
 
     /// Sends data.
@@ -243,9 +243,9 @@ impl<C: Clock + Drop, W: Wire + Drop> Machine<C, W> {
         requires short { length payload.now ≤ 512 }
         ensures faulted { IfSome self.old.fault (λ fault. (result ≡ Err fault) × (self.new ≡ self.old)) }
         ensures read { self.old.fault ≡ None → C.ahead self.new.clock ≡ option_map moments_after (C.ahead self.old.clock) }
-        ensures handles { IfOk result (λ answers. Handles W.gives self.old.desk.known (moment_of (C.last self.new.clock) self.old.desk.moment) (calls.Send to proto payload.now) (W.out self.old.wire) (W.answered self.old.wire) answers self.new.desk.known (W.out self.new.wire) (W.answered self.new.wire)) }
-        ensures front { self.old.fault ≡ None → OnErr result (BreaksOff W.gives self.old.desk.known (moment_of (C.last self.new.clock) self.old.desk.moment) (calls.Send to proto payload.now) (W.out self.old.wire) (W.answered self.old.wire) (W.out self.new.wire) (W.answered self.new.wire)) }
-        ensures left { self.old.fault ≡ None → result ≢ Err StationFault.Memory → IsLeft self.new.desk self.old.desk.known (moment_of (C.last self.new.clock) self.old.desk.moment) (calls.Send to proto payload.now) }
+        ensures handles { IfOk result (λ answers. Handles W.gives self.old.context.known (moment_of (C.last self.new.clock) self.old.context.moment) (calls.Send to proto payload.now) (W.out self.old.wire) (W.answered self.old.wire) answers self.new.context.known (W.out self.new.wire) (W.answered self.new.wire)) }
+        ensures front { self.old.fault ≡ None → OnErr result (BreaksOff W.gives self.old.context.known (moment_of (C.last self.new.clock) self.old.context.moment) (calls.Send to proto payload.now) (W.out self.old.wire) (W.answered self.old.wire) (W.out self.new.wire) (W.answered self.new.wire)) }
+        ensures left { self.old.fault ≡ None → result ≢ Err StationFault.Memory → IsLeft self.new.context self.old.context.known (moment_of (C.last self.new.clock) self.old.context.moment) (calls.Send to proto payload.now) }
         ensures well { OnOk result (self.new.fault ≡ None) }
         ensures kept { IfErr result (λ fault. self.new.fault ≡ Some fault) }
         ensures failed { self.old.fault ≡ None → IsErrOf result StationFault.Failed → Rose (W.faults self.old.wire) (W.faults self.new.wire) }
@@ -254,12 +254,12 @@ impl<C: Clock + Drop, W: Wire + Drop> Machine<C, W> {
         if let Some(fault) = self.fault {
             return Err(fault);
         }
-        let done = self.send_desk(alloc, to, proto, payload);
+        let done = self.send_context(alloc, to, proto, payload);
         self.finish(alloc, done)
     }
 
     #[tactic(auto, unfolding(mip_rules_mobile::specs::Doing::does))]
-    fn send_desk(
+    fn send_context(
         &mut self,
         alloc: Global,
         to: Address,
@@ -269,21 +269,21 @@ impl<C: Clock + Drop, W: Wire + Drop> Machine<C, W> {
         requires data { IsTrue (is_data proto) }
         requires proto { IsFalse (names_no_body proto) }
         requires short { length payload.now ≤ 512 }
-        ensures shows { OnOk result (Shows self.new.desk (turn_of self.old.desk.known (moment_of (C.last self.new.clock) self.old.desk.moment) (calls.Send to proto payload.now))) }
+        ensures shows { OnOk result (Shows self.new.context (turn_of self.old.context.known (moment_of (C.last self.new.clock) self.old.context.moment) (calls.Send to proto payload.now))) }
         ensures rest { (self.new.wire ≡ self.old.wire) × (self.new.fault ≡ self.old.fault) }
         ensures read { C.ahead self.new.clock ≡ option_map moments_after (C.ahead self.old.clock) }
     {
         self.begin(alloc)?;
-        mip_mobility::send(alloc, &mut self.desk, to, proto, payload)
+        mip_mobility::send(alloc, &mut self.context, to, proto, payload)
     }
 
     /// Asks for a Binding Refresh Request to a home.
     pub fn refresh(&mut self, alloc: Global, home: Address) -> Result<Answers, StationFault>
         ensures faulted { IfSome self.old.fault (λ fault. (result ≡ Err fault) × (self.new ≡ self.old)) }
         ensures read { self.old.fault ≡ None → C.ahead self.new.clock ≡ option_map moments_after (C.ahead self.old.clock) }
-        ensures handles { IfOk result (λ answers. Handles W.gives self.old.desk.known (moment_of (C.last self.new.clock) self.old.desk.moment) (calls.Refresh home) (W.out self.old.wire) (W.answered self.old.wire) answers self.new.desk.known (W.out self.new.wire) (W.answered self.new.wire)) }
-        ensures front { self.old.fault ≡ None → OnErr result (BreaksOff W.gives self.old.desk.known (moment_of (C.last self.new.clock) self.old.desk.moment) (calls.Refresh home) (W.out self.old.wire) (W.answered self.old.wire) (W.out self.new.wire) (W.answered self.new.wire)) }
-        ensures left { self.old.fault ≡ None → result ≢ Err StationFault.Memory → IsLeft self.new.desk self.old.desk.known (moment_of (C.last self.new.clock) self.old.desk.moment) (calls.Refresh home) }
+        ensures handles { IfOk result (λ answers. Handles W.gives self.old.context.known (moment_of (C.last self.new.clock) self.old.context.moment) (calls.Refresh home) (W.out self.old.wire) (W.answered self.old.wire) answers self.new.context.known (W.out self.new.wire) (W.answered self.new.wire)) }
+        ensures front { self.old.fault ≡ None → OnErr result (BreaksOff W.gives self.old.context.known (moment_of (C.last self.new.clock) self.old.context.moment) (calls.Refresh home) (W.out self.old.wire) (W.answered self.old.wire) (W.out self.new.wire) (W.answered self.new.wire)) }
+        ensures left { self.old.fault ≡ None → result ≢ Err StationFault.Memory → IsLeft self.new.context self.old.context.known (moment_of (C.last self.new.clock) self.old.context.moment) (calls.Refresh home) }
         ensures well { OnOk result (self.new.fault ≡ None) }
         ensures kept { IfErr result (λ fault. self.new.fault ≡ Some fault) }
         ensures failed { self.old.fault ≡ None → IsErrOf result StationFault.Failed → Rose (W.faults self.old.wire) (W.faults self.new.wire) }
@@ -292,27 +292,27 @@ impl<C: Clock + Drop, W: Wire + Drop> Machine<C, W> {
         if let Some(fault) = self.fault {
             return Err(fault);
         }
-        let done = self.refresh_desk(alloc, home);
+        let done = self.refresh_context(alloc, home);
         self.finish(alloc, done)
     }
 
     #[tactic(auto, unfolding(mip_rules_mobile::specs::Doing::does))]
-    fn refresh_desk(&mut self, alloc: Global, home: Address) -> Result<(), Memory>
-        ensures shows { OnOk result (Shows self.new.desk (turn_of self.old.desk.known (moment_of (C.last self.new.clock) self.old.desk.moment) (calls.Refresh home))) }
+    fn refresh_context(&mut self, alloc: Global, home: Address) -> Result<(), Memory>
+        ensures shows { OnOk result (Shows self.new.context (turn_of self.old.context.known (moment_of (C.last self.new.clock) self.old.context.moment) (calls.Refresh home))) }
         ensures rest { (self.new.wire ≡ self.old.wire) × (self.new.fault ≡ self.old.fault) }
         ensures read { C.ahead self.new.clock ≡ option_map moments_after (C.ahead self.old.clock) }
     {
         self.begin(alloc)?;
-        mip_mobility::refresh(alloc, &mut self.desk, home)
+        mip_mobility::refresh(alloc, &mut self.context, home)
     }
 
     /// Solicits the prefixes of its home link.
     pub fn ask(&mut self, alloc: Global) -> Result<Answers, StationFault>
         ensures faulted { IfSome self.old.fault (λ fault. (result ≡ Err fault) × (self.new ≡ self.old)) }
         ensures read { self.old.fault ≡ None → C.ahead self.new.clock ≡ option_map moments_after (C.ahead self.old.clock) }
-        ensures handles { IfOk result (λ answers. Handles W.gives self.old.desk.known (moment_of (C.last self.new.clock) self.old.desk.moment) calls.Ask (W.out self.old.wire) (W.answered self.old.wire) answers self.new.desk.known (W.out self.new.wire) (W.answered self.new.wire)) }
-        ensures front { self.old.fault ≡ None → OnErr result (BreaksOff W.gives self.old.desk.known (moment_of (C.last self.new.clock) self.old.desk.moment) calls.Ask (W.out self.old.wire) (W.answered self.old.wire) (W.out self.new.wire) (W.answered self.new.wire)) }
-        ensures left { self.old.fault ≡ None → result ≢ Err StationFault.Memory → IsLeft self.new.desk self.old.desk.known (moment_of (C.last self.new.clock) self.old.desk.moment) calls.Ask }
+        ensures handles { IfOk result (λ answers. Handles W.gives self.old.context.known (moment_of (C.last self.new.clock) self.old.context.moment) calls.Ask (W.out self.old.wire) (W.answered self.old.wire) answers self.new.context.known (W.out self.new.wire) (W.answered self.new.wire)) }
+        ensures front { self.old.fault ≡ None → OnErr result (BreaksOff W.gives self.old.context.known (moment_of (C.last self.new.clock) self.old.context.moment) calls.Ask (W.out self.old.wire) (W.answered self.old.wire) (W.out self.new.wire) (W.answered self.new.wire)) }
+        ensures left { self.old.fault ≡ None → result ≢ Err StationFault.Memory → IsLeft self.new.context self.old.context.known (moment_of (C.last self.new.clock) self.old.context.moment) calls.Ask }
         ensures well { OnOk result (self.new.fault ≡ None) }
         ensures kept { IfErr result (λ fault. self.new.fault ≡ Some fault) }
         ensures failed { self.old.fault ≡ None → IsErrOf result StationFault.Failed → Rose (W.faults self.old.wire) (W.faults self.new.wire) }
@@ -321,27 +321,27 @@ impl<C: Clock + Drop, W: Wire + Drop> Machine<C, W> {
         if let Some(fault) = self.fault {
             return Err(fault);
         }
-        let done = self.ask_desk(alloc);
+        let done = self.ask_context(alloc);
         self.finish(alloc, done)
     }
 
     #[tactic(auto, unfolding(mip_rules_mobile::specs::Doing::does))]
-    fn ask_desk(&mut self, alloc: Global) -> Result<(), Memory>
-        ensures shows { OnOk result (Shows self.new.desk (turn_of self.old.desk.known (moment_of (C.last self.new.clock) self.old.desk.moment) calls.Ask)) }
+    fn ask_context(&mut self, alloc: Global) -> Result<(), Memory>
+        ensures shows { OnOk result (Shows self.new.context (turn_of self.old.context.known (moment_of (C.last self.new.clock) self.old.context.moment) calls.Ask)) }
         ensures rest { (self.new.wire ≡ self.old.wire) × (self.new.fault ≡ self.old.fault) }
         ensures read { C.ahead self.new.clock ≡ option_map moments_after (C.ahead self.old.clock) }
     {
         self.begin(alloc)?;
-        mip_mobility::ask(alloc, &mut self.desk)
+        mip_mobility::ask(alloc, &mut self.context)
     }
 
     /// Loses all that it keeps, and goes on with these secrets.
     pub fn restart(&mut self, alloc: Global, secrets: Secrets) -> Result<Answers, StationFault>
         ensures faulted { IfSome self.old.fault (λ fault. (result ≡ Err fault) × (self.new ≡ self.old)) }
         ensures read { self.old.fault ≡ None → C.ahead self.new.clock ≡ option_map moments_after (C.ahead self.old.clock) }
-        ensures handles { IfOk result (λ answers. Handles W.gives self.old.desk.known (moment_of (C.last self.new.clock) self.old.desk.moment) (calls.Restart secrets) (W.out self.old.wire) (W.answered self.old.wire) answers self.new.desk.known (W.out self.new.wire) (W.answered self.new.wire)) }
-        ensures front { self.old.fault ≡ None → OnErr result (BreaksOff W.gives self.old.desk.known (moment_of (C.last self.new.clock) self.old.desk.moment) (calls.Restart secrets) (W.out self.old.wire) (W.answered self.old.wire) (W.out self.new.wire) (W.answered self.new.wire)) }
-        ensures left { self.old.fault ≡ None → result ≢ Err StationFault.Memory → IsLeft self.new.desk self.old.desk.known (moment_of (C.last self.new.clock) self.old.desk.moment) (calls.Restart secrets) }
+        ensures handles { IfOk result (λ answers. Handles W.gives self.old.context.known (moment_of (C.last self.new.clock) self.old.context.moment) (calls.Restart secrets) (W.out self.old.wire) (W.answered self.old.wire) answers self.new.context.known (W.out self.new.wire) (W.answered self.new.wire)) }
+        ensures front { self.old.fault ≡ None → OnErr result (BreaksOff W.gives self.old.context.known (moment_of (C.last self.new.clock) self.old.context.moment) (calls.Restart secrets) (W.out self.old.wire) (W.answered self.old.wire) (W.out self.new.wire) (W.answered self.new.wire)) }
+        ensures left { self.old.fault ≡ None → result ≢ Err StationFault.Memory → IsLeft self.new.context self.old.context.known (moment_of (C.last self.new.clock) self.old.context.moment) (calls.Restart secrets) }
         ensures well { OnOk result (self.new.fault ≡ None) }
         ensures kept { IfErr result (λ fault. self.new.fault ≡ Some fault) }
         ensures failed { self.old.fault ≡ None → IsErrOf result StationFault.Failed → Rose (W.faults self.old.wire) (W.faults self.new.wire) }
@@ -350,18 +350,18 @@ impl<C: Clock + Drop, W: Wire + Drop> Machine<C, W> {
         if let Some(fault) = self.fault {
             return Err(fault);
         }
-        let done = self.restart_desk(alloc, secrets);
+        let done = self.restart_context(alloc, secrets);
         self.finish(alloc, done)
     }
 
     #[tactic(auto, unfolding(mip_rules_mobile::specs::Doing::does))]
-    fn restart_desk(&mut self, alloc: Global, secrets: Secrets) -> Result<(), Memory>
-        ensures shows { OnOk result (Shows self.new.desk (turn_of self.old.desk.known (moment_of (C.last self.new.clock) self.old.desk.moment) (calls.Restart secrets))) }
+    fn restart_context(&mut self, alloc: Global, secrets: Secrets) -> Result<(), Memory>
+        ensures shows { OnOk result (Shows self.new.context (turn_of self.old.context.known (moment_of (C.last self.new.clock) self.old.context.moment) (calls.Restart secrets))) }
         ensures rest { (self.new.wire ≡ self.old.wire) × (self.new.fault ≡ self.old.fault) }
         ensures read { C.ahead self.new.clock ≡ option_map moments_after (C.ahead self.old.clock) }
     {
         self.begin(alloc)?;
-        mip_mobility::restart(alloc, &mut self.desk, secrets)
+        mip_mobility::restart(alloc, &mut self.context, secrets)
     }
 
     /// Sends a packet from its home address.
@@ -371,9 +371,9 @@ impl<C: Clock + Drop, W: Wire + Drop> Machine<C, W> {
         requires fits { length inner.now ≤ 65535 }
         ensures faulted { IfSome self.old.fault (λ fault. (result ≡ Err fault) × (self.new ≡ self.old)) }
         ensures read { self.old.fault ≡ None → C.ahead self.new.clock ≡ option_map moments_after (C.ahead self.old.clock) }
-        ensures handles { IfOk result (λ answers. Handles W.gives self.old.desk.known (moment_of (C.last self.new.clock) self.old.desk.moment) (calls.Tunnel inner.now) (W.out self.old.wire) (W.answered self.old.wire) answers self.new.desk.known (W.out self.new.wire) (W.answered self.new.wire)) }
-        ensures front { self.old.fault ≡ None → OnErr result (BreaksOff W.gives self.old.desk.known (moment_of (C.last self.new.clock) self.old.desk.moment) (calls.Tunnel inner.now) (W.out self.old.wire) (W.answered self.old.wire) (W.out self.new.wire) (W.answered self.new.wire)) }
-        ensures left { self.old.fault ≡ None → result ≢ Err StationFault.Memory → IsLeft self.new.desk self.old.desk.known (moment_of (C.last self.new.clock) self.old.desk.moment) (calls.Tunnel inner.now) }
+        ensures handles { IfOk result (λ answers. Handles W.gives self.old.context.known (moment_of (C.last self.new.clock) self.old.context.moment) (calls.Tunnel inner.now) (W.out self.old.wire) (W.answered self.old.wire) answers self.new.context.known (W.out self.new.wire) (W.answered self.new.wire)) }
+        ensures front { self.old.fault ≡ None → OnErr result (BreaksOff W.gives self.old.context.known (moment_of (C.last self.new.clock) self.old.context.moment) (calls.Tunnel inner.now) (W.out self.old.wire) (W.answered self.old.wire) (W.out self.new.wire) (W.answered self.new.wire)) }
+        ensures left { self.old.fault ≡ None → result ≢ Err StationFault.Memory → IsLeft self.new.context self.old.context.known (moment_of (C.last self.new.clock) self.old.context.moment) (calls.Tunnel inner.now) }
         ensures well { OnOk result (self.new.fault ≡ None) }
         ensures kept { IfErr result (λ fault. self.new.fault ≡ Some fault) }
         ensures failed { self.old.fault ≡ None → IsErrOf result StationFault.Failed → Rose (W.faults self.old.wire) (W.faults self.new.wire) }
@@ -382,20 +382,20 @@ impl<C: Clock + Drop, W: Wire + Drop> Machine<C, W> {
         if let Some(fault) = self.fault {
             return Err(fault);
         }
-        let done = self.tunnel_desk(alloc, inner);
+        let done = self.tunnel_context(alloc, inner);
         self.finish(alloc, done)
     }
 
     #[tactic(auto, unfolding(mip_rules_mobile::specs::Doing::does))]
-    fn tunnel_desk(&mut self, alloc: Global, inner: &[u8]) -> Result<(), Memory>
+    fn tunnel_context(&mut self, alloc: Global, inner: &[u8]) -> Result<(), Memory>
         requires long { 40 ≤ length inner.now }
         requires hop { 2 ≤ hop_of inner.now }
         requires fits { length inner.now ≤ 65535 }
-        ensures shows { OnOk result (Shows self.new.desk (turn_of self.old.desk.known (moment_of (C.last self.new.clock) self.old.desk.moment) (calls.Tunnel inner.now))) }
+        ensures shows { OnOk result (Shows self.new.context (turn_of self.old.context.known (moment_of (C.last self.new.clock) self.old.context.moment) (calls.Tunnel inner.now))) }
         ensures rest { (self.new.wire ≡ self.old.wire) × (self.new.fault ≡ self.old.fault) }
         ensures read { C.ahead self.new.clock ≡ option_map moments_after (C.ahead self.old.clock) }
     {
         self.begin(alloc)?;
-        mip_mobility::tunnel(alloc, &mut self.desk, inner)
+        mip_mobility::tunnel(alloc, &mut self.context, inner)
     }
 }

@@ -25,7 +25,7 @@ use mip_bcache::Row;
 use mip_entries::Answers;
 use mip_nonce::Secrets;
 use mip_outside::{Clock, Place, Wire};
-use mip_rules_mobile::Standing;
+use mip_rules_mobile::Attachment;
 use mip_words::{Address, Memory, Moment, Prefix, Shield};
 use std::alloc::Global;
 
@@ -57,7 +57,7 @@ impl<C: Clock + Drop, W: Wire + Drop> Mobile<C, W> {
         requires home { IsTrue (is_routable home.0) }
         requires some { 1 ≤ numbers }
         requires few { numbers ≤ 8 }
-        ensures known { IfOk result (λ m. (machine_of m).desk ≡ record { moment = 0; known = fresh home declared numbers secrets; answers = [] }) }
+        ensures known { IfOk result (λ m. (machine_of m).context ≡ record { moment = 0; known = fresh home declared numbers secrets; answers = [] }) }
         ensures parts { IfOk result (λ m. ((machine_of m).clock ≡ clock) × ((machine_of m).wire ≡ wire) × ((machine_of m).fault ≡ None)) }
         ensures typed { IfOk result (λ m. IsTyped m) }
     {
@@ -71,15 +71,15 @@ impl<C: Clock + Drop, W: Wire + Drop> Mobile<C, W> {
         ensures typed { IsTyped result }
     {
         match machine.standing() {
-            Standing::Detached => Mobile::Detached(Station {
+            Attachment::Detached => Mobile::Detached(Station {
                 machine,
                 state: Detached,
             }),
-            Standing::AtHome => Mobile::AtHome(Station {
+            Attachment::AtHome => Mobile::AtHome(Station {
                 machine,
                 state: AtHome,
             }),
-            Standing::Away { careof } => Mobile::Away(Station {
+            Attachment::Away { careof } => Mobile::Away(Station {
                 machine,
                 state: Away { careof },
             }),
@@ -122,8 +122,8 @@ impl<C: Clock + Drop, W: Wire + Drop> Mobile<C, W> {
 
     /// The row at a place among those that its correspondent part keeps, in order of home address, then of number.
     pub fn row(&self, now: Moment, place: u32) -> Option<&Row>
-        requires { (machine_of self.now).desk.moment ≤ now.0 }
-        ensures { option_copied result ≡ slice_get (rows_at (machine_of self.now).desk.known.part.known.cache now.0) place }
+        requires { (machine_of self.now).context.moment ≤ now.0 }
+        ensures { option_copied result ≡ slice_get (rows_at (machine_of self.now).context.known.part.known.cache now.0) place }
     {
         match self {
             Mobile::Detached(station) => station.machine.row(now, place),
@@ -134,7 +134,7 @@ impl<C: Clock + Drop, W: Wire + Drop> Mobile<C, W> {
 
     /// The earliest moment at which work is due.
     pub fn due(&self) -> Option<Moment>
-        ensures { result ≡ first_due (machine_of self.now).desk.known.list.timers }
+        ensures { result ≡ first_due (machine_of self.now).context.known.list.timers }
     {
         match self {
             Mobile::Detached(station) => station.machine.due(),
@@ -145,19 +145,19 @@ impl<C: Clock + Drop, W: Wire + Drop> Mobile<C, W> {
 
     /// A router advertises a prefix (RFC 6275 section 11.5.1).
     pub fn attach<P: Place>(self, alloc: Global, place: &mut P, prefix: Prefix) -> Turned<C, W>
-        requires home { (P.around place.old).room (home_of (machine_of self).desk.known).0 ≡ true }
-        requires address { (P.around place.old).room (address_under (home_of (machine_of self).desk.known) prefix.0).0 ≡ true }
+        requires home { (P.around place.old).room (home_of (machine_of self).context.known).0 ≡ true }
+        requires address { (P.around place.old).room (address_under (home_of (machine_of self).context.known) prefix.0).0 ≡ true }
         ensures faulted { IfSome (machine_of self).fault (λ fault. (result.1 ≡ Err fault) × (machine_of result.0 ≡ machine_of self) × (P.claims place.new ≡ P.claims place.old)) }
         ensures read { (machine_of self).fault ≡ None → C.ahead (machine_of result.0).clock ≡ option_map moments_after (C.ahead (machine_of self).clock) }
-        ensures handles { IfOk result.1 (λ answers. Handles W.gives (machine_of self).desk.known (moment_of (C.last (machine_of result.0).clock) (machine_of self).desk.moment) (attach_at (P.around place.old) (home_of (machine_of self).desk.known) prefix.0) (W.out (machine_of self).wire) (W.answered (machine_of self).wire) answers (machine_of result.0).desk.known (W.out (machine_of result.0).wire) (W.answered (machine_of result.0).wire)) }
-        ensures front { (machine_of self).fault ≡ None → OnErr result.1 (BreaksOff W.gives (machine_of self).desk.known (moment_of (C.last (machine_of result.0).clock) (machine_of self).desk.moment) (attach_at (P.around place.old) (home_of (machine_of self).desk.known) prefix.0) (W.out (machine_of self).wire) (W.answered (machine_of self).wire) (W.out (machine_of result.0).wire) (W.answered (machine_of result.0).wire)) }
-        ensures left { (machine_of self).fault ≡ None → result.1 ≢ Err StationFault.Memory → IsLeft (machine_of result.0).desk (machine_of self).desk.known (moment_of (C.last (machine_of result.0).clock) (machine_of self).desk.moment) (attach_at (P.around place.old) (home_of (machine_of self).desk.known) prefix.0) }
+        ensures handles { IfOk result.1 (λ answers. Handles W.gives (machine_of self).context.known (moment_of (C.last (machine_of result.0).clock) (machine_of self).context.moment) (attach_at (P.around place.old) (home_of (machine_of self).context.known) prefix.0) (W.out (machine_of self).wire) (W.answered (machine_of self).wire) answers (machine_of result.0).context.known (W.out (machine_of result.0).wire) (W.answered (machine_of result.0).wire)) }
+        ensures front { (machine_of self).fault ≡ None → OnErr result.1 (BreaksOff W.gives (machine_of self).context.known (moment_of (C.last (machine_of result.0).clock) (machine_of self).context.moment) (attach_at (P.around place.old) (home_of (machine_of self).context.known) prefix.0) (W.out (machine_of self).wire) (W.answered (machine_of self).wire) (W.out (machine_of result.0).wire) (W.answered (machine_of result.0).wire)) }
+        ensures left { (machine_of self).fault ≡ None → result.1 ≢ Err StationFault.Memory → IsLeft (machine_of result.0).context (machine_of self).context.known (moment_of (C.last (machine_of result.0).clock) (machine_of self).context.moment) (attach_at (P.around place.old) (home_of (machine_of self).context.known) prefix.0) }
         ensures typed { IsTyped result.0 }
         ensures well { OnOk result.1 ((machine_of result.0).fault ≡ None) }
         ensures kept { IfErr result.1 (λ fault. (machine_of result.0).fault ≡ Some fault) }
         ensures failed { (machine_of self).fault ≡ None → IsErrOf result.1 StationFault.Failed → Rose (W.faults (machine_of self).wire) (W.faults (machine_of result.0).wire) }
         ensures wire { (W.faults (machine_of self).wire ≤ W.faults (machine_of result.0).wire) × W.is_same (machine_of self).wire (machine_of result.0).wire }
-        ensures claims { (machine_of self).fault ≡ None → P.claims place.new ≡ option_map (claims_attached (P.around place.old) (machine_of self).desk.known.standing (home_of (machine_of self).desk.known) prefix.0) (P.claims place.old) }
+        ensures claims { (machine_of self).fault ≡ None → P.claims place.new ≡ option_map (claims_attached (P.around place.old) (machine_of self).context.known.standing (home_of (machine_of self).context.known) prefix.0) (P.claims place.old) }
         ensures place { (P.around place.new ≡ P.around place.old) × P.is_same place.old place.new }
     {
         let mut machine = self.into_machine();
@@ -167,18 +167,18 @@ impl<C: Clock + Drop, W: Wire + Drop> Mobile<C, W> {
 
     /// It leaves its link.
     pub fn leave<P: Place>(self, alloc: Global, place: &mut P) -> Turned<C, W>
-        requires home { (P.around place.old).room (home_of (machine_of self).desk.known).0 ≡ true }
+        requires home { (P.around place.old).room (home_of (machine_of self).context.known).0 ≡ true }
         ensures faulted { IfSome (machine_of self).fault (λ fault. (result.1 ≡ Err fault) × (machine_of result.0 ≡ machine_of self) × (P.claims place.new ≡ P.claims place.old)) }
         ensures read { (machine_of self).fault ≡ None → C.ahead (machine_of result.0).clock ≡ option_map moments_after (C.ahead (machine_of self).clock) }
-        ensures handles { IfOk result.1 (λ answers. Handles W.gives (machine_of self).desk.known (moment_of (C.last (machine_of result.0).clock) (machine_of self).desk.moment) (leave_at (P.around place.old) (home_of (machine_of self).desk.known)) (W.out (machine_of self).wire) (W.answered (machine_of self).wire) answers (machine_of result.0).desk.known (W.out (machine_of result.0).wire) (W.answered (machine_of result.0).wire)) }
-        ensures front { (machine_of self).fault ≡ None → OnErr result.1 (BreaksOff W.gives (machine_of self).desk.known (moment_of (C.last (machine_of result.0).clock) (machine_of self).desk.moment) (leave_at (P.around place.old) (home_of (machine_of self).desk.known)) (W.out (machine_of self).wire) (W.answered (machine_of self).wire) (W.out (machine_of result.0).wire) (W.answered (machine_of result.0).wire)) }
-        ensures left { (machine_of self).fault ≡ None → result.1 ≢ Err StationFault.Memory → IsLeft (machine_of result.0).desk (machine_of self).desk.known (moment_of (C.last (machine_of result.0).clock) (machine_of self).desk.moment) (leave_at (P.around place.old) (home_of (machine_of self).desk.known)) }
+        ensures handles { IfOk result.1 (λ answers. Handles W.gives (machine_of self).context.known (moment_of (C.last (machine_of result.0).clock) (machine_of self).context.moment) (leave_at (P.around place.old) (home_of (machine_of self).context.known)) (W.out (machine_of self).wire) (W.answered (machine_of self).wire) answers (machine_of result.0).context.known (W.out (machine_of result.0).wire) (W.answered (machine_of result.0).wire)) }
+        ensures front { (machine_of self).fault ≡ None → OnErr result.1 (BreaksOff W.gives (machine_of self).context.known (moment_of (C.last (machine_of result.0).clock) (machine_of self).context.moment) (leave_at (P.around place.old) (home_of (machine_of self).context.known)) (W.out (machine_of self).wire) (W.answered (machine_of self).wire) (W.out (machine_of result.0).wire) (W.answered (machine_of result.0).wire)) }
+        ensures left { (machine_of self).fault ≡ None → result.1 ≢ Err StationFault.Memory → IsLeft (machine_of result.0).context (machine_of self).context.known (moment_of (C.last (machine_of result.0).clock) (machine_of self).context.moment) (leave_at (P.around place.old) (home_of (machine_of self).context.known)) }
         ensures typed { IsTyped result.0 }
         ensures well { OnOk result.1 ((machine_of result.0).fault ≡ None) }
         ensures kept { IfErr result.1 (λ fault. (machine_of result.0).fault ≡ Some fault) }
         ensures failed { (machine_of self).fault ≡ None → IsErrOf result.1 StationFault.Failed → Rose (W.faults (machine_of self).wire) (W.faults (machine_of result.0).wire) }
         ensures wire { (W.faults (machine_of self).wire ≤ W.faults (machine_of result.0).wire) × W.is_same (machine_of self).wire (machine_of result.0).wire }
-        ensures claims { (machine_of self).fault ≡ None → P.claims place.new ≡ option_map (claims_after_leaving (P.around place.old) (machine_of self).desk.known.standing (home_of (machine_of self).desk.known)) (P.claims place.old) }
+        ensures claims { (machine_of self).fault ≡ None → P.claims place.new ≡ option_map (claims_after_leaving (P.around place.old) (machine_of self).context.known.standing (home_of (machine_of self).context.known)) (P.claims place.old) }
         ensures place { (P.around place.new ≡ P.around place.old) × P.is_same place.old place.new }
     {
         let mut machine = self.into_machine();
@@ -196,9 +196,9 @@ impl<C: Clock + Drop, W: Wire + Drop> Mobile<C, W> {
     ) -> Turned<C, W>
         ensures faulted { IfSome (machine_of self).fault (λ fault. (result.1 ≡ Err fault) × (machine_of result.0 ≡ machine_of self)) }
         ensures read { (machine_of self).fault ≡ None → C.ahead (machine_of result.0).clock ≡ option_map moments_after (C.ahead (machine_of self).clock) }
-        ensures handles { IfOk result.1 (λ answers. Handles W.gives (machine_of self).desk.known (moment_of (C.last (machine_of result.0).clock) (machine_of self).desk.moment) (calls.Take number shield packet.now) (W.out (machine_of self).wire) (W.answered (machine_of self).wire) answers (machine_of result.0).desk.known (W.out (machine_of result.0).wire) (W.answered (machine_of result.0).wire)) }
-        ensures front { (machine_of self).fault ≡ None → OnErr result.1 (BreaksOff W.gives (machine_of self).desk.known (moment_of (C.last (machine_of result.0).clock) (machine_of self).desk.moment) (calls.Take number shield packet.now) (W.out (machine_of self).wire) (W.answered (machine_of self).wire) (W.out (machine_of result.0).wire) (W.answered (machine_of result.0).wire)) }
-        ensures left { (machine_of self).fault ≡ None → result.1 ≢ Err StationFault.Memory → IsLeft (machine_of result.0).desk (machine_of self).desk.known (moment_of (C.last (machine_of result.0).clock) (machine_of self).desk.moment) (calls.Take number shield packet.now) }
+        ensures handles { IfOk result.1 (λ answers. Handles W.gives (machine_of self).context.known (moment_of (C.last (machine_of result.0).clock) (machine_of self).context.moment) (calls.Take number shield packet.now) (W.out (machine_of self).wire) (W.answered (machine_of self).wire) answers (machine_of result.0).context.known (W.out (machine_of result.0).wire) (W.answered (machine_of result.0).wire)) }
+        ensures front { (machine_of self).fault ≡ None → OnErr result.1 (BreaksOff W.gives (machine_of self).context.known (moment_of (C.last (machine_of result.0).clock) (machine_of self).context.moment) (calls.Take number shield packet.now) (W.out (machine_of self).wire) (W.answered (machine_of self).wire) (W.out (machine_of result.0).wire) (W.answered (machine_of result.0).wire)) }
+        ensures left { (machine_of self).fault ≡ None → result.1 ≢ Err StationFault.Memory → IsLeft (machine_of result.0).context (machine_of self).context.known (moment_of (C.last (machine_of result.0).clock) (machine_of self).context.moment) (calls.Take number shield packet.now) }
         ensures typed { IsTyped result.0 }
         ensures well { OnOk result.1 ((machine_of result.0).fault ≡ None) }
         ensures kept { IfErr result.1 (λ fault. (machine_of result.0).fault ≡ Some fault) }
@@ -214,9 +214,9 @@ impl<C: Clock + Drop, W: Wire + Drop> Mobile<C, W> {
     pub fn tick(self, alloc: Global) -> Turned<C, W>
         ensures faulted { IfSome (machine_of self).fault (λ fault. (result.1 ≡ Err fault) × (machine_of result.0 ≡ machine_of self)) }
         ensures read { (machine_of self).fault ≡ None → C.ahead (machine_of result.0).clock ≡ option_map moments_after (C.ahead (machine_of self).clock) }
-        ensures handles { IfOk result.1 (λ answers. Handles W.gives (machine_of self).desk.known (moment_of (C.last (machine_of result.0).clock) (machine_of self).desk.moment) calls.Tick (W.out (machine_of self).wire) (W.answered (machine_of self).wire) answers (machine_of result.0).desk.known (W.out (machine_of result.0).wire) (W.answered (machine_of result.0).wire)) }
-        ensures front { (machine_of self).fault ≡ None → OnErr result.1 (BreaksOff W.gives (machine_of self).desk.known (moment_of (C.last (machine_of result.0).clock) (machine_of self).desk.moment) calls.Tick (W.out (machine_of self).wire) (W.answered (machine_of self).wire) (W.out (machine_of result.0).wire) (W.answered (machine_of result.0).wire)) }
-        ensures left { (machine_of self).fault ≡ None → result.1 ≢ Err StationFault.Memory → IsLeft (machine_of result.0).desk (machine_of self).desk.known (moment_of (C.last (machine_of result.0).clock) (machine_of self).desk.moment) calls.Tick }
+        ensures handles { IfOk result.1 (λ answers. Handles W.gives (machine_of self).context.known (moment_of (C.last (machine_of result.0).clock) (machine_of self).context.moment) calls.Tick (W.out (machine_of self).wire) (W.answered (machine_of self).wire) answers (machine_of result.0).context.known (W.out (machine_of result.0).wire) (W.answered (machine_of result.0).wire)) }
+        ensures front { (machine_of self).fault ≡ None → OnErr result.1 (BreaksOff W.gives (machine_of self).context.known (moment_of (C.last (machine_of result.0).clock) (machine_of self).context.moment) calls.Tick (W.out (machine_of self).wire) (W.answered (machine_of self).wire) (W.out (machine_of result.0).wire) (W.answered (machine_of result.0).wire)) }
+        ensures left { (machine_of self).fault ≡ None → result.1 ≢ Err StationFault.Memory → IsLeft (machine_of result.0).context (machine_of self).context.known (moment_of (C.last (machine_of result.0).clock) (machine_of self).context.moment) calls.Tick }
         ensures typed { IsTyped result.0 }
         ensures well { OnOk result.1 ((machine_of result.0).fault ≡ None) }
         ensures kept { IfErr result.1 (λ fault. (machine_of result.0).fault ≡ Some fault) }
@@ -236,9 +236,9 @@ impl<C: Clock + Drop, W: Wire + Drop> Mobile<C, W> {
         requires short { length payload.now ≤ 512 }
         ensures faulted { IfSome (machine_of self).fault (λ fault. (result.1 ≡ Err fault) × (machine_of result.0 ≡ machine_of self)) }
         ensures read { (machine_of self).fault ≡ None → C.ahead (machine_of result.0).clock ≡ option_map moments_after (C.ahead (machine_of self).clock) }
-        ensures handles { IfOk result.1 (λ answers. Handles W.gives (machine_of self).desk.known (moment_of (C.last (machine_of result.0).clock) (machine_of self).desk.moment) (calls.Send to proto payload.now) (W.out (machine_of self).wire) (W.answered (machine_of self).wire) answers (machine_of result.0).desk.known (W.out (machine_of result.0).wire) (W.answered (machine_of result.0).wire)) }
-        ensures front { (machine_of self).fault ≡ None → OnErr result.1 (BreaksOff W.gives (machine_of self).desk.known (moment_of (C.last (machine_of result.0).clock) (machine_of self).desk.moment) (calls.Send to proto payload.now) (W.out (machine_of self).wire) (W.answered (machine_of self).wire) (W.out (machine_of result.0).wire) (W.answered (machine_of result.0).wire)) }
-        ensures left { (machine_of self).fault ≡ None → result.1 ≢ Err StationFault.Memory → IsLeft (machine_of result.0).desk (machine_of self).desk.known (moment_of (C.last (machine_of result.0).clock) (machine_of self).desk.moment) (calls.Send to proto payload.now) }
+        ensures handles { IfOk result.1 (λ answers. Handles W.gives (machine_of self).context.known (moment_of (C.last (machine_of result.0).clock) (machine_of self).context.moment) (calls.Send to proto payload.now) (W.out (machine_of self).wire) (W.answered (machine_of self).wire) answers (machine_of result.0).context.known (W.out (machine_of result.0).wire) (W.answered (machine_of result.0).wire)) }
+        ensures front { (machine_of self).fault ≡ None → OnErr result.1 (BreaksOff W.gives (machine_of self).context.known (moment_of (C.last (machine_of result.0).clock) (machine_of self).context.moment) (calls.Send to proto payload.now) (W.out (machine_of self).wire) (W.answered (machine_of self).wire) (W.out (machine_of result.0).wire) (W.answered (machine_of result.0).wire)) }
+        ensures left { (machine_of self).fault ≡ None → result.1 ≢ Err StationFault.Memory → IsLeft (machine_of result.0).context (machine_of self).context.known (moment_of (C.last (machine_of result.0).clock) (machine_of self).context.moment) (calls.Send to proto payload.now) }
         ensures typed { IsTyped result.0 }
         ensures well { OnOk result.1 ((machine_of result.0).fault ≡ None) }
         ensures kept { IfErr result.1 (λ fault. (machine_of result.0).fault ≡ Some fault) }
@@ -254,9 +254,9 @@ impl<C: Clock + Drop, W: Wire + Drop> Mobile<C, W> {
     pub fn refresh(self, alloc: Global, home: Address) -> Turned<C, W>
         ensures faulted { IfSome (machine_of self).fault (λ fault. (result.1 ≡ Err fault) × (machine_of result.0 ≡ machine_of self)) }
         ensures read { (machine_of self).fault ≡ None → C.ahead (machine_of result.0).clock ≡ option_map moments_after (C.ahead (machine_of self).clock) }
-        ensures handles { IfOk result.1 (λ answers. Handles W.gives (machine_of self).desk.known (moment_of (C.last (machine_of result.0).clock) (machine_of self).desk.moment) (calls.Refresh home) (W.out (machine_of self).wire) (W.answered (machine_of self).wire) answers (machine_of result.0).desk.known (W.out (machine_of result.0).wire) (W.answered (machine_of result.0).wire)) }
-        ensures front { (machine_of self).fault ≡ None → OnErr result.1 (BreaksOff W.gives (machine_of self).desk.known (moment_of (C.last (machine_of result.0).clock) (machine_of self).desk.moment) (calls.Refresh home) (W.out (machine_of self).wire) (W.answered (machine_of self).wire) (W.out (machine_of result.0).wire) (W.answered (machine_of result.0).wire)) }
-        ensures left { (machine_of self).fault ≡ None → result.1 ≢ Err StationFault.Memory → IsLeft (machine_of result.0).desk (machine_of self).desk.known (moment_of (C.last (machine_of result.0).clock) (machine_of self).desk.moment) (calls.Refresh home) }
+        ensures handles { IfOk result.1 (λ answers. Handles W.gives (machine_of self).context.known (moment_of (C.last (machine_of result.0).clock) (machine_of self).context.moment) (calls.Refresh home) (W.out (machine_of self).wire) (W.answered (machine_of self).wire) answers (machine_of result.0).context.known (W.out (machine_of result.0).wire) (W.answered (machine_of result.0).wire)) }
+        ensures front { (machine_of self).fault ≡ None → OnErr result.1 (BreaksOff W.gives (machine_of self).context.known (moment_of (C.last (machine_of result.0).clock) (machine_of self).context.moment) (calls.Refresh home) (W.out (machine_of self).wire) (W.answered (machine_of self).wire) (W.out (machine_of result.0).wire) (W.answered (machine_of result.0).wire)) }
+        ensures left { (machine_of self).fault ≡ None → result.1 ≢ Err StationFault.Memory → IsLeft (machine_of result.0).context (machine_of self).context.known (moment_of (C.last (machine_of result.0).clock) (machine_of self).context.moment) (calls.Refresh home) }
         ensures typed { IsTyped result.0 }
         ensures well { OnOk result.1 ((machine_of result.0).fault ≡ None) }
         ensures kept { IfErr result.1 (λ fault. (machine_of result.0).fault ≡ Some fault) }
@@ -272,9 +272,9 @@ impl<C: Clock + Drop, W: Wire + Drop> Mobile<C, W> {
     pub fn ask(self, alloc: Global) -> Turned<C, W>
         ensures faulted { IfSome (machine_of self).fault (λ fault. (result.1 ≡ Err fault) × (machine_of result.0 ≡ machine_of self)) }
         ensures read { (machine_of self).fault ≡ None → C.ahead (machine_of result.0).clock ≡ option_map moments_after (C.ahead (machine_of self).clock) }
-        ensures handles { IfOk result.1 (λ answers. Handles W.gives (machine_of self).desk.known (moment_of (C.last (machine_of result.0).clock) (machine_of self).desk.moment) calls.Ask (W.out (machine_of self).wire) (W.answered (machine_of self).wire) answers (machine_of result.0).desk.known (W.out (machine_of result.0).wire) (W.answered (machine_of result.0).wire)) }
-        ensures front { (machine_of self).fault ≡ None → OnErr result.1 (BreaksOff W.gives (machine_of self).desk.known (moment_of (C.last (machine_of result.0).clock) (machine_of self).desk.moment) calls.Ask (W.out (machine_of self).wire) (W.answered (machine_of self).wire) (W.out (machine_of result.0).wire) (W.answered (machine_of result.0).wire)) }
-        ensures left { (machine_of self).fault ≡ None → result.1 ≢ Err StationFault.Memory → IsLeft (machine_of result.0).desk (machine_of self).desk.known (moment_of (C.last (machine_of result.0).clock) (machine_of self).desk.moment) calls.Ask }
+        ensures handles { IfOk result.1 (λ answers. Handles W.gives (machine_of self).context.known (moment_of (C.last (machine_of result.0).clock) (machine_of self).context.moment) calls.Ask (W.out (machine_of self).wire) (W.answered (machine_of self).wire) answers (machine_of result.0).context.known (W.out (machine_of result.0).wire) (W.answered (machine_of result.0).wire)) }
+        ensures front { (machine_of self).fault ≡ None → OnErr result.1 (BreaksOff W.gives (machine_of self).context.known (moment_of (C.last (machine_of result.0).clock) (machine_of self).context.moment) calls.Ask (W.out (machine_of self).wire) (W.answered (machine_of self).wire) (W.out (machine_of result.0).wire) (W.answered (machine_of result.0).wire)) }
+        ensures left { (machine_of self).fault ≡ None → result.1 ≢ Err StationFault.Memory → IsLeft (machine_of result.0).context (machine_of self).context.known (moment_of (C.last (machine_of result.0).clock) (machine_of self).context.moment) calls.Ask }
         ensures typed { IsTyped result.0 }
         ensures well { OnOk result.1 ((machine_of result.0).fault ≡ None) }
         ensures kept { IfErr result.1 (λ fault. (machine_of result.0).fault ≡ Some fault) }
@@ -290,9 +290,9 @@ impl<C: Clock + Drop, W: Wire + Drop> Mobile<C, W> {
     pub fn restart(self, alloc: Global, secrets: Secrets) -> Turned<C, W>
         ensures faulted { IfSome (machine_of self).fault (λ fault. (result.1 ≡ Err fault) × (machine_of result.0 ≡ machine_of self)) }
         ensures read { (machine_of self).fault ≡ None → C.ahead (machine_of result.0).clock ≡ option_map moments_after (C.ahead (machine_of self).clock) }
-        ensures handles { IfOk result.1 (λ answers. Handles W.gives (machine_of self).desk.known (moment_of (C.last (machine_of result.0).clock) (machine_of self).desk.moment) (calls.Restart secrets) (W.out (machine_of self).wire) (W.answered (machine_of self).wire) answers (machine_of result.0).desk.known (W.out (machine_of result.0).wire) (W.answered (machine_of result.0).wire)) }
-        ensures front { (machine_of self).fault ≡ None → OnErr result.1 (BreaksOff W.gives (machine_of self).desk.known (moment_of (C.last (machine_of result.0).clock) (machine_of self).desk.moment) (calls.Restart secrets) (W.out (machine_of self).wire) (W.answered (machine_of self).wire) (W.out (machine_of result.0).wire) (W.answered (machine_of result.0).wire)) }
-        ensures left { (machine_of self).fault ≡ None → result.1 ≢ Err StationFault.Memory → IsLeft (machine_of result.0).desk (machine_of self).desk.known (moment_of (C.last (machine_of result.0).clock) (machine_of self).desk.moment) (calls.Restart secrets) }
+        ensures handles { IfOk result.1 (λ answers. Handles W.gives (machine_of self).context.known (moment_of (C.last (machine_of result.0).clock) (machine_of self).context.moment) (calls.Restart secrets) (W.out (machine_of self).wire) (W.answered (machine_of self).wire) answers (machine_of result.0).context.known (W.out (machine_of result.0).wire) (W.answered (machine_of result.0).wire)) }
+        ensures front { (machine_of self).fault ≡ None → OnErr result.1 (BreaksOff W.gives (machine_of self).context.known (moment_of (C.last (machine_of result.0).clock) (machine_of self).context.moment) (calls.Restart secrets) (W.out (machine_of self).wire) (W.answered (machine_of self).wire) (W.out (machine_of result.0).wire) (W.answered (machine_of result.0).wire)) }
+        ensures left { (machine_of self).fault ≡ None → result.1 ≢ Err StationFault.Memory → IsLeft (machine_of result.0).context (machine_of self).context.known (moment_of (C.last (machine_of result.0).clock) (machine_of self).context.moment) (calls.Restart secrets) }
         ensures typed { IsTyped result.0 }
         ensures well { OnOk result.1 ((machine_of result.0).fault ≡ None) }
         ensures kept { IfErr result.1 (λ fault. (machine_of result.0).fault ≡ Some fault) }

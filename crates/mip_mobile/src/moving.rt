@@ -5,7 +5,7 @@ ghost use Rattle.std.specs.Option.{option_map};
 ghost use Rattle.mip_outside.specs.Cause.{Rose};
 ghost use Rattle.mip_outside.specs.Moments.{moments_after};
 ghost use Rattle.mip_outside.specs.Places.{Around, claim_in, is_held};
-ghost use Rattle.mip_rules_mobile.specs.declared.standing.Standing.TheVariants.{AtHome};
+ghost use Rattle.mip_rules_mobile.specs.declared.attachment.Attachment.TheVariants.{AtHome};
 ghost use Rattle.mip_rules_mobile.specs.HomeQuestions.{home_of};
 ghost use Rattle.mip_rules_mobile.specs.MovingRules.{address_under, uses_prefix};
 ghost use Rattle.mip_rules_mobile.specs.Doing.{turn_of};
@@ -29,14 +29,14 @@ impl<C: Clock + Drop, W: Wire + Drop> Machine<C, W> {
         place: &mut P,
         prefix: Prefix,
     ) -> Result<Answers, StationFault>
-        requires home { (P.around place.old).room (home_of self.old.desk.known).0 ≡ true }
-        requires address { (P.around place.old).room (address_under (home_of self.old.desk.known) prefix.0).0 ≡ true }
+        requires home { (P.around place.old).room (home_of self.old.context.known).0 ≡ true }
+        requires address { (P.around place.old).room (address_under (home_of self.old.context.known) prefix.0).0 ≡ true }
         ensures faulted { IfSome self.old.fault (λ fault. (result ≡ Err fault) × (self.new ≡ self.old) × (P.claims place.new ≡ P.claims place.old)) }
         ensures read { self.old.fault ≡ None → C.ahead self.new.clock ≡ option_map moments_after (C.ahead self.old.clock) }
-        ensures handles { IfOk result (λ answers. Handles W.gives self.old.desk.known (moment_of (C.last self.new.clock) self.old.desk.moment) (attach_at (P.around place.old) (home_of self.old.desk.known) prefix.0) (W.out self.old.wire) (W.answered self.old.wire) answers self.new.desk.known (W.out self.new.wire) (W.answered self.new.wire)) }
-        ensures front { self.old.fault ≡ None → OnErr result (BreaksOff W.gives self.old.desk.known (moment_of (C.last self.new.clock) self.old.desk.moment) (attach_at (P.around place.old) (home_of self.old.desk.known) prefix.0) (W.out self.old.wire) (W.answered self.old.wire) (W.out self.new.wire) (W.answered self.new.wire)) }
-        ensures left { self.old.fault ≡ None → result ≢ Err StationFault.Memory → IsLeft self.new.desk self.old.desk.known (moment_of (C.last self.new.clock) self.old.desk.moment) (attach_at (P.around place.old) (home_of self.old.desk.known) prefix.0) }
-        ensures claims { self.old.fault ≡ None → P.claims place.new ≡ option_map (claims_attached (P.around place.old) self.old.desk.known.standing (home_of self.old.desk.known) prefix.0) (P.claims place.old) }
+        ensures handles { IfOk result (λ answers. Handles W.gives self.old.context.known (moment_of (C.last self.new.clock) self.old.context.moment) (attach_at (P.around place.old) (home_of self.old.context.known) prefix.0) (W.out self.old.wire) (W.answered self.old.wire) answers self.new.context.known (W.out self.new.wire) (W.answered self.new.wire)) }
+        ensures front { self.old.fault ≡ None → OnErr result (BreaksOff W.gives self.old.context.known (moment_of (C.last self.new.clock) self.old.context.moment) (attach_at (P.around place.old) (home_of self.old.context.known) prefix.0) (W.out self.old.wire) (W.answered self.old.wire) (W.out self.new.wire) (W.answered self.new.wire)) }
+        ensures left { self.old.fault ≡ None → result ≢ Err StationFault.Memory → IsLeft self.new.context self.old.context.known (moment_of (C.last self.new.clock) self.old.context.moment) (attach_at (P.around place.old) (home_of self.old.context.known) prefix.0) }
+        ensures claims { self.old.fault ≡ None → P.claims place.new ≡ option_map (claims_attached (P.around place.old) self.old.context.known.standing (home_of self.old.context.known) prefix.0) (P.claims place.old) }
         ensures place { (P.around place.new ≡ P.around place.old) × P.is_same place.old place.new }
         ensures well { OnOk result (self.new.fault ≡ None) }
         ensures kept { IfErr result (λ fault. self.new.fault ≡ Some fault) }
@@ -47,20 +47,20 @@ impl<C: Clock + Drop, W: Wire + Drop> Machine<C, W> {
             return Err(fault);
         }
         let (of_home, of_address) = self.ask_place(place, prefix);
-        let done = self.attach_desk(alloc, prefix, of_home, of_address);
+        let done = self.attach_context(alloc, prefix, of_home, of_address);
         self.finish(alloc, done)
     }
 
     /// What the place answers to the claims of a call; where it uses the prefix already, none is made.
     fn ask_place<P: Place>(&self, place: &mut P, prefix: Prefix) -> (Claim, Claim)
-        requires home { (P.around place.old).room (home_of self.now.desk.known).0 ≡ true }
-        requires address { (P.around place.old).room (address_under (home_of self.now.desk.known) prefix.0).0 ≡ true }
-        ensures answered { AreAnswered (P.around place.old) self.now.desk.known prefix.0 result.0 result.1 }
-        ensures claims { P.claims place.new ≡ option_map (claims_attached (P.around place.old) self.now.desk.known.standing (home_of self.now.desk.known) prefix.0) (P.claims place.old) }
+        requires home { (P.around place.old).room (home_of self.now.context.known).0 ≡ true }
+        requires address { (P.around place.old).room (address_under (home_of self.now.context.known) prefix.0).0 ≡ true }
+        ensures answered { AreAnswered (P.around place.old) self.now.context.known prefix.0 result.0 result.1 }
+        ensures claims { P.claims place.new ≡ option_map (claims_attached (P.around place.old) self.now.context.known.standing (home_of self.now.context.known) prefix.0) (P.claims place.old) }
         ensures place { (P.around place.new ≡ P.around place.old) × P.is_same place.old place.new }
     {
-        let standing = self.desk.standing();
-        let home = self.desk.home();
+        let standing = self.context.standing();
+        let home = self.context.home();
         if mip_mobility::uses_prefix(standing, home, prefix) {
             (Claim::Held, Claim::Held)
         } else {
@@ -68,31 +68,31 @@ impl<C: Clock + Drop, W: Wire + Drop> Machine<C, W> {
         }
     }
 
-    fn attach_desk(
+    fn attach_context(
         &mut self,
         alloc: Global,
         prefix: Prefix,
         of_home: Claim,
         of_address: Claim,
     ) -> Result<(), Memory>
-        ensures shows { (around : Around) → AreAnswered around self.old.desk.known prefix.0 of_home of_address
-            → OnOk result (Shows self.new.desk (turn_of self.old.desk.known (moment_of (C.last self.new.clock) self.old.desk.moment) (attach_at around (home_of self.old.desk.known) prefix.0))) }
+        ensures shows { (around : Around) → AreAnswered around self.old.context.known prefix.0 of_home of_address
+            → OnOk result (Shows self.new.context (turn_of self.old.context.known (moment_of (C.last self.new.clock) self.old.context.moment) (attach_at around (home_of self.old.context.known) prefix.0))) }
         ensures rest { (self.new.wire ≡ self.old.wire) × (self.new.fault ≡ self.old.fault) }
         ensures read { C.ahead self.new.clock ≡ option_map moments_after (C.ahead self.old.clock) }
     {
         self.begin(alloc)?;
-        mip_mobility::attach(alloc, &mut self.desk, prefix, of_home, of_address)
+        mip_mobility::attach(alloc, &mut self.context, prefix, of_home, of_address)
     }
 
     /// It leaves its link.
     pub fn leave<P: Place>(&mut self, alloc: Global, place: &mut P) -> Result<Answers, StationFault>
-        requires home { (P.around place.old).room (home_of self.old.desk.known).0 ≡ true }
+        requires home { (P.around place.old).room (home_of self.old.context.known).0 ≡ true }
         ensures faulted { IfSome self.old.fault (λ fault. (result ≡ Err fault) × (self.new ≡ self.old) × (P.claims place.new ≡ P.claims place.old)) }
         ensures read { self.old.fault ≡ None → C.ahead self.new.clock ≡ option_map moments_after (C.ahead self.old.clock) }
-        ensures handles { IfOk result (λ answers. Handles W.gives self.old.desk.known (moment_of (C.last self.new.clock) self.old.desk.moment) (leave_at (P.around place.old) (home_of self.old.desk.known)) (W.out self.old.wire) (W.answered self.old.wire) answers self.new.desk.known (W.out self.new.wire) (W.answered self.new.wire)) }
-        ensures front { self.old.fault ≡ None → OnErr result (BreaksOff W.gives self.old.desk.known (moment_of (C.last self.new.clock) self.old.desk.moment) (leave_at (P.around place.old) (home_of self.old.desk.known)) (W.out self.old.wire) (W.answered self.old.wire) (W.out self.new.wire) (W.answered self.new.wire)) }
-        ensures left { self.old.fault ≡ None → result ≢ Err StationFault.Memory → IsLeft self.new.desk self.old.desk.known (moment_of (C.last self.new.clock) self.old.desk.moment) (leave_at (P.around place.old) (home_of self.old.desk.known)) }
-        ensures claims { self.old.fault ≡ None → P.claims place.new ≡ option_map (claims_after_leaving (P.around place.old) self.old.desk.known.standing (home_of self.old.desk.known)) (P.claims place.old) }
+        ensures handles { IfOk result (λ answers. Handles W.gives self.old.context.known (moment_of (C.last self.new.clock) self.old.context.moment) (leave_at (P.around place.old) (home_of self.old.context.known)) (W.out self.old.wire) (W.answered self.old.wire) answers self.new.context.known (W.out self.new.wire) (W.answered self.new.wire)) }
+        ensures front { self.old.fault ≡ None → OnErr result (BreaksOff W.gives self.old.context.known (moment_of (C.last self.new.clock) self.old.context.moment) (leave_at (P.around place.old) (home_of self.old.context.known)) (W.out self.old.wire) (W.answered self.old.wire) (W.out self.new.wire) (W.answered self.new.wire)) }
+        ensures left { self.old.fault ≡ None → result ≢ Err StationFault.Memory → IsLeft self.new.context self.old.context.known (moment_of (C.last self.new.clock) self.old.context.moment) (leave_at (P.around place.old) (home_of self.old.context.known)) }
+        ensures claims { self.old.fault ≡ None → P.claims place.new ≡ option_map (claims_after_leaving (P.around place.old) self.old.context.known.standing (home_of self.old.context.known)) (P.claims place.old) }
         ensures place { (P.around place.new ≡ P.around place.old) × P.is_same place.old place.new }
         ensures well { OnOk result (self.new.fault ≡ None) }
         ensures kept { IfErr result (λ fault. self.new.fault ≡ Some fault) }
@@ -102,18 +102,18 @@ impl<C: Clock + Drop, W: Wire + Drop> Machine<C, W> {
         if let Some(fault) = self.fault {
             return Err(fault);
         }
-        let of_home = release_held(place, self.desk.standing(), self.desk.home());
-        let done = self.leave_desk(alloc, of_home);
+        let of_home = release_held(place, self.context.standing(), self.context.home());
+        let done = self.leave_context(alloc, of_home);
         self.finish(alloc, done)
     }
 
-    fn leave_desk(&mut self, alloc: Global, of_home: Claim) -> Result<(), Memory>
-        ensures shows { (around : Around) → (self.old.desk.known.standing ≡ AtHome → of_home ≡ claim_in around (home_of self.old.desk.known).0)
-            → OnOk result (Shows self.new.desk (turn_of self.old.desk.known (moment_of (C.last self.new.clock) self.old.desk.moment) (leave_at around (home_of self.old.desk.known)))) }
+    fn leave_context(&mut self, alloc: Global, of_home: Claim) -> Result<(), Memory>
+        ensures shows { (around : Around) → (self.old.context.known.standing ≡ AtHome → of_home ≡ claim_in around (home_of self.old.context.known).0)
+            → OnOk result (Shows self.new.context (turn_of self.old.context.known (moment_of (C.last self.new.clock) self.old.context.moment) (leave_at around (home_of self.old.context.known)))) }
         ensures rest { (self.new.wire ≡ self.old.wire) × (self.new.fault ≡ self.old.fault) }
         ensures read { C.ahead self.new.clock ≡ option_map moments_after (C.ahead self.old.clock) }
     {
         self.begin(alloc)?;
-        mip_mobility::leave(&mut self.desk, of_home)
+        mip_mobility::leave(&mut self.context, of_home)
     }
 }

@@ -4,13 +4,13 @@ ghost use Rattle.std.specs.Prelude.{◌≡◌, true, if◌then◌else◌};
 ghost use Rattle.std.specs.Option.{option_map};
 ghost use Rattle.mip_outside.specs.declared.claim.Claim.{Claim};
 ghost use Rattle.mip_outside.specs.Places.{claim_in, is_held};
-ghost use Rattle.mip_rules_mobile.specs.declared.standing.Standing.TheVariants.{AtHome};
+ghost use Rattle.mip_rules_mobile.specs.declared.attachment.Attachment.TheVariants.{AtHome};
 ghost use Rattle.mip_rules_mobile.specs.MovingRules.{address_under};
 ghost use Rattle.mip_mobile.specs.Placing.{claims_left, claims_come};
 
 use mip_mobility::address_under;
 use mip_outside::{Claim, Place};
-use mip_rules_mobile::Standing;
+use mip_rules_mobile::Attachment;
 use mip_words::{Address, Prefix};
 
 /// The home address is given up, where a claim of it is granted.
@@ -29,7 +29,7 @@ fn release_home<P: Place>(place: &mut P, home: Address) -> Claim
 }
 
 /// The address that it held is given up. The answer is what the place says to a claim of the home address, where it stood at home.
-pub fn release_held<P: Place>(place: &mut P, standing: Standing, home: Address) -> Claim
+pub fn release_held<P: Place>(place: &mut P, standing: Attachment, home: Address) -> Claim
     requires { (P.around place.old).room home.0 ≡ true }
     ensures claim { standing ≡ AtHome → result ≡ claim_in (P.around place.old) home.0 }
     ensures claims { P.claims place.new ≡ option_map (claims_left standing home (is_held (claim_in (P.around place.old) home.0))) (P.claims place.old) }
@@ -37,9 +37,9 @@ pub fn release_held<P: Place>(place: &mut P, standing: Standing, home: Address) 
     ensures same { P.is_same place.old place.new }
 {
     match standing {
-        Standing::Detached => Claim::Held,
-        Standing::AtHome => release_home(place, home),
-        Standing::Away { careof } => {
+        Attachment::Detached => Claim::Held,
+        Attachment::AtHome => release_home(place, home),
+        Attachment::Away { careof } => {
             place.release(careof);
             Claim::Held
         }
@@ -49,7 +49,7 @@ pub fn release_held<P: Place>(place: &mut P, standing: Standing, home: Address) 
 /// What the place answers to the two claims as it comes to a prefix that it does not use.
 pub fn come<P: Place>(
     place: &mut P,
-    standing: Standing,
+    standing: Attachment,
     home: Address,
     prefix: Prefix,
 ) -> (Claim, Claim)

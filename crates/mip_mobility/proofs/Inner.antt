@@ -19,12 +19,12 @@ use Rattle.mip_rules_correspondent.specs.Rules.{place_in}
 use Rattle.mip_rules_mobile.specs.Steps.{Drops}
 use Rattle.mip_rules_mobile.specs.HomeQuestions.{home_of}
 use Rattle.mip_rules_mobile.specs.ReceivingRules.{inner_standing, after_inner_checks, takes_inner, opens_with}
-use Rattle.mip_rules_mobile.specs.Turns.{Turn, noted}
+use Rattle.mip_rules_mobile.specs.Transitions.{Transition, noted}
 use Rattle.mip_rules_mobile.proofs.Checks.{opened-reads}
 use Rattle.mip_mobility.specs.Inners.{inner_why, entry_why}
 
 -- the first reason, or what follows where there is none
-chosen : (a b c d : Bool) (why : Why) (number : ℕ) (t u : Turn)
+chosen : (a b c d : Bool) (why : Why) (number : ℕ) (t u : Transition)
     → (if a then Some whys.Nested else if b then Some whys.Address else if c then Some whys.Route else if d then Some whys.Unshielded else None) ≡ Some why
     → noted (Drops number why) t
     ≡ (if a then noted (Drops number whys.Nested) t else if b then noted (Drops number whys.Address) t else if c then noted (Drops number whys.Route) t else if d then noted (Drops number whys.Unshielded) t else u)
@@ -34,7 +34,7 @@ chosen false false true d why number t u is = cc
 chosen false false false true why number t u is = cc
 chosen false false false false why number t u is = absurd cc
 
-passed : (a b c d : Bool) (number : ℕ) (t u : Turn)
+passed : (a b c d : Bool) (number : ℕ) (t u : Transition)
     → (if a then Some whys.Nested else if b then Some whys.Address else if c then Some whys.Route else if d then Some whys.Unshielded else None) ≡ None
     → u
     ≡ (if a then noted (Drops number whys.Nested) t else if b then noted (Drops number whys.Address) t else if c then noted (Drops number whys.Route) t else if d then noted (Drops number whys.Unshielded) t else u)
@@ -44,14 +44,14 @@ passed false false true d number t u is = absurd cc
 passed false false false true number t u is = absurd cc
 passed false false false false number t u is = refl
 
-pub inner-dropped : (number : ℕ) (shield : Option Shield) (bytes : List ℕ) (p : Packet) (t : Turn) (why : Why) → inner_why (home_of t.known) shield p.head ≡ Some why
+pub inner-dropped : (number : ℕ) (shield : Option Shield) (bytes : List ℕ) (p : Packet) (t : Transition) (why : Why) → inner_why (home_of t.known) shield p.head ≡ Some why
     → noted (Drops number why) t ≡ takes_inner number shield bytes p t
 unfolding takes_inner
 inner-dropped number shield bytes p t why =
     chosen (p.head.proto == ipv6) (not (p.head.destination.0 == (home_of t.known).0)) (is_some p.head.route) ((p.head.proto == mobility_header) && is_none shield) why number t
     (after_inner_checks number shield bytes p (checked (inner_standing t.known t.now p.head) (place_in bytes p) p) t)
 
-pub inner-checked : (number : ℕ) (shield : Option Shield) (bytes : List ℕ) (p : Packet) (t : Turn) → inner_why (home_of t.known) shield p.head ≡ None
+pub inner-checked : (number : ℕ) (shield : Option Shield) (bytes : List ℕ) (p : Packet) (t : Transition) → inner_why (home_of t.known) shield p.head ≡ None
     → after_inner_checks number shield bytes p (checked (inner_standing t.known t.now p.head) (place_in bytes p) p) t ≡ takes_inner number shield bytes p t
 unfolding takes_inner
 inner-checked number shield bytes p t =
@@ -59,7 +59,7 @@ inner-checked number shield bytes p t =
     (after_inner_checks number shield bytes p (checked (inner_standing t.known t.now p.head) (place_in bytes p) p) t)
 
 -- what is not opened
-pub not-opened : (number : ℕ) (shield : Option Shield) (bytes : List ℕ) (fault : ExitFault) (t : Turn)
+pub not-opened : (number : ℕ) (shield : Option Shield) (bytes : List ℕ) (fault : ExitFault) (t : Transition)
     → noted (Drops number (entry_why fault)) t ≡ opens_with number shield bytes (Err fault) t
 not-opened number shield bytes NotTunnel t = refl
 not-opened number shield bytes (WrongEntry seen) t = refl

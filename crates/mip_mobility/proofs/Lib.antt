@@ -1,6 +1,6 @@
-pub mod Desks
+pub mod Contexts
 pub mod Rounds
 pub mod Named
 pub mod Inner
 pub mod Fails
-pub use Rattle.mip_desk.proofs.Noted
+pub use Rattle.mip_call_context.proofs.Noted

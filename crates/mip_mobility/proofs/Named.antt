@@ -5,14 +5,14 @@ use Rattle.std.proofs.lemmas.List.{drop-drop}
 use Rattle.mip_words.specs.Numbers.{number_at}
 use Rattle.mip_words.specs.Addresses.{address_at}
 use Rattle.mip_words.specs.declared.address.Address.{Address}
-use Rattle.mip_turns.proofs.TurnLaws.{noted_all-is}
+use Rattle.mip_transitions.proofs.TurnLaws.{noted_all-is}
 use Rattle.mip_rules_mobile.specs.DiscoveryQuestions.{next_found}
 use Rattle.mip_rules_mobile.specs.Known.{Known}
 use Rattle.mip_rules_mobile.specs.Questions.{after}
 use Rattle.mip_rules_mobile.specs.Steps.{Finds, Stops}
 use Rattle.mip_rules_mobile.specs.TimerQuestions.{seeking}
 use Rattle.mip_rules_mobile.specs.IcmpRules.{addresses_of}
-use Rattle.mip_rules_mobile.specs.Turns.{Turn, noted}
+use Rattle.mip_rules_mobile.specs.Transitions.{Transition, noted}
 
 -- the address behind so many bytes
 address-behind : (n : ℕ) (bytes : List ℕ) → address_at 0 (drop n bytes) ≡ address_at n bytes
@@ -35,11 +35,11 @@ pub addresses_next : (n : ℕ) (bytes : List ℕ) → addresses_of (n + 1) bytes
 addresses_next n bytes = let more : n + 1 ≡ suc n = omega arith in ap (λ (k : ℕ). addresses_of k bytes) more ∙ addresses-more n bytes
 
 -- the first agent that was named is the next one to be tried
-found-first : (first : Address) (others : List Address) (t : Turn) → next_found (noted (Stops seeking) (noted (Finds (first ∷ others)) t)).known ≡ Some first
+found-first : (first : Address) (others : List Address) (t : Transition) → next_found (noted (Stops seeking) (noted (Finds (first ∷ others)) t)).known ≡ Some first
 unfolding after
-found-first first others t = ap (λ (u : Turn). next_found u.known) (noted_all-is after (Finds (first ∷ others) ∷ Stops seeking ∷ []) t)
+found-first first others t = ap (λ (u : Transition). next_found u.known) (noted_all-is after (Finds (first ∷ others) ∷ Stops seeking ∷ []) t)
 
-pub first-found : (first : Address) (others agents : List Address) (t : Turn) (k : Known) (o : Option Address) → agents ≡ first ∷ others
+pub first-found : (first : Address) (others agents : List Address) (t : Transition) (k : Known) (o : Option Address) → agents ≡ first ∷ others
     → (noted (Stops seeking) (noted (Finds agents) t)).known ≡ k → o ≡ next_found k → o ≡ Some first
 first-found first others agents t k o is known found =
     found ∙ ap (λ (l : Known). next_found l) (sym known)

@@ -3,36 +3,36 @@
 ghost use Rattle.std.specs.Prelude.{◌≡◌, ◌<◌, ◌^◌, IfSome, OnOk};
 ghost use Rattle.mip_updates.specs.Statuses.{accepts_it};
 ghost use Rattle.mip_rules_mobile.specs.HomeRules.{is_answered_at, is_answer_to, answered_by, home_answered, is_registered, is_unregistered, is_accepted, takes_home_ack};
-ghost use Rattle.mip_rules_mobile.specs.Turns.{Turn};
-ghost use Rattle.mip_desk.specs.Seen.{Shows};
+ghost use Rattle.mip_rules_mobile.specs.Transitions.{Transition};
+ghost use Rattle.mip_call_context.specs.Seen.{Shows};
 
 use crate::ack::Ack;
 use crate::handed::Handed;
 use mip_bulist::Work;
+use mip_call_context::{CallContext, RESENDING};
 use mip_constants::LIFETIME_UNIT;
-use mip_desk::{Desk, RESENDING};
 use mip_registration::{catch_up, turn_away};
 use mip_routability::{REFRESH_UNIT, start_deletions, start_unbound};
-use mip_rules_mobile::{HomeUpdate, Standing};
+use mip_rules_mobile::{Attachment, HomeUpdate};
 use mip_updates::status::SEQUENCE_OUT_OF_WINDOW;
 use mip_words::{Address, Memory, Moment};
 use std::alloc::Global;
 
 /// At home only a deregistration is answered.
-fn is_answered_at(standing: Standing, update: &HomeUpdate) -> bool
+fn is_answered_at(standing: Attachment, update: &HomeUpdate) -> bool
     ensures { result ≡ is_answered_at standing update.now }
 {
     match standing {
-        Standing::Detached => false,
-        Standing::AtHome => update.deletes,
-        Standing::Away { .. } => true,
+        Attachment::Detached => false,
+        Attachment::AtHome => update.deletes,
+        Attachment::Away { .. } => true,
     }
 }
 
 /// An acknowledgement of the last home registration or deregistration: in no tunnel, protected, from its agent, with its
 /// sequence or status 135.
 fn is_answer_to(
-    standing: Standing,
+    standing: Attachment,
     handed: &Handed,
     source: Address,
     ack: &Ack,
@@ -48,7 +48,7 @@ fn is_answer_to(
 }
 
 fn answered_by(
-    standing: Standing,
+    standing: Attachment,
     handed: &Handed,
     source: Address,
     ack: &Ack,
@@ -65,58 +65,63 @@ fn answered_by(
 }
 
 /// The home registration or deregistration that an acknowledgement answers.
-pub fn answered(desk: &Desk, handed: &Handed, source: Address, ack: &Ack) -> Option<HomeUpdate>
-    ensures value { result ≡ home_answered desk.now.known handed.now.tunnelled handed.now.shield source ack.now.status ack.now.sequence }
+pub fn answered(
+    context: &CallContext,
+    handed: &Handed,
+    source: Address,
+    ack: &Ack,
+) -> Option<HomeUpdate>
+    ensures value { result ≡ home_answered context.now.known handed.now.tunnelled handed.now.shield source ack.now.status ack.now.sequence }
     ensures early { IfSome result (λ u. u.at.0 < 2 ^ 62) }
 {
-    answered_by(desk.standing(), handed, source, ack, desk.latest())
+    answered_by(context.standing(), handed, source, ack, context.latest())
 }
 
 /// The registration: its end is counted from the sending, and so is its renewal.
 #[tactic(auto, unfolding(mip_rules_mobile::specs::HomeRules::is_registered))]
 fn registered(
     alloc: Global,
-    desk: &mut Desk,
+    context: &mut CallContext,
     update: &HomeUpdate,
     lifetime: u16,
 ) -> Result<(), Memory>
     requires { update.now.at.0 < 2 ^ 62 }
-    ensures { (t : Turn) → Shows desk.old t → OnOk result (Shows desk.new (is_registered update.now lifetime t)) }
+    ensures { (t : Transition) → Shows context.old t → OnOk result (Shows context.new (is_registered update.now lifetime t)) }
 {
-    desk.stop(Work::Own(RESENDING));
+    context.stop(Work::Own(RESENDING));
     let end = Moment(update.at.0 + LIFETIME_UNIT * lifetime as u64);
     let renew = Moment(update.at.0 + REFRESH_UNIT * lifetime as u64);
-    desk.register(update.agent, end, renew)?;
-    start_unbound(alloc, desk)
+    context.register(update.agent, end, renew)?;
+    start_unbound(alloc, context)
 }
 
 /// Once deregistered, each touched row starts a trial to delete its binding.
 #[tactic(auto, unfolding(mip_rules_mobile::specs::HomeRules::is_unregistered))]
-fn unregistered(alloc: Global, desk: &mut Desk, update: &HomeUpdate) -> Result<(), Memory>
-    ensures { (t : Turn) → Shows desk.old t → OnOk result (Shows desk.new (is_unregistered update.now t)) }
+fn unregistered(alloc: Global, context: &mut CallContext, update: &HomeUpdate) -> Result<(), Memory>
+    ensures { (t : Transition) → Shows context.old t → OnOk result (Shows context.new (is_unregistered update.now t)) }
 {
-    desk.stop(Work::Own(RESENDING));
-    desk.unregister(update.agent)?;
-    start_deletions(alloc, desk)
+    context.stop(Work::Own(RESENDING));
+    context.unregister(update.agent)?;
+    start_deletions(alloc, context)
 }
 
 fn accepted(
     alloc: Global,
-    desk: &mut Desk,
+    context: &mut CallContext,
     update: &HomeUpdate,
     status: u8,
     lifetime: u16,
 ) -> Result<(), Memory>
     requires { update.now.at.0 < 2 ^ 62 }
-    ensures { (t : Turn) → Shows desk.old t → OnOk result (Shows desk.new (is_accepted update.now status lifetime t)) }
+    ensures { (t : Transition) → Shows context.old t → OnOk result (Shows context.new (is_accepted update.now status lifetime t)) }
 {
     if update.deletes {
-        return unregistered(alloc, desk, update);
+        return unregistered(alloc, context, update);
     }
     if lifetime == 0 {
-        return turn_away(alloc, desk, status);
+        return turn_away(alloc, context, status);
     }
-    registered(alloc, desk, update, lifetime)
+    registered(alloc, context, update, lifetime)
 }
 
 fn accepts(status: u8) -> bool
@@ -129,18 +134,18 @@ fn accepts(status: u8) -> bool
 #[tactic(auto, unfolding(mip_rules_mobile::specs::HomeRules::takes_home_ack))]
 pub fn take_home_ack(
     alloc: Global,
-    desk: &mut Desk,
+    context: &mut CallContext,
     update: &HomeUpdate,
     ack: &Ack,
 ) -> Result<(), Memory>
     requires { update.now.at.0 < 2 ^ 62 }
-    ensures { (t : Turn) → Shows desk.old t → OnOk result (Shows desk.new (takes_home_ack update.now ack.now.status ack.now.sequence ack.now.lifetime t)) }
+    ensures { (t : Transition) → Shows context.old t → OnOk result (Shows context.new (takes_home_ack update.now ack.now.status ack.now.sequence ack.now.lifetime t)) }
 {
     if accepts(ack.status) {
-        return accepted(alloc, desk, update, ack.status, ack.lifetime);
+        return accepted(alloc, context, update, ack.status, ack.lifetime);
     }
     if ack.status == SEQUENCE_OUT_OF_WINDOW {
-        return catch_up(alloc, desk, *update, ack.sequence);
+        return catch_up(alloc, context, *update, ack.sequence);
     }
-    turn_away(alloc, desk, ack.status)
+    turn_away(alloc, context, ack.status)
 }

@@ -8,16 +8,16 @@ ghost use Rattle.mip_rules_mobile.specs.Calls as calls;
 ghost use Rattle.mip_tunnel.specs.Tunnel.{hop_of};
 ghost use Rattle.mip_rules_mobile.specs.Sendings.{is_mobility};
 ghost use Rattle.mip_rules_mobile.specs.Doing.{handles};
-ghost use Rattle.mip_rules_mobile.specs.Turns.{Turn};
-ghost use Rattle.mip_desk.specs.Seen.{Shows};
+ghost use Rattle.mip_rules_mobile.specs.Transitions.{Transition};
+ghost use Rattle.mip_call_context.specs.Seen.{Shows};
 
 use crate::handed::Handed;
 use crate::moving::{self, detach};
 use crate::receiving::take_bytes;
 use crate::ringing::ring_all;
 use crate::sending::transmit;
+use mip_call_context::{CallContext, ask_refresh, go_out};
 use mip_constants::protocol::MOBILITY_HEADER;
-use mip_desk::{Desk, ask_refresh, go_out};
 use mip_ipv6::read_packet;
 use mip_nonce::Secrets;
 use mip_outside::Claim;
@@ -29,52 +29,52 @@ use std::alloc::Global;
 /// address that the mobile has under this prefix.
 pub fn attach(
     alloc: Global,
-    desk: &mut Desk,
+    context: &mut CallContext,
     prefix: Prefix,
     of_home: Claim,
     of_address: Claim,
 ) -> Result<(), Memory>
-    ensures { (t : Turn) → Shows desk.old t → OnOk result (Shows desk.new (handles (calls.Attach prefix.0 of_home of_address) t)) }
+    ensures { (t : Transition) → Shows context.old t → OnOk result (Shows context.new (handles (calls.Attach prefix.0 of_home of_address) t)) }
 {
-    moving::attach(alloc, desk, prefix, of_home, of_address)
+    moving::attach(alloc, context, prefix, of_home, of_address)
 }
 
 /// It leaves its link.
-pub fn leave(desk: &mut Desk, of_home: Claim) -> Result<(), Memory>
-    ensures { (t : Turn) → Shows desk.old t → OnOk result (Shows desk.new (handles (calls.Leave of_home) t)) }
+pub fn leave(context: &mut CallContext, of_home: Claim) -> Result<(), Memory>
+    ensures { (t : Transition) → Shows context.old t → OnOk result (Shows context.new (handles (calls.Leave of_home) t)) }
 {
-    detach(desk, of_home)
+    detach(context, of_home)
 }
 
 /// A packet is handed to it, by its number, its shield and its bytes.
 pub fn take(
     alloc: Global,
-    desk: &mut Desk,
+    context: &mut CallContext,
     number: u64,
     shield: Option<Shield>,
     packet: &[u8],
 ) -> Result<(), Memory>
-    ensures { (t : Turn) → Shows desk.old t → OnOk result (Shows desk.new (handles (calls.Take number shield packet.now) t)) }
+    ensures { (t : Transition) → Shows context.old t → OnOk result (Shows context.new (handles (calls.Take number shield packet.now) t)) }
 {
     let handed = Handed {
         number,
         shield,
         tunnelled: false,
     };
-    take_bytes(alloc, desk, &handed, packet)
+    take_bytes(alloc, context, &handed, packet)
 }
 
 /// Time goes on, and due work is done.
-pub fn tick(alloc: Global, desk: &mut Desk) -> Result<(), Memory>
-    ensures { (t : Turn) → Shows desk.old t → OnOk result (Shows desk.new (handles calls.Tick t)) }
+pub fn tick(alloc: Global, context: &mut CallContext) -> Result<(), Memory>
+    ensures { (t : Transition) → Shows context.old t → OnOk result (Shows context.new (handles calls.Tick t)) }
 {
-    ring_all(alloc, desk)
+    ring_all(alloc, context)
 }
 
 /// It is asked to send data.
 pub fn send(
     alloc: Global,
-    desk: &mut Desk,
+    context: &mut CallContext,
     to: Address,
     proto: u8,
     payload: &[u8],
@@ -82,30 +82,30 @@ pub fn send(
     requires data { IsTrue (is_data proto) }
     requires proto { IsFalse (names_no_body proto) }
     requires short { length payload.now ≤ 512 }
-    ensures { (t : Turn) → Shows desk.old t → OnOk result (Shows desk.new (handles (calls.Send to proto payload.now) t)) }
+    ensures { (t : Transition) → Shows context.old t → OnOk result (Shows context.new (handles (calls.Send to proto payload.now) t)) }
 {
-    transmit(alloc, desk, to, proto, payload)
+    transmit(alloc, context, to, proto, payload)
 }
 
 /// It is asked for a Binding Refresh Request to a home.
-pub fn refresh(alloc: Global, desk: &mut Desk, home: Address) -> Result<(), Memory>
-    ensures { (t : Turn) → Shows desk.old t → OnOk result (Shows desk.new (handles (calls.Refresh home) t)) }
+pub fn refresh(alloc: Global, context: &mut CallContext, home: Address) -> Result<(), Memory>
+    ensures { (t : Transition) → Shows context.old t → OnOk result (Shows context.new (handles (calls.Refresh home) t)) }
 {
-    ask_refresh(alloc, desk, home)
+    ask_refresh(alloc, context, home)
 }
 
 /// It is asked to solicit the prefixes of its home link.
-pub fn ask(alloc: Global, desk: &mut Desk) -> Result<(), Memory>
-    ensures { (t : Turn) → Shows desk.old t → OnOk result (Shows desk.new (handles calls.Ask t)) }
+pub fn ask(alloc: Global, context: &mut CallContext) -> Result<(), Memory>
+    ensures { (t : Transition) → Shows context.old t → OnOk result (Shows context.new (handles calls.Ask t)) }
 {
-    solicit(alloc, desk)
+    solicit(alloc, context)
 }
 
 /// It loses all that it keeps, and goes on with these secrets.
-pub fn restart(alloc: Global, desk: &mut Desk, secrets: Secrets) -> Result<(), Memory>
-    ensures { (t : Turn) → Shows desk.old t → OnOk result (Shows desk.new (handles (calls.Restart secrets) t)) }
+pub fn restart(alloc: Global, context: &mut CallContext, secrets: Secrets) -> Result<(), Memory>
+    ensures { (t : Transition) → Shows context.old t → OnOk result (Shows context.new (handles (calls.Restart secrets) t)) }
 {
-    moving::restart(alloc, desk, secrets)
+    moving::restart(alloc, context, secrets)
 }
 
 /// Whether a packet carries a mobility message.
@@ -119,13 +119,13 @@ fn is_signal(packet: &[u8]) -> bool
 }
 
 /// It is asked to send a packet from its home address while it is away. It is one that a tunnel takes.
-pub fn tunnel(alloc: Global, desk: &mut Desk, inner: &[u8]) -> Result<(), Memory>
+pub fn tunnel(alloc: Global, context: &mut CallContext, inner: &[u8]) -> Result<(), Memory>
     requires long { 40 ≤ length inner.now }
     requires hop { 2 ≤ hop_of inner.now }
     requires fits { length inner.now ≤ 65535 }
-    ensures { (t : Turn) → Shows desk.old t → OnOk result (Shows desk.new (handles (calls.Tunnel inner.now) t)) }
+    ensures { (t : Transition) → Shows context.old t → OnOk result (Shows context.new (handles (calls.Tunnel inner.now) t)) }
 {
     let is_signal = is_signal(inner);
     let packet = Bytes::copy(alloc, inner)?;
-    go_out(alloc, desk, is_signal, packet)
+    go_out(alloc, context, is_signal, packet)
 }

@@ -3,17 +3,17 @@
 ghost use Rattle.std.specs.Prelude.{◌≡◌, ◌≤◌, ◌∷◌, List, length, OnOk, IfOk};
 ghost use Rattle.mip_ipv6.specs.Packet.{packet as tree};
 ghost use Rattle.mip_words.specs.declared.address.Address.{Address};
-ghost use Rattle.mip_rules_mobile.specs.declared.standing.Standing.TheVariants.{Away};
+ghost use Rattle.mip_rules_mobile.specs.declared.attachment.Attachment.TheVariants.{Away};
 ghost use Rattle.mip_rules_mobile.specs.IcmpRules.{agents_named, finds, takes_discovery_reply, takes_icmp};
-ghost use Rattle.mip_rules_mobile.specs.Turns.{Turn};
-ghost use Rattle.mip_desk.specs.Seen.{Shows};
+ghost use Rattle.mip_rules_mobile.specs.Transitions.{Transition};
+ghost use Rattle.mip_call_context.specs.Seen.{Shows};
 
 use mip_bulist::Work;
-use mip_desk::{Agents, Desk, SEEKING};
+use mip_call_context::{Agents, CallContext, SEEKING};
 use mip_icmp::{Icmp, read_icmp};
 use mip_ipv6::PacketRef;
 use mip_registration::{register, take_prefix_reply};
-use mip_rules_mobile::Standing;
+use mip_rules_mobile::Attachment;
 use mip_words::{Address, Memory, Shield, Why};
 use std::alloc::Global;
 
@@ -30,16 +30,21 @@ fn agents_named(alloc: Global, bytes: &[u8]) -> Result<Agents, Memory>
 }
 
 /// The first agent is chosen, and a home registration goes to it.
-fn find_all(alloc: Global, desk: &mut Desk, careof: Address, agents: Agents) -> Result<(), Memory>
-    ensures { (first : Address) (others : List Address) (t : Turn) → agents ≡ first ∷ others → Shows desk.old t
-        → OnOk result (Shows desk.new (finds 0 (Away careof) (first ∷ others) t)) }
+fn find_all(
+    alloc: Global,
+    context: &mut CallContext,
+    careof: Address,
+    agents: Agents,
+) -> Result<(), Memory>
+    ensures { (first : Address) (others : List Address) (t : Transition) → agents ≡ first ∷ others → Shows context.old t
+        → OnOk result (Shows context.new (finds 0 (Away careof) (first ∷ others) t)) }
 {
-    desk.find(agents);
-    desk.stop(Work::Own(SEEKING));
-    match desk.next_found() {
+    context.find(agents);
+    context.stop(Work::Own(SEEKING));
+    match context.next_found() {
         Some(first) => {
-            desk.choose(first)?;
-            register(alloc, desk, careof)
+            context.choose(first)?;
+            register(alloc, context, careof)
         }
         None => Ok(()),
     }
@@ -48,41 +53,46 @@ fn find_all(alloc: Global, desk: &mut Desk, careof: Address, agents: Agents) -> 
 /// A reply to the discovery under way.
 fn find(
     alloc: Global,
-    desk: &mut Desk,
+    context: &mut CallContext,
     number: u64,
-    standing: Standing,
+    standing: Attachment,
     agents: Agents,
 ) -> Result<(), Memory>
-    ensures { (t : Turn) → Shows desk.old t → OnOk result (Shows desk.new (finds number standing agents t)) }
+    ensures { (t : Transition) → Shows context.old t → OnOk result (Shows context.new (finds number standing agents t)) }
 {
     match (standing, agents.at(0)) {
-        (Standing::Away { careof }, Some(_)) => find_all(alloc, desk, careof, agents),
-        _ => desk.drop_packet(number, Why::Icmp),
+        (Attachment::Away { careof }, Some(_)) => find_all(alloc, context, careof, agents),
+        _ => context.drop_packet(number, Why::Icmp),
     }
 }
 
-fn find_named(alloc: Global, desk: &mut Desk, number: u64, agents: &[u8]) -> Result<(), Memory>
-    ensures { (t : Turn) → Shows desk.old t → OnOk result (Shows desk.new (finds number t.known.standing (agents_named agents.now) t)) }
+fn find_named(
+    alloc: Global,
+    context: &mut CallContext,
+    number: u64,
+    agents: &[u8],
+) -> Result<(), Memory>
+    ensures { (t : Transition) → Shows context.old t → OnOk result (Shows context.new (finds number t.known.standing (agents_named agents.now) t)) }
 {
     let agents = agents_named(alloc, agents)?;
-    let standing = desk.standing();
-    find(alloc, desk, number, standing, agents)
+    let standing = context.standing();
+    find(alloc, context, number, standing, agents)
 }
 
 /// A reply that names home agents.
 fn take_discovery_reply(
     alloc: Global,
-    desk: &mut Desk,
+    context: &mut CallContext,
     number: u64,
     identifier: u16,
     agents: &[u8],
 ) -> Result<(), Memory>
-    ensures { (t : Turn) → Shows desk.old t → OnOk result (Shows desk.new (takes_discovery_reply number identifier agents.now t)) }
+    ensures { (t : Transition) → Shows context.old t → OnOk result (Shows context.new (takes_discovery_reply number identifier agents.now t)) }
 {
-    if desk.is_matched(identifier) {
-        find_named(alloc, desk, number, agents)
+    if context.is_matched(identifier) {
+        find_named(alloc, context, number, agents)
     } else {
-        desk.drop_packet(number, Why::Icmp)
+        context.drop_packet(number, Why::Icmp)
     }
 }
 
@@ -90,23 +100,23 @@ fn take_discovery_reply(
 #[tactic(auto, unfolding(mip_rules_mobile::specs::IcmpRules::takes_icmp))]
 pub fn take_icmp(
     alloc: Global,
-    desk: &mut Desk,
+    context: &mut CallContext,
     number: u64,
     shield: Option<Shield>,
     packet: &PacketRef<'_>,
 ) -> Result<(), Memory>
     requires { length packet.now.body.now ≤ 65535 }
-    ensures { (t : Turn) → Shows desk.old t → OnOk result (Shows desk.new (takes_icmp number shield (tree packet.now) t)) }
+    ensures { (t : Transition) → Shows context.old t → OnOk result (Shows context.new (takes_icmp number shield (tree packet.now) t)) }
 {
     let source = packet.head.sender();
     let destination = packet.head.receiver();
     match read_icmp(source, destination, packet.body) {
         Ok(Icmp::DiscoverReply { identifier, agents }) => {
-            take_discovery_reply(alloc, desk, number, identifier, agents)
+            take_discovery_reply(alloc, context, number, identifier, agents)
         }
         Ok(Icmp::PrefixReply { options, .. }) => {
-            take_prefix_reply(desk, number, shield, &options)
+            take_prefix_reply(context, number, shield, &options)
         }
-        _ => desk.drop_packet(number, Why::Icmp),
+        _ => context.drop_packet(number, Why::Icmp),
     }
 }

@@ -1,4 +1,4 @@
-//! What a mobile node does about each call (RFC 6275 section 11), as rules over the desk of the call.
+//! What a mobile node does about each call (RFC 6275 section 11), as rules over the context of the call.
 #![tactic(auto)]
 
 mod ack;
@@ -14,6 +14,6 @@ mod sending;
 mod tunnelled;
 
 pub use calls::{ask, attach, leave, refresh, restart, send, take, tick, tunnel};
-pub use mip_desk::Desk;
+pub use mip_call_context::CallContext;
 pub use mip_registration::address_under;
 pub use moving::uses_prefix;

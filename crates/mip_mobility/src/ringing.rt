@@ -11,50 +11,50 @@ ghost use Rattle.mip_rules_mobile.specs.RingingRules.{renews_home, ends_home, re
 ghost use Rattle.mip_rules_mobile.specs.TimerQuestions.{moment};
 ghost use Rattle.mip_mobility.specs.Rounds.{rings_once};
 ghost use Rattle.mip_rules_mobile.specs.Steps.{Tries};
-ghost use Rattle.mip_rules_mobile.specs.Turns.{Turn, noted};
-ghost use Rattle.mip_desk.specs.Seen.{Shows};
+ghost use Rattle.mip_rules_mobile.specs.Transitions.{Transition, noted};
+ghost use Rattle.mip_call_context.specs.Seen.{Shows};
 
 use mip_bulist::{Any, Work};
-use mip_desk::{Desk, ENDING, RENEWING, RESENDING, SEEKING, doubled};
+use mip_call_context::{CallContext, ENDING, RENEWING, RESENDING, SEEKING, doubled};
 use mip_registration::{end_home, renew_home, resend_home, seek_again};
 use mip_routability::{resend_row, start};
 use mip_words::{Address, Memory};
 use std::alloc::Global;
 
 /// Whether a row's trial is a binding.
-fn is_bound(desk: &Desk, row: u8) -> bool
-    ensures { result ≡ is_bound (trial_of desk.now.known row) }
+fn is_bound(context: &CallContext, row: u8) -> bool
+    ensures { result ≡ is_bound (trial_of context.now.known row) }
 {
-    match desk.trial(row) {
+    match context.trial(row) {
         Some(Any::Bound(_)) => true,
         _ => false,
     }
 }
 
 /// The trial of a row is given up, where it is a binding.
-fn rest_where(desk: &mut Desk, bound: bool, row: u8)
-    ensures { (t : Turn) → Shows desk.old t → Shows desk.new (if bound then noted (Tries row Rest) t else t) }
+fn rest_where(context: &mut CallContext, bound: bool, row: u8)
+    ensures { (t : Transition) → Shows context.old t → Shows context.new (if bound then noted (Tries row Rest) t else t) }
 {
     if bound {
-        desk.rest_trial(row);
+        context.rest_trial(row);
     }
 }
 
 /// The trial of a binding that ends is given up, unless it is a new one.
-fn rest_if_bound(desk: &mut Desk, row: u8)
-    ensures { (t : Turn) → Shows desk.old t → Shows desk.new (rests_if_bound row t) }
+fn rest_if_bound(context: &mut CallContext, row: u8)
+    ensures { (t : Transition) → Shows context.old t → Shows context.new (rests_if_bound row t) }
 {
-    let bound = is_bound(desk, row);
-    rest_where(desk, bound, row);
+    let bound = is_bound(context, row);
+    rest_where(context, bound, row);
 }
 
-fn end_at(desk: &mut Desk, peer: Option<Address>, row: u8) -> Result<(), Memory>
-    ensures { (t : Turn) → Shows desk.old t → OnOk result (Shows desk.new (ends_at peer row t)) }
+fn end_at(context: &mut CallContext, peer: Option<Address>, row: u8) -> Result<(), Memory>
+    ensures { (t : Transition) → Shows context.old t → OnOk result (Shows context.new (ends_at peer row t)) }
 {
     match peer {
         Some(peer) => {
-            desk.unbind(row, peer)?;
-            rest_if_bound(desk, row);
+            context.unbind(row, peer)?;
+            rest_if_bound(context, row);
             Ok(())
         }
         None => Ok(()),
@@ -62,107 +62,107 @@ fn end_at(desk: &mut Desk, peer: Option<Address>, row: u8) -> Result<(), Memory>
 }
 
 /// A binding ends.
-fn end_row(desk: &mut Desk, row: u8) -> Result<(), Memory>
-    ensures { (t : Turn) → Shows desk.old t → OnOk result (Shows desk.new (ends_row row t)) }
+fn end_row(context: &mut CallContext, row: u8) -> Result<(), Memory>
+    ensures { (t : Transition) → Shows context.old t → OnOk result (Shows context.new (ends_row row t)) }
 {
-    let peer = desk.peer_of_row(row);
-    end_at(desk, peer, row)
+    let peer = context.peer_of_row(row);
+    end_at(context, peer, row)
 }
 
 /// A home registration or deregistration goes again, and the next time after twice as long.
-fn resend(alloc: Global, desk: &mut Desk) -> Result<(), Memory>
-    ensures { (t : Turn) → Shows desk.old t → OnOk result (Shows desk.new (resends_home (doubled t.known.wait) t)) }
+fn resend(alloc: Global, context: &mut CallContext) -> Result<(), Memory>
+    ensures { (t : Transition) → Shows context.old t → OnOk result (Shows context.new (resends_home (doubled t.known.wait) t)) }
 {
-    let wait = doubled(desk.wait());
-    resend_home(alloc, desk, wait)
+    let wait = doubled(context.wait());
+    resend_home(alloc, context, wait)
 }
 
 /// The registration is renewed, before it ends.
-fn renew(alloc: Global, desk: &mut Desk) -> Result<(), Memory>
-    ensures { (t : Turn) → Shows desk.old t → OnOk result (Shows desk.new (renews_home t.known.standing t)) }
+fn renew(alloc: Global, context: &mut CallContext) -> Result<(), Memory>
+    ensures { (t : Transition) → Shows context.old t → OnOk result (Shows context.new (renews_home t.known.standing t)) }
 {
-    let standing = desk.standing();
-    renew_home(alloc, desk, standing)
+    let standing = context.standing();
+    renew_home(alloc, context, standing)
 }
 
 /// The registration ends.
-fn end(desk: &mut Desk) -> Result<(), Memory>
-    ensures { (t : Turn) → Shows desk.old t → OnOk result (Shows desk.new (ends_home t.known.registered t)) }
+fn end(context: &mut CallContext) -> Result<(), Memory>
+    ensures { (t : Transition) → Shows context.old t → OnOk result (Shows context.new (ends_home t.known.registered t)) }
 {
-    let registered = desk.registered();
-    end_home(desk, registered)
+    let registered = context.registered();
+    end_home(context, registered)
 }
 
 /// A timer of the station itself.
-fn ring_own(alloc: Global, desk: &mut Desk, timer: u8) -> Result<(), Memory>
-    ensures { (t : Turn) → Shows desk.old t → OnOk result (Shows desk.new (rings_own timer t)) }
+fn ring_own(alloc: Global, context: &mut CallContext, timer: u8) -> Result<(), Memory>
+    ensures { (t : Transition) → Shows context.old t → OnOk result (Shows context.new (rings_own timer t)) }
 {
     match timer {
-        RESENDING => resend(alloc, desk),
-        RENEWING => renew(alloc, desk),
-        ENDING => end(desk),
-        SEEKING => seek_again(alloc, desk),
+        RESENDING => resend(alloc, context),
+        RENEWING => renew(alloc, context),
+        ENDING => end(context),
+        SEEKING => seek_again(alloc, context),
         _ => Ok(()),
     }
 }
 
 /// Work that is due is done.
-fn do_work(alloc: Global, desk: &mut Desk, work: Work) -> Result<(), Memory>
-    ensures { (t : Turn) → Shows desk.old t → OnOk result (Shows desk.new (does_work work t)) }
+fn do_work(alloc: Global, context: &mut CallContext, work: Work) -> Result<(), Memory>
+    ensures { (t : Transition) → Shows context.old t → OnOk result (Shows context.new (does_work work t)) }
 {
     match work {
-        Work::Resend(row) => resend_row(alloc, desk, row),
-        Work::Renew(row) => start(alloc, desk, row),
-        Work::End(row) => end_row(desk, row),
-        Work::Own(timer) => ring_own(alloc, desk, timer),
+        Work::Resend(row) => resend_row(alloc, context, row),
+        Work::Renew(row) => start(alloc, context, row),
+        Work::End(row) => end_row(context, row),
+        Work::Own(timer) => ring_own(alloc, context, timer),
     }
 }
 
 /// Whether work is due.
-fn is_due(desk: &Desk) -> bool
-    ensures { result ≡ is_some (due_work (moment desk.now.moment) desk.now.known.list.timers) }
+fn is_due(context: &CallContext) -> bool
+    ensures { result ≡ is_some (due_work (moment context.now.moment) context.now.known.list.timers) }
 {
-    match desk.due() {
-        Some(due) => due.0 <= desk.moment().0,
+    match context.due() {
+        Some(due) => due.0 <= context.moment().0,
         None => false,
     }
 }
 
 /// The first work is done, which is due.
-fn ring_first(alloc: Global, desk: &mut Desk) -> Result<(), Memory>
-    ensures { (work : Work) (t : Turn) → due_work (moment desk.old.moment) desk.old.known.list.timers ≡ Some work → Shows desk.old t → OnOk result (Shows desk.new (rings work t)) }
+fn ring_first(alloc: Global, context: &mut CallContext) -> Result<(), Memory>
+    ensures { (work : Work) (t : Transition) → due_work (moment context.old.moment) context.old.known.list.timers ≡ Some work → Shows context.old t → OnOk result (Shows context.new (rings work t)) }
 {
-    match desk.ring() {
-        Some(work) => do_work(alloc, desk, work),
+    match context.ring() {
+        Some(work) => do_work(alloc, context, work),
         None => Ok(()),
     }
 }
 
 /// The first work is done, where it is due.
-fn ring_once(alloc: Global, desk: &mut Desk) -> Result<(), Memory>
-    ensures { (t : Turn) → Shows desk.old t → OnOk result (Shows desk.new (rings_once t)) }
+fn ring_once(alloc: Global, context: &mut CallContext) -> Result<(), Memory>
+    ensures { (t : Transition) → Shows context.old t → OnOk result (Shows context.new (rings_once t)) }
 {
-    if is_due(desk) {
-        ring_first(alloc, desk)
+    if is_due(context) {
+        ring_first(alloc, context)
     } else {
         Ok(())
     }
 }
 
 /// Work that is due is done, and then what is due after it, so many times.
-fn ring_times(alloc: Global, desk: &mut Desk, times: usize) -> Result<(), Memory>
-    ensures { (t : Turn) → Shows desk.old t → OnOk result (Shows desk.new (ticks times t)) }
+fn ring_times(alloc: Global, context: &mut CallContext, times: usize) -> Result<(), Memory>
+    ensures { (t : Transition) → Shows context.old t → OnOk result (Shows context.new (ticks times t)) }
 {
     for _round in 0..times {
-        ring_once(alloc, desk)?;
+        ring_once(alloc, context)?;
     }
     Ok(())
 }
 
 /// Work that is due is done, and then what is due after it. Each timer that is set rings once at most.
-pub fn ring_all(alloc: Global, desk: &mut Desk) -> Result<(), Memory>
-    ensures { (t : Turn) → Shows desk.old t → OnOk result (Shows desk.new (ticks_all t)) }
+pub fn ring_all(alloc: Global, context: &mut CallContext) -> Result<(), Memory>
+    ensures { (t : Transition) → Shows context.old t → OnOk result (Shows context.new (ticks_all t)) }
 {
-    let times = desk.timers();
-    ring_times(alloc, desk, times)
+    let times = context.timers();
+    ring_times(alloc, context, times)
 }

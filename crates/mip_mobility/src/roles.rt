@@ -4,19 +4,19 @@ ghost use Rattle.std.specs.Prelude.{◌≡◌, ◌≤◌, length, OnOk, IsTrue, 
 ghost use Rattle.mip_ipv6.specs.Packet.{packet as tree, is_routable_if_any};
 ghost use Rattle.mip_mobhdr.specs.Said.{said};
 ghost use Rattle.mip_options.specs.Values.{values};
-ghost use Rattle.mip_says.specs.Says.{message_in};
+ghost use Rattle.mip_inspection.specs.Says.{message_in};
 ghost use Rattle.mip_rules_correspondent.specs.Rules.{is_for_part};
 ghost use Rattle.mip_rules_mobile.specs.ReceivingRules.{then_meets, takes_for_part, takes_ack, by_proto, by_message, by_role};
-ghost use Rattle.mip_rules_mobile.specs.Turns.{Turn};
-ghost use Rattle.mip_desk.specs.Seen.{Shows};
+ghost use Rattle.mip_rules_mobile.specs.Transitions.{Transition};
+ghost use Rattle.mip_call_context.specs.Seen.{Shows};
 
 use crate::ack::Ack;
 use crate::acknowledged::{answered, take_home_ack};
 use crate::handed::Handed;
 use crate::icmp::take_icmp;
+use mip_call_context::{CallContext, Heard, ask_part};
 use mip_constants::protocol::{ICMPV6, NO_NEXT_HEADER};
 use mip_correspondent::is_for_part;
-use mip_desk::{Desk, Heard, ask_part};
 use mip_ipv6::PacketRef;
 use mip_mobhdr::Message;
 use mip_options::Options;
@@ -29,14 +29,14 @@ use std::alloc::Global;
 /// After data from a tunnel its peer is met.
 fn then_meet(
     alloc: Global,
-    desk: &mut Desk,
+    context: &mut CallContext,
     meets: bool,
     packet: &PacketRef<'_>,
 ) -> Result<(), Memory>
-    ensures { (t : Turn) → Shows desk.old t → OnOk result (Shows desk.new (then_meets meets (tree packet.now) t)) }
+    ensures { (t : Transition) → Shows context.old t → OnOk result (Shows context.new (then_meets meets (tree packet.now) t)) }
 {
     if meets {
-        meet(alloc, desk, packet.head.sender())
+        meet(alloc, context, packet.head.sender())
     } else {
         Ok(())
     }
@@ -46,55 +46,55 @@ fn then_meet(
 #[tactic(auto, unfolding(mip_rules_mobile::specs::ReceivingRules::takes_for_part))]
 fn take_for_part(
     alloc: Global,
-    desk: &mut Desk,
+    context: &mut CallContext,
     handed: &Handed,
     packet: &PacketRef<'_>,
     message: &Option<Message<'_>>,
 ) -> Result<(), Memory>
     requires kind { IsTrue (is_for_part packet.now.head.proto (message_in (tree packet.now))) }
     requires plain { IsTrue (is_routable_if_any packet.now.head.home) }
-    ensures { (t : Turn) → Shows desk.old t → OnOk result (Shows desk.new (takes_for_part handed.now.number handed.now.tunnelled (tree packet.now) (option_map said message.now) t)) }
+    ensures { (t : Transition) → Shows context.old t → OnOk result (Shows context.new (takes_for_part handed.now.number handed.now.tunnelled (tree packet.now) (option_map said message.now) t)) }
 {
-    ask_part(alloc, desk, handed.number, packet)?;
+    ask_part(alloc, context, handed.number, packet)?;
     let meets = handed.tunnelled && message.is_none();
-    then_meet(alloc, desk, meets, packet)
+    then_meet(alloc, context, meets, packet)
 }
 
 /// What the correspondent part does not take: ICMPv6, a packet with no next header, and what is left, which has no taker.
 fn take_other(
     alloc: Global,
-    desk: &mut Desk,
+    context: &mut CallContext,
     handed: &Handed,
     packet: &PacketRef<'_>,
 ) -> Result<(), Memory>
     requires { length packet.now.body.now ≤ 65535 }
-    ensures { (t : Turn) → Shows desk.old t → OnOk result (Shows desk.new (by_proto handed.now.number handed.now.shield (tree packet.now) t)) }
+    ensures { (t : Transition) → Shows context.old t → OnOk result (Shows context.new (by_proto handed.now.number handed.now.shield (tree packet.now) t)) }
 {
     let proto = packet.head.proto;
     if proto == ICMPV6 {
-        return take_icmp(alloc, desk, handed.number, handed.shield, packet);
+        return take_icmp(alloc, context, handed.number, handed.shield, packet);
     }
     if proto == NO_NEXT_HEADER {
-        return desk.drop_packet(handed.number, Why::NoNext);
+        return context.drop_packet(handed.number, Why::NoNext);
     }
-    desk.drop_packet(handed.number, Why::Role)
+    context.drop_packet(handed.number, Why::Role)
 }
 
 /// An acknowledgement is first one of the agent, then one of a peer.
 fn take_ack(
     alloc: Global,
-    desk: &mut Desk,
+    context: &mut CallContext,
     handed: &Handed,
     packet: &PacketRef<'_>,
     ack: &Ack,
     options: &Options<'_>,
 ) -> Result<(), Memory>
-    ensures { (t : Turn) → Shows desk.old t → OnOk result (Shows desk.new
+    ensures { (t : Transition) → Shows context.old t → OnOk result (Shows context.new
         (takes_ack handed.now.number handed.now.tunnelled handed.now.shield (tree packet.now) ack.now.status ack.now.sequence ack.now.lifetime (values options.now) t)) }
 {
     let source = packet.head.sender();
-    match answered(desk, handed, source, ack) {
-        Some(update) => take_home_ack(alloc, desk, &update, ack),
+    match answered(context, handed, source, ack) {
+        Some(update) => take_home_ack(alloc, context, &update, ack),
         None => {
             let of_peer = PeerAck {
                 status: ack.status,
@@ -103,7 +103,7 @@ fn take_ack(
                 authenticator: options.authorization,
                 message: packet.body,
             };
-            take_ack_of(alloc, desk, handed.number, source, &of_peer)
+            take_ack_of(alloc, context, handed.number, source, &of_peer)
         }
     }
 }
@@ -111,12 +111,12 @@ fn take_ack(
 /// A mobility message that is not for the correspondent part.
 fn take_message(
     alloc: Global,
-    desk: &mut Desk,
+    context: &mut CallContext,
     handed: &Handed,
     packet: &PacketRef<'_>,
     message: &Message<'_>,
 ) -> Result<(), Memory>
-    ensures { (t : Turn) → Shows desk.old t → OnOk result (Shows desk.new (by_message handed.now.number handed.now.tunnelled handed.now.shield (tree packet.now) (Some (said message.now)) t)) }
+    ensures { (t : Transition) → Shows context.old t → OnOk result (Shows context.new (by_message handed.now.number handed.now.tunnelled handed.now.shield (tree packet.now) (Some (said message.now)) t)) }
 {
     let number = handed.number;
     let peer = packet.head.sender();
@@ -133,7 +133,7 @@ fn take_message(
                 index,
                 token,
             };
-            take_home_test(alloc, desk, number, handed.tunnelled, &test)
+            take_home_test(alloc, context, number, handed.tunnelled, &test)
         }
         Message::CareofTest {
             index,
@@ -147,7 +147,7 @@ fn take_message(
                 index,
                 token,
             };
-            take_careof_test(alloc, desk, number, handed.tunnelled, &test)
+            take_careof_test(alloc, context, number, handed.tunnelled, &test)
         }
         Message::Acknowledgement {
             status,
@@ -161,12 +161,12 @@ fn take_message(
                 sequence,
                 lifetime,
             };
-            take_ack(alloc, desk, handed, packet, &ack, &options)
+            take_ack(alloc, context, handed, packet, &ack, &options)
         }
-        Message::Error { status, home, .. } => take_error(desk, number, peer, status, home),
-        Message::Refresh { .. } => take_refresh(alloc, desk, number, peer),
+        Message::Error { status, home, .. } => take_error(context, number, peer, status, home),
+        Message::Refresh { .. } => take_refresh(alloc, context, number, peer),
         Message::HomeInit { .. } | Message::CareofInit { .. } | Message::Update { .. } => {
-            desk.drop_packet(number, Why::Role)
+            context.drop_packet(number, Why::Role)
         }
     }
 }
@@ -175,7 +175,7 @@ fn take_message(
 #[tactic(auto, unfolding(mip_rules_mobile::specs::ReceivingRules::by_role))]
 pub fn take_role(
     alloc: Global,
-    desk: &mut Desk,
+    context: &mut CallContext,
     handed: &Handed,
     packet: &PacketRef<'_>,
     message: &Option<Message<'_>>,
@@ -183,13 +183,13 @@ pub fn take_role(
     requires plain { IsTrue (is_routable_if_any packet.now.head.home) }
     requires short { length packet.now.body.now ≤ 65535 }
     requires read { message_in (tree packet.now) ≡ option_map said message.now }
-    ensures { (t : Turn) → Shows desk.old t → OnOk result (Shows desk.new (by_role handed.now.number handed.now.tunnelled handed.now.shield (tree packet.now) (option_map said message.now) t)) }
+    ensures { (t : Transition) → Shows context.old t → OnOk result (Shows context.new (by_role handed.now.number handed.now.tunnelled handed.now.shield (tree packet.now) (option_map said message.now) t)) }
 {
     if is_for_part(packet.head.proto, message) {
-        return take_for_part(alloc, desk, handed, packet, message);
+        return take_for_part(alloc, context, handed, packet, message);
     }
     match message {
-        Some(message) => take_message(alloc, desk, handed, packet, message),
-        None => take_other(alloc, desk, handed, packet),
+        Some(message) => take_message(alloc, context, handed, packet, message),
+        None => take_other(alloc, context, handed, packet),
     }
 }

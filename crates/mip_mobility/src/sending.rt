@@ -4,16 +4,16 @@ ghost use Rattle.std.specs.Prelude.{◌≡◌, ◌≤◌, length, OnOk, IfOk, If
 ghost use Rattle.mip_words.specs.Addresses.{is_routable};
 ghost use Rattle.mip_ipv6.specs.Packet.{is_plain, names_no_body};
 ghost use Rattle.mip_rules_correspondent.specs.Rules.{is_data};
-ghost use Rattle.mip_rules_mobile.specs.declared.standing.Standing.TheVariants.{Away};
+ghost use Rattle.mip_rules_mobile.specs.declared.attachment.Attachment.TheVariants.{Away};
 ghost use Rattle.mip_rules_mobile.specs.Sendings.{data_head};
 ghost use Rattle.mip_rules_mobile.specs.Doing.{transmits_from, transmits};
-ghost use Rattle.mip_rules_mobile.specs.Turns.{Turn};
-ghost use Rattle.mip_desk.specs.Seen.{Shows};
+ghost use Rattle.mip_rules_mobile.specs.Transitions.{Transition};
+ghost use Rattle.mip_call_context.specs.Seen.{Shows};
 
-use mip_desk::{Desk, ask_data};
+use mip_call_context::{CallContext, ask_data};
 use mip_ipv6::Head;
-use mip_rules_mobile::Standing;
-use mip_signals::{node_head, write_data_packet};
+use mip_packet_builders::{node_head, write_data_packet};
+use mip_rules_mobile::Attachment;
 use mip_words::{Address, Memory};
 use std::alloc::Global;
 
@@ -35,7 +35,7 @@ fn data_head(home: Address, careof: Address, to: Address, proto: u8, held: Optio
 /// Data goes straight to a peer that has the binding.
 fn send_straight(
     alloc: Global,
-    desk: &mut Desk,
+    context: &mut CallContext,
     careof: Address,
     row: u8,
     to: Address,
@@ -44,18 +44,18 @@ fn send_straight(
 ) -> Result<(), Memory>
     requires proto { IsFalse (names_no_body proto) }
     requires short { length payload.now ≤ 512 }
-    ensures { (t : Turn) → Shows desk.old t → OnOk result (Shows desk.new (transmits_from (Away careof) (Some row) to proto payload.now t)) }
+    ensures { (t : Transition) → Shows context.old t → OnOk result (Shows context.new (transmits_from (Away careof) (Some row) to proto payload.now t)) }
 {
-    let held = desk.held_of(to);
-    let head = data_head(desk.home(), careof, to, proto, held);
+    let held = context.held_of(to);
+    let head = data_head(context.home(), careof, to, proto, held);
     let packet = write_data_packet(alloc, &head, payload)?;
-    desk.put(None, packet)
+    context.put(None, packet)
 }
 
 fn transmit_from(
     alloc: Global,
-    desk: &mut Desk,
-    standing: Standing,
+    context: &mut CallContext,
+    standing: Attachment,
     row: Option<u8>,
     to: Address,
     proto: u8,
@@ -64,20 +64,20 @@ fn transmit_from(
     requires data { IsTrue (is_data proto) }
     requires proto { IsFalse (names_no_body proto) }
     requires short { length payload.now ≤ 512 }
-    ensures { (t : Turn) → Shows desk.old t → OnOk result (Shows desk.new (transmits_from standing row to proto payload.now t)) }
+    ensures { (t : Transition) → Shows context.old t → OnOk result (Shows context.new (transmits_from standing row to proto payload.now t)) }
 {
     match (standing, row) {
-        (Standing::Away { careof }, Some(row)) => {
-            send_straight(alloc, desk, careof, row, to, proto, payload)
+        (Attachment::Away { careof }, Some(row)) => {
+            send_straight(alloc, context, careof, row, to, proto, payload)
         }
-        _ => ask_data(alloc, desk, to, proto, payload),
+        _ => ask_data(alloc, context, to, proto, payload),
     }
 }
 
 /// Data to a peer that has the binding goes straight, from the care-of address; to another, from the home address.
 pub fn transmit(
     alloc: Global,
-    desk: &mut Desk,
+    context: &mut CallContext,
     to: Address,
     proto: u8,
     payload: &[u8],
@@ -85,9 +85,9 @@ pub fn transmit(
     requires data { IsTrue (is_data proto) }
     requires proto { IsFalse (names_no_body proto) }
     requires short { length payload.now ≤ 512 }
-    ensures { (t : Turn) → Shows desk.old t → OnOk result (Shows desk.new (transmits to proto payload.now t)) }
+    ensures { (t : Transition) → Shows context.old t → OnOk result (Shows context.new (transmits to proto payload.now t)) }
 {
-    let standing = desk.standing();
-    let row = desk.bound_row_of(to);
-    transmit_from(alloc, desk, standing, row, to, proto, payload)
+    let standing = context.standing();
+    let row = context.bound_row_of(to);
+    transmit_from(alloc, context, standing, row, to, proto, payload)
 }

@@ -5,16 +5,16 @@ ghost use Rattle.mip_ipv6.specs.Packet.{packet as tree, is_routable_if_any};
 ghost use Rattle.mip_reception.specs.Checks.{checked};
 ghost use Rattle.mip_rules_correspondent.specs.Rules.{place_in};
 ghost use Rattle.mip_rules_mobile.specs.ReceivingRules.{refuses, after_inner_checks, inner_standing, takes_inner, opens_from, opens};
-ghost use Rattle.mip_rules_mobile.specs.Turns.{Turn};
-ghost use Rattle.mip_desk.specs.Seen.{Shows};
+ghost use Rattle.mip_rules_mobile.specs.Transitions.{Transition};
+ghost use Rattle.mip_call_context.specs.Seen.{Shows};
 ghost use Rattle.mip_mobility.specs.Inners.{inner_why, entry_why};
 
 use crate::handed::Handed;
 use crate::roles::take_role;
+use mip_call_context::{CallContext, reply};
 use mip_constants::protocol::{IPV6, MOBILITY_HEADER};
-use mip_desk::{Desk, reply};
 use mip_ipv6::{Head, PacketRef};
-use mip_reception::{Refusal, Standing, check, packet_why};
+use mip_reception::{AddressMatch, Refusal, check, packet_why};
 use mip_tunnel::{ExitFault, decapsulate};
 use mip_words::{Address, Memory, Shield, Why};
 use std::alloc::Global;
@@ -23,33 +23,33 @@ use std::alloc::Global;
 #[tactic(auto, unfolding(mip_rules_mobile::specs::ReceivingRules::refuses))]
 pub fn refuse(
     alloc: Global,
-    desk: &mut Desk,
+    context: &mut CallContext,
     number: u64,
     bytes: &[u8],
     source: Address,
     refusal: Refusal,
 ) -> Result<(), Memory>
-    ensures { (t : Turn) → Shows desk.old t → OnOk result (Shows desk.new (refuses number bytes.now source refusal t)) }
+    ensures { (t : Transition) → Shows context.old t → OnOk result (Shows context.new (refuses number bytes.now source refusal t)) }
 {
-    desk.drop_packet(number, refusal.why)?;
-    reply(alloc, desk, source, bytes, refusal.reply)
+    context.drop_packet(number, refusal.why)?;
+    reply(alloc, context, source, bytes, refusal.reply)
 }
 
 /// A packet from a tunnel is its own already, and has no routing header.
-fn inner_standing(desk: &Desk, head: &Head) -> Standing
-    ensures { result ≡ inner_standing desk.now.known desk.now.moment head.now }
+fn inner_standing(context: &CallContext, head: &Head) -> AddressMatch
+    ensures { result ≡ inner_standing context.now.known context.now.moment head.now }
 {
-    Standing {
+    AddressMatch {
         is_mine: true,
         takes_route: true,
-        holds: desk.holds_option(head.source, head.home),
+        holds: context.holds_option(head.source, head.home),
     }
 }
 
 /// A packet from a tunnel that is for the home address is checked as any packet is.
 fn take_checked(
     alloc: Global,
-    desk: &mut Desk,
+    context: &mut CallContext,
     handed: &Handed,
     bytes: &[u8],
     packet: &PacketRef<'_>,
@@ -59,20 +59,20 @@ fn take_checked(
     requires placed { packet.now.place ≡ place_in bytes.now (tree packet.now) }
     requires near { packet.now.place < 2 ^ 32 - 1 }
     requires tunnelled { handed.now.tunnelled ≡ true }
-    ensures { (t : Turn) → Shows desk.old t → OnOk result (Shows desk.new
+    ensures { (t : Transition) → Shows context.old t → OnOk result (Shows context.new
         (after_inner_checks handed.now.number handed.now.shield bytes.now (tree packet.now)
-        (checked (inner_standing desk.old.known desk.old.moment packet.now.head) (place_in bytes.now (tree packet.now)) (tree packet.now)) t)) }
+        (checked (inner_standing context.old.known context.old.moment packet.now.head) (place_in bytes.now (tree packet.now)) (tree packet.now)) t)) }
 {
-    match check(packet, inner_standing(desk, &packet.head)) {
+    match check(packet, inner_standing(context, &packet.head)) {
         Err(refusal) => refuse(
             alloc,
-            desk,
+            context,
             handed.number,
             bytes,
             packet.head.source,
             refusal,
         ),
-        Ok(message) => take_role(alloc, desk, handed, packet, &message),
+        Ok(message) => take_role(alloc, context, handed, packet, &message),
     }
 }
 
@@ -97,7 +97,7 @@ fn inner_why(home: Address, shield: Option<Shield>, head: &Head) -> Option<Why>
 /// A packet from a tunnel.
 fn take_inner(
     alloc: Global,
-    desk: &mut Desk,
+    context: &mut CallContext,
     handed: &Handed,
     bytes: &[u8],
     packet: &PacketRef<'_>,
@@ -107,11 +107,11 @@ fn take_inner(
     requires placed { packet.now.place ≡ place_in bytes.now (tree packet.now) }
     requires near { packet.now.place < 2 ^ 32 - 1 }
     requires tunnelled { handed.now.tunnelled ≡ true }
-    ensures { (t : Turn) → Shows desk.old t → OnOk result (Shows desk.new (takes_inner handed.now.number handed.now.shield bytes.now (tree packet.now) t)) }
+    ensures { (t : Transition) → Shows context.old t → OnOk result (Shows context.new (takes_inner handed.now.number handed.now.shield bytes.now (tree packet.now) t)) }
 {
-    match inner_why(desk.home(), handed.shield, &packet.head) {
-        Some(why) => desk.drop_packet(handed.number, why),
-        None => take_checked(alloc, desk, handed, bytes, packet),
+    match inner_why(context.home(), handed.shield, &packet.head) {
+        Some(why) => context.drop_packet(handed.number, why),
+        None => take_checked(alloc, context, handed, bytes, packet),
     }
 }
 
@@ -128,13 +128,13 @@ fn entry_why(fault: ExitFault) -> Why
 /// A tunnel packet from this agent.
 fn open_from(
     alloc: Global,
-    desk: &mut Desk,
+    context: &mut CallContext,
     handed: &Handed,
     agent: Address,
     packet: &PacketRef<'_>,
 ) -> Result<(), Memory>
     requires short { length packet.now.body.now ≤ 65535 }
-    ensures { (t : Turn) → Shows desk.old t → OnOk result (Shows desk.new (opens_from (Some agent) handed.now.number handed.now.shield (tree packet.now) t)) }
+    ensures { (t : Transition) → Shows context.old t → OnOk result (Shows context.new (opens_from (Some agent) handed.now.number handed.now.shield (tree packet.now) t)) }
 {
     match decapsulate(packet, agent) {
         Ok(inner) => {
@@ -142,24 +142,24 @@ fn open_from(
                 tunnelled: true,
                 ..*handed
             };
-            take_inner(alloc, desk, &handed, packet.body, &inner)
+            take_inner(alloc, context, &handed, packet.body, &inner)
         }
-        Err(fault) => desk.drop_packet(handed.number, entry_why(fault)),
+        Err(fault) => context.drop_packet(handed.number, entry_why(fault)),
     }
 }
 
 /// A tunnel packet: it comes from the agent.
 pub fn open(
     alloc: Global,
-    desk: &mut Desk,
+    context: &mut CallContext,
     handed: &Handed,
     packet: &PacketRef<'_>,
 ) -> Result<(), Memory>
     requires short { length packet.now.body.now ≤ 65535 }
-    ensures { (t : Turn) → Shows desk.old t → OnOk result (Shows desk.new (opens handed.now.number handed.now.shield (tree packet.now) t)) }
+    ensures { (t : Transition) → Shows context.old t → OnOk result (Shows context.new (opens handed.now.number handed.now.shield (tree packet.now) t)) }
 {
-    match desk.agent() {
-        Some(agent) => open_from(alloc, desk, handed, agent, packet),
-        None => desk.drop_packet(handed.number, Why::Entry),
+    match context.agent() {
+        Some(agent) => open_from(alloc, context, handed, agent, packet),
+        None => context.drop_packet(handed.number, Why::Entry),
     }
 }

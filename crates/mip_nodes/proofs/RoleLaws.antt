@@ -4,12 +4,12 @@ use Rattle.std.specs.Prelude.{Option}
 use Rattle.mip_words.specs.declared.address.Address.{Address}
 use Rattle.mip_nonce.specs.Secrets.{Life}
 use Rattle.mip_entries.specs.Stamped.{Stamped}
-use Rattle.mip_turns.specs.Turns.{StandsBy, known_by}
+use Rattle.mip_transitions.specs.Transitions.{StandsBy, known_by}
 use Rattle.mip_rules_correspondent.specs.declared.identity.Identity.{Identity}
 use Rattle.mip_rules_correspondent.specs.Calls as correspondents
 use Rattle.mip_rules_correspondent.specs.Steps.{Step}
 use Rattle.mip_rules_correspondent.specs.Questions.{known, fresh}
-use Rattle.mip_rules_correspondent.specs.Turns.{with_turn}
+use Rattle.mip_rules_correspondent.specs.Transitions.{with_turn}
 use Rattle.mip_rules_correspondent.specs.Doing.{turn_of}
 use Rattle.mip_rules_correspondent.proofs.Pasts.{stands-known, known-stands}
 use Rattle.mip_rules_correspondent.proofs.Calls.{call-stands}
@@ -17,7 +17,7 @@ use Rattle.mip_rules_agent.specs.declared.identity.Identity as agent
 use Rattle.mip_rules_agent.specs.Calls as agents
 use Rattle.mip_rules_agent.specs.Steps as agent_steps
 use Rattle.mip_rules_agent.specs.Questions as agent_questions
-use Rattle.mip_rules_agent.specs.Turns as agent_turns
+use Rattle.mip_rules_agent.specs.Transitions as agent_turns
 use Rattle.mip_rules_agent.specs.Doing as agent_doing
 use Rattle.mip_rules_agent.proofs.Pasts as agent_pasts
 use Rattle.mip_rules_agent.proofs.Calls as agent_calls
@@ -27,7 +27,7 @@ use Rattle.mip_rules_mobile.specs.Steps as mobile_steps
 use Rattle.mip_rules_mobile.specs.Questions as mobile_questions
 use Rattle.mip_rules_mobile.specs.Questions.{after}
 use Rattle.mip_rules_mobile.specs.HomeQuestions.{home_of}
-use Rattle.mip_rules_mobile.specs.Turns as mobile_turns
+use Rattle.mip_rules_mobile.specs.Transitions as mobile_turns
 use Rattle.mip_rules_mobile.specs.Doing as mobile_doing
 use Rattle.mip_rules_mobile.proofs.Calls as mobile_calls
 use Rattle.mip_rules_mobile.proofs.Told.{home-kept}

@@ -22,9 +22,9 @@ use crate::mobile;
 use crate::place::NetPlace;
 use mip_bcache::Row;
 use mip_entries::Answers;
-use mip_mobility::Desk;
+use mip_mobility::CallContext;
 use mip_nonce::Secrets;
-use mip_rules_mobile::Standing;
+use mip_rules_mobile::Attachment;
 use mip_words::{Address, Memory, Moment};
 use std::alloc::Global;
 use std::marker::Model;
@@ -32,7 +32,7 @@ use std::marker::Model;
 /// A mobile (RFC 6275 section 11). Once memory was wanting in a call it knows nothing any more, and answers no call.
 #[derive(Drop)]
 pub struct MobileRole {
-    desk: Desk,
+    context: CallContext,
     failed: bool,
 }
 
@@ -42,9 +42,9 @@ impl Model for MobileRole {
 
     ghost Value = { Known };
 
-    ghost view = { λ r. known_unless r.failed r.desk.known };
+    ghost view = { λ r. known_unless r.failed r.context.known };
 
-    ghost invariant = { λ r. IsCalm r.failed r.desk };
+    ghost invariant = { λ r. IsCalm r.failed r.context };
 }
 
 impl MobileRole {
@@ -61,9 +61,9 @@ impl MobileRole {
         requires few { numbers ≤ 8 }
         ensures { IfOk result (λ r. r ≡ fresh home agent numbers secrets) }
     {
-        let desk = Desk::open(alloc, home, agent, secrets, numbers)?;
+        let context = CallContext::open(alloc, home, agent, secrets, numbers)?;
         Ok(MobileRole {
-            desk,
+            context,
             failed: false,
         })
     }
@@ -86,7 +86,7 @@ impl MobileRole {
         if self.failed {
             return Err(Memory);
         }
-        match mobile::ask(&mut self.desk, alloc, place, now, call) {
+        match mobile::ask(&mut self.context, alloc, place, now, call) {
             Ok(answers) => Ok(answers),
             Err(Memory) => {
                 self.failed = true;
@@ -99,7 +99,11 @@ impl MobileRole {
     pub fn due(&self) -> Option<Moment>
         ensures { result ≡ first_due self.now.list.timers }
     {
-        if self.failed { None } else { self.desk.due() }
+        if self.failed {
+            None
+        } else {
+            self.context.due()
+        }
     }
 
     /// The row at a place among those that its correspondent part keeps, in order of home address, then of number.
@@ -110,7 +114,7 @@ impl MobileRole {
         if self.failed {
             None
         } else {
-            self.desk.kept_row(now, place)
+            self.context.kept_row(now, place)
         }
     }
 
@@ -121,10 +125,10 @@ impl MobileRole {
         if self.failed {
             return Some(own);
         }
-        match self.desk.standing() {
-            Standing::Detached => None,
-            Standing::AtHome => Some(own),
-            Standing::Away { careof } => Some(careof),
+        match self.context.standing() {
+            Attachment::Detached => None,
+            Attachment::AtHome => Some(own),
+            Attachment::Away { careof } => Some(careof),
         }
     }
 
@@ -135,7 +139,7 @@ impl MobileRole {
         if self.failed {
             None
         } else {
-            self.desk.registered_at(now)
+            self.context.registered_at(now)
         }
     }
 
@@ -143,7 +147,7 @@ impl MobileRole {
     pub fn is_bound(&self, now: Moment, peer: Address) -> bool
         ensures { result ≡ is_some (bound_row_of self.now now.0 peer) }
     {
-        !self.failed && self.desk.is_bound_at(now, peer)
+        !self.failed && self.context.is_bound_at(now, peer)
     }
 
     /// The care-of address that its correspondent part holds for a home.
@@ -154,7 +158,7 @@ impl MobileRole {
         if self.failed {
             None
         } else {
-            self.desk.held_at(now, home)
+            self.context.held_at(now, home)
         }
     }
 
@@ -162,12 +166,12 @@ impl MobileRole {
     pub fn lives_at(&self, address: Address) -> bool
         ensures { result ≡ (((home_of self.now).0 == address.0) && is_at_home self.now.standing) }
     {
-        self.desk.home().0 == address.0 && self.is_at_home()
+        self.context.home().0 == address.0 && self.is_at_home()
     }
 
     fn is_at_home(&self) -> bool
         ensures { result ≡ is_at_home self.now.standing }
     {
-        self.failed || matches!(self.desk.standing(), Standing::AtHome)
+        self.failed || matches!(self.context.standing(), Attachment::AtHome)
     }
 }

@@ -10,27 +10,27 @@ use Rattle.mip_words.specs.declared.address.Address.{Address}
 use Rattle.mip_nonce.specs.Secrets.{Life}
 use Rattle.mip_ipv6.specs.Packet.{names_no_body}
 use Rattle.mip_outside.specs.Places.{Around, claim_in}
-use Rattle.mip_says.specs.Says.{innermost_after, innermost, carried}
+use Rattle.mip_inspection.specs.Says.{innermost_after, innermost, carried}
 use Rattle.mip_entries.specs.declared.entry.Entry.{Entry}
 use Rattle.mip_entries.specs.declared.entry.Entry.TheVariants as entries
 use Rattle.mip_entries.specs.Completed.{node_id}
 use Rattle.mip_entries.specs.Stamped.{Stamped, stamped}
-use Rattle.mip_marks.specs.Sights.{token_in}
+use Rattle.mip_provenance.specs.Sights.{token_in}
 use Rattle.mip_rules_correspondent.specs.declared.identity.Identity.{Identity}
 use Rattle.mip_rules_correspondent.specs.Calls as correspondents
-use Rattle.mip_rules_correspondent.specs.Turns as correspondent_turns
+use Rattle.mip_rules_correspondent.specs.Transitions as correspondent_turns
 use Rattle.mip_rules_correspondent.specs.Steps as correspondent_steps
 use Rattle.mip_rules_correspondent.specs.Doing as correspondent_doing
 use Rattle.mip_rules_correspondent.specs.Seen.{CorrespondentSeen}
 use Rattle.mip_rules_agent.specs.Calls as agents
 use Rattle.mip_rules_agent.specs.Calls.{bytes_of, claim_for}
-use Rattle.mip_rules_agent.specs.Turns as agent_turns
+use Rattle.mip_rules_agent.specs.Transitions as agent_turns
 use Rattle.mip_rules_agent.specs.Steps as agent_steps
 use Rattle.mip_rules_agent.specs.Doing as agent_doing
 use Rattle.mip_rules_agent.proofs.Sayings.{call-says as agent_says}
 use Rattle.mip_rules_mobile.specs.Calls as mobiles
 use Rattle.mip_rules_mobile.specs.MovingRules.{address_under}
-use Rattle.mip_rules_mobile.specs.Turns as mobile_turns
+use Rattle.mip_rules_mobile.specs.Transitions as mobile_turns
 use Rattle.mip_rules_mobile.specs.Steps.{Step, Called, Restarts, answers_of}
 use Rattle.mip_rules_mobile.specs.Known.{Known}
 use Rattle.mip_rules_mobile.specs.Questions.{part_after, after}
@@ -152,7 +152,7 @@ module _ (s : Setup) (n : ℕ) (own : Address) (agent : Option Address) (host_is
     known = mobile_known_in s run n own agent
 
     -- the turn of a call, and the run that has it
-    abbrev turn_at : mobiles.Call → mobile_turns.Turn
+    abbrev turn_at : mobiles.Call → mobile_turns.Transition
     turn_at c = turn_of known (now_in s run) c
 
     abbrev gone : mobiles.Call → List (Stamped Step)
@@ -211,7 +211,7 @@ module _ (s : Setup) (n : ℕ) (own : Address) (agent : Option Address) (host_is
     abbrev secrets : Life
     secrets = secrets_in s n (life_in again.past n)
 
-    abbrev begun_anew : mobile_turns.Turn
+    abbrev begun_anew : mobile_turns.Transition
     begun_anew = turn_at Q again good (mobiles.Restart secrets)
 
     r : IsPartReborn secrets (turn_of (mobile_known_in s again n own agent) (now_in s again) (mobiles.Restart secrets)).steps
@@ -279,7 +279,7 @@ module _ (s : Setup) (Q : Type 0) (n : ℕ) (run : Run) (good : IsGood run) wher
     adds_corresponds : (c : correspondents.Call) → (Q → SendsPlainData c) → Adds s Q run (corresponds c run)
     adds_corresponds c plain =
         let me : Identity = identity_in s run n own room in
-        let turn : correspondent_turns.Turn = correspondent_doing.turn_of me (known_in s run n room) (now_in s run) c in
+        let turn : correspondent_turns.Transition = correspondent_doing.turn_of me (known_in s run n room) (now_in s run) c in
         let next : Run = with_past n (correspondent_turns.with_turn (past_at run n) turn) run in
         let still : IsGood next = record { packets = good.packets; mobiles = good.mobiles } in
         adds_then s Q run next _ (adds_same s Q run next refl refl still)
@@ -299,7 +299,7 @@ module _ (s : Setup) (Q : Type 0) (n : ℕ) (run : Run) (good : IsGood run) wher
 
     adds_serves : (c : agents.Call) → ((t : List ℕ) → token_in (carried (bytes_of c)) ≡ Some t → HasCome run.past n t) → Adds s Q run (serves_by c run)
     adds_serves c came =
-        let turn : agent_turns.Turn = agent_doing.turn_of (agent_of own preference life room) (agent_known_in run n serves) (now_in s run) c in
+        let turn : agent_turns.Transition = agent_doing.turn_of (agent_of own preference life room) (agent_known_in run n serves) (now_in s run) c in
         let next : Run = with_agent_past n (agent_turns.with_turn (agent_past_at run n) turn) run in
         let still : IsGood next = record { packets = good.packets; mobiles = good.mobiles } in
         adds_then s Q run next _ (adds_same s Q run next refl refl still)

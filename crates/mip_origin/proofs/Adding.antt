@@ -17,11 +17,11 @@ use Rattle.mip_entries.specs.Stamped.{Stamped}
 use Rattle.mip_links.specs.Table.{Post}
 use Rattle.mip_rules_mobile.specs.Steps as mobile_steps
 use Rattle.mip_rules_mobile.specs.Part.{PartLife, part_life}
-use Rattle.mip_marks.specs.declared.accepted_update.AcceptedUpdate.{AcceptedUpdate}
-use Rattle.mip_marks.specs.declared.mark.Mark.{Mark}
-use Rattle.mip_marks.specs.declared.mark.Mark.TheVariants.{Origin, Forged}
-use Rattle.mip_marks.specs.Entries.{update_accepted, mark_entry}
-use Rattle.mip_marks.specs.Marks.{mark_in}
+use Rattle.mip_provenance.specs.declared.accepted_update.AcceptedUpdate.{AcceptedUpdate}
+use Rattle.mip_provenance.specs.declared.mark.Mark.{Mark}
+use Rattle.mip_provenance.specs.declared.mark.Mark.TheVariants.{Origin, Forged}
+use Rattle.mip_provenance.specs.Entries.{update_accepted, mark_entry}
+use Rattle.mip_provenance.specs.Marks.{mark_in}
 use Rattle.mip_history.specs.Setup.{Setup}
 use Rattle.mip_history.specs.Setup.Kind.{Mobile}
 use Rattle.mip_history.specs.Runs.{Run, note, notes, mobile_past_at}

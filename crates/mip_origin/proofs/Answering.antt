@@ -4,14 +4,14 @@ use Rattle.std.specs.Prelude.{Option, Some, None, IfSome, is_some}
 use Rattle.std.specs.List.{AllByRecursion}
 use Rattle.std.proofs.lemmas.List.{length-map}
 use Rattle.mip_nonce.specs.Secrets.{Life}
-use Rattle.mip_says.specs.Says.{carried}
+use Rattle.mip_inspection.specs.Says.{carried}
 use Rattle.mip_entries.specs.declared.answer.Answer.{Answer}
 use Rattle.mip_entries.specs.declared.answer.Answer.TheVariants.{Send, Note}
 use Rattle.mip_entries.specs.declared.entry.Entry.{Entry}
 use Rattle.mip_entries.specs.declared.entry.Entry.TheVariants as entries
 use Rattle.mip_entries.specs.Completed.{node_id}
 use Rattle.mip_links.specs.Table.{Post}
-use Rattle.mip_marks.specs.Sights.{token_in}
+use Rattle.mip_provenance.specs.Sights.{token_in}
 use Rattle.mip_history.specs.Setup.{Setup, Kind}
 use Rattle.mip_history.specs.Setup.Kind.{Correspondent, Agent, Mobile}
 use Rattle.mip_history.specs.Runs.{Run}

@@ -10,7 +10,7 @@ use Rattle.mip_entries.specs.declared.entry.Entry.{Entry}
 use Rattle.mip_entries.specs.declared.entry.Entry.TheVariants as entries
 use Rattle.mip_entries.specs.Completed.{node_id}
 use Rattle.mip_entries.specs.Stamped.{Stamped, stamped}
-use Rattle.mip_marks.specs.Sights.{token_in}
+use Rattle.mip_provenance.specs.Sights.{token_in}
 use Rattle.mip_bulist.specs.declared.tested.Test.{Test}
 use Rattle.mip_rules_mobile.specs.Calls as calls
 use Rattle.mip_rules_mobile.specs.Calls.{Call}
@@ -20,7 +20,7 @@ use Rattle.mip_rules_mobile.specs.Known.{Known}
 use Rattle.mip_rules_mobile.specs.Questions.{after}
 use Rattle.mip_rules_mobile.specs.Fitting.{Fits, EachFits}
 use Rattle.mip_rules_mobile.specs.Kept.{WasGiven, GivesHome, GivesCareof, HomeGiven, CareofGiven, CareofFrom, IsMadeFrom}
-use Rattle.mip_says.specs.Says.{carried}
+use Rattle.mip_inspection.specs.Says.{carried}
 use Rattle.mip_history.specs.Bound.{packet_posted, packets_of}
 use Rattle.mip_origin.specs.OwnHistories.{HasCome}
 

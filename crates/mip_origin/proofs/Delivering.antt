@@ -2,15 +2,15 @@
 use Rattle.std.proofs.Common.{◌≡◌, ℕ, zero, suc, List, [], Bool, true, false, refl, sym, ap, ◌∙◌}
 use Rattle.std.specs.Prelude.{Option, Some, None, option_map, slice_get, slice_index_or, if◌then◌else◌}
 use Rattle.std.proofs.lemmas.Option.{slice_get-map}
-use Rattle.mip_says.specs.Says.{carried}
-use Rattle.mip_says.proofs.Sayings.{carried_lowered}
+use Rattle.mip_inspection.specs.Says.{carried}
+use Rattle.mip_inspection.proofs.Sayings.{carried_lowered}
 use Rattle.mip_entries.specs.declared.entry.Entry.TheVariants as entries
 use Rattle.mip_entries.specs.Completed.{node_id}
 use Rattle.mip_links.specs.Table.{Post, delivery, in_pool, outsider_of}
 use Rattle.mip_links.specs.Nets.{lowest_of}
 use Rattle.mip_links.specs.declared.delivery.Delivery.{Delivery}
 use Rattle.mip_links.specs.declared.delivery.Delivery.TheVariants.{Idle, Gone, Outsider, Node}
-use Rattle.mip_marks.specs.Sights.{token_in}
+use Rattle.mip_provenance.specs.Sights.{token_in}
 use Rattle.mip_history.specs.Setup.{Setup}
 use Rattle.mip_history.specs.Runs.{Run, note, without}
 use Rattle.mip_history.specs.Questions.{asked_in}

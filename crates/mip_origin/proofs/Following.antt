@@ -6,8 +6,8 @@ use Rattle.std.proofs.lemmas.List.{append_assoc, append-nil}
 use Rattle.std.proofs.lemmas.Bool.{or_parts}
 use Rattle.mip_entries.specs.declared.entry.Entry.{Entry}
 use Rattle.mip_entries.specs.declared.entry.Entry.TheVariants as entries
-use Rattle.mip_marks.specs.declared.accepted_update.AcceptedUpdate.{AcceptedUpdate}
-use Rattle.mip_marks.specs.Entries.{update_accepted}
+use Rattle.mip_provenance.specs.declared.accepted_update.AcceptedUpdate.{AcceptedUpdate}
+use Rattle.mip_provenance.specs.Entries.{update_accepted}
 use Rattle.mip_origin.specs.Marked.{IsFollowed, EachIsFollowed}
 
 -- an entry of which something is asked, that posts a packet, or that changes the moment or a life

@@ -10,21 +10,21 @@ use Rattle.std.proofs.lemmas.Option.{slice_get-get_or, slice_get_past}
 use Rattle.mip_lists.specs.EachAfter.{EachAfter}
 use Rattle.mip_words.specs.declared.token.Token.{Token}
 use Rattle.mip_lists.proofs.EachLaws.{each_at}
-use Rattle.mip_says.specs.Says.{Carried, Test, Update, Other, carried}
+use Rattle.mip_inspection.specs.Says.{Carried, Test, Update, Other, carried}
 use Rattle.mip_entries.specs.declared.entry.Entry.{Entry}
 use Rattle.mip_entries.specs.declared.entry.Entry.TheVariants as entries
 use Rattle.mip_entries.specs.Completed.{node_id}
-use Rattle.mip_marks.specs.Lists.{first_some}
-use Rattle.mip_marks.specs.Entries.{packet_told, packet_in}
-use Rattle.mip_marks.specs.Sights.Sight.{Sent, Handed}
-use Rattle.mip_marks.specs.Sights.{Sight, token_in, token_at, sight, sights}
-use Rattle.mip_marks.specs.Reached.{says_token, carries, is_handed}
-use Rattle.mip_marks.specs.Names.{is_agent}
-use Rattle.mip_marks.specs.Firsts.{is_post}
-use Rattle.mip_marks.specs.Laws.{WasPosted, IsLawful, AreLawful}
-use Rattle.mip_marks.proofs.ListLaws.{each_before, fold_first}
-use Rattle.mip_marks.proofs.Tokens.{bytes_same}
-use Rattle.mip_marks.proofs.Plain.{packet_first}
+use Rattle.mip_provenance.specs.Lists.{first_some}
+use Rattle.mip_provenance.specs.Entries.{packet_told, packet_in}
+use Rattle.mip_provenance.specs.Sights.Sight.{Sent, Handed}
+use Rattle.mip_provenance.specs.Sights.{Sight, token_in, token_at, sight, sights}
+use Rattle.mip_provenance.specs.Reached.{says_token, carries, is_handed}
+use Rattle.mip_provenance.specs.Names.{is_agent}
+use Rattle.mip_provenance.specs.Firsts.{is_post}
+use Rattle.mip_provenance.specs.Laws.{WasPosted, IsLawful, AreLawful}
+use Rattle.mip_provenance.proofs.ListLaws.{each_before, fold_first}
+use Rattle.mip_provenance.proofs.Tokens.{bytes_same}
+use Rattle.mip_provenance.proofs.Plain.{packet_first}
 use Rattle.mip_history.specs.Setup.{Setup, Kind}
 use Rattle.mip_history.specs.Setup.Kind.{Correspondent, Agent, Mobile}
 use Rattle.mip_history.specs.Bound as bound

@@ -12,20 +12,20 @@ use Rattle.mip_rules_correspondent.specs.Soundness.{IsCareofNonce}
 use Rattle.mip_nonce.specs.Secrets.{Life, kcn_of, nonce_of}
 use Rattle.mip_nonce.specs.Window.{current_of, index_of, IsValidAt}
 use Rattle.mip_tokens.specs.Token.{token_of}
-use Rattle.mip_says.specs.Says.{Test, carried}
+use Rattle.mip_inspection.specs.Says.{Test, carried}
 use Rattle.mip_bcache.specs.declared.accepted.Accepted.{Accepted}
 use Rattle.mip_entries.specs.declared.entry.Entry.{Entry}
 use Rattle.mip_entries.specs.declared.entry.Entry.TheVariants as entries
 use Rattle.mip_schedule.specs.Contents.{Content}
-use Rattle.mip_marks.specs.declared.accepted_update.AcceptedUpdate.{AcceptedUpdate}
-use Rattle.mip_marks.specs.declared.mark.Mark.TheVariants.{Origin}
-use Rattle.mip_marks.specs.declared.maker.Maker.{Maker}
-use Rattle.mip_marks.specs.Entries as marks
-use Rattle.mip_marks.specs.Entries.{update_accepted}
-use Rattle.mip_marks.specs.Marks.{mark_in}
-use Rattle.mip_marks.specs.Origins.{WasSent, HasCareof, HasOrigin}
-use Rattle.mip_marks.proofs.ListLaws.{each_before}
-use Rattle.mip_marks.proofs.Originating.{origin_stands}
+use Rattle.mip_provenance.specs.declared.accepted_update.AcceptedUpdate.{AcceptedUpdate}
+use Rattle.mip_provenance.specs.declared.mark.Mark.TheVariants.{Origin}
+use Rattle.mip_provenance.specs.declared.maker.Maker.{Maker}
+use Rattle.mip_provenance.specs.Entries as marks
+use Rattle.mip_provenance.specs.Entries.{update_accepted}
+use Rattle.mip_provenance.specs.Marks.{mark_in}
+use Rattle.mip_provenance.specs.Origins.{WasSent, HasCareof, HasOrigin}
+use Rattle.mip_provenance.proofs.ListLaws.{each_before}
+use Rattle.mip_provenance.proofs.Originating.{origin_stands}
 use Rattle.mip_history.specs.Setup.{Setup, Host, Kind, part_room, setup_of}
 use Rattle.mip_history.specs.Setup.Kind.{Correspondent, Agent, Mobile}
 use Rattle.mip_history.specs.Questions.{moment_in, restarts}

@@ -12,11 +12,11 @@ use Rattle.mip_nonce.specs.Secrets.{Life, kcn_of, nonce_of}
 use Rattle.mip_nonce.specs.Window.{current_of, index_of}
 use Rattle.mip_tokens.specs.Token.{token_of, home_token_of, careof_token_of}
 use Rattle.mip_tokens.specs.declared.kbm.Kbm.{Kbm}
-use Rattle.mip_says.specs.Says.{Carried, Other, Test, Update, carried}
-use Rattle.mip_signals.specs.Packets.{straight, data_packet}
-use Rattle.mip_signals.specs.Authenticated.{authenticated_packet}
-use Rattle.mip_written.specs.Written.{TestsOf, SaysNoTest}
-use Rattle.mip_written.proofs.Sayings.{message_says, message_says_no_test, data_says_no_test, problem_says_no_test}
+use Rattle.mip_inspection.specs.Says.{Carried, Other, Test, Update, carried}
+use Rattle.mip_packet_builders.specs.Packets.{straight, data_packet}
+use Rattle.mip_packet_builders.specs.Authenticated.{authenticated_packet}
+use Rattle.mip_packet_round_trip.specs.Written.{TestsOf, SaysNoTest}
+use Rattle.mip_packet_round_trip.proofs.Sayings.{message_says, message_says_no_test, data_says_no_test, problem_says_no_test}
 use Rattle.mip_reception.specs.declared.reply.Reply.{Reply}
 use Rattle.mip_reception.specs.declared.reply.Reply.TheVariants.{Nothing, BindingError, ParameterProblem}
 use Rattle.mip_reception.specs.Replies.{reply_packet}

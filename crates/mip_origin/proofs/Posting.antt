@@ -11,8 +11,8 @@ use Rattle.mip_entries.specs.declared.entry.Entry.{Entry}
 use Rattle.mip_entries.specs.declared.entry.Entry.TheVariants as entries
 use Rattle.mip_links.specs.Table.{Post, link_of}
 use Rattle.mip_links.specs.Nets.{is_held_by}
-use Rattle.mip_marks.specs.declared.accepted_update.AcceptedUpdate.{AcceptedUpdate}
-use Rattle.mip_marks.specs.Entries.{update_accepted}
+use Rattle.mip_provenance.specs.declared.accepted_update.AcceptedUpdate.{AcceptedUpdate}
+use Rattle.mip_provenance.specs.Entries.{update_accepted}
 use Rattle.mip_history.specs.Setup.{Setup}
 use Rattle.mip_history.specs.Runs.{Run, note, notes, entered, mobile_past_at}
 use Rattle.mip_history.specs.Questions.{holder_in, hears_in}

@@ -1,12 +1,12 @@
 -- Each `accepted` of a history is followed by its mark.
 use Rattle.std.specs.Prelude.{◌≡◌, List, [], ◌∷◌, ◌++◌, true, Option, Some, None, ⊤}
 use Rattle.mip_entries.specs.declared.entry.Entry.{Entry}
-use Rattle.mip_marks.specs.declared.accepted_update.AcceptedUpdate.{AcceptedUpdate}
-use Rattle.mip_marks.specs.declared.mark.Mark.{Mark}
-use Rattle.mip_marks.specs.declared.mark.Mark.TheVariants.{Origin, Forged}
-use Rattle.mip_marks.specs.Entries.{update_accepted, mark_entry}
-use Rattle.mip_marks.specs.Marks.{mark_in}
-use Rattle.mip_marks.specs.Origins.{HasOrigin}
+use Rattle.mip_provenance.specs.declared.accepted_update.AcceptedUpdate.{AcceptedUpdate}
+use Rattle.mip_provenance.specs.declared.mark.Mark.{Mark}
+use Rattle.mip_provenance.specs.declared.mark.Mark.TheVariants.{Origin, Forged}
+use Rattle.mip_provenance.specs.Entries.{update_accepted, mark_entry}
+use Rattle.mip_provenance.specs.Marks.{mark_in}
+use Rattle.mip_provenance.specs.Origins.{HasOrigin}
 use Rattle.mip_history.specs.Setup.{Setup}
 use Rattle.mip_history.specs.Bound.{is_accepted}
 use Rattle.mip_origin.specs.Origins.{IsOriginOf}

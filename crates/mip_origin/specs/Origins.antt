@@ -6,8 +6,8 @@ use Rattle.mip_nonce.specs.Secrets.{kcn_of, nonce_of}
 use Rattle.mip_tokens.specs.Token.{token_of}
 use Rattle.mip_bcache.specs.declared.accepted.Accepted.{Accepted}
 use Rattle.mip_entries.specs.declared.entry.Entry.{Entry}
-use Rattle.mip_marks.specs.declared.accepted_update.AcceptedUpdate.{AcceptedUpdate}
-use Rattle.mip_marks.specs.Origins.{HasOrigin}
+use Rattle.mip_provenance.specs.declared.accepted_update.AcceptedUpdate.{AcceptedUpdate}
+use Rattle.mip_provenance.specs.Origins.{HasOrigin}
 use Rattle.mip_history.specs.Setup.{Setup}
 use Rattle.mip_history.specs.Bound.{IsAccepted, accepted_entry}
 use Rattle.mip_origin.specs.OwnHistories.{life_of}

@@ -5,14 +5,14 @@ use Rattle.std.specs.List.{AllByRecursion}
 use Rattle.mip_words.specs.declared.token.Token.{Token}
 use Rattle.mip_nonce.specs.Secrets.{Life}
 use Rattle.mip_ipv6.specs.Packet.{names_no_body}
-use Rattle.mip_says.specs.Says.{carried}
+use Rattle.mip_inspection.specs.Says.{carried}
 use Rattle.mip_entries.specs.declared.entry.Entry.{Entry}
 use Rattle.mip_entries.specs.declared.entry.Entry.TheVariants as entries
 use Rattle.mip_entries.specs.Completed.{node_id}
 use Rattle.mip_schedule.specs.Contents.{Content}
 use Rattle.mip_schedule.specs.declared.event.Event.{Event}
 use Rattle.mip_schedule.specs.declared.event.Event.TheVariants.{Payload}
-use Rattle.mip_marks.specs.Sights.{token_in}
+use Rattle.mip_provenance.specs.Sights.{token_in}
 use Rattle.mip_history.specs.Setup.{Setup, Host, Kind}
 use Rattle.mip_history.specs.Setup.Kind.{Correspondent, Agent, Mobile}
 use Rattle.mip_history.specs.Questions.{moment_in, life_in}

@@ -8,12 +8,12 @@ ghost use Rattle.mip_rules_correspondent.specs.declared.identity.Identity.{Ident
 ghost use Rattle.mip_rules_correspondent.specs.declared.known.Known.{Known};
 ghost use Rattle.mip_rules_correspondent.specs.Calls.{Call};
 ghost use Rattle.mip_rules_correspondent.specs.Doing.{turn_of};
-ghost use Rattle.mip_marks.specs.declared.accepted_update.AcceptedUpdate.{AcceptedUpdate};
-ghost use Rattle.mip_marks.specs.declared.mark.Mark.TheVariants.{Origin};
-ghost use Rattle.mip_marks.specs.Entries.{update_accepted};
-ghost use Rattle.mip_marks.specs.Marks.{mark_in};
+ghost use Rattle.mip_provenance.specs.declared.accepted_update.AcceptedUpdate.{AcceptedUpdate};
+ghost use Rattle.mip_provenance.specs.declared.mark.Mark.TheVariants.{Origin};
+ghost use Rattle.mip_provenance.specs.Entries.{update_accepted};
+ghost use Rattle.mip_provenance.specs.Marks.{mark_in};
 ghost use Rattle.mip_history.specs.Setup.{setup_of};
-ghost use Rattle.mip_marks.specs.Origins.{HasOrigin};
+ghost use Rattle.mip_provenance.specs.Origins.{HasOrigin};
 ghost use Rattle.mip_lists.specs.EachAfter.{EachAfter};
 ghost use Rattle.mip_history.specs.Passing.{waited_by};
 ghost use Rattle.mip_history.specs.Permitted.{permitted};

@@ -1,7 +1,7 @@
 -- The text of a history in two pieces.
 use Rattle.std.proofs.Common.{◌≡◌, ℕ, List, [], ◌∷◌, ◌++◌, refl, sym, ap, ◌∙◌}
 use Rattle.std.proofs.lemmas.List.{append_assoc}
-use Rattle.mip_declared.specs.declared.declaration.Declaration.{Declaration}
+use Rattle.mip_symbols.specs.declared.declaration.Declaration.{Declaration}
 use Rattle.mip_entries.specs.declared.entry.Entry.{Entry}
 use Rattle.mip_proxynd.specs.Text.{advert_of, adverts}
 

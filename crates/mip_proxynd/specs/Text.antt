@@ -5,10 +5,10 @@ use Rattle.std.specs.Map.{values_of}
 use Rattle.mip_words.specs.declared.address.Address.{Address}
 use Rattle.mip_lines.specs.HexFields.{address_hex, hex_text}
 use Rattle.mip_lines.specs.Lines.{line_text}
-use Rattle.mip_declared.specs.Places.{members}
-use Rattle.mip_declared.specs.Spelled.{link_text, node_text, outsider_text}
-use Rattle.mip_declared.specs.declared.declaration.Declaration.{Declaration}
-use Rattle.mip_declared.specs.declared.places.Sort.TheVariants as sorts
+use Rattle.mip_symbols.specs.Places.{members}
+use Rattle.mip_symbols.specs.Spelled.{link_text, node_text, outsider_text}
+use Rattle.mip_symbols.specs.declared.declaration.Declaration.{Declaration}
+use Rattle.mip_symbols.specs.declared.places.Sort.TheVariants as sorts
 use Rattle.mip_entries.specs.declared.entry.Entry.{Entry}
 use Rattle.mip_entries.specs.declared.entry.Entry.TheVariants.{Claimed}
 use Rattle.mip_proxynd.specs.declared.claim.Claim.{Claim}

@@ -6,8 +6,8 @@ ghost use Rattle.mip_proxynd.specs.Text.{holds_line, holds_of, holds_on, holds};
 use crate::claim::Claim;
 use crate::packets::layer_of;
 use crate::standing::Standing;
-use mip_declared::{Declaration, Sort, count, link_name};
 use mip_lines::put_line_hex;
+use mip_symbols::{Declaration, Sort, count, link_name};
 use mip_words::{Bytes, Memory};
 
 /// Appends the line of a claim.

@@ -12,8 +12,8 @@ ghost use Rattle.mip_proxynd.specs.Spelling.{neighbour_bytes};
 use crate::neighbour::Neighbour;
 use crate::reading::{NEAR, PROTO};
 use crate::writing::write_neighbour;
-use mip_declared::{Declaration, Sort, member};
 use mip_ipv6::{Head, WriteFault, write_packet};
+use mip_symbols::{Declaration, Sort, member};
 use mip_words::{Address, Bytes, Memory};
 use std::alloc::Global;
 

@@ -10,9 +10,9 @@ use crate::fields::is_group;
 use crate::holding::put_holds;
 use crate::packets::{OUTSIDER, advert_packet, answer_packet, solicit_packet};
 use crate::standing::Standing;
-use mip_declared::{Declaration, link_name, node_name, outsider_name};
 use mip_entries::Entry;
 use mip_lines::{put_line, put_line_hex};
+use mip_symbols::{Declaration, link_name, node_name, outsider_name};
 use mip_words::{Address, Bytes, Memory, NodeId};
 use std::alloc::Global;
 

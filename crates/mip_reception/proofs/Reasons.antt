@@ -12,7 +12,7 @@ use Rattle.mip_mobhdr.specs.Said.{Said}
 use Rattle.mip_mobhdr.specs.Reading.{message_of}
 use Rattle.mip_entries.specs.Reasons.{is_dropped_why}
 use Rattle.mip_reception.specs.declared.refusal.Refusal.{Refusal}
-use Rattle.mip_reception.specs.declared.standing.Standing.{Standing}
+use Rattle.mip_reception.specs.declared.address_match.AddressMatch.{AddressMatch}
 use Rattle.mip_reception.specs.Words.{packet_why, message_why}
 use Rattle.mip_reception.specs.Checks.{message_or_refusal, message_at, is_probe, is_update, with_home, then_home, checked}
 
@@ -56,12 +56,12 @@ message-right place p =
     by (Ok m) = tt
     by (Err fault) = message_why-dropped fault
 
-pub checked-right : (s : Standing) (place : ℕ) (p : Packet) → RefusesRight (checked s place p)
+pub checked-right : (s : AddressMatch) (place : ℕ) (p : Packet) → RefusesRight (checked s place p)
 unfolding checked
 checked-right s place p =
     cond_both (not s.is_mine) _ _ RefusesRight (λ other. refl) (λ mine.
     cond_both (is_some p.head.route && not s.takes_route) _ _ RefusesRight (λ routed. refl) (λ straight.
     then-right s.holds p.head.home (message_at place p) (message-right place p)))
 
-pub refused-right : (s : Standing) (place : ℕ) (p : Packet) (refusal : Refusal) → checked s place p ≡ Err refusal → is_dropped_why refusal.why ≡ true
+pub refused-right : (s : AddressMatch) (place : ℕ) (p : Packet) (refusal : Refusal) → checked s place p ≡ Err refusal → is_dropped_why refusal.why ≡ true
 refused-right s place p refusal e = subst RefusesRight e (checked-right s place p)

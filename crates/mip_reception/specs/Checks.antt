@@ -13,7 +13,7 @@ use Rattle.mip_mobhdr.specs.Reading.{message_of}
 use Rattle.mip_reception.specs.declared.reply.Reply.{Reply}
 use Rattle.mip_reception.specs.declared.reply.Reply.TheVariants.{Nothing, BindingError, ParameterProblem}
 use Rattle.mip_reception.specs.declared.refusal.Refusal.{Refusal}
-use Rattle.mip_reception.specs.declared.standing.Standing.{Standing}
+use Rattle.mip_reception.specs.declared.address_match.AddressMatch.{AddressMatch}
 use Rattle.mip_reception.specs.Words.{message_why}
 
 -- refused without an answer
@@ -67,7 +67,7 @@ then_home holds home (Ok message) = with_home holds home message
 
 -- the checks in their order: the destination, the routing header, the message, the Home Address option. What passes
 -- is the message, if the packet has one
-unfoldable pub checked : Standing → ℕ → Packet → Result (Option Said) Refusal
+unfoldable pub checked : AddressMatch → ℕ → Packet → Result (Option Said) Refusal
 checked standing place p =
     if not standing.is_mine then Err (silent whys.Address)
     else if is_some p.head.route && not standing.takes_route then Err (silent whys.Route)

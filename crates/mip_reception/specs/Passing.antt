@@ -6,7 +6,7 @@ use Rattle.mip_ipv6.specs.Packet.{Packet}
 use Rattle.mip_mobhdr.specs.Said.{Said}
 use Rattle.mip_reception.specs.declared.reply.Reply.TheVariants.{BindingError}
 use Rattle.mip_reception.specs.declared.refusal.Refusal.{Refusal}
-use Rattle.mip_reception.specs.declared.standing.Standing.{Standing}
+use Rattle.mip_reception.specs.declared.address_match.AddressMatch.{AddressMatch}
 use Rattle.mip_reception.specs.Checks.{silent, message_at, is_probe, is_update, checked}
 
 -- a Home Address option may stand with a message: never with a test init; else in an update, or where the binding stands
@@ -15,14 +15,14 @@ IsAllowed holds None message = ⊤
 IsAllowed holds (Some home) message = IsFalse (is_probe message) × IsTrue (is_update message || holds)
 
 -- no row refuses the packet, whose message is this one
-pub record Passes (standing : Standing) (place : ℕ) (p : Packet) (passed : Option Said) : Type 0 where
+pub record Passes (standing : AddressMatch) (place : ℕ) (p : Packet) (passed : Option Said) : Type 0 where
   pub address : IsTrue standing.is_mine
   pub route : IsFalse (is_some p.head.route && not standing.takes_route)
   pub message : message_at place p ≡ Ok passed
   pub home : IsAllowed standing.holds p.head.home passed
 
 -- the refusals, each where the rows before it do not apply
-pub record RefusesInOrder (standing : Standing) (place : ℕ) (p : Packet) : Type 0 where
+pub record RefusesInOrder (standing : AddressMatch) (place : ℕ) (p : Packet) : Type 0 where
   -- the destination is none of the node's addresses
   pub address : IsFalse standing.is_mine → checked standing place p ≡ Err (silent whys.Address)
   -- a routing header stands there, and the node is no away mobile whose home it names

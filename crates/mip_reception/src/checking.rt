@@ -6,12 +6,12 @@ ghost use Rattle.mip_constants.specs.Protocols.{mobility_header};
 ghost use Rattle.mip_words.specs.Steps.{Gives};
 ghost use Rattle.mip_ipv6.specs.Packet.{packet as tree};
 ghost use Rattle.mip_mobhdr.specs.Said.{said};
-ghost use Rattle.mip_says.specs.Updates.{IsReadUpdate};
+ghost use Rattle.mip_inspection.specs.Updates.{IsReadUpdate};
 ghost use Rattle.mip_reception.specs.Checks.{silent, fault_reply, message_at, is_probe, is_update, with_home, checked};
 
+use crate::address_match::AddressMatch;
 use crate::refusal::Refusal;
 use crate::reply::Reply;
-use crate::standing::Standing;
 use crate::wording::message_why;
 use mip_constants::protocol::MOBILITY_HEADER;
 use mip_ipv6::PacketRef;
@@ -44,7 +44,7 @@ fn fault_reply(place: u32, home: Option<Address>, fault: Fault) -> Reply
 }
 
 /// The mobility message of a packet, none in a packet of another kind.
-#[tactic(auto, unfolding(crate::specs::Checks::message_at), using(mip_says::proofs::Updates::read_update))]
+#[tactic(auto, unfolding(crate::specs::Checks::message_at), using(mip_inspection::proofs::Updates::read_update))]
 fn message_at<'a>(packet: &PacketRef<'a>) -> Result<Option<Message<'a>>, Refusal>
     requires { packet.now.place < 2 ^ 32 - 1 }
     ensures exact { Gives (option_map said) result (message_at packet.now.place (tree packet.now)) }
@@ -105,7 +105,10 @@ fn allow_home(
 /// The checks in their order: the destination, the routing header, the message, the Home Address option. What passes
 /// is the message, where the packet has one.
 #[tactic(auto, unfolding(crate::specs::Checks::checked))]
-pub fn check<'a>(packet: &PacketRef<'a>, standing: Standing) -> Result<Option<Message<'a>>, Refusal>
+pub fn check<'a>(
+    packet: &PacketRef<'a>,
+    standing: AddressMatch,
+) -> Result<Option<Message<'a>>, Refusal>
     requires { packet.now.place < 2 ^ 32 - 1 }
     ensures exact { Gives (option_map said) result (checked standing packet.now.place (tree packet.now)) }
     // There is a message exactly where the packet has a Mobility Header.

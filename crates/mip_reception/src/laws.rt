@@ -6,27 +6,27 @@ ghost use Rattle.mip_ipv6.specs.Packet.{Packet};
 ghost use Rattle.mip_mobhdr.specs.declared.fault.Fault.{Fault};
 ghost use Rattle.mip_mobhdr.specs.Said.{Said};
 ghost use Rattle.mip_reception.specs.Pointer.{pointer_of};
-ghost use Rattle.mip_reception.specs.declared.standing.Standing.{Standing};
+ghost use Rattle.mip_reception.specs.declared.address_match.AddressMatch.{AddressMatch};
 ghost use Rattle.mip_reception.specs.declared.reply.Reply.TheVariants.{ParameterProblem};
 ghost use Rattle.mip_reception.specs.Checks.{fault_reply, is_probe, is_update, checked};
 ghost use Rattle.mip_reception.specs.Passing.{Passes, RefusesInOrder};
 
 /// A packet passes exactly where no row refuses it.
 pub fn passes_where_nothing_refuses()
-    ensures { (standing : Standing) (place : ℕ) (p : Packet) (m : Option Said) → (checked standing place p ≡ Ok m) ↔ Passes standing place p m }
+    ensures { (standing : AddressMatch) (place : ℕ) (p : Packet) (m : Option Said) → (checked standing place p ≡ Ok m) ↔ Passes standing place p m }
 {}
 
 /// Each refusal comes where its row says, and no row before it applies.
 pub fn refusals_in_order()
-    ensures { (standing : Standing) (place : ℕ) (p : Packet) → RefusesInOrder standing place p }
+    ensures { (standing : AddressMatch) (place : ℕ) (p : Packet) → RefusesInOrder standing place p }
 {}
 
 /// A packet that passes with a Home Address option brings no test init, and where no binding from its home to its
 /// source stands it brings an update.
 pub fn unheld_homes_bring_updates_alone()
-    ensures probe { (standing : Standing) (place : ℕ) (p : Packet) (m : Option Said) (home : Address)
+    ensures probe { (standing : AddressMatch) (place : ℕ) (p : Packet) (m : Option Said) (home : Address)
         → checked standing place p ≡ Ok m → p.head.home ≡ Some home → IsFalse (is_probe m) }
-    ensures update { (standing : Standing) (place : ℕ) (p : Packet) (m : Option Said) (home : Address)
+    ensures update { (standing : AddressMatch) (place : ℕ) (p : Packet) (m : Option Said) (home : Address)
         → checked standing place p ≡ Ok m → p.head.home ≡ Some home → IsFalse standing.holds → IsTrue (is_update m) }
 {}
 

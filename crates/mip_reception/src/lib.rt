@@ -2,14 +2,15 @@
 //! a packet that is refused (RFC 6275 sections 9.2 and 9.3).
 #![tactic(auto)]
 
+mod address_match;
 mod checking;
 mod laws;
 mod refusal;
 mod reply;
 mod replying;
-mod standing;
 mod wording;
 
+pub use address_match::AddressMatch;
 pub use checking::check;
 pub use laws::{
     passes_where_nothing_refuses, problems_point_to_the_fault, refusals_in_order,
@@ -18,5 +19,4 @@ pub use laws::{
 pub use refusal::Refusal;
 pub use reply::Reply;
 pub use replying::write_reply;
-pub use standing::Standing;
 pub use wording::{message_why, packet_why};

@@ -1,4 +1,4 @@
-//! Home registration of a mobile node (RFC 6275 sections 11.4, 11.5 and 11.7.1), as rules over the desk of a call.
+//! Home registration of a mobile node (RFC 6275 sections 11.4, 11.5 and 11.7.1), as rules over the context of a call.
 #![tactic(auto)]
 
 mod asking;

@@ -9,7 +9,9 @@ use mip_constants::protocol::{ICMPV6, MOBILITY_HEADER};
 use mip_icmp::{PlainIcmp, write_icmp};
 use mip_mobhdr::Plain;
 use mip_options::OptionSet;
-use mip_signals::{NO_OPTIONS, node_head, straight, write_data_packet, write_message_packet};
+use mip_packet_builders::{
+    NO_OPTIONS, node_head, straight, write_data_packet, write_message_packet,
+};
 use mip_words::{Address, Bytes, Memory};
 use std::alloc::Global;
 

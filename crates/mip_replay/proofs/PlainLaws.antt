@@ -10,7 +10,7 @@ use Rattle.mip_schedule.specs.Contents.{Content}
 use Rattle.mip_schedule.specs.EventTimes.{waited}
 use Rattle.mip_schedule.specs.Lawful.{IsEvent}
 use Rattle.mip_schedule.proofs.LawfulLaws.{read_so}
-use Rattle.mip_declared.specs.declared.declaration.Declaration.{Declaration}
+use Rattle.mip_symbols.specs.declared.declaration.Declaration.{Declaration}
 use Rattle.mip_schedule.specs.declared.event.Event.{Event}
 use Rattle.mip_schedule.specs.declared.event.Event.TheVariants.{Payload}
 use Rattle.mip_schedule.specs.Reading.{reading}

@@ -11,11 +11,11 @@ use Rattle.mip_schedule.specs.Contents.{Content, holding}
 use Rattle.mip_schedule.specs.EventTimes.{wait_of, waited, carried, is_reserved, is_packet, misfit, untimely}
 use Rattle.mip_schedule.specs.Lawful.{IsEvent, IsLawful, IsLink, IsNode, IsOutsider}
 use Rattle.mip_schedule.specs.Versions.{is_numbered, numbers_in}
-use Rattle.mip_declared.specs.Places.{AreFew}
-use Rattle.mip_declared.specs.declared.declaration.Declaration.{Declaration}
+use Rattle.mip_symbols.specs.Places.{AreFew}
+use Rattle.mip_symbols.specs.declared.declaration.Declaration.{Declaration}
 use Rattle.mip_schedule.specs.declared.event.Event.{Event}
 use Rattle.mip_schedule.specs.declared.event.Event.TheVariants.{Wait, Advertise, Payload, Inject, Bind, Listen, Deaf, Squat, Yield, Restart, Settle}
-use Rattle.mip_declared.specs.declared.reason.Reason.TheVariants as reasons
+use Rattle.mip_symbols.specs.declared.reason.Reason.TheVariants as reasons
 use Rattle.mip_history.specs.Setup.{setup_of, links_in}
 use Rattle.mip_history.specs.Questions.{moment_in, life_in}
 use Rattle.mip_history.specs.Permitted.{permitted, run_of}

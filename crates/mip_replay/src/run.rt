@@ -4,7 +4,7 @@ ghost use Rattle.std.specs.Prelude.{◌≡◌, [], IfOk, OnOk};
 ghost use Rattle.mip_history.specs.Setup.{setup_of};
 ghost use Rattle.mip_history.specs.Permitted.{permitted, run_of};
 ghost use Rattle.mip_schedule.specs.Lawful.{IsLawful};
-ghost use Rattle.mip_declared.specs.Places.{AreFew};
+ghost use Rattle.mip_symbols.specs.Places.{AreFew};
 ghost use Rattle.mip_schedule.specs.Schedules.{content};
 ghost use Rattle.mip_origin.specs.Marked.{EachIsMarked};
 ghost use Rattle.mip_delivery.specs.Reached.{EachReaches};

@@ -1,7 +1,7 @@
 -- Why a line is bad, as it is told.
 use Rattle.std.specs.Prelude.{ℕ, List, codes}
-use Rattle.mip_declared.specs.declared.reason.Reason.{Reason}
-use Rattle.mip_declared.specs.declared.reason.Reason.TheVariants as reasons
+use Rattle.mip_symbols.specs.declared.reason.Reason.{Reason}
+use Rattle.mip_symbols.specs.declared.reason.Reason.TheVariants as reasons
 
 abbrev pub reason_word : Reason → List ℕ
 reason_word reasons.Form = codes "form"

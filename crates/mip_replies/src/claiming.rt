@@ -9,12 +9,12 @@ ghost use Rattle.mip_proxynd.specs.Claims.{rows_in};
 ghost use Rattle.mip_proxynd.specs.Text.{adverts, end_text};
 ghost use Rattle.mip_replies.specs.Answers.{claims_of};
 
-use mip_declared::Declaration;
 use mip_outside::{PutFault, Sink};
 use mip_printing::write_text;
 use mip_proxynd::{Standing, tell_end, tell_entries};
 use mip_replay::Run;
 use mip_schedule::Schedule;
+use mip_symbols::Declaration;
 use mip_words::{Address, Bytes};
 use std::alloc::Global;
 

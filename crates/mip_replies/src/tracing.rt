@@ -11,9 +11,9 @@ ghost use Rattle.mip_replies.specs.Answers.{trace_of};
 use mip_outside::{PutFault, Sink};
 use mip_printing::write_entries;
 use mip_replay::Run;
-use mip_reread::trace_is_read_back;
 use mip_schedule::Schedule;
 use mip_trace::NameTable;
+use mip_trace_round_trip::trace_is_read_back;
 use mip_words::Bytes;
 use std::alloc::Global;
 

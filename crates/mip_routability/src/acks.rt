@@ -7,8 +7,8 @@ ghost use Rattle.mip_bulist.specs.declared.trial.Trial.{Trial};
 ghost use Rattle.mip_rules_mobile.specs.HomeQuestions.{home_of};
 ghost use Rattle.mip_rules_mobile.specs.RowQuestions.{trial_of};
 ghost use Rattle.mip_rules_mobile.specs.PeerRules.{tells_of_nonces, is_genuine, is_trusted, acknowledges, binds_from, ends_for, is_granted, takes_peer_ack, acks_trial, takes_ack_of};
-ghost use Rattle.mip_rules_mobile.specs.Turns.{Turn};
-ghost use Rattle.mip_desk.specs.Seen.{Shows};
+ghost use Rattle.mip_rules_mobile.specs.Transitions.{Transition};
+ghost use Rattle.mip_call_context.specs.Seen.{Shows};
 ghost use Rattle.mip_routability.specs.Waits.{IsOf};
 
 use crate::peer_ack::PeerAck;
@@ -16,8 +16,8 @@ use crate::peers::rest;
 use crate::trials::{start, update};
 use crate::waiting::Waiting;
 use mip_bulist::{Any, Pending, Trial, Work};
+use mip_call_context::CallContext;
 use mip_constants::{INITIAL_BINDACK_TIMEOUT, LIFETIME_UNIT};
-use mip_desk::Desk;
 use mip_tokens::{PreparedKbm, authenticator};
 use mip_updates::status;
 use mip_words::{Address, Memory, Moment, Why};
@@ -30,40 +30,40 @@ pub const REFRESH_UNIT: u64 = 3_000;
 /// An acknowledgement of a peer.
 pub fn take_ack_of(
     alloc: Global,
-    desk: &mut Desk,
+    context: &mut CallContext,
     number: u64,
     peer: Address,
     ack: &PeerAck<'_>,
 ) -> Result<(), Memory>
-    ensures { (t : Turn) → Shows desk.old t
-        → OnOk result (Shows desk.new (takes_ack_of number peer ack.now.status ack.now.sequence ack.now.lifetime ack.now.authenticator ack.now.message.now t)) }
+    ensures { (t : Transition) → Shows context.old t
+        → OnOk result (Shows context.new (takes_ack_of number peer ack.now.status ack.now.sequence ack.now.lifetime ack.now.authenticator ack.now.message.now t)) }
 {
-    match desk.row_of(peer) {
-        Some(row) => ack_row(alloc, desk, number, row, ack),
-        None => desk.drop_packet(number, Why::Ack),
+    match context.row_of(peer) {
+        Some(row) => ack_row(alloc, context, number, row, ack),
+        None => context.drop_packet(number, Why::Ack),
     }
 }
 
 /// An acknowledgement for a row: of its trial's last update, or nobody's.
 fn ack_row(
     alloc: Global,
-    desk: &mut Desk,
+    context: &mut CallContext,
     number: u64,
     row: u8,
     ack: &PeerAck<'_>,
 ) -> Result<(), Memory>
     requires { row < 16 }
-    ensures { (t : Turn) → Shows desk.old t
-        → OnOk result (Shows desk.new (acks_trial number row (home_of desk.old.known) ack.now.status ack.now.sequence ack.now.lifetime ack.now.authenticator ack.now.message.now (trial_of desk.old.known row) t)) }
+    ensures { (t : Transition) → Shows context.old t
+        → OnOk result (Shows context.new (acks_trial number row (home_of context.old.known) ack.now.status ack.now.sequence ack.now.lifetime ack.now.authenticator ack.now.message.now (trial_of context.old.known row) t)) }
 {
-    let home = desk.home();
-    let sent = desk.sent_at(row);
-    match desk.trial(row) {
+    let home = context.home();
+    let sent = context.sent_at(row);
+    match context.trial(row) {
         Some(Any::Pending(trial)) if acknowledges(home, ack, trial) => {
             let waiting = Waiting::of(trial, sent);
-            take_peer_ack(alloc, desk, row, &waiting, ack)
+            take_peer_ack(alloc, context, row, &waiting, ack)
         }
-        _ => desk.drop_packet(number, Why::Ack),
+        _ => context.drop_packet(number, Why::Ack),
     }
 }
 
@@ -109,34 +109,34 @@ fn acknowledges(home: Address, ack: &PeerAck<'_>, trial: &Trial<Pending>) -> boo
 #[tactic(auto, unfolding(mip_rules_mobile::specs::PeerRules::takes_peer_ack))]
 fn take_peer_ack(
     alloc: Global,
-    desk: &mut Desk,
+    context: &mut CallContext,
     row: u8,
     waiting: &Waiting,
     ack: &PeerAck<'_>,
 ) -> Result<(), Memory>
     requires range { row < 16 }
     requires early { waiting.now.sent.0 < 2 ^ 62 }
-    ensures { (u : Trial pending.Pending) (t : Turn) → IsOf waiting.now t.now u → Shows desk.old t
-        → OnOk result (Shows desk.new (takes_peer_ack row u ack.now.status ack.now.sequence ack.now.lifetime t)) }
+    ensures { (u : Trial pending.Pending) (t : Transition) → IsOf waiting.now t.now u → Shows context.old t
+        → OnOk result (Shows context.new (takes_peer_ack row u ack.now.status ack.now.sequence ack.now.lifetime t)) }
 {
     if ack.status < 128 {
-        return grant(desk, row, waiting, ack.sequence, ack.lifetime);
+        return grant(context, row, waiting, ack.sequence, ack.lifetime);
     }
     if ack.status == status::SEQUENCE_OUT_OF_WINDOW {
-        desk.resequence_trial(row, ack.sequence);
-        return update(alloc, desk, row, INITIAL_BINDACK_TIMEOUT);
+        context.resequence_trial(row, ack.sequence);
+        return update(alloc, context, row, INITIAL_BINDACK_TIMEOUT);
     }
     if tells_of_nonces(ack.status) {
-        return start(alloc, desk, row);
+        return start(alloc, context, row);
     }
-    rest(desk, row);
+    rest(context, row);
     Ok(())
 }
 
 /// The peer accepts: it has the binding, or has none any more.
 #[tactic(auto, unfolding(mip_rules_mobile::specs::PeerRules::is_granted))]
 fn grant(
-    desk: &mut Desk,
+    context: &mut CallContext,
     row: u8,
     waiting: &Waiting,
     sequence: u16,
@@ -144,36 +144,36 @@ fn grant(
 ) -> Result<(), Memory>
     requires range { row < 16 }
     requires early { waiting.now.sent.0 < 2 ^ 62 }
-    ensures { (u : Trial pending.Pending) (t : Turn) → IsOf waiting.now t.now u → Shows desk.old t → OnOk result (Shows desk.new (is_granted row u sequence lifetime t)) }
+    ensures { (u : Trial pending.Pending) (t : Transition) → IsOf waiting.now t.now u → Shows context.old t → OnOk result (Shows context.new (is_granted row u sequence lifetime t)) }
 {
-    desk.stop(Work::Resend(row));
-    desk.acknowledge_trial(row, sequence, lifetime);
-    end(desk, row, waiting, lifetime)
+    context.stop(Work::Resend(row));
+    context.acknowledge_trial(row, sequence, lifetime);
+    end(context, row, waiting, lifetime)
 }
 
-fn end(desk: &mut Desk, row: u8, waiting: &Waiting, lifetime: u16) -> Result<(), Memory>
+fn end(context: &mut CallContext, row: u8, waiting: &Waiting, lifetime: u16) -> Result<(), Memory>
     requires range { row < 16 }
     requires early { waiting.now.sent.0 < 2 ^ 62 }
-    ensures { (u : Trial pending.Pending) (t : Turn) → IsOf waiting.now t.now u → Shows desk.old t → OnOk result (Shows desk.new (ends_for waiting.now.binds_to u row lifetime t)) }
+    ensures { (u : Trial pending.Pending) (t : Transition) → IsOf waiting.now t.now u → Shows context.old t → OnOk result (Shows context.new (ends_for waiting.now.binds_to u row lifetime t)) }
 {
     match waiting.binds_to {
         Some(_) if lifetime == 0 => Ok(()),
-        Some(_) => bind(desk, row, waiting, lifetime),
+        Some(_) => bind(context, row, waiting, lifetime),
         None => {
-            desk.forget(row);
+            context.forget(row);
             Ok(())
         }
     }
 }
 
 /// The binding: its end is counted from the sending, and so is its renewal.
-fn bind(desk: &mut Desk, row: u8, waiting: &Waiting, lifetime: u16) -> Result<(), Memory>
+fn bind(context: &mut CallContext, row: u8, waiting: &Waiting, lifetime: u16) -> Result<(), Memory>
     requires range { row < 16 }
     requires early { waiting.now.sent.0 < 2 ^ 62 }
-    ensures { (u : Trial pending.Pending) (t : Turn) → IsOf waiting.now t.now u → Shows desk.old t → OnOk result (Shows desk.new (binds_from u row lifetime t)) }
+    ensures { (u : Trial pending.Pending) (t : Transition) → IsOf waiting.now t.now u → Shows context.old t → OnOk result (Shows context.new (binds_from u row lifetime t)) }
 {
     let units = lifetime as u64;
     let end = Moment(waiting.sent.0 + LIFETIME_UNIT * units);
     let renew = Moment(waiting.sent.0 + REFRESH_UNIT * units);
-    desk.bind(row, waiting.peer, end, renew)
+    context.bind(row, waiting.peer, end, renew)
 }

@@ -1,4 +1,4 @@
-//! Return routability of a mobile node (RFC 6275 sections 11.3.6, 11.6, 11.7 and 11.8), as rules over the desk of a call.
+//! Return routability of a mobile node (RFC 6275 sections 11.3.6, 11.6, 11.7 and 11.8), as rules over the context of a call.
 #![tactic(auto)]
 
 mod acks;

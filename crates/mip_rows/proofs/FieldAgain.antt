@@ -19,12 +19,12 @@ use Rattle.mip_words.proofs.HexLaws.{length-hex_of}
 use Rattle.mip_lines.specs.HexFields.{address_hex, hex_text}
 use Rattle.mip_lines.proofs.HexFieldLaws.{unhex_exact-again, address_in-again, hex_field-again}
 use Rattle.mip_lines.proofs.Numbers.{number-again}
-use Rattle.mip_declared.specs.Names.{is_name}
-use Rattle.mip_declared.specs.Places.{AreFew, NamesFound, name_at}
-use Rattle.mip_declared.specs.declared.declaration.Declaration.{Declaration}
-use Rattle.mip_declared.specs.declared.places.Sort.TheVariants as sorts
-use Rattle.mip_declared.specs.declared.reason.Reason.{Reason}
-use Rattle.mip_declared.specs.declared.reason.Reason.TheVariants as reasons
+use Rattle.mip_symbols.specs.Names.{is_name}
+use Rattle.mip_symbols.specs.Places.{AreFew, NamesFound, name_at}
+use Rattle.mip_symbols.specs.declared.declaration.Declaration.{Declaration}
+use Rattle.mip_symbols.specs.declared.places.Sort.TheVariants as sorts
+use Rattle.mip_symbols.specs.declared.reason.Reason.{Reason}
+use Rattle.mip_symbols.specs.declared.reason.Reason.TheVariants as reasons
 use Rattle.mip_rows.specs.Fields as kinds
 use Rattle.mip_rows.specs.Fields.{or_reason, or_none, node_or_outsider, number, moment, address, token, bytes, place, link, node, outsider, who, some_link, some_address, some_token, some_u64, some_u16, shield, answer, why}
 use Rattle.mip_rows.specs.Texts.{or_dash, token_hex, shield_mark, yes_or_no}

@@ -16,13 +16,13 @@ use Rattle.mip_mobhdr.specs.Said as mobility
 use Rattle.mip_icmp.specs.Reading.{icmp_of}
 use Rattle.mip_icmp.specs.Said as icmp
 use Rattle.mip_icmp.specs.declared.fault.IcmpFault.{IcmpFault}
-use Rattle.mip_says.specs.Says.{message_in}
+use Rattle.mip_inspection.specs.Says.{message_in}
 use Rattle.mip_lines.specs.Lines.{is_plain}
 use Rattle.mip_lines.proofs.LineLaws.{decimal_plain, hex_plain, hex_text_plain}
-use Rattle.mip_declared.specs.Names.{is_letter, is_name}
-use Rattle.mip_declared.specs.Places.{AreFew, NamesFound, name_at}
-use Rattle.mip_declared.specs.declared.declaration.Declaration.{Declaration}
-use Rattle.mip_declared.specs.declared.places.Sort.TheVariants as sorts
+use Rattle.mip_symbols.specs.Names.{is_letter, is_name}
+use Rattle.mip_symbols.specs.Places.{AreFew, NamesFound, name_at}
+use Rattle.mip_symbols.specs.declared.declaration.Declaration.{Declaration}
+use Rattle.mip_symbols.specs.declared.places.Sort.TheVariants as sorts
 use Rattle.mip_rows.specs.Names.{node_name, link_name, outsider_name, who_name}
 use Rattle.mip_rows.specs.PacketKinds.{mobility_kind, icmp_kind, packet_kind, kind_of}
 use Rattle.mip_rows.specs.Whys.{why_word}

@@ -6,14 +6,14 @@ use Rattle.std.proofs.lemmas.Bool.{cond_both, ltb-true}
 use Rattle.mip_words.specs.Steps.{◌>>=◌}
 use Rattle.mip_words.specs.declared.ids.LinkId.{LinkId}
 use Rattle.mip_words.specs.declared.ids.NodeId.{NodeId}
-use Rattle.mip_declared.specs.Kinds.{or_reason, place, link, node, outsider}
-use Rattle.mip_declared.specs.Places.{members, fits, is_named, place_of}
-use Rattle.mip_declared.specs.Spelled.{link_text, node_text, outsider_text}
-use Rattle.mip_declared.specs.declared.declaration.Declaration.{Declaration}
-use Rattle.mip_declared.specs.declared.places.Sort.{Sort}
-use Rattle.mip_declared.specs.declared.places.Sort.TheVariants as sorts
-use Rattle.mip_declared.specs.declared.reason.Reason.TheVariants as reasons
-use Rattle.mip_declared.proofs.KindLaws.{link-spells, node-spells, outsider-spells}
+use Rattle.mip_symbols.specs.Kinds.{or_reason, place, link, node, outsider}
+use Rattle.mip_symbols.specs.Places.{members, fits, is_named, place_of}
+use Rattle.mip_symbols.specs.Spelled.{link_text, node_text, outsider_text}
+use Rattle.mip_symbols.specs.declared.declaration.Declaration.{Declaration}
+use Rattle.mip_symbols.specs.declared.places.Sort.{Sort}
+use Rattle.mip_symbols.specs.declared.places.Sort.TheVariants as sorts
+use Rattle.mip_symbols.specs.declared.reason.Reason.TheVariants as reasons
+use Rattle.mip_symbols.proofs.KindLaws.{link-spells, node-spells, outsider-spells}
 
 inside : {X : Type 0} (p : X → Bool) (xs : List X) (i : ℕ) → position p xs ≡ Some i → i < length xs
 inside p xs i =

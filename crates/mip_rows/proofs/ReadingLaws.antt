@@ -5,8 +5,8 @@ use Rattle.std.specs.Borrow.{Bor}
 use Rattle.std.proofs.lemmas.List.{append-nil, length-append}
 use Rattle.mip_words.specs.Steps.{◌>>=◌}
 use Rattle.mip_lines.specs.Cutting.{texts}
-use Rattle.mip_declared.specs.declared.declaration.Declaration.{Declaration}
-use Rattle.mip_declared.specs.declared.reason.Reason.{Reason}
+use Rattle.mip_symbols.specs.declared.declaration.Declaration.{Declaration}
+use Rattle.mip_symbols.specs.declared.reason.Reason.{Reason}
 use Rattle.mip_rows.specs.Rows.{value_of, values_of}
 use Rattle.mip_rows.specs.declared.field_kind.Kind.{Kind}
 use Rattle.mip_rows.specs.declared.value.Value.{Value}

@@ -9,9 +9,9 @@ use Rattle.std.proofs.lemmas.Slice.Eq.{bytes_eq-Decides}
 use Rattle.mip_words.specs.Steps.{◌>>=◌}
 use Rattle.mip_words.proofs.StepLaws.{bind_ok, ok_is}
 use Rattle.mip_lines.specs.HexFields.{address_hex}
-use Rattle.mip_declared.specs.Places.{AreFew, NamesFound}
-use Rattle.mip_declared.specs.declared.declaration.Declaration.{Declaration}
-use Rattle.mip_declared.specs.declared.reason.Reason.{Reason}
+use Rattle.mip_symbols.specs.Places.{AreFew, NamesFound}
+use Rattle.mip_symbols.specs.declared.declaration.Declaration.{Declaration}
+use Rattle.mip_symbols.specs.declared.reason.Reason.{Reason}
 use Rattle.mip_rows.specs.Fields as fields
 use Rattle.mip_rows.specs.Names.{node_name, link_name, outsider_name, who_name}
 use Rattle.mip_rows.specs.PacketKinds.{kind_of}

@@ -7,7 +7,7 @@ use Rattle.mip_words.specs.declared.ids.NodeId.{NodeId}
 use Rattle.mip_words.specs.declared.moment.Moment.{Moment}
 use Rattle.mip_words.specs.declared.token.Token.{Token}
 use Rattle.mip_words.specs.declared.why.Why.{Why}
-use Rattle.mip_declared.specs.declared.declaration.Declaration.{Declaration}
+use Rattle.mip_symbols.specs.declared.declaration.Declaration.{Declaration}
 use Rattle.mip_rows.specs.Values.{address_value}
 use Rattle.mip_rows.specs.Ranges.{IsOfKind, AreOfKinds}
 use Rattle.mip_rows.specs.declared.field_kind.Kind.{Kind}

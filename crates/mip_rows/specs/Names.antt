@@ -4,8 +4,8 @@ use Rattle.std.specs.Prelude.{ℕ, ◌-◌, List, [], nat_lt, if◌then◌else�
 use Rattle.std.specs.Borrow.{Bor}
 use Rattle.mip_words.specs.declared.ids.LinkId.{LinkId}
 use Rattle.mip_words.specs.declared.ids.NodeId.{NodeId}
-use Rattle.mip_declared.specs.Spelled.{link_text, node_text, outsider_text}
-use Rattle.mip_declared.specs.declared.declaration.Declaration.{Declaration}
+use Rattle.mip_symbols.specs.Spelled.{link_text, node_text, outsider_text}
+use Rattle.mip_symbols.specs.declared.declaration.Declaration.{Declaration}
 use Rattle.mip_schedule.specs.declared.schedule.Schedule.{Schedule}
 
 abbrev pub Names : Type 0

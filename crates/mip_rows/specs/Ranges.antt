@@ -7,9 +7,9 @@ use Rattle.mip_words.specs.declared.ids.LinkId.{LinkId}
 use Rattle.mip_words.specs.declared.ids.NodeId.{NodeId}
 use Rattle.mip_words.specs.declared.moment.Moment.{Moment}
 use Rattle.mip_words.specs.declared.token.Token.{Token}
-use Rattle.mip_declared.specs.Places.{members}
-use Rattle.mip_declared.specs.declared.declaration.Declaration.{Declaration}
-use Rattle.mip_declared.specs.declared.places.Sort.TheVariants as sorts
+use Rattle.mip_symbols.specs.Places.{members}
+use Rattle.mip_symbols.specs.declared.declaration.Declaration.{Declaration}
+use Rattle.mip_symbols.specs.declared.places.Sort.TheVariants as sorts
 use Rattle.mip_rows.specs.Texts.{row_texts}
 use Rattle.mip_rows.specs.Whys.{gone_whys, unsent_whys, dropped_whys, IsAmong}
 use Rattle.mip_rows.specs.declared.field_kind.Kind.{Kind}

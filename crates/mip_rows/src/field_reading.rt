@@ -1,15 +1,15 @@
 //! Fields of each kind, as they are read.
 
 ghost use Rattle.std.specs.Prelude.{◌≡◌, ◌≤◌, IfOk};
-ghost use Rattle.mip_declared.specs.Places.{AreFew};
+ghost use Rattle.mip_symbols.specs.Places.{AreFew};
 ghost use Rattle.mip_rows.specs.Fields as fields;
 ghost use Rattle.mip_rows.specs.Rows.{GivesRow};
 ghost use Rattle.mip_rows.specs.Whys.{why_among};
 
 use crate::fault::RowFault;
 use crate::why_words::why_among;
-use mip_declared::{Declaration, Reason, Sort, place_of};
 use mip_lines::{hex_address, hex_bytes};
+use mip_symbols::{Declaration, Reason, Sort, place_of};
 use mip_words::{Address, Bytes, LinkId, Moment, NodeId, Token, Why, hex_exact};
 use std::alloc::Global;
 
@@ -101,7 +101,7 @@ pub fn bytes(alloc: Global, field: &[u8]) -> Result<Bytes, RowFault>
 }
 
 /// The place of what is of this sort and has this name.
-#[tactic(auto, unfolding(crate::specs::Fields::place), using(mip_declared::proofs::PlaceLaws::place_small))]
+#[tactic(auto, unfolding(crate::specs::Fields::place), using(mip_symbols::proofs::PlaceLaws::place_small))]
 fn place(sort: Sort, ds: &[Declaration], field: &[u8]) -> Result<u8, Reason>
     requires { AreFew ds.now }
     ensures value { result ≡ fields.place sort ds.now field.now }

@@ -3,7 +3,7 @@
 ghost use Rattle.std.specs.Prelude.{◌≡◌, ◌≤◌, length, Ok, IfOk};
 ghost use Rattle.std.specs.Str.{bytes_eq};
 ghost use Rattle.mip_lines.specs.Cutting.{texts};
-ghost use Rattle.mip_declared.specs.Places.{AreFew, NamesFound};
+ghost use Rattle.mip_symbols.specs.Places.{AreFew, NamesFound};
 ghost use Rattle.mip_rows.specs.PacketKinds.{kind_of};
 ghost use Rattle.mip_rows.specs.Ranges.{IsRowOf};
 ghost use Rattle.mip_rows.specs.Rows as rows;
@@ -19,7 +19,7 @@ use crate::tail::Tail;
 use crate::value::Value;
 use crate::values::Values;
 use crate::why_words::{dropped_whys, gone_whys, unsent_whys};
-use mip_declared::{Declaration, Reason};
+use mip_symbols::{Declaration, Reason};
 use mip_words::Bytes;
 use std::alloc::Global;
 

@@ -2,13 +2,13 @@
 use Rattle.std.proofs.Common.{ℕ, List, [], ◌∷◌, ◌++◌, refl, sym, subst}
 use Rattle.std.specs.List.{AllByRecursion}
 use Rattle.mip_entries.specs.declared.answer.Answer.{Answer}
-use Rattle.mip_turns.proofs.ShowLaws.{answers-noted}
+use Rattle.mip_transitions.proofs.ShowLaws.{answers-noted}
 use Rattle.mip_rules_agent.specs.declared.identity.Identity.{Identity}
 use Rattle.mip_rules_agent.specs.Known.{Known}
 use Rattle.mip_rules_agent.specs.Calls.{Call, bytes_of}
 use Rattle.mip_rules_agent.specs.Steps.{Step, Called, Sends, Registers, Claims, Releases, Denies, Drops, Rang, answer_of, answers_of}
 use Rattle.mip_rules_agent.specs.Questions.{after}
-use Rattle.mip_rules_agent.specs.Turns.{Turn, begun, noted}
+use Rattle.mip_rules_agent.specs.Transitions.{Transition, begun, noted}
 use Rattle.mip_rules_agent.specs.Doing.{turn_of}
 use Rattle.mip_rules_agent.specs.Sendings.{SendsOwn}
 use Rattle.mip_rules_agent.specs.Wholes.{IsWhole}
@@ -33,10 +33,10 @@ whole-step me bytes (Drops number why) own = (own, tt)
 whole-step me bytes Rang own = tt
 
 -- the answers so far are whole
-abbrev GivesWhole : Turn → Type 0
+abbrev GivesWhole : Transition → Type 0
 GivesWhole t = AreWhole (answers_of t.steps)
 
-whole-noted : (me : Identity) (bytes : List ℕ) (step : Step) (t : Turn) → SendsOwn me bytes step → GivesWhole t → GivesWhole (noted step t)
+whole-noted : (me : Identity) (bytes : List ℕ) (step : Step) (t : Transition) → SendsOwn me bytes step → GivesWhole t → GivesWhole (noted step t)
 whole-noted me bytes step t own whole =
     subst AreWhole (sym (answers-noted answer_of after step t)) (whole-append (answers_of t.steps) (answer_of step) whole (whole-step me bytes step own))
 

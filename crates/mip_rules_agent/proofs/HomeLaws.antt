@@ -9,7 +9,7 @@ use Rattle.mip_words.specs.declared.shield.Shield.{Shield}
 use Rattle.mip_lists.specs.Last.{or_else, last_where}
 use Rattle.mip_lists.proofs.LastLaws.{last_where-push, last_where-none}
 use Rattle.mip_outside.specs.declared.claim.Claim.{Claim}
-use Rattle.mip_turns.proofs.TurnLaws.{noted-known, noted-steps, none-noted, none-parts}
+use Rattle.mip_transitions.proofs.TurnLaws.{noted-known, noted-steps, none-noted, none-parts}
 use Rattle.mip_updates.specs.Registrations.{home_of, registered_of}
 use Rattle.mip_rules_agent.specs.declared.home_binding.HomeBinding.{HomeBinding}
 use Rattle.mip_rules_agent.specs.declared.home_row.HomeRow.{HomeRow}
@@ -21,7 +21,7 @@ use Rattle.mip_rules_agent.specs.Calls as calls
 use Rattle.mip_rules_agent.specs.Calls.{Call}
 use Rattle.mip_rules_agent.specs.Steps.{Step, Called, Sends, Registers, Claims, Releases, Denies, Drops, Rang, is_registration}
 use Rattle.mip_rules_agent.specs.Questions.{bound_to, holding, after, served_at, is_served, binding_of, kept_of, if_standing, careof_at, holds, due_ends, rows_at}
-use Rattle.mip_rules_agent.specs.Turns.{Turn, begun, noted}
+use Rattle.mip_rules_agent.specs.Transitions.{Transition, begun, noted}
 use Rattle.mip_rules_agent.specs.Verdicts.{binding_for}
 use Rattle.mip_rules_agent.specs.Rules.{bench, claim_with, advertises}
 use Rattle.mip_rules_agent.specs.Doing.{releases_all, ticks, advertises_all, plans, does, turn_of}
@@ -51,16 +51,16 @@ module _ (home : Address) where
   same-row (Drops number why) o other = refl
   same-row Rang o other = refl
 
-  binding-noted : (step : Step) (t : Turn) → is_registration_of home step ≡ false → binding_of (noted step t).known home ≡ binding_of t.known home
+  binding-noted : (step : Step) (t : Transition) → is_registration_of home step ≡ false → binding_of (noted step t).known home ≡ binding_of t.known home
   binding-noted step t other =
       ap (λ (k : Known). binding_of k home) (noted-known after step t)
       ∙ ap (binding_in home) (served-after home t.known t.now step) ∙ same-row step (served_at t.known home) other
 
   -- unless it was registered on the way, what is registered of it is the same
-  abbrev Keeps : Known → Turn → Type 0
+  abbrev Keeps : Known → Transition → Type 0
   Keeps k u = list_any (is_registration_of home) u.steps ≡ false → binding_of u.known home ≡ binding_of k home
 
-  keeps-noted : (k : Known) (step : Step) (u : Turn) → Keeps k u → Keeps k (noted step u)
+  keeps-noted : (k : Known) (step : Step) (u : Transition) → Keeps k u → Keeps k (noted step u)
   keeps-noted k step u keeps none =
       let parts = none-parts after (is_registration_of home) step u none in
       binding-noted step u parts.1 ∙ keeps parts.0
@@ -74,7 +74,7 @@ module _ (home : Address) where
   or_step None b = b
   or_step (Some step) b = registered_by step
 
-  abbrev Binds : Known → Turn → Type 0
+  abbrev Binds : Known → Transition → Type 0
   Binds k u = (is_served u.known home ≡ true) × (binding_of u.known home ≡ or_step (last_where (is_registration_of home) u.steps) (binding_of k home))
 
   binds-step : (same : Bool) (step : Step) (o : Option Step) (b : Option HomeBinding) (at : ℕ)
@@ -82,7 +82,7 @@ module _ (home : Address) where
   binds-step true step o b at = refl
   binds-step false step o b at = refl
 
-  binds-noted : (k : Known) (step : Step) (u : Turn) → Binds k u → Binds k (noted step u)
+  binds-noted : (k : Known) (step : Step) (u : Transition) → Binds k u → Binds k (noted step u)
   binds-noted k step u binds = (
     ap (λ (m : Known). is_served m home) (noted-known after step u) ∙ served-same home u.known u.now step ∙ binds.0,
     ap (λ (m : Known). binding_of m home) (noted-known after step u)
@@ -102,14 +102,14 @@ module _ (home : Address) where
       every-call me (Binds k) c (λ step u silent own binds. binds-noted k step u binds) (λ u binds. binds-noted k (Called c) u binds) (begun now k) (served, refl)
 
 -- calls that register nothing
-abbrev Quiet : Turn → Type 0
+abbrev Quiet : Transition → Type 0
 Quiet t = list_any is_registration t.steps ≡ false
 
-released-quiet : (es : List Ending) (t : Turn) → Quiet t → Quiet (releases_all es t)
+released-quiet : (es : List Ending) (t : Transition) → Quiet t → Quiet (releases_all es t)
 released-quiet [] t none = none
 released-quiet (e ∷ es) t none = released-quiet es (noted (Releases e.home) t) (none-noted after is_registration (Releases e.home) t none refl)
 
-advertised-quiet : (own : Address) (m : Known) (at : ℕ) (rows : List HomeRow) (t : Turn) → Quiet t → Quiet (advertises_all own m at rows t)
+advertised-quiet : (own : Address) (m : Known) (at : ℕ) (rows : List HomeRow) (t : Transition) → Quiet t → Quiet (advertises_all own m at rows t)
 unfolding advertises
 advertised-quiet own m at [] t none = none
 advertised-quiet own m at (r ∷ rows) t none = advertised-quiet own m at rows _ (none-noted after is_registration _ t none refl)
@@ -120,14 +120,14 @@ called-quiet now k c = none-noted after is_registration (Called c) (begun now k)
 pub tick-quiet : (me : Identity) (k : Known) (now : ℕ) → Quiet (turn_of me k now calls.Tick)
 unfolding does ticks
 tick-quiet me k now =
-    let t : Turn = noted (Called calls.Tick) (begun now k) in
+    let t : Transition = noted (Called calls.Tick) (begun now k) in
     none-noted after is_registration Rang (releases_all (due_ends t.now t.known.ends) t)
     (released-quiet (due_ends t.now t.known.ends) t (called-quiet now k calls.Tick)) refl
 
 pub plan-quiet : (me : Identity) (k : Known) (now valid preferred : ℕ) → Quiet (turn_of me k now (calls.Plan valid preferred))
 unfolding does plans
 plan-quiet me k now valid preferred =
-    let t : Turn = noted (Called (calls.Plan valid preferred)) (begun now k) in
+    let t : Transition = noted (Called (calls.Plan valid preferred)) (begun now k) in
     advertised-quiet me.own t.known t.now (rows_at t.now t.known.homes) t (called-quiet now k (calls.Plan valid preferred))
 
 pub hear-quiet : (me : Identity) (k : Known) (now : ℕ) (agent : Address) (preference life : ℕ) → Quiet (turn_of me k now (calls.Hear agent preference life))

@@ -13,7 +13,7 @@ use Rattle.mip_discovery.specs.Heard.{Heard}
 use Rattle.mip_discovery.specs.Listed.{AgentsSeen, StandsFor, listed}
 use Rattle.mip_discovery.proofs.ViewLaws.{stands_on}
 use Rattle.mip_entries.specs.Stamped.{Stamped}
-use Rattle.mip_turns.specs.Turns.{StandsBy}
+use Rattle.mip_transitions.specs.Transitions.{StandsBy}
 use Rattle.mip_rules_agent.specs.declared.home_binding.HomeBinding.{HomeBinding}
 use Rattle.mip_rules_agent.specs.declared.served.Served.{Served}
 use Rattle.mip_rules_agent.specs.Known.{Known}
@@ -21,7 +21,7 @@ use Rattle.mip_rules_agent.specs.Calls as calls
 use Rattle.mip_rules_agent.specs.Calls.{Call}
 use Rattle.mip_rules_agent.specs.Steps.{Step, Called, Sends, Registers, Claims, Releases, Denies, Drops, Rang, is_call}
 use Rattle.mip_rules_agent.specs.Questions.{last_after, key_of, bound_to, holding, homes_after, agents_after, plan_after, after, new_home, fresh, known, served_at, is_served, binding_of, holds}
-use Rattle.mip_rules_agent.specs.Turns.{Stands}
+use Rattle.mip_rules_agent.specs.Transitions.{Stands}
 use Rattle.mip_rules_agent.specs.Pasts.{is_one_of, is_registration_of, registered_by, last_binding, is_claim_of, is_claim, is_claimed, plan_in, last_plan, heard_in, all_heard}
 use Rattle.mip_rules_agent.specs.Ends.{AreInOrder}
 use Rattle.mip_rules_agent.proofs.Homes.{found_if, find-changed}

@@ -7,14 +7,14 @@ use Rattle.mip_words.specs.declared.shield.Shield.{Shield}
 use Rattle.mip_outside.specs.declared.claim.Claim.{Claim}
 use Rattle.mip_discovery.specs.declared.plan.PrefixPlan.{PrefixPlan}
 use Rattle.mip_discovery.specs.Listed.{AgentsSeen}
-use Rattle.mip_turns.proofs.TurnLaws.{noted-known}
+use Rattle.mip_transitions.proofs.TurnLaws.{noted-known}
 use Rattle.mip_rules_agent.specs.declared.identity.Identity.{Identity}
 use Rattle.mip_rules_agent.specs.Known.{Known}
 use Rattle.mip_rules_agent.specs.Calls as calls
 use Rattle.mip_rules_agent.specs.Calls.{Call}
 use Rattle.mip_rules_agent.specs.Steps.{Step, Called, Sends, Registers, Claims, Releases, Denies, Drops, Rang, answer_of, answers_of, is_call, is_registration}
 use Rattle.mip_rules_agent.specs.Questions.{agents_called, agents_after, plan_called, plan_after, after}
-use Rattle.mip_rules_agent.specs.Turns.{Turn, begun, noted}
+use Rattle.mip_rules_agent.specs.Transitions.{Transition, begun, noted}
 use Rattle.mip_rules_agent.specs.Doing.{does, turn_of}
 use Rattle.mip_reception.specs.Refusing.{refuses}
 use Rattle.mip_rules_agent.specs.Claims.{claims_by}
@@ -23,11 +23,11 @@ use Rattle.mip_rules_agent.specs.Taken.{IsUpdateTaken}
 use Rattle.mip_rules_agent.proofs.Taken.{taken_is}
 use Rattle.mip_rules_agent.proofs.Walks.{every-handles}
 
-agents-noted : (step : Step) (t : Turn) → (noted step t).known.agents ≡ agents_after t.known.agents t.now step
+agents-noted : (step : Step) (t : Transition) → (noted step t).known.agents ≡ agents_after t.known.agents t.now step
 unfolding after
 agents-noted step t = ap (λ (k : Known). k.agents) (noted-known after step t)
 
-plan-noted : (step : Step) (t : Turn) → (noted step t).known.plan ≡ plan_after t.known.plan t.now step
+plan-noted : (step : Step) (t : Transition) → (noted step t).known.plan ≡ plan_after t.known.plan t.now step
 unfolding after
 plan-noted step t = ap (λ (k : Known). k.plan) (noted-known after step t)
 
@@ -55,14 +55,14 @@ plan-quiet Rang plan at silent = refl
 pub call-agents : (me : Identity) (k : Known) (now : ℕ) (c : Call) → (turn_of me k now c).known.agents ≡ agents_called k.agents now c
 unfolding does
 call-agents me k now c =
-    every-handles me (λ (t : Turn). t.known.agents ≡ agents_called k.agents now c) c
+    every-handles me (λ (t : Transition). t.known.agents ≡ agents_called k.agents now c) c
     (λ step t silent own is. agents-noted step t ∙ agents-quiet step t.known.agents t.now silent ∙ is)
     (noted (Called c) (begun now k)) (agents-noted (Called c) (begun now k))
 
 pub call-plan : (me : Identity) (k : Known) (now : ℕ) (c : Call) → (turn_of me k now c).known.plan ≡ plan_called k.plan now c
 unfolding does
 call-plan me k now c =
-    every-handles me (λ (t : Turn). t.known.plan ≡ plan_called k.plan now c) c
+    every-handles me (λ (t : Transition). t.known.plan ≡ plan_called k.plan now c) c
     (λ step t silent own is. plan-noted step t ∙ plan-quiet step t.known.plan t.now silent ∙ is)
     (noted (Called c) (begun now k)) (plan-noted (Called c) (begun now k))
 
@@ -97,7 +97,7 @@ claims-left (Drops number why ∷ steps) claims none = claims-left steps claims 
 claims-left (Rang ∷ steps) claims none = claims-left steps claims none
 
 module _ (me : Identity) (k : Known) (now number : ℕ) (shield : Option Shield) (bytes : List ℕ) (claim : Claim) where
-  abbrev turn : Turn
+  abbrev turn : Transition
   turn = turn_of me k now (calls.Take number shield bytes claim)
 
   some-taken : IsUpdateTaken me k now number shield bytes claim turn.steps → list_any is_registration turn.steps ≡ true

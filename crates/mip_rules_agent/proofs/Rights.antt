@@ -11,13 +11,13 @@ use Rattle.mip_ipv6.specs.Packet.{Packet}
 use Rattle.mip_ipv6.specs.Reading.{packet_of}
 use Rattle.mip_tunnel.specs.Tunnel.{hop_of, encapsulated}
 use Rattle.mip_outside.specs.declared.claim.Claim.{Claim}
-use Rattle.mip_turns.proofs.TurnLaws.{noted-now, noted-known}
+use Rattle.mip_transitions.proofs.TurnLaws.{noted-now, noted-known}
 use Rattle.mip_rules_agent.specs.declared.identity.Identity.{Identity}
 use Rattle.mip_rules_agent.specs.Known.{Known}
 use Rattle.mip_rules_agent.specs.Calls.{Call, Take}
 use Rattle.mip_rules_agent.specs.Steps.{Step, Called, Sends, Drops}
 use Rattle.mip_rules_agent.specs.Questions.{careof_at, after}
-use Rattle.mip_rules_agent.specs.Turns.{Turn, begun, noted}
+use Rattle.mip_rules_agent.specs.Transitions.{Transition, begun, noted}
 use Rattle.mip_rules_agent.specs.Rules.{Handing, shield_for, intercepts, by_destination, receives}
 use Rattle.mip_rules_agent.specs.Doing.{takes, handing, does, turn_of}
 use Rattle.mip_rules_agent.specs.Sendings.{Sending, SendsInto, SendsOut, SendsAck, SendsReply, SendsAgents, SendsPrefix}
@@ -26,7 +26,7 @@ use Rattle.mip_rules_agent.proofs.Sendings.{all-noted}
 use Rattle.mip_rules_agent.proofs.Walks.{every-take}
 
 module _ (me : Identity) (k : Known) (now : ℕ) (shield : Option Shield) (bytes : List ℕ) (c : Call) where
-  abbrev first : Turn
+  abbrev first : Transition
   first = noted (Called c) (begun now k)
 
   -- a call that begins changes no right
@@ -60,7 +60,7 @@ module _ (me : Identity) (k : Known) (now number : ℕ) (shield : Option Shield)
   abbrev call : Call
   call = Take number shield bytes claim
 
-  abbrev given : Turn
+  abbrev given : Transition
   given = noted (Called call) (begun now k)
 
   abbrev h : Handing
@@ -70,7 +70,7 @@ module _ (me : Identity) (k : Known) (now number : ℕ) (shield : Option Shield)
   unfolding does
   call-rightly =
       let R : Step → Type 0 = SendsRightly me k now shield bytes in
-      every-take h (λ (t : Turn). AllByRecursion R t.steps)
+      every-take h (λ (t : Transition). AllByRecursion R t.steps)
       (λ step t quiet right all. all-noted R step t (rightly-before me k now shield bytes call step right) all)
       given (all-noted R (Called call) (begun now k) tt tt)
 
@@ -86,7 +86,7 @@ module _ (me : Identity) (k : Known) (now number : ℕ) (shield : Option Shield)
       T : Step → Type 0
       T = IsTunnelled me.own p careof bytes
 
-      AllOf : Turn → Type 0
+      AllOf : Transition → Type 0
       AllOf t = AllByRecursion (IsTunnelled me.own p careof bytes) t.steps
 
       begins : AllByRecursion (IsTunnelled me.own p careof bytes) given.steps
@@ -98,7 +98,7 @@ module _ (me : Identity) (k : Known) (now number : ℕ) (shield : Option Shield)
       sent : AllByRecursion (IsTunnelled me.own p careof bytes) (noted (Sends (shield_for me.own p.head.destination p.head.proto) (encapsulated me.own careof bytes)) given).steps
       sent = all-noted T (Sends (shield_for me.own p.head.destination p.head.proto) (encapsulated me.own careof bytes)) given (refl, refl) begins
 
-      either : (b : Bool) (x y : Turn) → AllByRecursion (IsTunnelled me.own p careof bytes) x.steps → AllByRecursion (IsTunnelled me.own p careof bytes) y.steps
-          → AllByRecursion (IsTunnelled me.own p careof bytes) (let u : Turn = (if b then x else y) in u.steps)
+      either : (b : Bool) (x y : Transition) → AllByRecursion (IsTunnelled me.own p careof bytes) x.steps → AllByRecursion (IsTunnelled me.own p careof bytes) y.steps
+          → AllByRecursion (IsTunnelled me.own p careof bytes) (let u : Transition = (if b then x else y) in u.steps)
       either true x y p q = p
       either false x y p q = q

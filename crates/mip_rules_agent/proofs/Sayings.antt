@@ -8,11 +8,11 @@ use Rattle.mip_ipv6.specs.declared.not_packet.NotPacket.{NotPacket}
 use Rattle.mip_ipv6.specs.Packet.{Packet}
 use Rattle.mip_ipv6.specs.Reading.{packet_of}
 use Rattle.mip_tunnel.specs.Tunnel.{tunnel_packet, encapsulated}
-use Rattle.mip_says.specs.Says.{carried}
-use Rattle.mip_says.proofs.Sayings.{carried_is, said_if_read, carried_outer, carried_lowered}
-use Rattle.mip_written.specs.Written.{SaysNoTest}
-use Rattle.mip_written.proofs.Packets.{read_back}
-use Rattle.mip_written.proofs.Sayings.{message_says_no_test, data_says_no_test, problem_says_no_test}
+use Rattle.mip_inspection.specs.Says.{carried}
+use Rattle.mip_inspection.proofs.Sayings.{carried_is, said_if_read, carried_outer, carried_lowered}
+use Rattle.mip_packet_round_trip.specs.Written.{SaysNoTest}
+use Rattle.mip_packet_round_trip.proofs.Packets.{read_back}
+use Rattle.mip_packet_round_trip.proofs.Sayings.{message_says_no_test, data_says_no_test, problem_says_no_test}
 use Rattle.mip_discovery.specs.declared.agent.Agent.{Agent}
 use Rattle.mip_discovery.specs.Reply.{discovery_reply}
 use Rattle.mip_reception.specs.declared.reply.Reply.{Reply}

@@ -19,14 +19,14 @@ use Rattle.mip_mobhdr.specs.declared.fault.Fault.{Fault}
 use Rattle.mip_mobhdr.specs.Said.{Said}
 use Rattle.mip_mobhdr.specs.Said.Said.{Refresh, HomeInit, CareofInit, HomeTest, CareofTest, Update, Acknowledgement, Error}
 use Rattle.mip_mobhdr.specs.Reading.{type_in, options_in, refresh_of, home_init_of, careof_init_of, home_test_of, careof_test_of, update_of, acknowledgement_of, error_of, fields_of, message_of}
-use Rattle.mip_written.proofs.Messages.{message_reads}
+use Rattle.mip_packet_round_trip.proofs.Messages.{message_reads}
 use Rattle.mip_tunnel.specs.Tunnel.{hop_of}
 use Rattle.mip_outside.specs.declared.claim.Claim.{Claim}
 use Rattle.mip_entries.specs.Stamped.{stamped}
-use Rattle.mip_turns.specs.Turns.{known_by}
-use Rattle.mip_turns.proofs.TurnLaws.{noted_all, noted_all-is}
+use Rattle.mip_transitions.specs.Transitions.{known_by}
+use Rattle.mip_transitions.proofs.TurnLaws.{noted_all, noted_all-is}
 use Rattle.mip_reception.specs.declared.refusal.Refusal.{Refusal}
-use Rattle.mip_reception.specs.declared.standing.Standing.{Standing}
+use Rattle.mip_reception.specs.declared.address_match.AddressMatch.{AddressMatch}
 use Rattle.mip_reception.specs.Checks.{message_or_refusal, message_at, then_home, is_probe, is_update, checked}
 use Rattle.mip_reception.specs.Replies.{reply_packet}
 use Rattle.mip_updates.specs.declared.registration.Registration.{Registration}
@@ -42,7 +42,7 @@ use Rattle.mip_rules_agent.specs.Messages.{shield_to}
 use Rattle.mip_rules_agent.specs.Steps.{Step, Called, Sends, Registers, Claims, Releases, Denies, Drops, is_registration}
 use Rattle.mip_rules_agent.specs.Refusing.{is_refusal, is_claim}
 use Rattle.mip_rules_agent.specs.Questions.{careof_at, holds, after}
-use Rattle.mip_rules_agent.specs.Turns.{Turn, begun, noted}
+use Rattle.mip_rules_agent.specs.Transitions.{Transition, begun, noted}
 use Rattle.mip_rules_agent.specs.Verdicts.{is_from, verdict, binding_for}
 use Rattle.mip_rules_agent.specs.Rules.{Handing, intercepts, is_careof, opens, takes_tunnel, bench, claim_with, acknowledges, denies, claims_if, answers_if, accepts, judged, takes_update, names_agents, advertises, answers_solicitation, takes_icmp, by_proto, by_role, replies, refuses, standing_of, after_checks, place_in, by_destination, receives}
 use Rattle.mip_rules_agent.specs.Doing.{takes, handing, does, turn_of}
@@ -92,7 +92,7 @@ passes_home holds None (Ok message) m e = e
 passes_home holds (Some home) (Ok message) m e =
     either (Ok m) (is_probe message) _ _ (λ e. absurd cc) (either (Ok m) (is_update message || holds) _ _ (λ e. e) (λ e. absurd cc)) e
 
-checked_message : (standing : Standing) (place : ℕ) (p : Packet) (m : Option Said) → checked standing place p ≡ Ok m → message_at place p ≡ Ok m
+checked_message : (standing : AddressMatch) (place : ℕ) (p : Packet) (m : Option Said) → checked standing place p ≡ Ok m → message_at place p ≡ Ok m
 unfolding checked
 checked_message standing place p m =
     either (Ok m) (not standing.is_mine) _ _ (λ e. absurd cc)
@@ -115,16 +115,16 @@ message_proto place p m =
 
 module _ (me : Identity) (k : Known) (now number : ℕ) (shield : Option Shield) (bytes : List ℕ) (claim : Claim) where
   -- nothing is registered, claimed or given up, and the homes and their ends are as they were
-  abbrev pub IsQuiet : Turn → Type 0
+  abbrev pub IsQuiet : Transition → Type 0
   IsQuiet t = (list_any is_registration t.steps ≡ false) × (t.known.homes ≡ k.homes) × (t.known.ends ≡ k.ends) × (list_any is_claim t.steps ≡ false)
 
-  abbrev pub Is : Turn → Type 0
+  abbrev pub Is : Transition → Type 0
   Is t = IsQuiet t ⊎ IsUpdateTaken me k now number shield bytes claim t.steps
 
   abbrev call : Step
   call = Called (calls.Take number shield bytes claim)
 
-  abbrev given : Turn
+  abbrev given : Transition
   given = noted call (begun now k)
 
   abbrev h : Handing
@@ -134,7 +134,7 @@ module _ (me : Identity) (k : Known) (now number : ℕ) (shield : Option Shield)
   abbrev opened : Handing
   opened = handing me now (after k (record { at = now; step = call })) number shield bytes claim
 
-  quiet : (b : Bool) (x y : Turn) → Is x → Is y → Is (if b then x else y)
+  quiet : (b : Bool) (x y : Transition) → Is x → Is y → Is (if b then x else y)
   quiet true x y first second = first
   quiet false x y first second = second
 
@@ -153,7 +153,7 @@ module _ (me : Identity) (k : Known) (now number : ℕ) (shield : Option Shield)
   -- the update is accepted
   module _ (update : Registration) (is_in : IsUpdateIn bytes update) (home careof : Address) (sequence granted : ℕ)
       (is : verdict (bench me k now update) shield (claim_with (holds k (home_of update)) claim) update ≡ Accept home careof sequence granted) where
-    abbrev first : Turn
+    abbrev first : Transition
     first = noted (Registers number home (binding_for now careof sequence granted)) given
 
     -- behind it, steps that register and refuse nothing
@@ -167,7 +167,7 @@ module _ (me : Identity) (k : Known) (now number : ℕ) (shield : Option Shield)
       granted = granted;
       verdict_is = is;
       rest = rest;
-      steps_are = ap (λ (t : Turn). t.steps) (noted_all-is after (call ∷ Registers number home (binding_for now careof sequence granted) ∷ rest) (begun now k));
+      steps_are = ap (λ (t : Transition). t.steps) (noted_all-is after (call ∷ Registers number home (binding_for now careof sequence granted) ∷ rest) (begun now k));
       none = none;
       kept = kept;
     })
@@ -175,7 +175,7 @@ module _ (me : Identity) (k : Known) (now number : ℕ) (shield : Option Shield)
     abbrev tells : Step
     tells = Sends (shield_to me.own (home_of update)) (ack_packet me.own update statuses.accepted update.sequence granted None)
 
-    abbrev behind : (held ends ack : Bool) → Turn
+    abbrev behind : (held ends ack : Bool) → Transition
     behind held ends ack = answers_if ack me update granted (claims_if held ends home first)
 
     answered : (held ends ack : Bool) → Is (behind held ends ack)
@@ -200,7 +200,7 @@ module _ (me : Identity) (k : Known) (now number : ℕ) (shield : Option Shield)
   of_update : (r : Registration) → IsUpdateIn bytes r → Is (takes_update h r given)
   unfolding takes_update after
   of_update r is_in =
-      subst (λ (u : Turn). Is (takes_update (handing me u.now u.known number shield bytes claim) r given)) (sym (noted_all-is after (call ∷ []) (begun now k)))
+      subst (λ (u : Transition). Is (takes_update (handing me u.now u.known number shield bytes claim) r given)) (sym (noted_all-is after (call ∷ []) (begun now k)))
       (of_verdict r is_in (verdict (bench me k now r) shield (claim_with (holds k (home_of r)) claim) r) refl)
 
   of_interception : (home careof : Address) (proto : ℕ) → Is (intercepts h home careof proto given)

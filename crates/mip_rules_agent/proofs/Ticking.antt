@@ -4,14 +4,14 @@ use Rattle.std.specs.Prelude.{not, map, filter, Option, Some, None}
 use Rattle.std.specs.List.{cons_option}
 use Rattle.std.proofs.lemmas.List.{append_assoc, append-nil}
 use Rattle.mip_words.specs.declared.address.Address.{Address}
-use Rattle.mip_turns.proofs.TurnLaws.{noted-now, noted-known, noted-steps}
+use Rattle.mip_transitions.proofs.TurnLaws.{noted-now, noted-known, noted-steps}
 use Rattle.mip_rules_agent.specs.declared.identity.Identity.{Identity}
 use Rattle.mip_rules_agent.specs.declared.ending.Ending.{Ending}
 use Rattle.mip_rules_agent.specs.Known.{Known}
 use Rattle.mip_rules_agent.specs.Calls.{Tick}
 use Rattle.mip_rules_agent.specs.Steps.{Step, Called, Releases, Rang}
 use Rattle.mip_rules_agent.specs.Questions.{due_ends, ends_after, later_ends, after}
-use Rattle.mip_rules_agent.specs.Turns.{Turn, begun, noted}
+use Rattle.mip_rules_agent.specs.Transitions.{Transition, begun, noted}
 use Rattle.mip_rules_agent.specs.Doing.{releases_all, ticks, does, turn_of}
 use Rattle.mip_rules_agent.specs.Refusing.{release_of, released}
 
@@ -26,30 +26,30 @@ released-push : (steps : List Step) (step : Step) → released (steps ++ step �
 released-push [] step = refl
 released-push (s ∷ steps) step = ap (cons_option (release_of s)) (released-push steps step) ∙ front-kept (release_of s) (released steps) (released (step ∷ []))
 
-released-noted : (step : Step) (t : Turn) → released (noted step t).steps ≡ released t.steps ++ released (step ∷ [])
+released-noted : (step : Step) (t : Transition) → released (noted step t).steps ≡ released t.steps ++ released (step ∷ [])
 released-noted step t = ap released (noted-steps after step t) ∙ released-push t.steps step
 
-released-all : (es : List Ending) (t : Turn) → (let u : Turn = releases_all es t in released u.steps) ≡ released t.steps ++ homes_in es
+released-all : (es : List Ending) (t : Transition) → (let u : Transition = releases_all es t in released u.steps) ≡ released t.steps ++ homes_in es
 released-all [] t = sym (append-nil (released t.steps))
 released-all (e ∷ es) t =
     released-all es (noted (Releases e.home) t)
     ∙ ap (λ (l : List Address). l ++ homes_in es) (released-noted (Releases e.home) t)
     ∙ append_assoc (released t.steps) (e.home ∷ []) (homes_in es)
 
-ends-noted : (step : Step) (t : Turn) → (noted step t).known.ends ≡ ends_after t.known.ends t.now step
+ends-noted : (step : Step) (t : Transition) → (noted step t).known.ends ≡ ends_after t.known.ends t.now step
 unfolding after
 ends-noted step t = ap (λ (k : Known). k.ends) (noted-known after step t)
 
-ends-all : (es : List Ending) (t : Turn) → (let u : Turn = releases_all es t in u.known.ends) ≡ t.known.ends
+ends-all : (es : List Ending) (t : Transition) → (let u : Transition = releases_all es t in u.known.ends) ≡ t.known.ends
 ends-all [] t = refl
 ends-all (e ∷ es) t = ends-all es (noted (Releases e.home) t) ∙ ends-noted (Releases e.home) t
 
-now-all : (es : List Ending) (t : Turn) → (let u : Turn = releases_all es t in u.now) ≡ t.now
+now-all : (es : List Ending) (t : Transition) → (let u : Transition = releases_all es t in u.now) ≡ t.now
 now-all [] t = refl
 now-all (e ∷ es) t = now-all es (noted (Releases e.home) t) ∙ noted-now after (Releases e.home) t
 
 module _ (me : Identity) (k : Known) (now : ℕ) where
-  abbrev first : Turn
+  abbrev first : Transition
   first = noted (Called Tick) (begun now k)
 
   first-ends : first.known.ends ≡ k.ends
@@ -58,7 +58,7 @@ module _ (me : Identity) (k : Known) (now : ℕ) where
   first-now : first.now ≡ now
   first-now = noted-now after (Called Tick) (begun now k)
 
-  abbrev rung : Turn
+  abbrev rung : Transition
   rung = releases_all (due_ends first.now first.known.ends) first
 
   pub tick-releases : released (turn_of me k now Tick).steps ≡ map (λ (e : Ending). e.home) (filter (λ (e : Ending). not (nat_lt now e.end.0)) k.ends)

@@ -35,7 +35,7 @@ use Rattle.mip_rules_agent.specs.Calls as calls
 use Rattle.mip_rules_agent.specs.Calls.{Call, bytes_of}
 use Rattle.mip_rules_agent.specs.Steps.{Step, Called, Sends, Registers, Claims, Releases, Denies, Drops, Rang, is_call}
 use Rattle.mip_rules_agent.specs.Questions.{careof_at, holds, valid_at, preferred_at, rows_at, due_ends}
-use Rattle.mip_rules_agent.specs.Turns.{Turn, noted}
+use Rattle.mip_rules_agent.specs.Transitions.{Transition, noted}
 use Rattle.mip_rules_agent.specs.Verdicts.{is_from, verdict, binding_for}
 use Rattle.mip_entries.specs.Reasons.{is_dropped_why}
 use Rattle.mip_rules_agent.proofs.Reasons.{RefusesRight, verdict-right}
@@ -47,7 +47,7 @@ use Rattle.mip_rules_agent.proofs.VerdictLaws.{shielded_is, IsHeard, verdict-hea
 use Rattle.mip_rules_agent.specs.Sendings.{SendsInto, SendsOut, SendsAck, SendsReply, SendsAgents, SendsPrefix, SendsOwn}
 
 -- whichever way a choice goes
-either : (P : Turn → Type 0) (b : Bool) (x y : Turn) → P x → P y → P (if b then x else y)
+either : (P : Transition → Type 0) (b : Bool) (x y : Transition) → P x → P y → P (if b then x else y)
 either P true x y p q = p
 either P false x y p q = q
 
@@ -71,18 +71,18 @@ shielded-from proto home shield mobility bare =
     shielded_is shield home (not-false _ both)
 
 -- over a packet that is handed over
-module _ (h : Handing) (P : Turn → Type 0) (more : (step : Step) (t : Turn) → is_call step ≡ false → SendsRightly h.me h.known h.now h.shield h.bytes step → P t → P (noted step t)) where
-  every-drop : (why : Why) → is_dropped_why why ≡ true → (t : Turn) → P t → P (noted (Drops h.number why) t)
+module _ (h : Handing) (P : Transition → Type 0) (more : (step : Step) (t : Transition) → is_call step ≡ false → SendsRightly h.me h.known h.now h.shield h.bytes step → P t → P (noted step t)) where
+  every-drop : (why : Why) → is_dropped_why why ≡ true → (t : Transition) → P t → P (noted (Drops h.number why) t)
   every-drop why right t p = more (Drops h.number why) t refl right p
 
-  every-interception : (home careof : Address) (proto : ℕ) → careof_at h.known h.now home ≡ Some careof → (t : Turn) → P t → P (intercepts h home careof proto t)
+  every-interception : (home careof : Address) (proto : ℕ) → careof_at h.known h.now home ≡ Some careof → (t : Transition) → P t → P (intercepts h home careof proto t)
   unfolding intercepts
   every-interception home careof proto at t p =
       either P (nat_lt (hop_of h.bytes) 2) _ _ (every-drop whys.Hop refl t p)
       (cond_both (nat_lt 65535 (length h.bytes)) _ _ P (λ big. every-drop whys.Size refl t p)
       (λ fits. more _ t refl (SendsInto home careof proto, (refl, refl, (let f : nat_lt 65535 (length h.bytes) ≡ false = fits in grind (arith, nat_tests, f))), at) p))
 
-  every-opening : (outer : Packet) → packet_of h.bytes ≡ Ok outer → outer.head.proto ≡ 41 → (r : Result Packet NotPacket) → packet_of outer.body ≡ r → (t : Turn) → P t → P (opens h outer r t)
+  every-opening : (outer : Packet) → packet_of h.bytes ≡ Ok outer → outer.head.proto ≡ 41 → (r : Result Packet NotPacket) → packet_of outer.body ≡ r → (t : Transition) → P t → P (opens h outer r t)
   every-opening outer read tunnel (Err fault) is t p = every-drop (packet_why fault) (packet_why-dropped fault) t p
   every-opening outer read tunnel (Ok q) is t p =
       cond_both (not (is_careof h.known h.now q.head.source outer.head.source)) _ _ P (λ other. every-drop whys.Entry refl t p) (λ from.
@@ -101,25 +101,25 @@ module _ (h : Handing) (P : Turn → Type 0) (more : (step : Step) (t : Turn) �
         },
       ) p)))
 
-  every-tunnel : (outer : Packet) → packet_of h.bytes ≡ Ok outer → outer.head.proto ≡ 41 → (t : Turn) → P t → P (takes_tunnel h outer t)
+  every-tunnel : (outer : Packet) → packet_of h.bytes ≡ Ok outer → outer.head.proto ≡ 41 → (t : Transition) → P t → P (takes_tunnel h outer t)
   unfolding takes_tunnel
   every-tunnel outer read tunnel t p = every-opening outer read tunnel (packet_of outer.body) refl t p
 
-  every-acknowledgement : (r : Registration) → IsShielded h.shield (home_of r) → (status sequence lifetime : ℕ) (t : Turn) → P t → P (acknowledges h.me r status sequence lifetime t)
+  every-acknowledgement : (r : Registration) → IsShielded h.shield (home_of r) → (status sequence lifetime : ℕ) (t : Transition) → P t → P (acknowledges h.me r status sequence lifetime t)
   unfolding acknowledges
   every-acknowledgement r under status sequence lifetime t p = more _ t refl (SendsAck r status sequence lifetime, (refl, refl), under) p
 
-  every-claim : (held ends : Bool) (home : Address) (t : Turn) → P t → P (claims_if held ends home t)
+  every-claim : (held ends : Bool) (home : Address) (t : Transition) → P t → P (claims_if held ends home t)
   every-claim true true home t p = more (Releases home) t refl tt p
   every-claim true false home t p = p
   every-claim false true home t p = p
   every-claim false false home t p = more (Claims home) t refl tt p
 
-  every-answer : (ack : Bool) (r : Registration) → IsShielded h.shield (home_of r) → (granted : ℕ) (t : Turn) → P t → P (answers_if ack h.me r granted t)
+  every-answer : (ack : Bool) (r : Registration) → IsShielded h.shield (home_of r) → (granted : ℕ) (t : Transition) → P t → P (answers_if ack h.me r granted t)
   every-answer true r under granted t p = every-acknowledgement r under 0 r.sequence granted t p
   every-answer false r under granted t p = p
 
-  every-judged : (r : Registration) (held : Bool) (v : HomeVerdict) → RefusesRight v → IsHeard h.shield (home_of r) v → (t : Turn) → P t → P (judged h r held v t)
+  every-judged : (r : Registration) (held : Bool) (v : HomeVerdict) → RefusesRight v → IsHeard h.shield (home_of r) v → (t : Transition) → P t → P (judged h r held v t)
   unfolding denies accepts
   every-judged r held (Refuse why) right heard t p = every-drop why right t p
   every-judged r held (Deny status last) right heard t p =
@@ -128,14 +128,14 @@ module _ (h : Handing) (P : Turn → Type 0) (more : (step : Step) (t : Turn) �
       let step : Step = Registers h.number home (binding_for h.now careof sequence granted) in
       every-answer r.ack r heard granted (claims_if held (deletes r) home (noted step t)) (every-claim held (deletes r) home (noted step t) (more step t refl tt p))
 
-  every-update : (r : Registration) (t : Turn) → P t → P (takes_update h r t)
+  every-update : (r : Registration) (t : Transition) → P t → P (takes_update h r t)
   unfolding takes_update
   every-update r t p =
       let held : Bool = holds h.known (home_of r) in
       let b = bench h.me h.known h.now r in
       every-judged r held (verdict b h.shield (claim_with held h.claim) r) (verdict-right b h.shield (claim_with held h.claim) r) (verdict-heard b h.shield (claim_with held h.claim) r) t p
 
-  every-solicitation : (home : Address) (identifier : ℕ) (careof : Option Address) → careof_at h.known h.now home ≡ careof → (t : Turn) → P t → P (answers_solicitation h home identifier careof t)
+  every-solicitation : (home : Address) (identifier : ℕ) (careof : Option Address) → careof_at h.known h.now home ≡ careof → (t : Transition) → P t → P (answers_solicitation h home identifier careof t)
   unfolding advertises
   every-solicitation home identifier None at t p = every-drop whys.Role refl t p
   every-solicitation home identifier (Some careof) at t p =
@@ -143,7 +143,7 @@ module _ (h : Handing) (P : Turn → Type 0) (more : (step : Step) (t : Turn) �
       (λ from. more _ t refl (SendsPrefix home careof identifier (valid_at h.known h.now) (preferred_at h.known h.now), (refl, refl), (shielded_is h.shield home from, at)) p)
       (λ other. every-drop whys.Role refl t p)
 
-  every-icmp : (packet : Packet) (r : Result icmp.Said IcmpFault) (t : Turn) → P t → P (takes_icmp h packet r t)
+  every-icmp : (packet : Packet) (r : Result icmp.Said IcmpFault) (t : Transition) → P t → P (takes_icmp h packet r t)
   unfolding names_agents
   every-icmp packet (Ok (icmp.DiscoverAsk identifier)) t p =
       more _ t refl (SendsAgents packet.head.source identifier (live h.now h.known.agents.agents), (refl, refl), tt) p
@@ -155,7 +155,7 @@ module _ (h : Handing) (P : Turn → Type 0) (more : (step : Step) (t : Turn) �
   every-icmp packet (Ok (icmp.PrefixReply identifier options)) t p = every-drop whys.Role refl t p
   every-icmp packet (Err fault) t p = every-drop whys.Role refl t p
 
-  every-proto : (packet : Packet) → packet_of h.bytes ≡ Ok packet → (t : Turn) → P t → P (by_proto h packet t)
+  every-proto : (packet : Packet) → packet_of h.bytes ≡ Ok packet → (t : Transition) → P t → P (by_proto h packet t)
   every-proto packet read t p =
       cond_both ((packet.head.proto == 41) && (packet.head.destination.0 == h.me.own.0)) _ _ P
       (λ both. every-tunnel packet read (eqb-true packet.head.proto 41 (first_of (packet.head.proto == 41) (packet.head.destination.0 == h.me.own.0) both)) t p)
@@ -163,7 +163,7 @@ module _ (h : Handing) (P : Turn → Type 0) (more : (step : Step) (t : Turn) �
       (every-icmp packet (icmp_of (source_of packet.head) (destination_of packet.head) packet.body) t p)
       (every-drop whys.Role refl t p))
 
-  every-role : (packet : Packet) → packet_of h.bytes ≡ Ok packet → (message : Option Said) (t : Turn) → P t → P (by_role h packet message t)
+  every-role : (packet : Packet) → packet_of h.bytes ≡ Ok packet → (message : Option Said) (t : Transition) → P t → P (by_role h packet message t)
   every-role packet read None t p = every-proto packet read t p
   every-role packet read (Some (Update s a f l k t' o)) t p = every-update (registration packet.head.source packet.head.home s a f t' o) t p
   every-role packet read (Some (Refresh options)) t p = every-drop whys.Role refl t p
@@ -174,50 +174,50 @@ module _ (h : Handing) (P : Turn → Type 0) (more : (step : Step) (t : Turn) �
   every-role packet read (Some (Acknowledgement s k q t' o)) t p = every-drop whys.Role refl t p
   every-role packet read (Some (Error status home options)) t p = every-drop whys.Role refl t p
 
-  every-reply : (source : Address) (refusal : Refusal) (reply : Option (List ℕ)) → reply_packet h.me.own source h.bytes refusal.reply ≡ reply → (t : Turn) → P t → P (replies reply t)
+  every-reply : (source : Address) (refusal : Refusal) (reply : Option (List ℕ)) → reply_packet h.me.own source h.bytes refusal.reply ≡ reply → (t : Transition) → P t → P (replies reply t)
   every-reply source refusal None is t p = p
   every-reply source refusal (Some packet) is t p = more (Sends None packet) t refl (SendsReply source refusal.reply, (refl, is), tt) p
 
-  every-check : (packet : Packet) → packet_of h.bytes ≡ Ok packet → (r : Result (Option Said) Refusal) → Refuses r → (t : Turn) → P t → P (after_checks h packet r t)
+  every-check : (packet : Packet) → packet_of h.bytes ≡ Ok packet → (r : Result (Option Said) Refusal) → Refuses r → (t : Transition) → P t → P (after_checks h packet r t)
   unfolding refuses
   every-check packet read (Err refusal) right t p =
       every-reply packet.head.source refusal (reply_packet h.me.own packet.head.source h.bytes refusal.reply) refl
       (noted (Drops h.number refusal.why) t) (every-drop refusal.why right t p)
   every-check packet read (Ok message) right t p = every-role packet read message t p
 
-  every-destination : (packet : Packet) → packet_of h.bytes ≡ Ok packet → (careof : Option Address) → careof_at h.known h.now packet.head.destination ≡ careof → (t : Turn) → P t → P (by_destination h packet careof t)
+  every-destination : (packet : Packet) → packet_of h.bytes ≡ Ok packet → (careof : Option Address) → careof_at h.known h.now packet.head.destination ≡ careof → (t : Transition) → P t → P (by_destination h packet careof t)
   every-destination packet read (Some careof) at t p = every-interception packet.head.destination careof packet.head.proto at t p
   every-destination packet read None at t p =
       let standing = standing_of h.me h.known h.now packet.head in
       every-check packet read (checked standing (place_in h.bytes packet) packet) (checked-right standing (place_in h.bytes packet) packet) t p
 
-  every-receipt : (r : Result Packet NotPacket) → packet_of h.bytes ≡ r → (t : Turn) → P t → P (receives h r t)
+  every-receipt : (r : Result Packet NotPacket) → packet_of h.bytes ≡ r → (t : Transition) → P t → P (receives h r t)
   every-receipt (Err fault) read t p = every-drop (packet_why fault) (packet_why-dropped fault) t p
   every-receipt (Ok packet) read t p = every-destination packet read (careof_at h.known h.now packet.head.destination) refl t p
 
-  pub every-take : (t : Turn) → P t → P (takes h t)
+  pub every-take : (t : Transition) → P t → P (takes h t)
   unfolding takes
   every-take t p = every-receipt (packet_of h.bytes) refl t p
 
 -- over the other calls
-module _ (me : Identity) (P : Turn → Type 0) (more : (step : Step) (t : Turn) → is_call step ≡ false → SendsOwn me [] step → P t → P (noted step t)) where
-  every-release : (es : List Ending) (t : Turn) → P t → P (releases_all es t)
+module _ (me : Identity) (P : Transition → Type 0) (more : (step : Step) (t : Transition) → is_call step ≡ false → SendsOwn me [] step → P t → P (noted step t)) where
+  every-release : (es : List Ending) (t : Transition) → P t → P (releases_all es t)
   every-release [] t p = p
   every-release (e ∷ es) t p = every-release es (noted (Releases e.home) t) (more (Releases e.home) t refl tt p)
 
-  every-tick : (t : Turn) → P t → P (ticks t)
+  every-tick : (t : Transition) → P t → P (ticks t)
   unfolding ticks
   every-tick t p =
-      let rung : Turn = releases_all (due_ends t.now t.known.ends) t in
+      let rung : Transition = releases_all (due_ends t.now t.known.ends) t in
       more Rang rung refl tt (every-release (due_ends t.now t.known.ends) t p)
 
-  every-advertisement : (k : Known) (now : ℕ) (rows : List HomeRow) (t : Turn) → P t → P (advertises_all me.own k now rows t)
+  every-advertisement : (k : Known) (now : ℕ) (rows : List HomeRow) (t : Transition) → P t → P (advertises_all me.own k now rows t)
   unfolding advertises
   every-advertisement k now [] t p = p
   every-advertisement k now (r ∷ rows) t p =
       every-advertisement k now rows _ (more _ t refl (SendsPrefix r.home r.careof 0 (valid_at k now) (preferred_at k now), (refl, refl)) p)
 
-  every-plan : (t : Turn) → P t → P (plans me t)
+  every-plan : (t : Transition) → P t → P (plans me t)
   unfolding plans
   every-plan t p = every-advertisement t.known t.now (rows_at t.now t.known.homes) t p
 
@@ -227,14 +227,14 @@ own-of me k now shield bytes (Sends under packet) right = (right.0, right.1)
 own-of me k now shield bytes (Drops number why) right = right
 own-of me k now shield bytes _ right = tt
 
-module _ (me : Identity) (P : Turn → Type 0) where
-  pub every-handles : (c : Call) → ((step : Step) (t : Turn) → is_call step ≡ false → SendsOwn me (bytes_of c) step → P t → P (noted step t)) → (t : Turn) → P t → P (handles me c t)
+module _ (me : Identity) (P : Transition → Type 0) where
+  pub every-handles : (c : Call) → ((step : Step) (t : Transition) → is_call step ≡ false → SendsOwn me (bytes_of c) step → P t → P (noted step t)) → (t : Transition) → P t → P (handles me c t)
   every-handles (calls.Take number shield packet claim) more t p =
       every-take (handing me t.now t.known number shield packet claim) P (λ step u quiet right q. more step u quiet (own-of me t.known t.now shield packet step right) q) t p
   every-handles calls.Tick more t p = every-tick me P more t p
   every-handles (calls.Plan valid preferred) more t p = every-plan me P more t p
   every-handles (calls.Hear agent preference life) more t p = p
 
-  pub every-call : (c : Call) → ((step : Step) (t : Turn) → is_call step ≡ false → SendsOwn me (bytes_of c) step → P t → P (noted step t)) → ((t : Turn) → P t → P (noted (Called c) t)) → (t : Turn) → P t → P (does me c t)
+  pub every-call : (c : Call) → ((step : Step) (t : Transition) → is_call step ≡ false → SendsOwn me (bytes_of c) step → P t → P (noted step t)) → ((t : Transition) → P t → P (noted (Called c) t)) → (t : Transition) → P t → P (does me c t)
   unfolding does
   every-call c more called t p = every-handles c more (noted (Called c) t) (called t p)

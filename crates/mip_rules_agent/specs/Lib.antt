@@ -2,7 +2,7 @@ pub mod Calls
 pub mod Steps
 pub mod Known
 pub mod Questions
-pub mod Turns
+pub mod Transitions
 pub mod Verdicts
 pub mod Messages
 pub mod Rules

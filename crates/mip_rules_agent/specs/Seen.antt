@@ -3,7 +3,7 @@ use Rattle.std.specs.Prelude.{ℕ}
 use Rattle.mip_rules_agent.specs.declared.identity.Identity.{Identity}
 use Rattle.mip_rules_agent.specs.Known.{Known}
 use Rattle.mip_rules_agent.specs.Calls.{Call}
-use Rattle.mip_rules_agent.specs.Turns.{Turn}
+use Rattle.mip_rules_agent.specs.Transitions.{Transition}
 use Rattle.mip_rules_agent.specs.Doing.{turn_of}
 
 pub record AgentSeen : Type 0 where
@@ -11,7 +11,7 @@ pub record AgentSeen : Type 0 where
   pub known : Known
 
 -- the turn that a call is to it
-abbrev pub turn_at : AgentSeen → ℕ → Call → Turn
+abbrev pub turn_at : AgentSeen → ℕ → Call → Transition
 turn_at a now call = turn_of a.identity a.known now call
 
 -- and what the call makes of it

@@ -19,7 +19,7 @@ ghost use Rattle.mip_rules_agent.specs.Known.{Known};
 ghost use Rattle.mip_rules_agent.specs.Calls.{Call, Take, Tick, Plan, Hear, bytes_of};
 ghost use Rattle.mip_rules_agent.specs.Steps.{Step, answers_of, is_call, is_registration};
 ghost use Rattle.mip_rules_agent.specs.Questions.{known, is_served, binding_of, holds, is_standing, careof_at, agents_called, plan_called};
-ghost use Rattle.mip_rules_agent.specs.Turns.{Stands, with_turn};
+ghost use Rattle.mip_rules_agent.specs.Transitions.{Stands, with_turn};
 ghost use Rattle.mip_rules_agent.specs.Doing.{turn_of};
 ghost use Rattle.mip_rules_agent.specs.Verdicts.{verdict};
 ghost use Rattle.mip_rules_agent.specs.Soundness.{IsSound, IsBehind};

@@ -2,13 +2,13 @@
 use Rattle.std.proofs.Common.{ℕ, List, [], ◌∷◌, ◌++◌, refl, sym, subst}
 use Rattle.std.specs.List.{AllByRecursion}
 use Rattle.mip_entries.specs.declared.answer.Answer.{Answer}
-use Rattle.mip_turns.proofs.ShowLaws.{answers-noted}
+use Rattle.mip_transitions.proofs.ShowLaws.{answers-noted}
 use Rattle.mip_rules_correspondent.specs.declared.identity.Identity.{Identity}
 use Rattle.mip_rules_correspondent.specs.declared.known.Known.{Known}
 use Rattle.mip_rules_correspondent.specs.Calls.{Call}
 use Rattle.mip_rules_correspondent.specs.Steps.{Step, Called, Sends, Accepts, Denies, Drops, HandsUp, Idles, answer_of, answers_of}
 use Rattle.mip_rules_correspondent.specs.Questions.{after}
-use Rattle.mip_rules_correspondent.specs.Turns.{Turn, begun, noted}
+use Rattle.mip_rules_correspondent.specs.Transitions.{Transition, begun, noted}
 use Rattle.mip_rules_correspondent.specs.Doing.{turn_of}
 use Rattle.mip_rules_correspondent.specs.Sendings.{SendsOwn}
 use Rattle.mip_rules_correspondent.specs.Wholes.{IsWhole}
@@ -32,10 +32,10 @@ whole-step me c now (HandsUp number source destination proto payload) own = (ref
 whole-step me c now Idles own = (refl, tt)
 
 -- the answers so far are whole
-abbrev GivesWhole : Turn → Type 0
+abbrev GivesWhole : Transition → Type 0
 GivesWhole t = AreWhole (answers_of t.steps)
 
-whole-noted : (me : Identity) (c : Call) (step : Step) (t : Turn) → SendsOwn me c t.now step → GivesWhole t → GivesWhole (noted step t)
+whole-noted : (me : Identity) (c : Call) (step : Step) (t : Transition) → SendsOwn me c t.now step → GivesWhole t → GivesWhole (noted step t)
 whole-noted me c step t own whole =
     subst AreWhole (sym (answers-noted answer_of after step t)) (whole-append (answers_of t.steps) (answer_of step) whole (whole-step me c t.now step own))
 

@@ -2,25 +2,25 @@
 use Rattle.std.proofs.Common.{◌≡◌, ℕ, false, refl, ap, ◌∙◌}
 use Rattle.std.specs.Prelude.{if◌then◌else◌, Bool}
 use Rattle.mip_words.specs.declared.moment.Moment.{Moment}
-use Rattle.mip_turns.proofs.TurnLaws.{noted-now, noted-known}
+use Rattle.mip_transitions.proofs.TurnLaws.{noted-now, noted-known}
 use Rattle.mip_rules_correspondent.specs.declared.identity.Identity.{Identity}
 use Rattle.mip_rules_correspondent.specs.declared.known.Known.{Known}
 use Rattle.mip_rules_correspondent.specs.Calls.{Call}
 use Rattle.mip_rules_correspondent.specs.Steps.{Step, Called, is_call}
 use Rattle.mip_rules_correspondent.specs.Questions.{last_after, after}
-use Rattle.mip_rules_correspondent.specs.Turns.{Turn, begun, noted}
+use Rattle.mip_rules_correspondent.specs.Transitions.{Transition, begun, noted}
 use Rattle.mip_rules_correspondent.specs.Doing.{does, turn_of}
 use Rattle.mip_rules_correspondent.proofs.Walks.{every-handles}
 
-last-noted : (step : Step) (t : Turn) → (noted step t).known.last ≡ last_after t.known t.now step
+last-noted : (step : Step) (t : Transition) → (noted step t).known.last ≡ last_after t.known t.now step
 unfolding after
 last-noted step t = ap (λ (k : Known). k.last) (noted-known after step t)
 
 -- the turn is at this moment, and so is the last that is known
-abbrev IsAt : ℕ → Turn → Type 0
+abbrev IsAt : ℕ → Transition → Type 0
 IsAt now t = (t.now ≡ now) × (t.known.last.0 ≡ now)
 
-at-noted : (now : ℕ) (step : Step) (t : Turn) → is_call step ≡ false → IsAt now t → IsAt now (noted step t)
+at-noted : (now : ℕ) (step : Step) (t : Transition) → is_call step ≡ false → IsAt now t → IsAt now (noted step t)
 at-noted now step t silent is = (
   noted-now after step t ∙ is.0,
   ap (λ (m : Moment). m.0) (last-noted step t ∙ ap (λ (b : Bool). if b then record { 0 = t.now } else t.known.last) silent) ∙ is.1,

@@ -10,8 +10,8 @@ use Rattle.mip_mobhdr.specs.declared.fault.Fault.{Fault}
 use Rattle.mip_mobhdr.specs.Said.{Said}
 use Rattle.mip_mobhdr.specs.Said.Said.{Refresh, HomeInit, CareofInit, HomeTest, CareofTest, Update, Acknowledgement, Error}
 use Rattle.mip_mobhdr.specs.Reading.{message_of}
-use Rattle.mip_says.specs.Says.{message_in}
-use Rattle.mip_turns.proofs.TurnLaws.{noted_all, noted_all-is}
+use Rattle.mip_inspection.specs.Says.{message_in}
+use Rattle.mip_transitions.proofs.TurnLaws.{noted_all, noted_all-is}
 use Rattle.mip_updates.specs.declared.registration.Registration.{Registration}
 use Rattle.mip_updates.specs.Registrations.{registration, registration_said, registration_in}
 use Rattle.mip_updates.specs.Acks.{ack_packet}
@@ -22,7 +22,7 @@ use Rattle.mip_rules_correspondent.specs.declared.verdict.Verdict.TheVariants.{R
 use Rattle.mip_rules_correspondent.specs.Calls as calls
 use Rattle.mip_rules_correspondent.specs.Steps.{Step, Called, Sends, Accepts, is_acceptance}
 use Rattle.mip_rules_correspondent.specs.Questions.{after}
-use Rattle.mip_rules_correspondent.specs.Turns.{Turn, begun, noted}
+use Rattle.mip_rules_correspondent.specs.Transitions.{Transition, begun, noted}
 use Rattle.mip_rules_correspondent.specs.Verdicts.{verdict}
 use Rattle.mip_rules_correspondent.specs.Rules.{answers_home_init, answers_careof_init, bench, denies, accepts, judged, takes_update, hands_up, by_message}
 use Rattle.mip_rules_correspondent.specs.Doing.{parts, does, turn_of}
@@ -47,13 +47,13 @@ parted_read p m e = by (p.head.proto == 135) e
     by false e = absurd cc
 
 module _ (me : Identity) (k : Known) (now number : ℕ) (p : Packet) where
-  abbrev Is : Turn → Type 0
+  abbrev Is : Transition → Type 0
   Is t = (t.now ≡ now) × ((list_any is_acceptance t.steps ≡ false) ⊎ IsUpdateParted me k now number p t.steps)
 
-  abbrev given : Turn
+  abbrev given : Transition
   given = noted (Called (calls.Part number p)) (begun now k)
 
-  calm : (t : Turn) → AcceptsNone now t → Is t
+  calm : (t : Transition) → AcceptsNone now t → Is t
   calm t none = (none.0, inl none.1)
 
   -- nothing behind the call, or one step or two, none of them an acceptance
@@ -73,7 +73,7 @@ module _ (me : Identity) (k : Known) (now number : ℕ) (p : Packet) where
   of_verdict r mobility asks (Deny status last kbm) is = two _ _ refl refl
   of_verdict r mobility asks (Accept home binding a granted kbm) is = by r.ack
     where
-      first : Turn
+      first : Transition
       first = noted (Accepts number home binding a) given
 
       taken : (rest : List Step) → list_any is_acceptance rest ≡ false → list_any is_refusal rest ≡ false → Is (noted_all after rest first)
@@ -96,14 +96,14 @@ module _ (me : Identity) (k : Known) (now number : ℕ) (p : Packet) where
         }),
       )
 
-      by : (ack : Bool) → Is (let t : Turn = (if ack then noted (Sends (ack_packet me.own r 0 r.sequence granted (Some kbm))) first else first) in t)
+      by : (ack : Bool) → Is (let t : Transition = (if ack then noted (Sends (ack_packet me.own r 0 r.sequence granted (Some kbm))) first else first) in t)
       by true = taken (Sends (ack_packet me.own r 0 r.sequence granted (Some kbm)) ∷ []) refl refl
       by false = taken [] refl refl
 
   of_update : (r : Registration) → p.head.proto ≡ 135 → registration_in p.head.source p.head.home p.body ≡ Some r → Is (takes_update me number r p.body given)
   unfolding takes_update after
   of_update r mobility asks =
-      subst (λ (u : Turn). Is (judged me number r (verdict (bench me u.known u.now r) r p.body) given)) (sym (noted_all-is after (Called (calls.Part number p) ∷ []) (begun now k)))
+      subst (λ (u : Transition). Is (judged me number r (verdict (bench me u.known u.now r) r p.body) given)) (sym (noted_all-is after (Called (calls.Part number p) ∷ []) (begun now k)))
       (of_verdict r mobility asks (verdict (bench me k now r) r p.body) refl)
 
   of_message : (m : Option Said) → message_in p ≡ m → Is (by_message me number p m given)

@@ -4,13 +4,13 @@ use Rattle.std.specs.Prelude.{Option, Some, None, unwrap_or, option_map, fold, i
 use Rattle.mip_bcache.specs.Seen.{CacheSeen, expired}
 use Rattle.mip_lists.specs.Last.{or_else, last_where}
 use Rattle.mip_entries.specs.Stamped.{Stamped}
-use Rattle.mip_turns.specs.Turns.{StandsBy}
-use Rattle.mip_turns.proofs.TurnLaws.{known-push}
+use Rattle.mip_transitions.specs.Transitions.{StandsBy}
+use Rattle.mip_transitions.proofs.TurnLaws.{known-push}
 use Rattle.mip_rules_correspondent.specs.declared.known.Known.{Known}
 use Rattle.mip_rules_correspondent.specs.Calls.{is_tick}
 use Rattle.mip_rules_correspondent.specs.Steps.{Step, Called, Sends, Accepts, Denies, Drops, HandsUp, Idles, is_call}
 use Rattle.mip_rules_correspondent.specs.Questions.{last_after, cache_after, after, fresh, known}
-use Rattle.mip_rules_correspondent.specs.Turns.{Stands}
+use Rattle.mip_rules_correspondent.specs.Transitions.{Stands}
 
 -- whoever stands for a past knows what it leaves known, and the other way round
 pub stands-known : (room numbers : ℕ) (past : List (Stamped Step)) (k : Known) → Stands room numbers past k → k ≡ known room numbers past

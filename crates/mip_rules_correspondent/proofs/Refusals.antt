@@ -7,13 +7,13 @@ use Rattle.mip_words.specs.declared.shield.Shield.{Shield}
 use Rattle.mip_ipv6.specs.Packet.{Packet}
 use Rattle.mip_reception.specs.Refusing.{refuses}
 use Rattle.mip_bcache.specs.Seen.{CacheSeen, expired}
-use Rattle.mip_turns.proofs.TurnLaws.{noted-known, none-parts}
+use Rattle.mip_transitions.proofs.TurnLaws.{noted-known, none-parts}
 use Rattle.mip_rules_correspondent.specs.declared.identity.Identity.{Identity}
 use Rattle.mip_rules_correspondent.specs.declared.known.Known.{Known}
 use Rattle.mip_rules_correspondent.specs.Calls.{Call, Take, Part, is_tick}
 use Rattle.mip_rules_correspondent.specs.Steps.{Step, Called, Sends, Accepts, Denies, Drops, HandsUp, Idles, answer_of, answers_of, is_acceptance, is_call}
 use Rattle.mip_rules_correspondent.specs.Questions.{cache_after, after}
-use Rattle.mip_rules_correspondent.specs.Turns.{Turn, begun, noted}
+use Rattle.mip_rules_correspondent.specs.Transitions.{Transition, begun, noted}
 use Rattle.mip_rules_correspondent.specs.Doing.{does, turn_of}
 use Rattle.mip_rules_correspondent.specs.Refusing.{is_refusal, hands_over}
 use Rattle.mip_rules_correspondent.specs.Taken.{IsUpdateTaken, IsUpdateParted}
@@ -22,7 +22,7 @@ use Rattle.mip_rules_correspondent.proofs.Parted.{parted_is}
 use Rattle.mip_rules_correspondent.proofs.Walks.{every-handles}
 
 -- unless an update is accepted on the way from one turn to another, the cache is the same
-abbrev pub Keeps : Turn → Turn → Type 0
+abbrev pub Keeps : Transition → Transition → Type 0
 Keeps t u = list_any is_acceptance u.steps ≡ false → u.known.cache ≡ t.known.cache
 
 -- only an acceptance and a call for the passing of time change the cache
@@ -36,17 +36,17 @@ same-cache (HandsUp number source destination proto payload) cache at silent non
 same-cache Idles cache at silent none = refl
 
 -- the cache behind a step
-cache-noted : (step : Step) (t : Turn) → (noted step t).known.cache ≡ cache_after t.known.cache t.now step
+cache-noted : (step : Step) (t : Transition) → (noted step t).known.cache ≡ cache_after t.known.cache t.now step
 unfolding after
 cache-noted step t = ap (λ (k : Known). k.cache) (noted-known after step t)
 
-keeps-noted : (t : Turn) (step : Step) (u : Turn) → (is_acceptance step ≡ false → cache_after u.known.cache u.now step ≡ u.known.cache) → Keeps t u → Keeps t (noted step u)
+keeps-noted : (t : Transition) (step : Step) (u : Transition) → (is_acceptance step ≡ false → cache_after u.known.cache u.now step ≡ u.known.cache) → Keeps t u → Keeps t (noted step u)
 keeps-noted t step u same keeps none =
     let both = none-parts after is_acceptance step u none in
     cache-noted step u ∙ same both.1 ∙ keeps both.0
 
 -- of a call that is not for the passing of time
-pub keeps-call : (me : Identity) (c : Call) (t : Turn) → is_tick c ≡ false → Keeps t (does me c t)
+pub keeps-call : (me : Identity) (c : Call) (t : Transition) → is_tick c ≡ false → Keeps t (does me c t)
 unfolding does
 keeps-call me c t other =
     every-handles me c (Keeps t) (λ step u silent own keeps. keeps-noted t step u (λ none. same-cache step u.known.cache u.now silent none) keeps) c refl (noted (Called c) t)

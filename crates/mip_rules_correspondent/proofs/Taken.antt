@@ -23,9 +23,9 @@ use Rattle.mip_nonce.specs.Window.{number_named}
 use Rattle.mip_tokens.specs.Token.{is_authentic}
 use Rattle.mip_tokens.specs.declared.kbm.Kbm.{Kbm}
 use Rattle.mip_bcache.specs.declared.accepted.Accepted.{Accepted}
-use Rattle.mip_turns.proofs.TurnLaws.{noted-now, noted_all, noted_all-is, none-noted}
+use Rattle.mip_transitions.proofs.TurnLaws.{noted-now, noted_all, noted_all-is, none-noted}
 use Rattle.mip_reception.specs.declared.refusal.Refusal.{Refusal}
-use Rattle.mip_reception.specs.declared.standing.Standing.{Standing}
+use Rattle.mip_reception.specs.declared.address_match.AddressMatch.{AddressMatch}
 use Rattle.mip_reception.specs.Checks.{message_or_refusal, message_at, then_home, is_probe, is_update, checked}
 use Rattle.mip_reception.specs.Replies.{reply_packet}
 use Rattle.mip_rules_correspondent.specs.declared.identity.Identity.{Identity}
@@ -37,7 +37,7 @@ use Rattle.mip_rules_correspondent.specs.Calls as calls
 use Rattle.mip_rules_correspondent.specs.Calls.{Call}
 use Rattle.mip_rules_correspondent.specs.Steps.{Step, Called, Sends, Accepts, Drops, is_acceptance}
 use Rattle.mip_rules_correspondent.specs.Questions.{held_of, after}
-use Rattle.mip_rules_correspondent.specs.Turns.{Turn, begun, noted}
+use Rattle.mip_rules_correspondent.specs.Transitions.{Transition, begun, noted}
 use Rattle.mip_updates.specs.Registrations.{registration, registration_said, registration_in, home_of, careof_of, registered_of}
 use Rattle.mip_rules_correspondent.specs.Verdicts.{Bench, by_room, by_sequence, by_key, kbm_of, by_numbers, careof_number, by_indices, verdict}
 use Rattle.mip_updates.specs.Acks.{ack_packet}
@@ -117,7 +117,7 @@ passes_home holds None (Ok message) m e = e
 passes_home holds (Some home) (Ok message) m e =
     either (Ok m) (is_probe message) _ _ (λ e. absurd cc) (either (Ok m) (is_update message || holds) _ _ (λ e. e) (λ e. absurd cc)) e
 
-checked_message : (standing : Standing) (place : ℕ) (p : Packet) (m : Option Said) → checked standing place p ≡ Ok m → message_at place p ≡ Ok m
+checked_message : (standing : AddressMatch) (place : ℕ) (p : Packet) (m : Option Said) → checked standing place p ≡ Ok m → message_at place p ≡ Ok m
 unfolding checked
 checked_message standing place p m =
     either (Ok m) (not standing.is_mine) _ _ (λ e. absurd cc)
@@ -139,23 +139,23 @@ message_proto place p m =
     cond_both (p.head.proto == 135) _ _ (λ (r : Result (Option Said) Refusal). r ≡ Ok (Some m) → p.head.proto ≡ 135) (λ is e. eqb-true p.head.proto 135 is) (λ other e. absurd cc)
 
 -- a call at a moment in which nothing is accepted so far: when it begins, and behind one more step
-abbrev pub AcceptsNone : ℕ → Turn → Type 0
+abbrev pub AcceptsNone : ℕ → Transition → Type 0
 AcceptsNone now t = (t.now ≡ now) × (list_any is_acceptance t.steps ≡ false)
 
 pub none_called : (k : Known) (now : ℕ) (c : Call) → AcceptsNone now (noted (Called c) (begun now k))
 none_called k now c = (noted-now after (Called c) (begun now k), none-noted after is_acceptance (Called c) (begun now k) refl refl)
 
-pub none_more : (now : ℕ) (step : Step) (t : Turn) → is_acceptance step ≡ false → AcceptsNone now t → AcceptsNone now (noted step t)
+pub none_more : (now : ℕ) (step : Step) (t : Transition) → is_acceptance step ≡ false → AcceptsNone now t → AcceptsNone now (noted step t)
 none_more now step t silent none = (noted-now after step t ∙ none.0, none-noted after is_acceptance step t none.1 silent)
 
 module _ (me : Identity) (k : Known) (now number : ℕ) (shield : Option Shield) (bytes : List ℕ) where
-  abbrev Is : Turn → Type 0
+  abbrev Is : Transition → Type 0
   Is t = (t.now ≡ now) × ((list_any is_acceptance t.steps ≡ false) ⊎ IsUpdateTaken me k now number shield bytes t.steps)
 
-  abbrev given : Turn
+  abbrev given : Transition
   given = noted (Called (calls.Take number shield bytes)) (begun now k)
 
-  calm : (t : Turn) → AcceptsNone now t → Is t
+  calm : (t : Transition) → AcceptsNone now t → Is t
   calm t none = (none.0, inl none.1)
 
   -- nothing behind the call, or one step or two, none of them an acceptance
@@ -175,7 +175,7 @@ module _ (me : Identity) (k : Known) (now number : ℕ) (shield : Option Shield)
   of_verdict p r read mobility asks (Deny status last kbm) is = two _ _ refl refl
   of_verdict p r read mobility asks (Accept home binding a granted kbm) is = by r.ack
     where
-      first : Turn
+      first : Transition
       first = noted (Accepts number home binding a) given
 
       taken : (rest : List Step) → list_any is_acceptance rest ≡ false → list_any is_refusal rest ≡ false → Is (noted_all after rest first)
@@ -200,14 +200,14 @@ module _ (me : Identity) (k : Known) (now number : ℕ) (shield : Option Shield)
         }),
       )
 
-      by : (ack : Bool) → Is (let t : Turn = (if ack then noted (Sends (ack_packet me.own r 0 r.sequence granted (Some kbm))) first else first) in t)
+      by : (ack : Bool) → Is (let t : Transition = (if ack then noted (Sends (ack_packet me.own r 0 r.sequence granted (Some kbm))) first else first) in t)
       by true = taken (Sends (ack_packet me.own r 0 r.sequence granted (Some kbm)) ∷ []) refl refl
       by false = taken [] refl refl
 
   of_update : (p : Packet) (r : Registration) → packet_of bytes ≡ Ok p → p.head.proto ≡ 135 → registration_in p.head.source p.head.home p.body ≡ Some r → Is (takes_update me number r p.body given)
   unfolding takes_update after
   of_update p r read mobility asks =
-      subst (λ (u : Turn). Is (judged me number r (verdict (bench me u.known u.now r) r p.body) given)) (sym (noted_all-is after (Called (calls.Take number shield bytes) ∷ []) (begun now k)))
+      subst (λ (u : Transition). Is (judged me number r (verdict (bench me u.known u.now r) r p.body) given)) (sym (noted_all-is after (Called (calls.Take number shield bytes) ∷ []) (begun now k)))
       (of_verdict p r read mobility asks (verdict (bench me k now r) r p.body) refl)
 
   of_message : (p : Packet) (place : ℕ) (m : Option Said) → packet_of bytes ≡ Ok p → message_at place p ≡ Ok m → Is (by_message me number p m given)
@@ -229,7 +229,7 @@ module _ (me : Identity) (k : Known) (now number : ℕ) (shield : Option Shield)
   unfolding by_role
   of_role p place m read is = by (is_for_part p.head.proto m)
     where
-      by : (mine : Bool) → Is (let t : Turn = (if mine then by_message me number p m given else noted (Drops number (other_why p.head.proto)) given) in t)
+      by : (mine : Bool) → Is (let t : Transition = (if mine then by_message me number p m given else noted (Drops number (other_why p.head.proto)) given) in t)
       by true = of_message p place m read is
       by false = one _ refl
 
@@ -257,7 +257,7 @@ pub refreshed_none : (me : Identity) (k : Known) (now : ℕ) (home : Address) �
 unfolding does refreshes
 refreshed_none me k now home = by (held_of first.known first.now home)
   where
-    first : Turn
+    first : Transition
     first = noted (Called (calls.Refresh home)) (begun now k)
 
     by : (held : Option Address) → AcceptsNone now (request_refresh me home held first)

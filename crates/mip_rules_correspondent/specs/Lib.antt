@@ -1,7 +1,7 @@
 pub mod Calls
 pub mod Steps
 pub mod Questions
-pub mod Turns
+pub mod Transitions
 pub mod Verdicts
 pub mod Soundness
 pub mod Rows

@@ -3,7 +3,7 @@ use Rattle.std.specs.Prelude.{ℕ}
 use Rattle.mip_rules_correspondent.specs.declared.identity.Identity.{Identity}
 use Rattle.mip_rules_correspondent.specs.declared.known.Known.{Known}
 use Rattle.mip_rules_correspondent.specs.Calls.{Call}
-use Rattle.mip_rules_correspondent.specs.Turns.{Turn}
+use Rattle.mip_rules_correspondent.specs.Transitions.{Transition}
 use Rattle.mip_rules_correspondent.specs.Doing.{turn_of}
 
 pub record CorrespondentSeen : Type 0 where
@@ -11,7 +11,7 @@ pub record CorrespondentSeen : Type 0 where
   pub known : Known
 
 -- the turn that a call is to it
-abbrev pub turn_at : CorrespondentSeen → ℕ → Call → Turn
+abbrev pub turn_at : CorrespondentSeen → ℕ → Call → Transition
 turn_at c now call = turn_of c.identity c.known now call
 
 -- and what the call makes of it

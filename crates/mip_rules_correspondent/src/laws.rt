@@ -21,11 +21,11 @@ ghost use Rattle.mip_rules_correspondent.specs.declared.verdict.Verdict.TheVaria
 ghost use Rattle.mip_rules_correspondent.specs.Soundness.{IsGenuine, IsSound, IsBehind};
 ghost use Rattle.mip_rules_correspondent.specs.Rows.{JudgesInOrder};
 ghost use Rattle.mip_rules_correspondent.specs.Verdicts.{Bench, verdict};
-ghost use Rattle.mip_turns.specs.Pasts.{RisesFrom};
+ghost use Rattle.mip_transitions.specs.Pasts.{RisesFrom};
 ghost use Rattle.mip_rules_correspondent.specs.Calls.{Call, Take, Part, Refresh, Send, Tick, is_tick};
 ghost use Rattle.mip_rules_correspondent.specs.Steps.{Step, answers_of, is_call, is_acceptance};
 ghost use Rattle.mip_rules_correspondent.specs.Questions.{known, held_of, holds_for, floor_of, is_full_for};
-ghost use Rattle.mip_rules_correspondent.specs.Turns.{Turn, Stands, with_turn};
+ghost use Rattle.mip_rules_correspondent.specs.Transitions.{Transition, Stands, with_turn};
 ghost use Rattle.mip_rules_correspondent.specs.Pasts.{accepted_in};
 ghost use Rattle.mip_rules_correspondent.specs.Doing.{does, turn_of};
 ghost use Rattle.mip_rules_correspondent.specs.Sendings.{SendsOwn};
@@ -91,7 +91,7 @@ pub fn what_is_accepted_was_taken()
 /// acceptance, unless it is for the passing of time.
 pub fn refused_changes_no_row()
     ensures refused { (me : Identity) (k : Known) (now : ℕ) (c : Call) → hands_over c ≡ true → list_any is_refusal (turn_of me k now c).steps ≡ true → (turn_of me k now c).known.cache ≡ k.cache }
-    ensures silent { (me : Identity) (c : Call) (t : Turn) → is_tick c ≡ false → list_any is_acceptance (does me c t).steps ≡ false → (does me c t).known.cache ≡ t.known.cache }
+    ensures silent { (me : Identity) (c : Call) (t : Transition) → is_tick c ≡ false → list_any is_acceptance (does me c t).steps ≡ false → (does me c t).known.cache ≡ t.known.cache }
 {}
 
 /// Each verdict comes where its row says, and no row before it applies.

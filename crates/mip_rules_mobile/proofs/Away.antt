@@ -6,17 +6,17 @@ use Rattle.mip_words.specs.declared.address.Address.{Address}
 use Rattle.mip_nonce.specs.Secrets.{Life}
 use Rattle.mip_entries.specs.declared.answer.Answer.{Answer}
 use Rattle.mip_entries.specs.declared.answer.Answer.TheVariants.{Send, Note}
-use Rattle.mip_turns.proofs.TurnLaws.{noted-steps}
+use Rattle.mip_transitions.proofs.TurnLaws.{noted-steps}
 use Rattle.mip_entries.specs.Stamped.{Stamped}
-use Rattle.mip_rules_mobile.specs.declared.standing.Standing.{Standing}
-use Rattle.mip_rules_mobile.specs.declared.standing.Standing.TheVariants.{Detached, AtHome, Away}
+use Rattle.mip_rules_mobile.specs.declared.attachment.Attachment.{Attachment}
+use Rattle.mip_rules_mobile.specs.declared.attachment.Attachment.TheVariants.{Detached, AtHome, Away}
 use Rattle.mip_rules_mobile.specs.Calls as calls
 use Rattle.mip_rules_mobile.specs.Calls.{Call}
 use Rattle.mip_rules_mobile.specs.Steps.{Step, Called, Parts, Notes, Sends, Unsends, Drops, Claims, Releases, FindsTaken, Arrives, Detaches, Restarts, Registers, Unregisters, IsRefused, Resequences, Seeks, SeeksAgain, GivesUp, Finds, Chooses, Learns, Meets, Tries, Updates, Forgets, Binds, Unbinds, Waits, Stops, Rings, answer_of, answers_of}
 use Rattle.mip_rules_mobile.specs.Known.{Known}
 use Rattle.mip_rules_mobile.specs.HomeQuestions.{home_of, standing_said}
 use Rattle.mip_rules_mobile.specs.Questions.{after}
-use Rattle.mip_rules_mobile.specs.Turns.{Turn, begun, noted}
+use Rattle.mip_rules_mobile.specs.Transitions.{Transition, begun, noted}
 use Rattle.mip_rules_mobile.specs.Fitting.{kind_of, OfAck, Steady}
 use Rattle.mip_rules_mobile.specs.MovingRules.{registers_if_away, restarts}
 use Rattle.mip_rules_mobile.specs.Answering.{EachAnswer, LeavesRight, LeavesFrom, IsElsewhere, AreFrom, stays_put}
@@ -106,10 +106,10 @@ one-more home [] step all one = (one, tt)
 one-more home (s ∷ steps) step all one = (all.0, one-more home steps step all.1 one)
 
 -- the steps of a turn so far
-abbrev Puts : Address → Turn → Type 0
+abbrev Puts : Address → Transition → Type 0
 Puts home t = AllStay home t.steps
 
-puts-noted : (home : Address) (step : Step) (t : Turn) → Stays home step → Puts home t → Puts home (noted step t)
+puts-noted : (home : Address) (step : Step) (t : Transition) → Stays home step → Puts home t → Puts home (noted step t)
 puts-noted home step t one all = subst (AllStay home) (sym (noted-steps after step t)) (one-more home t.steps step all one)
 
 module _ (c : Call) (home : Address) where
@@ -128,22 +128,22 @@ module _ (c : Call) (home : Address) where
   drops : Dropping (Puts home)
   drops number why t right p = puts-noted home (Drops number why) t refl p
 
-  restart-stays : (secrets : Life) (t : Turn) → Puts home t → Puts home (restarts secrets t)
+  restart-stays : (secrets : Life) (t : Transition) → Puts home t → Puts home (restarts secrets t)
   unfolding restarts
   restart-stays secrets t p = by t.known.standing refl
     where
-      first : Turn
+      first : Transition
       first = noted (Restarts secrets) t
 
       q : Puts home first
       q = puts-noted home (Restarts secrets) t refl p
 
-      by : (s : Standing) → t.known.standing ≡ s → Puts home (registers_if_away s first)
+      by : (s : Attachment) → t.known.standing ≡ s → Puts home (registers_if_away s first)
       by Detached here = q
       by AtHome here = q
       by (Away careof) here = every-registers c (Puts home) more careof first (standing-noted (Restarts secrets) t ∙ here) q
 
-  every-stays : stays_put c ≡ true → (t : Turn) → Puts home t → Puts home (handles c t)
+  every-stays : stays_put c ≡ true → (t : Transition) → Puts home t → Puts home (handles c t)
   every-stays stays t p = by c refl stays
     where
       staying : (d : Call) → c ≡ d → stays_put d ≡ true → is_restart d ≡ false → Puts home (handles d t)
@@ -169,7 +169,7 @@ from-answers : (k : Known) (careof : Address) → k.standing ≡ Away careof →
 from-answers k careof here [] right = tt
 from-answers k careof here (Note entry ∷ answers) right = (tt, from-answers k careof here answers right.1)
 from-answers k careof here (Send shield packet ∷ answers) right =
-    let leaves : LeavesFrom (Away careof) (home_of k) packet = subst (λ (s : Standing). LeavesFrom s (home_of k) packet) here right.0 in
+    let leaves : LeavesFrom (Away careof) (home_of k) packet = subst (λ (s : Attachment). LeavesFrom s (home_of k) packet) here right.0 in
     (leaves.1, from-answers k careof here answers right.1)
 
 both : (careof : Address) (first second : List Answer) → AreFrom careof first → AreFrom careof second → AreFrom careof (first ++ second)
@@ -179,7 +179,7 @@ both careof (a ∷ first) second one two = (one.0, both careof first second one.
 -- and it stands there from step to step
 stands-on : (k : Known) (s : Stamped Step) (home careof : Address) → k.standing ≡ Away careof → home_of k ≡ home → Stays home s.step → (let l : Known = after k s in l.standing) ≡ Away careof
 unfolding after
-stands-on k s home careof here same stays = ap (λ (o : Option Standing). unwrap_or o k.standing) (ap (λ (h : Address). standing_said h s.step) same ∙ stays) ∙ here
+stands-on k s home careof here same stays = ap (λ (o : Option Attachment). unwrap_or o k.standing) (ap (λ (h : Address). standing_said h s.step) same ∙ stays) ∙ here
 
 along : (now : ℕ) (home careof : Address) (k : Known) (steps : List Step) → k.standing ≡ Away careof → home_of k ≡ home → AllStay home steps → EachAnswer LeavesRight now k steps → AreFrom careof (answers_of steps)
 along now home careof k [] here same stays each = tt

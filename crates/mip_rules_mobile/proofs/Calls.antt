@@ -6,13 +6,13 @@ use Rattle.mip_words.specs.declared.address.Address.{Address}
 use Rattle.mip_words.specs.declared.moment.Moment.{Moment}
 use Rattle.mip_nonce.specs.Secrets.{Life}
 use Rattle.mip_entries.specs.Stamped.{Stamped}
-use Rattle.mip_turns.specs.Turns.{StandsBy}
-use Rattle.mip_turns.proofs.TurnLaws.{noted-now, noted-known, stands-noted, stands-begun}
+use Rattle.mip_transitions.specs.Transitions.{StandsBy}
+use Rattle.mip_transitions.proofs.TurnLaws.{noted-now, noted-known, stands-noted, stands-begun}
 use Rattle.mip_rules_mobile.specs.Calls.{Call}
 use Rattle.mip_rules_mobile.specs.Steps.{Step, Called, Parts, Notes, Drops, is_call}
 use Rattle.mip_rules_mobile.specs.Known.{Known}
 use Rattle.mip_rules_mobile.specs.Questions.{last_after, after, fresh, known}
-use Rattle.mip_rules_mobile.specs.Turns.{Turn, begun, noted, Stands, with_turn}
+use Rattle.mip_rules_mobile.specs.Transitions.{Transition, begun, noted, Stands, with_turn}
 use Rattle.mip_rules_mobile.specs.Doing.{does, turn_of}
 use Rattle.mip_rules_mobile.proofs.Walks.{every-handles, every-call}
 
@@ -25,7 +25,7 @@ pub call-stands : (home : Address) (declared : Option Address) (numbers : ℕ) (
     → Stands home declared numbers secrets past k → Stands home declared numbers secrets (with_turn past (turn_of k now c)) (turn_of k now c).known
 call-stands home declared numbers secrets past k now c stands =
     let first = fresh home declared numbers secrets in
-    every-call c (λ (t : Turn). Stands home declared numbers secrets (with_turn past t) t.known)
+    every-call c (λ (t : Transition). Stands home declared numbers secrets (with_turn past t) t.known)
     (λ step t steady fits s. stands-noted after first past step t s)
     (λ call t s. stands-noted after first past (Parts call) t s)
     (λ entry t own s. stands-noted after first past (Notes entry) t s)
@@ -35,15 +35,15 @@ call-stands home declared numbers secrets past k now c stands =
     (λ t s. stands-noted after first past (Called c) t s)
     (begun now k) (stands-begun after first past now k stands)
 
-last-noted : (step : Step) (t : Turn) → (noted step t).known.last ≡ last_after t.known t.now step
+last-noted : (step : Step) (t : Transition) → (noted step t).known.last ≡ last_after t.known t.now step
 unfolding after
 last-noted step t = ap (λ (k : Known). k.last) (noted-known after step t)
 
 -- the turn is at this moment, and so is the last that is known
-abbrev IsAt : ℕ → Turn → Type 0
+abbrev IsAt : ℕ → Transition → Type 0
 IsAt now t = (t.now ≡ now) × (t.known.last.0 ≡ now)
 
-at-noted : (now : ℕ) (step : Step) (t : Turn) → IsAt now t → IsAt now (noted step t)
+at-noted : (now : ℕ) (step : Step) (t : Transition) → IsAt now t → IsAt now (noted step t)
 at-noted now step t is = (noted-now after step t ∙ is.0, ap (λ (m : Moment). m.0) (last-noted step t) ∙ by (is_call step))
   where
     by : (b : Bool) → (let m : Moment = (if b then record { 0 = t.now } else t.known.last) in m.0) ≡ now

@@ -12,9 +12,9 @@ use Rattle.mip_mobhdr.specs.declared.fault.Fault.{Fault}
 use Rattle.mip_mobhdr.specs.Said.{Said}
 use Rattle.mip_mobhdr.specs.Reading.{message_of}
 use Rattle.mip_tunnel.specs.Tunnel.{inner, opened}
-use Rattle.mip_says.specs.Says.{message_in}
+use Rattle.mip_inspection.specs.Says.{message_in}
 use Rattle.mip_reception.specs.declared.refusal.Refusal.{Refusal}
-use Rattle.mip_reception.specs.declared.standing.Standing.{Standing}
+use Rattle.mip_reception.specs.declared.address_match.AddressMatch.{AddressMatch}
 use Rattle.mip_reception.specs.Checks.{message_or_refusal, message_at, then_home, is_probe, is_update, checked}
 
 -- whichever way a choice goes
@@ -28,7 +28,7 @@ passes_home holds None (Ok message) m e = e
 passes_home holds (Some home) (Ok message) m e =
     either (Ok m) (is_probe message) _ _ (λ e. absurd cc) (either (Ok m) (is_update message || holds) _ _ (λ e. e) (λ e. absurd cc)) e
 
-checked_message : (standing : Standing) (place : ℕ) (p : Packet) (m : Option Said) → checked standing place p ≡ Ok m → message_at place p ≡ Ok m
+checked_message : (standing : AddressMatch) (place : ℕ) (p : Packet) (m : Option Said) → checked standing place p ≡ Ok m → message_at place p ≡ Ok m
 unfolding checked
 checked_message standing place p m =
     either (Ok m) (not standing.is_mine) _ _ (λ e. absurd cc)
@@ -40,7 +40,7 @@ read-in : (place : ℕ) (p : Packet) (r : Result Said Fault) (m : Option Said) �
 read-in place p (Ok message) m e = cc
 read-in place p (Err fault) m e = absurd cc
 
-pub checked-in : (standing : Standing) (place : ℕ) (p : Packet) (m : Option Said) → checked standing place p ≡ Ok m → message_in p ≡ m
+pub checked-in : (standing : AddressMatch) (place : ℕ) (p : Packet) (m : Option Said) → checked standing place p ≡ Ok m → message_in p ≡ m
 unfolding message_at
 checked-in standing place p m e = by (p.head.proto == mobility_header) (checked_message standing place p m e)
   where

@@ -1,13 +1,13 @@
 -- Each step of a call fits where it is taken.
 use Rattle.std.proofs.Common.{◌≡◌, ℕ, List, [], ◌∷◌, ◌++◌, refl, sym, ap, ◌∙◌, subst}
 use Rattle.mip_entries.specs.Stamped.{stamped}
-use Rattle.mip_turns.specs.Turns.{known_by}
-use Rattle.mip_turns.proofs.TurnLaws.{noted-now, noted-known, noted-steps}
+use Rattle.mip_transitions.specs.Transitions.{known_by}
+use Rattle.mip_transitions.proofs.TurnLaws.{noted-now, noted-known, noted-steps}
 use Rattle.mip_rules_mobile.specs.Calls.{Call}
 use Rattle.mip_rules_mobile.specs.Steps.{Step, Called, Parts, Notes, Drops}
 use Rattle.mip_rules_mobile.specs.Known.{Known}
 use Rattle.mip_rules_mobile.specs.Questions.{after}
-use Rattle.mip_rules_mobile.specs.Turns.{Turn, begun, noted}
+use Rattle.mip_rules_mobile.specs.Transitions.{Transition, begun, noted}
 use Rattle.mip_rules_mobile.specs.Doing.{turn_of}
 use Rattle.mip_rules_mobile.specs.Fitting.{Fits, EachFits}
 use Rattle.mip_rules_mobile.proofs.Walks.{every-call}
@@ -26,12 +26,12 @@ module _ (c : Call) (now : ℕ) where
   fits-push k (s ∷ steps) step each fits = (each.0, fits-push (after k (record { at = now; step = s })) steps step each.1 fits)
 
   -- the turn is at this moment, knows what its steps leave known, and each of them fits
-  pub record IsAlong (k : Known) (t : Turn) : Type 0 where
+  pub record IsAlong (k : Known) (t : Transition) : Type 0 where
     pub moment : t.now ≡ now
     pub known : t.known ≡ known_along k now t.steps
     pub each : EachFits c now k t.steps
 
-  along-noted : (k : Known) (step : Step) (t : Turn) → Fits c t.now t.known step → IsAlong k t → IsAlong k (noted step t)
+  along-noted : (k : Known) (step : Step) (t : Transition) → Fits c t.now t.known step → IsAlong k t → IsAlong k (noted step t)
   along-noted k step t fits is = record {
     moment = noted-now after step t ∙ is.moment;
     known =

@@ -5,11 +5,11 @@ use Rattle.std.specs.List.{AllByRecursion}
 use Rattle.mip_words.specs.declared.address.Address.{Address}
 use Rattle.mip_nonce.specs.Secrets.{Life}
 use Rattle.mip_outside.specs.declared.claim.Claim.{Claim}
-use Rattle.mip_turns.proofs.TurnLaws.{noted-known}
+use Rattle.mip_transitions.proofs.TurnLaws.{noted-known}
 use Rattle.mip_constants.specs.Constants.{initial_dhaad_timeout}
 use Rattle.mip_rules_mobile.specs.declared.peer.Peer.{Peer}
-use Rattle.mip_rules_mobile.specs.declared.standing.Standing.{Standing}
-use Rattle.mip_rules_mobile.specs.declared.standing.Standing.TheVariants.{Detached, AtHome, Away}
+use Rattle.mip_rules_mobile.specs.declared.attachment.Attachment.{Attachment}
+use Rattle.mip_rules_mobile.specs.declared.attachment.Attachment.TheVariants.{Detached, AtHome, Away}
 use Rattle.mip_rules_mobile.specs.Calls as calls
 use Rattle.mip_rules_mobile.specs.Sendings.{RegistersHome, Discovers}
 use Rattle.mip_rules_mobile.specs.Steps.{Step, Called, Sends, Detaches, Restarts, Seeks, Waits}
@@ -18,7 +18,7 @@ use Rattle.mip_rules_mobile.specs.HomeQuestions.{home_of, next_to, target_of}
 use Rattle.mip_rules_mobile.specs.RowQuestions.{unbound, cookies_after}
 use Rattle.mip_rules_mobile.specs.TimerQuestions.{resending_home, seeking}
 use Rattle.mip_rules_mobile.specs.Questions.{after, known}
-use Rattle.mip_rules_mobile.specs.Turns.{Turn, begun, noted}
+use Rattle.mip_rules_mobile.specs.Transitions.{Transition, begun, noted}
 use Rattle.mip_rules_mobile.specs.TrialRules.{each_row}
 use Rattle.mip_rules_mobile.specs.HomeRules.{seeks, registers_with, wait_behind, registers_at, registers}
 use Rattle.mip_rules_mobile.specs.MovingRules.{releases, unbinds, leaves, registers_if_away, restarts}
@@ -47,16 +47,16 @@ pub born : (home : Address) (declared : Option Address) (numbers : ℕ) (secrets
 unfolding known
 born home declared numbers secrets = refl
 
-cookies-noted : (step : Step) (t : Turn) → (noted step t).known.cookies ≡ cookies_after t.known step
+cookies-noted : (step : Step) (t : Transition) → (noted step t).known.cookies ≡ cookies_after t.known step
 unfolding after
 cookies-noted step t = ap (λ (k : Known). k.cookies) (noted-known after step t)
 
 -- a registration draws none
-registers-draws : (careof : Address) (t : Turn) → (registers careof t).known.cookies ≡ t.known.cookies
+registers-draws : (careof : Address) (t : Transition) → (registers careof t).known.cookies ≡ t.known.cookies
 unfolding registers registers_with seeks
 registers-draws careof t = by (target_of t.known)
   where
-    by : (agent : Option Address) → (let u : Turn = registers_at careof agent t in u.known.cookies) ≡ t.known.cookies
+    by : (agent : Option Address) → (let u : Transition = registers_at careof agent t in u.known.cookies) ≡ t.known.cookies
     by None =
         cookies-noted (Waits seeking initial_dhaad_timeout) (noted (Sends (Discovers (home_of t.known) careof t.known.discoveries)) (noted Seeks t))
         ∙ cookies-noted (Sends (Discovers (home_of t.known) careof t.known.discoveries)) (noted Seeks t)
@@ -70,16 +70,16 @@ pub restarted : (k : Known) (now : ℕ) (secrets : Life) → (turn_of k now (cal
 unfolding does restarts
 restarted k now secrets = by first.known.standing
   where
-    first : Turn
+    first : Transition
     first = noted (Called (calls.Restart secrets)) (begun now k)
 
-    next : Turn
+    next : Transition
     next = noted (Restarts secrets) first
 
     none : next.known.cookies ≡ 0
     none = cookies-noted (Restarts secrets) first
 
-    by : (s : Standing) → (let u : Turn = registers_if_away s next in u.known.cookies) ≡ 0
+    by : (s : Attachment) → (let u : Transition = registers_if_away s next in u.known.cookies) ≡ 0
     by Detached = none
     by AtHome = none
     by (Away careof) = registers-draws careof next ∙ none

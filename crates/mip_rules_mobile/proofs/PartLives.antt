@@ -6,7 +6,7 @@ use Rattle.mip_nonce.specs.Secrets.{Life}
 use Rattle.mip_entries.specs.Stamped.{Stamped}
 use Rattle.mip_rules_correspondent.specs.declared.known.Known as kept
 use Rattle.mip_rules_correspondent.specs.Calls as parts
-use Rattle.mip_rules_correspondent.specs.Turns.{with_turn}
+use Rattle.mip_rules_correspondent.specs.Transitions.{with_turn}
 use Rattle.mip_rules_correspondent.specs.Questions as part_questions
 use Rattle.mip_rules_correspondent.specs.Seen.{CorrespondentSeen, turn_at}
 use Rattle.mip_rules_correspondent.proofs.Pasts as part_pasts

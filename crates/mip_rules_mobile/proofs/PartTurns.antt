@@ -13,7 +13,7 @@ use Rattle.mip_ipv6.specs.Packet.{Packet, source_of}
 use Rattle.mip_mobhdr.specs.Said.{Said}
 use Rattle.mip_entries.specs.declared.answer.Answer.{Answer}
 use Rattle.mip_entries.specs.declared.answer.Answer.TheVariants.{Send, Note}
-use Rattle.mip_turns.proofs.TurnLaws.{noted-now, noted-known, noted-steps}
+use Rattle.mip_transitions.proofs.TurnLaws.{noted-now, noted-known, noted-steps}
 use Rattle.mip_reception.specs.declared.refusal.Refusal.{Refusal}
 use Rattle.mip_rules_correspondent.specs.Calls as parts
 use Rattle.mip_rules_correspondent.specs.Steps as part_steps
@@ -22,8 +22,8 @@ use Rattle.mip_rules_correspondent.specs.Seen.{CorrespondentSeen, turn_at}
 use Rattle.mip_rules_correspondent.specs.Taken.{IsUpdateParted}
 use Rattle.mip_rules_correspondent.proofs.Taken.{refreshed_none, sent_none}
 use Rattle.mip_rules_correspondent.proofs.Parted.{parted_is}
-use Rattle.mip_rules_mobile.specs.declared.standing.Standing.{Standing}
-use Rattle.mip_rules_mobile.specs.declared.standing.Standing.TheVariants.{Detached, AtHome, Away}
+use Rattle.mip_rules_mobile.specs.declared.attachment.Attachment.{Attachment}
+use Rattle.mip_rules_mobile.specs.declared.attachment.Attachment.TheVariants.{Detached, AtHome, Away}
 use Rattle.mip_rules_mobile.specs.Calls as calls
 use Rattle.mip_rules_mobile.specs.Calls.{Call}
 use Rattle.mip_rules_mobile.specs.Sendings.{Inner, OfPart, Given, FromHome, ByTunnel, SendsData, Solicits}
@@ -32,7 +32,7 @@ use Rattle.mip_rules_mobile.specs.Known.{Known}
 use Rattle.mip_rules_mobile.specs.HomeQuestions.{home_of, registered_agent, agent_of}
 use Rattle.mip_rules_mobile.specs.RowQuestions.{bound_row_of}
 use Rattle.mip_rules_mobile.specs.Questions.{after}
-use Rattle.mip_rules_mobile.specs.Turns.{Turn, begun, noted}
+use Rattle.mip_rules_mobile.specs.Transitions.{Transition, begun, noted}
 use Rattle.mip_rules_mobile.specs.OutRules.{tunnels, goes_from, goes_out, passes_all, asks_part}
 use Rattle.mip_rules_mobile.specs.MovingRules.{leaves, attaches, registers_if_away, restarts}
 use Rattle.mip_rules_mobile.specs.ReceivingRules.{then_meets, takes_for_part, refuses}
@@ -50,18 +50,18 @@ use Rattle.mip_rules_mobile.proofs.RingWalks.{every-ticks_all}
 use Rattle.mip_rules_mobile.proofs.ReceivingWalks.{every-takes}
 
 -- the steps so far are these, and some that are nothing to the part
-record IsBehind (first : List Step) (t : Turn) : Type 0 where
+record IsBehind (first : List Step) (t : Transition) : Type 0 where
   more : List Step
   steps : t.steps ≡ first ++ more
   silent : list_any concerns_part more ≡ false
 
-begins : (first : List Step) (t : Turn) → t.steps ≡ first → IsBehind first t
+begins : (first : List Step) (t : Transition) → t.steps ≡ first → IsBehind first t
 begins first t is = record { more = []; steps = is ∙ sym (append-nil first); silent = refl }
 
-one_more : (first : List Step) (step : Step) (t : Turn) → t.steps ≡ first → (noted step t).steps ≡ first ++ step ∷ []
+one_more : (first : List Step) (step : Step) (t : Transition) → t.steps ≡ first → (noted step t).steps ≡ first ++ step ∷ []
 one_more first step t is = noted-steps after step t ∙ ap (λ (l : List Step). l ++ step ∷ []) is
 
-behind-noted : (first : List Step) (step : Step) (t : Turn) → concerns_part step ≡ false → IsBehind first t → IsBehind first (noted step t)
+behind-noted : (first : List Step) (step : Step) (t : Transition) → concerns_part step ≡ false → IsBehind first t → IsBehind first (noted step t)
 behind-noted first step t is b = record {
   more = b.more ++ step ∷ [];
   steps = noted-steps after step t ∙ ap (λ (l : List Step). l ++ step ∷ []) b.steps ∙ append_assoc first b.more (step ∷ []);
@@ -101,7 +101,7 @@ module _ (c : Call) (first : List Step) where
   moves other step t is fits b = behind-noted first step t (move-silent c t.now t.known step other is fits) b
 
   -- what goes out from the home address is nothing to the part
-  out-behind : (inner : Inner) (t : Turn) → IsBehind first t → IsBehind first (goes_out inner t)
+  out-behind : (inner : Inner) (t : Transition) → IsBehind first t → IsBehind first (goes_out inner t)
   unfolding goes_out
   out-behind inner t b = by t.known.standing
     where
@@ -109,7 +109,7 @@ module _ (c : Call) (first : List Step) where
       away careof None = behind-noted first (Unsends whys.Unregistered) t refl b
       away careof (Some agent) = behind-noted first (Sends (ByTunnel (home_of t.known) careof agent inner)) t refl b
 
-      by : (s : Standing) → IsBehind first (goes_from s inner t)
+      by : (s : Attachment) → IsBehind first (goes_from s inner t)
       by Detached = behind-noted first (Unsends whys.Detached) t refl b
       by AtHome = behind-noted first (Sends (FromHome (home_of t.known) inner)) t refl b
       by (Away careof) = away careof (registered_agent t.known t.now)
@@ -119,7 +119,7 @@ abbrev TellsNone : Answer → Type 0
 TellsNone (Send shield packet) = Unit {0}
 TellsNone (Note entry) = tells_of_acceptance entry ≡ false
 
-passes-behind : (c : Call) (first : List Step) (answers : List Answer) → AllByRecursion TellsNone answers → (t : Turn) → IsBehind first t → IsBehind first (passes_all answers t)
+passes-behind : (c : Call) (first : List Step) (answers : List Answer) → AllByRecursion TellsNone answers → (t : Transition) → IsBehind first t → IsBehind first (passes_all answers t)
 unfolding passes_all
 passes-behind c first [] all t b = b
 passes-behind c first (Send shield packet ∷ answers) all t b = passes-behind c first answers all.1 (goes_out (OfPart packet) t) (out-behind c first (OfPart packet) t b)
@@ -139,21 +139,21 @@ abbrev answers_at : CorrespondentSeen → ℕ → parts.Call → List Answer
 answers_at part now call = part_steps.answers_of (turn_at part now call).steps
 
 -- a turn in which the mobile was called, and no more
-module _ (k : Known) (now : ℕ) (c : Call) (t : Turn) (called : t.steps ≡ Called c ∷ []) (part : t.known.part ≡ k.part) (moment : t.now ≡ now) (entry : agent_of t.known t.now ≡ agent_of k now) where
-  abbrev Is : Turn → Type 0
+module _ (k : Known) (now : ℕ) (c : Call) (t : Transition) (called : t.steps ≡ Called c ∷ []) (part : t.known.part ≡ k.part) (moment : t.now ≡ now) (entry : agent_of t.known t.now ≡ agent_of k now) where
+  abbrev Is : Transition → Type 0
   Is u = IsPartTurn k now c u.steps
 
-  abbrev Calm : Turn → Type 0
+  abbrev Calm : Transition → Type 0
   Calm u = IsBehind (Called c ∷ []) u
 
   calm : Calm t
   calm = begins (Called c ∷ []) t called
 
-  silent : (u : Turn) → Calm u → Is u
+  silent : (u : Transition) → Calm u → Is u
   silent u b = Silent (ap (list_any concerns_part) b.steps ∙ b.silent)
 
   -- the part is called
-  abbrev asked : parts.Call → Turn
+  abbrev asked : parts.Call → Transition
   asked call = noted (Parts call) t
 
   asked-steps : (call : parts.Call) → (asked call).steps ≡ Called c ∷ Parts call ∷ []
@@ -171,7 +171,7 @@ module _ (k : Known) (now : ℕ) (c : Call) (t : Turn) (called : t.steps ≡ Cal
       (passes-behind c (Called c ∷ Parts call ∷ []) (answers_at k.part now call) (none-told (turn_at k.part now call).steps none) (asked call)
       (begins (Called c ∷ Parts call ∷ []) (asked call) (asked-steps call)))
 
-  of-none : (call : parts.Call) → list_any part_steps.is_acceptance (turn_at k.part now call).steps ≡ false → (u : Turn) → IsBehind (Called c ∷ Parts call ∷ []) u → Is u
+  of-none : (call : parts.Call) → list_any part_steps.is_acceptance (turn_at k.part now call).steps ≡ false → (u : Transition) → IsBehind (Called c ∷ Parts call ∷ []) u → Is u
   of-none call none u b = Asked call b.more b.steps b.silent none
 
   refreshes : (home : Address) → Is (asks_part (parts.Refresh home) t)
@@ -188,7 +188,7 @@ module _ (k : Known) (now : ℕ) (c : Call) (t : Turn) (called : t.steps ≡ Cal
   unfolding transmits
   sends-data to proto payload = by t.known.standing (bound_row_of t.known t.now to)
     where
-      by : (s : Standing) (row : Option ℕ) → Is (transmits_from s row to proto payload t)
+      by : (s : Attachment) (row : Option ℕ) → Is (transmits_from s row to proto payload t)
       by (Away careof) (Some row) =
           let step = Sends (SendsData (home_of t.known) careof to (held_of t.known.part.known t.now to) proto payload) in
           silent (noted step t) (behind-noted (Called c ∷ []) step t refl calm)
@@ -207,7 +207,7 @@ module _ (k : Known) (now : ℕ) (c : Call) (t : Turn) (called : t.steps ≡ Cal
     abbrev call : parts.Call
     call = parts.Part number packet
 
-    met : (first : List Step) (m : Bool) (u : Turn) → IsBehind first u → IsBehind first (then_meets m packet u)
+    met : (first : List Step) (m : Bool) (u : Transition) → IsBehind first u → IsBehind first (then_meets m packet u)
     met first true u b = every-meets c (IsBehind first) (goes c first) (source_of packet.head) u b
     met first false u b = b
 
@@ -226,7 +226,7 @@ module _ (k : Known) (now : ℕ) (c : Call) (t : Turn) (called : t.steps ≡ Cal
           (passes-behind c first (part_steps.answers_of x.rest) (none-told x.rest x.none) (noted note (asked call))
           (begins first (noted note (asked call)) (one_more (Called c ∷ Parts call ∷ []) note (asked call) (asked-steps call))))
 
-      of-accepting : (u : Turn) → IsBehind first u → Is u
+      of-accepting : (u : Transition) → IsBehind first u → Is u
       of-accepting u b = Accepting (record {
         number = number;
         shield = shield;
@@ -277,7 +277,7 @@ module _ (k : Known) (now : ℕ) (c : Call) (t : Turn) (called : t.steps ≡ Cal
       unsent : Is (noted (Unsends whys.Unregistered) t)
       unsent = silent (noted (Unsends whys.Unregistered) t) (behind-noted (Called c ∷ []) (Unsends whys.Unregistered) t refl calm)
 
-      by : (s : Standing) (agent : Option Address) → Is (solicits_from s agent t)
+      by : (s : Attachment) (agent : Option Address) → Is (solicits_from s agent t)
       by (Away careof) (Some agent) =
           let step = Sends (Solicits (home_of t.known) careof agent t.known.solicitations) in
           silent (noted step t) (behind-noted (Called c ∷ []) step t refl calm)
@@ -286,23 +286,23 @@ module _ (k : Known) (now : ℕ) (c : Call) (t : Turn) (called : t.steps ≡ Cal
       by AtHome agent = unsent
 
   -- all is lost, and the mobile registers anew where it is away
-  reborn : (secrets : Life) → c ≡ calls.Restart secrets → (let u : Turn = restarts secrets t in IsPartReborn secrets u.steps)
+  reborn : (secrets : Life) → c ≡ calls.Restart secrets → (let u : Transition = restarts secrets t in IsPartReborn secrets u.steps)
   unfolding restarts
   reborn secrets is = by t.known.standing refl
     where
       first : List Step
       first = Called c ∷ Restarts secrets ∷ []
 
-      u : Turn
+      u : Transition
       u = noted (Restarts secrets) t
 
       q : IsBehind first u
       q = begins first u (one_more (Called c ∷ []) (Restarts secrets) t called)
 
-      end : (v : Turn) → IsBehind first v → IsPartReborn secrets v.steps
+      end : (v : Transition) → IsBehind first v → IsPartReborn secrets v.steps
       end v b = record { rest = b.more; steps_are = b.steps ∙ ap (λ (d : Call). Called d ∷ Restarts secrets ∷ b.more) is; none = b.silent }
 
-      by : (s : Standing) → t.known.standing ≡ s → (let v : Turn = registers_if_away s u in IsPartReborn secrets v.steps)
+      by : (s : Attachment) → t.known.standing ≡ s → (let v : Transition = registers_if_away s u in IsPartReborn secrets v.steps)
       by Detached here = end u q
       by AtHome here = end u q
       by (Away careof) here =

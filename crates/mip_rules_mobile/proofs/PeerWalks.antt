@@ -21,7 +21,7 @@ use Rattle.mip_rules_mobile.specs.Trials.{HomeTest, CareofTest, Resequence, Ackn
 use Rattle.mip_rules_mobile.specs.Steps.{Step, Drops, Meets, Tries, Forgets, Unbinds, Stops}
 use Rattle.mip_rules_mobile.specs.HomeQuestions.{home_of, registration_of}
 use Rattle.mip_rules_mobile.specs.RowQuestions.{row_of, trial_of, is_bound_row, bound_row_of}
-use Rattle.mip_rules_mobile.specs.Turns.{Turn, noted}
+use Rattle.mip_rules_mobile.specs.Transitions.{Transition, noted}
 use Rattle.mip_rules_mobile.specs.TrialRules.{starts, updates}
 use Rattle.mip_rules_mobile.specs.PeerRules.{tells_of_nonces, begins_at, meets, comes_right, test_at, cookie, home_row, careof_row, keeps_home, keeps_careof, takes_home_test, takes_careof_test, acknowledges, binds_from, ends_for, is_granted, rests, takes_peer_ack, acks_trial, acks_row, takes_ack_of, loses, takes_error, renews, takes_refresh}
 use Rattle.mip_rules_mobile.specs.Trusting.{IsAcknowledged}
@@ -33,12 +33,12 @@ use Rattle.mip_rules_mobile.proofs.Peers.{trial-granted, bound-placed}
 use Rattle.mip_rules_mobile.proofs.TrialWalks.{every-starts, every-updates}
 use Rattle.mip_rules_mobile.proofs.HomeWalks.{Acks}
 
-module _ (c : Call) (P : Turn → Type 0) (more : Goes c P) where
-  pub every-meets : (peer : Address) (t : Turn) → P t → P (meets peer t)
+module _ (c : Call) (P : Transition → Type 0) (more : Goes c P) where
+  pub every-meets : (peer : Address) (t : Transition) → P t → P (meets peer t)
   unfolding meets
   every-meets peer t p = by (given_row peer t.known.list.rows)
     where
-      first : Turn
+      first : Transition
       first = noted (Meets peer) t
 
       q : P first
@@ -52,12 +52,12 @@ module _ (c : Call) (P : Turn → Type 0) (more : Goes c P) where
       by (Ok row) = if-due (is_idle (trial_of first.known row) && (not (is_bound_row first.known first.now row) && is_some (registration_of first.known first.now))) row
       by (Err full) = q
 
-  pub every-rests : (row : ℕ) (t : Turn) → P t → P (rests row t)
+  pub every-rests : (row : ℕ) (t : Transition) → P t → P (rests row t)
   unfolding rests
   every-rests row t p = more (Tries row Rest) (noted (Stops (Resend row)) t) refl tt (more (Stops (Resend row)) t refl tt p)
 
   module _ (acks : Acks c P) where
-    every-granted : (row : ℕ) (u : Trial pending.Pending) (sequence lifetime : ℕ) (t : Turn) → trial_of t.known row ≡ Some (Pending u) → IsAcknowledged c t.known t.now row sequence lifetime → P t
+    every-granted : (row : ℕ) (u : Trial pending.Pending) (sequence lifetime : ℕ) (t : Transition) → trial_of t.known row ≡ Some (Pending u) → IsAcknowledged c t.known t.now row sequence lifetime → P t
         → P (is_granted row u sequence lifetime t)
     unfolding is_granted
     every-granted row u sequence lifetime t pending acknowledged p = by (binds_to u)
@@ -65,7 +65,7 @@ module _ (c : Call) (P : Turn → Type 0) (more : Goes c P) where
         step : Step
         step = Tries row (Acknowledge sequence lifetime)
 
-        first : Turn
+        first : Transition
         first = noted step (noted (Stops (Resend row)) t)
 
         q : P first
@@ -82,7 +82,7 @@ module _ (c : Call) (P : Turn → Type 0) (more : Goes c P) where
         by None = more (Forgets row) first refl tt q
         by (Some careof) = if-none (lifetime == 0)
 
-    every-peer_ack : (row : ℕ) (u : Trial pending.Pending) (status sequence lifetime : ℕ) (t : Turn) → trial_of t.known row ≡ Some (Pending u)
+    every-peer_ack : (row : ℕ) (u : Trial pending.Pending) (status sequence lifetime : ℕ) (t : Transition) → trial_of t.known row ≡ Some (Pending u)
         → (accepts_it status ≡ true → IsAcknowledged c t.known t.now row sequence lifetime) → P t → P (takes_peer_ack row u status sequence lifetime t)
     unfolding takes_peer_ack
     every-peer_ack row u status sequence lifetime t pending acknowledged p = by (accepts_it status) (status == sequence_out_of_window) (tells_of_nonces status) refl
@@ -93,7 +93,7 @@ module _ (c : Call) (P : Turn → Type 0) (more : Goes c P) where
         by false false true low = every-starts c P more row t p
         by false false false low = every-rests row t p
 
-    module _ (Q : Turn → Type 0) (done : (u : Turn) → P u → Q u) (t : Turn) (p : P t) (drops : (number : ℕ) (why : Why) → is_dropped_why why ≡ true → Q (noted (Drops number why) t)) where
+    module _ (Q : Transition → Type 0) (done : (u : Transition) → P u → Q u) (t : Transition) (p : P t) (drops : (number : ℕ) (why : Why) → is_dropped_why why ≡ true → Q (noted (Drops number why) t)) where
       pub every-home_test : (number : ℕ) (tunnelled : Bool) (peer : Address) (index c' : ℕ) (token : List ℕ) → (comes_right t.known.standing tunnelled ≡ true → IsHanded c t.now t.known 0 (test_at t.now index token))
           → Q (takes_home_test number tunnelled peer index c' token t)
       unfolding takes_home_test

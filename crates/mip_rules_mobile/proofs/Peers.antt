@@ -21,13 +21,13 @@ use Rattle.mip_bulist.specs.declared.work.Work.TheVariants.{Resend}
 use Rattle.mip_bulist.specs.Rows.{peer_of_any, row_place, peer_at, lifted, with_trial}
 use Rattle.mip_bulist.specs.Trials.{needed, proved_where, weighed, with_home, with_careof, is_deletion, has_old, is_too_soon, made_now, in_state, ended_with}
 use Rattle.mip_bulist.proofs.RowLaws.{with_step}
-use Rattle.mip_turns.proofs.TurnLaws.{noted-known}
+use Rattle.mip_transitions.proofs.TurnLaws.{noted-known}
 use Rattle.mip_rules_mobile.specs.Trials.{Change, Start, HomeTest, CareofTest, Make, Resequence, Acknowledge, Rest, after_probe, after_update, after_again, with_update, after_end, changed, changed_at, with_change}
 use Rattle.mip_rules_mobile.specs.Steps.{Tries, Stops}
 use Rattle.mip_rules_mobile.specs.Known.{Known}
 use Rattle.mip_rules_mobile.specs.RowQuestions.{row_of, peer_of_row, trial_of, is_bound_row, if_bound, bound_row_of}
 use Rattle.mip_rules_mobile.specs.Questions.{after}
-use Rattle.mip_rules_mobile.specs.Turns.{Turn, noted}
+use Rattle.mip_rules_mobile.specs.Transitions.{Transition, noted}
 use Rattle.mip_rules_mobile.specs.Fitting.{IsTrialOf}
 
 -- what a kept test leaves
@@ -125,21 +125,21 @@ unfolding with_change
 changed-there rows row now change any is =
     ap (λ (o : Option Any). lifted row (changed_at o row now change rows)) is ∙ put-there rows row any (changed now change any) is
 
-trial-stopped : (row : ℕ) (t : Turn) → trial_of (noted (Stops (Resend row)) t).known row ≡ trial_of t.known row
+trial-stopped : (row : ℕ) (t : Transition) → trial_of (noted (Stops (Resend row)) t).known row ≡ trial_of t.known row
 unfolding after
 trial-stopped row t = ap (λ (k : Known). trial_of k row) (noted-known after (Stops (Resend row)) t)
 
-trial-changed : (row : ℕ) (change : Change) (t : Turn) (any : Any) → trial_of t.known row ≡ Some any
+trial-changed : (row : ℕ) (change : Change) (t : Transition) (any : Any) → trial_of t.known row ≡ Some any
     → trial_of (noted (Tries row change) t).known row ≡ Some (changed (record { 0 = t.now }) change any)
 unfolding after
 trial-changed row change t any is =
     ap (λ (k : Known). trial_of k row) (noted-known after (Tries row change) t) ∙ changed-there t.known.list.rows row (record { 0 = t.now }) change any is
 
 -- a trial whose update was acknowledged is still of its peer
-pub trial-granted : (row : ℕ) (u : Trial pending.Pending) (sequence lifetime : ℕ) (t : Turn) → trial_of t.known row ≡ Some (Pending u)
+pub trial-granted : (row : ℕ) (u : Trial pending.Pending) (sequence lifetime : ℕ) (t : Transition) → trial_of t.known row ≡ Some (Pending u)
     → IsTrialOf (trial_of (noted (Tries row (Acknowledge sequence lifetime)) (noted (Stops (Resend row)) t)).known row) u.peer
 trial-granted row u sequence lifetime t is =
-    let first : Turn = noted (Stops (Resend row)) t in
+    let first : Transition = noted (Stops (Resend row)) t in
     subst (λ (o : Option Any). IsTrialOf o u.peer) (sym (trial-changed row (Acknowledge sequence lifetime) first (Pending u) (trial-stopped row t ∙ is)))
     (changed-own (record { 0 = first.now }) (Acknowledge sequence lifetime) (Pending u))
 

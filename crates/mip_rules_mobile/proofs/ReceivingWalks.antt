@@ -21,22 +21,22 @@ use Rattle.mip_icmp.specs.Reading.{icmp_of}
 use Rattle.mip_tunnel.specs.declared.exit_fault.ExitFault.{ExitFault}
 use Rattle.mip_tunnel.specs.declared.exit_fault.ExitFault.TheVariants.{NotTunnel, WrongEntry, Inner}
 use Rattle.mip_tunnel.specs.Tunnel.{opened}
-use Rattle.mip_says.specs.Says.{message_in}
+use Rattle.mip_inspection.specs.Says.{message_in}
 use Rattle.mip_reception.specs.declared.refusal.Refusal.{Refusal}
 use Rattle.mip_reception.specs.Words.{packet_why}
 use Rattle.mip_reception.specs.Checks.{checked}
 use Rattle.mip_reception.proofs.Reasons.{packet_why-dropped, refused-right}
 use Rattle.mip_entries.specs.Reasons.{is_dropped_why}
 use Rattle.mip_rules_correspondent.specs.Rules.{is_for_part, place_in}
-use Rattle.mip_rules_mobile.specs.declared.standing.Standing.{Standing}
-use Rattle.mip_rules_mobile.specs.declared.standing.Standing.TheVariants.{Detached, AtHome, Away}
+use Rattle.mip_rules_mobile.specs.declared.attachment.Attachment.{Attachment}
+use Rattle.mip_rules_mobile.specs.declared.attachment.Attachment.TheVariants.{Detached, AtHome, Away}
 use Rattle.mip_rules_mobile.specs.declared.home_update.HomeUpdate.{HomeUpdate}
 use Rattle.mip_rules_mobile.specs.Calls as calls
 use Rattle.mip_rules_mobile.specs.Calls.{Call}
 use Rattle.mip_rules_mobile.specs.Steps.{Drops, Finds, Chooses, Learns, Stops}
 use Rattle.mip_rules_mobile.specs.HomeQuestions.{home_of, agent_of}
 use Rattle.mip_rules_mobile.specs.TimerQuestions.{seeking}
-use Rattle.mip_rules_mobile.specs.Turns.{Turn, noted}
+use Rattle.mip_rules_mobile.specs.Transitions.{Transition, noted}
 use Rattle.mip_rules_mobile.specs.HomeRules.{home_answered, takes_home_ack, registers}
 use Rattle.mip_rules_mobile.specs.IcmpRules.{agents_named, is_matched, drops_icmp, finds, takes_discovery_reply, is_from_agent, learns, takes_prefix_reply, by_icmp, takes_icmp}
 use Rattle.mip_rules_mobile.specs.ReceivingRules.{acks_by, takes_ack, takes_for_part, by_message, by_role, refuses, after_inner_checks, inner_standing, takes_inner, opens_with, opens_from, opens, after_checks, standing_of, receives, takes}
@@ -47,7 +47,7 @@ use Rattle.mip_rules_mobile.proofs.Trusts.{shielded-not, handed-home, handed-car
 use Rattle.mip_rules_mobile.proofs.HomeWalks.{Acks, every-home_ack, every-registers}
 use Rattle.mip_rules_mobile.proofs.PeerWalks.{every-home_test, every-careof_test, every-ack_of, every-error, every-refresh}
 
-module _ (c : Call) (P : Turn → Type 0) (more : Goes c P) (acks : Acks c P) (Q : Turn → Type 0) (done : (u : Turn) → P u → Q u) (t : Turn) (p : P t)
+module _ (c : Call) (P : Transition → Type 0) (more : Goes c P) (acks : Acks c P) (Q : Transition → Type 0) (done : (u : Transition) → P u → Q u) (t : Transition) (p : P t)
     (drops : (number : ℕ) (why : Why) → is_dropped_why why ≡ true → Q (noted (Drops number why) t)) where
   every-ack : (number : ℕ) (tunnelled : Bool) (shield : Option Shield) (packet : Packet) → IsOfTake c t.known t.now number tunnelled shield packet
       → (status : ℕ) (key : Bool) (sequence lifetime : ℕ) (options : Values) → message_in packet ≡ Some (Acknowledgement status key sequence lifetime options)
@@ -71,7 +71,7 @@ module _ (c : Call) (P : Turn → Type 0) (more : Goes c P) (acks : Acks c P) (Q
   unfolding takes_discovery_reply
   every-discovery number identifier agents = by (is_matched t.known.discovery identifier) t.known.standing (agents_named agents) refl
     where
-      by : (right : Bool) (s : Standing) (list : List Address) → t.known.standing ≡ s → Q (if right then finds number s list t else drops_icmp number t)
+      by : (right : Bool) (s : Attachment) (list : List Address) → t.known.standing ≡ s → Q (if right then finds number s list t else drops_icmp number t)
       by false s list here = drops number whys.Icmp refl
       by true (Away careof) (agent ∷ others) here =
           let one = noted (Finds (agent ∷ others)) t in

@@ -9,11 +9,11 @@ use Rattle.mip_words.specs.declared.why.Why.TheVariants as whys
 use Rattle.mip_ipv6.specs.Packet.{Packet, source_of, destination_of}
 use Rattle.mip_mobhdr.specs.Said.{Said}
 use Rattle.mip_mobhdr.specs.Said.Said.{Refresh, HomeInit, CareofInit, HomeTest, CareofTest, Update, Acknowledgement, Error}
-use Rattle.mip_says.specs.Says.{message_in}
+use Rattle.mip_inspection.specs.Says.{message_in}
 use Rattle.mip_entries.specs.declared.answer.Answer.{Answer}
 use Rattle.mip_entries.specs.declared.answer.Answer.TheVariants.{Send, Note}
 use Rattle.mip_entries.specs.declared.entry.Entry.{Entry}
-use Rattle.mip_turns.proofs.TurnLaws.{noted-known, noted_all, noted_all-is, none-noted}
+use Rattle.mip_transitions.proofs.TurnLaws.{noted-known, noted_all, noted_all-is, none-noted}
 use Rattle.mip_reception.specs.declared.reply.Reply.{Reply}
 use Rattle.mip_reception.specs.declared.refusal.Refusal.{Refusal}
 use Rattle.mip_reception.specs.Replies.{reply_packet}
@@ -29,14 +29,14 @@ use Rattle.mip_bcache.specs.Seen.{CacheSeen}
 use Rattle.mip_rules_correspondent.specs.Seen.{called}
 use Rattle.mip_rules_correspondent.specs.Steps as part_steps
 use Rattle.mip_rules_correspondent.specs.Questions as part_questions
-use Rattle.mip_rules_correspondent.specs.Turns as part_turns
+use Rattle.mip_rules_correspondent.specs.Transitions as part_turns
 use Rattle.mip_rules_correspondent.specs.Rules as part_rules
 use Rattle.mip_rules_correspondent.specs.Doing as part_doing
 use Rattle.mip_rules_correspondent.proofs.Refusals.{keeps-call}
 use Rattle.mip_rules_correspondent.specs.Calls as parts
 use Rattle.mip_rules_correspondent.specs.Rules.{is_for_part}
-use Rattle.mip_rules_mobile.specs.declared.standing.Standing.{Standing}
-use Rattle.mip_rules_mobile.specs.declared.standing.Standing.TheVariants.{Detached, AtHome, Away}
+use Rattle.mip_rules_mobile.specs.declared.attachment.Attachment.{Attachment}
+use Rattle.mip_rules_mobile.specs.declared.attachment.Attachment.TheVariants.{Detached, AtHome, Away}
 use Rattle.mip_rules_mobile.specs.Calls as calls
 use Rattle.mip_rules_mobile.specs.Calls.{Call}
 use Rattle.mip_rules_mobile.specs.Sendings.{Inner, OfPart, FromHome, ByTunnel}
@@ -44,7 +44,7 @@ use Rattle.mip_rules_mobile.specs.Steps.{Step, Called, Parts, Notes, Sends, Unse
 use Rattle.mip_rules_mobile.specs.Known.{Known}
 use Rattle.mip_rules_mobile.specs.HomeQuestions.{home_of, registered_agent}
 use Rattle.mip_rules_mobile.specs.Questions.{after}
-use Rattle.mip_rules_mobile.specs.Turns.{Turn, begun, noted}
+use Rattle.mip_rules_mobile.specs.Transitions.{Transition, begun, noted}
 use Rattle.mip_rules_mobile.specs.OutRules.{tunnels, goes_from, goes_out, passes_all, part_answers, asks_part, goes_back, replies}
 use Rattle.mip_rules_mobile.specs.ReceivingRules.{then_meets, takes_for_part, refuses}
 use Rattle.mip_rules_mobile.specs.Doing.{does, turn_of}
@@ -57,10 +57,10 @@ use Rattle.mip_rules_mobile.proofs.PeerWalks.{every-meets}
 use Rattle.mip_rules_mobile.proofs.ReceivingWalks.{every-takes}
 
 -- no refusal so far
-abbrev IsQuiet : Turn → Type 0
+abbrev IsQuiet : Transition → Type 0
 IsQuiet t = list_any is_refusal t.steps ≡ false
 
-quiet-noted : (step : Step) (t : Turn) → is_refusal step ≡ false → IsQuiet t → IsQuiet (noted step t)
+quiet-noted : (step : Step) (t : Transition) → is_refusal step ≡ false → IsQuiet t → IsQuiet (noted step t)
 quiet-noted step t is quiet = none-noted after is_refusal step t quiet is
 
 steady-quiet : (step : Step) → kind_of step ≡ Steady → is_refusal step ≡ false
@@ -136,55 +136,55 @@ acks-quiet : (c : Call) → Acks c IsQuiet
 acks-quiet c step t is fits led quiet = quiet-noted step t (ack-quiet step is) quiet
 
 -- a packet from the home address, and an entry of the correspondent part, change nothing
-sent-same : (home : Address) (inner : Inner) (t : Turn) → (noted (Sends (FromHome home inner)) t).known ≡ t.known
+sent-same : (home : Address) (inner : Inner) (t : Transition) → (noted (Sends (FromHome home inner)) t).known ≡ t.known
 unfolding after
 sent-same home inner t = noted-known after (Sends (FromHome home inner)) t
 
-tunnelled-same : (home careof agent : Address) (inner : Inner) (t : Turn) → (noted (Sends (ByTunnel home careof agent inner)) t).known ≡ t.known
+tunnelled-same : (home careof agent : Address) (inner : Inner) (t : Transition) → (noted (Sends (ByTunnel home careof agent inner)) t).known ≡ t.known
 unfolding after
 tunnelled-same home careof agent inner t = noted-known after (Sends (ByTunnel home careof agent inner)) t
 
-unsent-same : (why : Why) (t : Turn) → (noted (Unsends why) t).known ≡ t.known
+unsent-same : (why : Why) (t : Transition) → (noted (Unsends why) t).known ≡ t.known
 unfolding after
 unsent-same why t = noted-known after (Unsends why) t
 
-told-same : (entry : Entry) (t : Turn) → (noted (Notes entry) t).known ≡ t.known
+told-same : (entry : Entry) (t : Transition) → (noted (Notes entry) t).known ≡ t.known
 unfolding after
 told-same entry t = noted-known after (Notes entry) t
 
-dropped-same : (number : ℕ) (why : Why) (t : Turn) → (noted (Drops number why) t).known ≡ t.known
+dropped-same : (number : ℕ) (why : Why) (t : Transition) → (noted (Drops number why) t).known ≡ t.known
 unfolding after
 dropped-same number why t = noted-known after (Drops number why) t
 
-out-same : (inner : Inner) (t : Turn) → (goes_out inner t).known ≡ t.known
+out-same : (inner : Inner) (t : Transition) → (goes_out inner t).known ≡ t.known
 unfolding goes_out
 out-same inner t = by t.known.standing
   where
-    away : (careof : Address) (agent : Option Address) → (let u : Turn = tunnels careof inner agent t in u.known) ≡ t.known
+    away : (careof : Address) (agent : Option Address) → (let u : Transition = tunnels careof inner agent t in u.known) ≡ t.known
     away careof None = unsent-same whys.Unregistered t
     away careof (Some agent) = tunnelled-same (home_of t.known) careof agent inner t
 
-    by : (s : Standing) → (let u : Turn = goes_from s inner t in u.known) ≡ t.known
+    by : (s : Attachment) → (let u : Transition = goes_from s inner t in u.known) ≡ t.known
     by Detached = unsent-same whys.Detached t
     by AtHome = sent-same (home_of t.known) inner t
     by (Away careof) = away careof (registered_agent t.known t.now)
 
-passes-same : (answers : List Answer) (t : Turn) → (passes_all answers t).known ≡ t.known
+passes-same : (answers : List Answer) (t : Transition) → (passes_all answers t).known ≡ t.known
 unfolding passes_all
 passes-same [] t = refl
 passes-same (Send shield packet ∷ answers) t = passes-same answers (goes_out (OfPart packet) t) ∙ out-same (OfPart packet) t
 passes-same (Note entry ∷ answers) t = passes-same answers (noted (Notes entry) t) ∙ told-same entry t
 
-replies-same : (source : Address) (bytes : List ℕ) (reply : Reply) (t : Turn) → (replies source bytes reply t).known ≡ t.known
+replies-same : (source : Address) (bytes : List ℕ) (reply : Reply) (t : Transition) → (replies source bytes reply t).known ≡ t.known
 unfolding replies
 replies-same source bytes reply t = by (reply_packet (home_of t.known) source bytes reply)
   where
-    by : (o : Option (List ℕ)) → (let u : Turn = goes_back o t in u.known) ≡ t.known
+    by : (o : Option (List ℕ)) → (let u : Transition = goes_back o t in u.known) ≡ t.known
     by None = refl
     by (Some packet) = out-same (OfPart packet) t
 
 -- going out is no refusal, and answers without one leave none
-out-quiet : (inner : Inner) (t : Turn) → IsQuiet t → IsQuiet (goes_out inner t)
+out-quiet : (inner : Inner) (t : Transition) → IsQuiet t → IsQuiet (goes_out inner t)
 unfolding goes_out
 out-quiet inner t quiet = by t.known.standing
   where
@@ -192,7 +192,7 @@ out-quiet inner t quiet = by t.known.standing
     away careof None = quiet-noted (Unsends whys.Unregistered) t refl quiet
     away careof (Some agent) = quiet-noted (Sends (ByTunnel (home_of t.known) careof agent inner)) t refl quiet
 
-    by : (s : Standing) → IsQuiet (goes_from s inner t)
+    by : (s : Attachment) → IsQuiet (goes_from s inner t)
     by Detached = quiet-noted (Unsends whys.Detached) t refl quiet
     by AtHome = quiet-noted (Sends (FromHome (home_of t.known) inner)) t refl quiet
     by (Away careof) = away careof (registered_agent t.known t.now)
@@ -201,7 +201,7 @@ abbrev AnswersQuietly : Answer → Type 0
 AnswersQuietly (Send shield packet) = Unit {0}
 AnswersQuietly (Note entry) = tells_of_refusal entry ≡ false
 
-passes-quiet : (answers : List Answer) → AllByRecursion AnswersQuietly answers → (t : Turn) → IsQuiet t → IsQuiet (passes_all answers t)
+passes-quiet : (answers : List Answer) → AllByRecursion AnswersQuietly answers → (t : Transition) → IsQuiet t → IsQuiet (passes_all answers t)
 unfolding passes_all
 passes-quiet [] all t quiet = quiet
 passes-quiet (Send shield packet ∷ answers) all t quiet = passes-quiet answers all.1 (goes_out (OfPart packet) t) (out-quiet (OfPart packet) t quiet)
@@ -213,18 +213,18 @@ module _ (me : Identity) (k : kept.Known) (now number : ℕ) (packet : Packet) w
   abbrev call : part_steps.Step
   call = part_steps.Called (parts.Part number packet)
 
-  abbrev given : part_turns.Turn
+  abbrev given : part_turns.Transition
   given = part_turns.noted call (part_turns.begun now k)
 
-  abbrev AnswersOf : part_turns.Turn → Type 0
+  abbrev AnswersOf : part_turns.Transition → Type 0
   AnswersOf u = AllByRecursion AnswersQuietly (part_steps.answers_of u.steps)
 
-  abbrev Decides : part_turns.Turn → Type 0
+  abbrev Decides : part_turns.Transition → Type 0
   Decides u = (list_any part_steps.is_acceptance u.steps ≡ false) ⊎ AnswersOf u
 
   -- steps behind the call, none of them an acceptance
   none : (steps : List part_steps.Step) → list_any part_steps.is_acceptance steps ≡ false → Decides (noted_all part_questions.after steps given)
-  none steps calm = inl (ap (λ (u : part_turns.Turn). list_any part_steps.is_acceptance u.steps) (noted_all-is part_questions.after (call ∷ steps) (part_turns.begun now k)) ∙ calm)
+  none steps calm = inl (ap (λ (u : part_turns.Transition). list_any part_steps.is_acceptance u.steps) (noted_all-is part_questions.after (call ∷ steps) (part_turns.begun now k)) ∙ calm)
 
   -- steps behind the call, whose answers tell of no refusal
   told : (steps : List part_steps.Step) → AllByRecursion AnswersQuietly (part_steps.answers_of steps) → AnswersOf (noted_all part_questions.after steps given)
@@ -236,10 +236,10 @@ module _ (me : Identity) (k : kept.Known) (now number : ℕ) (packet : Packet) w
   of-verdict r (Deny status last kbm) = none (part_steps.Denies number status ∷ part_steps.Sends (ack_packet me.own r status last 0 kbm) ∷ []) refl
   of-verdict r (Accept home binding accepted granted kbm) = by r.ack
     where
-      first : part_turns.Turn
+      first : part_turns.Transition
       first = part_turns.noted (part_steps.Accepts number home binding accepted) given
 
-      by : (ack : Bool) → Decides (let u : part_turns.Turn = (if ack then part_turns.noted (part_steps.Sends (ack_packet me.own r 0 r.sequence granted (Some kbm))) first else first) in u)
+      by : (ack : Bool) → Decides (let u : part_turns.Transition = (if ack then part_turns.noted (part_steps.Sends (ack_packet me.own r 0 r.sequence granted (Some kbm))) first else first) in u)
       by true = inr (told (part_steps.Accepts number home binding accepted ∷ part_steps.Sends (ack_packet me.own r 0 r.sequence granted (Some kbm)) ∷ []) (refl, (tt, tt)))
       by false = inr (told (part_steps.Accepts number home binding accepted ∷ []) (refl, tt))
 
@@ -274,16 +274,16 @@ module _ (me : Identity) (k : kept.Known) (now number : ℕ) (packet : Packet) w
 abbrev with_cache : Known → CacheSeen → Known
 with_cache k cache = record (tables_of k) { part = record { identity = k.part.identity; known = record { last = record { 0 = 0 }; cache = cache } } }
 
-parted-tables : (call : parts.Call) (t : Turn) → (called t.known.part t.now call).known.cache ≡ t.known.part.known.cache → tables_of (noted (Parts call) t).known ≡ tables_of t.known
+parted-tables : (call : parts.Call) (t : Transition) → (called t.known.part t.now call).known.cache ≡ t.known.part.known.cache → tables_of (noted (Parts call) t).known ≡ tables_of t.known
 unfolding after
 parted-tables call t same = ap tables_of (noted-known after (Parts call) t) ∙ ap (with_cache t.known) same
 
 -- where a packet is refused, the tables are those from which it began
-module _ (c : Call) (t : Turn) (quiet : IsQuiet t) where
-  abbrev Keeps : Turn → Type 0
+module _ (c : Call) (t : Transition) (quiet : IsQuiet t) where
+  abbrev Keeps : Transition → Type 0
   Keeps u = list_any is_refusal u.steps ≡ true → tables_of u.known ≡ tables_of t.known
 
-  quiet-keeps : (u : Turn) → IsQuiet u → Keeps u
+  quiet-keeps : (u : Transition) → IsQuiet u → Keeps u
   quiet-keeps u none some = absurd (let both : false ≡ true = sym none ∙ some in cc)
 
   drop-keeps : (number : ℕ) (why : Why) → Keeps (noted (Drops number why) t)
@@ -301,7 +301,7 @@ module _ (c : Call) (t : Turn) (quiet : IsQuiet t) where
       call : parts.Call
       call = parts.Part number packet
 
-      first : Turn
+      first : Transition
       first = noted (Parts call) t
 
       calm : IsQuiet first

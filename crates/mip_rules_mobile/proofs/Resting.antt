@@ -1,13 +1,13 @@
 -- Whose word each step of a call takes, and what stands right before it.
 use Rattle.std.proofs.Common.{◌≡◌, ℕ, List, [], ◌∷◌, ◌++◌, refl, sym, subst}
 use Rattle.std.specs.Prelude.{Option, Some, None}
-use Rattle.mip_turns.proofs.TurnLaws.{noted-steps}
+use Rattle.mip_transitions.proofs.TurnLaws.{noted-steps}
 use Rattle.mip_rules_mobile.specs.Calls.{Call}
 use Rattle.mip_rules_mobile.specs.Trials.{HomeTest, Acknowledge}
 use Rattle.mip_rules_mobile.specs.Steps.{Step, Called, Parts, Notes, Drops, Registers, Unregisters, IsRefused, Resequences, Tries, Binds}
 use Rattle.mip_rules_mobile.specs.Known.{Known}
 use Rattle.mip_rules_mobile.specs.Questions.{after}
-use Rattle.mip_rules_mobile.specs.Turns.{Turn, begun, noted}
+use Rattle.mip_rules_mobile.specs.Transitions.{Transition, begun, noted}
 use Rattle.mip_rules_mobile.specs.Doing.{turn_of}
 use Rattle.mip_rules_mobile.specs.Resting.{EachStep, IsAgentsAnswer, IsPeersAnswer, IsTestTunnelled, IsLed, AreLed, last_step}
 use Rattle.mip_rules_mobile.specs.Fitting.{Fits, EachFits, kind_of, OfMove, Steady}
@@ -49,7 +49,7 @@ led-push : (before : Option Step) (steps : List Step) (step : Step) → IsLed (l
 led-push before [] step led are = (led, tt)
 led-push before (s ∷ steps) step led are = (are.0, led-push (Some s) steps step led are.1)
 
-led-noted : (step : Step) (t : Turn) → IsLed (last_step None t.steps) step → AreLed None t.steps → AreLed None (noted step t).steps
+led-noted : (step : Step) (t : Transition) → IsLed (last_step None t.steps) step → AreLed None t.steps → AreLed None (noted step t).steps
 led-noted step t led are = subst (AreLed None) (sym (noted-steps after step t)) (led-push None t.steps step led are)
 
 steady-led : (before : Option Step) (step : Step) → kind_of step ≡ Steady → IsLed before step
@@ -62,7 +62,7 @@ move-led before _ is = tt
 
 pub call-led : (k : Known) (now : ℕ) (c : Call) → AreLed None (turn_of k now c).steps
 call-led k now c =
-    every-call c (λ (t : Turn). AreLed None t.steps)
+    every-call c (λ (t : Transition). AreLed None t.steps)
     (λ step t steady fits are. led-noted step t (steady-led (last_step None t.steps) step steady) are)
     (λ call t are. led-noted (Parts call) t tt are)
     (λ entry t own are. led-noted (Notes entry) t tt are)

@@ -5,8 +5,8 @@ use Rattle.mip_words.specs.declared.address.Address.{Address}
 use Rattle.mip_bulist.specs.declared.work.Work.{Work}
 use Rattle.mip_bulist.specs.declared.work.Work.TheVariants.{Resend, Renew, End, Own}
 use Rattle.mip_bulist.specs.Timers.{due_work}
-use Rattle.mip_rules_mobile.specs.declared.standing.Standing.{Standing}
-use Rattle.mip_rules_mobile.specs.declared.standing.Standing.TheVariants.{Detached, AtHome, Away}
+use Rattle.mip_rules_mobile.specs.declared.attachment.Attachment.{Attachment}
+use Rattle.mip_rules_mobile.specs.declared.attachment.Attachment.TheVariants.{Detached, AtHome, Away}
 use Rattle.mip_rules_mobile.specs.declared.registered.Registered.{Registered}
 use Rattle.mip_rules_mobile.specs.Timing.{doubled}
 use Rattle.mip_rules_mobile.specs.Calls.{Call}
@@ -15,31 +15,31 @@ use Rattle.mip_rules_mobile.specs.Trials.{Rest, is_bound}
 use Rattle.mip_rules_mobile.specs.Steps.{Unregisters, Tries, Unbinds, Rings}
 use Rattle.mip_rules_mobile.specs.RowQuestions.{peer_of_row, trial_of}
 use Rattle.mip_rules_mobile.specs.TimerQuestions.{moment}
-use Rattle.mip_rules_mobile.specs.Turns.{Turn, noted}
+use Rattle.mip_rules_mobile.specs.Transitions.{Transition, noted}
 use Rattle.mip_rules_mobile.specs.HomeRules.{seeks_again, resends_home}
 use Rattle.mip_rules_mobile.specs.RingingRules.{renews_home, ends_home, ends_at, ends_row, rings_own, does_work, rings, rings_on, ticks, ticks_all}
 use Rattle.mip_rules_mobile.proofs.Steady.{Goes}
 use Rattle.mip_rules_mobile.proofs.TrialWalks.{every-starts, every-resends_row, doubled-positive}
 use Rattle.mip_rules_mobile.proofs.HomeWalks.{every-registers, every-resends_home, every-seeks_again}
 
-module _ (c : Call) (P : Turn → Type 0) (more : Goes c P) (other : is_take c ≡ false) where
-  every-renews_home : (t : Turn) → P t → P (renews_home t.known.standing t)
+module _ (c : Call) (P : Transition → Type 0) (more : Goes c P) (other : is_take c ≡ false) where
+  every-renews_home : (t : Transition) → P t → P (renews_home t.known.standing t)
   every-renews_home t p = by t.known.standing refl
     where
-      by : (s : Standing) → t.known.standing ≡ s → P (renews_home s t)
+      by : (s : Attachment) → t.known.standing ≡ s → P (renews_home s t)
       by Detached here = p
       by AtHome here = p
       by (Away careof) here = every-registers c P more careof t here p
 
-  every-ends_home : (r : Option Registered) (t : Turn) → P t → P (ends_home r t)
+  every-ends_home : (r : Option Registered) (t : Transition) → P t → P (ends_home r t)
   every-ends_home None t p = p
   every-ends_home (Some r) t p = more (Unregisters r.agent) t refl (λ take. absurd (let both : true ≡ false = sym take ∙ other in cc)) p
 
-  every-ends_row : (row : ℕ) (t : Turn) → P t → P (ends_row row t)
+  every-ends_row : (row : ℕ) (t : Transition) → P t → P (ends_row row t)
   unfolding ends_row
   every-ends_row row t p = by (peer_of_row t.known row) refl
     where
-      resting : (bound : Bool) (u : Turn) → P u → P (if bound then noted (Tries row Rest) u else u)
+      resting : (bound : Bool) (u : Transition) → P u → P (if bound then noted (Tries row Rest) u else u)
       resting true u q = more (Tries row Rest) u refl tt q
       resting false u q = q
 
@@ -49,7 +49,7 @@ module _ (c : Call) (P : Turn → Type 0) (more : Goes c P) (other : is_take c �
           let u = noted (Unbinds row peer) t in
           resting (is_bound (trial_of u.known row)) u (more (Unbinds row peer) t refl of p)
 
-  every-own : (timer : ℕ) (t : Turn) → P t → P (rings_own timer t)
+  every-own : (timer : ℕ) (t : Transition) → P t → P (rings_own timer t)
   every-own timer t p = by (timer == 0) (timer == 1) (timer == 2) (timer == 3)
     where
       by : (resends renews ends seeks : Bool)
@@ -60,25 +60,25 @@ module _ (c : Call) (P : Turn → Type 0) (more : Goes c P) (other : is_take c �
       by false false false true = every-seeks_again c P more t p
       by false false false false = p
 
-  pub every-work : (work : Work) (t : Turn) → P t → P (does_work work t)
+  pub every-work : (work : Work) (t : Transition) → P t → P (does_work work t)
   every-work (Resend row) t p = every-resends_row c P more row t p
   every-work (Renew row) t p = every-starts c P more row t p
   every-work (End row) t p = every-ends_row row t p
   every-work (Own timer) t p = every-own timer t p
 
-  pub every-rings : (work : Work) (t : Turn) → P t → P (rings work t)
+  pub every-rings : (work : Work) (t : Transition) → P t → P (rings work t)
   unfolding rings
   every-rings work t p = every-work work (noted (Rings work) t) (more (Rings work) t refl tt p)
 
-  pub every-ticks : (n : ℕ) (t : Turn) → P t → P (ticks n t)
+  pub every-ticks : (n : ℕ) (t : Transition) → P t → P (ticks n t)
   unfolding ticks
   every-ticks zero t p = p
   every-ticks (suc n) t p = by (λ u q. every-ticks n u q) (due_work (moment t.now) t.known.list.timers)
     where
-      by : ((u : Turn) → P u → P (ticks n u)) → (work : Option Work) → P (rings_on (ticks n) work t)
+      by : ((u : Transition) → P u → P (ticks n u)) → (work : Option Work) → P (rings_on (ticks n) work t)
       by again None = p
       by again (Some work) = again (rings work t) (every-rings work t p)
 
-  pub every-ticks_all : (t : Turn) → P t → P (ticks_all t)
+  pub every-ticks_all : (t : Transition) → P t → P (ticks_all t)
   unfolding ticks_all
   every-ticks_all t p = every-ticks (length t.known.list.timers) t p

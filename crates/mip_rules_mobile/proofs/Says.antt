@@ -7,13 +7,13 @@ use Rattle.mip_ipv6.specs.Packet.{Packet, names_no_body}
 use Rattle.mip_ipv6.specs.Reading.{packet_of}
 use Rattle.mip_tokens.specs.declared.kbm.Kbm.{Kbm}
 use Rattle.mip_tunnel.specs.Tunnel.{tunnel_packet, encapsulated}
-use Rattle.mip_says.specs.Says.{carried}
-use Rattle.mip_says.proofs.Sayings.{carried_is, said_if_read, carried_outer, carried_lowered}
-use Rattle.mip_signals.specs.Packets.{data_packet}
-use Rattle.mip_signals.specs.Authenticated.{authenticated_packet}
-use Rattle.mip_written.specs.Written.{SaysNoTest}
-use Rattle.mip_written.proofs.Packets.{read_back}
-use Rattle.mip_written.proofs.Sayings.{message_says_no_test, data_says_no_test, problem_says_no_test}
+use Rattle.mip_inspection.specs.Says.{carried}
+use Rattle.mip_inspection.proofs.Sayings.{carried_is, said_if_read, carried_outer, carried_lowered}
+use Rattle.mip_packet_builders.specs.Packets.{data_packet}
+use Rattle.mip_packet_builders.specs.Authenticated.{authenticated_packet}
+use Rattle.mip_packet_round_trip.specs.Written.{SaysNoTest}
+use Rattle.mip_packet_round_trip.proofs.Packets.{read_back}
+use Rattle.mip_packet_round_trip.proofs.Sayings.{message_says_no_test, data_says_no_test, problem_says_no_test}
 use Rattle.mip_reception.specs.declared.reply.Reply.{Reply}
 use Rattle.mip_reception.specs.declared.reply.Reply.TheVariants.{Nothing, BindingError, ParameterProblem}
 use Rattle.mip_reception.specs.Replies.{reply_packet}

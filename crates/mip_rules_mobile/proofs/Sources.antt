@@ -12,13 +12,13 @@ use Rattle.mip_ipv6.specs.declared.head.Head.{Head}
 use Rattle.mip_ipv6.specs.Packet.{Packet}
 use Rattle.mip_ipv6.specs.Spelling.{behind_bytes, fixed_bytes, packet_bytes, first_number, second_number}
 use Rattle.mip_mobhdr.specs.Said.{Said}
-use Rattle.mip_signals.specs.Packets.{data_packet, message_packet}
-use Rattle.mip_signals.specs.Authenticated.{authenticated_packet}
+use Rattle.mip_packet_builders.specs.Packets.{data_packet, message_packet}
+use Rattle.mip_packet_builders.specs.Authenticated.{authenticated_packet}
 use Rattle.mip_tunnel.specs.Tunnel.{encapsulated}
 use Rattle.mip_nonce.specs.Secrets.{Life}
 use Rattle.mip_entries.specs.Stamped.{Stamped}
-use Rattle.mip_rules_mobile.specs.declared.standing.Standing.{Standing}
-use Rattle.mip_rules_mobile.specs.declared.standing.Standing.TheVariants.{Detached, AtHome, Away}
+use Rattle.mip_rules_mobile.specs.declared.attachment.Attachment.{Attachment}
+use Rattle.mip_rules_mobile.specs.declared.attachment.Attachment.TheVariants.{Detached, AtHome, Away}
 use Rattle.mip_rules_mobile.specs.Calls.{Call}
 use Rattle.mip_rules_mobile.specs.Sendings.{Sending, FromHome, ByTunnel, AsksCareof, RegistersHome, DeregistersHome, SendsData, Discovers, Solicits, PeerUpdate, inner_packet, registration_packet, deregistration_packet, data_head, discovery_packet, solicitation_packet, packet_of_sending, update_bytes, update_packet}
 use Rattle.mip_rules_mobile.specs.Steps.{Step, Called, Parts, Notes, Sends, Unsends, Drops, Claims, Releases, FindsTaken, Arrives, Detaches, Restarts, Registers, Unregisters, IsRefused, Resequences, Seeks, SeeksAgain, GivesUp, Finds, Chooses, Learns, Meets, Tries, Updates, Forgets, Binds, Unbinds, Waits, Stops, Rings}
@@ -87,10 +87,10 @@ tunnel-source entry exit packet = packet-source _
 module _ (k : Known) (elsewhere : IsElsewhere k) where
   from-away : (careof : Address) (packet : List ℕ) → k.standing ≡ Away careof → source_bytes packet ≡ address_bytes careof → LeavesFrom k.standing (home_of k) packet
   from-away careof packet here is =
-      subst (λ (s : Standing). LeavesFrom s (home_of k) packet) (sym here) (subst (λ (s : Standing). IsApart s (home_of k)) here elsewhere, is)
+      subst (λ (s : Attachment). LeavesFrom s (home_of k) packet) (sym here) (subst (λ (s : Attachment). IsApart s (home_of k)) here elsewhere, is)
 
   from-home : (packet : List ℕ) → k.standing ≡ AtHome → LeavesFrom k.standing (home_of k) packet
-  from-home packet here = subst (λ (s : Standing). LeavesFrom s (home_of k) packet) (sym here) tt
+  from-home packet here = subst (λ (s : Attachment). LeavesFrom s (home_of k) packet) (sym here) tt
 
   sending-leaves : (c : Call) (now : ℕ) (x : Sending) → IsSentBy c now k x → LeavesFrom k.standing (home_of k) (packet_of_sending x)
   unfolding registration_packet deregistration_packet discovery_packet solicitation_packet
@@ -119,7 +119,7 @@ module _ (k : Known) (elsewhere : IsElsewhere k) where
       away careof true here from = from-away careof (update_packet u) here (update-source u ∙ ap (λ (a : Option Address). address_bytes (unwrap_or a careof)) (sym from))
       away careof false here from = absurd cc
 
-      by : (s : Standing) → k.standing ≡ s → source_for s (home_of k) u.made ≡ Some u.source → LeavesFrom k.standing (home_of k) (update_packet u)
+      by : (s : Attachment) → k.standing ≡ s → source_for s (home_of k) u.made ≡ Some u.source → LeavesFrom k.standing (home_of k) (update_packet u)
       by Detached here from = absurd cc
       by AtHome here from = from-home (update_packet u) here
       by (Away careof) here from = away careof (is_some u.made.careof) here from
@@ -127,7 +127,7 @@ module _ (k : Known) (elsewhere : IsElsewhere k) where
 -- away is elsewhere, after each step
 apart-at : (home address : Address) → IsApart (standing_at home address) home
 apart-at home address =
-    cond_both (address.0 == home.0) _ _ (λ (s : Standing). IsApart s home) (λ is. tt) (λ other. eqb-false address.0 home.0 other)
+    cond_both (address.0 == home.0) _ _ (λ (s : Attachment). IsApart s home) (λ is. tt) (λ other. eqb-false address.0 home.0 other)
 
 apart-kept : (home : Address) (k : Known) (step : Step) → home_of k ≡ home → IsApart k.standing home → IsApart (standing_after k step) home
 apart-kept home k (Called call) same was = was

@@ -3,33 +3,33 @@
 use Rattle.std.proofs.Common.{◌≡◌, ℕ, true, refl, ap, ◌∙◌, sym}
 use Rattle.mip_entries.specs.declared.entry.Entry.{Entry}
 use Rattle.mip_rules_correspondent.specs.Wholes.{is_own}
-use Rattle.mip_turns.proofs.TurnLaws.{noted-now, noted-known}
+use Rattle.mip_transitions.proofs.TurnLaws.{noted-now, noted-known}
 use Rattle.mip_words.specs.declared.address.Address.{Address}
 use Rattle.mip_rules_correspondent.specs.declared.identity.Identity.{Identity}
-use Rattle.mip_rules_mobile.specs.declared.standing.Standing.{Standing}
+use Rattle.mip_rules_mobile.specs.declared.attachment.Attachment.{Attachment}
 use Rattle.mip_rules_correspondent.specs.Calls as parts
 use Rattle.mip_rules_mobile.specs.Calls.{Call}
 use Rattle.mip_rules_mobile.specs.Steps.{Step, Called, Parts, Notes, Sends, Unsends, Drops, Claims, Releases, FindsTaken, Arrives, Detaches, Restarts, Registers, Unregisters, IsRefused, Resequences, Seeks, SeeksAgain, GivesUp, Finds, Chooses, Learns, Meets, Tries, Updates, Forgets, Binds, Unbinds, Waits, Stops, Rings}
 use Rattle.mip_rules_mobile.specs.Known.{Known}
 use Rattle.mip_rules_mobile.specs.HomeQuestions.{standing_after}
 use Rattle.mip_rules_mobile.specs.Questions.{after, part_after}
-use Rattle.mip_rules_mobile.specs.Turns.{Turn, noted}
+use Rattle.mip_rules_mobile.specs.Transitions.{Transition, noted}
 use Rattle.mip_rules_mobile.specs.Fitting.{IsAt, Fits, Steady, kind_of}
 
 -- every steady step may be taken that fits
-abbrev pub Goes : Call → (Turn → Type 0) → Type 0
-Goes c P = (step : Step) (t : Turn) → kind_of step ≡ Steady → Fits c t.now t.known step → P t → P (noted step t)
+abbrev pub Goes : Call → (Transition → Type 0) → Type 0
+Goes c P = (step : Step) (t : Transition) → kind_of step ≡ Steady → Fits c t.now t.known step → P t → P (noted step t)
 
-pub standing-noted : (step : Step) (t : Turn) → (noted step t).known.standing ≡ standing_after t.known step
+pub standing-noted : (step : Step) (t : Transition) → (noted step t).known.standing ≡ standing_after t.known step
 unfolding after
 standing-noted step t = ap (λ (k : Known). k.standing) (noted-known after step t)
 
-pub identity-noted : (step : Step) (t : Turn) → (noted step t).known.part.identity ≡ (part_after t.known.part t.now step).identity
+pub identity-noted : (step : Step) (t : Transition) → (noted step t).known.part.identity ≡ (part_after t.known.part t.now step).identity
 unfolding after
 identity-noted step t = ap (λ (k : Known). k.part.identity) (noted-known after step t)
 
 -- the mobile stands here, its correspondent part is this, and the moment is this
-pub record Stays (s : Standing) (me : Identity) (now : ℕ) (t : Turn) : Type 0 where
+pub record Stays (s : Attachment) (me : Identity) (now : ℕ) (t : Transition) : Type 0 where
   pub standing : t.known.standing ≡ s
   pub identity : t.known.part.identity ≡ me
   pub moment : t.now ≡ now
@@ -100,14 +100,14 @@ steady-identity (Waits work wait) k at is = refl
 steady-identity (Stops work) k at is = refl
 steady-identity (Rings work) k at is = refl
 
-pub stays-noted : (s : Standing) (me : Identity) (now : ℕ) (step : Step) (t : Turn) → kind_of step ≡ Steady → Stays s me now t → Stays s me now (noted step t)
+pub stays-noted : (s : Attachment) (me : Identity) (now : ℕ) (step : Step) (t : Transition) → kind_of step ≡ Steady → Stays s me now t → Stays s me now (noted step t)
 stays-noted s me now step t is stays = record {
   standing = standing-noted step t ∙ steady-standing step t.known is ∙ stays.standing;
   identity = identity-noted step t ∙ steady-identity step t.known t.now is ∙ stays.identity;
   moment = noted-now after step t ∙ stays.moment;
 }
 
-pub stays-told : (s : Standing) (me : Identity) (now : ℕ) (entry : Entry) (t : Turn) → Stays s me now t → Stays s me now (noted (Notes entry) t)
+pub stays-told : (s : Attachment) (me : Identity) (now : ℕ) (entry : Entry) (t : Transition) → Stays s me now t → Stays s me now (noted (Notes entry) t)
 stays-told s me now entry t stays = record {
   standing = standing-noted (Notes entry) t ∙ stays.standing;
   identity = identity-noted (Notes entry) t ∙ stays.identity;
@@ -115,7 +115,7 @@ stays-told s me now entry t stays = record {
 }
 
 -- a call of the correspondent part changes neither
-pub stays-asked : (s : Standing) (me : Identity) (now : ℕ) (call : parts.Call) (t : Turn) → Stays s me now t → Stays s me now (noted (Parts call) t)
+pub stays-asked : (s : Attachment) (me : Identity) (now : ℕ) (call : parts.Call) (t : Transition) → Stays s me now t → Stays s me now (noted (Parts call) t)
 stays-asked s me now call t stays = record {
   standing = standing-noted (Parts call) t ∙ stays.standing;
   identity = identity-noted (Parts call) t ∙ stays.identity;
@@ -123,26 +123,26 @@ stays-asked s me now call t stays = record {
 }
 
 -- the correspondent part may be called
-abbrev pub Askings : (Turn → Type 0) → Type 0
-Askings P = (call : parts.Call) (t : Turn) → P t → P (noted (Parts call) t)
+abbrev pub Askings : (Transition → Type 0) → Type 0
+Askings P = (call : parts.Call) (t : Transition) → P t → P (noted (Parts call) t)
 
 -- an entry of the correspondent part may be left
-abbrev pub Notings : (Turn → Type 0) → Type 0
-Notings P = (entry : Entry) (t : Turn) → is_own entry ≡ true → P t → P (noted (Notes entry) t)
+abbrev pub Notings : (Transition → Type 0) → Type 0
+Notings P = (entry : Entry) (t : Transition) → is_own entry ≡ true → P t → P (noted (Notes entry) t)
 
 -- so a walk over steady steps stays
-pub staying : (c : Call) (s : Standing) (me : Identity) (now : ℕ) → Goes c (Stays s me now)
+pub staying : (c : Call) (s : Attachment) (me : Identity) (now : ℕ) → Goes c (Stays s me now)
 staying c s me now step t is fits stays = stays-noted s me now step t is stays
 
-pub stays-here : (t : Turn) → Stays t.known.standing t.known.part.identity t.now t
+pub stays-here : (t : Transition) → Stays t.known.standing t.known.part.identity t.now t
 stays-here t = record { standing = refl; identity = refl; moment = refl }
 
 -- where the mobile stood before a steady step it stands after it, with the same home address
-pub at-noted : (s : Standing) (home : Address) (step : Step) (t : Turn) → kind_of step ≡ Steady → IsAt t.known s home → IsAt (noted step t).known s home
+pub at-noted : (s : Attachment) (home : Address) (step : Step) (t : Transition) → kind_of step ≡ Steady → IsAt t.known s home → IsAt (noted step t).known s home
 at-noted s home step t is at = (
   standing-noted step t ∙ steady-standing step t.known is ∙ at.0,
   at.1 ∙ sym (ap (λ (i : Identity). i.own) (identity-noted step t ∙ steady-identity step t.known t.now is)),
 )
 
-pub at-stays : (s : Standing) (home : Address) (t u : Turn) → Stays t.known.standing t.known.part.identity t.now u → IsAt t.known s home → IsAt u.known s home
+pub at-stays : (s : Attachment) (home : Address) (t u : Transition) → Stays t.known.standing t.known.part.identity t.now u → IsAt t.known s home → IsAt u.known s home
 at-stays s home t u stays at = (stays.standing ∙ at.0, at.1 ∙ sym (ap (λ (i : Identity). i.own) stays.identity))

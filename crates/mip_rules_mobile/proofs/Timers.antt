@@ -11,14 +11,14 @@ use Rattle.mip_bulist.specs.declared.timer.Timer.{Timer}
 use Rattle.mip_bulist.specs.Timers.{is_of, without_timer, place_of, with_timer, without_due, due_work, AreDueFrom, AreInOrder}
 use Rattle.mip_bulist.proofs.TimerLaws.{none_due, filter_order, put_order, due_order}
 use Rattle.mip_entries.specs.Stamped.{Stamped}
-use Rattle.mip_turns.proofs.TurnLaws.{noted-now, noted-known}
+use Rattle.mip_transitions.proofs.TurnLaws.{noted-now, noted-known}
 use Rattle.mip_rules_mobile.specs.Calls as calls
 use Rattle.mip_rules_mobile.specs.Calls.{Call}
 use Rattle.mip_rules_mobile.specs.Steps.{Step, Called, Parts, Notes, Sends, Unsends, Drops, Claims, Releases, FindsTaken, Arrives, Detaches, Restarts, Registers, Unregisters, IsRefused, Resequences, Seeks, SeeksAgain, GivesUp, Finds, Chooses, Learns, Meets, Tries, Updates, Forgets, Binds, Unbinds, Waits, Stops, Rings}
 use Rattle.mip_rules_mobile.specs.Known.{Known}
 use Rattle.mip_rules_mobile.specs.TimerQuestions.{timers_after, later, moment, ending_home, renewing_home}
 use Rattle.mip_rules_mobile.specs.Questions.{after, fresh, known}
-use Rattle.mip_rules_mobile.specs.Turns.{Turn, begun, noted}
+use Rattle.mip_rules_mobile.specs.Transitions.{Transition, begun, noted}
 use Rattle.mip_rules_mobile.specs.RingingRules.{rings, rings_on, ticks, ticks_all}
 use Rattle.mip_rules_mobile.specs.Doing.{does, turn_of}
 use Rattle.mip_rules_mobile.specs.Coming.{is_take}
@@ -184,12 +184,12 @@ late-kept c now k (Stops work) ts is fits = filter_late (λ t. not (is_of work t
 late-kept c now k (Rings work) ts is fits = due_less now ts
 
 -- the turn is at this moment, and so many timers at most are due
-record AreFew (now n : ℕ) (t : Turn) : Type 0 where
+record AreFew (now n : ℕ) (t : Transition) : Type 0 where
   moment : t.now ≡ now
   few : late now t.known.list.timers ≤ n
   order : AreInOrder t.known.list.timers
 
-timers-noted : (step : Step) (t : Turn) → (noted step t).known.list.timers ≡ timers_after t.known.list.timers t.now step
+timers-noted : (step : Step) (t : Transition) → (noted step t).known.list.timers ≡ timers_after t.known.list.timers t.now step
 unfolding after
 timers-noted step t = ap (λ (k : Known). k.list.timers) (noted-known after step t)
 
@@ -205,7 +205,7 @@ few-noted c now n step t is fits few =
     }
 
 -- a timer that rings is no more among them
-few-rings : (c : Call) (other : is_take c ≡ false) (now n : ℕ) (work : Work) (t : Turn) → due_work (moment t.now) t.known.list.timers ≡ Some work → AreFew now (suc n) t → AreFew now n (rings work t)
+few-rings : (c : Call) (other : is_take c ≡ false) (now n : ℕ) (work : Work) (t : Transition) → due_work (moment t.now) t.known.list.timers ≡ Some work → AreFew now (suc n) t → AreFew now n (rings work t)
 unfolding rings
 few-rings c other now n work t is few =
     every-work c (AreFew now n) (few-noted c now n) other work (noted (Rings work) t)
@@ -219,19 +219,19 @@ few-rings c other now n work t is few =
       order = subst AreInOrder (sym (timers-noted (Rings work) t)) (order-kept t.known.list.timers t.now (Rings work) few.order);
     })
 
-none-few : (now n : ℕ) (t : Turn) → due_work (moment t.now) t.known.list.timers ≡ None → AreFew now n t → AreFew now 0 t
+none-few : (now n : ℕ) (t : Transition) → due_work (moment t.now) t.known.list.timers ≡ None → AreFew now n t → AreFew now 0 t
 none-few now n t is few = record {
   moment = few.moment;
   few = late-none now t.known.list.timers (subst (λ (m : ℕ). AreDueFrom (m + 1) t.known.list.timers) few.moment (none_due (moment t.now) t.known.list.timers few.order is));
   order = few.order;
 }
 
-few-ticks : (c : Call) (other : is_take c ≡ false) (now n : ℕ) (t : Turn) → AreFew now n t → AreFew now 0 (ticks n t)
+few-ticks : (c : Call) (other : is_take c ≡ false) (now n : ℕ) (t : Transition) → AreFew now n t → AreFew now 0 (ticks n t)
 unfolding ticks
 few-ticks c other now zero t few = few
 few-ticks c other now (suc n) t few = by (λ u q. few-ticks c other now n u q) (due_work (moment t.now) t.known.list.timers) refl
   where
-    by : ((u : Turn) → AreFew now n u → AreFew now 0 (ticks n u)) → (work : Option Work) → due_work (moment t.now) t.known.list.timers ≡ work → AreFew now 0 (rings_on (ticks n) work t)
+    by : ((u : Transition) → AreFew now n u → AreFew now 0 (ticks n u)) → (work : Option Work) → due_work (moment t.now) t.known.list.timers ≡ work → AreFew now 0 (rings_on (ticks n) work t)
     by again None is = none-few now (suc n) t is few
     by again (Some work) is = again (rings work t) (few-rings c other now n work t is few)
 

@@ -10,7 +10,7 @@ use Rattle.mip_lists.specs.Last.{or_else, last_where, since}
 use Rattle.mip_lists.proofs.LastLaws.{last_where-found, since-quiet}
 use Rattle.mip_entries.specs.Stamped.{Stamped}
 use Rattle.mip_rules_correspondent.specs.Seen.{CorrespondentSeen}
-use Rattle.mip_rules_mobile.specs.declared.standing.Standing.TheVariants.{AtHome}
+use Rattle.mip_rules_mobile.specs.declared.attachment.Attachment.TheVariants.{AtHome}
 use Rattle.mip_rules_mobile.specs.declared.numbering.Numbering.{Numbering}
 use Rattle.mip_rules_mobile.specs.Steps.{Step, Called, Parts, Notes, Sends, Unsends, Drops, Claims, Releases, FindsTaken, Arrives, Detaches, Restarts, Registers, Unregisters, IsRefused, Resequences, Seeks, SeeksAgain, GivesUp, Finds, Chooses, Learns, Meets, Tries, Updates, Forgets, Binds, Unbinds, Waits, Stops, Rings, is_call}
 use Rattle.mip_rules_mobile.specs.Known.{Known}

@@ -14,8 +14,8 @@ use Rattle.mip_bulist.specs.declared.state.Probing as probing
 use Rattle.mip_bulist.specs.declared.trial.Trial.{Trial}
 use Rattle.mip_bulist.specs.declared.work.Work.TheVariants.{Resend}
 use Rattle.mip_rules_correspondent.specs.declared.identity.Identity.{Identity}
-use Rattle.mip_rules_mobile.specs.declared.standing.Standing.{Standing}
-use Rattle.mip_rules_mobile.specs.declared.standing.Standing.TheVariants.{Detached, AtHome, Away}
+use Rattle.mip_rules_mobile.specs.declared.attachment.Attachment.{Attachment}
+use Rattle.mip_rules_mobile.specs.declared.attachment.Attachment.TheVariants.{Detached, AtHome, Away}
 use Rattle.mip_constants.specs.Constants.{max_bindack_timeout}
 use Rattle.mip_rules_mobile.specs.Timing.{doubled}
 use Rattle.mip_rules_mobile.specs.Calls.{Call}
@@ -24,22 +24,22 @@ use Rattle.mip_rules_mobile.specs.Sendings.{PeerUpdate, AsksHome, AsksCareof}
 use Rattle.mip_rules_mobile.specs.Steps.{Step, Sends, Tries, Updates, Waits}
 use Rattle.mip_rules_mobile.specs.HomeQuestions.{home_of, binding_number_of}
 use Rattle.mip_rules_mobile.specs.RowQuestions.{first_cookie, second_cookie, peer_of_row, trial_of, wait_of_row}
-use Rattle.mip_rules_mobile.specs.Turns.{Turn, noted}
+use Rattle.mip_rules_mobile.specs.Transitions.{Transition, noted}
 use Rattle.mip_rules_mobile.specs.OutRules.{goes_out}
 use Rattle.mip_rules_mobile.specs.TrialRules.{each_from, each_row, starts_with, starts_at, starts, source_for, sends_update, makes_with, makes_at, updates, asks_home, asks_careof, asks_again, goes_on, resends_at, resends_row}
 use Rattle.mip_rules_mobile.proofs.Steady.{Goes, Stays, stays-noted, staying, stays-here}
 use Rattle.mip_rules_mobile.proofs.OutWalks.{every-goes_out, out-stays}
 
 -- a rule for each row keeps what the rule keeps
-pub every-from : (P : Turn → Type 0) (rule : ℕ → Turn → Turn) → ((row : ℕ) (t : Turn) → P t → P (rule row t)) → (left row : ℕ) (t : Turn) → P t → P (each_from rule left row t)
+pub every-from : (P : Transition → Type 0) (rule : ℕ → Transition → Transition) → ((row : ℕ) (t : Transition) → P t → P (rule row t)) → (left row : ℕ) (t : Transition) → P t → P (each_from rule left row t)
 every-from P rule keeps zero row t p = p
 every-from P rule keeps (suc left) row t p = every-from P rule keeps left (row + 1) (rule row t) (keeps row t p)
 
-pub every-row : (P : Turn → Type 0) (rule : ℕ → Turn → Turn) → ((row : ℕ) (t : Turn) → P t → P (rule row t)) → (t : Turn) → P t → P (each_row rule t)
+pub every-row : (P : Transition → Type 0) (rule : ℕ → Transition → Transition) → ((row : ℕ) (t : Transition) → P t → P (rule row t)) → (t : Transition) → P t → P (each_row rule t)
 every-row P rule keeps t p = every-from P rule keeps 16 0 t p
 
-module _ (c : Call) (P : Turn → Type 0) (more : Goes c P) where
-  pub every-starts : (row : ℕ) (t : Turn) → P t → P (starts row t)
+module _ (c : Call) (P : Transition → Type 0) (more : Goes c P) where
+  pub every-starts : (row : ℕ) (t : Transition) → P t → P (starts row t)
   unfolding starts
   every-starts row t p = by (peer_of_row t.known row)
     where
@@ -49,7 +49,7 @@ module _ (c : Call) (P : Turn → Type 0) (more : Goes c P) where
       other : Cookie
       other = second_cookie t.known
 
-      from : (peer : Address) (s : Standing) → t.known.standing ≡ s → P (starts_with s row peer t)
+      from : (peer : Address) (s : Attachment) → t.known.standing ≡ s → P (starts_with s row peer t)
       from peer Detached here = p
       from peer AtHome here =
           let first = noted (Tries row (Start Delete home home)) t in
@@ -73,8 +73,8 @@ module _ (c : Call) (P : Turn → Type 0) (more : Goes c P) where
 pub doubled-positive : (wait : ℕ) → 0 < doubled wait
 doubled-positive wait = omega (arith, le-max_left 1000 (min (2 * wait) 32000))
 
-module _ (c : Call) (P : Turn → Type 0) (more : Goes c P) where
-  sends : (source : Option Address) (row : ℕ) (peer : Address) (made : Made) (wait : ℕ) (t : Turn) → 0 < wait
+module _ (c : Call) (P : Transition → Type 0) (more : Goes c P) where
+  sends : (source : Option Address) (row : ℕ) (peer : Address) (made : Made) (wait : ℕ) (t : Transition) → 0 < wait
       → peer_of_row t.known row ≡ Some peer → makes (record { 0 = t.now }) (trial_of t.known row) ≡ Some (Ok made)
       → source_for t.known.standing (home_of t.known) made ≡ source → P t → P (sends_update source row peer made wait t)
   sends None row peer made wait t positive of_row of_trial from p = p
@@ -83,7 +83,7 @@ module _ (c : Call) (P : Turn → Type 0) (more : Goes c P) where
       more (Waits (Resend row) wait) (noted (Updates row u) t) refl positive
       (more (Updates row u) t refl (record { home = refl; peer = of_row; number = refl; made = of_trial; source = from }) p)
 
-  pub every-updates : (row wait : ℕ) (t : Turn) → 0 < wait → P t → P (updates row wait t)
+  pub every-updates : (row wait : ℕ) (t : Transition) → 0 < wait → P t → P (updates row wait t)
   unfolding updates
   every-updates row wait t positive p = by (peer_of_row t.known row) refl
     where
@@ -99,29 +99,29 @@ module _ (c : Call) (P : Turn → Type 0) (more : Goes c P) where
       by None is = p
       by (Some peer) is = of peer is (makes (record { 0 = t.now }) (trial_of t.known row)) refl
 
-  asking_home : (lacks : Bool) (peer : Address) (cookie : ℕ) (t : Turn) → P t → P (asks_home lacks peer cookie t)
+  asking_home : (lacks : Bool) (peer : Address) (cookie : ℕ) (t : Transition) → P t → P (asks_home lacks peer cookie t)
   asking_home true peer cookie t p = every-goes_out c P more (AsksHome peer cookie) t tt p
   asking_home false peer cookie t p = p
 
-  asking_careof : (lacks : Bool) (s : Standing) (peer : Address) (cookie : ℕ) (t : Turn) → t.known.standing ≡ s → P t → P (asks_careof lacks s peer cookie t)
+  asking_careof : (lacks : Bool) (s : Attachment) (peer : Address) (cookie : ℕ) (t : Transition) → t.known.standing ≡ s → P t → P (asks_careof lacks s peer cookie t)
   asking_careof lacks Detached peer cookie t here p = p
   asking_careof lacks AtHome peer cookie t here p = p
   asking_careof true (Away careof) peer cookie t here p = more (Sends (AsksCareof careof peer cookie)) t refl here p
   asking_careof false (Away careof) peer cookie t here p = p
 
 -- asking for a Home Test moves nothing
-asking-stays : (c : Call) (s : Standing) (me : Identity) (now : ℕ) (lacks : Bool) (peer : Address) (cookie : ℕ) (t : Turn) → Stays s me now t → Stays s me now (asks_home lacks peer cookie t)
+asking-stays : (c : Call) (s : Attachment) (me : Identity) (now : ℕ) (lacks : Bool) (peer : Address) (cookie : ℕ) (t : Transition) → Stays s me now t → Stays s me now (asks_home lacks peer cookie t)
 asking-stays c s me now lacks peer cookie t stays = asking_home c (Stays s me now) (staying c s me now) lacks peer cookie t stays
 
-module _ (c : Call) (P : Turn → Type 0) (more : Goes c P) where
-  every-asks_again : (row : ℕ) (peer : Address) (u : Trial probing.Probing) (t : Turn) → P t → P (asks_again row peer u t)
+module _ (c : Call) (P : Transition → Type 0) (more : Goes c P) where
+  every-asks_again : (row : ℕ) (peer : Address) (u : Trial probing.Probing) (t : Transition) → P t → P (asks_again row peer u t)
   unfolding asks_again
   every-asks_again row peer u t p =
       let s = asking-stays c t.known.standing t.known.part.identity t.now (lacks_home u) peer u.state.home_cookie.0 t (stays-here t) in
       asking_careof c P more (lacks_careof u) t.known.standing peer u.state.careof_cookie.0 (asks_home (lacks_home u) peer u.state.home_cookie.0 t) s.standing
       (asking_home c P more (lacks_home u) peer u.state.home_cookie.0 t p)
 
-  going_on : (o : Option Any) (row : ℕ) (peer : Address) (wait : ℕ) (t : Turn) → 0 < wait → P t → P (goes_on o row peer wait t)
+  going_on : (o : Option Any) (row : ℕ) (peer : Address) (wait : ℕ) (t : Transition) → 0 < wait → P t → P (goes_on o row peer wait t)
   going_on (Some (Probing u)) row peer wait t positive p =
       more (Waits (Resend row) wait) (asks_again row peer u t) refl positive (every-asks_again row peer u t p)
   going_on (Some (Proved u)) row peer wait t positive p = every-updates c P more row wait t positive p
@@ -130,7 +130,7 @@ module _ (c : Call) (P : Turn → Type 0) (more : Goes c P) where
   going_on (Some (Bound u)) row peer wait t positive p = p
   going_on None row peer wait t positive p = p
 
-  pub every-resends_row : (row : ℕ) (t : Turn) → P t → P (resends_row row t)
+  pub every-resends_row : (row : ℕ) (t : Transition) → P t → P (resends_row row t)
   unfolding resends_row
   every-resends_row row t p = by (peer_of_row t.known row)
     where

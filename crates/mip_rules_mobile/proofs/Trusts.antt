@@ -13,16 +13,16 @@ use Rattle.mip_mobhdr.specs.Said.{Said}
 use Rattle.mip_mobhdr.specs.Said.Said.{HomeTest, CareofTest, Acknowledgement}
 use Rattle.mip_tunnel.specs.declared.exit_fault.ExitFault.{ExitFault}
 use Rattle.mip_tunnel.specs.Tunnel.{opened}
-use Rattle.mip_says.specs.Says.{message_in, said_by, carried}
-use Rattle.mip_says.proofs.Sayings.{carried_message, carried_opened}
+use Rattle.mip_inspection.specs.Says.{message_in, said_by, carried}
+use Rattle.mip_inspection.proofs.Sayings.{carried_message, carried_opened}
 use Rattle.mip_bulist.specs.declared.any.Any.TheVariants.{Pending}
 use Rattle.mip_bulist.specs.declared.state.Pending as pending
 use Rattle.mip_bulist.specs.declared.trial.Trial.{Trial}
 use Rattle.mip_bulist.specs.declared.work.Work.{Work}
 use Rattle.mip_updates.specs.Statuses.{accepts_it, sequence_out_of_window}
-use Rattle.mip_turns.proofs.TurnLaws.{noted-now, noted-known, noted-steps}
-use Rattle.mip_rules_mobile.specs.declared.standing.Standing.{Standing}
-use Rattle.mip_rules_mobile.specs.declared.standing.Standing.TheVariants.{Detached, AtHome, Away}
+use Rattle.mip_transitions.proofs.TurnLaws.{noted-now, noted-known, noted-steps}
+use Rattle.mip_rules_mobile.specs.declared.attachment.Attachment.{Attachment}
+use Rattle.mip_rules_mobile.specs.declared.attachment.Attachment.TheVariants.{Detached, AtHome, Away}
 use Rattle.mip_rules_mobile.specs.declared.home_update.HomeUpdate.{HomeUpdate}
 use Rattle.mip_rules_mobile.specs.Calls.{Call, Take}
 use Rattle.mip_rules_mobile.specs.Coming.{IsTunnelled, Came, IsOfTake}
@@ -34,7 +34,7 @@ use Rattle.mip_rules_mobile.specs.RowQuestions.{row_of, trial_of}
 use Rattle.mip_rules_mobile.specs.HomeRules.{is_answered_at, if_answered, answered_by}
 use Rattle.mip_rules_mobile.specs.PeerRules.{comes_right, test_at, is_genuine, is_trusted, acknowledges}
 use Rattle.mip_rules_mobile.specs.Questions.{after}
-use Rattle.mip_rules_mobile.specs.Turns.{Turn, noted}
+use Rattle.mip_rules_mobile.specs.Transitions.{Transition, noted}
 use Rattle.mip_rules_mobile.specs.Part.{IsReadIn, Itself, Within}
 use Rattle.mip_rules_mobile.specs.Trusting.{IsAnswered, IsAcknowledged, IsByTunnel}
 use Rattle.mip_rules_mobile.specs.Resting.{last_step}
@@ -45,7 +45,7 @@ pub accepts-below : (status : ℕ) → accepts_it status ≡ true → status < 1
 accepts-below status is = grind (arith, nat_tests)
 
 -- a timer that is stopped changes nothing of what an answer is measured by
-pub latest-stopped : (work : Work) (t : Turn) → (noted (Stops work) t).known.latest ≡ t.known.latest
+pub latest-stopped : (work : Work) (t : Transition) → (noted (Stops work) t).known.latest ≡ t.known.latest
 unfolding after
 latest-stopped work t = ap (λ (k : Known). k.latest) (noted-known after (Stops work) t)
 
@@ -54,7 +54,7 @@ last-push : (before : Option Step) (steps : List Step) (step : Step) → last_st
 last-push before [] step = refl
 last-push before (s ∷ steps) step = last-push (Some s) steps step
 
-pub last-noted : (step : Step) (t : Turn) → last_step None (noted step t).steps ≡ Some step
+pub last-noted : (step : Step) (t : Transition) → last_step None (noted step t).steps ≡ Some step
 last-noted step t = ap (last_step None) (noted-steps after step t) ∙ last-push None t.steps step
 
 -- what came says what was handed over
@@ -125,7 +125,7 @@ module _ (c : Call) (k : Known) (now number : ℕ) (tunnelled : Bool) (shield : 
     says = carried-came k now tunnelled shield of.bytes packet of.came (HomeTest index cookie token options) says;
     moment = refl;
     way = λ kind careof away.
-        let through : tunnelled ≡ true = subst (λ (s : Standing). comes_right s tunnelled ≡ true) away right in
+        let through : tunnelled ≡ true = subst (λ (s : Attachment). comes_right s tunnelled ≡ true) away right in
         by-tunnel through (in-proto packet (HomeTest index cookie token options) says);
   }
 
@@ -142,7 +142,7 @@ module _ (c : Call) (k : Known) (now number : ℕ) (tunnelled : Bool) (shield : 
   }
 
 -- what counts as an answer of the agent
-pub record Counts (s : Standing) (tunnelled : Bool) (shield : Option Shield) (source : Address) (status sequence : ℕ) (o : Option HomeUpdate) (u : HomeUpdate) : Type 0 where
+pub record Counts (s : Attachment) (tunnelled : Bool) (shield : Option Shield) (source : Address) (status sequence : ℕ) (o : Option HomeUpdate) (u : HomeUpdate) : Type 0 where
   pub straight : tunnelled ≡ false
   pub shielded : is_some shield ≡ true
   pub last : o ≡ Some u
@@ -154,12 +154,12 @@ not-true : (b : Bool) → not b ≡ true → b ≡ false
 not-true false is = refl
 not-true true is = absurd cc
 
-answered-there : (s : Standing) (u : HomeUpdate) → is_answered_at s u ≡ true → is_detached s ≡ false
+answered-there : (s : Attachment) (u : HomeUpdate) → is_answered_at s u ≡ true → is_detached s ≡ false
 answered-there Detached u is = absurd cc
 answered-there AtHome u is = refl
 answered-there (Away careof) u is = refl
 
-pub answer-counts : (s : Standing) (tunnelled : Bool) (shield : Option Shield) (source : Address) (status sequence : ℕ) (o : Option HomeUpdate) (u : HomeUpdate)
+pub answer-counts : (s : Attachment) (tunnelled : Bool) (shield : Option Shield) (source : Address) (status sequence : ℕ) (o : Option HomeUpdate) (u : HomeUpdate)
     → answered_by s tunnelled shield source status sequence o ≡ Some u → Counts s tunnelled shield source status sequence o u
 answer-counts s tunnelled shield source status sequence None u is = absurd cc
 answer-counts s tunnelled shield source status sequence (Some v) u is =
@@ -296,7 +296,7 @@ stopped-after c k now at work row sequence granted is = record {
   numbered = is.numbered;
 }
 
-pub acknowledged-stops : (c : Call) (work : Work) (row sequence granted : ℕ) (t : Turn) → IsAcknowledged c t.known t.now row sequence granted
+pub acknowledged-stops : (c : Call) (work : Work) (row sequence granted : ℕ) (t : Transition) → IsAcknowledged c t.known t.now row sequence granted
     → IsAcknowledged c (noted (Stops work) t).known (noted (Stops work) t).now row sequence granted
 acknowledged-stops c work row sequence granted t is =
     subst (λ (n : ℕ). IsAcknowledged c (noted (Stops work) t).known n row sequence granted) (sym (noted-now after (Stops work) t))

@@ -4,8 +4,8 @@ use Rattle.std.specs.List.{AllByRecursion}
 use Rattle.mip_words.specs.Addresses.{address_bytes}
 use Rattle.mip_words.specs.declared.address.Address.{Address}
 use Rattle.mip_ipv6.specs.Packet.{names_no_body}
-use Rattle.mip_says.specs.Says.{carried}
-use Rattle.mip_written.specs.Written.{SaysNoTest}
+use Rattle.mip_inspection.specs.Says.{carried}
+use Rattle.mip_packet_round_trip.specs.Written.{SaysNoTest}
 use Rattle.mip_entries.specs.declared.answer.Answer.{Answer}
 use Rattle.mip_entries.specs.declared.answer.Answer.TheVariants.{Send, Note}
 use Rattle.mip_entries.specs.declared.entry.Entry.{Entry}
@@ -14,8 +14,8 @@ use Rattle.mip_entries.specs.Reasons.{is_unsent_why}
 use Rattle.mip_rules_correspondent.specs.declared.identity.Identity.{Identity}
 use Rattle.mip_rules_correspondent.specs.Rules.{home_test, careof_test, is_data}
 use Rattle.mip_rules_correspondent.specs.Wholes as parts
-use Rattle.mip_rules_mobile.specs.declared.standing.Standing.{Standing}
-use Rattle.mip_rules_mobile.specs.declared.standing.Standing.TheVariants.{Detached, AtHome, Away}
+use Rattle.mip_rules_mobile.specs.declared.attachment.Attachment.{Attachment}
+use Rattle.mip_rules_mobile.specs.declared.attachment.Attachment.TheVariants.{Detached, AtHome, Away}
 use Rattle.mip_rules_mobile.specs.Calls as calls
 use Rattle.mip_rules_mobile.specs.Calls.{Call}
 use Rattle.mip_rules_mobile.specs.Steps.{Step, answer_of}
@@ -68,7 +68,7 @@ source_bytes packet = take 16 (drop 8 packet)
 
 -- away, a packet leaves from the care-of address, which is not the home address; detached none leaves. RFC 6275 section
 -- 11.3.1
-abbrev pub LeavesFrom : Standing → (home : Address) → List ℕ → Type 0
+abbrev pub LeavesFrom : Attachment → (home : Address) → List ℕ → Type 0
 LeavesFrom Detached home packet = ⊥
 LeavesFrom AtHome home packet = Unit {0}
 LeavesFrom (Away careof) home packet = (careof.0 ≢ home.0) × (source_bytes packet ≡ address_bytes careof)
@@ -78,7 +78,7 @@ LeavesRight k (Send shield packet) = LeavesFrom k.standing (home_of k) packet
 LeavesRight k (Note entry) = Unit {0}
 
 -- where it is away, its care-of address is not its home address
-abbrev pub IsApart : Standing → Address → Type 0
+abbrev pub IsApart : Attachment → Address → Type 0
 IsApart (Away careof) home = careof.0 ≢ home.0
 IsApart _ home = Unit {0}
 

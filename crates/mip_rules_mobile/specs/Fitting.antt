@@ -5,7 +5,7 @@
 use Rattle.std.specs.Prelude.{◌≡◌, ℕ, ◌<◌, List, [], ◌∷◌, Bool, true, false, Option, Some, None, Ok}
 use Rattle.mip_words.specs.declared.address.Address.{Address}
 use Rattle.mip_words.specs.declared.shield.Shield.{Shield}
-use Rattle.mip_says.specs.Says.{carried, Test as Told}
+use Rattle.mip_inspection.specs.Says.{carried, Test as Told}
 use Rattle.mip_bulist.specs.declared.any.Any.{Any}
 use Rattle.mip_bulist.specs.declared.tested.Test.{Test}
 use Rattle.mip_bulist.specs.Rows.{peer_of_any}
@@ -14,8 +14,8 @@ use Rattle.mip_rules_correspondent.specs.declared.identity.Identity.{Identity}
 use Rattle.mip_rules_correspondent.specs.Calls as part_calls
 use Rattle.mip_rules_correspondent.specs.Sendings as parts
 use Rattle.mip_rules_correspondent.specs.Wholes.{is_own}
-use Rattle.mip_rules_mobile.specs.declared.standing.Standing.{Standing}
-use Rattle.mip_rules_mobile.specs.declared.standing.Standing.TheVariants.{Detached, AtHome, Away}
+use Rattle.mip_rules_mobile.specs.declared.attachment.Attachment.{Attachment}
+use Rattle.mip_rules_mobile.specs.declared.attachment.Attachment.TheVariants.{Detached, AtHome, Away}
 use Rattle.mip_rules_mobile.specs.Calls as calls
 use Rattle.mip_rules_mobile.specs.Calls.{Call}
 use Rattle.mip_rules_mobile.specs.Coming.{is_take}
@@ -48,7 +48,7 @@ IsInner c me now (AsksHome peer cookie) = Unit {0}
 IsInner c me now (Given packet) = c ≡ calls.Tunnel packet
 
 -- it stands there, and this is its home address
-abbrev pub IsAt : Known → Standing → Address → Type 0
+abbrev pub IsAt : Known → Attachment → Address → Type 0
 IsAt k standing home = (k.standing ≡ standing) × (home ≡ home_of k)
 
 -- a packet leaves from the address that the mobile stands at
@@ -90,7 +90,7 @@ IsChangedBy c now k row (Acknowledge sequence granted) = IsAcknowledged c k now 
 IsChangedBy c now k row _ = Unit {0}
 
 -- it uses no address
-abbrev pub is_detached : Standing → Bool
+abbrev pub is_detached : Attachment → Bool
 is_detached Detached = true
 is_detached AtHome = false
 is_detached (Away careof) = false

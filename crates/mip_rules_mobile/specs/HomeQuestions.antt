@@ -3,8 +3,8 @@ use Rattle.std.specs.Prelude.{ℕ, ◌+◌, ◌%◌, Bool, true, false, ◌==◌
 use Rattle.std.specs.Option.{option_or}
 use Rattle.mip_words.specs.declared.address.Address.{Address}
 use Rattle.mip_bulist.specs.declared.work.Work.TheVariants.{Own}
-use Rattle.mip_rules_mobile.specs.declared.standing.Standing.{Standing}
-use Rattle.mip_rules_mobile.specs.declared.standing.Standing.TheVariants.{Detached, AtHome, Away}
+use Rattle.mip_rules_mobile.specs.declared.attachment.Attachment.{Attachment}
+use Rattle.mip_rules_mobile.specs.declared.attachment.Attachment.TheVariants.{Detached, AtHome, Away}
 use Rattle.mip_rules_mobile.specs.declared.registered.Registered.{Registered}
 use Rattle.mip_rules_mobile.specs.declared.home_update.HomeUpdate.{HomeUpdate}
 use Rattle.mip_rules_mobile.specs.declared.numbering.Numbering.{Numbering}
@@ -17,17 +17,17 @@ abbrev pub home_of : Known → Address
 home_of k = k.part.identity.own
 
 -- at home, or away
-abbrev pub standing_at : (home address : Address) → Standing
+abbrev pub standing_at : (home address : Address) → Attachment
 standing_at home address = if address.0 == home.0 then AtHome else Away address
 
 -- where a step says that it stands: at the last address that it uses, nowhere once it left or found its address taken
-abbrev pub standing_said : Address → Step → Option Standing
+abbrev pub standing_said : Address → Step → Option Attachment
 standing_said home (Arrives address) = Some (standing_at home address)
 standing_said home (FindsTaken address holder) = Some Detached
 standing_said home Detaches = Some Detached
 standing_said home _ = None
 
-abbrev pub standing_after : Known → Step → Standing
+abbrev pub standing_after : Known → Step → Attachment
 standing_after k step = unwrap_or (standing_said (home_of k) step) k.standing
 
 -- how many numbers its bindings may have, from 0 on: as many as its correspondent part has for those of others

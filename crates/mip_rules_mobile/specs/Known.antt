@@ -5,7 +5,7 @@ use Rattle.mip_words.specs.declared.moment.Moment.{Moment}
 use Rattle.mip_discovery.specs.Retries.{DiscoverySeen}
 use Rattle.mip_bulist.specs.Lists.{ListSeen}
 use Rattle.mip_rules_correspondent.specs.Seen.{CorrespondentSeen}
-use Rattle.mip_rules_mobile.specs.declared.standing.Standing.{Standing}
+use Rattle.mip_rules_mobile.specs.declared.attachment.Attachment.{Attachment}
 use Rattle.mip_rules_mobile.specs.declared.registered.Registered.{Registered}
 use Rattle.mip_rules_mobile.specs.declared.home_update.HomeUpdate.{HomeUpdate}
 use Rattle.mip_rules_mobile.specs.declared.numbering.Numbering.{Numbering}
@@ -19,7 +19,7 @@ pub record Known : Type 0 where
   -- the agent that it was declared with, none where it is to find one
   pub declared : Option Address
   -- where it stands
-  pub standing : Standing
+  pub standing : Attachment
   -- how many places it came to since it last restarted, addresses other than its home, counted modulo the numbers that its
   -- bindings may have
   pub places : ℕ

@@ -3,7 +3,7 @@
 use Rattle.std.specs.Prelude.{◌≡◌, [], None}
 use Rattle.std.specs.List.{AllByRecursion}
 use Rattle.mip_rules_mobile.specs.declared.peer.Peer.{Peer}
-use Rattle.mip_rules_mobile.specs.declared.standing.Standing.TheVariants.{Detached}
+use Rattle.mip_rules_mobile.specs.declared.attachment.Attachment.TheVariants.{Detached}
 use Rattle.mip_rules_mobile.specs.Known.{Known}
 
 abbrev pub IsUnbound : Peer → Type 0

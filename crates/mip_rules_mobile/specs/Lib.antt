@@ -9,7 +9,7 @@ pub mod DiscoveryQuestions
 pub mod RowQuestions
 pub mod TimerQuestions
 pub mod Questions
-pub mod Turns
+pub mod Transitions
 pub mod Coming
 pub mod Trusting
 pub mod Resting

@@ -15,7 +15,7 @@ use Rattle.mip_entries.specs.declared.entry.Entry.TheVariants as entries
 use Rattle.mip_entries.specs.Stamped.{Stamped}
 use Rattle.mip_rules_correspondent.specs.Calls as parts
 use Rattle.mip_rules_correspondent.specs.Steps as part_steps
-use Rattle.mip_rules_correspondent.specs.Turns.{with_turn}
+use Rattle.mip_rules_correspondent.specs.Transitions.{with_turn}
 use Rattle.mip_rules_correspondent.specs.Questions as part_questions
 use Rattle.mip_rules_correspondent.specs.Seen.{CorrespondentSeen, turn_at}
 use Rattle.mip_rules_correspondent.specs.Taken.{IsUpdateParted}

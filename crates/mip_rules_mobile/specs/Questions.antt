@@ -4,10 +4,10 @@ use Rattle.mip_words.specs.declared.address.Address.{Address}
 use Rattle.mip_words.specs.declared.moment.Moment.{Moment}
 use Rattle.mip_nonce.specs.Secrets.{Life}
 use Rattle.mip_entries.specs.Stamped.{Stamped}
-use Rattle.mip_turns.specs.Turns.{known_by}
+use Rattle.mip_transitions.specs.Transitions.{known_by}
 use Rattle.mip_rules_correspondent.specs.Questions as parts
 use Rattle.mip_rules_correspondent.specs.Seen.{CorrespondentSeen, called}
-use Rattle.mip_rules_mobile.specs.declared.standing.Standing.TheVariants.{AtHome}
+use Rattle.mip_rules_mobile.specs.declared.attachment.Attachment.TheVariants.{AtHome}
 use Rattle.mip_rules_mobile.specs.Steps.{Step, Parts, Restarts, is_call}
 use Rattle.mip_rules_mobile.specs.Known.{Known}
 use Rattle.mip_rules_mobile.specs.HomeQuestions.{standing_after, places_after, registered_after, latest_after, agent_after, owes_after, numberings_after, wait_after}

@@ -7,12 +7,12 @@ use Rattle.mip_ipv6.specs.Packet.{Packet, source_of}
 use Rattle.mip_ipv6.specs.Reading.{packet_of}
 use Rattle.mip_options.specs.Values.{Values}
 use Rattle.mip_mobhdr.specs.Said.Said.{Acknowledgement}
-use Rattle.mip_says.specs.Says.{message_in}
+use Rattle.mip_inspection.specs.Says.{message_in}
 use Rattle.mip_tokens.specs.Token.{is_authentic}
 use Rattle.mip_bulist.specs.declared.any.Any.TheVariants.{Pending}
 use Rattle.mip_bulist.specs.declared.state.Pending as pending
 use Rattle.mip_bulist.specs.declared.trial.Trial.{Trial}
-use Rattle.mip_rules_mobile.specs.declared.standing.Standing.TheVariants.{Away}
+use Rattle.mip_rules_mobile.specs.declared.attachment.Attachment.TheVariants.{Away}
 use Rattle.mip_rules_mobile.specs.declared.home_update.HomeUpdate.{HomeUpdate}
 use Rattle.mip_rules_mobile.specs.Calls.{Call, Take}
 use Rattle.mip_rules_mobile.specs.Coming.{IsOfTake}

@@ -2,13 +2,14 @@
 //! the laws that join the rules to a past.
 #![tactic(auto)]
 
+mod attachment;
 mod home_update;
 mod laws;
 mod numbering;
 mod peer;
 mod registered;
-mod standing;
 
+pub use attachment::Attachment;
 pub use home_update::HomeUpdate;
 pub use laws::{
     a_discovery_runs_until_it_is_over, a_tick_leaves_nothing_due, answers_are_whole,
@@ -23,4 +24,3 @@ pub use laws::{
 pub use numbering::Numbering;
 pub use peer::Peer;
 pub use registered::Registered;
-pub use standing::Standing;

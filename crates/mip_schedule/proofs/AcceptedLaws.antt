@@ -8,7 +8,7 @@ use Rattle.mip_schedule.specs.Faults.{Wrong}
 use Rattle.mip_schedule.specs.Reading.{reading}
 use Rattle.mip_schedule.specs.Schedules.{content}
 use Rattle.mip_schedule.specs.Spelling.{spelling}
-use Rattle.mip_declared.specs.declared.declaration.Declaration.{Declaration}
+use Rattle.mip_symbols.specs.declared.declaration.Declaration.{Declaration}
 use Rattle.mip_schedule.specs.declared.event.Event.{Event}
 use Rattle.mip_schedule.specs.declared.schedule.Schedule.{Schedule}
 

@@ -9,10 +9,10 @@ use Rattle.mip_lines.specs.Cutting.{texts}
 use Rattle.mip_schedule.specs.BindParts.{bind_ends, bind_numbers}
 use Rattle.mip_schedule.specs.DeclarationRows.{u16}
 use Rattle.mip_schedule.specs.EventRows.{u32, binding_number, update_ends, plain_bind_row, numbered_bind_row}
-use Rattle.mip_declared.specs.Kinds as kinds
-use Rattle.mip_declared.specs.declared.declaration.Declaration.{Declaration}
+use Rattle.mip_symbols.specs.Kinds as kinds
+use Rattle.mip_symbols.specs.declared.declaration.Declaration.{Declaration}
 use Rattle.mip_schedule.specs.declared.event.Event.TheVariants as events
-use Rattle.mip_declared.specs.declared.reason.Reason.{Reason}
+use Rattle.mip_symbols.specs.declared.reason.Reason.{Reason}
 
 pub plain_split : (ds : List Declaration) (c1 c2 c3 c4 c5 c6 c7 c8 c9 c10 : List ℕ)
     → plain_bind_row ds (c1 ∷ c2 ∷ c3 ∷ c4 ∷ c5 ∷ c6 ∷ c7 ∷ c8 ∷ c9 ∷ c10 ∷ [])

@@ -7,11 +7,11 @@ use Rattle.mip_lines.proofs.RowLaws.{row1-spelled, row2-spelled, row4-spelled, r
 use Rattle.mip_schedule.specs.DeclarationRows.{link_row, agent_row, correspondent_row, mobile_row, serve_row, outsider_row, node_fields, declaration_fields}
 use Rattle.mip_schedule.specs.DeclarationTimes.{declaration_line}
 use Rattle.mip_schedule.specs.Spelling.{declaration_text}
-use Rattle.mip_declared.specs.declared.declaration.Declaration.{Declaration}
-use Rattle.mip_declared.specs.declared.reason.Reason.{Reason}
-use Rattle.mip_declared.specs.declared.reason.Reason.TheVariants as reasons
+use Rattle.mip_symbols.specs.declared.declaration.Declaration.{Declaration}
+use Rattle.mip_symbols.specs.declared.reason.Reason.{Reason}
+use Rattle.mip_symbols.specs.declared.reason.Reason.TheVariants as reasons
 use Rattle.mip_schedule.proofs.FewLaws.{line_free}
-use Rattle.mip_declared.proofs.KindLaws.{new_name-spells, prefix-spells, link-spells, address-spells, number-spells, some_agent-spells, agent-spells, mobile-spells, worded}
+use Rattle.mip_symbols.proofs.KindLaws.{new_name-spells, prefix-spells, link-spells, address-spells, number-spells, some_agent-spells, agent-spells, mobile-spells, worded}
 
 abbrev Spelled : List Declaration → List ℕ → (List (List ℕ) → Result Declaration Reason) → Type 0
 Spelled ds word row = (fields : List (List ℕ)) (x : Declaration) → row fields ≡ Ok x → word ∷ fields ≡ declaration_text ds x

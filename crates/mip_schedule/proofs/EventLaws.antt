@@ -9,11 +9,11 @@ use Rattle.mip_schedule.specs.DeclarationTimes.{judged}
 use Rattle.mip_schedule.specs.EventRows.{wait_row, move_row, advertise_row, data_row, inject_row, probe_row, plain_bind_row, numbered_bind_row, bind_row, tell_row, listen_row, deaf_row, squat_row, yield_row, deliver_row, repeat_row, lose_row, carry_row, restart_row, refresh_row, plan_row, ask_row, show_row, settle_row, node_fields, packet_fields, outsider_fields, event_fields}
 use Rattle.mip_schedule.specs.EventTimes.{untimely, timed_line}
 use Rattle.mip_schedule.specs.Spelling.{event_text}
-use Rattle.mip_declared.specs.declared.declaration.Declaration.{Declaration}
+use Rattle.mip_symbols.specs.declared.declaration.Declaration.{Declaration}
 use Rattle.mip_schedule.specs.declared.event.Event.{Event}
-use Rattle.mip_declared.specs.declared.reason.Reason.{Reason}
-use Rattle.mip_declared.specs.declared.reason.Reason.TheVariants as reasons
-use Rattle.mip_declared.proofs.KindLaws.{number-spells, address-spells, cookie-spells, bytes-spells, link-spells, node-spells, agent-spells, mobile-spells, host-spells, outsider-spells, some_link-spells, some_packet-spells, careof-spells, worded}
+use Rattle.mip_symbols.specs.declared.reason.Reason.{Reason}
+use Rattle.mip_symbols.specs.declared.reason.Reason.TheVariants as reasons
+use Rattle.mip_symbols.proofs.KindLaws.{number-spells, address-spells, cookie-spells, bytes-spells, link-spells, node-spells, agent-spells, mobile-spells, host-spells, outsider-spells, some_link-spells, some_packet-spells, careof-spells, worded}
 
 abbrev Spelled : Bool → List Declaration → List ℕ → (List (List ℕ) → Result Event Reason) → Type 0
 Spelled numbered ds word row = (fields : List (List ℕ)) (x : Event) → row fields ≡ Ok x → word ∷ fields ≡ event_text numbered ds x

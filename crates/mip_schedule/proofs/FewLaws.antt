@@ -9,13 +9,13 @@ use Rattle.mip_words.proofs.StepLaws.{bind_ok}
 use Rattle.mip_schedule.specs.DeclarationRows.{declaration_fields}
 use Rattle.mip_schedule.specs.DeclarationTimes.{undeclared, judged, is_full, declaration_line}
 use Rattle.mip_schedule.specs.Declarings.{next_of}
-use Rattle.mip_declared.specs.Places.{AreFew, members, counts}
+use Rattle.mip_symbols.specs.Places.{AreFew, members, counts}
 use Rattle.mip_schedule.specs.Reading.{at_line, is_run}
-use Rattle.mip_declared.specs.declared.declaration.Declaration.{Declaration}
-use Rattle.mip_declared.specs.declared.declaration.Declaration.TheVariants as declare
-use Rattle.mip_declared.specs.declared.places.Sort.{Sort}
-use Rattle.mip_declared.specs.declared.places.Sort.TheVariants.{Link, Outsider, Node}
-use Rattle.mip_declared.specs.declared.reason.Reason.{Reason}
+use Rattle.mip_symbols.specs.declared.declaration.Declaration.{Declaration}
+use Rattle.mip_symbols.specs.declared.declaration.Declaration.TheVariants as declare
+use Rattle.mip_symbols.specs.declared.places.Sort.{Sort}
+use Rattle.mip_symbols.specs.declared.places.Sort.TheVariants.{Link, Outsider, Node}
+use Rattle.mip_symbols.specs.declared.reason.Reason.{Reason}
 
 grown : (sort : Sort) (ds : List Declaration) (d : Declaration) → length (members sort (ds ++ d ∷ [])) ≡ length (members sort ds) + cond (counts sort d) 1 0
 unfolding members

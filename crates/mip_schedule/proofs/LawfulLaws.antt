@@ -16,9 +16,9 @@ use Rattle.mip_schedule.specs.Reading.{at_line, head_of, is_run, Declared, decla
 use Rattle.mip_schedule.specs.Schedules.{content}
 use Rattle.mip_schedule.specs.Spelling.{event_text, spelling}
 use Rattle.mip_schedule.specs.Versions.{is_numbered}
-use Rattle.mip_declared.specs.declared.declaration.Declaration.{Declaration}
+use Rattle.mip_symbols.specs.declared.declaration.Declaration.{Declaration}
 use Rattle.mip_schedule.specs.declared.event.Event.{Event}
-use Rattle.mip_declared.specs.declared.reason.Reason.{Reason}
+use Rattle.mip_symbols.specs.declared.reason.Reason.{Reason}
 use Rattle.mip_schedule.specs.declared.schedule.Schedule.{Schedule}
 use Rattle.mip_schedule.proofs.AcceptedLaws.{accepted}
 use Rattle.mip_schedule.proofs.DeclarationLaws.{declaration-spelled}

@@ -11,15 +11,15 @@ use Rattle.mip_schedule.specs.Declarings.{next_of}
 use Rattle.mip_schedule.specs.EventRows as events_rows
 use Rattle.mip_schedule.specs.EventRows.{u32, binding_number, update_ends, wait_row, move_row, advertise_row, data_row, inject_row, probe_row, plain_bind_row, numbered_bind_row, bind_row, tell_row, listen_row, deaf_row, squat_row, yield_row, deliver_row, repeat_row, lose_row, carry_row, restart_row, refresh_row, plan_row, ask_row, show_row, settle_row, packet_fields, outsider_fields, event_fields}
 use Rattle.mip_schedule.specs.EventTimes.{untimely, timed_line}
-use Rattle.mip_declared.specs.Kinds as kinds
+use Rattle.mip_symbols.specs.Kinds as kinds
 use Rattle.mip_schedule.specs.Reading.{bad_form, headed, is_run}
-use Rattle.mip_declared.specs.declared.declaration.Declaration.{Declaration}
-use Rattle.mip_declared.specs.declared.declaration.Declaration.TheVariants as declare
+use Rattle.mip_symbols.specs.declared.declaration.Declaration.{Declaration}
+use Rattle.mip_symbols.specs.declared.declaration.Declaration.TheVariants as declare
 use Rattle.mip_schedule.specs.declared.event.Event.{Event}
 use Rattle.mip_schedule.specs.declared.event.Event.TheVariants as events
-use Rattle.mip_declared.specs.declared.places.Sort.TheVariants as sorts
-use Rattle.mip_declared.specs.declared.reason.Reason.{Reason}
-use Rattle.mip_declared.specs.declared.reason.Reason.TheVariants as reasons
+use Rattle.mip_symbols.specs.declared.places.Sort.TheVariants as sorts
+use Rattle.mip_symbols.specs.declared.reason.Reason.{Reason}
+use Rattle.mip_symbols.specs.declared.reason.Reason.TheVariants as reasons
 
 -- declarations
 long_node : (ds : List Declaration) (word : List ℕ) (fields : List (List ℕ)) → 11 < length fields → node_fields ds word fields ≡ Err reasons.Form

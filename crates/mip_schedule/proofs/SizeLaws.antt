@@ -5,7 +5,7 @@ use Rattle.mip_lines.specs.Lines.{spaced, line_text, lines_text}
 use Rattle.mip_schedule.specs.Contents.{Content}
 use Rattle.mip_schedule.specs.Spelling.{declaration_rows, event_text, run_row, schedule_rows, spelling}
 use Rattle.mip_schedule.specs.Versions.{is_numbered}
-use Rattle.mip_declared.specs.declared.declaration.Declaration.{Declaration}
+use Rattle.mip_symbols.specs.declared.declaration.Declaration.{Declaration}
 use Rattle.mip_schedule.specs.declared.event.Event.{Event}
 
 line_long : (row : List (List ℕ)) → 0 < length (line_text row)

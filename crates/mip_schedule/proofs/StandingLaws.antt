@@ -10,26 +10,26 @@ use Rattle.mip_schedule.specs.Contents.{Content}
 use Rattle.mip_schedule.specs.DeclarationRows.{u16, room, link_row, agent_row, correspondent_row, mobile_row, outsider_row, node_fields, declaration_fields}
 use Rattle.mip_schedule.specs.DeclarationTimes.{declaration_line}
 use Rattle.mip_schedule.specs.Faults.{Wrong}
-use Rattle.mip_declared.specs.Kinds as kinds
-use Rattle.mip_declared.specs.Kinds.{or_reason, new_name}
-use Rattle.mip_declared.specs.Names.{is_name, name_of}
-use Rattle.mip_declared.specs.Places.{AreFew, NamesFound, is_taken, declared_name}
+use Rattle.mip_symbols.specs.Kinds as kinds
+use Rattle.mip_symbols.specs.Kinds.{or_reason, new_name}
+use Rattle.mip_symbols.specs.Names.{is_name, name_of}
+use Rattle.mip_symbols.specs.Places.{AreFew, NamesFound, is_taken, declared_name}
 use Rattle.mip_schedule.specs.Reading.{at_line, head_of, is_run, Declared, declarations_of, events_of, reading}
 use Rattle.mip_schedule.specs.Schedules.{content}
-use Rattle.mip_declared.specs.Spelled.{link_text, node_text, or_word}
+use Rattle.mip_symbols.specs.Spelled.{link_text, node_text, or_word}
 use Rattle.mip_schedule.specs.Spelling.{declaration_text, spelling}
 use Rattle.mip_schedule.specs.Versions.{is_numbered}
-use Rattle.mip_declared.specs.declared.declaration.Declaration.{Declaration}
-use Rattle.mip_declared.specs.declared.declaration.Declaration.TheVariants as declare
-use Rattle.mip_declared.specs.declared.name.Name.{Name}
-use Rattle.mip_declared.specs.declared.places.Sort.TheVariants as sorts
-use Rattle.mip_declared.specs.declared.reason.Reason.{Reason}
-use Rattle.mip_declared.specs.declared.reason.Reason.TheVariants as reasons
+use Rattle.mip_symbols.specs.declared.declaration.Declaration.{Declaration}
+use Rattle.mip_symbols.specs.declared.declaration.Declaration.TheVariants as declare
+use Rattle.mip_symbols.specs.declared.name.Name.{Name}
+use Rattle.mip_symbols.specs.declared.places.Sort.TheVariants as sorts
+use Rattle.mip_symbols.specs.declared.reason.Reason.{Reason}
+use Rattle.mip_symbols.specs.declared.reason.Reason.TheVariants as reasons
 use Rattle.mip_schedule.specs.declared.schedule.Schedule.{Schedule}
 use Rattle.mip_schedule.proofs.AcceptedLaws.{accepted}
 use Rattle.mip_schedule.proofs.DeclarationLaws.{declaration-spelled}
 use Rattle.mip_schedule.proofs.FewLaws.{few_more, line_free, none_few}
-use Rattle.mip_declared.proofs.NameLaws.{IsFresh, MayStand, AreNamed, named_more, none_named, names_are_found}
+use Rattle.mip_symbols.proofs.NameLaws.{IsFresh, MayStand, AreNamed, named_more, none_named, names_are_found}
 use Rattle.mip_schedule.proofs.TextLaws.{at_line_ok}
 
 tested : (b : Bool) (m n : Name) → or_reason reasons.Name (cond b (Some m) None) ≡ Ok n → b ≡ true

@@ -14,16 +14,16 @@ use Rattle.mip_schedule.specs.Contents.{Content}
 use Rattle.mip_schedule.specs.DeclarationTimes.{declaration_line}
 use Rattle.mip_schedule.specs.EventTimes.{event_line}
 use Rattle.mip_schedule.specs.Faults.{Wrong}
-use Rattle.mip_declared.specs.Kinds as kinds
+use Rattle.mip_symbols.specs.Kinds as kinds
 use Rattle.mip_schedule.specs.Reading.{at_line, headed, head_field, head_line, version_line, seed_line, start_line, Head, head_of, is_run, Declared, declarations_of, last_row, events_of, reading}
 use Rattle.mip_schedule.specs.Spelling.{declaration_text, declaration_rows, event_text, head_rows, run_row, schedule_rows, spelling}
 use Rattle.mip_schedule.specs.Versions.{is_numbered}
-use Rattle.mip_declared.specs.declared.declaration.Declaration.{Declaration}
+use Rattle.mip_symbols.specs.declared.declaration.Declaration.{Declaration}
 use Rattle.mip_schedule.specs.declared.event.Event.{Event}
-use Rattle.mip_declared.specs.declared.reason.Reason.{Reason}
+use Rattle.mip_symbols.specs.declared.reason.Reason.{Reason}
 use Rattle.mip_schedule.proofs.DeclarationLaws.{declaration-spelled}
 use Rattle.mip_schedule.proofs.EventLaws.{event-spelled}
-use Rattle.mip_declared.proofs.KindLaws.{number-spells, number-within, seed-spells, worded}
+use Rattle.mip_symbols.proofs.KindLaws.{number-spells, number-within, seed-spells, worded}
 
 abbrev end_row : List (List ℕ)
 end_row = [] ∷ []

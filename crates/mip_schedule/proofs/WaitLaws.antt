@@ -10,11 +10,11 @@ use Rattle.mip_schedule.specs.Contents.{Content}
 use Rattle.mip_schedule.specs.EventTimes.{wait_of, waited, carried, misfit, untimely, event_line}
 use Rattle.mip_schedule.specs.Reading.{at_line, head_of, declarations_of, events_of, reading}
 use Rattle.mip_schedule.specs.Versions.{is_numbered}
-use Rattle.mip_declared.specs.declared.declaration.Declaration.{Declaration}
+use Rattle.mip_symbols.specs.declared.declaration.Declaration.{Declaration}
 use Rattle.mip_schedule.specs.declared.event.Event.{Event}
 use Rattle.mip_schedule.specs.declared.event.Event.TheVariants as events
-use Rattle.mip_declared.specs.declared.reason.Reason.{Reason}
-use Rattle.mip_declared.specs.declared.reason.Reason.TheVariants as reasons
+use Rattle.mip_symbols.specs.declared.reason.Reason.{Reason}
+use Rattle.mip_symbols.specs.declared.reason.Reason.TheVariants as reasons
 use Rattle.mip_schedule.proofs.TextLaws.{at_line_ok}
 use Rattle.mip_schedule.proofs.LawfulLaws.{timed_fits, last_stands}
 

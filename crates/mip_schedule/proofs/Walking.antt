@@ -12,9 +12,9 @@ use Rattle.mip_schedule.specs.DeclarationTimes.{declaration_line}
 use Rattle.mip_schedule.specs.EventTimes.{event_line, timed_line, waited, carried, wait_of, carry_of}
 use Rattle.mip_schedule.specs.Faults.{Wrong, GivesText}
 use Rattle.mip_schedule.specs.Reading.{at_line, bad_form, headed, head_field, is_run, Declared, declarations_of, last_row, events_of}
-use Rattle.mip_declared.specs.declared.declaration.Declaration.{Declaration}
+use Rattle.mip_symbols.specs.declared.declaration.Declaration.{Declaration}
 use Rattle.mip_schedule.specs.declared.event.Event.{Event}
-use Rattle.mip_declared.specs.declared.reason.Reason.{Reason}
+use Rattle.mip_symbols.specs.declared.reason.Reason.{Reason}
 use Rattle.mip_schedule.specs.declared.fault.ScheduleFault.{ScheduleFault}
 use Rattle.mip_schedule.specs.declared.fault.ScheduleFault.TheVariants.{Bad, Memory}
 

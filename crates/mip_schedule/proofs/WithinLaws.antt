@@ -15,23 +15,23 @@ use Rattle.mip_lines.specs.Rows.{row1, row2, row3, row4, row6}
 use Rattle.mip_lines.proofs.HexFieldLaws.{hex_field-spelled}
 use Rattle.mip_schedule.specs.BindParts.{bind_ends, bind_numbers, number_named}
 use Rattle.mip_schedule.specs.EventRows.{update_ends, wait_row, move_row, advertise_row, data_row, inject_row, probe_row, plain_bind_row, numbered_bind_row, tell_row, listen_row, deaf_row, squat_row, yield_row, carry_row, restart_row, refresh_row, plan_row, ask_row, show_row, settle_row, node_fields, packet_fields, outsider_fields, event_fields}
-use Rattle.mip_declared.specs.Kinds as kinds
-use Rattle.mip_declared.specs.Kinds.{to_host, address, bytes, place, link, node, outsider, some_link}
+use Rattle.mip_symbols.specs.Kinds as kinds
+use Rattle.mip_symbols.specs.Kinds.{to_host, address, bytes, place, link, node, outsider, some_link}
 use Rattle.mip_schedule.specs.Lawful.{IsLink, IsNode, IsOutsider, IsLinkIfAny, IsHost, IsWithin}
-use Rattle.mip_declared.specs.Places.{members}
+use Rattle.mip_symbols.specs.Places.{members}
 use Rattle.mip_schedule.specs.Spelling.{event_text}
 use Rattle.mip_schedule.specs.Versions.{numbers_in}
-use Rattle.mip_declared.specs.declared.declaration.Declaration.{Declaration}
+use Rattle.mip_symbols.specs.declared.declaration.Declaration.{Declaration}
 use Rattle.mip_schedule.specs.declared.update_ends.UpdateEnds.{UpdateEnds}
 use Rattle.mip_schedule.specs.declared.event.Event.{Event}
 use Rattle.mip_schedule.specs.declared.event.Event.TheVariants as events
-use Rattle.mip_declared.specs.declared.places.Sort.{Sort}
-use Rattle.mip_declared.specs.declared.places.Sort.TheVariants as sorts
-use Rattle.mip_declared.specs.declared.reason.Reason.{Reason}
-use Rattle.mip_declared.specs.declared.reason.Reason.TheVariants as reasons
+use Rattle.mip_symbols.specs.declared.places.Sort.{Sort}
+use Rattle.mip_symbols.specs.declared.places.Sort.TheVariants as sorts
+use Rattle.mip_symbols.specs.declared.reason.Reason.{Reason}
+use Rattle.mip_symbols.specs.declared.reason.Reason.TheVariants as reasons
 use Rattle.mip_schedule.proofs.BindLaws.{plain_split, numbered_split}
-use Rattle.mip_declared.proofs.KindLaws.{number-within, option_is}
-use Rattle.mip_declared.proofs.PlaceLaws.{place_within}
+use Rattle.mip_symbols.proofs.KindLaws.{number-within, option_is}
+use Rattle.mip_symbols.proofs.PlaceLaws.{place_within}
 
 -- what a reading of a field accepts keeps to Q
 abbrev Keeps : {A : Type 0} → (List ℕ → Result A Reason) → (A → Type 0) → Type 0

@@ -7,7 +7,7 @@ use Rattle.mip_lines.specs.Lines.{line_text, lines_text}
 use Rattle.mip_schedule.specs.Contents.{Content}
 use Rattle.mip_schedule.specs.Spelling.{declaration_text, declaration_rows, event_text, head_rows, run_row, spelling}
 use Rattle.mip_schedule.specs.Versions.{is_numbered}
-use Rattle.mip_declared.specs.declared.declaration.Declaration.{Declaration}
+use Rattle.mip_symbols.specs.declared.declaration.Declaration.{Declaration}
 
 -- one declaration more
 rows_more : (before ds : List Declaration) (d : Declaration) → declaration_rows before (ds ++ d ∷ []) ≡ declaration_rows before ds ++ declaration_text (before ++ ds) d ∷ []

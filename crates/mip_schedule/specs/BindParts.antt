@@ -4,11 +4,11 @@ use Rattle.mip_words.specs.Steps.{◌>>=◌}
 use Rattle.mip_words.specs.declared.ids.LinkId.{LinkId}
 use Rattle.mip_schedule.specs.DeclarationRows.{u16}
 use Rattle.mip_schedule.specs.EventRows.{u32, binding_number, update_ends}
-use Rattle.mip_declared.specs.Kinds as kinds
+use Rattle.mip_symbols.specs.Kinds as kinds
 use Rattle.mip_schedule.specs.declared.event.Event.{Event}
 use Rattle.mip_schedule.specs.declared.event.Event.TheVariants as events
 use Rattle.mip_schedule.specs.declared.update_ends.UpdateEnds.{UpdateEnds}
-use Rattle.mip_declared.specs.declared.reason.Reason.{Reason}
+use Rattle.mip_symbols.specs.declared.reason.Reason.{Reason}
 
 unfoldable pub bind_ends : (source peer home careof : List ℕ) → Result UpdateEnds Reason
 bind_ends source peer home careof = do

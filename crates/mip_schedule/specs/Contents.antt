@@ -1,7 +1,7 @@
 -- What a schedule holds.
 use Rattle.std.specs.Prelude.{ℕ, List}
 use Rattle.mip_words.specs.declared.moment.Moment.{Moment}
-use Rattle.mip_declared.specs.declared.declaration.Declaration.{Declaration}
+use Rattle.mip_symbols.specs.declared.declaration.Declaration.{Declaration}
 use Rattle.mip_schedule.specs.declared.event.Event.{Event}
 
 pub record Content : Type 0 where

@@ -2,12 +2,12 @@
 use Rattle.std.specs.Prelude.{ℕ, List, [], ◌∷◌, if◌then◌else◌, Result, Err, codes}
 use Rattle.std.specs.Str.{bytes_eq}
 use Rattle.mip_lines.specs.Rows.{row1, row2, row4, row6}
-use Rattle.mip_declared.specs.Kinds as kinds
-use Rattle.mip_declared.specs.declared.declaration.Declaration.{Declaration}
-use Rattle.mip_declared.specs.declared.declaration.Declaration.TheVariants as declare
-use Rattle.mip_declared.specs.declared.places.Sort.TheVariants as sorts
-use Rattle.mip_declared.specs.declared.reason.Reason.{Reason}
-use Rattle.mip_declared.specs.declared.reason.Reason.TheVariants as reasons
+use Rattle.mip_symbols.specs.Kinds as kinds
+use Rattle.mip_symbols.specs.declared.declaration.Declaration.{Declaration}
+use Rattle.mip_symbols.specs.declared.declaration.Declaration.TheVariants as declare
+use Rattle.mip_symbols.specs.declared.places.Sort.TheVariants as sorts
+use Rattle.mip_symbols.specs.declared.reason.Reason.{Reason}
+use Rattle.mip_symbols.specs.declared.reason.Reason.TheVariants as reasons
 
 -- how many bindings a cache has room for
 abbrev pub room : List ℕ → Result ℕ Reason

@@ -6,7 +6,7 @@ use Rattle.mip_schedule.specs.DeclarationTimes.{declaration_line}
 use Rattle.mip_schedule.specs.Faults.{Wrong}
 use Rattle.mip_schedule.specs.Reading.{at_line, is_run}
 use Rattle.mip_schedule.specs.Reading as reading
-use Rattle.mip_declared.specs.declared.declaration.Declaration.{Declaration}
+use Rattle.mip_symbols.specs.declared.declaration.Declaration.{Declaration}
 use Rattle.mip_schedule.specs.declared.declaration_lines.Declared.{Declared}
 
 -- the declaration of the line n, after these, or none at `run`

@@ -7,12 +7,12 @@ use Rattle.mip_words.specs.declared.address.Address.{Address}
 use Rattle.mip_words.specs.declared.prefix.Prefix.{Prefix}
 use Rattle.mip_schedule.specs.DeclarationTimes.{is_prefix_taken, judged}
 use Rattle.mip_schedule.specs.EventRows.{event_fields}
-use Rattle.mip_declared.specs.declared.declaration.Declaration.{Declaration}
+use Rattle.mip_symbols.specs.declared.declaration.Declaration.{Declaration}
 use Rattle.mip_schedule.specs.declared.update_ends.UpdateEnds.{UpdateEnds}
 use Rattle.mip_schedule.specs.declared.event.Event.{Event}
 use Rattle.mip_schedule.specs.declared.event.Event.TheVariants as events
-use Rattle.mip_declared.specs.declared.reason.Reason.{Reason}
-use Rattle.mip_declared.specs.declared.reason.Reason.TheVariants as reasons
+use Rattle.mip_symbols.specs.declared.reason.Reason.{Reason}
+use Rattle.mip_symbols.specs.declared.reason.Reason.TheVariants as reasons
 
 -- the waits of these events together, in milliseconds
 abbrev pub wait_of : Event → ℕ

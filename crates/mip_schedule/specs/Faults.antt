@@ -2,7 +2,7 @@
 use Rattle.std.specs.Prelude.{◌≡◌, ℕ, Result, Ok, Err}
 use Rattle.mip_schedule.specs.declared.fault.ScheduleFault.{ScheduleFault}
 use Rattle.mip_schedule.specs.declared.fault.ScheduleFault.TheVariants as faults
-use Rattle.mip_declared.specs.declared.reason.Reason.{Reason}
+use Rattle.mip_symbols.specs.declared.reason.Reason.{Reason}
 
 -- the first bad line of a text, and why
 pub record Wrong : Type 0 where

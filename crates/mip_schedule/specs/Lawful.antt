@@ -8,13 +8,13 @@ use Rattle.mip_words.specs.declared.ids.NodeId.{NodeId}
 use Rattle.mip_schedule.specs.Contents.{Content}
 use Rattle.mip_schedule.specs.DeclarationTimes.{undeclared, declaration_line}
 use Rattle.mip_schedule.specs.EventTimes.{waited, carried, untimely, event_line}
-use Rattle.mip_declared.specs.Places.{members}
+use Rattle.mip_symbols.specs.Places.{members}
 use Rattle.mip_schedule.specs.Spelling.{declaration_text, event_text}
 use Rattle.mip_schedule.specs.Versions.{is_numbered, numbers_in}
-use Rattle.mip_declared.specs.declared.declaration.Declaration.{Declaration}
+use Rattle.mip_symbols.specs.declared.declaration.Declaration.{Declaration}
 use Rattle.mip_schedule.specs.declared.event.Event.{Event}
 use Rattle.mip_schedule.specs.declared.event.Event.TheVariants as events
-use Rattle.mip_declared.specs.declared.places.Sort.TheVariants as sorts
+use Rattle.mip_symbols.specs.declared.places.Sort.TheVariants as sorts
 
 -- the link, the node, the outsider is declared
 abbrev pub IsLink : List Declaration → LinkId → Type 0

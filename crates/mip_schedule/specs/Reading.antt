@@ -6,14 +6,14 @@ use Rattle.mip_words.specs.declared.moment.Moment.{Moment}
 use Rattle.mip_lines.specs.Cutting.{rows_of}
 use Rattle.mip_schedule.specs.Contents.{Content}
 use Rattle.mip_schedule.specs.Versions.{is_numbered}
-use Rattle.mip_declared.specs.Kinds as kinds
+use Rattle.mip_symbols.specs.Kinds as kinds
 use Rattle.mip_schedule.specs.DeclarationTimes.{declaration_line}
 use Rattle.mip_schedule.specs.EventTimes.{event_line}
 use Rattle.mip_schedule.specs.Faults.{Wrong}
-use Rattle.mip_declared.specs.declared.declaration.Declaration.{Declaration}
+use Rattle.mip_symbols.specs.declared.declaration.Declaration.{Declaration}
 use Rattle.mip_schedule.specs.declared.event.Event.{Event}
-use Rattle.mip_declared.specs.declared.reason.Reason.{Reason}
-use Rattle.mip_declared.specs.declared.reason.Reason.TheVariants as reasons
+use Rattle.mip_symbols.specs.declared.reason.Reason.{Reason}
+use Rattle.mip_symbols.specs.declared.reason.Reason.TheVariants as reasons
 
 -- the line n is bad for the reason that its reading gives
 abbrev pub at_line : {A : Type 0} → ℕ → Result A Reason → Result A Wrong

@@ -4,10 +4,10 @@ ghost use Rattle.std.specs.Prelude.{◌≡◌, ◌||◌, nat_le};
 ghost use Rattle.std.specs.List.{count_by, list_any};
 ghost use Rattle.mip_lines.specs.Cutting.{texts};
 ghost use Rattle.mip_schedule.specs.DeclarationTimes as rows;
-ghost use Rattle.mip_declared.specs.Places.{AreFew, is_mobile, members};
+ghost use Rattle.mip_symbols.specs.Places.{AreFew, is_mobile, members};
 
 use crate::declaration_rows::declaration_fields;
-use mip_declared::{Declaration, Reason, Sort, count, is_mobile, member, refused};
+use mip_symbols::{Declaration, Reason, Sort, count, is_mobile, member, refused};
 use mip_words::{Address, LinkId, NodeId, Prefix};
 
 /// The last 64 bits of the home-agents anycast addresses (RFC 2526 section 3).

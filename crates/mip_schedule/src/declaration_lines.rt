@@ -5,13 +5,13 @@ ghost use Rattle.mip_lines.specs.Cutting.{fields_of, rows_of, texts};
 ghost use Rattle.mip_schedule.specs.DeclarationTimes as rows;
 ghost use Rattle.mip_schedule.specs.Declarings.{next_of, declared};
 ghost use Rattle.mip_schedule.specs.Faults.{GivesText};
-ghost use Rattle.mip_declared.specs.Places.{AreFew};
+ghost use Rattle.mip_symbols.specs.Places.{AreFew};
 ghost use Rattle.mip_schedule.specs.Reading as reading;
 
 use crate::declaration_line::declaration_line;
 use crate::fault::ScheduleFault;
-use mip_declared::{Declaration, Declarations, Reason};
 use mip_lines::{cut_at, few_fields};
+use mip_symbols::{Declaration, Declarations, Reason};
 use std::alloc::Global;
 
 /// Declarations, the number of the line behind `run`, and the text from there on.

@@ -3,10 +3,10 @@
 ghost use Rattle.std.specs.Prelude.{◌≡◌, length};
 ghost use Rattle.mip_lines.specs.Cutting.{texts};
 ghost use Rattle.mip_schedule.specs.DeclarationRows as rows;
-ghost use Rattle.mip_declared.specs.Places.{AreFew};
+ghost use Rattle.mip_symbols.specs.Places.{AreFew};
 
-use mip_declared::kinds::{address, link, new_name, node, prefix, some_agent, u16_in, u32_in};
-use mip_declared::{Declaration, Reason, Sort};
+use mip_symbols::kinds::{address, link, new_name, node, prefix, some_agent, u16_in, u32_in};
+use mip_symbols::{Declaration, Reason, Sort};
 
 #[tactic(auto, unfolding(crate::specs::DeclarationRows::link_row))]
 fn link_row(ds: &[Declaration], fields: &[&[u8]]) -> Result<Declaration, Reason>

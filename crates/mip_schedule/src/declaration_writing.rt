@@ -2,14 +2,14 @@
 
 ghost use Rattle.std.specs.Prelude.{◌≡◌, [], ◌++◌, true, OnOk};
 ghost use Rattle.mip_lines.specs.Lines.{line_text, lines_text};
-ghost use Rattle.mip_declared.specs.Places.{is_node};
+ghost use Rattle.mip_symbols.specs.Places.{is_node};
 ghost use Rattle.mip_schedule.specs.Spelling.{declaration_rows, declaration_text};
-ghost use Rattle.mip_declared.specs.declared.declaration.Declaration.TheVariants as declare;
+ghost use Rattle.mip_symbols.specs.declared.declaration.Declaration.TheVariants as declare;
 
 use crate::field_writing::{digits_16, some_agent_name};
 use itoa::Buffer;
-use mip_declared::{Declaration, Name, link_name, node_name};
 use mip_lines::put_line;
+use mip_symbols::{Declaration, Name, link_name, node_name};
 use mip_words::{Address, Bytes, LinkId, Memory};
 
 fn put_agent(

@@ -3,14 +3,14 @@
 ghost use Rattle.std.specs.Prelude.{◌≡◌, ◌+◌, ◌≤◌, length, IfNone, IfOk};
 ghost use Rattle.mip_lines.specs.Cutting.{texts};
 ghost use Rattle.mip_schedule.specs.EventTimes as rows;
-ghost use Rattle.mip_declared.specs.Faults.{GivesLine};
-ghost use Rattle.mip_declared.specs.Places.{AreFew};
+ghost use Rattle.mip_symbols.specs.Faults.{GivesLine};
+ghost use Rattle.mip_symbols.specs.Places.{AreFew};
 
 use crate::declaration_line::is_prefix_taken;
 use crate::event::Event;
 use crate::event_rows::event_fields;
 use crate::update_ends::UpdateEnds;
-use mip_declared::{Declaration, LineFault, Reason, refused, too_many};
+use mip_symbols::{Declaration, LineFault, Reason, refused, too_many};
 use std::alloc::Global;
 
 /// How long an event waits, in milliseconds.

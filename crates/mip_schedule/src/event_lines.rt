@@ -4,15 +4,15 @@ ghost use Rattle.std.specs.Prelude.{◌≡◌, ◌+◌, ◌<◌, ◌≤◌, ◌^
 ghost use Rattle.mip_lines.specs.Cutting.{fields_of, rows_of};
 ghost use Rattle.mip_schedule.specs.EventTimes as rows;
 ghost use Rattle.mip_schedule.specs.Faults.{GivesText};
-ghost use Rattle.mip_declared.specs.Places.{AreFew};
+ghost use Rattle.mip_symbols.specs.Places.{AreFew};
 ghost use Rattle.mip_schedule.specs.Reading as reading;
 
 use crate::event::Event;
 use crate::event_line::{Sums, carry_of, event_line, wait_of};
 use crate::events::Events;
 use crate::fault::ScheduleFault;
-use mip_declared::{Declaration, LineFault, Reason};
 use mip_lines::{cut_at, few_fields};
+use mip_symbols::{Declaration, LineFault, Reason};
 use std::alloc::Global;
 
 /// The most events for which room is taken at once.

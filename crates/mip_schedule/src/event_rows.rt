@@ -3,16 +3,16 @@
 ghost use Rattle.std.specs.Prelude.{◌≡◌};
 ghost use Rattle.mip_lines.specs.Cutting.{texts};
 ghost use Rattle.mip_schedule.specs.EventRows as rows;
-ghost use Rattle.mip_declared.specs.Faults.{GivesLine};
-ghost use Rattle.mip_declared.specs.Places.{AreFew};
+ghost use Rattle.mip_symbols.specs.Faults.{GivesLine};
+ghost use Rattle.mip_symbols.specs.Places.{AreFew};
 
 use crate::event::Event;
 use crate::kept_address::KeptAddress;
 use crate::outsider_rows::{
     bind_row, deaf_row, inject_row, listen_row, probe_row, squat_row, tell_row, yield_row,
 };
-use mip_declared::kinds::{address, bytes, link, node, some_link, u8_in, u32_in};
-use mip_declared::{Declaration, LineFault, Reason, Sort};
+use mip_symbols::kinds::{address, bytes, link, node, some_link, u8_in, u32_in};
+use mip_symbols::{Declaration, LineFault, Reason, Sort};
 use std::alloc::Global;
 
 #[tactic(auto, unfolding(crate::specs::EventRows::wait_row))]

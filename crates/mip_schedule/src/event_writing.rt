@@ -10,8 +10,8 @@ use crate::event::Event;
 use crate::field_writing::{put_number_line, some_link_name};
 use crate::outsider_writing::{put_outside, put_posted};
 use itoa::Buffer;
-use mip_declared::{Declaration, link_name, node_name};
 use mip_lines::{put_line, put_line_hex};
+use mip_symbols::{Declaration, link_name, node_name};
 use mip_words::{Address, Bytes, Memory, NodeId};
 
 fn put_delivery(

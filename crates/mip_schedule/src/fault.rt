@@ -1,4 +1,4 @@
-use mip_declared::Reason;
+use mip_symbols::Reason;
 use mip_words::Memory;
 use thiserror::Error;
 

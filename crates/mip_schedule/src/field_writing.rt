@@ -3,11 +3,11 @@
 ghost use Rattle.std.specs.Prelude.{◌≡◌, [], ◌∷◌, ◌++◌, codes, decimal, OnOk};
 ghost use Rattle.mip_lines.specs.HexFields.{number_hex};
 ghost use Rattle.mip_lines.specs.Lines.{line_text};
-ghost use Rattle.mip_declared.specs.Spelled.{careof_text, link_text, node_text, or_word};
+ghost use Rattle.mip_symbols.specs.Spelled.{careof_text, link_text, node_text, or_word};
 
 use itoa::Buffer;
-use mip_declared::{Declaration, link_name, node_name};
 use mip_lines::put_line;
+use mip_symbols::{Declaration, link_name, node_name};
 use mip_words::{Bytes, LinkId, Memory, NodeId, hex_into, u64_bytes};
 
 /// The 16 digits of a number.

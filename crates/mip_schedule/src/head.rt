@@ -8,9 +8,9 @@ ghost use Rattle.mip_schedule.specs.Heads.{head_seen};
 ghost use Rattle.mip_schedule.specs.Reading as reading;
 
 use crate::fault::ScheduleFault;
-use mip_declared::Reason;
-use mip_declared::kinds::{seed, u8_in, u64_in};
 use mip_lines::{cut_at, few_fields};
+use mip_symbols::Reason;
+use mip_symbols::kinds::{seed, u8_in, u64_in};
 use mip_words::Moment;
 
 /// What the first three lines say, and the text behind them.

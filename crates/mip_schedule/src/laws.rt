@@ -4,7 +4,7 @@ ghost use Rattle.std.specs.Prelude.{◌≡◌, ◌≤◌, ℕ, List, Ok};
 ghost use Rattle.mip_schedule.specs.Contents.{Content};
 ghost use Rattle.mip_schedule.specs.EventTimes.{waited};
 ghost use Rattle.mip_schedule.specs.Lawful.{IsLawful};
-ghost use Rattle.mip_declared.specs.Places.{AreFew, NamesFound};
+ghost use Rattle.mip_symbols.specs.Places.{AreFew, NamesFound};
 ghost use Rattle.mip_schedule.specs.Reading.{reading};
 ghost use Rattle.mip_schedule.specs.Schedules.{content};
 ghost use Rattle.mip_schedule.specs.Spelling.{spelling};

@@ -4,17 +4,17 @@ ghost use Rattle.std.specs.Prelude.{◌≡◌, option_copied};
 ghost use Rattle.mip_lines.specs.Cutting.{texts};
 ghost use Rattle.mip_schedule.specs.BindParts.{bind_ends, bind_numbers, number_named};
 ghost use Rattle.mip_schedule.specs.EventRows as rows;
-ghost use Rattle.mip_declared.specs.Faults.{GivesLine};
-ghost use Rattle.mip_declared.specs.Places.{AreFew};
+ghost use Rattle.mip_symbols.specs.Faults.{GivesLine};
+ghost use Rattle.mip_symbols.specs.Places.{AreFew};
 
 use crate::event::Event;
 use crate::kept_address::KeptAddress;
 use crate::kept_ends::KeptEnds;
 use crate::update_ends::UpdateEnds;
-use mip_declared::kinds::{
+use mip_symbols::kinds::{
     address, bytes, careof, cookie, link, outsider, some_packet, u8_in, u16_in, u32_in,
 };
-use mip_declared::{Declaration, LineFault, Reason};
+use mip_symbols::{Declaration, LineFault, Reason};
 use mip_words::LinkId;
 use std::alloc::Global;
 

@@ -9,8 +9,8 @@ ghost use Rattle.mip_schedule.specs.declared.event.Event.TheVariants as events;
 use crate::event::Event;
 use crate::field_writing::{careof_word, digits_16, some_digits};
 use itoa::Buffer;
-use mip_declared::{Declaration, link_name, outsider_name};
 use mip_lines::{put_line, put_line_hex};
+use mip_symbols::{Declaration, link_name, outsider_name};
 use mip_words::{Address, Bytes, Cookie, LinkId, Memory};
 
 fn put_probe(

@@ -1,5 +1,5 @@
 use crate::events::Events;
-use mip_declared::Declarations;
+use mip_symbols::Declarations;
 use mip_words::Moment;
 
 /// What a text says, part by part.

@@ -4,7 +4,7 @@ ghost use Rattle.mip_schedule.specs.Accepted.{again, is_accepted};
 ghost use Rattle.mip_schedule.specs.Contents.{holding};
 
 use crate::events::Events;
-use mip_declared::Declarations;
+use mip_symbols::Declarations;
 use mip_words::Moment;
 
 /// A schedule: the version of its text, the seed of all secrets, the moment of the start, who there is, and what happens. What it

@@ -12,8 +12,8 @@ use crate::event_writing::put_event;
 use crate::schedule::Schedule;
 use crate::versions::is_numbered;
 use itoa::Buffer;
-use mip_declared::Declaration;
 use mip_lines::put_line;
+use mip_symbols::Declaration;
 use mip_words::{Bytes, Memory, Moment, hex_into};
 use std::alloc::Global;
 

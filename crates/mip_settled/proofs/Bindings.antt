@@ -14,8 +14,8 @@ use Rattle.mip_entries.specs.declared.entry.Entry.{Entry}
 use Rattle.mip_entries.specs.declared.entry.Entry.TheVariants as entries
 use Rattle.mip_entries.specs.Completed.{node_id}
 use Rattle.mip_entries.specs.Stamped.{Stamped}
-use Rattle.mip_rules_mobile.specs.declared.standing.Standing.{Standing}
-use Rattle.mip_rules_mobile.specs.declared.standing.Standing.TheVariants.{Detached}
+use Rattle.mip_rules_mobile.specs.declared.attachment.Attachment.{Attachment}
+use Rattle.mip_rules_mobile.specs.declared.attachment.Attachment.TheVariants.{Detached}
 use Rattle.mip_rules_mobile.specs.Calls as mobiles
 use Rattle.mip_rules_mobile.specs.Steps.{Step}
 use Rattle.mip_rules_mobile.specs.Known.{Known}
@@ -145,7 +145,7 @@ module _ (s : Setup) (u : ℕ) (since : s.start ≤ u) (peer : Address) where
     abbrev behind : mobiles.Call → Run
     behind c = then_ s n own agent host run long c
 
-    abbrev TellsBound : mobiles.Call → Standing → Type 0
+    abbrev TellsBound : mobiles.Call → Attachment → Type 0
     TellsBound c st = Tells s n own (IsListed own) (λ k holds. holds.0) (binding_told n peer) (bound_said peer) (λ (k : Known). bound_of k peer) (lies_ahead u) (binding_known n own peer u) None
         (unwrap_or (stands_on s run n own) 0) (middle s n own agent host run long c) st (turn s n own agent host run long c)
 
@@ -156,7 +156,7 @@ module _ (s : Setup) (u : ℕ) (since : s.start ≤ u) (peer : Address) where
         early_same : (c : mobiles.Call) → tells s (late_says u) false (behind c) ≡ tells s (late_says u) false run
         early_same c = answers_mute s (late_says u) false (late_quiet u) n (late_mute u n) _ (middle s n own agent host run long c) _
 
-    turn_bound : (c : mobiles.Call) (st : Standing) → (Early run → TellsBound c st) → HasRowsOf knows → IsBoundAs (behind c) n own agent
+    turn_bound : (c : mobiles.Call) (st : Attachment) → (Early run → TellsBound c st) → HasRowsOf knows → IsBoundAs (behind c) n own agent
     turn_bound c st p h =
         let is : mobile_known_in s (behind c) n own agent ≡ (turn s n own agent host run long c).known = known_then s n own agent host run long c in
         record {

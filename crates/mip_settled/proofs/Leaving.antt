@@ -13,11 +13,11 @@ use Rattle.mip_bulist.specs.Rows.{peer_at, all_rested}
 use Rattle.mip_entries.specs.declared.entry.Entry.{Entry}
 use Rattle.mip_entries.specs.declared.entry.Entry.TheVariants as entries
 use Rattle.mip_entries.specs.Completed.{named}
-use Rattle.mip_turns.proofs.TurnLaws.{noted-now, noted-known}
+use Rattle.mip_transitions.proofs.TurnLaws.{noted-now, noted-known}
 use Rattle.mip_rules_correspondent.specs.Wholes.{is_own}
 use Rattle.mip_rules_mobile.specs.declared.peer.Peer.{Peer}
-use Rattle.mip_rules_mobile.specs.declared.standing.Standing.{Standing}
-use Rattle.mip_rules_mobile.specs.declared.standing.Standing.TheVariants.{Detached, AtHome, Away}
+use Rattle.mip_rules_mobile.specs.declared.attachment.Attachment.{Attachment}
+use Rattle.mip_rules_mobile.specs.declared.attachment.Attachment.TheVariants.{Detached, AtHome, Away}
 use Rattle.mip_rules_mobile.specs.Calls as calls
 use Rattle.mip_rules_mobile.specs.Calls.{Call}
 use Rattle.mip_rules_mobile.specs.Steps.{Step, Called, Notes, Claims, Releases, FindsTaken, Arrives, Detaches, Restarts, Binds, Unbinds, answers_of}
@@ -25,7 +25,7 @@ use Rattle.mip_rules_mobile.specs.Known.{Known}
 use Rattle.mip_rules_mobile.specs.HomeQuestions.{home_of}
 use Rattle.mip_rules_mobile.specs.RowQuestions.{unbound, with_peer, lies_ahead, peer_of_row, is_bound_row}
 use Rattle.mip_rules_mobile.specs.Questions.{after}
-use Rattle.mip_rules_mobile.specs.Turns.{Turn, begun, noted}
+use Rattle.mip_rules_mobile.specs.Transitions.{Transition, begun, noted}
 use Rattle.mip_rules_mobile.specs.TrialRules.{each_from, each_row}
 use Rattle.mip_rules_mobile.specs.MovingRules.{releases, unbinds_with, unbinds, leaves}
 use Rattle.mip_rules_mobile.specs.Doing.{does, turn_of}
@@ -155,14 +155,14 @@ none_lasts now peer (r ∷ rs) (p ∷ ps) over = by (r.peer.0 == peer.0) (none_l
     by false rest = rest
 
 module _ (s : Setup) (n : ℕ) (own peer : Address) (u : ℕ) (d : Option Moment) (from : ℕ) (start : Run) where
-  abbrev TellsBound : Standing → Turn → Type 0
+  abbrev TellsBound : Attachment → Transition → Type 0
   TellsBound st t = Tells s n own (IsListed own) (λ k holds. holds.0) (binding_told n peer) (bound_said peer) (λ (k : Known). bound_of k peer) (lies_ahead u) (binding_known n own peer u) d from start st t
 
-  one_more : (c : Call) (st : Standing) (step : Step) (t : Turn) → is_plain step ≡ true → Fits c t.now t.known step → TellsBound st t → TellsBound st (noted step t)
+  one_more : (c : Call) (st : Attachment) (step : Step) (t : Transition) → is_plain step ≡ true → Fits c t.now t.known step → TellsBound st t → TellsBound st (noted step t)
   one_more = tells_noted s n own (IsListed own) (λ k holds. holds.0) (binding_told n peer) (bound_said peer) (λ (k : Known). bound_of k peer) (lies_ahead u) (binding_known n own peer u) d from start
 
-  module _ (c : Call) (st : Standing) (now : ℕ) where
-    releasing : (at : Standing) (claim : Claim) (t : Turn) → TellsBound st t → TellsBound st (releases at claim t)
+  module _ (c : Call) (st : Attachment) (now : ℕ) where
+    releasing : (at : Attachment) (claim : Claim) (t : Transition) → TellsBound st t → TellsBound st (releases at claim t)
     releasing Detached claim t p = p
     releasing AtHome claim t p = by (is_held claim)
       where
@@ -171,17 +171,17 @@ module _ (s : Setup) (n : ℕ) (own peer : Address) (u : ℕ) (d : Option Moment
         by false = p
     releasing (Away careof) claim t p = one_more c st (Releases careof) t refl tt p
 
-    releasing_now : (at : Standing) (claim : Claim) (t : Turn) → t.now ≡ now → (releases at claim t).now ≡ now
+    releasing_now : (at : Attachment) (claim : Claim) (t : Transition) → t.now ≡ now → (releases at claim t).now ≡ now
     releasing_now Detached claim t is = is
     releasing_now AtHome claim t is = by (is_held claim)
       where
-        by : (held : Bool) → (let v : Turn = (if held then noted (Releases (home_of t.known)) t else t) in v.now) ≡ now
+        by : (held : Bool) → (let v : Transition = (if held then noted (Releases (home_of t.known)) t else t) in v.now) ≡ now
         by true = noted-now after (Releases (home_of t.known)) t ∙ is
         by false = is
     releasing_now (Away careof) claim t is = noted-now after (Releases careof) t ∙ is
 
     -- the rows below this one have no binding any more
-    record IsFreed (row : ℕ) (t : Turn) : Type 0 where
+    record IsFreed (row : ℕ) (t : Transition) : Type 0 where
       pub told : TellsBound st t
       pub moment : t.now ≡ now
       pub freed : (j : ℕ) → j < row → lasts_at now t.known.peers j ≡ false
@@ -192,11 +192,11 @@ module _ (s : Setup) (n : ℕ) (own peer : Address) (u : ℕ) (d : Option Moment
       | inr other ↦ freed j (omega (arith, less, other))
     ]
 
-    peers_unbound : (row : ℕ) (to : Address) (t : Turn) → (noted (Unbinds row to) t).known.peers ≡ with_peer row unbound t.known.peers
+    peers_unbound : (row : ℕ) (to : Address) (t : Transition) → (noted (Unbinds row to) t).known.peers ≡ with_peer row unbound t.known.peers
     unfolding after
     peers_unbound row to t = ap (λ (k : Known). k.peers) (noted-known after (Unbinds row to) t)
 
-    frees_one : (row : ℕ) (t : Turn) → IsFreed row t → IsFreed (row + 1) (unbinds row t)
+    frees_one : (row : ℕ) (t : Transition) → IsFreed row t → IsFreed (row + 1) (unbinds row t)
     frees_one row t f = by (is_bound_row t.known t.now row) (peer_of_row t.known row) refl refl
       where
         listed : IsListed own t.known
@@ -220,7 +220,7 @@ module _ (s : Setup) (n : ℕ) (own peer : Address) (u : ℕ) (d : Option Moment
               (extended row (with_peer row unbound t.known.peers) (λ j less. still_over now row j t.known.peers (f.freed j less)) (given_up now row t.known.peers));
         }
 
-    frees_all : (left row : ℕ) (t : Turn) → row + left ≡ 16 → IsFreed row t → IsFreed 16 (each_from unbinds left row t)
+    frees_all : (left row : ℕ) (t : Transition) → row + left ≡ 16 → IsFreed row t → IsFreed 16 (each_from unbinds left row t)
     frees_all zero row t sum f = let same : row ≡ 16 = omega (arith, sum) in subst (λ (i : ℕ). IsFreed i t) same f
     frees_all (suc left) row t sum f = frees_all left (row + 1) (unbinds row t) (omega (arith, sum)) (frees_one row t f)
 
@@ -229,10 +229,10 @@ module _ (s : Setup) (n : ℕ) (own peer : Address) (u : ℕ) (d : Option Moment
     abbrev c : Call
     c = calls.Leave claim
 
-    abbrev t : Turn
+    abbrev t : Transition
     t = noted (Called c) (begun now k)
 
-    abbrev last : Turn
+    abbrev last : Transition
     last = each_row unbinds (releases t.known.standing claim t)
 
     begins : TellsBound k.standing t
@@ -271,6 +271,6 @@ module _ (s : Setup) (n : ℕ) (own peer : Address) (u : ℕ) (d : Option Moment
 pub left_bound : (peer : Address) (k : Known) (now : ℕ) (claim : Claim) → bound_of (turn_of k now (calls.Leave claim)).known peer ≡ None
 unfolding does leaves after
 left_bound peer k now claim =
-    let t : Turn = noted (Called (calls.Leave claim)) (begun now k) in
-    let last : Turn = each_row unbinds (releases t.known.standing claim t) in
+    let t : Transition = noted (Called (calls.Leave claim)) (begun now k) in
+    let last : Transition = each_row unbinds (releases t.known.standing claim t) in
     ap (λ (l : Known). bound_of l peer) (noted-known after Detaches last) ∙ look_none peer (all_rested last.known.list.rows) last.known.peers

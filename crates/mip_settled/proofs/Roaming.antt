@@ -19,14 +19,14 @@ use Rattle.mip_entries.specs.Completed.{node_id}
 use Rattle.mip_entries.specs.Stamped.{Stamped}
 use Rattle.mip_outside.specs.Places.{claim_in}
 use Rattle.mip_rules_mobile.specs.declared.registered.Registered.{Registered}
-use Rattle.mip_rules_mobile.specs.declared.standing.Standing.{Standing}
-use Rattle.mip_rules_mobile.specs.declared.standing.Standing.TheVariants.{Detached, AtHome, Away}
+use Rattle.mip_rules_mobile.specs.declared.attachment.Attachment.{Attachment}
+use Rattle.mip_rules_mobile.specs.declared.attachment.Attachment.TheVariants.{Detached, AtHome, Away}
 use Rattle.mip_rules_mobile.specs.Calls as mobiles
 use Rattle.mip_rules_mobile.specs.Steps.{Step, Called, FindsTaken, Arrives, Detaches, Restarts, Registers, Unregisters, answers_of}
 use Rattle.mip_rules_mobile.specs.Known.{Known}
 use Rattle.mip_rules_mobile.specs.HomeQuestions.{home_of, registered_said}
 use Rattle.mip_rules_mobile.specs.Questions.{after, known}
-use Rattle.mip_rules_mobile.specs.Turns.{Turn, begun, noted, with_turn}
+use Rattle.mip_rules_mobile.specs.Transitions.{Transition, begun, noted, with_turn}
 use Rattle.mip_rules_mobile.specs.TrialRules.{each_row}
 use Rattle.mip_rules_mobile.specs.MovingRules.{address_under, uses_prefix, releases, unbinds, leaves}
 use Rattle.mip_rules_mobile.specs.Part.{is_restart}
@@ -37,8 +37,8 @@ use Rattle.mip_rules_mobile.proofs.Steady.{standing-noted}
 use Rattle.mip_rules_mobile.proofs.Fits.{known_along, call-along}
 use Rattle.mip_rules_mobile.proofs.Calls.{stands-known, call-stands}
 use Rattle.mip_rules_mobile.proofs.Shielding.{past-home}
-use Rattle.mip_turns.specs.Turns.{StandsBy}
-use Rattle.mip_turns.proofs.TurnLaws.{noted-known}
+use Rattle.mip_transitions.specs.Transitions.{StandsBy}
+use Rattle.mip_transitions.proofs.TurnLaws.{noted-known}
 use Rattle.mip_links.specs.Table.{link_from, link_of, holder_outside}
 use Rattle.mip_schedule.specs.declared.event.Event.{Event}
 use Rattle.mip_history.specs.Setup.{Setup, Host, Kind, is_mobile_host}
@@ -61,7 +61,7 @@ use Rattle.mip_settled.proofs.Turning.{Tells, arrived_at, staying_tells, restart
 use Rattle.mip_settled.proofs.Questions.{moved_quiet, moved_mute, present_quiet, present_mute, IsHome, present_known, registration_quiet, registration_mute, registration_known}
 
 -- where a mobile uses an address, it uses the prefix of its link
-abbrev pub IsUsing : Address → Standing → ℕ → Type 0
+abbrev pub IsUsing : Address → Attachment → ℕ → Type 0
 IsUsing own st prefix = is_detached st ≡ false → uses_prefix st own prefix ≡ true
 
 -- a number that is no outsider's
@@ -261,7 +261,7 @@ module _ (s : Setup) where
     abbrev pub now : ℕ
     now = now_in s run
 
-    abbrev pub turn : mobiles.Call → Turn
+    abbrev pub turn : mobiles.Call → Transition
     turn c = turn_of k now c
 
     abbrev pub middle : mobiles.Call → Run
@@ -285,21 +285,21 @@ module _ (s : Setup) where
     spot_then : (c : mobiles.Call) → stands_on s (then_ c) n own ≡ stands_on s run n own
     spot_then c = answers_mute s (moved_says n) (link_of s.links own.0) (moved_quiet n) n (moved_mute n n) _ (middle c) (answers_of (turn c).steps)
 
-    abbrev TellsPresent : mobiles.Call → Standing → Type 0
+    abbrev TellsPresent : mobiles.Call → Attachment → Type 0
     TellsPresent c st = Tells s n own (IsHome n own) (λ l is. is) (present_says n) (λ (step : Step). None) (λ (l : Known). address_of own l.standing) (λ (o : Option Address). o) (present_known n own) (Some own)
         (unwrap_or (stands_on s run n own) 0) (middle c) st (turn c)
 
-    abbrev TellsRegistered : mobiles.Call → Standing → Type 0
+    abbrev TellsRegistered : mobiles.Call → Attachment → Type 0
     TellsRegistered c st = Tells s n own (IsHome n own) (λ l is. is) (registration_told n) registered_said (λ (l : Known). l.registered) (λ (o : Option Registered). o) (registration_known n own) None
         (unwrap_or (stands_on s run n own) 0) (middle c) st (turn c)
 
-    turn_found : (c : mobiles.Call) (st : Standing) → TellsPresent c st → (IsNode n → TellsRegistered c st) → ((l : ℕ) → stands_on s run n own ≡ Some l → IsUsing own st (slice_index_or s.links l 0)) → IsBare k
+    turn_found : (c : mobiles.Call) (st : Attachment) → TellsPresent c st → (IsNode n → TellsRegistered c st) → ((l : ℕ) → stands_on s run n own ≡ Some l → IsUsing own st (slice_index_or s.links l 0)) → IsBare k
         → IsFound s (then_ c) n own agent
     turn_found c st p q there bare = record {
       present = p.so ∙ ap (λ (l : Known). address_of own l.standing) (sym (known_then c));
       registered = λ node. (let r = q node in r.so) ∙ ap (λ (l : Known). l.registered) (sym (known_then c));
       none = subst IsBare (sym (known_then c)) (bare_turn k now c bare);
-      there = λ l is. subst (λ (x : Standing). IsUsing own x (slice_index_or s.links l 0)) (sym (ap (λ (x : Known). x.standing) (known_then c) ∙ p.stands)) (there l (sym (spot_then c) ∙ is));
+      there = λ l is. subst (λ (x : Attachment). IsUsing own x (slice_index_or s.links l 0)) (sym (ap (λ (x : Known). x.standing) (known_then c) ∙ p.stands)) (there l (sym (spot_then c) ∙ is));
     }
 
     module _ (f : IsFound s run n own agent) where
@@ -322,7 +322,7 @@ module _ (s : Setup) where
             by None is = absurd cc
             by (Some l) is = ap (λ (x : ℕ). Some x) (eqb-true l there.link is)
 
-        uses_then : (st : Standing) → IsUsing own st prefix → (l : ℕ) → stands_on s run n own ≡ Some l → IsUsing own st (slice_index_or s.links l 0)
+        uses_then : (st : Attachment) → IsUsing own st prefix → (l : ℕ) → stands_on s run n own ≡ Some l → IsUsing own st (slice_index_or s.links l 0)
         uses_then st goes l is =
             let same : there.link ≡ l = (let both : Some there.link ≡ Some l = sym on_link ∙ is in cc) in
             subst (IsUsing own st) (there.of_link ∙ ap (λ (x : ℕ). slice_index_or s.links x 0) same) goes
@@ -359,10 +359,10 @@ module _ (s : Setup) where
         attach_as : (prefix : ℕ) → IsThere s run n prefix → (of_home of_address : Claim) → Q (then_ (mobiles.Attach prefix of_home of_address))
         attach_as prefix there of_home of_address = by k.standing refl (using prefix there of_home of_address)
           where
-            by : (st : Standing) → k.standing ≡ st → IsUsing own st prefix → Q (then_ (mobiles.Attach prefix of_home of_address))
+            by : (st : Attachment) → k.standing ≡ st → IsUsing own st prefix → Q (then_ (mobiles.Attach prefix of_home of_address))
             by Detached is goes = apart prefix there of_home of_address is
-            by AtHome is goes = uses prefix there of_home of_address (ap (λ (x : Standing). uses_prefix x own prefix) is ∙ goes refl)
-            by (Away careof) is goes = uses prefix there of_home of_address (ap (λ (x : Standing). uses_prefix x own prefix) is ∙ goes refl)
+            by AtHome is goes = uses prefix there of_home of_address (ap (λ (x : Attachment). uses_prefix x own prefix) is ∙ goes refl)
+            by (Away careof) is goes = uses prefix there of_home of_address (ap (λ (x : Attachment). uses_prefix x own prefix) is ∙ goes refl)
 
         pub acts_as : (call : Call) → IsCall s run n call → is_leave call ≡ false → is_rebirth call ≡ false → Q (acts s n call run)
         acts_as call is stays lives = subst Q (sym (ap (by_host s n call run) host)) (by call is stays lives)
@@ -388,13 +388,13 @@ module _ (s : Setup) where
     left_standing : (of_home : Claim) → (turn (mobiles.Leave of_home)).known.standing ≡ Detached
     unfolding does leaves
     left_standing of_home =
-        let t : Turn = noted (Called (mobiles.Leave of_home)) (begun now k) in
+        let t : Transition = noted (Called (mobiles.Leave of_home)) (begun now k) in
         standing-noted Detaches (each_row unbinds (releases t.known.standing of_home t))
 
     left_registered : (of_home : Claim) → (turn (mobiles.Leave of_home)).known.registered ≡ None
     unfolding does leaves after
     left_registered of_home =
-        let t : Turn = noted (Called (mobiles.Leave of_home)) (begun now k) in
+        let t : Transition = noted (Called (mobiles.Leave of_home)) (begun now k) in
         ap (λ (x : Known). x.registered) (noted-known after Detaches (each_row unbinds (releases t.known.standing of_home t)))
 
     moved_found : (link : Option LinkId) → IsFound s (moves s run n link) n own agent
@@ -544,7 +544,7 @@ module _ (s : Setup) where
         present = ap (λ (l : List Entry). present_in l n own) none ∙ sym (ap (address_of own) here);
         registered = λ node. ap (λ (l : List Entry). asked (registration_told n) None l) none ∙ sym bare;
         none = λ is. bare;
-        there = λ l is. subst (λ (st : Standing). IsUsing own st (slice_index_or s.links l 0)) (sym here)
+        there = λ l is. subst (λ (st : Attachment). IsUsing own st (slice_index_or s.links l 0)) (sym here)
             (λ there. eq-eqb (slice_index_or s.links l 0) (prefix_of own.0) (at_link l (link_prefix 0 s.links (prefix_of own.0) l (sym (ap (λ (p : List Entry). asked (moved_says n) (link_of s.links own.0) p) none) ∙ is))));
       }
     where

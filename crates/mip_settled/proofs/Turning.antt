@@ -11,11 +11,11 @@ use Rattle.mip_entries.specs.declared.answer.Answer.{Answer}
 use Rattle.mip_entries.specs.declared.entry.Entry.{Entry}
 use Rattle.mip_entries.specs.declared.entry.Entry.TheVariants as entries
 use Rattle.mip_entries.specs.Completed.{node_id, named}
-use Rattle.mip_turns.proofs.TurnLaws.{noted-now, noted-known}
-use Rattle.mip_turns.proofs.ShowLaws.{answers-noted}
+use Rattle.mip_transitions.proofs.TurnLaws.{noted-now, noted-known}
+use Rattle.mip_transitions.proofs.ShowLaws.{answers-noted}
 use Rattle.mip_rules_correspondent.specs.Wholes.{is_own}
-use Rattle.mip_rules_mobile.specs.declared.standing.Standing.{Standing}
-use Rattle.mip_rules_mobile.specs.declared.standing.Standing.TheVariants.{Detached, AtHome, Away}
+use Rattle.mip_rules_mobile.specs.declared.attachment.Attachment.{Attachment}
+use Rattle.mip_rules_mobile.specs.declared.attachment.Attachment.TheVariants.{Detached, AtHome, Away}
 use Rattle.mip_rules_mobile.specs.Calls as calls
 use Rattle.mip_rules_mobile.specs.Calls.{Call}
 use Rattle.mip_rules_mobile.specs.Steps.{Step, Called, Parts, Notes, Sends, Unsends, Drops, Claims, Releases, FindsTaken, Arrives, Detaches, Restarts, Registers, Unregisters, IsRefused, Resequences, Seeks, SeeksAgain, GivesUp, Finds, Chooses, Learns, Meets, Tries, Updates, Forgets, Binds, Unbinds, Waits, Stops, Rings, myself, answer_of, answers_of}
@@ -23,7 +23,7 @@ use Rattle.mip_rules_mobile.specs.Sendings.{shield_of, packet_of_sending, update
 use Rattle.mip_rules_mobile.specs.Known.{Known}
 use Rattle.mip_rules_mobile.specs.HomeQuestions.{home_of, standing_at, standing_after}
 use Rattle.mip_rules_mobile.specs.Questions.{after}
-use Rattle.mip_rules_mobile.specs.Turns.{Turn, begun, noted}
+use Rattle.mip_rules_mobile.specs.Transitions.{Transition, begun, noted}
 use Rattle.mip_rules_mobile.specs.MovingRules.{arrives_by, address_under, arrives, settles, uses_prefix, leaves_first, attaches, registers_if_away, restarts}
 use Rattle.mip_rules_mobile.specs.Part.{is_restart}
 use Rattle.mip_rules_mobile.specs.Answering.{stays_put}
@@ -109,7 +109,7 @@ pub record IsKnown {S V : Type 0} (n : ℕ) (I : Known → Type 0) (says : Entry
   pub reborn : (now : ℕ) (k : Known) (secrets : Life) → view (knows (after k (record { at = now; step = Restarts secrets }))) ≡ view (unwrap_or (says (entries.Restarted (node_id n))) (knows k))
 
 -- where it stands as a router advertised a prefix
-abbrev pub arrived_at : Claim → (own : Address) → (prefix : ℕ) → Standing
+abbrev pub arrived_at : Claim → (own : Address) → (prefix : ℕ) → Attachment
 arrived_at Held own prefix = standing_at own (address_under own prefix)
 arrived_at Waiting own prefix = standing_at own (address_under own prefix)
 arrived_at (Taken holder) own prefix = Detached
@@ -169,10 +169,10 @@ module _ {S V : Type 0} (s : Setup) (n : ℕ) (own : Address) (I : Known → Typ
 
   -- in a turn from a run on: the history says what the mobile knows, and it stands there
   module _ (from : ℕ) (start : Run) where
-    abbrev pub then_ : Turn → Run
+    abbrev pub then_ : Transition → Run
     then_ t = answered s n from start (answers_of t.steps)
 
-    pub record Tells (st : Standing) (t : Turn) : Type 0 where
+    pub record Tells (st : Attachment) (t : Transition) : Type 0 where
       pub so : seen (then_ t) ≡ view (knows t.known)
       pub stands : t.known.standing ≡ st
       pub holds : I t.known
@@ -181,14 +181,14 @@ module _ {S V : Type 0} (s : Setup) (n : ℕ) (own : Address) (I : Known → Typ
     unfolding answered
     answered_both x one two = fold-append (λ (r : Run) (a : Answer). answered_one s n from r a) x one two
 
-    pub then_noted : (step : Step) (t : Turn) → then_ (noted step t) ≡ answered s n from (then_ t) (answer_of step)
+    pub then_noted : (step : Step) (t : Transition) → then_ (noted step t) ≡ answered s n from (then_ t) (answer_of step)
     then_noted step t = ap (answered s n from start) (answers-noted answer_of after step t) ∙ answered_both start (answers_of t.steps) (answer_of step)
 
     merged : (o : Option S) (a b : S) → view a ≡ view b → view (unwrap_or o a) ≡ view (unwrap_or o b)
     merged (Some x) a b same = refl
     merged None a b same = same
 
-    pub tells_noted : (c : Call) (st : Standing) (step : Step) (t : Turn) → is_plain step ≡ true → Fits c t.now t.known step → Tells st t → Tells st (noted step t)
+    pub tells_noted : (c : Call) (st : Attachment) (step : Step) (t : Transition) → is_plain step ≡ true → Fits c t.now t.known step → Tells st t → Tells st (noted step t)
     tells_noted c st step t plain fits p =
         let x : Run = then_ t in
         let right = right_note c t.now t.known step fits in
@@ -201,7 +201,7 @@ module _ {S V : Type 0} (s : Setup) (n : ℕ) (own : Address) (I : Known → Typ
           holds = subst I (sym (noted-known after step t)) (q.kept c t.now t.known step p.holds fits);
         }
 
-    module _ (c : Call) (st : Standing) where
+    module _ (c : Call) (st : Attachment) where
       more : Goes c (Tells st)
       more step t steady fits p = tells_noted c st step t (steady_plain step steady) fits p
 
@@ -237,10 +237,10 @@ module _ {S V : Type 0} (s : Setup) (n : ℕ) (own : Address) (I : Known → Typ
         c : Call
         c = calls.Restart secrets
 
-        first_turn : Turn
+        first_turn : Transition
         first_turn = noted (Called c) (begun now k)
 
-        next : Turn
+        next : Transition
         next = noted (Restarts secrets) first_turn
 
         first_known : first_turn.known ≡ after k (record { at = now; step = Called c })
@@ -279,7 +279,7 @@ module _ {S V : Type 0} (s : Setup) (n : ℕ) (own : Address) (I : Known → Typ
           holds = subst I (sym (noted-known after (Restarts secrets) first_turn)) (q.kept c first_turn.now first_turn.known (Restarts secrets) first_holds refl);
         }
 
-        by : (st : Standing) → first_turn.known.standing ≡ st → Tells k.standing (registers_if_away st next)
+        by : (st : Attachment) → first_turn.known.standing ≡ st → Tells k.standing (registers_if_away st next)
         by Detached here = told
         by AtHome here = told
         by (Away careof) here = every-registers c (Tells k.standing) (more c k.standing) careof next (standing-noted (Restarts secrets) first_turn ∙ here) told
@@ -291,10 +291,10 @@ module _ {S V : Type 0} (s : Setup) (n : ℕ) (own : Address) (I : Known → Typ
     using_tells k now prefix of_home of_address uses is holds =
         let c : Call = calls.Attach prefix of_home of_address in
         let p = first c now k is holds in
-        let t : Turn = noted (Called c) (begun now k) in
+        let t : Transition = noted (Called c) (begun now k) in
         let same : home_of t.known ≡ home_of k = homely t.known p.holds ∙ sym (homely k holds) in
         let yes : uses_prefix t.known.standing (home_of t.known) prefix ≡ true =
-        ap (λ (st : Standing). uses_prefix st (home_of t.known) prefix) p.stands ∙ ap (λ (a : Address). uses_prefix k.standing a prefix) same ∙ uses in
+        ap (λ (st : Attachment). uses_prefix st (home_of t.known) prefix) p.stands ∙ ap (λ (a : Address). uses_prefix k.standing a prefix) same ∙ uses in
         subst (λ (b : Bool). Tells k.standing (if b then t else arrives prefix of_address (leaves_first t.known.standing of_home t))) (sym yes) p
 
     -- a mobile that uses no address hears of a prefix
@@ -304,7 +304,7 @@ module _ {S V : Type 0} (s : Setup) (n : ℕ) (own : Address) (I : Known → Typ
       abbrev ca : Call
       ca = calls.Attach prefix of_home of_address
 
-      abbrev ta : Turn
+      abbrev ta : Transition
       ta = noted (Called ca) (begun now k)
 
       pa : Tells k.standing ta
@@ -328,7 +328,7 @@ module _ {S V : Type 0} (s : Setup) (n : ℕ) (own : Address) (I : Known → Typ
         holds = subst I (sym (noted-known after (Claims address) ta)) (q.kept ca ta.now ta.known (Claims address) pa.holds tt);
       }
 
-      arrives_told : (st : Standing) (address : Address) (t : Turn) → Tells st t → Tells (standing_at own address) (noted (Arrives address) t)
+      arrives_told : (st : Attachment) (address : Address) (t : Transition) → Tells st t → Tells (standing_at own address) (noted (Arrives address) t)
       unfolding answered
       arrives_told st address t p = record {
         so =
@@ -351,7 +351,7 @@ module _ {S V : Type 0} (s : Setup) (n : ℕ) (own : Address) (I : Known → Typ
         holds = subst I (sym (noted-known after (FindsTaken address holder) ta)) (q.kept ca ta.now ta.known (FindsTaken address holder) pa.holds tt);
       }
 
-      settled_told : (st : Standing) (t : Turn) → Tells st t → Tells st (settles t)
+      settled_told : (st : Attachment) (t : Transition) → Tells st t → Tells st (settles t)
       settled_told st t p = every-settles ca (Tells st) (more ca st) t p
 
       under : address_under (home_of ta.known) prefix ≡ address_under own prefix
@@ -373,4 +373,4 @@ module _ {S V : Type 0} (s : Setup) (n : ℕ) (own : Address) (I : Known → Typ
       pub attaching_tells : Tells (arrived_at of_address own prefix) (turn_of k now ca)
       unfolding does attaches
       attaching_tells =
-          subst (λ (st : Standing). Tells (arrived_at of_address own prefix) (if uses_prefix st (home_of ta.known) prefix then ta else arrives prefix of_address (leaves_first st of_home ta))) (sym (pa.stands ∙ apart)) arriving
+          subst (λ (st : Attachment). Tells (arrived_at of_address own prefix) (if uses_prefix st (home_of ta.known) prefix then ta else arrives prefix of_address (leaves_first st of_home ta))) (sym (pa.stands ∙ apart)) arriving

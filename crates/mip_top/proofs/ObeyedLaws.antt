@@ -6,7 +6,7 @@ use Rattle.std.proofs.lemmas.Bool.{cases_Bool, cases_order, lt-ltb, le-ltb}
 use Rattle.mip_outside.proofs.Known.{append_none, prepend_none}
 use Rattle.mip_commands.specs.declared.command.Command.{Command}
 use Rattle.mip_commands.specs.declared.command.Command.TheVariants.{Replay, Decode, Claims, Audit, Make, Sum, Node, Hub}
-use Rattle.mip_declared.specs.declared.reason.Reason.{Reason}
+use Rattle.mip_symbols.specs.declared.reason.Reason.{Reason}
 use Rattle.mip_schedule.specs.Faults.{Wrong}
 use Rattle.mip_config.specs.Configs as configs
 use Rattle.mip_config.specs.Reading as nodes

@@ -9,10 +9,10 @@ use Rattle.mip_words.specs.Steps.{◌>>=◌}
 use Rattle.mip_words.proofs.StepLaws.{bind_ok, ok_is}
 use Rattle.mip_lines.specs.Lines.{is_row}
 use Rattle.mip_entries.specs.declared.entry.Entry.{Entry}
-use Rattle.mip_declared.specs.Places.{AreFew, NamesFound}
-use Rattle.mip_declared.specs.declared.declaration.Declaration.{Declaration}
-use Rattle.mip_declared.specs.declared.reason.Reason.{Reason}
-use Rattle.mip_declared.specs.declared.reason.Reason.TheVariants as reasons
+use Rattle.mip_symbols.specs.Places.{AreFew, NamesFound}
+use Rattle.mip_symbols.specs.declared.declaration.Declaration.{Declaration}
+use Rattle.mip_symbols.specs.declared.reason.Reason.{Reason}
+use Rattle.mip_symbols.specs.declared.reason.Reason.TheVariants as reasons
 use Rattle.mip_rows.specs.Ranges.{AreOfKinds, IsTail}
 use Rattle.mip_rows.specs.Rows.{tail_count, row_of}
 use Rattle.mip_rows.specs.Texts.{row_texts}

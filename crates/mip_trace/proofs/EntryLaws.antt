@@ -5,7 +5,7 @@ use Rattle.std.specs.Prelude.{Option, Some, None}
 use Rattle.mip_lines.specs.Lines.{is_plain}
 use Rattle.mip_entries.specs.declared.entry.Entry.{Entry}
 use Rattle.mip_entries.specs.declared.entry.Entry.TheVariants as entries
-use Rattle.mip_declared.specs.declared.declaration.Declaration.{Declaration}
+use Rattle.mip_symbols.specs.declared.declaration.Declaration.{Declaration}
 use Rattle.mip_rows.specs.Ranges.{AreOfKinds, IsTail}
 use Rattle.mip_rows.specs.Rows.{tail_count}
 use Rattle.mip_rows.specs.declared.tail.Tail.{Tail}

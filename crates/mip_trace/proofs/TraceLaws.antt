@@ -10,14 +10,14 @@ use Rattle.mip_words.proofs.StepLaws.{bind_ok, ok_is}
 use Rattle.mip_lines.specs.Cutting.{rows_of}
 use Rattle.mip_lines.specs.Lines.{is_row, lines_text}
 use Rattle.mip_lines.proofs.LineLaws.{text-spelled, text-again}
-use Rattle.mip_declared.specs.Places.{AreFew, NamesFound}
-use Rattle.mip_declared.specs.declared.declaration.Declaration.{Declaration}
+use Rattle.mip_symbols.specs.Places.{AreFew, NamesFound}
+use Rattle.mip_symbols.specs.declared.declaration.Declaration.{Declaration}
 use Rattle.mip_entries.specs.declared.entry.Entry.{Entry}
 use Rattle.mip_trace.specs.EntryReading.{entry_of}
 use Rattle.mip_trace.specs.Lines.{entry_row, trace_text}
 use Rattle.mip_trace.specs.Ranges.{IsOf, IsLineOf, BeginsBad, IsTraceOf, IsFirstBad}
 use Rattle.mip_trace.specs.Reading.{at_line, last_row, entries_of, reading}
-use Rattle.mip_declared.specs.declared.reason.Reason.{Reason}
+use Rattle.mip_symbols.specs.declared.reason.Reason.{Reason}
 use Rattle.mip_trace.proofs.EntryAgain.{entry-read, entry-again, entry-plain}
 use Rattle.mip_trace.proofs.Walking.{some_row}
 

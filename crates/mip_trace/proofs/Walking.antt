@@ -6,9 +6,9 @@ use Rattle.std.proofs.lemmas.Bool.{eqb-true, eqb-false}
 use Rattle.std.proofs.lemmas.List.Splits.{length-slice_split}
 use Rattle.mip_words.specs.Steps.{◌>>=◌}
 use Rattle.mip_lines.specs.Cutting.{parts, fields_of, rows_of}
-use Rattle.mip_declared.specs.declared.declaration.Declaration.{Declaration}
+use Rattle.mip_symbols.specs.declared.declaration.Declaration.{Declaration}
 use Rattle.mip_entries.specs.declared.entry.Entry.{Entry}
-use Rattle.mip_declared.specs.declared.reason.Reason.TheVariants as reasons
+use Rattle.mip_symbols.specs.declared.reason.Reason.TheVariants as reasons
 use Rattle.mip_trace.specs.EntryLines.{entry_words}
 use Rattle.mip_trace.specs.EntryReading.{entry_of}
 use Rattle.mip_trace.specs.Faults.{GivesText}

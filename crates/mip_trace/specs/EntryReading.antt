@@ -4,9 +4,9 @@ use Rattle.std.specs.List.{find}
 use Rattle.std.specs.Str.{bytes_eq}
 use Rattle.mip_words.specs.Steps.{◌>>=◌}
 use Rattle.mip_entries.specs.declared.entry.Entry.{Entry}
-use Rattle.mip_declared.specs.declared.declaration.Declaration.{Declaration}
-use Rattle.mip_declared.specs.declared.reason.Reason.{Reason}
-use Rattle.mip_declared.specs.declared.reason.Reason.TheVariants as reasons
+use Rattle.mip_symbols.specs.declared.declaration.Declaration.{Declaration}
+use Rattle.mip_symbols.specs.declared.reason.Reason.{Reason}
+use Rattle.mip_symbols.specs.declared.reason.Reason.TheVariants as reasons
 use Rattle.mip_rows.specs.Rows.{row_of}
 use Rattle.mip_trace.specs.EntryLines.{word_text, entry_words, kinds_of, tail_kind, entry_at}
 use Rattle.mip_trace.specs.declared.entry_word.EntryWord.{EntryWord}

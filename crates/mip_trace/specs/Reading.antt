@@ -3,8 +3,8 @@ use Rattle.std.specs.Prelude.{ℕ, ◌+◌, List, [], ◌∷◌, ◌++◌, Resul
 use Rattle.mip_words.specs.Steps.{◌>>=◌}
 use Rattle.mip_lines.specs.Cutting.{rows_of}
 use Rattle.mip_entries.specs.declared.entry.Entry.{Entry}
-use Rattle.mip_declared.specs.declared.declaration.Declaration.{Declaration}
-use Rattle.mip_declared.specs.declared.reason.Reason.{Reason}
+use Rattle.mip_symbols.specs.declared.declaration.Declaration.{Declaration}
+use Rattle.mip_symbols.specs.declared.reason.Reason.{Reason}
 use Rattle.mip_trace.specs.EntryReading.{entry_of}
 
 -- what the line n is read as, or n where it is bad

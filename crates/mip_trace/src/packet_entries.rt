@@ -101,7 +101,7 @@ fn put_gone(out: &mut Bytes, names: &NameTable<'_>, number: u64, why: Why) -> Re
 }
 
 /// Appends the line of an entry.
-pub fn put_packet_entry(out: &mut Bytes, names: &NameTable<'_>, entry: &Entry) -> Result<(), Memory>
+pub fn put_entry(out: &mut Bytes, names: &NameTable<'_>, entry: &Entry) -> Result<(), Memory>
     ensures { OnOk result (out.new ≡ out.old ++ line_text (line_fields names.now (lines.packet_line entry.now))) }
 {
     match entry {

@@ -6,7 +6,7 @@ ghost use Rattle.mip_lines.specs.Lines.{line_text};
 ghost use Rattle.mip_trace.specs.Lines.{entry_row, trace_text};
 ghost use Rattle.mip_rows.specs.Names.{names_of};
 
-use crate::packet_entries::put_packet_entry;
+use crate::packet_entries::put_entry;
 use mip_entries::{Entry, History};
 use mip_rows::NameTable;
 use mip_schedule::Schedule;
@@ -26,7 +26,7 @@ pub fn write_entry(
     ensures err { OnErr result (out.new ≡ out.old) }
 {
     let mut line = Bytes::new(alloc);
-    put_packet_entry(&mut line, &NameTable::untabled(alloc, names), entry)?;
+    put_entry(&mut line, &NameTable::untabled(alloc, names), entry)?;
     out.extend(line.as_slice())
 }
 
@@ -36,7 +36,7 @@ pub fn entry_line(line: &mut Bytes, names: &NameTable<'_>, entry: &Entry) -> Res
     ensures { OnOk result (line.new ≡ line_text (entry_row names.now entry.now)) }
 {
     line.clear();
-    put_packet_entry(line, names, entry)
+    put_entry(line, names, entry)
 }
 
 /// The trace of a history: a line for each entry, in order.
@@ -46,7 +46,7 @@ pub fn write_trace(alloc: Global, schedule: &Schedule, history: &History) -> Res
     let names = NameTable::of(alloc, schedule)?;
     let mut out = Bytes::new(alloc);
     for entry in history.as_slice() {
-        put_packet_entry(&mut out, &names, entry)?;
+        put_entry(&mut out, &names, entry)?;
     }
     Ok(out)
 }

@@ -7,8 +7,8 @@ use Rattle.mip_options.specs.Values.{nothing}
 use Rattle.mip_mobhdr.specs.Said.{Said}
 use Rattle.mip_mobhdr.specs.Said.Said.{Acknowledgement}
 use Rattle.mip_tokens.specs.declared.kbm.Kbm.{Kbm}
-use Rattle.mip_signals.specs.Packets.{node_head, message_packet}
-use Rattle.mip_signals.specs.Authenticated.{authenticated_packet}
+use Rattle.mip_packet_builders.specs.Packets.{node_head, message_packet}
+use Rattle.mip_packet_builders.specs.Authenticated.{authenticated_packet}
 use Rattle.mip_updates.specs.declared.registration.Registration.{Registration}
 use Rattle.mip_updates.specs.Registrations.{registered_of}
 

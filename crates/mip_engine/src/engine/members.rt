@@ -188,7 +188,7 @@ impl Engine {
             numbers_of(self.version),
         )?;
         self.nodes.push(node)?;
-        self.chronicle.push(Entry::Claimed {
+        self.recorder.push(Entry::Claimed {
             who: number,
             link,
             address,

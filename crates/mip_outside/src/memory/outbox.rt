@@ -5,7 +5,7 @@ ghost use Rattle.mip_outside.specs.Wires.{is_sent};
 use crate::put::Put;
 use crate::put_fault::PutFault;
 use crate::wire::Wire;
-use mip_trail::Trail;
+use mip_ghost_log::GhostLog;
 use mip_words::{Bytes, Memory, Shield};
 use std::alloc::Global;
 use std::marker::Model;
@@ -15,7 +15,7 @@ use std::marker::Model;
 pub struct Outbox {
     alloc: Global,
     sent: Vec<(Option<Shield>, Bytes)>,
-    answered: Trail<Result<Put, PutFault>>,
+    answered: GhostLog<Result<Put, PutFault>>,
 }
 
 impl Model for Outbox {
@@ -33,7 +33,7 @@ impl Outbox {
         Ok(Outbox {
             alloc,
             sent: Vec::new(alloc),
-            answered: Trail::new(),
+            answered: GhostLog::new(),
         })
     }
 

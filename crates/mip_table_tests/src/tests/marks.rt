@@ -1,7 +1,7 @@
 //! Histories that no run gives. The packets are those that another program wrote for one correspondent.
 
 use mip_entries::{Entry, History};
-use mip_marks::{AcceptedUpdate, Mark, Watch};
+use mip_provenance::{AcceptedUpdate, Mark, Watch};
 use mip_words::{Address, Bytes, LinkId, Memory, Moment, NodeId};
 use std::alloc::Global;
 

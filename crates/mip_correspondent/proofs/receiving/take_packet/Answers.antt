@@ -2,25 +2,25 @@ use Rattle.std.proofs.Common.{sym, subst}
 use Rattle.std.specs.Prelude.{Ok, Err, IfOk, option_map}
 use Rattle.mip_ipv6.specs.Packet.{packet as tree}
 use Rattle.mip_mobhdr.specs.Said.{said}
-use Rattle.mip_rules_correspondent.specs.Turns.{Turn}
+use Rattle.mip_rules_correspondent.specs.Transitions.{Transition}
 use Rattle.mip_correspondent.specs.Showing.{Shows, with_kept}
 use Rattle.mip_correspondent.proofs.Receivings.{receives-checked}
 use Rattle.mip_correspondent.proofs.receiving.take_packet.Goals as goal
 
 pub returns-in_ok-refuse-in-Err-clause-shows : goal.returns-in_ok-refuse-in-Err-clause-shows
 returns-in_ok-refuse-in-Err-clause-shows c = λ t shows.
-    let me = c.args.receipt.now.identity.now in
-    let now = c.args.receipt.now.moment.0 in
-    let cache = c.args.receipt.now.cache.now in
-    subst (λ (u : Turn). Shows now cache c.refuse.new.answers u)
-    (sym (receives-checked me c.args.receipt.now.number c.args.bytes.now (tree c.args.packet.now) now cache c.args.answers.now t c.args.packet.now.place c.standing.result (Err c.in-Err.refusal) shows c.requires.read c.requires.placed c.standing.ensures c.in-Err.ensures.exact))
+    let me = c.args.context.now.identity.now in
+    let now = c.args.context.now.moment.0 in
+    let cache = c.args.context.now.cache.now in
+    subst (λ (u : Transition). Shows now cache c.refuse.new.answers u)
+    (sym (receives-checked me c.args.context.now.number c.args.bytes.now (tree c.args.packet.now) now cache c.args.answers.now t c.args.packet.now.place c.standing.result (Err c.in-Err.refusal) shows c.requires.read c.requires.placed c.standing.ensures c.in-Err.ensures.exact))
     (c.in_ok-refuse-in-Err.ensures cache t shows)
 
 pub returns-in-Ok-clause-shows : goal.returns-in-Ok-clause-shows
 returns-in-Ok-clause-shows c = λ t shows.
-    let me = c.args.receipt.now.identity.now in
-    let now = c.args.receipt.now.moment.0 in
-    let cache = c.args.receipt.now.cache.now in
-    subst (λ (u : Turn). IfOk c.answer_role.result (λ kept. Shows now (with_kept now kept cache) c.answer_role.new.answers u))
-    (sym (receives-checked me c.args.receipt.now.number c.args.bytes.now (tree c.args.packet.now) now cache c.args.answers.now t c.args.packet.now.place c.standing.result (Ok (option_map said c.in-Ok.message)) shows c.requires.read c.requires.placed c.standing.ensures c.in-Ok.ensures.exact))
+    let me = c.args.context.now.identity.now in
+    let now = c.args.context.now.moment.0 in
+    let cache = c.args.context.now.cache.now in
+    subst (λ (u : Transition). IfOk c.answer_role.result (λ kept. Shows now (with_kept now kept cache) c.answer_role.new.answers u))
+    (sym (receives-checked me c.args.context.now.number c.args.bytes.now (tree c.args.packet.now) now cache c.args.answers.now t c.args.packet.now.place c.standing.result (Ok (option_map said c.in-Ok.message)) shows c.requires.read c.requires.placed c.standing.ensures c.in-Ok.ensures.exact))
     (c.answer_role.ensures.shows t shows)

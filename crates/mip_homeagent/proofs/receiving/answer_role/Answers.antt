@@ -6,7 +6,7 @@ use Rattle.mip_mobhdr.specs.Said.{said}
 use Rattle.mip_rules_agent.specs.Rules.{by_role}
 use Rattle.mip_homeagent.specs.Changes.{unclaimed}
 use Rattle.mip_homeagent.specs.Showing.{Shows, opened}
-use Rattle.mip_homeagent.specs.Desks.{handing_at, claim_of}
+use Rattle.mip_homeagent.specs.Contexts.{handing_at, claim_of}
 use Rattle.mip_homeagent.proofs.Befores.{unchanged}
 use Rattle.mip_homeagent.proofs.receiving.answer_role.Goals as goal
 
@@ -15,7 +15,7 @@ returns-in_ok-take_other-in-None-clause-claims g c = unchanged (g.P.Place.claims
 
 pub returns-in_ok-take_other-in-None-clause-shows : goal.returns-in_ok-take_other-in-None-clause-shows
 returns-in_ok-take_other-in-None-clause-shows g c = λ t shows.
-    let d = c.args.desk.now in
+    let d = c.args.context.now in
     let now = d.moment.0 in
     let k = opened now d.known.now in
     let p = tree c.args.packet.now in

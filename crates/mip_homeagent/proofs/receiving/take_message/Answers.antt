@@ -7,11 +7,11 @@ use Rattle.mip_mobhdr.specs.Said.{said}
 use Rattle.mip_outside.specs.Places.{claim_in}
 use Rattle.mip_updates.specs.declared.registration.Registration.{Registration}
 use Rattle.mip_updates.specs.Registrations.{home_of}
-use Rattle.mip_rules_agent.specs.Turns.{Turn}
+use Rattle.mip_rules_agent.specs.Transitions.{Transition}
 use Rattle.mip_rules_agent.specs.Rules.{takes_update}
 use Rattle.mip_homeagent.specs.Changes.{unclaimed, with_change, claims_with}
 use Rattle.mip_homeagent.specs.Showing.{Shows, opened}
-use Rattle.mip_homeagent.specs.Desks.{handing_at, claim_of}
+use Rattle.mip_homeagent.specs.Contexts.{handing_at, claim_of}
 use Rattle.mip_homeagent.proofs.Befores.{unchanged}
 use Rattle.mip_homeagent.proofs.Roles.{by_registration, role_is, said_home, room_served}
 use Rattle.mip_homeagent.proofs.receiving.take_message.Goals as goal
@@ -23,11 +23,11 @@ take_update-requires-clause-plain g c =
     subst (λ (o : Option Address). IsTrue (is_routable_if_any o)) (sym is.1) c.requires.plain
 
 pub take_update-requires-clause-room : goal.take_update-requires-clause-room
-take_update-requires-clause-room g c = λ served. room_served (g.P.Place.around c.args.place.now) c.args.desk.now.known.now (home_of c.in-Some.registration) c.requires.room served
+take_update-requires-clause-room g c = λ served. room_served (g.P.Place.around c.args.place.now) c.args.context.now.known.now (home_of c.in-Some.registration) c.requires.room served
 
 pub returns-in-Some-clause-shows : goal.returns-in-Some-clause-shows
 returns-in-Some-clause-shows g c =
-    let d = c.args.desk.now in
+    let d = c.args.context.now in
     let now = d.moment.0 in
     let k = opened now d.known.now in
     let p = tree c.args.packet.now in
@@ -38,19 +38,19 @@ returns-in-Some-clause-shows g c =
     let is = said_home p.head.source p.head.home r m read in
     let h = handing_at d (claim_of around p.head) in
     IfOk-weaker c.take_update.result _ _ (λ change leads t shows.
-    subst (λ (u : Turn). Shows now (with_change change k) (claims_with change) c.take_update.new.answers u)
+    subst (λ (u : Transition). Shows now (with_change change k) (claims_with change) c.take_update.new.answers u)
     (ap (λ (a : Address). takes_update (handing_at d (claim_in around a.0)) r t) is.0 ∙ ap (λ (o : Option Registration). by_registration h o t) read ∙ sym (role_is h p m t))
     (leads t shows)) c.take_update.ensures.shows
 
 pub returns-in_ok-drop_packet-in-None-clause-shows : goal.returns-in_ok-drop_packet-in-None-clause-shows
 returns-in_ok-drop_packet-in-None-clause-shows g c = λ t shows.
-    let d = c.args.desk.now in
+    let d = c.args.context.now in
     let now = d.moment.0 in
     let k = opened now d.known.now in
     let p = tree c.args.packet.now in
     let m = said c.args.message.now in
     let h = handing_at d (claim_of (g.P.Place.around c.args.place.now) p.head) in
-    subst (λ (u : Turn). Shows now k unclaimed c.drop_packet.new.answers u)
+    subst (λ (u : Transition). Shows now k unclaimed c.drop_packet.new.answers u)
     (ap (λ (o : Option Registration). by_registration h o t) (sym c.in-None.is ∙ c.registration_of.ensures) ∙ sym (role_is h p m t))
     (c.in_ok-drop_packet-in-None.ensures now k unclaimed t shows)
 

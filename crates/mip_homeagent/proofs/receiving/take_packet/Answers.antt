@@ -6,7 +6,7 @@ use Rattle.mip_ipv6.specs.Packet.{packet as tree}
 use Rattle.mip_rules_agent.specs.Rules.{by_destination}
 use Rattle.mip_homeagent.specs.Changes.{unclaimed, with_change, claims_with}
 use Rattle.mip_homeagent.specs.Showing.{Shows, opened}
-use Rattle.mip_homeagent.specs.Desks.{handing_at, claim_of}
+use Rattle.mip_homeagent.specs.Contexts.{handing_at, claim_of}
 use Rattle.mip_homeagent.proofs.Befores.{unchanged}
 use Rattle.mip_homeagent.proofs.receiving.take_packet.Goals as goal
 
@@ -15,7 +15,7 @@ returns-in_ok-intercept-in-Some-clause-claims g c = unchanged (g.P.Place.claims 
 
 pub returns-in_ok-intercept-in-Some-clause-shows : goal.returns-in_ok-intercept-in-Some-clause-shows
 returns-in_ok-intercept-in-Some-clause-shows g c = λ t shows.
-    let d = c.args.desk.now in
+    let d = c.args.context.now in
     let now = d.moment.0 in
     let k = opened now d.known.now in
     let p = tree c.args.packet.now in
@@ -25,7 +25,7 @@ returns-in_ok-intercept-in-Some-clause-shows g c = λ t shows.
 
 pub returns-in-None-clause-shows : goal.returns-in-None-clause-shows
 returns-in-None-clause-shows g c =
-    let d = c.args.desk.now in
+    let d = c.args.context.now in
     let now = d.moment.0 in
     let k = opened now d.known.now in
     let p = tree c.args.packet.now in

@@ -13,7 +13,7 @@ use Rattle.mip_rules_agent.specs.Verdicts.{by_claim}
 use Rattle.mip_rules_agent.specs.Rules.{judged}
 use Rattle.mip_homeagent.specs.Changes.{claims_held, holding_by}
 use Rattle.mip_homeagent.specs.Showing.{Leads, opened}
-use Rattle.mip_homeagent.specs.Desks.{handing_at}
+use Rattle.mip_homeagent.specs.Contexts.{handing_at}
 use Rattle.mip_homeagent.proofs.Befores.{claims_given, claims_denied}
 use Rattle.mip_homeagent.proofs.update.claim_home.Goals as goal
 
@@ -38,7 +38,7 @@ returns-else-is_held-clause-claims g c =
 
 pub returns-else-is_held-clause-shows : goal.returns-else-is_held-clause-shows
 returns-else-is_held-clause-shows g c = λ asked.
-    let d = c.args.desk.now in
+    let d = c.args.context.now in
     let r = c.args.registration.now in
     let b = c.args.bench.now in
     let now = d.moment.0 in

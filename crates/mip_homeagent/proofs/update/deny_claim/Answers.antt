@@ -5,12 +5,12 @@ use Rattle.mip_entries.specs.declared.answer.Answer.{Answer}
 use Rattle.mip_rules_agent.specs.declared.home_verdict.HomeVerdict.{HomeVerdict}
 use Rattle.mip_rules_agent.specs.Rules.{judged}
 use Rattle.mip_homeagent.specs.Showing.{Leads, opened}
-use Rattle.mip_homeagent.specs.Desks.{handing_at}
+use Rattle.mip_homeagent.specs.Contexts.{handing_at}
 use Rattle.mip_homeagent.proofs.update.deny_claim.Goals as goal
 
 pub returns-clause-shows : goal.returns-clause-shows
 returns-clause-shows c = λ asked.
-    let d = c.args.desk.now in
+    let d = c.args.context.now in
     let r = c.args.registration.now in
     let now = d.moment.0 in
     let k = opened now d.known.now in

@@ -7,12 +7,12 @@ use Rattle.mip_rules_agent.specs.declared.home_verdict.HomeVerdict.{HomeVerdict}
 use Rattle.mip_rules_agent.specs.Verdicts.{by_claim}
 use Rattle.mip_rules_agent.specs.Rules.{claim_with, judged}
 use Rattle.mip_homeagent.specs.Showing.{Leads, opened}
-use Rattle.mip_homeagent.specs.Desks.{handing_at}
+use Rattle.mip_homeagent.specs.Contexts.{handing_at}
 use Rattle.mip_homeagent.proofs.update.take_claim.Goals as goal
 
 pub returns-then-held-clause-shows : goal.returns-then-held-clause-shows
 returns-then-held-clause-shows g c = λ claim.
-    let d = c.args.desk.now in
+    let d = c.args.context.now in
     let r = c.args.registration.now in
     let k = opened d.moment.0 d.known.now in
     let around = claim_in (g.P.Place.around c.args.place.now) (home_of r).0 in
@@ -22,7 +22,7 @@ returns-then-held-clause-shows g c = λ claim.
 
 pub returns-else-held-clause-shows : goal.returns-else-held-clause-shows
 returns-else-held-clause-shows g c = λ claim.
-    let d = c.args.desk.now in
+    let d = c.args.context.now in
     let r = c.args.registration.now in
     let k = opened d.moment.0 d.known.now in
     let around = claim_in (g.P.Place.around c.args.place.now) (home_of r).0 in

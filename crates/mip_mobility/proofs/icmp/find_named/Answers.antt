@@ -1,16 +1,16 @@
 use Rattle.std.proofs.Common.{List, subst, OnOk}
 use Rattle.mip_words.specs.declared.address.Address.{Address}
-use Rattle.mip_rules_mobile.specs.declared.standing.Standing.{Standing}
-use Rattle.mip_mobility.proofs.Desks.{turn_at, from-desk}
-use Rattle.mip_desk.specs.Seen.{Shows}
+use Rattle.mip_rules_mobile.specs.declared.attachment.Attachment.{Attachment}
+use Rattle.mip_mobility.proofs.Contexts.{turn_at, from-context}
+use Rattle.mip_call_context.specs.Seen.{Shows}
 use Rattle.mip_rules_mobile.specs.IcmpRules.{finds, agents_named}
 use Rattle.mip_mobility.proofs.icmp.find_named.Goals as goal
 
 pub returns : goal.returns
 returns c =
-    let d = c.args.desk.now in
+    let d = c.args.context.now in
     let number = c.args.number in
-    from-desk d (λ t. OnOk c.find.result (Shows c.find.new.desk (finds number t.known.standing (agents_named c.args.agents.now) t)))
-    (λ steps shows. subst (λ (s : Standing). OnOk c.find.result (Shows c.find.new.desk (finds number s (agents_named c.args.agents.now) (turn_at d steps)))) c.standing-standing.ensures
-    (subst (λ (l : List Address). OnOk c.find.result (Shows c.find.new.desk (finds number c.standing-standing.result l (turn_at d steps)))) c.in_ok-agents.ensures
+    from-context d (λ t. OnOk c.find.result (Shows c.find.new.context (finds number t.known.standing (agents_named c.args.agents.now) t)))
+    (λ steps shows. subst (λ (s : Attachment). OnOk c.find.result (Shows c.find.new.context (finds number s (agents_named c.args.agents.now) (turn_at d steps)))) c.standing-standing.ensures
+    (subst (λ (l : List Address). OnOk c.find.result (Shows c.find.new.context (finds number c.standing-standing.result l (turn_at d steps)))) c.in_ok-agents.ensures
     (c.find.ensures (turn_at d steps) shows)))

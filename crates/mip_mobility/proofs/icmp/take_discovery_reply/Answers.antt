@@ -1,27 +1,27 @@
 use Rattle.std.proofs.Common.{sym, ◌∙◌, subst, OnOk}
 use Rattle.std.specs.Prelude.{Bool, if◌then◌else◌}
 use Rattle.mip_rules_mobile.specs.IcmpRules.{drops_icmp, finds, agents_named, takes_discovery_reply}
-use Rattle.mip_rules_mobile.specs.Turns.{Turn}
-use Rattle.mip_desk.specs.Seen.{Shows}
-use Rattle.mip_mobility.proofs.Desks.{turn_at, from-desk}
+use Rattle.mip_rules_mobile.specs.Transitions.{Transition}
+use Rattle.mip_call_context.specs.Seen.{Shows}
+use Rattle.mip_mobility.proofs.Contexts.{turn_at, from-context}
 use Rattle.mip_mobility.proofs.icmp.take_discovery_reply.Goals as goal
 
 pub returns-then-is_matched : goal.returns-then-is_matched
 unfolding takes_discovery_reply
 returns-then-is_matched c =
-    let d = c.args.desk.now in
+    let d = c.args.context.now in
     let number = c.args.number in
     let agents = c.args.agents.now in
-    from-desk d (λ t. OnOk c.find_named.result (Shows c.find_named.new.desk (takes_discovery_reply number c.args.identifier agents t)))
-    (λ steps shows. subst (λ (b : Bool). OnOk c.find_named.result (Shows c.find_named.new.desk (let u : Turn = (if b then finds number d.known.standing (agents_named agents) (turn_at d steps) else drops_icmp number (turn_at d steps)) in u)))
+    from-context d (λ t. OnOk c.find_named.result (Shows c.find_named.new.context (takes_discovery_reply number c.args.identifier agents t)))
+    (λ steps shows. subst (λ (b : Bool). OnOk c.find_named.result (Shows c.find_named.new.context (let u : Transition = (if b then finds number d.known.standing (agents_named agents) (turn_at d steps) else drops_icmp number (turn_at d steps)) in u)))
     (sym c.if-is_matched.true ∙ c.is_matched.ensures) (c.find_named.ensures (turn_at d steps) shows))
 
 pub returns-else-is_matched : goal.returns-else-is_matched
 unfolding takes_discovery_reply
 returns-else-is_matched c =
-    let d = c.args.desk.now in
+    let d = c.args.context.now in
     let number = c.args.number in
     let agents = c.args.agents.now in
-    from-desk d (λ t. OnOk c.drop_packet.result (Shows c.drop_packet.new.self (takes_discovery_reply number c.args.identifier agents t)))
-    (λ steps shows. subst (λ (b : Bool). OnOk c.drop_packet.result (Shows c.drop_packet.new.self (let u : Turn = (if b then finds number d.known.standing (agents_named agents) (turn_at d steps) else drops_icmp number (turn_at d steps)) in u)))
+    from-context d (λ t. OnOk c.drop_packet.result (Shows c.drop_packet.new.self (takes_discovery_reply number c.args.identifier agents t)))
+    (λ steps shows. subst (λ (b : Bool). OnOk c.drop_packet.result (Shows c.drop_packet.new.self (let u : Transition = (if b then finds number d.known.standing (agents_named agents) (turn_at d steps) else drops_icmp number (turn_at d steps)) in u)))
     (sym c.if-is_matched.false ∙ c.is_matched.ensures) (c.drop_packet.ensures (turn_at d steps) shows))

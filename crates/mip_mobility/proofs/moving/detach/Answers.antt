@@ -1,8 +1,8 @@
 use Rattle.std.proofs.Common.{subst}
-use Rattle.mip_rules_mobile.specs.declared.standing.Standing.{Standing}
-use Rattle.mip_mobility.proofs.Desks.{turn_at, from-desk}
-use Rattle.mip_desk.specs.Seen.{Shows}
-use Rattle.mip_rules_mobile.specs.Turns.{noted}
+use Rattle.mip_rules_mobile.specs.declared.attachment.Attachment.{Attachment}
+use Rattle.mip_mobility.proofs.Contexts.{turn_at, from-context}
+use Rattle.mip_call_context.specs.Seen.{Shows}
+use Rattle.mip_rules_mobile.specs.Transitions.{noted}
 use Rattle.mip_rules_mobile.specs.Steps.{Detaches}
 use Rattle.mip_rules_mobile.specs.TrialRules.{each_row}
 use Rattle.mip_rules_mobile.specs.MovingRules.{releases, unbinds, leaves}
@@ -11,7 +11,7 @@ use Rattle.mip_mobility.proofs.moving.detach.Goals as goal
 pub returns : goal.returns
 unfolding leaves
 returns c =
-    let d = c.args.desk.now in
-    from-desk d (λ t. Shows c.detach.new.self (leaves c.args.of_home t))
-    (λ steps shows. subst (λ (s : Standing). Shows c.detach.new.self (noted Detaches (each_row unbinds (releases s c.args.of_home (turn_at d steps))))) c.standing-standing.ensures
+    let d = c.args.context.now in
+    from-context d (λ t. Shows c.detach.new.self (leaves c.args.of_home t))
+    (λ steps shows. subst (λ (s : Attachment). Shows c.detach.new.self (noted Detaches (each_row unbinds (releases s c.args.of_home (turn_at d steps))))) c.standing-standing.ensures
     (c.detach.ensures _ (c.in_ok-unbind_all.ensures _ (c.in_ok-release.ensures (turn_at d steps) shows))))

@@ -1,12 +1,12 @@
 use Rattle.std.proofs.Common.{sym, subst}
 use Rattle.mip_rules_mobile.specs.TrialRules.{each_from}
 use Rattle.mip_rules_mobile.specs.MovingRules.{unbinds}
-use Rattle.mip_rules_mobile.specs.Turns.{Turn}
-use Rattle.mip_desk.specs.Seen.{Shows}
+use Rattle.mip_rules_mobile.specs.Transitions.{Transition}
+use Rattle.mip_call_context.specs.Seen.{Shows}
 use Rattle.mip_mobility.proofs.Rounds.{each-next}
 use Rattle.mip_mobility.proofs.moving.unbind_all.Goals as goal
 
 pub loop-row-preserved : goal.loop-row-preserved
 loop-row-preserved c = λ t shows.
-    subst (λ (u : Turn). Shows c.unbind.new.desk u) (sym (each-next unbinds c.loop-row.row t))
+    subst (λ (u : Transition). Shows c.unbind.new.context u) (sym (each-next unbinds c.loop-row.row t))
     (c.in_ok-unbind.ensures (each_from unbinds c.loop-row.row 0 t) (c.loop-row.invariant t shows))

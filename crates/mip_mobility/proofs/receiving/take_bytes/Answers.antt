@@ -5,9 +5,9 @@ use Rattle.mip_ipv6.specs.declared.not_packet.NotPacket.{NotPacket}
 use Rattle.mip_ipv6.specs.Packet.{Packet}
 use Rattle.mip_rules_mobile.specs.Steps.{Drops}
 use Rattle.mip_rules_mobile.specs.ReceivingRules.{receives, takes}
-use Rattle.mip_mobility.proofs.Desks.{turn_at, from-desk}
-use Rattle.mip_desk.specs.Seen.{Shows}
-use Rattle.mip_rules_mobile.specs.Turns.{noted}
+use Rattle.mip_mobility.proofs.Contexts.{turn_at, from-context}
+use Rattle.mip_call_context.specs.Seen.{Shows}
+use Rattle.mip_rules_mobile.specs.Transitions.{noted}
 use Rattle.mip_mobility.proofs.receiving.take_bytes.Goals as goal
 
 pub returns-in-Err : goal.returns-in-Err
@@ -21,9 +21,9 @@ returns-in-Err c = λ t shows.
 pub returns-in-Ok : goal.returns-in-Ok
 unfolding takes
 returns-in-Ok c =
-    let d = c.args.desk.now in
+    let d = c.args.context.now in
     let h = c.args.handed.now in
     let bytes = c.args.bytes.now in
-    from-desk d (λ t. OnOk c.take_packet.result (Shows c.take_packet.new.desk (takes h.number h.shield bytes t)))
-    (λ steps shows. subst (λ (r : Result Packet NotPacket). OnOk c.take_packet.result (Shows c.take_packet.new.desk (receives h.number h.shield bytes r (turn_at d steps))))
+    from-context d (λ t. OnOk c.take_packet.result (Shows c.take_packet.new.context (takes h.number h.shield bytes t)))
+    (λ steps shows. subst (λ (r : Result Packet NotPacket). OnOk c.take_packet.result (Shows c.take_packet.new.context (receives h.number h.shield bytes r (turn_at d steps))))
     (sym c.in-Ok.ensures.exact) (c.take_packet.ensures (turn_at d steps) shows))

@@ -8,7 +8,7 @@ use Rattle.mip_mobility.proofs.ringing.is_due.Goals as goal
 
 pub returns-in-Some : goal.returns-in-Some
 returns-in-Some c =
-    let d = c.args.desk.now in
+    let d = c.args.context.now in
     let due : is_some (due_work (moment d.moment) d.known.list.timers) ≡ not (nat_lt d.moment c.in-Some.due.0) =
     due-some d.moment d.known.list.timers c.in-Some.due (sym c.due.ensures ∙ c.in-Some.is) in
     let now : c.moment.result.0 ≡ d.moment = c.moment.ensures.value in
@@ -16,5 +16,5 @@ returns-in-Some c =
 
 pub returns-in-None : goal.returns-in-None
 returns-in-None c =
-    let d = c.args.desk.now in
+    let d = c.args.context.now in
     sym (due-none d.moment d.known.list.timers (sym c.due.ensures ∙ c.in-None.is))

@@ -1,8 +1,8 @@
 use Rattle.std.proofs.Common.{subst}
 use Rattle.std.specs.Prelude.{Bool, if◌then◌else◌}
-use Rattle.mip_mobility.proofs.Desks.{turn_at, from-desk}
-use Rattle.mip_desk.specs.Seen.{Shows}
-use Rattle.mip_rules_mobile.specs.Turns.{Turn, noted}
+use Rattle.mip_mobility.proofs.Contexts.{turn_at, from-context}
+use Rattle.mip_call_context.specs.Seen.{Shows}
+use Rattle.mip_rules_mobile.specs.Transitions.{Transition, noted}
 use Rattle.mip_rules_mobile.specs.Steps.{Tries}
 use Rattle.mip_rules_mobile.specs.Trials.{Rest}
 use Rattle.mip_rules_mobile.specs.RingingRules.{rests_if_bound}
@@ -10,8 +10,8 @@ use Rattle.mip_mobility.proofs.ringing.rest_if_bound.Goals as goal
 
 pub returns : goal.returns
 returns c =
-    let d = c.args.desk.now in
+    let d = c.args.context.now in
     let row = c.args.row in
-    from-desk d (λ t. Shows c.rest_where.new.desk (rests_if_bound row t))
-    (λ steps shows. subst (λ (b : Bool). Shows c.rest_where.new.desk (let u : Turn = (if b then noted (Tries row Rest) (turn_at d steps) else turn_at d steps) in u)) c.is_bound-bound.ensures
+    from-context d (λ t. Shows c.rest_where.new.context (rests_if_bound row t))
+    (λ steps shows. subst (λ (b : Bool). Shows c.rest_where.new.context (let u : Transition = (if b then noted (Tries row Rest) (turn_at d steps) else turn_at d steps) in u)) c.is_bound-bound.ensures
     (c.rest_where.ensures (turn_at d steps) shows))

@@ -1,12 +1,12 @@
 use Rattle.std.proofs.Common.{ℕ, subst, OnOk}
 use Rattle.mip_rules_mobile.specs.RingingRules.{ticks, ticks_all}
-use Rattle.mip_mobility.proofs.Desks.{turn_at, from-desk}
-use Rattle.mip_desk.specs.Seen.{Shows}
+use Rattle.mip_mobility.proofs.Contexts.{turn_at, from-context}
+use Rattle.mip_call_context.specs.Seen.{Shows}
 use Rattle.mip_mobility.proofs.ringing.ring_all.Goals as goal
 
 pub returns : goal.returns
 unfolding ticks_all
 returns c =
-    let d = c.args.desk.now in
-    from-desk d (λ t. OnOk c.ring_times.result (Shows c.ring_times.new.desk (ticks_all t)))
-    (λ steps shows. subst (λ (n : ℕ). OnOk c.ring_times.result (Shows c.ring_times.new.desk (ticks n (turn_at d steps)))) c.timers-times.ensures (c.ring_times.ensures (turn_at d steps) shows))
+    let d = c.args.context.now in
+    from-context d (λ t. OnOk c.ring_times.result (Shows c.ring_times.new.context (ticks_all t)))
+    (λ steps shows. subst (λ (n : ℕ). OnOk c.ring_times.result (Shows c.ring_times.new.context (ticks n (turn_at d steps)))) c.timers-times.ensures (c.ring_times.ensures (turn_at d steps) shows))

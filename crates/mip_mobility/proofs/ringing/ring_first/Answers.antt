@@ -1,14 +1,14 @@
 use Rattle.std.proofs.Common.{sym, ◌∙◌, subst, OnOk}
 use Rattle.mip_bulist.specs.declared.work.Work.{Work}
 use Rattle.mip_rules_mobile.specs.RingingRules.{rings}
-use Rattle.mip_desk.specs.Seen.{Shows}
+use Rattle.mip_call_context.specs.Seen.{Shows}
 use Rattle.mip_mobility.proofs.Rounds.{same-work, not-none}
 use Rattle.mip_mobility.proofs.ringing.ring_first.Goals as goal
 
 pub returns-in-Some : goal.returns-in-Some
 unfolding rings
 returns-in-Some c = λ work t due shows.
-    subst (λ (w : Work). OnOk c.do_work.result (Shows c.do_work.new.desk (rings w t)))
+    subst (λ (w : Work). OnOk c.do_work.result (Shows c.do_work.new.context (rings w t)))
     (same-work c.in-Some.work work (sym c.in-Some.is ∙ c.ring.ensures.work ∙ due))
     (c.do_work.ensures _ (c.ring.ensures.shows c.in-Some.work t c.in-Some.is shows))
 

@@ -1,14 +1,14 @@
 use Rattle.std.proofs.Common.{sym, subst}
 use Rattle.mip_rules_mobile.specs.RingingRules.{ticks}
-use Rattle.mip_rules_mobile.specs.Turns.{Turn}
-use Rattle.mip_desk.specs.Seen.{Shows}
+use Rattle.mip_rules_mobile.specs.Transitions.{Transition}
+use Rattle.mip_call_context.specs.Seen.{Shows}
 use Rattle.mip_mobility.proofs.Rounds.{ticks-none, tick-next}
 use Rattle.mip_mobility.proofs.ringing.ring_times.Goals as goal
 
 pub loop-round-init : goal.loop-round-init
-loop-round-init c = λ t shows. subst (λ (u : Turn). Shows c.args.desk.now u) (sym (ticks-none t)) shows
+loop-round-init c = λ t shows. subst (λ (u : Transition). Shows c.args.context.now u) (sym (ticks-none t)) shows
 
 pub loop-round-preserved : goal.loop-round-preserved
 loop-round-preserved c = λ t shows.
-    subst (λ (u : Turn). Shows c.ring_once.new.desk u) (sym (tick-next c.loop-round._round t))
+    subst (λ (u : Transition). Shows c.ring_once.new.context u) (sym (tick-next c.loop-round._round t))
     (c.in_ok-ring_once.ensures (ticks c.loop-round._round t) (c.loop-round.invariant t shows))

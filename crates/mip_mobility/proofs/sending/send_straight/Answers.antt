@@ -2,11 +2,11 @@ use Rattle.std.proofs.Common.{ap, ◌∙◌, refl, OnOk}
 use Rattle.std.specs.Prelude.{Option, Some}
 use Rattle.mip_words.specs.declared.address.Address.{Address}
 use Rattle.mip_ipv6.specs.declared.head.Head.{Head}
-use Rattle.mip_signals.specs.Packets.{data_packet}
+use Rattle.mip_packet_builders.specs.Packets.{data_packet}
 use Rattle.mip_rules_correspondent.specs.Questions.{held_of}
-use Rattle.mip_rules_mobile.specs.declared.standing.Standing.TheVariants.{Away}
-use Rattle.mip_mobility.proofs.Desks.{turn_at, from-desk}
-use Rattle.mip_desk.specs.Seen.{Shows}
+use Rattle.mip_rules_mobile.specs.declared.attachment.Attachment.TheVariants.{Away}
+use Rattle.mip_mobility.proofs.Contexts.{turn_at, from-context}
+use Rattle.mip_call_context.specs.Seen.{Shows}
 use Rattle.mip_rules_mobile.specs.HomeQuestions.{home_of}
 use Rattle.mip_rules_mobile.specs.Sendings.{SendsData, data_head}
 use Rattle.mip_rules_mobile.specs.Doing.{transmits_from}
@@ -14,13 +14,13 @@ use Rattle.mip_mobility.proofs.sending.send_straight.Goals as goal
 
 pub returns : goal.returns
 returns c =
-    let d = c.args.desk.now in
+    let d = c.args.context.now in
     let home = home_of d.known in
     let careof = c.args.careof in
     let to = c.args.to in
     let proto = c.args.proto in
     let held = held_of d.known.part.known d.moment to in
-    from-desk d (λ t. OnOk c.put.result (Shows c.put.new.self (transmits_from (Away careof) (Some c.args.row) to proto c.args.payload.now t)))
+    from-context d (λ t. OnOk c.put.result (Shows c.put.new.self (transmits_from (Away careof) (Some c.args.row) to proto c.args.payload.now t)))
     (λ steps shows. c.put.ensures (SendsData home careof to held proto c.args.payload.now) (turn_at d steps) tt refl
     (c.in_ok-packet.ensures.bytes
     ∙ ap (λ (h : Head). data_packet h c.args.payload.now)

@@ -1,8 +1,8 @@
 use Rattle.std.proofs.Common.{ℕ, subst, OnOk}
 use Rattle.std.specs.Prelude.{Option}
-use Rattle.mip_rules_mobile.specs.declared.standing.Standing.{Standing}
-use Rattle.mip_mobility.proofs.Desks.{turn_at, from-desk}
-use Rattle.mip_desk.specs.Seen.{Shows}
+use Rattle.mip_rules_mobile.specs.declared.attachment.Attachment.{Attachment}
+use Rattle.mip_mobility.proofs.Contexts.{turn_at, from-context}
+use Rattle.mip_call_context.specs.Seen.{Shows}
 use Rattle.mip_rules_mobile.specs.RowQuestions.{bound_row_of}
 use Rattle.mip_rules_mobile.specs.Doing.{transmits_from, transmits}
 use Rattle.mip_mobility.proofs.sending.transmit.Goals as goal
@@ -10,11 +10,11 @@ use Rattle.mip_mobility.proofs.sending.transmit.Goals as goal
 pub returns : goal.returns
 unfolding transmits
 returns c =
-    let d = c.args.desk.now in
+    let d = c.args.context.now in
     let to = c.args.to in
     let proto = c.args.proto in
     let payload = c.args.payload.now in
-    from-desk d (λ t. OnOk c.transmit_from.result (Shows c.transmit_from.new.desk (transmits to proto payload t)))
-    (λ steps shows. subst (λ (s : Standing). OnOk c.transmit_from.result (Shows c.transmit_from.new.desk (transmits_from s (bound_row_of d.known d.moment to) to proto payload (turn_at d steps)))) c.standing-standing.ensures
-    (subst (λ (o : Option ℕ). OnOk c.transmit_from.result (Shows c.transmit_from.new.desk (transmits_from c.standing-standing.result o to proto payload (turn_at d steps)))) c.bound_row_of-row.ensures.row
+    from-context d (λ t. OnOk c.transmit_from.result (Shows c.transmit_from.new.context (transmits to proto payload t)))
+    (λ steps shows. subst (λ (s : Attachment). OnOk c.transmit_from.result (Shows c.transmit_from.new.context (transmits_from s (bound_row_of d.known d.moment to) to proto payload (turn_at d steps)))) c.standing-standing.ensures
+    (subst (λ (o : Option ℕ). OnOk c.transmit_from.result (Shows c.transmit_from.new.context (transmits_from c.standing-standing.result o to proto payload (turn_at d steps)))) c.bound_row_of-row.ensures.row
     (c.transmit_from.ensures (turn_at d steps) shows)))

@@ -5,9 +5,9 @@ use Rattle.mip_ipv6.specs.Packet.{packet as tree, Packet}
 use Rattle.mip_tunnel.specs.declared.exit_fault.ExitFault.{ExitFault}
 use Rattle.mip_ipv6.proofs.Placed.{place_is}
 use Rattle.mip_rules_mobile.specs.Steps.{Drops}
-use Rattle.mip_rules_mobile.specs.Turns.{Turn, noted}
+use Rattle.mip_rules_mobile.specs.Transitions.{Transition, noted}
 use Rattle.mip_rules_mobile.specs.ReceivingRules.{opens_with}
-use Rattle.mip_desk.specs.Seen.{Shows}
+use Rattle.mip_call_context.specs.Seen.{Shows}
 use Rattle.mip_mobility.proofs.Inner.{not-opened, opened-routable, inner-short}
 use Rattle.mip_mobility.proofs.tunnelled.open_from.Goals as goal
 
@@ -28,7 +28,7 @@ take_inner-requires-clause-near c = omega (arith, c.in-Ok.ensures.place.1, c.req
 pub returns-in-Ok : goal.returns-in-Ok
 returns-in-Ok c = λ t shows.
     let h = c.args.handed.now in
-    subst (λ (r : Result Packet ExitFault). OnOk c.take_inner.result (Shows c.take_inner.new.desk (opens_with h.number h.shield c.args.packet.now.body.now r t)))
+    subst (λ (r : Result Packet ExitFault). OnOk c.take_inner.result (Shows c.take_inner.new.context (opens_with h.number h.shield c.args.packet.now.body.now r t)))
     (sym c.in-Ok.ensures.exact) (c.take_inner.ensures t shows)
 
 pub returns-in-Err : goal.returns-in-Err
@@ -36,5 +36,5 @@ returns-in-Err c = λ t shows.
     let h = c.args.handed.now in
     let bytes = c.args.packet.now.body.now in
     subst (λ (r : Result Packet ExitFault). OnOk c.drop_packet.result (Shows c.drop_packet.new.self (opens_with h.number h.shield bytes r t))) (sym c.in-Err.ensures.exact)
-    (subst (λ (u : Turn). OnOk c.drop_packet.result (Shows c.drop_packet.new.self u))
+    (subst (λ (u : Transition). OnOk c.drop_packet.result (Shows c.drop_packet.new.self u))
     (ap (λ (w : Why). noted (Drops h.number w) t) c.entry_why.ensures ∙ not-opened h.number h.shield bytes c.in-Err.fault t) (c.drop_packet.ensures t shows))

@@ -7,12 +7,12 @@ use Rattle.mip_nodes.proofs.mobile.finish.Goals as goal
 
 pub returns-clause-answers : goal.returns-clause-answers
 returns-clause-answers c = λ k now call shown.
-    ended-answers k now call c.args.desk.now c.take_answers.result (subst (λ r. OnOk r (Shows c.args.desk.now (turn_of k now call))) c.in_ok-done.was shown) c.take_answers.ensures.answers
+    ended-answers k now call c.args.context.now c.take_answers.result (subst (λ r. OnOk r (Shows c.args.context.now (turn_of k now call))) c.in_ok-done.was shown) c.take_answers.ensures.answers
 
 pub returns-clause-known : goal.returns-clause-known
 returns-clause-known c = λ k now call shown.
-    ended-known k now call c.args.desk.now c.take_answers.new.self c.take_answers.result (subst (λ r. OnOk r (Shows c.args.desk.now (turn_of k now call))) c.in_ok-done.was shown) c.take_answers.ensures.desk
+    ended-known k now call c.args.context.now c.take_answers.new.self c.take_answers.result (subst (λ r. OnOk r (Shows c.args.context.now (turn_of k now call))) c.in_ok-done.was shown) c.take_answers.ensures.context
 
 pub returns-clause-calm : goal.returns-clause-calm
 returns-clause-calm c = λ k now call shown.
-    ended-calm k now call c.args.desk.now c.take_answers.new.self c.take_answers.result (subst (λ r. OnOk r (Shows c.args.desk.now (turn_of k now call))) c.in_ok-done.was shown) c.take_answers.ensures.desk
+    ended-calm k now call c.args.context.now c.take_answers.new.self c.take_answers.result (subst (λ r. OnOk r (Shows c.args.context.now (turn_of k now call))) c.in_ok-done.was shown) c.take_answers.ensures.context

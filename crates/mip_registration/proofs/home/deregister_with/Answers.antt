@@ -5,18 +5,18 @@ use Rattle.mip_rules_mobile.specs.Sendings.{DeregistersHome, deregistration_pack
 use Rattle.mip_rules_mobile.specs.HomeQuestions.{home_of, next_to}
 use Rattle.mip_rules_mobile.specs.Steps.{Sends, Waits}
 use Rattle.mip_rules_mobile.specs.Known.{Known}
-use Rattle.mip_rules_mobile.specs.Turns.{noted}
+use Rattle.mip_rules_mobile.specs.Transitions.{noted}
 use Rattle.mip_rules_mobile.specs.HomeRules.{deregisters_with}
-use Rattle.mip_desk.specs.Seen.{Shows}
-use Rattle.mip_desk.proofs.Noted.{shows-known}
+use Rattle.mip_call_context.specs.Seen.{Shows}
+use Rattle.mip_call_context.proofs.Noted.{shows-known}
 use Rattle.mip_registration.proofs.home.deregister_with.Goals as goal
 
 pub returns : goal.returns
 unfolding deregisters_with
 returns c = λ t shows.
-    let known = shows-known c.args.desk.now t shows in
+    let known = shows-known c.args.context.now t shows in
     let told = c.in_ok-packet.ensures ∙ ap (λ (h : Address). deregistration_packet h c.args.agent c.next_to-sequence.result) c.home.ensures.value in
     let sent = c.in_ok-put_deregistration.ensures t told shows in
     let waits = c.wait_own.ensures _ sent in
     subst (λ (k : Known). Shows c.wait_own.new.self (noted (Waits (Own 0) c.args.wait) (noted (Sends (DeregistersHome (home_of k) c.args.agent (next_to c.args.agent k.numberings))) t))) (sym known)
-    (subst (λ (n : ℕ). Shows c.wait_own.new.self (noted (Waits (Own 0) c.args.wait) (noted (Sends (DeregistersHome (home_of c.args.desk.now.known) c.args.agent n)) t))) c.next_to-sequence.ensures waits)
+    (subst (λ (n : ℕ). Shows c.wait_own.new.self (noted (Waits (Own 0) c.args.wait) (noted (Sends (DeregistersHome (home_of c.args.context.now.known) c.args.agent n)) t))) c.next_to-sequence.ensures waits)

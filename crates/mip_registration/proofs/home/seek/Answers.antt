@@ -1,9 +1,9 @@
 use Rattle.std.proofs.Common.{sym, ap, ◌∙◌, ℕ, subst, refl}
 use Rattle.mip_words.specs.declared.address.Address.{Address}
 use Rattle.mip_rules_mobile.specs.Known.{Known}
-use Rattle.mip_rules_mobile.specs.Turns.{noted}
-use Rattle.mip_desk.specs.Seen.{Shows}
-use Rattle.mip_desk.proofs.Noted.{shows-known}
+use Rattle.mip_rules_mobile.specs.Transitions.{noted}
+use Rattle.mip_call_context.specs.Seen.{Shows}
+use Rattle.mip_call_context.proofs.Noted.{shows-known}
 use Rattle.mip_bulist.specs.declared.work.Work.TheVariants.{Own}
 use Rattle.mip_rules_mobile.specs.Sendings.{Discovers, discovery_packet}
 use Rattle.mip_rules_mobile.specs.HomeQuestions.{home_of}
@@ -14,8 +14,8 @@ use Rattle.mip_registration.proofs.home.seek.Goals as goal
 pub returns : goal.returns
 unfolding seeks
 returns c = λ t shows.
-    let known = shows-known c.args.desk.now t shows in
-    let home : Address = home_of c.args.desk.now.known in
+    let known = shows-known c.args.context.now t shows in
+    let home : Address = home_of c.args.context.now.known in
     let id : ℕ = c.next_discovery-identifier.result in
     let told = c.in_ok-packet.ensures ∙ ap (λ (h : Address). discovery_packet h c.args.careof id) c.home.ensures.value in
     let begins = c.seek.ensures t shows in

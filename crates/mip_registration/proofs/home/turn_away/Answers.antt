@@ -1,9 +1,9 @@
 use Rattle.std.proofs.Common.{sym, ◌+◌, ◌<◌, subst, OnOk}
 use Rattle.std.specs.Prelude.{IfSome, ◌^◌}
 use Rattle.mip_rules_mobile.specs.Known.{Known}
-use Rattle.mip_rules_mobile.specs.Turns.{Turn, noted}
-use Rattle.mip_desk.specs.Seen.{Shows}
-use Rattle.mip_desk.proofs.Noted.{shows-known}
+use Rattle.mip_rules_mobile.specs.Transitions.{Transition, noted}
+use Rattle.mip_call_context.specs.Seen.{Shows}
+use Rattle.mip_call_context.proofs.Noted.{shows-known}
 use Rattle.mip_registration.proofs.HomeShows.{refused-by}
 use Rattle.mip_rules_mobile.specs.Steps.{IsRefused}
 use Rattle.mip_registration.proofs.home.turn_away.Goals as goal
@@ -13,7 +13,7 @@ turn_to-requires c = subst (λ (k : Known). IfSome c.next_found-next.result (λ 
 
 pub returns : goal.returns
 returns c = λ t shows.
-    let known = shows-known c.args.desk.now t shows in
-    subst (λ (u : Turn). OnOk c.turn_to.result (Shows c.turn_to.new.desk u))
-    (refused-by c.args.status t c.args.desk.now.known c.standing-standing.result c.next_found-next.result known (sym c.standing-standing.ensures) (sym c.next_found-next.ensures.found))
+    let known = shows-known c.args.context.now t shows in
+    subst (λ (u : Transition). OnOk c.turn_to.result (Shows c.turn_to.new.context u))
+    (refused-by c.args.status t c.args.context.now.known c.standing-standing.result c.next_found-next.result known (sym c.standing-standing.ensures) (sym c.next_found-next.ensures.found))
     (c.turn_to.ensures (noted (IsRefused c.args.status) t) (c.in_ok-refused.ensures.shows t shows))

@@ -1,7 +1,7 @@
 use Rattle.std.proofs.Common.{◌<◌, ◌≤◌, sym, ◌∙◌, subst, arith}
 use Rattle.mip_rules_mobile.specs.HomeRules.{starts_bound}
-use Rattle.mip_rules_mobile.specs.Turns.{Turn}
-use Rattle.mip_desk.specs.Seen.{Shows}
+use Rattle.mip_rules_mobile.specs.Transitions.{Transition}
+use Rattle.mip_call_context.specs.Seen.{Shows}
 use Rattle.mip_routability.proofs.PeerShows.{each-step, each-done}
 use Rattle.mip_routability.proofs.rows.start_unbound.Goals as goal
 
@@ -16,4 +16,4 @@ pub returns : goal.returns
 returns c = λ t shows.
     let held = c.loop-row.invariant t shows in
     let done : 16 ≤ c.loop-row.row = omega arith in
-    subst (λ (u : Turn). Shows c.loop-row.desk u) (sym (each-done starts_bound c.loop-row.row held.0 done) ∙ held.2) held.1
+    subst (λ (u : Transition). Shows c.loop-row.context u) (sym (each-done starts_bound c.loop-row.row held.0 done) ∙ held.2) held.1

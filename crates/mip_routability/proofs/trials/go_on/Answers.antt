@@ -7,14 +7,14 @@ use Rattle.mip_rules_mobile.specs.Known.{Known}
 use Rattle.mip_rules_mobile.specs.RowQuestions.{trial_of}
 use Rattle.mip_rules_mobile.specs.Trials.{lacks_home, lacks_careof}
 use Rattle.mip_rules_mobile.specs.TrialRules.{waits, asks_home, asks_careof, asks_again, goes_on}
-use Rattle.mip_desk.specs.Seen.{Shows}
-use Rattle.mip_desk.proofs.Noted.{shows-known}
+use Rattle.mip_call_context.specs.Seen.{Shows}
+use Rattle.mip_call_context.proofs.Noted.{shows-known}
 use Rattle.mip_routability.proofs.trials.go_on.Goals as goal
 
 pub returns-in_ok-ask_again-in-Some-Probing : goal.returns-in_ok-ask_again-in-Some-Probing
 unfolding asks_again
 returns-in_ok-ask_again-in-Some-Probing c = λ t shows.
-    let d = c.args.desk.now in
+    let d = c.args.context.now in
     let u = c.in-Some-Probing.trial in
     let m = c.of-missing.result in
     let is : trial_of d.known c.args.row ≡ Some (Probing u) = search rules in

@@ -1,17 +1,17 @@
 use Rattle.std.proofs.Common.{sym, ◌∙◌, subst, OnOk}
-use Rattle.mip_rules_mobile.specs.Turns.{Turn}
-use Rattle.mip_desk.specs.Seen.{Shows}
-use Rattle.mip_desk.proofs.Noted.{shows-known}
+use Rattle.mip_rules_mobile.specs.Transitions.{Transition}
+use Rattle.mip_call_context.specs.Seen.{Shows}
+use Rattle.mip_call_context.proofs.Noted.{shows-known}
 use Rattle.mip_routability.proofs.RowShows.{resends-to, resends-nowhere}
 use Rattle.mip_routability.proofs.trials.resend_row.Goals as goal
 
 pub returns-in-Some : goal.returns-in-Some
 returns-in-Some c = λ t shows.
-    subst (λ (u : Turn). OnOk c.resend_to.result (Shows c.resend_to.new.desk u))
-    (resends-to c.args.row c.in-Some.peer t c.args.desk.now.known (shows-known c.args.desk.now t shows) (sym c.peer_of_row.ensures.peer ∙ c.in-Some.is))
+    subst (λ (u : Transition). OnOk c.resend_to.result (Shows c.resend_to.new.context u))
+    (resends-to c.args.row c.in-Some.peer t c.args.context.now.known (shows-known c.args.context.now t shows) (sym c.peer_of_row.ensures.peer ∙ c.in-Some.is))
     (c.resend_to.ensures t shows)
 
 pub returns-in-None : goal.returns-in-None
 returns-in-None c = λ t shows.
-    subst (λ (u : Turn). Shows c.args.desk.now u)
-    (resends-nowhere c.args.row t c.args.desk.now.known (shows-known c.args.desk.now t shows) (sym c.peer_of_row.ensures.peer ∙ c.in-None.is)) shows
+    subst (λ (u : Transition). Shows c.args.context.now u)
+    (resends-nowhere c.args.row t c.args.context.now.known (shows-known c.args.context.now t shows) (sym c.peer_of_row.ensures.peer ∙ c.in-None.is)) shows

@@ -6,19 +6,19 @@ use Rattle.mip_rules_mobile.specs.Steps.{Tries}
 use Rattle.mip_rules_mobile.specs.Timing.{doubled}
 use Rattle.mip_rules_mobile.specs.Trials.{Rest}
 use Rattle.mip_rules_mobile.specs.TrialRules.{goes_on}
-use Rattle.mip_rules_mobile.specs.Turns.{Turn, noted}
-use Rattle.mip_desk.specs.Seen.{Shows}
-use Rattle.mip_desk.proofs.Noted.{shows-known}
+use Rattle.mip_rules_mobile.specs.Transitions.{Transition, noted}
+use Rattle.mip_call_context.specs.Seen.{Shows}
+use Rattle.mip_call_context.proofs.Noted.{shows-known}
 use Rattle.mip_routability.proofs.trials.resend_to.Goals as goal
 
 pub returns : goal.returns
 returns c = λ t shows.
-    let d = c.args.desk.now in
+    let d = c.args.context.now in
     let row = c.args.row in
     let peer = c.args.peer in
     let wait : ℕ = wait_of_row d.known row in
     let other : (wait == 32000) ≡ false = search rules in
     let next : c.doubled.result ≡ doubled wait = c.doubled.ensures.value ∙ ap (λ (n : ℕ). doubled n) c.wait_of_row-wait.ensures in
-    subst (λ (b : Bool). OnOk c.go_on.result (Shows c.go_on.new.desk (let u : Turn = (if b then noted (Tries row Rest) t else goes_on (trial_of t.known row) row peer (doubled wait) t) in u))) (sym other)
-    (subst (λ (k : Known). OnOk c.go_on.result (Shows c.go_on.new.desk (goes_on (trial_of k row) row peer (doubled wait) t))) (sym (shows-known d t shows))
-    (subst (λ (n : ℕ). OnOk c.go_on.result (Shows c.go_on.new.desk (goes_on (trial_of d.known row) row peer n t))) next (c.go_on.ensures t shows)))
+    subst (λ (b : Bool). OnOk c.go_on.result (Shows c.go_on.new.context (let u : Transition = (if b then noted (Tries row Rest) t else goes_on (trial_of t.known row) row peer (doubled wait) t) in u))) (sym other)
+    (subst (λ (k : Known). OnOk c.go_on.result (Shows c.go_on.new.context (goes_on (trial_of k row) row peer (doubled wait) t))) (sym (shows-known d t shows))
+    (subst (λ (n : ℕ). OnOk c.go_on.result (Shows c.go_on.new.context (goes_on (trial_of d.known row) row peer n t))) next (c.go_on.ensures t shows)))

@@ -1,9 +1,9 @@
 use Rattle.std.proofs.Common.{◌≡◌, ℕ, List, ap, ◌∙◌, subst}
 use Rattle.std.specs.Prelude.{Result, Ok, Err, IfOk}
 use Rattle.mip_lines.specs.Cutting.{texts}
-use Rattle.mip_declared.specs.Places.{AreFew, NamesFound}
-use Rattle.mip_declared.specs.declared.declaration.Declaration.{Declaration}
-use Rattle.mip_declared.specs.declared.reason.Reason.{Reason}
+use Rattle.mip_symbols.specs.Places.{AreFew, NamesFound}
+use Rattle.mip_symbols.specs.declared.declaration.Declaration.{Declaration}
+use Rattle.mip_symbols.specs.declared.reason.Reason.{Reason}
 use Rattle.mip_rows.specs.Ranges.{IsRowOf}
 use Rattle.mip_rows.specs.Rows.{GivesRow, row_of}
 use Rattle.mip_rows.specs.declared.fault.RowFault.{RowFault}

@@ -2,9 +2,9 @@ use Rattle.std.proofs.Common.{◌∙◌, List, [], sym, ap, subst, arith}
 use Rattle.std.specs.Prelude.{Option, Some, None, Ok}
 use Rattle.mip_lines.specs.Cutting.{fields_of, rows_of}
 use Rattle.mip_schedule.specs.Declarings.{next_of, declared}
-use Rattle.mip_declared.specs.Places.{AreFew}
+use Rattle.mip_symbols.specs.Places.{AreFew}
 use Rattle.mip_schedule.specs.Reading.{declarations_of}
-use Rattle.mip_declared.specs.declared.declaration.Declaration.{Declaration}
+use Rattle.mip_symbols.specs.declared.declaration.Declaration.{Declaration}
 use Rattle.mip_schedule.proofs.FewLaws.{none_few, next_few}
 use Rattle.mip_schedule.proofs.Walking.{declared_step, declarations_end, goes_on, gives_fault, following}
 use Rattle.mip_schedule.proofs.declaration_lines.declarations_from.Goals as goal

@@ -1,6 +1,6 @@
 use Rattle.std.proofs.Common.{◌≡◌, ◌+◌, ◌≤◌, [], length}
 use Rattle.mip_lines.specs.Cutting.{rows_of}
-use Rattle.mip_declared.specs.Places.{AreFew}
+use Rattle.mip_symbols.specs.Places.{AreFew}
 use Rattle.mip_schedule.specs.Reading.{declarations_of}
 use Rattle.mip_schedule.proofs.declaration_lines.declarations_from.Given as goal
 

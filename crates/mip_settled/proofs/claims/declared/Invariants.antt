@@ -1,5 +1,5 @@
 use Rattle.std.proofs.Common.{◌≡◌, drop}
-use Rattle.mip_marks.specs.Lists.{first_some}
+use Rattle.mip_provenance.specs.Lists.{first_some}
 use Rattle.mip_history.specs.Questions.{claims, declared_in}
 use Rattle.mip_settled.proofs.claims.declared.Given as goal
 

@@ -1,8 +1,8 @@
 use Rattle.std.proofs.Common.{◌≡◌, subst}
 use Rattle.std.specs.Prelude.{ℕ, List, Result, Ok, Err, IfOk}
 use Rattle.mip_lines.specs.Cutting.{rows_of}
-use Rattle.mip_declared.specs.Places.{AreFew, NamesFound}
-use Rattle.mip_declared.specs.declared.declaration.Declaration.{Declaration}
+use Rattle.mip_symbols.specs.Places.{AreFew, NamesFound}
+use Rattle.mip_symbols.specs.declared.declaration.Declaration.{Declaration}
 use Rattle.mip_entries.specs.declared.entry.Entry.{Entry}
 use Rattle.mip_trace.specs.Faults.{GivesText, OnBad}
 use Rattle.mip_trace.specs.Ranges.{IsTraceOf, IsFirstBad}

@@ -10,7 +10,7 @@ use Rattle.mip_rules_correspondent.specs.Rules.{by_message}
 use Rattle.mip_rules_correspondent.specs.Doing.{parts}
 use Rattle.mip_rules_correspondent.specs.Calls as calls
 use Rattle.mip_rules_correspondent.specs.declared.known.Known.{Known}
-use Rattle.mip_rules_correspondent.specs.Turns.{Stands, with_turn}
+use Rattle.mip_rules_correspondent.specs.Transitions.{Stands, with_turn}
 use Rattle.mip_rules_correspondent.specs.Seen.{CorrespondentSeen, turn_at}
 use Rattle.mip_rules_correspondent.proofs.Calls.{call-stands}
 use Rattle.mip_rules_correspondent.proofs.Refusals.{refused-call}

@@ -2,7 +2,7 @@ use Rattle.std.proofs.Common.{◌≡◌, ℕ, ap, sym, subst, ◌∙◌}
 use Rattle.mip_bcache.specs.Seen.{CacheSeen, expired}
 use Rattle.mip_rules_correspondent.specs.Calls as calls
 use Rattle.mip_rules_correspondent.specs.declared.known.Known.{Known}
-use Rattle.mip_rules_correspondent.specs.Turns.{Stands, with_turn}
+use Rattle.mip_rules_correspondent.specs.Transitions.{Stands, with_turn}
 use Rattle.mip_rules_correspondent.specs.Seen.{CorrespondentSeen, turn_at}
 use Rattle.mip_rules_correspondent.proofs.Calls.{call-stands}
 use Rattle.mip_correspondent.specs.Soundness.{IsSound}

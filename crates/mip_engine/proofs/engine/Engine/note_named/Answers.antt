@@ -2,7 +2,7 @@ use Rattle.std.proofs.Common.{◌≡◌, ◌∙◌, ◌∷◌, sym, ap, subst, L
 use Rattle.mip_entries.specs.Completed.{named}
 use Rattle.mip_entries.specs.declared.entry.Entry.{Entry}
 use Rattle.mip_links.specs.Table.{Post}
-use Rattle.mip_marks.specs.Entries.{update_accepted}
+use Rattle.mip_provenance.specs.Entries.{update_accepted}
 use Rattle.mip_history.specs.Nodes.{left_by, marks_of, marked}
 use Rattle.mip_engine.specs.Engines.{with_entries}
 use Rattle.mip_engine.specs.Quiet.{IsQuiet}

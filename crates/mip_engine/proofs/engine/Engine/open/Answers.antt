@@ -1,9 +1,9 @@
 use Rattle.std.proofs.Common.{◌≡◌, ℕ, List, length, map, sym, ap, ◌∙◌, subst, arith}
 use Rattle.mip_words.specs.declared.prefix.Prefix.{Prefix}
-use Rattle.mip_declared.specs.Places.{AreFew}
+use Rattle.mip_symbols.specs.Places.{AreFew}
 use Rattle.mip_schedule.specs.Schedules.{content}
 use Rattle.mip_schedule.specs.Versions.{numbers_of_version}
-use Rattle.mip_declared.specs.declared.declaration.Declaration.{Declaration}
+use Rattle.mip_symbols.specs.declared.declaration.Declaration.{Declaration}
 use Rattle.mip_history.specs.Setup.{Host, setup_of, links_in, hosts_in, outsiders_in}
 use Rattle.mip_engine.specs.Engines.{EngineSeen, new_engine}
 use Rattle.mip_engine.specs.Joining.{ArePlaced}

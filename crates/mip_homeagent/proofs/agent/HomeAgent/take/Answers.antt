@@ -6,7 +6,7 @@ use Rattle.mip_ipv6.specs.Reading.{packet_of}
 use Rattle.mip_rules_agent.specs.Known.{Known}
 use Rattle.mip_rules_agent.specs.Calls as calls
 use Rattle.mip_rules_agent.specs.Calls.{Call, claim_for}
-use Rattle.mip_rules_agent.specs.Turns.{Stands, with_turn}
+use Rattle.mip_rules_agent.specs.Transitions.{Stands, with_turn}
 use Rattle.mip_rules_agent.specs.Rules.{receives}
 use Rattle.mip_rules_agent.specs.Doing.{handing}
 use Rattle.mip_rules_agent.specs.Seen.{AgentSeen, turn_at}

@@ -2,7 +2,7 @@ use Rattle.std.proofs.Common.{List, ap, sym, subst, ◌∙◌}
 use Rattle.mip_rules_agent.specs.Known.{Known}
 use Rattle.mip_rules_agent.specs.Calls as calls
 use Rattle.mip_rules_agent.specs.Calls.{Call}
-use Rattle.mip_rules_agent.specs.Turns.{Stands, with_turn}
+use Rattle.mip_rules_agent.specs.Transitions.{Stands, with_turn}
 use Rattle.mip_rules_agent.specs.Seen.{AgentSeen, turn_at}
 use Rattle.mip_rules_agent.proofs.Calls.{call-stands}
 use Rattle.mip_rules_agent.proofs.Moments.{call-last}

@@ -1,0 +1,177 @@
+//! The steps of a call that leave an entry.
+
+ghost use Rattle.std.specs.Prelude.{◌≡◌, ◌==◌, if◌then◌else◌, ◌+◌, ◌%◌, ◌<◌, ◌≤◌, ◌^◌, OnOk};
+ghost use Rattle.mip_rules_mobile.specs.HomeQuestions.{places_after, standing_at};
+ghost use Rattle.mip_rules_mobile.specs.Steps.{Arrives, Chooses, Claims, Drops, FindsTaken, IsRefused, Learns, Notes, Releases, Unregisters, Unsends};
+ghost use Rattle.mip_rules_mobile.specs.Transitions.{Transition, noted};
+ghost use Rattle.mip_call_context.specs.Seen.{Shows};
+
+use crate::call_context::{CallContext, MYSELF, SOME_LINK};
+use mip_entries::{Answer, Entry};
+use mip_rules_mobile::Attachment;
+use mip_words::{Address, Memory, Why};
+
+impl CallContext {
+    /// It claims an address.
+    pub fn claim(&mut self, address: Address) -> Result<(), Memory>
+        ensures { (t : Transition) → Shows self.old t → OnOk result (Shows self.new (noted (Claims address) t)) }
+    {
+        self.answers.push(Answer::Note(Entry::Claimed {
+            who: 0,
+            link: SOME_LINK,
+            address,
+        }))?;
+        Ok(())
+    }
+
+    /// It gives an address up.
+    pub fn release(&mut self, address: Address) -> Result<(), Memory>
+        ensures { (t : Transition) → Shows self.old t → OnOk result (Shows self.new (noted (Releases address) t)) }
+    {
+        self.answers.push(Answer::Note(Entry::Released {
+            who: 0,
+            link: SOME_LINK,
+            address,
+        }))?;
+        Ok(())
+    }
+
+    /// Its agent refuses.
+    pub fn refused(&mut self, status: u8) -> Result<(), Memory>
+        ensures shows { (t : Transition) → Shows self.old t → OnOk result (Shows self.new (noted (IsRefused status) t)) }
+        ensures same { OnOk result (self.new.known ≡ self.old.known) }
+    {
+        self.answers.push(Answer::Note(Entry::Refused {
+            node: MYSELF,
+            status,
+        }))?;
+        Ok(())
+    }
+
+    /// It learns how long its home prefix is valid and preferred.
+    pub fn learn(&mut self, valid: u32, preferred: u32) -> Result<(), Memory>
+        ensures { (t : Transition) → Shows self.old t → OnOk result (Shows self.new (noted (Learns valid preferred) t)) }
+    {
+        self.answers.push(Answer::Note(Entry::Prefixes {
+            node: MYSELF,
+            valid,
+            preferred,
+        }))?;
+        Ok(())
+    }
+
+    /// It can't send.
+    pub fn unsend(&mut self, why: Why) -> Result<(), Memory>
+        ensures { (t : Transition) → Shows self.old t → OnOk result (Shows self.new (noted (Unsends why) t)) }
+    {
+        self.answers
+            .push(Answer::Note(Entry::Unsent { node: MYSELF, why }))?;
+        Ok(())
+    }
+
+    /// It drops a packet.
+    pub fn drop_packet(&mut self, number: u64, why: Why) -> Result<(), Memory>
+        ensures { (t : Transition) → Shows self.old t → OnOk result (Shows self.new (noted (Drops number why) t)) }
+    {
+        self.answers.push(Answer::Note(Entry::Dropped {
+            node: MYSELF,
+            number,
+            why,
+        }))?;
+        Ok(())
+    }
+
+    /// Its registration ends.
+    pub fn unregister(&mut self, agent: Address) -> Result<(), Memory>
+        ensures { (t : Transition) → Shows self.old t → OnOk result (Shows self.new (noted (Unregisters agent) t)) }
+    {
+        self.answers.push(Answer::Note(Entry::Unregistered {
+            node: MYSELF,
+            agent,
+        }))?;
+        self.known.registered = None;
+        self.known.owes = false;
+        Ok(())
+    }
+
+    /// It turns to an agent.
+    pub fn choose(&mut self, agent: Address) -> Result<(), Memory>
+        requires { self.old.known.tried + 1 < 2 ^ 64 }
+        ensures { (t : Transition) → Shows self.old t → OnOk result (Shows self.new (noted (Chooses agent) t)) }
+    {
+        self.answers.push(Answer::Note(Entry::Chosen {
+            node: MYSELF,
+            agent,
+        }))?;
+        self.known.chosen = Some(agent);
+        self.known.tried += 1;
+        Ok(())
+    }
+
+    /// It leaves an entry of its correspondent part.
+    pub fn note_entry(&mut self, entry: Entry) -> Result<(), Memory>
+        ensures { (t : Transition) → Shows self.old t → OnOk result (Shows self.new (noted (Notes entry) t)) }
+    {
+        self.answers.push(Answer::Note(entry))?;
+        Ok(())
+    }
+
+    /// It uses an address.
+    pub fn arrive(&mut self, address: Address) -> Result<(), Memory>
+        ensures { (t : Transition) → Shows self.old t → OnOk result (Shows self.new (noted (Arrives address) t)) }
+    {
+        self.answers.push(Answer::Note(Entry::Careof {
+            node: MYSELF,
+            address,
+        }))?;
+        self.known.places = self.places_after(address);
+        self.known.standing = standing_at(self.known.home, address);
+        self.known.registered = None;
+        Ok(())
+    }
+
+    /// How many places it came to, with this address behind them, counted modulo the numbers that a binding may have.
+    fn places_after(&self, address: Address) -> u8
+        ensures { result ≡ places_after self.now.known (Arrives address) }
+    {
+        if address.0 == self.known.home.0 {
+            self.known.places
+        } else {
+            next_place(self.known.places, self.known.part.numbers())
+        }
+    }
+
+    /// It finds an address taken.
+    pub fn find_taken(&mut self, address: Address, holder: u8) -> Result<(), Memory>
+        ensures { (t : Transition) → Shows self.old t → OnOk result (Shows self.new (noted (FindsTaken address holder) t)) }
+    {
+        self.answers.push(Answer::Note(Entry::Taken {
+            who: 0,
+            link: SOME_LINK,
+            address,
+            holder,
+        }))?;
+        self.known.standing = Attachment::Detached;
+        self.known.registered = None;
+        Ok(())
+    }
+}
+
+/// The place behind one, counted modulo so many.
+fn next_place(place: u8, numbers: u8) -> u8
+    requires { 1 ≤ numbers }
+    ensures { result ≡ (place + 1) % numbers }
+{
+    ((u16::from(place) + 1) % u16::from(numbers)) as u8
+}
+
+/// At home, or away.
+fn standing_at(home: Address, address: Address) -> Attachment
+    ensures { result ≡ standing_at home address }
+{
+    if address.0 == home.0 {
+        Attachment::AtHome
+    } else {
+        Attachment::Away { careof: address }
+    }
+}

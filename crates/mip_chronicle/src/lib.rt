@@ -1,7 +1,0 @@
-//! A history as it goes on, and the marks of its acceptances, each looked up in indexes that go along.
-#![tactic(auto)]
-
-mod chronicle;
-mod packets;
-
-pub use chronicle::Chronicle;

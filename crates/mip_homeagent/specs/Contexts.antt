@@ -1,0 +1,23 @@
+-- A packet that is handed over, as the rules see it.
+use Rattle.mip_ipv6.specs.declared.head.Head.{Head}
+use Rattle.mip_ipv6.specs.Packet.{source_of}
+use Rattle.mip_outside.specs.declared.claim.Claim.{Claim}
+use Rattle.mip_outside.specs.Places.{Around, claim_in}
+use Rattle.mip_rules_agent.specs.Rules.{Handing}
+use Rattle.mip_homeagent.specs.declared.packet_context.PacketContext.{PacketContext}
+use Rattle.mip_homeagent.specs.Showing.{opened}
+
+abbrev pub handing_at : PacketContext → Claim → Handing
+handing_at d claim = record {
+  me = d.identity.now;
+  now = d.moment.0;
+  known = opened d.moment.0 d.known.now;
+  number = d.number;
+  shield = d.shield;
+  bytes = d.bytes.now;
+  claim = claim;
+}
+
+-- what a place answers to a claim of the home address of a packet
+abbrev pub claim_of : Around → Head → Claim
+claim_of around head = claim_in around (source_of head).0

@@ -1,5 +1,0 @@
-use Rattle.mip_marks.proofs.Originating.{origin_stands}
-use Rattle.mip_marks.proofs.laws.unforged_has_its_origin.Goals as goal
-
-pub returns : goal.returns
-returns c = origin_stands

@@ -1,0 +1,65 @@
+ghost use Rattle.std.specs.Prelude.{◌≡◌, option_map};
+ghost use Rattle.mip_provenance.specs.Lists.{if_passes};
+ghost use Rattle.mip_provenance.specs.Pairs.{alone, both};
+ghost use Rattle.mip_provenance.specs.Keys.{kbm_of_tokens};
+ghost use Rattle.mip_provenance.specs.Seen.{pair_of, gives_it};
+
+use crate::pair::Pair;
+use mip_inspection::UpdateIdentity;
+use mip_tokens::{Kbm, PreparedKbm, authenticator};
+use mip_words::{Address, Token};
+
+/// An update with its authenticator, as the node that accepted it checked it.
+#[derive(Clone, Copy)]
+pub struct Signed<'a> {
+    /// The address of the node.
+    pub own: Address,
+    /// The care-of address that was bound; the home address where the binding ended.
+    pub careof: Address,
+    pub key: UpdateIdentity<'a>,
+}
+
+/// The key that a pair gives.
+fn kbm(pair: &Pair) -> Kbm
+    ensures { result.0 ≡ kbm_of_tokens pair.now.home.0 (option_map (λ t. t.0) pair.now.careof) }
+{
+    match pair.careof {
+        Some(careof) => Kbm::both(pair.home, careof),
+        None => Kbm::home(pair.home),
+    }
+}
+
+impl Signed<'_> {
+    /// The pair gives the authenticator.
+    #[tactic(auto, unfolding(mip_tokens::specs::Token::authenticator_of))]
+    pub fn is_by(&self, pair: &Pair) -> bool
+        ensures { result ≡ gives_it self.now (pair_of pair.now) }
+    {
+        let kbm = PreparedKbm::new(kbm(pair));
+        authenticator(&kbm, self.careof, self.own, self.key.body) == self.key.authenticator
+    }
+
+    /// The home token alone, where it gives the authenticator.
+    pub fn alone(&self, home: Token) -> Option<Pair>
+        ensures { option_map pair_of result ≡ if_passes (gives_it self.now) (alone home.0) }
+    {
+        self.if_by(Pair { home, careof: None })
+    }
+
+    /// Both tokens, where they give the authenticator.
+    pub fn both(&self, home: Token, careof: Token) -> Option<Pair>
+        ensures { option_map pair_of result ≡ if_passes (gives_it self.now) (both home.0 careof.0) }
+    {
+        self.if_by(Pair {
+            home,
+            careof: Some(careof),
+        })
+    }
+
+    /// A pair where it gives the authenticator.
+    pub fn if_by(&self, pair: Pair) -> Option<Pair>
+        ensures { option_map pair_of result ≡ if_passes (gives_it self.now) (pair_of pair) }
+    {
+        if self.is_by(&pair) { Some(pair) } else { None }
+    }
+}

@@ -1,0 +1,28 @@
+//! The packets of a history.
+
+ghost use Rattle.std.specs.Prelude.{◌≡◌, is_some, option_map};
+ghost use Rattle.mip_provenance_index.specs.Stands.{number_posted};
+ghost use Rattle.mip_recorder.specs.Packets.{heard_at};
+
+use mip_entries::Entry;
+use mip_words::Token;
+
+/// Whether an entry posts a packet.
+pub fn is_posting(entry: &Entry) -> bool
+    ensures { result ≡ is_some (number_posted entry.now) }
+{
+    matches!(entry, Entry::Sent { .. } | Entry::Injected { .. })
+}
+
+/// The token of the packet that an entry says was heard, where it is a test.
+pub fn heard(tokens: &[Option<Token>], entry: &Entry) -> Option<Token>
+    ensures { option_map (λ t. t.0) result ≡ heard_at tokens.now entry.now }
+{
+    match entry {
+        Entry::Heard { number, .. } => match tokens.get(*number as usize) {
+            Some(token) => *token,
+            None => None,
+        },
+        _ => None,
+    }
+}

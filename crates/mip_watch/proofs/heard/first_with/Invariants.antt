@@ -1,9 +1,0 @@
-use Rattle.std.proofs.Common.{◌≡◌, drop}
-use Rattle.mip_marks.specs.Pairs.{first_with}
-use Rattle.mip_marks.specs.Seen.{gives_it}
-use Rattle.mip_watch.specs.Heard.{heard_by}
-use Rattle.mip_watch.proofs.heard.first_with.Given as goal
-
-abbrev pub invariant-loop-arrival : goal.invariant-loop-arrival
-invariant-loop-arrival l =
-    first_with (gives_it l.signed) (heard_by l.by (drop l.arrival-index l.arrivals)) l.home.0 ≡ first_with (gives_it l.signed) (heard_by l.by l.arrivals) l.home.0
