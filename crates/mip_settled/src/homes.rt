@@ -37,7 +37,7 @@ fn registration_said(entry: &Entry, agent: u8, home: Address) -> Option<Option<H
 }
 
 /// The last registration of a home at an agent, or its end.
-fn registration(history: &[Entry], agent: u8, home: Address) -> Option<HomeBinding>
+pub fn registration(history: &[Entry], agent: u8, home: Address) -> Option<HomeBinding>
     ensures { result ≡ last_registration history.now agent home }
 {
     let mut registration = None;

@@ -69,7 +69,7 @@ fn registration_said(entry: &Entry, node: NodeId) -> Option<Option<Registered>>
 }
 
 /// The registration of a mobile, whether or not its end has come.
-fn registration(history: &[Entry], node: NodeId) -> Option<Registered>
+pub fn registration(history: &[Entry], node: NodeId) -> Option<Registered>
     ensures { result ≡ asked (registration_told node.0) None history.now }
 {
     let mut registration = None;
@@ -127,7 +127,7 @@ fn binding_said(entry: &Entry, node: NodeId, peer: Address) -> Option<Option<Mom
 }
 
 /// The end of a mobile's binding with a peer, whether or not it has come.
-fn binding(history: &[Entry], node: NodeId, peer: Address) -> Option<Moment>
+pub fn binding(history: &[Entry], node: NodeId, peer: Address) -> Option<Moment>
     ensures { result ≡ asked (binding_told node.0 peer) None history.now }
 {
     let mut binding = None;
