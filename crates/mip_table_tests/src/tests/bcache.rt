@@ -93,17 +93,6 @@ fn ends_of_three(alloc: Global) -> Option<(u32, bool, u32, bool)> {
     Some((early, is_room, late, is_taken(&mut cache, 240_000, 4)))
 }
 
-// Whether ended rows make room by themselves, and the rows that are then left.
-fn room_of_ended_rows(alloc: Global) -> Option<(bool, Option<u128>, Option<u128>)> {
-    let mut cache = three_homes(alloc)?;
-    let is_room = is_taken(&mut cache, 240_000, 4);
-    Some((
-        is_room,
-        home_at(&cache, 240_000, 0),
-        home_at(&cache, 240_000, 1),
-    ))
-}
-
 // Whether a binding of home 1 is taken.
 fn is_bound(cache: &mut Cache, now: u64, number: u8, careof: u128, sequence: u16, end: u64) -> bool
     requires later { cache.old.last ≤ now }
@@ -173,38 +162,11 @@ fn row_at(cache: &Cache, now: u64, place: u32) -> Option<(u8, u128, u64)>
     Some((row.number, row.careof.0, row.kept_until.0))
 }
 
-// The last two of three rows.
-fn last_rows(alloc: Global) -> Option<[Option<(u8, u128, u64)>; 2]> {
-    let cache = three_bindings(alloc)?;
-    Some([row_at(&cache, 0, 1), row_at(&cache, 0, 2)])
-}
-
-// The rows after number 1 is bound anew.
-fn rows_of_a_number_again(alloc: Global) -> Option<[Option<(u8, u128, u64)>; 2]> {
-    let mut cache = three_bindings(alloc)?;
-    is_bound(&mut cache, 0, 1, 13, 2, 50_000);
-    Some([row_at(&cache, 0, 1), row_at(&cache, 0, 3)])
-}
-
 // The rows after a deletion.
 fn rows_of_a_deletion(alloc: Global) -> Option<[Option<(u8, u128, u64)>; 2]> {
     let mut cache = three_bindings(alloc)?;
     is_bound(&mut cache, 0, 0, 1, 3, 0);
     Some([row_at(&cache, 0, 0), row_at(&cache, 0, 1)])
-}
-
-// The rows after number 5 is bound when no sequence is kept any more.
-fn rows_after_the_floor(alloc: Global) -> Option<[Option<(u8, u128, u64)>; 2]> {
-    let mut cache = three_bindings(alloc)?;
-    is_bound(&mut cache, 500_000, 5, 15, 4, 510_000);
-    Some([row_at(&cache, 500_000, 0), row_at(&cache, 500_000, 1)])
-}
-
-// How many rows are given up a millisecond before the home's sequence ends, and as it does.
-fn rows_given_up(alloc: Global) -> Option<(u32, u32)> {
-    let mut cache = three_bindings(alloc)?;
-    let early = expired(&mut cache, 499_999);
-    Some((early, expired(&mut cache, 500_000)))
 }
 
 #[test]
@@ -221,23 +183,10 @@ fn room_comes_back_when_rows_end(rt: HostRuntime) {
 }
 
 #[test]
-fn ended_rows_make_room_by_themselves(rt: HostRuntime) {
-    assert_eq!(rt; room_of_ended_rows(rt.alloc()), Some((true, Some(4), None)));
-}
-
-#[test]
 fn the_last_binding_that_stands_is_held(rt: HostRuntime) {
     assert_eq!(rt;
         held_at(rt.alloc(), 39_999),
         Some((Some(12), Some(11), true))
-    );
-}
-
-#[test]
-fn an_earlier_binding_is_held_when_the_last_ends(rt: HostRuntime) {
-    assert_eq!(rt;
-        held_at(rt.alloc(), 40_000),
-        Some((Some(11), Some(11), false))
     );
 }
 
@@ -247,43 +196,9 @@ fn a_sequence_is_kept_to_the_end_of_every_binding(rt: HostRuntime) {
 }
 
 #[test]
-fn a_sequence_ends_with_the_last_binding(rt: HostRuntime) {
-    assert_eq!(rt; floor_at(rt.alloc(), 500_000), Some((None, true)));
-}
-
-#[test]
-fn rows_of_a_home_stand_in_order_of_number(rt: HostRuntime) {
-    assert_eq!(rt;
-        last_rows(rt.alloc()),
-        Some([Some((1, 11, 500_000)), Some((2, 12, 500_000))])
-    );
-}
-
-#[test]
-fn a_number_has_one_row(rt: HostRuntime) {
-    assert_eq!(rt;
-        rows_of_a_number_again(rt.alloc()),
-        Some([Some((1, 13, 240_000)), None])
-    );
-}
-
-#[test]
 fn a_deletion_ends_all_numbers(rt: HostRuntime) {
     assert_eq!(rt;
         rows_of_a_deletion(rt.alloc()),
         Some([Some((0, 1, 240_000)), None])
     );
-}
-
-#[test]
-fn rows_end_with_the_sequence_of_their_home(rt: HostRuntime) {
-    assert_eq!(rt;
-        rows_after_the_floor(rt.alloc()),
-        Some([Some((5, 15, 740_000)), None])
-    );
-}
-
-#[test]
-fn rows_are_counted_when_a_home_is_given_up(rt: HostRuntime) {
-    assert_eq!(rt; rows_given_up(rt.alloc()), Some((0, 3)));
 }
