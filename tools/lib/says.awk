@@ -56,7 +56,7 @@ function says_of_node(word) {
     if (word == "unsent") return "cannot send, " $3
     if (word == "restarted") return "restarts, and has lost what it kept"
     if (word == "row") return "row " familiar($3) " is at " familiar($5) under($4) ", sequence " $6 ", until " $7 " ms, kept until " $8 " ms"
-    if (word == "settled") return "with " $3 ", data can be exchanged, " $4
+    if (word == "settled") return ($4 == "yes" ? "can" : "cannot") " exchange data with " $3
     return ""
 }
 
