@@ -9,6 +9,7 @@ BEGIN {
     stranger = "20010db8000200000000000000000bad"
     head()
     if (flood == "forged_updates") forged_updates()
+    else if (flood == "full_cache") full_cache()
     else if (flood == "test_inits") test_inits()
     else if (flood == "home_options") home_options()
     else if (flood == "bare_registrations") at_the_agent(packet(60, careof, agent, "870201020000c910" own "3b0305006da00001c00003840100031020010db8000300000000000000000077"))
@@ -77,17 +78,30 @@ function binds() {
     print "data c " own " 253 aa\ncarry 10"
 }
 
-# 64 homes are bound honestly. Then come updates for them, each with the token of another home.
-function forged_updates(    i) {
+# So many homes get their tests, and 64 of them are bound honestly.
+function bind_homes(homes,    i) {
     print "listen o n2"
-    for (i = 0; i < 64; i++) print "probe o n2 home " home(i) " " peer " 0102030405060708"
+    for (i = 0; i < homes; i++) print "probe o n2 home " home(i) " " peer " 0102030405060708"
     print "probe o n2 careof " other() " " peer " 0102030405060708"
-    carry(130)
-    for (i = 0; i < 64; i++) bind(i, 65 + i, 1)
+    carry(2 * homes + 2)
+    for (i = 0; i < 64; i++) bind(i, homes + 1 + i, 2 * homes + 1, 1)
     carry(128)
     print "show c"
-    for (i = 0; i < count; i++) bind(i % 64, 65 + (i + 1) % 64, 2)
+}
+
+# Updates come for bound homes, each with the token of another home.
+function forged_updates(    i) {
+    bind_homes(64)
+    for (i = 0; i < count; i++) bind(i % 64, 65 + (i + 1) % 64, 129, 2)
     carry(count)
+    print "show c"
+}
+
+# Updates come for one home more than the cache has room for, with its own tokens.
+function full_cache(    i) {
+    bind_homes(65)
+    for (i = 0; i < count; i++) bind(64, 130, 131, 1)
+    carry(2 * count)
     print "show c"
 }
 
@@ -95,7 +109,7 @@ function home(i) { return "20010db80001000000000000000100" hex(i, 2) }
 
 function other() { return "20010db8000200000000000000000099" }
 
-function bind(i, test, sequence) { print "bind o n2 " other() " " peer " " home(i) " " other() " " sequence " 105 " test " 129" }
+function bind(i, home_test, careof_test, sequence) { print "bind o n2 " other() " " peer " " home(i) " " other() " " sequence " 105 " home_test " " careof_test }
 
 # Test inits come from as many addresses, one half of each kind. The tests go to nobody.
 function test_inits(    i) {
