@@ -1,6 +1,6 @@
 -- What is recalled of a home along the entries of a node, so that its last sequence and the binding of one number are found: what
 -- ends when a binding comes, and for how long the sequence is kept. RFC 6275 section 9.5.1, with several bindings for one home
-use Rattle.std.specs.Prelude.{◌≡◌, ⊤, ⊥, ℕ, ◌+◌, List, [], fold, Bool, false, not, ◌&&◌, ◌||◌, ◌==◌, nat_lt, if◌then◌else◌, Option, Some, None, option_map, is_some}
+use Rattle.std.specs.Prelude.{◌≡◌, ⊤, ℕ, ◌+◌, List, [], fold, Bool, false, not, ◌&&◌, ◌||◌, ◌==◌, nat_lt, if◌then◌else◌, Option, Some, None, option_map, is_some}
 use Rattle.mip_constants.specs.Constants.{max_nonce_lifetime}
 use Rattle.mip_words.specs.declared.address.Address.{Address}
 use Rattle.mip_lists.specs.Last.{last_where}
@@ -111,6 +111,16 @@ pub record Recalls (home number : ℕ) (l : Lived) (r : Recall) : Type 0 where
   pub at : r.at.0 ≡ l.at
   pub kept : AreKept home number (home_after home l.accepted) r.kept
 
+-- the sequence, while it is kept
+abbrev pub floor_kept : (now : ℕ) → (held : Option ℕ) → Option Kept → Option ℕ
+floor_kept now held None = None
+floor_kept now held (Some kept) = if lasts now held kept then Some kept.sequence else None
+
 -- the care-of address of a binding, where it stands
-abbrev pub standing_careof : (now home : ℕ) → Made → Option Address
-standing_careof now home made = if not (made.careof.0 == home) && nat_lt now made.end.0 then Some made.careof else None
+abbrev pub under_standing : (now home : ℕ) → Option Made → Option Address
+under_standing now home None = None
+under_standing now home (Some made) = if not (made.careof.0 == home) && nat_lt now made.end.0 then Some made.careof else None
+
+abbrev pub under_kept : (now home : ℕ) → Option Kept → Option Address
+under_kept now home None = None
+under_kept now home (Some kept) = under_standing now home kept.under

@@ -4,20 +4,33 @@ ghost use Rattle.std.specs.Prelude.{◌≡◌, option_map};
 ghost use Rattle.mip_binding.specs.Held.{held, held_under, floor};
 ghost use Rattle.mip_history.specs.Questions.{moment_in};
 ghost use Rattle.mip_history.specs.Bound.{accepted_by};
-ghost use Rattle.mip_past.specs.Recalling.{standing_careof};
+ghost use Rattle.mip_past.specs.Recalling.{under_kept, floor_kept};
 
-use crate::made::Made;
+use crate::kept::Kept;
 use crate::past::Past;
 use crate::recalls::{lasts, recall};
 use mip_settled::held;
 use mip_words::{Address, Moment, NodeId};
 
-/// The care-of address of a binding, where it stands.
-fn standing_careof(now: Moment, home: Address, made: Made) -> Option<Address>
-    ensures { result ≡ standing_careof now.0 home.0 made }
+/// The care-of address of the binding of the number, where it stands.
+fn under_kept(now: Moment, home: Address, kept: Option<Kept>) -> Option<Address>
+    ensures { result ≡ under_kept now.0 home.0 kept }
 {
+    let made = kept?.under?;
     if made.careof.0 != home.0 && now.0 < made.end.0 {
         Some(made.careof)
+    } else {
+        None
+    }
+}
+
+/// The sequence, while it is kept.
+fn floor_kept(past: &Past<'_>, now: Moment, node: NodeId, home: Address, kept: Option<Kept>) -> Option<u16>
+    ensures { result ≡ floor_kept now.0 (held (accepted_by past.now.start.0 past.now.entries.now node.0) home.0 now.0) kept }
+{
+    let kept = kept?;
+    if lasts(past.entries, past.start, now, node, home, kept) {
+        Some(kept.sequence)
     } else {
         None
     }
@@ -35,26 +48,15 @@ impl Past<'_> {
     pub fn held_under(&self, node: NodeId, home: Address, number: u8) -> Option<Address>
         ensures { option_map (λ a. a.0) result ≡ held_under (accepted_by self.now.start.0 self.now.entries.now node.0) home.0 number (moment_in self.now.start.0 self.now.entries.now) }
     {
-        let kept = recall(self.entries, self.start, node, home, number).kept?;
-        standing_careof(self.moment(), home, kept.under?)
+        let recall = recall(self.entries, self.start, node, home, number);
+        under_kept(self.moment(), home, recall.kept)
     }
 
     /// The sequence that an update of a home has to come after, while one is kept.
     pub fn floor(&self, node: NodeId, home: Address) -> Option<u16>
         ensures { result ≡ floor (accepted_by self.now.start.0 self.now.entries.now node.0) home.0 (moment_in self.now.start.0 self.now.entries.now) }
     {
-        let kept = recall(self.entries, self.start, node, home, 0).kept?;
-        if lasts(
-            self.entries,
-            self.start,
-            self.moment(),
-            node,
-            home,
-            kept,
-        ) {
-            Some(kept.sequence)
-        } else {
-            None
-        }
+        let recall = recall(self.entries, self.start, node, home, 0);
+        floor_kept(self, self.moment(), node, home, recall.kept)
     }
 }

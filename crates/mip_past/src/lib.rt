@@ -5,10 +5,15 @@ mod addresses;
 mod agents;
 mod keepers;
 mod kept;
+mod laws;
 mod made;
 mod mobiles;
 mod past;
 mod recall;
 mod recalls;
 
+pub use laws::{
+    agents_are_as_asked, answers_have_their_update, keepers_are_as_asked, mobiles_are_as_asked,
+    one_holder_is_found, places_are_fronts,
+};
 pub use past::Past;
