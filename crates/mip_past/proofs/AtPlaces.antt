@@ -23,13 +23,13 @@ use Rattle.mip_history.specs.Knowing.{known_in, now_in, agent_known_in, mobile_k
 use Rattle.mip_history.specs.Permitted.{run_of, opening_claims, permitted}
 use Rattle.mip_history.specs.Claims.{is_free_for}
 use Rattle.mip_history.specs.Bound.{held_in, held_under_in, floor_in, IsBound, IsBoundUnder}
-use Rattle.mip_history.specs.Registered.{is_agent_host, registered_in, last_registration}
+use Rattle.mip_history.specs.Registered.{is_agent_host, is_agent_at, registered_in, last_registration, IsRegistered}
 use Rattle.mip_history.specs.Told.{agent_in, is_bound_in, careof_in}
 use Rattle.mip_history.specs.Settled.{any_below, any_node}
 use Rattle.mip_history.specs.Found.{address_of}
 use Rattle.mip_history.proofs.Fronts.{front_of_run}
 use Rattle.mip_history.proofs.Histories.{run_held, run_floor, part_held, part_floor, permitted_held, permitted_under, permitted_claimed, permitted_released, permitted_taken}
-use Rattle.mip_history.proofs.Registrations.{run_careof, run_kept}
+use Rattle.mip_history.proofs.Registrations.{run_careof, run_kept, permitted_registered}
 use Rattle.mip_settled.proofs.AnyNode.{node_here}
 use Rattle.mip_settled.proofs.AsTold.{found_as_told, registered_as_told, bound_as_told}
 use Rattle.mip_settled.proofs.Declared.{declared_of_run}
@@ -194,3 +194,15 @@ module _ (c : Content) (place : ℕ) where
   pub under_at : (n home number careof : ℕ) → held_under_in (setup_of c) (take place (permitted c)) n home number ≡ Some careof
       → IsBoundUnder (setup_of c) (take place (permitted c)) n home number careof
   under_at n home number careof is = permitted_under c (take place (permitted c)) (drop place (permitted c)) n home number careof (sym (take-append-drop place (permitted c))) is
+
+-- the schedule of the first k events has the history that lies before their place
+abbrev first_events : Content → ℕ → Content
+first_events c k = record { version = c.version; seed = c.seed; start = c.start; declarations = c.declarations; events = take k c.events }
+
+pub registered_at : (c : Content) (k n : ℕ) (home careof : Address) → is_agent_at (setup_of c) n ≡ true → registered_in (setup_of c) (front_at (setup_of c) c.events k) n home ≡ Some careof
+    → IsRegistered (setup_of c) (front_at (setup_of c) c.events k) n home careof
+unfolding permitted
+registered_at c k n home careof mine is =
+    let same : front_at (setup_of c) c.events k ≡ permitted (first_events c k) = front_is (setup_of c) c.events k in
+    subst (λ (past : List Entry). IsRegistered (setup_of c) past n home careof) (sym same)
+    (permitted_registered (first_events c k) n home careof mine (ap (λ (past : List Entry). registered_in (setup_of c) past n home) (sym same) ∙ is))

@@ -264,12 +264,15 @@ module _ (n home number : ℕ) where
   accepted_step true true l r h made same is =
       let one : h.0 ≡ home = eqb-true h.0 home same in
       subst (λ (g : ℕ). Recalls home number (record { at = l.at; accepted = l.accepted ++ acceptance_made l.at g made ∷ [] })
-          (record { at = r.at; kept = Some (with_made home number r.at.0 (careof_where (is_standing home r.at.0) (home_after home l.accepted)) r.kept made) }))
+      (record { at = r.at; kept = Some (with_made home number r.at.0 (careof_where (is_standing home r.at.0) (home_after home l.accepted)) r.kept made) }))
       (sym one)
-      (record { at = is.at; kept = subst (λ (o : Option HomeKept). AreKept home number o (Some (with_made home number r.at.0 (careof_where (is_standing home r.at.0) (home_after home l.accepted)) r.kept made)))
-          (sym after)
-          (subst (λ (t : ℕ). IsKept home number (kept_with (home_after home l.accepted) (acceptance_made l.at home made)) (with_made home number t (careof_where (is_standing home t) (home_after home l.accepted)) r.kept made))
-              (sym is.at) (kept_next home number l.at (home_after home l.accepted) r.kept made is.kept)) })
+      (record {
+        at = is.at;
+        kept = subst (λ (o : Option HomeKept). AreKept home number o (Some (with_made home number r.at.0 (careof_where (is_standing home r.at.0) (home_after home l.accepted)) r.kept made)))
+            (sym after)
+            (subst (λ (t : ℕ). IsKept home number (kept_with (home_after home l.accepted) (acceptance_made l.at home made)) (with_made home number t (careof_where (is_standing home t) (home_after home l.accepted)) r.kept made))
+            (sym is.at) (kept_next home number l.at (home_after home l.accepted) r.kept made is.kept));
+      })
     where
       after : home_after home (l.accepted ++ acceptance_made l.at home made ∷ []) ≡ Some (kept_with (home_after home l.accepted) (acceptance_made l.at home made))
       after =

@@ -6,9 +6,9 @@ ghost use Rattle.mip_history.specs.Questions.{moment_in};
 ghost use Rattle.mip_history.specs.Bound.{accepted_by};
 ghost use Rattle.mip_past.specs.Recalling.{under_kept, floor_kept};
 
+use crate::acceptances::{lasts, recall};
 use crate::kept::Kept;
 use crate::past::Past;
-use crate::recalls::{lasts, recall};
 use mip_settled::held;
 use mip_words::{Address, Moment, NodeId};
 
@@ -25,11 +25,17 @@ fn under_kept(now: Moment, home: Address, kept: Option<Kept>) -> Option<Address>
 }
 
 /// The sequence, while it is kept.
-fn floor_kept(past: &Past<'_>, now: Moment, node: NodeId, home: Address, kept: Option<Kept>) -> Option<u16>
+fn floor_kept(
+    past: &Past<'_>,
+    now: Moment,
+    node: NodeId,
+    home: Address,
+    kept: Option<Kept>,
+) -> Option<u16>
     ensures { result ≡ floor_kept now.0 (held (accepted_by past.now.start.0 past.now.entries.now node.0) home.0 now.0) kept }
 {
     let kept = kept?;
-    if lasts(past.entries, past.start, now, node, home, kept) {
+    if lasts(past, now, node, home, kept) {
         Some(kept.sequence)
     } else {
         None
@@ -48,7 +54,7 @@ impl Past<'_> {
     pub fn held_under(&self, node: NodeId, home: Address, number: u8) -> Option<Address>
         ensures { option_map (λ a. a.0) result ≡ held_under (accepted_by self.now.start.0 self.now.entries.now node.0) home.0 number (moment_in self.now.start.0 self.now.entries.now) }
     {
-        let recall = recall(self.entries, self.start, node, home, number);
+        let recall = recall(self, node, home, number);
         under_kept(self.moment(), home, recall.kept)
     }
 
@@ -56,7 +62,7 @@ impl Past<'_> {
     pub fn floor(&self, node: NodeId, home: Address) -> Option<u16>
         ensures { result ≡ floor (accepted_by self.now.start.0 self.now.entries.now node.0) home.0 (moment_in self.now.start.0 self.now.entries.now) }
     {
-        let recall = recall(self.entries, self.start, node, home, 0);
+        let recall = recall(self, node, home, 0);
         floor_kept(self, self.moment(), node, home, recall.kept)
     }
 }

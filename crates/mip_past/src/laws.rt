@@ -19,7 +19,7 @@ ghost use Rattle.mip_history.specs.Knowing.{known_in, now_in, agent_known_in, mo
 ghost use Rattle.mip_history.specs.Permitted.{opening_claims, permitted};
 ghost use Rattle.mip_history.specs.Claims.{is_free_for};
 ghost use Rattle.mip_history.specs.Bound.{held_in, held_under_in, floor_in, IsBound, IsBoundUnder};
-ghost use Rattle.mip_history.specs.Registered.{registered_in, last_registration};
+ghost use Rattle.mip_history.specs.Registered.{is_agent_at, registered_in, last_registration, IsRegistered};
 ghost use Rattle.mip_history.specs.Told.{agent_in, is_bound_in, careof_in};
 ghost use Rattle.mip_history.specs.Settled.{any_node};
 ghost use Rattle.mip_history.specs.Found.{address_of};
@@ -83,9 +83,13 @@ pub fn one_holder_is_found()
         → holder_in (take place (permitted c)) address.0 ≡ Some holder }
 {}
 
-/// At every place, also within an event: a care-of address that is held was accepted by an update whose packet had just been handed
-/// to the node, in its present life, and no later one has ended it.
+/// At every place, also within an event: a care-of address that is found to be held was accepted by an update whose packet had just
+/// been handed to the node, in its present life, and no later one has ended it. Behind the entries of some first events, one that is
+/// found to be registered at an agent was registered by the last update of its home in the agent's present life, which the mobile
+/// with that home had sent under its shield.
 pub fn answers_have_their_update()
     ensures held { (c : Content) (place n home careof : ℕ) → held_in (setup_of c) (take place (permitted c)) n home ≡ Some careof → IsBound (setup_of c) (take place (permitted c)) n home careof }
     ensures under { (c : Content) (place n home number careof : ℕ) → held_under_in (setup_of c) (take place (permitted c)) n home number ≡ Some careof → IsBoundUnder (setup_of c) (take place (permitted c)) n home number careof }
+    ensures registered { (c : Content) (k n : ℕ) (home careof : Address) → is_agent_at (setup_of c) n ≡ true → registered_in (setup_of c) (front_at (setup_of c) c.events k) n home ≡ Some careof
+        → IsRegistered (setup_of c) (front_at (setup_of c) c.events k) n home careof }
 {}

@@ -1,6 +1,7 @@
 //! What an observer knows of a node at a place of a given history, by asking the history alone.
 #![tactic(auto)]
 
+mod acceptances;
 mod addresses;
 mod agents;
 mod keepers;
@@ -10,7 +11,6 @@ mod made;
 mod mobiles;
 mod past;
 mod recall;
-mod recalls;
 
 pub use laws::{
     agents_are_as_asked, answers_have_their_update, keepers_are_as_asked, mobiles_are_as_asked,

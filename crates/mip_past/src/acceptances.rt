@@ -1,4 +1,4 @@
-//! What a node keeps of a home, recalled entry by entry.
+//! What the updates that a node accepted leave of a home, recalled entry by entry.
 
 ghost use Rattle.std.specs.Prelude.{◌≡◌};
 ghost use Rattle.mip_binding.specs.Held.{held};
@@ -7,6 +7,7 @@ ghost use Rattle.mip_past.specs.Recalling.{is_behind, lasts, least_of, unless_re
 
 use crate::kept::Kept;
 use crate::made::Made;
+use crate::past::Past;
 use crate::recall::Recall;
 use mip_constants::MAX_NONCE_LIFETIME;
 use mip_entries::Entry;
@@ -24,18 +25,12 @@ fn is_behind(now: Moment, made: Option<Made>) -> bool
 }
 
 /// The sequence is kept at a moment: for as long as it is at least, and to the end of each binding of its home that lives.
-pub fn lasts(
-    entries: &[Entry],
-    start: Moment,
-    now: Moment,
-    node: NodeId,
-    home: Address,
-    kept: Kept,
-) -> bool
-    ensures { result ≡ lasts now.0 (held (accepted_by start.0 entries.now node.0) home.0 now.0) kept }
+pub fn lasts(past: &Past<'_>, now: Moment, node: NodeId, home: Address, kept: Kept) -> bool
+    ensures { result ≡ lasts now.0 (held (accepted_by past.now.start.0 past.now.entries.now node.0) home.0 now.0) kept }
 {
     u128::from(now.0) < kept.least
-        || (is_behind(now, kept.deletion) || held(entries, start, now, node, home).is_some())
+        || (is_behind(now, kept.deletion)
+            || held(past.entries, past.start, now, node, home).is_some())
 }
 
 /// The moment to which a sequence is kept at least.
@@ -103,22 +98,18 @@ fn joined(number: u8, at: Moment, kept: Kept, made: Made) -> Kept
 
 /// What is kept behind a binding.
 fn with_made(
-    front: &[Entry],
-    start: Moment,
+    front: &Past<'_>,
     node: NodeId,
     home: Address,
     number: u8,
     recall: Recall,
     made: Made,
 ) -> Kept
-    ensures { result ≡ with_made home.0 number recall.at.0 (held (accepted_by start.0 front.now node.0) home.0 recall.at.0) recall.kept made }
+    ensures { result ≡ with_made home.0 number recall.at.0 (held (accepted_by front.now.start.0 front.now.entries.now node.0) home.0 recall.at.0) recall.kept made }
 {
     match recall.kept {
-        Some(kept)
-            if made.careof.0 != home.0 && lasts(front, start, recall.at, node, home, kept) =>
-        {
-            joined(number, recall.at, kept, made)
-        }
+        Some(kept) if made.careof.0 != home.0 && lasts(front, recall.at, node, home, kept) =>
+            { joined(number, recall.at, kept, made) }
         _ => alone(home, number, recall.at, made),
     }
 }
@@ -154,15 +145,14 @@ fn made_told(entry: &Entry, node: NodeId, home: Address) -> Option<Made>
 
 /// One entry more behind these.
 fn next_recall(
-    front: &[Entry],
-    start: Moment,
+    front: &Past<'_>,
     node: NodeId,
     home: Address,
     number: u8,
     entry: &Entry,
     recall: Recall,
 ) -> Recall
-    ensures { result ≡ next_recall node.0 home.0 number (held (accepted_by start.0 front.now node.0) home.0 recall.at.0) entry.now recall }
+    ensures { result ≡ next_recall node.0 home.0 number (held (accepted_by front.now.start.0 front.now.entries.now node.0) home.0 recall.at.0) entry.now recall }
 {
     match entry {
         Entry::At { moment } => Recall {
@@ -176,33 +166,25 @@ fn next_recall(
         _ => match made_told(entry, node, home) {
             Some(made) => Recall {
                 at: recall.at,
-                kept: Some(with_made(
-                    front, start, node, home, number, recall, made,
-                )),
+                kept: Some(with_made(front, node, home, number, recall, made)),
             },
             None => recall,
         },
     }
 }
 
-/// What a node keeps of a home behind these entries, and the binding of a number.
-pub fn recall(
-    entries: &[Entry],
-    start: Moment,
-    node: NodeId,
-    home: Address,
-    number: u8,
-) -> Recall
-    ensures { Recalls home.0 number (lived_by start.0 node.0 entries.now) result }
+/// What a node keeps of a home at a place, and the binding of a number.
+pub fn recall(past: &Past<'_>, node: NodeId, home: Address, number: u8) -> Recall
+    ensures { Recalls home.0 number (lived_by past.now.start.0 node.0 past.now.entries.now) result }
 {
     let mut recall = Recall {
-        at: start,
+        at: past.start,
         kept: None,
     };
     let mut place = 0;
-    while let Some(entry) = entries.get(place) {
-        let (front, _) = entries.split_at(place);
-        recall = next_recall(front, start, node, home, number, entry, recall);
+    while let Some(entry) = past.entries.get(place) {
+        let front = Past::before(past.entries, place, past.start);
+        recall = next_recall(&front, node, home, number, entry, recall);
         place += 1;
     }
     recall
