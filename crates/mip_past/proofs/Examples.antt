@@ -1,8 +1,6 @@
 -- Small histories of a correspondent 0, and what is kept there of a home at each place.
 use Rattle.std.proofs.Common.{◌≡◌, ◌≢◌, ℕ, List, [], ◌∷◌, take, refl, arith}
 use Rattle.std.specs.Prelude.{Option, Some, None}
-use Rattle.mip_words.specs.declared.address.Address.{Address}
-use Rattle.mip_words.specs.declared.moment.Moment.{Moment}
 use Rattle.mip_entries.specs.declared.entry.Entry.{Entry}
 use Rattle.mip_entries.specs.declared.entry.Entry.TheVariants.{At, Accepted, Restarted}
 use Rattle.mip_entries.specs.Completed.{node_id}

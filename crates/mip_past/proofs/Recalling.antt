@@ -1,16 +1,13 @@
 -- What is recalled of a home is what the acceptances of a node leave of it.
-use Rattle.std.proofs.Common.{◌≡◌, ◌≢◌, ℕ, ◌+◌, ◌<◌, List, [], ◌∷◌, ◌++◌, Bool, true, false, max, refl, sym, ap, subst, ◌∙◌, arith}
-use Rattle.std.specs.Prelude.{Option, Some, None, option_map, fold, is_some, not, ◌&&◌, ◌||◌, ◌==◌, nat_lt, if◌then◌else◌}
-use Rattle.std.proofs.lemmas.Bool.{eqb-true, cases_Bool}
+use Rattle.std.proofs.Common.{◌≡◌, ℕ, List, [], ◌∷◌, ◌++◌, Bool, true, false, max, refl, sym, ap, subst, ◌∙◌, arith}
+use Rattle.std.specs.Prelude.{Option, Some, None, option_map, is_some, not, ◌&&◌, ◌||◌, ◌==◌, nat_lt, if◌then◌else◌}
+use Rattle.std.proofs.lemmas.Bool.{eqb-true}
 use Rattle.std.proofs.lemmas.Bool.Decides.{nat_tests}
 use Rattle.std.proofs.lemmas.List.Sums.{fold-append}
-use Rattle.mip_constants.specs.Constants.{max_nonce_lifetime}
 use Rattle.mip_words.specs.declared.address.Address.{Address}
-use Rattle.mip_words.specs.declared.moment.Moment.{Moment}
-use Rattle.mip_words.specs.declared.ids.NodeId.{NodeId}
 use Rattle.mip_lists.specs.Last.{or_else, last_where}
 use Rattle.mip_lists.proofs.LastLaws.{last_where-push}
-use Rattle.mip_binding.specs.Acceptance.{Acceptance, Binding, binding_of, is_deletion}
+use Rattle.mip_binding.specs.Acceptance.{Acceptance, Binding}
 use Rattle.mip_binding.specs.Rows.{others_by}
 use Rattle.mip_binding.specs.Homes.{HomeKept, number_key, latest, kept_of, joins, kept_with, home_after}
 use Rattle.mip_binding.specs.Held.{is_standing, stands_under, careof_where, held, held_under, sequence_in, floor}
@@ -21,7 +18,7 @@ use Rattle.mip_history.specs.Bound.{Lived, lived, accepted_by}
 use Rattle.mip_past.specs.declared.made.Made.{Made}
 use Rattle.mip_past.specs.declared.kept.Kept.{Kept}
 use Rattle.mip_past.specs.declared.recall.Recall.{Recall}
-use Rattle.mip_past.specs.Recalling.{is_behind, lasts, least_of, unless_renewed, deletion_of, under_of, alone, joined, with_made, made_told, recall_with, next_recall, lived_by, binding_made, where_so, IsOnly, IsKept, AreKept, Recalls, floor_kept, under_standing, under_kept}
+use Rattle.mip_past.specs.Recalling.{is_behind, lasts, unless_renewed, alone, joined, with_made, recall_with, next_recall, lived_by, binding_made, where_so, IsOnly, IsKept, AreKept, Recalls, floor_kept, under_standing, under_kept}
 
 -- the last item that passes a test, by a test that answers alike
 last_alike : (p q : Binding → Bool) (bs : List Binding) → ((b : Binding) → p b ≡ q b) → last_where p bs ≡ last_where q bs

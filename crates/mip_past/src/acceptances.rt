@@ -108,8 +108,9 @@ fn with_made(
     ensures { result ≡ with_made home.0 number recall.at.0 (held (accepted_by front.now.start.0 front.now.entries.now node.0) home.0 recall.at.0) recall.kept made }
 {
     match recall.kept {
-        Some(kept) if made.careof.0 != home.0 && lasts(front, recall.at, node, home, kept) =>
-            { joined(number, recall.at, kept, made) }
+        Some(kept) if made.careof.0 != home.0 && lasts(front, recall.at, node, home, kept) => {
+            joined(number, recall.at, kept, made)
+        }
         _ => alone(home, number, recall.at, made),
     }
 }

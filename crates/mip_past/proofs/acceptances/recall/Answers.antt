@@ -1,4 +1,4 @@
-use Rattle.std.proofs.Common.{◌≡◌, ℕ, ◌+◌, ◌<◌, List, [], ◌∷◌, ◌++◌, length, take, sym, ap, subst, ◌∙◌, arith}
+use Rattle.std.proofs.Common.{◌≡◌, ◌+◌, ◌<◌, List, [], ◌∷◌, ◌++◌, length, take, sym, ap, subst, ◌∙◌, arith}
 use Rattle.std.proofs.lemmas.Bool.{ltb-true}
 use Rattle.std.proofs.lemmas.List.{take_more}
 use Rattle.mip_words.specs.declared.moment.Moment.{Moment}
@@ -28,7 +28,7 @@ loop-entry-preserved c =
           subst (λ (past : List Entry). Recalls home c.args.number (lived_by start n past) c.next_recall-recall.result) (sym more)
           (subst (λ (x : Recall). Recalls home c.args.number (lived_by start n (take place xs ++ e ∷ [])) x)
           (sym (c.next_recall-recall.ensures
-              ∙ ap (λ (at : Moment). next_recall n home c.args.number (held (accepted_by at.0 c.before-front.result.entries.now n) home r.at.0) e r) c.before-front.ensures.start
-              ∙ ap (λ (front : List Entry). next_recall n home c.args.number (held (accepted_by start front n) home r.at.0) e r) c.before-front.ensures.entries))
+          ∙ ap (λ (at : Moment). next_recall n home c.args.number (held (accepted_by at.0 c.before-front.result.entries.now n) home r.at.0) e r) c.before-front.ensures.start
+          ∙ ap (λ (front : List Entry). next_recall n home c.args.number (held (accepted_by start front n) home r.at.0) e r) c.before-front.ensures.entries))
           (recalls_next n home c.args.number start (take place xs) e r c.loop-entry.invariant.recalls));
     }

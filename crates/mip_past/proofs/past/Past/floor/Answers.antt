@@ -1,7 +1,6 @@
 use Rattle.std.proofs.Common.{ℕ, ap, ◌∙◌}
-use Rattle.mip_binding.specs.Held.{held, floor}
+use Rattle.mip_binding.specs.Held.{floor}
 use Rattle.mip_history.specs.Bound.{accepted_by}
-use Rattle.mip_past.specs.Recalling.{floor_kept}
 use Rattle.mip_past.proofs.Recalling.{recalled_floor}
 use Rattle.mip_past.proofs.past.Past.floor.Goals as goal
 
