@@ -1,8 +1,7 @@
 //! What the updates that a node accepted leave of a home, recalled entry by entry.
 
 ghost use Rattle.std.specs.Prelude.{◌≡◌};
-ghost use Rattle.mip_binding.specs.Held.{held};
-ghost use Rattle.mip_history.specs.Bound.{accepted_by};
+ghost use Rattle.mip_past.specs.Asking.{held_then};
 ghost use Rattle.mip_past.specs.Recalling.{is_behind, lasts, least_of, unless_renewed, deletion_of, under_of, alone, joined, with_made, made_told, next_recall, lived_by, Recalls};
 
 use crate::kept::Kept;
@@ -26,7 +25,7 @@ fn is_behind(now: Moment, made: Option<Made>) -> bool
 
 /// The sequence is kept at a moment: for as long as it is at least, and to the end of each binding of its home that lives.
 pub fn lasts(past: &Past<'_>, now: Moment, node: NodeId, home: Address, kept: Kept) -> bool
-    ensures { result ≡ lasts now.0 (held (accepted_by past.now.start.0 past.now.entries.now node.0) home.0 now.0) kept }
+    ensures { result ≡ lasts now.0 (held_then past.now node.0 home.0 now.0) kept }
 {
     u128::from(now.0) < kept.least
         || (is_behind(now, kept.deletion)
@@ -105,7 +104,7 @@ fn with_made(
     recall: Recall,
     made: Made,
 ) -> Kept
-    ensures { result ≡ with_made home.0 number recall.at.0 (held (accepted_by front.now.start.0 front.now.entries.now node.0) home.0 recall.at.0) recall.kept made }
+    ensures { result ≡ with_made home.0 number recall.at.0 (held_then front.now node.0 home.0 recall.at.0) recall.kept made }
 {
     match recall.kept {
         Some(kept) if made.careof.0 != home.0 && lasts(front, recall.at, node, home, kept) => {
@@ -153,7 +152,7 @@ fn next_recall(
     entry: &Entry,
     recall: Recall,
 ) -> Recall
-    ensures { result ≡ next_recall node.0 home.0 number (held (accepted_by front.now.start.0 front.now.entries.now node.0) home.0 recall.at.0) entry.now recall }
+    ensures { result ≡ next_recall node.0 home.0 number (held_then front.now node.0 home.0 recall.at.0) entry.now recall }
 {
     match entry {
         Entry::At { moment } => Recall {

@@ -1,9 +1,7 @@
 //! What a correspondent, or the correspondent part of a mobile, keeps of a home.
 
 ghost use Rattle.std.specs.Prelude.{◌≡◌, option_map};
-ghost use Rattle.mip_binding.specs.Held.{held, held_under, floor};
-ghost use Rattle.mip_history.specs.Questions.{moment_in};
-ghost use Rattle.mip_history.specs.Bound.{accepted_by};
+ghost use Rattle.mip_past.specs.Asking.{held_then, held_at, held_under_at, floor_at};
 ghost use Rattle.mip_past.specs.Recalling.{under_kept, floor_kept};
 
 use crate::acceptances::{lasts, recall};
@@ -32,7 +30,7 @@ fn floor_kept(
     home: Address,
     kept: Option<Kept>,
 ) -> Option<u16>
-    ensures { result ≡ floor_kept now.0 (held (accepted_by past.now.start.0 past.now.entries.now node.0) home.0 now.0) kept }
+    ensures { result ≡ floor_kept now.0 (held_then past.now node.0 home.0 now.0) kept }
 {
     let kept = kept?;
     if lasts(past, now, node, home, kept) {
@@ -45,14 +43,14 @@ fn floor_kept(
 impl Past<'_> {
     /// The care-of address that a node holds for a home: of its bindings that stand, that of the last one accepted.
     pub fn held(&self, node: NodeId, home: Address) -> Option<Address>
-        ensures { option_map (λ a. a.0) result ≡ held (accepted_by self.now.start.0 self.now.entries.now node.0) home.0 (moment_in self.now.start.0 self.now.entries.now) }
+        ensures { option_map (λ a. a.0) result ≡ held_at self.now node.0 home.0 }
     {
         held::held(self.entries, self.start, self.moment(), node, home)
     }
 
     /// The one that it holds for a home under a number.
     pub fn held_under(&self, node: NodeId, home: Address, number: u8) -> Option<Address>
-        ensures { option_map (λ a. a.0) result ≡ held_under (accepted_by self.now.start.0 self.now.entries.now node.0) home.0 number (moment_in self.now.start.0 self.now.entries.now) }
+        ensures { option_map (λ a. a.0) result ≡ held_under_at self.now node.0 home.0 number }
     {
         let recall = recall(self, node, home, number);
         under_kept(self.moment(), home, recall.kept)
@@ -60,7 +58,7 @@ impl Past<'_> {
 
     /// The sequence that an update of a home has to come after, while one is kept.
     pub fn floor(&self, node: NodeId, home: Address) -> Option<u16>
-        ensures { result ≡ floor (accepted_by self.now.start.0 self.now.entries.now node.0) home.0 (moment_in self.now.start.0 self.now.entries.now) }
+        ensures { result ≡ floor_at self.now node.0 home.0 }
     {
         let recall = recall(self, node, home, 0);
         floor_kept(self, self.moment(), node, home, recall.kept)
