@@ -1,0 +1,3 @@
+pub mod Recalling
+pub mod AtPlaces
+pub mod Examples

@@ -1,0 +1,64 @@
+-- What is asked at a place of any history, over the entries before it.
+use Rattle.std.specs.Prelude.{ℕ, List, Bool, Option, Some, None, option_map, is_some}
+use Rattle.mip_words.specs.declared.address.Address.{Address}
+use Rattle.mip_binding.specs.Held.{held, held_under, floor}
+use Rattle.mip_entries.specs.declared.entry.Entry.{Entry}
+use Rattle.mip_history.specs.Questions.{moment_in, holder_in, declared_in}
+use Rattle.mip_history.specs.Bound.{accepted_by}
+use Rattle.mip_history.specs.Registered.{last_registration}
+use Rattle.mip_history.specs.Told.{present_in, agent_in, is_bound_in, careof_in}
+use Rattle.mip_history.specs.Settled.{any_node}
+use Rattle.mip_past.specs.declared.past.Past.{Past}
+
+-- the address that a node with this own address uses; none where it has none
+abbrev pub present_from : List Entry → ℕ → Option Address → Option Address
+present_from past n None = None
+present_from past n (Some own) = present_in past n own
+
+-- the address that a node uses, whose own address is the first that it claimed
+abbrev pub present_told : List Entry → ℕ → Option Address
+present_told past n = present_from past n (declared_in past n)
+
+-- some node has a home registered
+abbrev pub is_registered_in : (now : ℕ) → List Entry → (home : Address) → Bool
+is_registered_in now past home = any_node (λ g. is_some (careof_in now past g home))
+
+abbrev pub moment_at : Past → ℕ
+moment_at p = moment_in p.start.0 p.entries.now
+
+abbrev pub holder_at : Past → (address : ℕ) → Option ℕ
+holder_at p address = holder_in p.entries.now address
+
+abbrev pub own_at : Past → ℕ → Option Address
+own_at p by = declared_in p.entries.now by
+
+-- what node n holds for a home at a moment
+abbrev pub held_then : Past → (n home now : ℕ) → Option ℕ
+held_then p n home now = held (accepted_by p.start.0 p.entries.now n) home now
+
+abbrev pub held_at : Past → (n home : ℕ) → Option ℕ
+held_at p n home = held_then p n home (moment_at p)
+
+abbrev pub held_under_at : Past → (n home number : ℕ) → Option ℕ
+held_under_at p n home number = held_under (accepted_by p.start.0 p.entries.now n) home number (moment_at p)
+
+abbrev pub floor_at : Past → (n home : ℕ) → Option ℕ
+floor_at p n home = floor (accepted_by p.start.0 p.entries.now n) home (moment_at p)
+
+abbrev pub registered_careof_at : Past → (g : ℕ) → (home : Address) → Option Address
+registered_careof_at p g home = careof_in (moment_at p) p.entries.now g home
+
+abbrev pub registered_sequence_at : Past → (g : ℕ) → (home : Address) → Option ℕ
+registered_sequence_at p g home = option_map (λ b. b.sequence) (last_registration p.entries.now g home)
+
+abbrev pub is_registered_at : Past → (home : Address) → Bool
+is_registered_at p home = is_registered_in (moment_at p) p.entries.now home
+
+abbrev pub present_at : Past → ℕ → Option Address
+present_at p n = present_told p.entries.now n
+
+abbrev pub agent_at : Past → ℕ → Option Address
+agent_at p n = agent_in (moment_at p) p.entries.now n
+
+abbrev pub is_bound_at : Past → ℕ → (peer : Address) → Bool
+is_bound_at p n peer = is_bound_in (moment_at p) p.entries.now n peer

@@ -1,0 +1,4 @@
+pub mod Asking
+pub mod Places
+pub mod AsAsked
+pub mod Recalling

@@ -1,0 +1,48 @@
+//! The laws, each the contract of a function that does nothing; `specs/AsAsked` has their statements. The first four speak of the
+//! places behind the entries of the first k events, since what a node knows is stated between two events.
+
+ghost use Rattle.std.specs.Prelude.{ℕ, List};
+ghost use Rattle.mip_schedule.specs.Contents.{Content};
+ghost use Rattle.mip_schedule.specs.declared.event.Event.{Event};
+ghost use Rattle.mip_history.specs.Setup.{Setup};
+ghost use Rattle.mip_past.specs.AsAsked.{IsFront, IsPermittedFront, AreKeepersAsAsked, AreAgentsAsAsked, AreMobilesAsAsked, IsHolderFound, IsHeldBound, AreRegistered};
+
+/// A history only grows. So what lies before the place behind some first events is what these leave, at their moment; and each
+/// node has its own address there.
+pub fn places_are_fronts()
+    ensures run { (s : Setup) (events : List Event) (k : ℕ) → IsFront s events k }
+    ensures permitted { (c : Content) (k : ℕ) → IsPermittedFront c k }
+{}
+
+/// What is asked of a correspondent there is what it keeps, and what is asked of a mobile what its correspondent part keeps: the
+/// care-of address that is held for a home, and the sequence that the next update has to come after.
+pub fn keepers_are_as_asked()
+    ensures { (s : Setup) (events : List Event) (k : ℕ) → AreKeepersAsAsked s events k }
+{}
+
+/// What is asked of a home agent there is what it keeps: the registered care-of address of a home, and the last sequence. A home
+/// is registered exactly where some agent has it registered.
+pub fn agents_are_as_asked()
+    ensures { (s : Setup) (events : List Event) (k : ℕ) → AreAgentsAsAsked s events k }
+{}
+
+/// What is asked of a mobile there is what it knows: the address that it uses, the agent with which it is registered, and whether
+/// it has a binding with a peer. Every other node uses its own address.
+pub fn mobiles_are_as_asked()
+    ensures { (s : Setup) (events : List Event) (k : ℕ) → AreMobilesAsAsked s events k }
+{}
+
+/// At every place, also within an event: behind the opening claims nobody claims an address that somebody else is found to hold, a
+/// claim in vain names the holder that is found, and an address is given up by nobody but the holder that is found.
+pub fn one_holder_is_found()
+    ensures { (c : Content) (place : ℕ) → IsHolderFound c place }
+{}
+
+/// At every place, also within an event: a care-of address that is found to be held was accepted by an update whose packet had just
+/// been handed to the node, in its present life, and no later one has ended it. Behind the entries of some first events, one that is
+/// found to be registered at an agent was registered by the last update of its home in the agent's present life, which the mobile
+/// with that home had sent under its shield.
+pub fn answers_have_their_update()
+    ensures held { (c : Content) (place : ℕ) → IsHeldBound c place }
+    ensures registered { (c : Content) (k : ℕ) → AreRegistered c k }
+{}

@@ -1,0 +1,19 @@
+//! What an observer knows of a node at a place of a given history, by asking the history alone.
+#![tactic(auto)]
+
+mod acceptances;
+mod addresses;
+mod agents;
+mod keepers;
+mod kept;
+mod laws;
+mod made;
+mod mobiles;
+mod past;
+mod recall;
+
+pub use laws::{
+    agents_are_as_asked, answers_have_their_update, keepers_are_as_asked, mobiles_are_as_asked,
+    one_holder_is_found, places_are_fronts,
+};
+pub use past::Past;
