@@ -1,3 +1,4 @@
 pub mod Recalling
 pub mod AtPlaces
 pub mod Examples
+pub mod OneNumber

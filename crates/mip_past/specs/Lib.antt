@@ -2,3 +2,4 @@ pub mod Asking
 pub mod Places
 pub mod AsAsked
 pub mod Recalling
+pub mod OneNumber

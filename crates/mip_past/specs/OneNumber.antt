@@ -1,0 +1,16 @@
+-- What the last acceptance of a home leaves, where bindings have one number. RFC 6275 section 9.5.1
+use Rattle.std.specs.Prelude.{ℕ, List, Option, Some, None, not, ◌&&◌, nat_lt, ◌==◌, if◌then◌else◌}
+use Rattle.mip_lists.specs.Last.{last_where}
+use Rattle.mip_binding.specs.Acceptance.{Acceptance, kept_until_of}
+
+-- the last acceptance of a home
+abbrev pub last_of : ℕ → List Acceptance → Option Acceptance
+last_of home xs = last_where (λ a. a.home == home) xs
+
+-- its care-of address, to its end, where it is no deletion
+abbrev pub careof_to_its_end : ℕ → ℕ → Acceptance → Option ℕ
+careof_to_its_end home now a = if not (a.careof == home) && nat_lt now a.end then Some a.careof else None
+
+-- its sequence, for as long as that is kept
+abbrev pub sequence_for_a_while : ℕ → Acceptance → Option ℕ
+sequence_for_a_while now a = if nat_lt now (kept_until_of a) then Some a.sequence else None
