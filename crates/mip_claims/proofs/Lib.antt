@@ -3,3 +3,7 @@ pub mod Taken
 pub mod Noting
 pub mod Walking
 pub mod Tables
+pub mod Ends
+pub mod Pasts
+pub mod Agents
+pub mod AgentRuns

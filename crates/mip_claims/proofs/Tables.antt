@@ -168,7 +168,7 @@ held_is : (holder : Option ℕ) (who : ℕ) → is_held_by holder who ≡ true �
 held_is None who is = absurd cc
 held_is (Some other) who is = ap (λ (n : ℕ). Some n) (eqb-true other who is)
 
-apart_from : (s : Setup) (m x : ℕ) → is_mobile_at s m ≡ false → is_mobile_at s x ≡ true → (m == x) ≡ false
+pub apart_from : (s : Setup) (m x : ℕ) → is_mobile_at s m ≡ false → is_mobile_at s x ≡ true → (m == x) ≡ false
 apart_from s m x none is = by (m == x) refl
   where
     by : (b : Bool) → (m == x) ≡ b → b ≡ false

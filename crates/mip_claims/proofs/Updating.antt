@@ -52,13 +52,13 @@ abbrev pub acknowledging_steps : Bool → Identity → Registration → ℕ → 
 acknowledging_steps true me r granted = Sends (shield_to me.own (home_of r)) (ack_packet me.own r statuses.accepted r.sequence granted None) ∷ []
 acknowledging_steps false me r granted = []
 
+-- these steps were taken at a moment, where this was known
+abbrev pub by_steps : ℕ → Known → List Step → Transition
+by_steps now k steps = record { now = now; known = known_by after k (stamped now steps); steps = steps }
+
 module _ (me : Identity) (k : Known) (now number : ℕ) (shield : Option Shield) (bytes : List ℕ) (claim : Claim) where
   abbrev pub call : Step
   call = Called (calls.Take number shield bytes claim)
-
-  -- these steps were taken
-  abbrev pub by_steps : List Step → Transition
-  by_steps steps = record { now = now; known = known_by after k (stamped now steps); steps = steps }
 
   -- nothing is claimed or given up, and the homes and their ends are as they were
   abbrev pub IsStill : Transition → Type 0
@@ -73,7 +73,7 @@ module _ (me : Identity) (k : Known) (now number : ℕ) (shield : Option Shield)
     pub sequence : ℕ
     pub granted : ℕ
     pub verdict_is : verdict (bench me k now update) shield (claim_with (holds k (home_of update)) claim) update ≡ Accept home careof sequence granted
-    pub is : t ≡ by_steps (call ∷ Registers number home (binding_for now careof sequence granted)
+    pub is : t ≡ by_steps now k (call ∷ Registers number home (binding_for now careof sequence granted)
         ∷ (claiming_steps (holds k (home_of update)) (deletes update) home ++ acknowledging_steps update.ack me update granted))
 
   abbrev pub Is : Transition → Type 0
@@ -101,7 +101,7 @@ module _ (me : Identity) (k : Known) (now number : ℕ) (shield : Option Shield)
   unfolding after
   sent under packet = subst Is (sym (noted_all-is after (call ∷ Sends under packet ∷ []) (begun now k))) (inl (refl, refl, refl))
 
-  two : (first last : Step) → IsStill (by_steps (call ∷ first ∷ last ∷ [])) → Is (noted last (noted first given))
+  two : (first last : Step) → IsStill (by_steps now k (call ∷ first ∷ last ∷ [])) → Is (noted last (noted first given))
   two first last still = subst Is (sym (noted_all-is after (call ∷ first ∷ last ∷ []) (begun now k))) (inl still)
 
   module _ (update : Registration) (home careof : Address) (sequence granted : ℕ) where
@@ -114,10 +114,10 @@ module _ (me : Identity) (k : Known) (now number : ℕ) (shield : Option Shield)
     abbrev steps : (held ends ack : Bool) → List Step
     steps held ends ack = call ∷ Registers number home (binding_for now careof sequence granted) ∷ (claiming_steps held ends home ++ acknowledging_steps ack me update granted)
 
-    stepwise : (rest : List Step) → noted_all after rest first ≡ by_steps (call ∷ Registers number home (binding_for now careof sequence granted) ∷ rest)
+    stepwise : (rest : List Step) → noted_all after rest first ≡ by_steps now k (call ∷ Registers number home (binding_for now careof sequence granted) ∷ rest)
     stepwise rest = noted_all-is after (call ∷ Registers number home (binding_for now careof sequence granted) ∷ rest) (begun now k)
 
-    answered : (held ends ack : Bool) → behind held ends ack ≡ by_steps (steps held ends ack)
+    answered : (held ends ack : Bool) → behind held ends ack ≡ by_steps now k (steps held ends ack)
     unfolding acknowledges
     answered true true true = stepwise (Releases home ∷ acknowledging_steps true me update granted)
     answered true true false = stepwise (Releases home ∷ [])
