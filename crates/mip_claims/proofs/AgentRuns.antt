@@ -7,7 +7,7 @@ use Rattle.std.proofs.lemmas.List.{append_assoc, append-nil, length-map, get_or-
 use Rattle.std.proofs.lemmas.List.Elements.{filter_map-append}
 use Rattle.std.proofs.lemmas.List.Sums.{fold-append}
 use Rattle.std.proofs.lemmas.Option.{slice_get_within}
-use Rattle.std.proofs.lemmas.Bool.{cases_eq, eq-eqb, ne_eqb, or_parts}
+use Rattle.std.proofs.lemmas.Bool.{cases_eq, eq-eqb, ne_eqb}
 use Rattle.mip_words.specs.declared.address.Address.{Address}
 use Rattle.mip_words.specs.declared.shield.Shield.{Shield}
 use Rattle.mip_binding.specs.Rows.{find_by}
@@ -20,7 +20,7 @@ use Rattle.mip_entries.specs.Stamped.{Stamped, stamped}
 use Rattle.mip_transitions.specs.Transitions.{known_by, noted_by, StandsBy}
 use Rattle.mip_transitions.proofs.TurnLaws.{none-noted}
 use Rattle.mip_updates.specs.declared.registration.Registration.{Registration}
-use Rattle.mip_updates.specs.Registrations.{home_of, deletes, registered_of, careof_of}
+use Rattle.mip_updates.specs.Registrations.{home_of, deletes, careof_of}
 use Rattle.mip_rules_correspondent.specs.Calls as correspondent_calls
 use Rattle.mip_rules_correspondent.specs.Transitions as correspondent_turns
 use Rattle.mip_rules_correspondent.specs.Steps as correspondents
@@ -38,7 +38,7 @@ use Rattle.mip_rules_agent.specs.Questions.{key_of, after, known, served_at, is_
 use Rattle.mip_rules_agent.specs.Pasts.{is_one_of}
 use Rattle.mip_rules_agent.specs.Refusing.{is_claim}
 use Rattle.mip_rules_agent.specs.Rules.{bench, claim_with, advertises}
-use Rattle.mip_rules_agent.specs.Soundness.{IsFit, IsSound}
+use Rattle.mip_rules_agent.specs.Soundness.{IsSound}
 use Rattle.mip_rules_agent.specs.Transitions as agent_turns
 use Rattle.mip_rules_agent.specs.Verdicts.{binding_for}
 use Rattle.mip_rules_agent.specs.Doing as agent_doing
@@ -54,22 +54,21 @@ use Rattle.mip_links.specs.Table.{Post, holder_outside}
 use Rattle.mip_schedule.specs.declared.event.Event.{Event}
 use Rattle.mip_history.specs.Setup.{Setup, Host, Kind, is_mobile_host, is_mobile_at}
 use Rattle.mip_history.specs.Setup.Kind.{Correspondent, Agent, Mobile}
-use Rattle.mip_history.specs.Runs.{Run, note, entered, without, past_at, agent_past_at, mobile_past_at, with_past, with_agent_past, with_mobile_past}
+use Rattle.mip_history.specs.Runs.{Run, note, entered, past_at, agent_past_at, mobile_past_at, with_past, with_agent_past, with_mobile_past}
 use Rattle.mip_history.specs.Questions.{holder_in}
 use Rattle.mip_history.specs.Calls.{Call, Take, Tick, Plan, Hear, for_correspondent, for_agent, for_mobile}
 use Rattle.mip_history.specs.Claims.{claims}
 use Rattle.mip_history.specs.Homes.{gives_up}
-use Rattle.mip_history.specs.Knowing.{link_or_first, now_in, identity_in, known_in, agent_of, agent_known_in, mobile_known_in, stands_on, other_than, around_in}
-use Rattle.mip_history.specs.Nodes.{answered, turned, agent_turned, mobile_turned, asks, by_kind, by_host, acts}
+use Rattle.mip_history.specs.Knowing.{link_or_first, now_in, identity_in, known_in, agent_of, agent_known_in, mobile_known_in, other_than, around_in}
+use Rattle.mip_history.specs.Nodes.{answered, agent_turned, asks, by_kind, by_host, acts}
 use Rattle.mip_history.specs.Restarting.{homes_left}
-use Rattle.mip_history.specs.Permitted.{opening_claims, opened, run_of}
-use Rattle.mip_history.proofs.Keeping.{keeps_claims, keeps_gives_up, keeps_overheard}
+use Rattle.mip_history.specs.Permitted.{opened, run_of}
+use Rattle.mip_history.proofs.Keeping.{keeps_gives_up}
 use Rattle.mip_claims.specs.Claimings.{Claiming, claimings_told, is_on_link, agent_claiming, agent_claimings}
-use Rattle.mip_claims.proofs.Noting.{is_claiming}
 use Rattle.mip_claims.proofs.Walking.{KeepsClaims, walk_run}
 use Rattle.mip_claims.proofs.Tables.{IsSafe, safe_other, same_holder, other_claims, other_gives_up, other_answers}
-use Rattle.mip_claims.proofs.Updating.{claiming_steps, acknowledging_steps, by_steps, IsStill, IsAccepted, taking_is}
-use Rattle.mip_claims.proofs.Ends.{flipped, holds_after, AreApart, AreHeld, apart_with, held_with, IsReady, AreReady, releasing, tick_is, released_of, ready_releasing, released_ends, later_held, later_apart, due_apart, due_held}
+use Rattle.mip_claims.proofs.Updating.{claiming_steps, acknowledging_steps, by_steps, IsAccepted, taking_is}
+use Rattle.mip_claims.proofs.Ends.{flipped, holds_after, AreApart, AreHeld, apart_with, held_with, AreReady, releasing, tick_is, released_of, ready_releasing, released_ends, later_held, later_apart, due_apart, due_held}
 use Rattle.mip_claims.proofs.Agents.{steps_claimings, stamped_claimings, IsHeld, IsMid, mid_other, quiet_known, mid_claimed, more_told, ready_told}
 use Rattle.mip_claims.proofs.Pasts.{answers_pasts}
 
@@ -429,9 +428,9 @@ module _ (s : Setup) (m : ℕ) (own : Address) (preference life room : ℕ) (ser
         unfolding answered
         mid_new new stays =
             let first : IsMid s m none k1 base registered.past =
-                quiet_known s m none now k0 base registered.past (Registers number a.home b) refl
-                (quiet_known s m none now k base registered.past (Called call) refl
-                (mid_other s m none k base (middle call) (entries.Home (node_id m) a.home b.careof b.sequence b.end) refl (start call))) in
+            quiet_known s m none now k0 base registered.past (Registers number a.home b) refl
+            (quiet_known s m none now k base registered.past (Called call) refl
+            (mid_other s m none k base (middle call) (entries.Home (node_id m) a.home b.careof b.sequence b.end) refl (start call))) in
             more_told s m none base (Claims a.home) acks (later false false) (answered s m from (claims s m a.home registered) (answers_of acks)).past
             (ready_told s m none now from acks (after k1 (record { at = now; step = Claims a.home })) (base ++ steps_claimings s.links (Claims a.home ∷ [])) (claims s m a.home registered)
             (acked_ready now me a.update a.granted a.update.ack (after k1 (record { at = now; step = Claims a.home })))

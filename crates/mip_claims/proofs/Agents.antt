@@ -1,55 +1,33 @@
 -- A turn of a home agent tells what it does about addresses, and the agent holds those that it has claimed.
-use Rattle.std.proofs.Common.{◌≡◌, ◌≢◌, ℕ, ◌<◌, List, [], ◌∷◌, ◌++◌, Bool, true, false, ◌⊎◌, inl, inr, length, refl, sym, ap, ◌∙◌, subst, arith, length-set}
-use Rattle.std.specs.Prelude.{Option, Some, None, is_some, unwrap_or, ◌==◌, ◌&&◌, ◌||◌, if◌then◌else◌, slice_get, slice_set, slice_index_or, map}
-use Rattle.std.specs.List.{AllByRecursion, filter_map, list_any, cons_option}
-use Rattle.std.proofs.lemmas.List.{append_assoc, append-nil, get_or-set_same, get_or-set_other}
+use Rattle.std.proofs.Common.{◌≡◌, ℕ, List, [], ◌∷◌, ◌++◌, Bool, true, false, ◌⊎◌, inl, inr, refl, sym, ap, ◌∙◌, subst}
+use Rattle.std.specs.Prelude.{Option, Some, None, is_some, ◌==◌, if◌then◌else◌}
+use Rattle.std.specs.List.{filter_map, cons_option}
+use Rattle.std.proofs.lemmas.List.{append_assoc, append-nil}
 use Rattle.std.proofs.lemmas.List.Elements.{filter_map-append}
-use Rattle.std.proofs.lemmas.Option.{slice_get_within}
-use Rattle.std.proofs.lemmas.Bool.{or_parts, eqb-true, eq-eqb}
+use Rattle.std.proofs.lemmas.Bool.{eqb-true}
 use Rattle.mip_words.specs.declared.address.Address.{Address}
 use Rattle.mip_words.specs.declared.shield.Shield.{Shield}
-use Rattle.mip_outside.specs.declared.claim.Claim.{Claim}
-use Rattle.mip_outside.specs.Places.{is_held, claim_of}
-use Rattle.mip_entries.specs.declared.answer.Answer.{Answer}
-use Rattle.mip_entries.specs.declared.answer.Answer.TheVariants.{Send, Note}
+use Rattle.mip_entries.specs.declared.answer.Answer.TheVariants.{Send}
 use Rattle.mip_entries.specs.declared.entry.Entry.{Entry}
 use Rattle.mip_entries.specs.declared.entry.Entry.TheVariants as entries
-use Rattle.mip_entries.specs.Completed.{node_id}
-use Rattle.mip_entries.specs.Stamped.{Stamped, stamped}
-use Rattle.mip_transitions.specs.Transitions.{known_by, StandsBy}
-use Rattle.mip_updates.specs.declared.registration.Registration.{Registration}
-use Rattle.mip_updates.specs.Registrations.{home_of, deletes, registered_of, careof_of}
-use Rattle.mip_rules_agent.specs.declared.ending.Ending.{Ending}
-use Rattle.mip_rules_agent.specs.declared.home_binding.HomeBinding.{HomeBinding}
-use Rattle.mip_rules_agent.specs.declared.identity.Identity.{Identity}
+use Rattle.mip_entries.specs.Stamped.{stamped}
+use Rattle.mip_transitions.specs.Transitions.{known_by}
 use Rattle.mip_rules_agent.specs.Known.{Known}
-use Rattle.mip_rules_agent.specs.Calls as agent_calls
-use Rattle.mip_rules_agent.specs.Calls.{claim_for}
-use Rattle.mip_rules_agent.specs.Steps.{Step, Called, Sends, Registers, Claims, Releases, Denies, Drops, Rang, myself, answer_of, answers_of}
-use Rattle.mip_rules_agent.specs.Questions.{after, known, is_served, holds, due_ends, ends_with}
-use Rattle.mip_rules_agent.specs.Refusing.{is_claim}
-use Rattle.mip_rules_agent.specs.Rules.{bench, claim_with}
-use Rattle.mip_rules_agent.specs.Soundness.{IsFit, IsSound}
-use Rattle.mip_rules_agent.specs.Transitions as agent_turns
-use Rattle.mip_rules_agent.specs.Verdicts.{binding_for}
-use Rattle.mip_rules_agent.specs.Doing.{turn_of}
-use Rattle.mip_rules_agent.proofs.Calls.{call-stands}
-use Rattle.mip_rules_agent.proofs.Pasts.{stands-known, served-same}
-use Rattle.mip_rules_agent.proofs.VerdictLaws.{sound}
+use Rattle.mip_rules_agent.specs.Steps.{Step, Called, Sends, Registers, Claims, Releases, Denies, Drops, Rang, myself, answers_of}
+use Rattle.mip_rules_agent.specs.Questions.{after, is_served, holds}
 use Rattle.mip_links.specs.Table.{link_of}
 use Rattle.mip_history.specs.Setup.{Setup, is_mobile_at}
-use Rattle.mip_history.specs.Runs.{Run, note, entered, agent_past_at, with_agent_past}
+use Rattle.mip_history.specs.Runs.{Run, note}
 use Rattle.mip_history.specs.Questions.{holder_in}
 use Rattle.mip_history.specs.Claims.{link_id, claims}
 use Rattle.mip_history.specs.Homes.{resident, passes_to, gives_up}
-use Rattle.mip_history.specs.Knowing.{other_than, around_in}
+use Rattle.mip_history.specs.Knowing.{other_than}
 use Rattle.mip_history.specs.Nodes.{left_by, answered_one, answered}
-use Rattle.mip_claims.specs.Claimings.{Claiming, claimings_told, is_on_link, if_on_link, agent_claiming, agent_claimings}
+use Rattle.mip_claims.specs.Claimings.{Claiming, claimings_told, is_on_link, agent_claiming, agent_claimings}
 use Rattle.mip_claims.specs.Claimings.Claiming.{Claims as OfClaim, Releases as OfRelease}
 use Rattle.mip_claims.proofs.Noting.{is_claiming, left_kept, sent_kept}
-use Rattle.mip_claims.proofs.Tables.{IsSafe, IsClaimed, IsReleased, safe_other, same_holder, apart_from, resident_mobile, off_link_claim, off_link_release, free_claim_is, held_release_is, claimed_is, released_is, passed_is}
-use Rattle.mip_claims.proofs.Updating.{claiming_steps, acknowledging_steps, by_steps, IsStill, IsAccepted, taking_is}
-use Rattle.mip_claims.proofs.Ends.{flipped, held_after, holds_after, IsReady, AreReady, releasing}
+use Rattle.mip_claims.proofs.Tables.{IsSafe, IsReleased, safe_other, same_holder, apart_from, resident_mobile, off_link_claim, off_link_release, free_claim_is, held_release_is, claimed_is, released_is, passed_is}
+use Rattle.mip_claims.proofs.Ends.{flipped, held_after, holds_after, AreReady}
 
 abbrev pub steps_claimings : (links : List ℕ) → List Step → List Claiming
 steps_claimings links steps = filter_map (agent_claiming links) steps

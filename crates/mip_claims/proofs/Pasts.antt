@@ -1,17 +1,15 @@
 -- What a node answers leaves the pasts of agents as they are.
-use Rattle.std.proofs.Common.{◌≡◌, ℕ, List, [], ◌∷◌, length, refl, ◌∙◌}
-use Rattle.std.specs.Prelude.{Option, None, is_some}
-use Rattle.mip_words.specs.declared.shield.Shield.{Shield}
+use Rattle.std.proofs.Common.{◌≡◌, ℕ, List, [], ◌∷◌, refl, ◌∙◌}
 use Rattle.mip_entries.specs.declared.answer.Answer.{Answer}
 use Rattle.mip_entries.specs.declared.answer.Answer.TheVariants.{Send, Note}
 use Rattle.mip_entries.specs.declared.entry.Entry.{Entry}
 use Rattle.mip_entries.specs.declared.entry.Entry.TheVariants as entries
 use Rattle.mip_links.specs.Table.{Post}
 use Rattle.mip_history.specs.Setup.{Setup}
-use Rattle.mip_history.specs.Runs.{Run, note, entered}
+use Rattle.mip_history.specs.Runs.{Run}
 use Rattle.mip_history.specs.Nodes.{left_by, answered_one, answered}
-use Rattle.mip_history.proofs.Keeping.{is_busy, keeps_claims, keeps_gives_up}
-use Rattle.mip_claims.proofs.Noting.{is_claiming, left_kept, sent_kept}
+use Rattle.mip_history.proofs.Keeping.{keeps_claims, keeps_gives_up}
+use Rattle.mip_claims.proofs.Noting.{left_kept, sent_kept}
 
 module _ (s : Setup) (n from : ℕ) where
   left_pasts : (e : Entry) (run : Run) → (left_by s n run e).agent_pasts ≡ run.agent_pasts

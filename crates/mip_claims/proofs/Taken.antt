@@ -1,14 +1,13 @@
 -- Who finds an address taken: a mobile or an outsider, over every run.
 use Rattle.std.proofs.Common.{◌≡◌, ◌≢◌, ℕ, List, [], ◌∷◌, ◌++◌, Bool, true, false, length, inl, inr, refl, sym, ap, ◌∙◌, subst}
-use Rattle.std.specs.Prelude.{Option, Some, None, unwrap_or, is_some, ◌==◌, ◌&&◌, ◌||◌, if◌then◌else◌, slice_get}
+use Rattle.std.specs.Prelude.{Option, Some, None, unwrap_or, is_some, ◌==◌, if◌then◌else◌, slice_get}
 use Rattle.std.specs.List.{AllByRecursion, list_any}
-use Rattle.std.proofs.lemmas.Bool.{eqb-true, eq-eqb, or_parts}
+use Rattle.std.proofs.lemmas.Bool.{or_parts}
 use Rattle.std.proofs.lemmas.List.Sums.{fold-append}
 use Rattle.mip_words.specs.declared.address.Address.{Address}
 use Rattle.mip_words.specs.declared.ids.LinkId.{LinkId}
 use Rattle.mip_words.specs.declared.shield.Shield.{Shield}
 use Rattle.mip_outside.specs.declared.claim.Claim.{Claim}
-use Rattle.mip_outside.specs.declared.claim.Claim.TheVariants.{Held}
 use Rattle.mip_outside.specs.Places.{is_held, claim_of}
 use Rattle.mip_entries.specs.declared.answer.Answer.{Answer}
 use Rattle.mip_entries.specs.declared.answer.Answer.TheVariants.{Send, Note}
@@ -51,21 +50,19 @@ use Rattle.mip_links.specs.Table.{Post, link_of, holder_outside}
 use Rattle.mip_schedule.specs.declared.event.Event.{Event}
 use Rattle.mip_history.specs.Setup.{Setup, Host, Kind, is_mobile_kind, is_mobile_host, is_mobile_at}
 use Rattle.mip_history.specs.Setup.Kind.{Correspondent, Agent, Mobile}
-use Rattle.mip_history.specs.Runs.{Run, note, notes, entered, past_at, agent_past_at, with_past, with_agent_past}
+use Rattle.mip_history.specs.Runs.{Run, note, notes, entered, agent_past_at, with_agent_past}
 use Rattle.mip_history.specs.Questions.{holder_says, holder_in}
-use Rattle.mip_history.specs.Calls.{Call, Take, Tick, Plan, Hear, Leave, Restart, for_correspondent, for_agent, for_mobile}
+use Rattle.mip_history.specs.Calls.{Call, Take, Tick, Plan, Hear, Leave, Restart, for_correspondent, for_mobile}
 use Rattle.mip_history.specs.Claims.{link_id, claim_entry, claimed_on, claims}
-use Rattle.mip_history.specs.Homes.{gives_up}
 use Rattle.mip_history.specs.Knowing.{link_or_first, now_in, identity_in, known_in, agent_of, agent_known_in, mobile_known_in, other_than, around_in}
-use Rattle.mip_history.specs.Nodes.{marks_of, marked, left_by, answered_one, answered, turned, agent_turned, mobile_turned, asks, by_kind, by_host, acts}
+use Rattle.mip_history.specs.Nodes.{marks_of, marked, left_by, answered_one, answered, agent_turned, asks, by_kind, by_host, acts}
 use Rattle.mip_history.specs.Permitted.{run_of}
 use Rattle.mip_history.specs.Registered.{is_agent_kind, is_agent_host, is_agent_at}
-use Rattle.mip_history.proofs.Opening.{nothing}
 use Rattle.mip_history.proofs.Reasons.{all_append}
 use Rattle.mip_history.proofs.Keeping.{is_busy, emptied_by_kind, emptied_by_host, emptied, Keeps, keeps_overheard, keeps_claims, keeps_gives_up}
 use Rattle.mip_history.proofs.Walking.{walk_run}
 use Rattle.mip_claims.specs.Seekers.{MayFindTaken}
-use Rattle.mip_claims.proofs.Updating.{claiming_steps, acknowledging_steps, IsStill, IsAccepted, taking_is}
+use Rattle.mip_claims.proofs.Updating.{claiming_steps, acknowledging_steps, IsAccepted, taking_is}
 
 -- an entry `taken` names a mobile or an outsider
 abbrev IsFair : Setup → Entry → Type 0

@@ -1,10 +1,8 @@
 -- A fact of a run that is kept by each thing which can happen to claims and to the past of a node, and every run that has it.
-use Rattle.std.proofs.Common.{◌≡◌, ℕ, zero, suc, ◌+◌, List, [], ◌∷◌, ◌++◌, Bool, true, false, length, max, refl, sym, subst}
-use Rattle.std.specs.Prelude.{fold, map, Option, Some, None, is_some, ◌==◌, ◌&&◌, nat_lt, if◌then◌else◌, slice_get, slice_index_or}
-use Rattle.std.proofs.lemmas.List.{append_assoc, append-nil}
+use Rattle.std.proofs.Common.{◌≡◌, ℕ, zero, suc, ◌+◌, List, [], ◌∷◌, Bool, true, false, length, max, refl}
+use Rattle.std.specs.Prelude.{fold, map, Option, Some, None, ◌==◌, ◌&&◌, nat_lt, if◌then◌else◌, slice_get, slice_index_or}
 use Rattle.mip_words.specs.declared.address.Address.{Address}
 use Rattle.mip_words.specs.declared.ids.LinkId.{LinkId}
-use Rattle.mip_words.specs.declared.shield.Shield.{Shield}
 use Rattle.mip_bcache.specs.declared.row.Row.{Row}
 use Rattle.mip_bcache.specs.Seen as caches
 use Rattle.mip_entries.specs.declared.entry.Entry.{Entry}
@@ -20,7 +18,7 @@ use Rattle.mip_links.specs.declared.delivery.Delivery.{Delivery}
 use Rattle.mip_links.specs.declared.delivery.Delivery.TheVariants.{Idle, Gone, Outsider, Node}
 use Rattle.mip_history.specs.Setup.{Setup, Host, Kind, is_mobile_host}
 use Rattle.mip_history.specs.Setup.Kind.{Correspondent, Agent, Mobile}
-use Rattle.mip_history.specs.Runs.{Run, note, notes, entered, without, with_past, with_agent_past}
+use Rattle.mip_history.specs.Runs.{Run, note, entered, without, with_past, with_agent_past}
 use Rattle.mip_history.specs.Questions.{hears_in, life_in, asked_in}
 use Rattle.mip_history.specs.Calls as calls
 use Rattle.mip_history.specs.Calls.{Call, Take}
@@ -28,7 +26,6 @@ use Rattle.mip_history.specs.Claims.{link_id, claims}
 use Rattle.mip_history.specs.Homes.{gives_up}
 use Rattle.mip_history.specs.Knowing.{now_in, secrets_in, known_in, agent_known_in, mobile_known_in}
 use Rattle.mip_history.specs.Nodes.{acts, row_entry, home_entry, rows_by_kind, rows_shown, shown}
-use Rattle.mip_history.specs.Posting.{heards, is_other, overheard}
 use Rattle.mip_history.specs.Delivery.{handed_over, overheard_at, hears_there, handed, is_no_holder, became, arrival_link, arrived, delivered, carried_one, carried}
 use Rattle.mip_history.specs.Outsiders.{injected, injected_if, probe_packet, update_packet, test_packet}
 use Rattle.mip_history.specs.Waiting.{Waiting, due_of, earliest, comes_to, is_due, ticks_one, ticked, works, works_on, works_until, waited}
