@@ -7,3 +7,4 @@ pub mod Ends
 pub mod Pasts
 pub mod Agents
 pub mod AgentRuns
+pub mod Searches

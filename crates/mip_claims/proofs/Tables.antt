@@ -123,9 +123,26 @@ module _ (m who : ℕ) (apart : (m == who) ≡ false) where
         by None = safe run entries.Idle (safe_other m run.past entries.Idle refl) p
         by (Some link) = claim link (holder_in run.past address.0) refl
 
--- who lives at a home address is a mobile
+-- who lives at a home address does so, and is a mobile
+pub resident_lives : (s : Setup) (run : Run) (address x : ℕ) → resident s run address ≡ Some x → lives_at s run address x ≡ true
+resident_lives s run address x = found (length s.hosts)
+  where
+    last : (n : ℕ) (b : Bool) → lives_at s run address n ≡ b → (if b then Some n else None) ≡ Some x → lives_at s run address x ≡ true
+    last n true lives is =
+        let same : n ≡ x = cc in
+        subst (λ (k : ℕ). lives_at s run address k ≡ true) same lives
+    last n false lives is = absurd cc
+
+    by : (n : ℕ) (o : Option ℕ) → (o ≡ Some x → lives_at s run address x ≡ true) → or_else o (if lives_at s run address n then Some n else None) ≡ Some x → lives_at s run address x ≡ true
+    by n None more is = last n (lives_at s run address n) refl is
+    by n (Some y) more is = more is
+
+    found : (n : ℕ) → first_below (lives_at s run address) n ≡ Some x → lives_at s run address x ≡ true
+    found zero is = absurd cc
+    found (suc n) is = by n (first_below (lives_at s run address) n) (found n) is
+
 pub resident_mobile : (s : Setup) (run : Run) (address x : ℕ) → resident s run address ≡ Some x → is_mobile_at s x ≡ true
-resident_mobile s run address x = found (length s.hosts)
+resident_mobile s run address x is = of_host (slice_get s.hosts x) (resident_lives s run address x is)
   where
     of_kind : (host : Host) (kind : Kind) → lives_by_kind s run address x host.address kind ≡ true → is_mobile_kind kind ≡ true
     of_kind host (Correspondent room) is = absurd cc
@@ -135,20 +152,6 @@ resident_mobile s run address x = found (length s.hosts)
     of_host : (o : Option Host) → lives_by_host s run address x o ≡ true → is_mobile_host o ≡ true
     of_host None is = absurd cc
     of_host (Some host) is = of_kind host host.kind is
-
-    last : (n : ℕ) (b : Bool) → lives_at s run address n ≡ b → (if b then Some n else None) ≡ Some x → is_mobile_at s x ≡ true
-    last n true lives is =
-        let same : n ≡ x = cc in
-        of_host (slice_get s.hosts x) (subst (λ (k : ℕ). lives_at s run address k ≡ true) same lives)
-    last n false lives is = absurd cc
-
-    by : (n : ℕ) (o : Option ℕ) → (o ≡ Some x → is_mobile_at s x ≡ true) → or_else o (if lives_at s run address n then Some n else None) ≡ Some x → is_mobile_at s x ≡ true
-    by n None more is = last n (lives_at s run address n) refl is
-    by n (Some y) more is = more is
-
-    found : (n : ℕ) → first_below (lives_at s run address) n ≡ Some x → is_mobile_at s x ≡ true
-    found zero is = absurd cc
-    found (suc n) is = by n (first_below (lives_at s run address) n) (found n) is
 
 -- behind its release nobody holds an address
 released_holder : (past : List Entry) (who : ℕ) (link : LinkId) (address : Address) → holder_in (past ++ entries.Released who link address ∷ []) address.0 ≡ None
