@@ -8,3 +8,5 @@ pub mod Pasts
 pub mod Agents
 pub mod AgentRuns
 pub mod Searches
+pub mod Mobiles
+pub mod MobileRuns

@@ -44,10 +44,10 @@ module _ (own : Address) (m : ℕ) where
   silent_other (entries.Taken who link address holder) other = absurd cc
   silent_other _ other = refl
 
-  silent_claimed : (who : ℕ) (link : LinkId) (address : Address) → (m == who) ≡ false → search_told own m (entries.Claimed who link address) ≡ None
+  pub silent_claimed : (who : ℕ) (link : LinkId) (address : Address) → (m == who) ≡ false → search_told own m (entries.Claimed who link address) ≡ None
   silent_claimed who link address apart = ap (λ (b : Bool). if b && not (address.0 == own.0) then Some (OfClaim address) else None) apart
 
-  silent_home : (who : ℕ) (link : LinkId) (address : Address) → (address.0 == own.0) ≡ true → search_told own m (entries.Claimed who link address) ≡ None
+  pub silent_home : (who : ℕ) (link : LinkId) (address : Address) → (address.0 == own.0) ≡ true → search_told own m (entries.Claimed who link address) ≡ None
   silent_home who link address home = ap (λ (b : Bool). if (m == who) && not b then Some (OfClaim address) else None) home ∙ by (m == who)
     where
       by : (b : Bool) → (if b && not true then Some (OfClaim address) else None) ≡ None

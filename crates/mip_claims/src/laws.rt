@@ -1,6 +1,6 @@
 //! The laws, each the contract of a function that does nothing.
 
-ghost use Rattle.std.specs.Prelude.{◌≡◌, ◌≢◌, ◌++◌, ℕ, List, ◌∷◌, true, false, Some, slice_get};
+ghost use Rattle.std.specs.Prelude.{◌≡◌, ◌≢◌, ◌++◌, ℕ, List, ◌∷◌, true, false, Option, Some, slice_get};
 ghost use Rattle.mip_words.specs.declared.address.Address.{Address};
 ghost use Rattle.mip_words.specs.declared.ids.LinkId.{LinkId};
 ghost use Rattle.mip_entries.specs.declared.entry.Entry.{Entry};
@@ -9,14 +9,14 @@ ghost use Rattle.mip_rules_agent.specs.Questions.{holds};
 ghost use Rattle.mip_links.specs.Table.{holder_outside};
 ghost use Rattle.mip_schedule.specs.declared.event.Event.{Event};
 ghost use Rattle.mip_history.specs.Setup.{Setup};
-ghost use Rattle.mip_history.specs.Setup.Kind.{Agent};
-ghost use Rattle.mip_history.specs.Runs.{agent_past_at};
+ghost use Rattle.mip_history.specs.Setup.Kind.{Agent, Mobile};
+ghost use Rattle.mip_history.specs.Runs.{agent_past_at, mobile_past_at};
 ghost use Rattle.mip_history.specs.Questions.{holder_in};
 ghost use Rattle.mip_history.specs.Knowing.{agent_known_in};
 ghost use Rattle.mip_history.specs.Permitted.{run_of};
 ghost use Rattle.mip_history.specs.Registered.{is_agent_at};
 ghost use Rattle.mip_claims.specs.Seekers.{MayFindTaken};
-ghost use Rattle.mip_claims.specs.Claimings.{Claiming, claimings_told, is_on_link, agent_claimings};
+ghost use Rattle.mip_claims.specs.Claimings.{Claiming, claimings_told, is_on_link, agent_claimings, searches_told, mobile_searches};
 
 /// Only a mobile or an outsider finds an address taken. A home agent claims a home address where its place answers that it may have
 /// it, and the table then says the same; so where no node's number is an outsider's, as in every schedule that was read, no agent
@@ -44,4 +44,13 @@ pub fn agents_hold_what_they_claimed()
     ensures { (s : Setup) (events : List Event) (n : ℕ) (own : Address) (preference life room : ℕ) (serves : List Address) (home : Address)
         → slice_get s.hosts n ≡ Some (record { address = own; kind = Agent preference life room serves }) → ((o : ℕ) → n ≢ holder_outside o)
         → holds (agent_known_in (run_of s events) n serves) home ≡ true → is_on_link s.links home ≡ true → holder_in (run_of s events).past home.0 ≡ Some n }
+{}
+
+/// What the steps of a mobile claim, through all its lives, is what the entries tell of it, one for one and in order: each address
+/// other than its home address that a step claims is claimed and never taken, and each that a step finds taken is told as taken, with
+/// the same holder. The home address is left out, since it passes to its mobile at home without a step. About an address that is on no
+/// link nothing is done. RFC 6275 section 11.5.1
+pub fn mobiles_claim_as_told()
+    ensures { (s : Setup) (events : List Event) (n : ℕ) (own : Address) (agent : Option Address) → slice_get s.hosts n ≡ Some (record { address = own; kind = Mobile agent })
+        → ((o : ℕ) → n ≢ holder_outside o) → searches_told own n (run_of s events).past ≡ mobile_searches s.links own (mobile_past_at (run_of s events) n) }
 {}

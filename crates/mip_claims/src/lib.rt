@@ -3,4 +3,7 @@
 
 mod laws;
 
-pub use laws::{agents_claim_as_told, agents_hold_what_they_claimed, taken_names_no_agent};
+pub use laws::{
+    agents_claim_as_told, agents_hold_what_they_claimed, mobiles_claim_as_told,
+    taken_names_no_agent,
+};
