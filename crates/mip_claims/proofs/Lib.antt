@@ -1,0 +1,12 @@
+pub mod Updating
+pub mod Taken
+pub mod Noting
+pub mod Walking
+pub mod Tables
+pub mod Ends
+pub mod Pasts
+pub mod Agents
+pub mod AgentRuns
+pub mod Searches
+pub mod Mobiles
+pub mod MobileRuns

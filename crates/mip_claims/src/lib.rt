@@ -1,0 +1,9 @@
+//! The table of claims and the roles agree: who finds an address taken, and what a role's steps claim and give up.
+#![tactic(auto)]
+
+mod laws;
+
+pub use laws::{
+    agents_claim_as_told, agents_hold_what_they_claimed, mobiles_claim_as_told,
+    taken_names_no_agent,
+};
