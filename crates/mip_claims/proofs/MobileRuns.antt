@@ -41,9 +41,8 @@ use Rattle.mip_history.specs.Homes.{gives_up}
 use Rattle.mip_history.specs.Knowing.{link_or_first, now_in, secrets_in, identity_in, known_in, agent_of, agent_known_in, mobile_known_in, stands_on, around_in}
 use Rattle.mip_history.specs.Nodes.{answered, turned, agent_turned, mobile_turned, asks, by_kind, by_host, acts}
 use Rattle.mip_history.specs.Restarting.{homes_left}
-use Rattle.mip_history.specs.Permitted.{is_first_agent, anycast_at, claimed_entry, claims_of, claims_from, opening_claims, opened, run_of}
+use Rattle.mip_history.specs.Permitted.{is_first_agent, anycast_at, claimed_entry, claims_of, claims_from, opened, run_of}
 use Rattle.mip_claims.specs.Claimings.{Claiming, search_told, searches_told, mobile_search, mobile_searches}
-use Rattle.mip_claims.proofs.Noting.{is_claiming}
 use Rattle.mip_claims.proofs.Walking.{KeepsClaims, walk_run}
 use Rattle.mip_claims.proofs.Pasts.{answers_mobiles}
 use Rattle.mip_claims.proofs.Searches.{search_same, silent_other, silent_claimed, silent_home, gives_up_silent, claims_silent, answers_silent}
@@ -128,7 +127,7 @@ module _ (s : Setup) (m : ℕ) (own : Address) (agent : Option Address) (host : 
         let inside : m < length s.hosts = slice_get_within s.hosts m (record { address = own; kind = Mobile agent }) host in
         let long : length run.mobile_pasts ≡ length s.hosts = h.long in
         let here : mobile_past_at final m ≡ new =
-            ap (λ (l : List (List (Stamped Step))). slice_index_or l m []) pasts ∙ get_or-set_same run.mobile_pasts m new [] (omega (arith, long, inside)) in
+        ap (λ (l : List (List (Stamped Step))). slice_index_or l m []) pasts ∙ get_or-set_same run.mobile_pasts m new [] (omega (arith, long, inside)) in
         record {
           long = ap (λ (l : List (List (Stamped Step))). length l) pasts ∙ length-set run.mobile_pasts m new ∙ long;
           told =

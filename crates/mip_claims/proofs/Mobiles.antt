@@ -1,6 +1,6 @@
 -- A turn of a mobile tells which addresses it claims and finds taken: the table says what its place answered as the call began.
 use Rattle.std.proofs.Common.{◌≡◌, ℕ, List, [], ◌∷◌, ◌++◌, Bool, true, false, refl, sym, ap, ◌∙◌, subst, arith}
-use Rattle.std.specs.Prelude.{Option, Some, None, is_some, unwrap_or, not, ◌==◌, ◌&&◌, ◌||◌, if◌then◌else◌, slice_get}
+use Rattle.std.specs.Prelude.{Option, Some, None, is_some, not, ◌==◌, ◌&&◌, if◌then◌else◌, slice_get}
 use Rattle.std.specs.List.{filter_map, cons_option}
 use Rattle.std.proofs.lemmas.List.{append_assoc, append-nil}
 use Rattle.std.proofs.lemmas.List.Elements.{filter_map-append}
@@ -13,12 +13,10 @@ use Rattle.mip_outside.specs.declared.claim.Claim.{Claim}
 use Rattle.mip_outside.specs.declared.claim.Claim.TheVariants as claim
 use Rattle.mip_outside.specs.Places.{is_held, claim_of}
 use Rattle.mip_entries.specs.declared.answer.Answer.{Answer}
-use Rattle.mip_entries.specs.declared.answer.Answer.TheVariants.{Send, Note}
 use Rattle.mip_entries.specs.declared.entry.Entry.{Entry}
 use Rattle.mip_entries.specs.declared.entry.Entry.TheVariants as entries
 use Rattle.mip_transitions.proofs.TurnLaws.{noted-known, noted-steps}
 use Rattle.mip_transitions.proofs.ShowLaws.{answers-noted}
-use Rattle.mip_rules_correspondent.specs.Calls as parts
 use Rattle.mip_rules_correspondent.specs.Wholes.{is_own}
 use Rattle.mip_rules_mobile.specs.declared.attachment.Attachment.{Attachment}
 use Rattle.mip_rules_mobile.specs.declared.attachment.Attachment.TheVariants.{Detached, AtHome, Away}
@@ -32,7 +30,7 @@ use Rattle.mip_rules_mobile.specs.RowQuestions.{peer_of_row, is_bound_row}
 use Rattle.mip_rules_mobile.specs.Questions.{after}
 use Rattle.mip_rules_mobile.specs.Transitions.{Transition, begun, noted}
 use Rattle.mip_rules_mobile.specs.TrialRules.{each_row}
-use Rattle.mip_rules_mobile.specs.MovingRules.{releases, unbinds_with, unbinds, leaves, settles, arrives_by, address_under, arrives, uses_prefix, leaves_first, attaches, registers_if_away, restarts}
+use Rattle.mip_rules_mobile.specs.MovingRules.{releases, unbinds_with, unbinds, leaves, arrives_by, address_under, arrives, uses_prefix, leaves_first, attaches, registers_if_away, restarts}
 use Rattle.mip_rules_mobile.specs.Part.{is_restart}
 use Rattle.mip_rules_mobile.specs.Answering.{stays_put}
 use Rattle.mip_rules_mobile.specs.Doing.{does, turn_of}
@@ -52,7 +50,7 @@ use Rattle.mip_history.specs.Questions.{holder_in}
 use Rattle.mip_history.specs.Claims.{link_id, claim_entry, claimed_on, claims}
 use Rattle.mip_history.specs.Knowing.{other_than}
 use Rattle.mip_history.specs.Nodes.{left_by, answered_one, answered}
-use Rattle.mip_claims.specs.Claimings.{Claiming, search_told, searches_told, is_on_link, mobile_search}
+use Rattle.mip_claims.specs.Claimings.{Claiming, search_told, searches_told, mobile_search}
 use Rattle.mip_claims.specs.Claimings.Claiming.{Claims as OfClaim, FindsTaken as OfTaken}
 use Rattle.mip_claims.proofs.Noting.{is_claiming, left_kept, sent_kept}
 use Rattle.mip_claims.proofs.Tables.{same_holder, off_link_claim, free_claim_is}
@@ -376,7 +374,7 @@ module _ (s : Setup) (m : ℕ) (own : Address) (agent : Option Address) (host : 
         arrives_told t p claim.Waiting is = every-settles c Told (more c) (noted (Arrives a) t) (told_quiet (Arrives a) t refl tt p.told)
         arrives_told t p (claim.Taken holder) is =
             let other : other_than m (holder_in (then_ t).past a.0) ≡ Some holder =
-                ap (other_than m) p.holder ∙ taken_of (other_than m (holder_in start.past a.0)) (own.0 == a.0) holder (sym answers ∙ is) in
+            ap (other_than m) p.holder ∙ taken_of (other_than m (holder_in start.past a.0)) (own.0 == a.0) holder (sym answers ∙ is) in
             claim_step (FindsTaken a holder) t p.told (taken_told (then_ t) holder other)
 
         arriving_told : (t : Transition) → IsSame t → Told (arrives prefix of_address t)

@@ -16,7 +16,7 @@ use Rattle.mip_links.specs.Nets.{is_held_by}
 use Rattle.mip_history.specs.Setup.{Setup, Host}
 use Rattle.mip_history.specs.Setup.Kind.{Mobile}
 use Rattle.mip_history.specs.Runs.{Run, note, entered}
-use Rattle.mip_history.specs.Questions.{holder_says, holder_in}
+use Rattle.mip_history.specs.Questions.{holder_in}
 use Rattle.mip_history.specs.Claims.{link_id, claim_entry, claimed_on, claims}
 use Rattle.mip_history.specs.Homes.{is_at_home, lives_by_host, lives_at, resident, passes_to, left_on, given_up_on, gives_up}
 use Rattle.mip_history.specs.Knowing.{mobile_known_in}
