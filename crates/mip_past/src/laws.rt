@@ -1,15 +1,13 @@
 //! The laws, each the contract of a function that does nothing; `specs/AsAsked` has their statements, but for the last one. The first four speak of the
 //! places behind the entries of the first k events, since what a node knows is stated between two events.
 
-ghost use Rattle.std.specs.Prelude.{◌≡◌, ℕ, List, option_and_then};
-ghost use Rattle.std.specs.List.{AllByRecursion};
+ghost use Rattle.std.specs.Prelude.{ℕ, List};
 ghost use Rattle.mip_binding.specs.Acceptance.{Acceptance};
-ghost use Rattle.mip_binding.specs.Held.{held, floor};
 ghost use Rattle.mip_schedule.specs.Contents.{Content};
 ghost use Rattle.mip_schedule.specs.declared.event.Event.{Event};
 ghost use Rattle.mip_history.specs.Setup.{Setup};
 ghost use Rattle.mip_past.specs.AsAsked.{IsFront, IsPermittedFront, AreKeepersAsAsked, AreAgentsAsAsked, AreMobilesAsAsked, IsHolderFound, IsHeldBound, AreRegistered};
-ghost use Rattle.mip_past.specs.OneNumber.{last_of, careof_to_its_end, sequence_for_a_while};
+ghost use Rattle.mip_past.specs.OneNumber.{IsHeldOfTheLast, IsKeptOfTheLast};
 
 /// A history only grows. So what lies before the place behind some first events is what these leave, at their moment; and each
 /// node has its own address there.
@@ -54,6 +52,6 @@ pub fn answers_have_their_update()
 /// Where each acceptance has number 0, as in a schedule of version 1, a home is held at the care-of address of its last acceptance
 /// alone, to the end of that, and the sequence of that acceptance is kept. No earlier one counts.
 pub fn one_number_leaves_the_last()
-    ensures held { (xs : List Acceptance) (home now : ℕ) → AllByRecursion (λ a. a.number ≡ 0) xs → held xs home now ≡ option_and_then (careof_to_its_end home now) (last_of home xs) }
-    ensures floor { (xs : List Acceptance) (home now : ℕ) → AllByRecursion (λ a. a.number ≡ 0) xs → floor xs home now ≡ option_and_then (sequence_for_a_while now) (last_of home xs) }
+    ensures held { (xs : List Acceptance) (home now : ℕ) → IsHeldOfTheLast xs home now }
+    ensures floor { (xs : List Acceptance) (home now : ℕ) → IsKeptOfTheLast xs home now }
 {}
