@@ -137,9 +137,6 @@ module _ (s : Setup) (m : ℕ) (own : Address) (agent : Option Address) (host : 
               ∙ ap (mobile_searches s.links own) (sym here);
         }
 
-    staying : (c : mobiles.Call) → Told s m own agent host from (middle c) (turn c) → IsTelling (mobile_turned s m own (turn c) run)
-    staying c told = finish c told
-
     own_kind : (call : Call) → IsTelling (by_kind s m own call run (Mobile agent))
     own_kind (Take number shield packet) = let c = mobiles.Take number shield packet in finish c (staying_told s m own agent host from (middle c) k (now_in s run) c refl refl)
     own_kind (Send to proto payload) = let c = mobiles.Send to proto payload in finish c (staying_told s m own agent host from (middle c) k (now_in s run) c refl refl)
