@@ -130,9 +130,9 @@ module _ (s : Setup) (run : Run) (n : ℕ) (h : Handed) where
       × (list_any agent_refusing.is_claim (agent_turn s run n own preference life room serves h).steps ≡ false)
   agent_leaves own preference life room serves host refuses = (
     subst (λ (o : Option Host). agent_refusing.KeepsTables k (agent_known_in (by_host s n call run o) n serves)) (sym host)
-    (subst (λ (l : List (List (Stamped agents.Step))). agent_refusing.KeepsTables k (agent_questions.known serves (slice_index_or l n []))) (sym pasts.1)
-    (at_place (λ (l : List (Stamped agents.Step)). agent_refusing.KeepsTables k (agent_questions.known serves l)) run.agent_pasts n more
-    (record { homes = refl; ends = refl; plan = refl; agents = refl }) (subst (agent_refusing.KeepsTables k) (sym knows) kept))),
+        (subst (λ (l : List (List (Stamped agents.Step))). agent_refusing.KeepsTables k (agent_questions.known serves (slice_index_or l n []))) (sym pasts.1)
+        (at_place (λ (l : List (Stamped agents.Step)). agent_refusing.KeepsTables k (agent_questions.known serves l)) run.agent_pasts n more
+        (record { homes = refl; ends = refl; plan = refl; agents = refl }) (subst (agent_refusing.KeepsTables k) (sym knows) kept))),
     keeps.2,
   )
     where

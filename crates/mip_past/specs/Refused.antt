@@ -1,5 +1,5 @@
 -- What a node of a run keeps of a packet that it drops, or whose update it denies: its tables are as they were. RFC 6275 sections
--- 9.5.1, 10.3.1, 11.7.3
+-- 9.5.1, 10.3.1, 11.6.2, 11.7.3
 use Rattle.std.specs.Prelude.{◌≡◌, ℕ, List, true, false, Option, Some, None, slice_get}
 use Rattle.std.specs.List.{list_any}
 use Rattle.mip_words.specs.declared.address.Address.{Address}
