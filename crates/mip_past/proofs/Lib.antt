@@ -2,3 +2,4 @@ pub mod Recalling
 pub mod AtPlaces
 pub mod Examples
 pub mod OneNumber
+pub mod Refused

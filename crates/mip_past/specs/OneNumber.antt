@@ -18,8 +18,6 @@ abbrev pub sequence_for_a_while : ℕ → Acceptance → Option ℕ
 sequence_for_a_while now a = if nat_lt now (kept_until_of a) then Some a.sequence else None
 
 -- where each acceptance has number 0: what is held is of the last acceptance of the home, and so is the sequence that is kept
-abbrev pub IsHeldOfTheLast : List Acceptance → ℕ → ℕ → Type 0
-IsHeldOfTheLast xs home now = AllByRecursion (λ a. a.number ≡ 0) xs → held xs home now ≡ option_and_then (careof_to_its_end home now) (last_of home xs)
-
-abbrev pub IsKeptOfTheLast : List Acceptance → ℕ → ℕ → Type 0
-IsKeptOfTheLast xs home now = AllByRecursion (λ a. a.number ≡ 0) xs → floor xs home now ≡ option_and_then (sequence_for_a_while now) (last_of home xs)
+pub record IsOfTheLast (home now : ℕ) : Type 0 where
+  pub careof : (xs : List Acceptance) → AllByRecursion (λ a. a.number ≡ 0) xs → held xs home now ≡ option_and_then (careof_to_its_end home now) (last_of home xs)
+  pub sequence : (xs : List Acceptance) → AllByRecursion (λ a. a.number ≡ 0) xs → floor xs home now ≡ option_and_then (sequence_for_a_while now) (last_of home xs)

@@ -1,8 +1,5 @@
 use Rattle.mip_past.proofs.OneNumber.{held-last, floor-last}
 use Rattle.mip_past.proofs.laws.one_number_leaves_the_last.Goals as goal
 
-pub returns-clause-held : goal.returns-clause-held
-returns-clause-held c = held-last
-
-pub returns-clause-floor : goal.returns-clause-floor
-returns-clause-floor c = floor-last
+pub returns : goal.returns
+returns c = λ home now. record { careof = λ xs are. held-last xs home now are; sequence = λ xs are. floor-last xs home now are }
