@@ -10,3 +10,6 @@ pub mod AgentRuns
 pub mod Searches
 pub mod Mobiles
 pub mod MobileRuns
+pub mod Staying
+pub mod Holding
+pub mod HoldingRuns
