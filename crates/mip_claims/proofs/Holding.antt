@@ -27,7 +27,7 @@ use Rattle.mip_rules_mobile.proofs.Steady.{standing-noted}
 use Rattle.mip_links.specs.Table.{Post, link_of}
 use Rattle.mip_history.specs.Setup.{Setup}
 use Rattle.mip_history.specs.Setup.Kind.{Mobile}
-use Rattle.mip_history.specs.Runs.{Run}
+use Rattle.mip_history.specs.Runs.{Run, note, entered}
 use Rattle.mip_history.specs.Questions.{holder_in}
 use Rattle.mip_history.specs.Claims.{link_id, claims}
 use Rattle.mip_history.specs.Knowing.{other_than}
@@ -39,7 +39,7 @@ use Rattle.mip_claims.proofs.Mobiles.{IsRight, own_other, free_of, then_, then_n
 use Rattle.mip_claims.proofs.Staying.{is_plain, still_settles, still_if_away, still_handles}
 
 -- answers that claim no address and give up none
-abbrev is_claim : Answer → Bool
+abbrev pub is_claim : Answer → Bool
 is_claim (Send shield packet) = false
 is_claim (Note e) = is_claiming e
 
@@ -49,7 +49,7 @@ claims_none (Releases address) = false
 claims_none (FindsTaken address holder) = false
 claims_none _ = true
 
-none_claims : (step : Step) → claims_none step ≡ true → IsRight step → list_any is_claim (answer_of step) ≡ false
+pub none_claims : (step : Step) → claims_none step ≡ true → IsRight step → list_any is_claim (answer_of step) ≡ false
 none_claims (Notes entry) is right = ap (λ (b : Bool). b || false) (own_other entry right)
 none_claims (Claims address) is right = absurd cc
 none_claims (Releases address) is right = absurd cc
@@ -62,7 +62,7 @@ plain_claims (Releases address) is = absurd cc
 plain_claims (FindsTaken address holder) is = absurd cc
 plain_claims _ is = refl
 
-plain_right : (step : Step) → is_plain step ≡ true → IsRight step
+pub plain_right : (step : Step) → is_plain step ≡ true → IsRight step
 plain_right (Notes entry) is = absurd cc
 plain_right _ is = tt
 
@@ -72,17 +72,20 @@ plain_standing (Arrives address) k is = absurd cc
 plain_standing Detaches k is = absurd cc
 plain_standing _ k is = refl
 
--- such answers leave each address its holder
+-- what entries that tell of no claim keep, such answers keep
+module _ (s : Setup) (m from : ℕ) (P : Run → Type 0) (one : (run : Run) (e : Entry) → is_claiming e ≡ false → P run → P (note e run)) (enters : (run : Run) (post : Post) → P run → P (entered post run)) where
+  pub unclaimed_kept : (answers : List Answer) (x : Run) → list_any is_claim answers ≡ false → P x → P (answered s m from x answers)
+  unfolding answered
+  unclaimed_kept [] x none p = p
+  unclaimed_kept (Send shield packet ∷ answers) x none p =
+      unclaimed_kept answers (answered_one s m from x (Send shield packet)) none (sent_kept s P one enters m from shield packet x p)
+  unclaimed_kept (Note e ∷ answers) x none p =
+      let both = or_parts (is_claiming e) (list_any is_claim answers) none in unclaimed_kept answers (left_by s m x e) both.1 (left_kept s P one m e x both.0 p)
+
+-- so they leave each address its holder
 same_holders : (s : Setup) (m from a : ℕ) (answers : List Answer) (x : Run) → list_any is_claim answers ≡ false → holder_in (answered s m from x answers).past a ≡ holder_in x.past a
-unfolding answered
-same_holders s m from a [] x none = refl
-same_holders s m from a (Send shield packet ∷ answers) x none =
-    same_holders s m from a answers (answered_one s m from x (Send shield packet)) none
-    ∙ sent_kept s (λ (r : Run). holder_in r.past a ≡ holder_in x.past a) (λ (r : Run) (e : Entry) other q. same_holder r.past e a other ∙ q) (λ (r : Run) (post : Post) q. q) m from shield packet x refl
-same_holders s m from a (Note e ∷ answers) x none =
-    let both = or_parts (is_claiming e) (list_any is_claim answers) none in
-    same_holders s m from a answers (left_by s m x e) both.1
-    ∙ left_kept s (λ (r : Run). holder_in r.past a ≡ holder_in x.past a) (λ (r : Run) (o : Entry) other q. same_holder r.past o a other ∙ q) m e x both.0 refl
+same_holders s m from a answers x none =
+    unclaimed_kept s m from (λ (r : Run). holder_in r.past a ≡ holder_in x.past a) (λ (r : Run) (e : Entry) other q. same_holder r.past e a other ∙ q) (λ (r : Run) (post : Post) q. q) answers x none refl
 
 -- where a mobile stands by an address that it uses
 standing_away : (home a careof : Address) → standing_at home a ≡ Away careof → a ≡ careof
@@ -127,7 +130,7 @@ module _ (s : Setup) (m : ℕ) (own : Address) (agent : Option Address) (host : 
   detached step t none careof here on = absurd (let both : Detached ≡ Away careof = sym (standing-noted step t ∙ none) ∙ here in cc)
 
   module _ (k : Known) (now : ℕ) (before : (careof : Address) → k.standing ≡ Away careof → is_on_link s.links careof ≡ true → holder_in start.past careof.0 ≡ Some m) where
-    first : (c : Call) → Holds (noted (Called c) (begun now k))
+    pub first : (c : Call) → Holds (noted (Called c) (begun now k))
     unfolding answered
     first c = plain (Called c) (begun now k) refl (λ careof here on. before careof here on)
 

@@ -127,9 +127,9 @@ module _ (s : Setup) (m : ℕ) (own : Address) (agent : Option Address) (host : 
   abbrev knows : List (Stamped Step) → Known
   knows past = known own agent s.numbers (secrets_in s m 0) past
 
-  record IsHolding (run : Run) : Type 0 where
-    long : length run.mobile_pasts ≡ length s.hosts
-    held : HoldsWhatItUses s run m own agent
+  pub record IsHolding (run : Run) : Type 0 where
+    pub long : length run.mobile_pasts ≡ length s.hosts
+    pub held : HoldsWhatItUses s run m own agent
 
   holding_left : (run : Run) (e : Entry) → LeavesHeld m run.past e → IsHolding run → IsHolding (note e run)
   holding_left run e leaves h = record { long = h.long; held = λ careof here on. leaves careof.0 (h.held careof here on) }
@@ -246,14 +246,14 @@ module _ (s : Setup) (m : ℕ) (own : Address) (agent : Option Address) (host : 
     own_acts : (call : Call) → IsHolding (acts s m call run)
     own_acts call = subst (λ (o : Option Host). IsHolding (by_host s m call run o)) (sym host) (own_kind call)
 
-  acts_holding : (run : Run) (n : ℕ) (call : Call) → IsHolding run → IsHolding (acts s n call run)
+  pub acts_holding : (run : Run) (n : ℕ) (call : Call) → IsHolding run → IsHolding (acts s n call run)
   acts_holding run n call h = elim (cases_eq m n) as (λ _. IsHolding (acts s n call run)) [
     | inl e ↦ subst (λ (x : ℕ). IsHolding (acts s x call run)) e (own_acts run h call)
     | inr other ↦ other_acts n other run h call
   ]
 
   -- an agent begins its next life
-  agent_apart : (n : ℕ) (own' : Address) (preference life room : ℕ) (serves : List Address)
+  pub agent_apart : (n : ℕ) (own' : Address) (preference life room : ℕ) (serves : List Address)
       → slice_get s.hosts n ≡ Some (record { address = own'; kind = Agent preference life room serves }) → (m == n) ≡ false
   agent_apart n own' preference life room serves is = by (m == n) refl
     where
@@ -266,7 +266,7 @@ module _ (s : Setup) (m : ℕ) (own : Address) (agent : Option Address) (host : 
   left_holding n apart [] run h = h
   left_holding n apart (r ∷ rows) run h = left_holding n apart rows (gives_up s n r.home run) (others_give_up s m IsHolding holding_left n apart r.home run h)
 
-  holding_keeps : KeepsClaims s IsHolding
+  pub holding_keeps : KeepsClaims s IsHolding
   holding_keeps = record {
     other = λ run e is h. holding_other run e is h;
     enters = λ run post h. holding_entered run post h;
@@ -281,7 +281,7 @@ module _ (s : Setup) (m : ℕ) (own : Address) (agent : Option Address) (host : 
   }
 
   -- before the first event it is at home
-  no_past : (hosts : List Host) (n : ℕ) → slice_index_or (map (λ (x : Host). let l : List (Stamped Step) = [] in l) hosts) n [] ≡ []
+  pub no_past : (hosts : List Host) (n : ℕ) → slice_index_or (map (λ (x : Host). let l : List (Stamped Step) = [] in l) hosts) n [] ≡ []
   no_past [] n = refl
   no_past (x ∷ hosts) zero = refl
   no_past (x ∷ hosts) (suc n) = no_past hosts n
@@ -290,7 +290,7 @@ module _ (s : Setup) (m : ℕ) (own : Address) (agent : Option Address) (host : 
   unfolding known
   at_home = refl
 
-  holding_opened : IsHolding (opened s)
+  pub holding_opened : IsHolding (opened s)
   holding_opened = record {
     long = length-map s.hosts (λ (x : Host). let l : List (Stamped Step) = [] in l);
     held =

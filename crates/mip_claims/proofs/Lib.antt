@@ -13,3 +13,6 @@ pub mod MobileRuns
 pub mod Staying
 pub mod Holding
 pub mod HoldingRuns
+pub mod Releasings
+pub mod Releasing
+pub mod ReleasingRuns

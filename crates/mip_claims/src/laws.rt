@@ -9,7 +9,7 @@ ghost use Rattle.mip_history.specs.Setup.Kind.{Agent, Mobile};
 ghost use Rattle.mip_history.specs.Runs.{agent_past_at, mobile_past_at};
 ghost use Rattle.mip_history.specs.Permitted.{run_of};
 ghost use Rattle.mip_claims.specs.Seekers.{EachMayFindTaken, NoAgentFindsTaken};
-ghost use Rattle.mip_claims.specs.Claimings.{Claiming, claimings_told, agent_claimings, searches_told, mobile_searches};
+ghost use Rattle.mip_claims.specs.Claimings.{Claiming, claimings_told, agent_claimings, searches_told, mobile_searches, releases_told, mobile_releases};
 ghost use Rattle.mip_claims.specs.Holdings.{HoldsWhatItClaimed, HoldsWhatItUses};
 
 /// Only a mobile or an outsider finds an address taken. A home agent claims a home address where its place answers that it may have
@@ -52,4 +52,13 @@ pub fn mobiles_claim_as_told()
 pub fn mobiles_hold_what_they_use()
     ensures { (s : Setup) (events : List Event) (n : ℕ) (own : Address) (agent : Option Address) → slice_get s.hosts n ≡ Some (record { address = own; kind = Mobile agent })
         → ((o : ℕ) → n ≢ holder_outside o) → HoldsWhatItUses s (run_of s events) n own agent }
+{}
+
+/// What the steps of a mobile give up, through all its lives, is what the entries tell of it, one for one and in order: each address
+/// other than its home address that a step gives up is released and leaves no `idle`, since the mobile holds it. The home address is
+/// left out, since a mobile gives it up where its place answers that it may have it. About an address that is on no link nothing is
+/// done. RFC 6275 section 11.5.1
+pub fn mobiles_give_up_as_told()
+    ensures { (s : Setup) (events : List Event) (n : ℕ) (own : Address) (agent : Option Address) → slice_get s.hosts n ≡ Some (record { address = own; kind = Mobile agent })
+        → ((o : ℕ) → n ≢ holder_outside o) → releases_told own n (run_of s events).past ≡ mobile_releases s.links own (mobile_past_at (run_of s events) n) }
 {}

@@ -5,5 +5,5 @@ mod laws;
 
 pub use laws::{
     agents_claim_as_told, agents_hold_what_they_claimed, mobiles_claim_as_told,
-    mobiles_hold_what_they_use, taken_names_no_agent,
+    mobiles_give_up_as_told, mobiles_hold_what_they_use, taken_names_no_agent,
 };
