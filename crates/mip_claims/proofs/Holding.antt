@@ -36,7 +36,8 @@ use Rattle.mip_claims.specs.Claimings.{is_on_link}
 use Rattle.mip_claims.proofs.Noting.{is_claiming, left_kept, sent_kept}
 use Rattle.mip_claims.proofs.Tables.{same_holder, free_claim_is, claimed_is}
 use Rattle.mip_claims.proofs.Mobiles.{IsRight, own_other, free_of, then_, then_noted, IsSame, same_first, same_leaves_first}
-use Rattle.mip_claims.proofs.Staying.{is_plain, still_settles, still_if_away, still_handles}
+use Rattle.mip_claims.proofs.StayingRules.{is_plain, still_settles, still_if_away}
+use Rattle.mip_claims.proofs.Staying.{still_handles}
 
 -- answers that claim no address and give up none
 abbrev pub is_claim : Answer → Bool

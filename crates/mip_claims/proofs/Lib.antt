@@ -10,6 +10,7 @@ pub mod AgentRuns
 pub mod Searches
 pub mod Mobiles
 pub mod MobileRuns
+pub mod StayingRules
 pub mod Staying
 pub mod Holding
 pub mod HoldingRuns

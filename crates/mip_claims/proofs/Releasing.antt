@@ -42,7 +42,8 @@ use Rattle.mip_claims.specs.Claimings.{Claiming, is_on_link, release_told, relea
 use Rattle.mip_claims.specs.Claimings.Claiming.{Releases as OfRelease}
 use Rattle.mip_claims.proofs.Tables.{off_link_release, held_release_is}
 use Rattle.mip_claims.proofs.Mobiles.{IsRight, then_, then_noted}
-use Rattle.mip_claims.proofs.Staying.{is_plain, still_settles, still_if_away, still_handles}
+use Rattle.mip_claims.proofs.StayingRules.{is_plain, still_settles, still_if_away}
+use Rattle.mip_claims.proofs.Staying.{still_handles}
 use Rattle.mip_claims.proofs.Holding.{Holds, first, none_claims, plain_right, unclaimed_kept}
 use Rattle.mip_claims.proofs.Releasings.{release_push, release_same, untold_home, plain_untold, claims_untold, passes_untold, gives_up_untold}
 
