@@ -1,4 +1,4 @@
-//! The table of claims and the roles agree: who finds an address taken, and what a role's steps claim and give up.
+//! The table of claims and the roles agree: who finds an address taken, what a role's steps claim and give up, and what it holds.
 #![tactic(auto)]
 
 mod laws;
