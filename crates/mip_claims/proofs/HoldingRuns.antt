@@ -14,15 +14,7 @@ use Rattle.mip_entries.specs.declared.entry.Entry.TheVariants as entries
 use Rattle.mip_entries.specs.Completed.{node_id}
 use Rattle.mip_entries.specs.Stamped.{Stamped}
 use Rattle.mip_transitions.specs.Transitions.{StandsBy}
-use Rattle.mip_rules_correspondent.specs.Calls as correspondent_calls
-use Rattle.mip_rules_correspondent.specs.Transitions as correspondent_turns
-use Rattle.mip_rules_correspondent.specs.Steps as correspondents
-use Rattle.mip_rules_correspondent.specs.Doing as correspondent_doing
 use Rattle.mip_rules_agent.specs.declared.home_row.HomeRow.{HomeRow}
-use Rattle.mip_rules_agent.specs.Calls as agent_calls
-use Rattle.mip_rules_agent.specs.Transitions as agent_turns
-use Rattle.mip_rules_agent.specs.Steps as agents
-use Rattle.mip_rules_agent.specs.Doing as agent_doing
 use Rattle.mip_rules_mobile.specs.declared.attachment.Attachment.TheVariants.{AtHome, Away}
 use Rattle.mip_rules_mobile.specs.Known.{Known}
 use Rattle.mip_rules_mobile.specs.Calls as mobiles
@@ -37,19 +29,20 @@ use Rattle.mip_rules_mobile.proofs.Calls.{stands-known, call-stands}
 use Rattle.mip_links.specs.Table.{Post, link_of, holder_outside}
 use Rattle.mip_links.specs.Nets.{is_held_by}
 use Rattle.mip_schedule.specs.declared.event.Event.{Event}
-use Rattle.mip_history.specs.Setup.{Setup, Host, Kind, is_mobile_host}
-use Rattle.mip_history.specs.Setup.Kind.{Correspondent, Agent, Mobile}
-use Rattle.mip_history.specs.Runs.{Run, note, entered, past_at, agent_past_at, mobile_past_at, with_past, with_agent_past, with_mobile_past}
-use Rattle.mip_history.specs.Calls.{Call, Take, Send as SendsTo, Refresh, Tick, Plan, Hear, Attach, Leave, Ask, Restart, for_correspondent, for_agent, for_mobile}
+use Rattle.mip_history.specs.Setup.{Setup, Host, is_mobile_host}
+use Rattle.mip_history.specs.Setup.Kind.{Agent, Mobile}
+use Rattle.mip_history.specs.Runs.{Run, note, entered, mobile_past_at, with_agent_past, with_mobile_past}
+use Rattle.mip_history.specs.Calls.{Call, Take, Send as SendsTo, Refresh, Tick, Plan, Hear, Attach, Leave, Ask, Restart}
 use Rattle.mip_history.specs.Questions.{holder_in}
 use Rattle.mip_history.specs.Claims.{link_id, claims}
 use Rattle.mip_history.specs.Homes.{resident, passes_to, left_on, given_up_on, gives_up}
-use Rattle.mip_history.specs.Knowing.{link_or_first, now_in, secrets_in, identity_in, known_in, agent_of, agent_known_in, mobile_known_in, stands_on, around_in}
-use Rattle.mip_history.specs.Nodes.{left_by, answered_one, answered, turned, agent_turned, mobile_turned, asks, by_kind, by_host, acts}
+use Rattle.mip_history.specs.Knowing.{now_in, secrets_in, mobile_known_in, stands_on, around_in}
+use Rattle.mip_history.specs.Nodes.{left_by, answered_one, answered, mobile_turned, by_kind, by_host, acts}
 use Rattle.mip_history.specs.Restarting.{homes_left}
 use Rattle.mip_history.specs.Permitted.{opened, run_of}
 use Rattle.mip_claims.specs.Holdings.{HoldsWhatItUses}
 use Rattle.mip_claims.proofs.Noting.{is_claiming, left_kept, sent_kept}
+use Rattle.mip_claims.proofs.Acting.{acts_kept}
 use Rattle.mip_claims.proofs.Walking.{KeepsClaims, walk_run}
 use Rattle.mip_claims.proofs.Pasts.{answers_mobiles}
 use Rattle.mip_claims.proofs.Tables.{holder_push, IsSafe, safe_other, safe_claimed, safe_released, other_holder, held_is, released_holder, not_held, other_claims}
@@ -145,10 +138,6 @@ module _ (s : Setup) (m : ℕ) (own : Address) (agent : Option Address) (host : 
     others : (from : ℕ) (answers : List Answer) (x : Run) → IsHolding x → IsHolding (answered s n from x answers)
     others from answers x p = others_answer s m IsHolding holding_left n (ne_eqb m n other) holding_entered from answers x p
 
-    other_asks : {C : Type 0} (does : C → Run → Run) (call : Option C) → ((c : C) → IsHolding (does c run)) → IsHolding (asks does call run)
-    other_asks does None go = holding_other run entries.Idle refl h
-    other_asks does (Some call) go = go call
-
     elsewhere : (past : List (Stamped Step)) → IsHolding (with_mobile_past n past run)
     elsewhere past = record {
       long = length-set run.mobile_pasts n past ∙ h.long;
@@ -157,26 +146,8 @@ module _ (s : Setup) (m : ℕ) (own : Address) (agent : Option Address) (host : 
           (ap (λ (l : List (Stamped Step)). let k : Known = knows l in k.standing) (sym (get_or-set_other run.mobile_pasts n m past [] other)) ∙ here) on;
     }
 
-    other_kind : (own' : Address) (call : Call) (kind : Kind) → IsHolding (by_kind s n own' call run kind)
-    other_kind own' call (Correspondent room) =
-        other_asks (λ c x. turned s n own' (correspondent_doing.turn_of (identity_in s x n own' room) (known_in s x n room) (now_in s x) c) x) (for_correspondent call) (λ (c : correspondent_calls.Call).
-        let t : correspondent_turns.Transition = correspondent_doing.turn_of (identity_in s run n own' room) (known_in s run n room) (now_in s run) c in
-        others (link_or_first s own'.0) (correspondents.answers_of t.steps) (with_past n (correspondent_turns.with_turn (past_at run n) t) run) (record { long = h.long; held = h.held }))
-    other_kind own' call (Agent preference life room serves) =
-        other_asks (λ c x. agent_turned s n own' (agent_doing.turn_of (agent_of own' preference life room) (agent_known_in x n serves) (now_in s x) c) x) (for_agent (around_in run n None) call) (λ (c : agent_calls.Call).
-        let t : agent_turns.Transition = agent_doing.turn_of (agent_of own' preference life room) (agent_known_in run n serves) (now_in s run) c in
-        others (link_or_first s own'.0) (agents.answers_of t.steps) (with_agent_past n (agent_turns.with_turn (agent_past_at run n) t) run) (record { long = h.long; held = h.held }))
-    other_kind own' call (Mobile agent') =
-        other_asks (λ c x. mobile_turned s n own' (turn_of (mobile_known_in s x n own' agent') (now_in s x) c) x) (for_mobile (around_in run n (Some own'.0)) own' call) (λ (c : mobiles.Call).
-        let t : Transition = turn_of (mobile_known_in s run n own' agent') (now_in s run) c in
-        others (unwrap_or (stands_on s run n own') 0) (answers_of t.steps) (with_mobile_past n (with_turn (mobile_past_at run n) t) run) (elsewhere (with_turn (mobile_past_at run n) t)))
-
     other_acts : (call : Call) → IsHolding (acts s n call run)
-    other_acts call = by (slice_get s.hosts n)
-      where
-        by : (o : Option Host) → IsHolding (by_host s n call run o)
-        by None = holding_other run entries.Idle refl h
-        by (Some host') = other_kind host'.address call host'.kind
+    other_acts call = acts_kept s n IsHolding (λ (r : Run) q. holding_other r entries.Idle refl q) others run h (λ past. record { long = h.long; held = h.held }) (λ past. record { long = h.long; held = h.held }) elsewhere call
 
   -- the mobile itself acts
   module _ (run : Run) (h : IsHolding run) where

@@ -1,6 +1,7 @@
 pub mod Updating
 pub mod Taken
 pub mod Noting
+pub mod Acting
 pub mod Walking
 pub mod Tables
 pub mod Ends
