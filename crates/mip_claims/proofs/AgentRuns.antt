@@ -21,10 +21,6 @@ use Rattle.mip_transitions.specs.Transitions.{known_by, noted_by, StandsBy}
 use Rattle.mip_transitions.proofs.TurnLaws.{none-noted}
 use Rattle.mip_updates.specs.declared.registration.Registration.{Registration}
 use Rattle.mip_updates.specs.Registrations.{home_of, deletes, careof_of}
-use Rattle.mip_rules_correspondent.specs.Calls as correspondent_calls
-use Rattle.mip_rules_correspondent.specs.Transitions as correspondent_turns
-use Rattle.mip_rules_correspondent.specs.Steps as correspondents
-use Rattle.mip_rules_correspondent.specs.Doing as correspondent_doing
 use Rattle.mip_rules_agent.specs.declared.home_binding.HomeBinding.{HomeBinding}
 use Rattle.mip_rules_agent.specs.declared.home_row.HomeRow.{HomeRow}
 use Rattle.mip_rules_agent.specs.declared.identity.Identity.{Identity}
@@ -46,25 +42,22 @@ use Rattle.mip_rules_agent.specs.Doing.{turn_of}
 use Rattle.mip_rules_agent.proofs.Calls.{call-stands}
 use Rattle.mip_rules_agent.proofs.Pasts.{stands-known, served-same, known-served, known-held}
 use Rattle.mip_rules_agent.proofs.VerdictLaws.{sound}
-use Rattle.mip_rules_mobile.specs.Calls as mobile_calls
-use Rattle.mip_rules_mobile.specs.Transitions as mobile_turns
-use Rattle.mip_rules_mobile.specs.Steps as mobiles
-use Rattle.mip_rules_mobile.specs.Doing as mobile_doing
 use Rattle.mip_links.specs.Table.{Post, holder_outside}
 use Rattle.mip_schedule.specs.declared.event.Event.{Event}
-use Rattle.mip_history.specs.Setup.{Setup, Host, Kind, is_mobile_host, is_mobile_at}
-use Rattle.mip_history.specs.Setup.Kind.{Correspondent, Agent, Mobile}
-use Rattle.mip_history.specs.Runs.{Run, note, entered, past_at, agent_past_at, mobile_past_at, with_past, with_agent_past, with_mobile_past}
+use Rattle.mip_history.specs.Setup.{Setup, Host, is_mobile_host, is_mobile_at}
+use Rattle.mip_history.specs.Setup.Kind.{Agent}
+use Rattle.mip_history.specs.Runs.{Run, note, entered, agent_past_at, with_agent_past}
 use Rattle.mip_history.specs.Questions.{holder_in}
-use Rattle.mip_history.specs.Calls.{Call, Take, Tick, Plan, Hear, for_correspondent, for_agent, for_mobile}
+use Rattle.mip_history.specs.Calls.{Call, Take, Tick, Plan, Hear}
 use Rattle.mip_history.specs.Claims.{claims}
 use Rattle.mip_history.specs.Homes.{gives_up}
-use Rattle.mip_history.specs.Knowing.{link_or_first, now_in, identity_in, known_in, agent_of, agent_known_in, mobile_known_in, other_than, around_in}
-use Rattle.mip_history.specs.Nodes.{answered, agent_turned, asks, by_kind, by_host, acts}
+use Rattle.mip_history.specs.Knowing.{link_or_first, now_in, agent_of, agent_known_in, other_than, around_in}
+use Rattle.mip_history.specs.Nodes.{answered, agent_turned, by_kind, by_host, acts}
 use Rattle.mip_history.specs.Restarting.{homes_left}
 use Rattle.mip_history.specs.Permitted.{opened, run_of}
 use Rattle.mip_history.proofs.Keeping.{keeps_gives_up}
 use Rattle.mip_claims.specs.Claimings.{Claiming, claimings_told, is_on_link, agent_claiming, agent_claimings}
+use Rattle.mip_claims.proofs.Acting.{acts_kept}
 use Rattle.mip_claims.proofs.Walking.{KeepsClaims, walk_run}
 use Rattle.mip_claims.proofs.Tables.{IsSafe, safe_other, same_holder, other_claims, other_gives_up, other_answers}
 use Rattle.mip_claims.proofs.Updating.{claiming_steps, acknowledging_steps, by_steps, IsAccepted, taking_is}
@@ -172,32 +165,10 @@ module _ (s : Setup) (m : ℕ) (own : Address) (preference life room : ℕ) (ser
   others_agreed n other from answers run h = other_answers s m none IsAgreed agreed_safe n (ne_eqb m n other) agreed_entered from answers run h
 
   -- another node acts
-  module _ (n : ℕ) (other : m ≢ n) (run : Run) (h : IsAgreed run) where
-    other_asks : {C : Type 0} (does : C → Run → Run) (call : Option C) → ((c : C) → IsAgreed (does c run)) → IsAgreed (asks does call run)
-    other_asks does None go = agreed_safe run entries.Idle (safe_other m run.past entries.Idle refl) h
-    other_asks does (Some call) go = go call
-
-    other_kind : (own' : Address) (call : Call) (kind : Kind) → IsAgreed (by_kind s n own' call run kind)
-    other_kind own' call (Correspondent room') =
-        other_asks _ (for_correspondent call) (λ (c : correspondent_calls.Call).
-        let t : correspondent_turns.Transition = correspondent_doing.turn_of (identity_in s run n own' room') (known_in s run n room') (now_in s run) c in
-        others_agreed n other (link_or_first s own'.0) (correspondents.answers_of t.steps) (with_past n (correspondent_turns.with_turn (past_at run n) t) run) (record { agents = h.agents; on = h.on }))
-    other_kind own' call (Agent preference' life' room' serves') =
-        other_asks (λ c x. agent_turned s n own' (turn_of (agent_of own' preference' life' room') (agent_known_in x n serves') (now_in s x) c) x) (for_agent (around_in run n None) call) (λ (c : agent_calls.Call).
-        let t : agent_turns.Transition = turn_of (agent_of own' preference' life' room') (agent_known_in run n serves') (now_in s run) c in
-        others_agreed n other (link_or_first s own'.0) (answers_of t.steps) (with_agent_past n (agent_turns.with_turn (agent_past_at run n) t) run)
-        (agreed_elsewhere n (agent_turns.with_turn (agent_past_at run n) t) run other h))
-    other_kind own' call (Mobile agent) =
-        other_asks _ (for_mobile (around_in run n (Some own'.0)) own' call) (λ (c : mobile_calls.Call).
-        let t : mobile_turns.Transition = mobile_doing.turn_of (mobile_known_in s run n own' agent) (now_in s run) c in
-        others_agreed n other _ (mobiles.answers_of t.steps) (with_mobile_past n (mobile_turns.with_turn (mobile_past_at run n) t) run) (record { agents = h.agents; on = h.on }))
-
-    other_acts : (call : Call) → IsAgreed (acts s n call run)
-    other_acts call = by (slice_get s.hosts n)
-      where
-        by : (o : Option Host) → IsAgreed (by_host s n call run o)
-        by None = agreed_safe run entries.Idle (safe_other m run.past entries.Idle refl) h
-        by (Some host') = other_kind host'.address call host'.kind
+  other_acts : (n : ℕ) → m ≢ n → (run : Run) → IsAgreed run → (call : Call) → IsAgreed (acts s n call run)
+  other_acts n other run h call =
+      acts_kept s n IsAgreed (λ (r : Run) q. agreed_safe r entries.Idle (safe_other m r.past entries.Idle refl) q) (others_agreed n other) run h (λ past. record { agents = h.agents; on = h.on })
+      (λ past. agreed_elsewhere n past run other h) (λ past. record { agents = h.agents; on = h.on }) call
 
   -- the agent itself acts
   module _ (run : Run) (h : IsAgreed run) where

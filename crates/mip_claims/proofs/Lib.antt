@@ -1,6 +1,7 @@
 pub mod Updating
 pub mod Taken
 pub mod Noting
+pub mod Acting
 pub mod Walking
 pub mod Tables
 pub mod Ends
@@ -10,3 +11,10 @@ pub mod AgentRuns
 pub mod Searches
 pub mod Mobiles
 pub mod MobileRuns
+pub mod StayingRules
+pub mod Staying
+pub mod Holding
+pub mod HoldingRuns
+pub mod Releasings
+pub mod Releasing
+pub mod ReleasingRuns

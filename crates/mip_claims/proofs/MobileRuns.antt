@@ -14,15 +14,7 @@ use Rattle.mip_entries.specs.declared.entry.Entry.{Entry}
 use Rattle.mip_entries.specs.declared.entry.Entry.TheVariants as entries
 use Rattle.mip_entries.specs.Completed.{node_id}
 use Rattle.mip_entries.specs.Stamped.{Stamped, stamped}
-use Rattle.mip_rules_correspondent.specs.Calls as correspondent_calls
-use Rattle.mip_rules_correspondent.specs.Transitions as correspondent_turns
-use Rattle.mip_rules_correspondent.specs.Steps as correspondents
-use Rattle.mip_rules_correspondent.specs.Doing as correspondent_doing
 use Rattle.mip_rules_agent.specs.declared.home_row.HomeRow.{HomeRow}
-use Rattle.mip_rules_agent.specs.Calls as agent_calls
-use Rattle.mip_rules_agent.specs.Transitions as agent_turns
-use Rattle.mip_rules_agent.specs.Steps as agents
-use Rattle.mip_rules_agent.specs.Doing as agent_doing
 use Rattle.mip_rules_mobile.specs.Known.{Known}
 use Rattle.mip_rules_mobile.specs.Calls as mobiles
 use Rattle.mip_rules_mobile.specs.HomeQuestions.{home_of}
@@ -33,16 +25,17 @@ use Rattle.mip_rules_mobile.specs.Doing.{turn_of}
 use Rattle.mip_rules_mobile.proofs.Shielding.{past-home}
 use Rattle.mip_links.specs.Table.{Post, link_of, holder_outside}
 use Rattle.mip_schedule.specs.declared.event.Event.{Event}
-use Rattle.mip_history.specs.Setup.{Setup, Host, Kind}
-use Rattle.mip_history.specs.Setup.Kind.{Correspondent, Agent, Mobile}
-use Rattle.mip_history.specs.Runs.{Run, note, entered, past_at, agent_past_at, mobile_past_at, with_past, with_agent_past, with_mobile_past}
-use Rattle.mip_history.specs.Calls.{Call, Take, Send, Refresh, Tick, Plan, Hear, Attach, Leave, Ask, Restart, for_correspondent, for_agent, for_mobile}
+use Rattle.mip_history.specs.Setup.{Setup, Host}
+use Rattle.mip_history.specs.Setup.Kind.{Mobile}
+use Rattle.mip_history.specs.Runs.{Run, note, entered, mobile_past_at, with_agent_past, with_mobile_past}
+use Rattle.mip_history.specs.Calls.{Call, Take, Send, Refresh, Tick, Plan, Hear, Attach, Leave, Ask, Restart}
 use Rattle.mip_history.specs.Homes.{gives_up}
-use Rattle.mip_history.specs.Knowing.{link_or_first, now_in, secrets_in, identity_in, known_in, agent_of, agent_known_in, mobile_known_in, stands_on, around_in}
-use Rattle.mip_history.specs.Nodes.{answered, turned, agent_turned, mobile_turned, asks, by_kind, by_host, acts}
+use Rattle.mip_history.specs.Knowing.{now_in, secrets_in, mobile_known_in, stands_on, around_in}
+use Rattle.mip_history.specs.Nodes.{answered, mobile_turned, by_kind, by_host, acts}
 use Rattle.mip_history.specs.Restarting.{homes_left}
 use Rattle.mip_history.specs.Permitted.{is_first_agent, anycast_at, claimed_entry, claims_of, claims_from, opened, run_of}
 use Rattle.mip_claims.specs.Claimings.{Claiming, search_told, searches_told, mobile_search, mobile_searches}
+use Rattle.mip_claims.proofs.Acting.{acts_kept}
 use Rattle.mip_claims.proofs.Walking.{KeepsClaims, walk_run}
 use Rattle.mip_claims.proofs.Pasts.{answers_mobiles}
 use Rattle.mip_claims.proofs.Searches.{search_same, silent_other, silent_claimed, silent_home, gives_up_silent, claims_silent, answers_silent}
@@ -64,36 +57,14 @@ module _ (s : Setup) (m : ℕ) (own : Address) (agent : Option Address) (host : 
     others : (from : ℕ) (answers : List Answer) (x : Run) → IsTelling x → IsTelling (answered s n from x answers)
     others from answers x p = answers_silent s m own agent host IsTelling telling_silent n (ne_eqb m n other) telling_entered from answers x p
 
-    other_asks : {C : Type 0} (does : C → Run → Run) (call : Option C) → ((c : C) → IsTelling (does c run)) → IsTelling (asks does call run)
-    other_asks does None go = telling_silent run entries.Idle refl h
-    other_asks does (Some call) go = go call
-
     elsewhere : (past : List (Stamped Step)) → IsTelling (with_mobile_past n past run)
     elsewhere past = record {
       long = length-set run.mobile_pasts n past ∙ h.long;
       told = h.told ∙ ap (mobile_searches s.links own) (sym (get_or-set_other run.mobile_pasts n m past [] other));
     }
 
-    other_kind : (own' : Address) (call : Call) (kind : Kind) → IsTelling (by_kind s n own' call run kind)
-    other_kind own' call (Correspondent room) =
-        other_asks (λ c x. turned s n own' (correspondent_doing.turn_of (identity_in s x n own' room) (known_in s x n room) (now_in s x) c) x) (for_correspondent call) (λ (c : correspondent_calls.Call).
-        let t : correspondent_turns.Transition = correspondent_doing.turn_of (identity_in s run n own' room) (known_in s run n room) (now_in s run) c in
-        others (link_or_first s own'.0) (correspondents.answers_of t.steps) (with_past n (correspondent_turns.with_turn (past_at run n) t) run) (record { long = h.long; told = h.told }))
-    other_kind own' call (Agent preference life room serves) =
-        other_asks (λ c x. agent_turned s n own' (agent_doing.turn_of (agent_of own' preference life room) (agent_known_in x n serves) (now_in s x) c) x) (for_agent (around_in run n None) call) (λ (c : agent_calls.Call).
-        let t : agent_turns.Transition = agent_doing.turn_of (agent_of own' preference life room) (agent_known_in run n serves) (now_in s run) c in
-        others (link_or_first s own'.0) (agents.answers_of t.steps) (with_agent_past n (agent_turns.with_turn (agent_past_at run n) t) run) (record { long = h.long; told = h.told }))
-    other_kind own' call (Mobile agent') =
-        other_asks (λ c x. mobile_turned s n own' (turn_of (mobile_known_in s x n own' agent') (now_in s x) c) x) (for_mobile (around_in run n (Some own'.0)) own' call) (λ (c : mobiles.Call).
-        let t : Transition = turn_of (mobile_known_in s run n own' agent') (now_in s run) c in
-        others (unwrap_or (stands_on s run n own') 0) (answers_of t.steps) (with_mobile_past n (with_turn (mobile_past_at run n) t) run) (elsewhere (with_turn (mobile_past_at run n) t)))
-
     other_acts : (call : Call) → IsTelling (acts s n call run)
-    other_acts call = by (slice_get s.hosts n)
-      where
-        by : (o : Option Host) → IsTelling (by_host s n call run o)
-        by None = telling_silent run entries.Idle refl h
-        by (Some host') = other_kind host'.address call host'.kind
+    other_acts call = acts_kept s n IsTelling (λ (r : Run) q. telling_silent r entries.Idle refl q) others run h (λ past. record { long = h.long; told = h.told }) (λ past. record { long = h.long; told = h.told }) elsewhere call
 
   -- the mobile itself acts
   module _ (run : Run) (h : IsTelling run) where

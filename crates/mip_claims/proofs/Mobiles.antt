@@ -63,7 +63,7 @@ is_quiet (FindsTaken address holder) = false
 is_quiet _ = true
 
 -- an entry of the correspondent part is one that a correspondent leaves
-abbrev IsRight : Step → Type 0
+abbrev pub IsRight : Step → Type 0
 IsRight (Notes entry) = is_own entry ≡ true
 IsRight _ = Unit {0}
 
@@ -71,7 +71,7 @@ right_note : (c : Call) (now : ℕ) (k : Known) (step : Step) → Fits c now k s
 right_note c now k (Notes entry) fits = fits
 right_note c now k _ fits = tt
 
-own_other : (e : Entry) → is_own e ≡ true → is_claiming e ≡ false
+pub own_other : (e : Entry) → is_own e ≡ true → is_claiming e ≡ false
 own_other (entries.Claimed who link address) is = absurd cc
 own_other (entries.Released who link address) is = absurd cc
 own_other (entries.Taken who link address holder) is = absurd cc
@@ -98,7 +98,7 @@ under_other own prefix x apart = by ((address_under own prefix).0 == x) refl
     by true same = absurd (let both : true ≡ false = sym (eq-eqb prefix (prefix_of x) (sym under ∙ ap prefix_of (eqb-true (address_under own prefix).0 x same))) ∙ apart in cc)
     by false same = refl
 
-free_of : (o : Option ℕ) (home : Bool) → claim_of o home ≡ claim.Held → o ≡ None
+pub free_of : (o : Option ℕ) (home : Bool) → claim_of o home ≡ claim.Held → o ≡ None
 free_of None home is = refl
 free_of (Some h) true is = absurd cc
 free_of (Some h) false is = absurd cc
@@ -181,7 +181,7 @@ module _ (s : Setup) (m : ℕ) (own : Address) (agent : Option Address) (host : 
     unfolding answered
     answered_both x first second = fold-append (λ (r : Run) (a : Answer). answered_one s m from r a) x first second
 
-    then_noted : (step : Step) (t : Transition) → then_ (noted step t) ≡ answered s m from (then_ t) (answer_of step)
+    pub then_noted : (step : Step) (t : Transition) → then_ (noted step t) ≡ answered s m from (then_ t) (answer_of step)
     then_noted step t = ap (answered s m from start) (answers-noted answer_of after step t) ∙ answered_both start (answers_of t.steps) (answer_of step)
 
     done_noted : (step : Step) (t : Transition) → done (noted step t).steps ≡ done t.steps ++ done (step ∷ [])
@@ -274,10 +274,10 @@ module _ (s : Setup) (m : ℕ) (own : Address) (agent : Option Address) (host : 
       a = address_under own prefix
 
       -- the address under it has the holder that it had, and the home address is the same
-      record IsSame (t : Transition) : Type 0 where
-        told : Told t
-        holder : holder_in (then_ t).past a.0 ≡ holder_in start.past a.0
-        home : home_of t.known ≡ own
+      pub record IsSame (t : Transition) : Type 0 where
+        pub told : Told t
+        pub holder : holder_in (then_ t).past a.0 ≡ holder_in start.past a.0
+        pub home : home_of t.known ≡ own
 
       same_step : (step : Step) (t : Transition) → is_quiet step ≡ true → IsRight step → holder_in (answered s m from (then_ t) (answer_of step)).past a.0 ≡ holder_in (then_ t).past a.0
           → IsSame t → IsSame (noted step t)
@@ -320,7 +320,7 @@ module _ (s : Setup) (m : ℕ) (own : Address) (agent : Option Address) (host : 
           same_step Detaches (each_row unbinds (releases t.known.standing of_home t)) refl tt refl
           (every-row IsSame unbinds same_unbinds (releases t.known.standing of_home t) (same_releases t.known.standing of_home t other p))
 
-      same_leaves_first : (st : Attachment) (of_home : Claim) (t : Transition) → uses_prefix t.known.standing (home_of t.known) prefix ≡ false → IsSame t → IsSame (leaves_first st of_home t)
+      pub same_leaves_first : (st : Attachment) (of_home : Claim) (t : Transition) → uses_prefix t.known.standing (home_of t.known) prefix ≡ false → IsSame t → IsSame (leaves_first st of_home t)
       same_leaves_first Detached of_home t other p = p
       same_leaves_first AtHome of_home t other p = same_leaves of_home t other p
       same_leaves_first (Away careof) of_home t other p = same_leaves of_home t other p
@@ -389,7 +389,7 @@ module _ (s : Setup) (m : ℕ) (own : Address) (agent : Option Address) (host : 
             by true uses = p.told
             by false other = arriving_told (leaves_first t.known.standing of_home t) (same_leaves_first t.known.standing of_home t other p)
 
-      same_first : (c : Call) (now : ℕ) (k : Known) → home_of k ≡ own → IsSame (noted (Called c) (begun now k))
+      pub same_first : (c : Call) (now : ℕ) (k : Known) → home_of k ≡ own → IsSame (noted (Called c) (begun now k))
       unfolding answered
       same_first c now k home = same_step (Called c) (begun now k) refl tt refl (record { told = sym (append-nil (searches_told own m start.past)); holder = refl; home = home })
 

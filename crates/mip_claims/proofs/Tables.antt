@@ -97,7 +97,7 @@ module _ (m who : ℕ) (apart : (m == who) ≡ false) where
   }
 
   -- what somebody else claims
-  other_holder : (past : List Entry) (a other : ℕ) → holder_in past a ≡ Some other → (other == who) ≡ true → holder_in past a ≡ Some m → ⊥
+  pub other_holder : (past : List Entry) (a other : ℕ) → holder_in past a ≡ Some other → (other == who) ≡ true → holder_in past a ≡ Some m → ⊥
   other_holder past a other is mine again =
       let same : Some other ≡ Some m = sym is ∙ again in
       let here : other ≡ m = cc in
@@ -154,7 +154,7 @@ resident_mobile s run address x is = of_host (slice_get s.hosts x) (resident_liv
     of_host (Some host) is = of_kind host host.kind is
 
 -- behind its release nobody holds an address
-released_holder : (past : List Entry) (who : ℕ) (link : LinkId) (address : Address) → holder_in (past ++ entries.Released who link address ∷ []) address.0 ≡ None
+pub released_holder : (past : List Entry) (who : ℕ) (link : LinkId) (address : Address) → holder_in (past ++ entries.Released who link address ∷ []) address.0 ≡ None
 released_holder past who link address =
     holder_push past (entries.Released who link address) address.0
     ∙ ap (λ (b : Bool). unwrap_or (if b then Some None else None) (holder_in past address.0)) (eq-eqb address.0 address.0 refl)
@@ -164,10 +164,10 @@ claimed_holder past who link address =
     holder_push past (entries.Claimed who link address) address.0
     ∙ ap (λ (b : Bool). unwrap_or (if b then Some (Some who) else None) (holder_in past address.0)) (eq-eqb address.0 address.0 refl)
 
-not_held : (past : List Entry) (m a : ℕ) → holder_in past a ≡ None → holder_in past a ≡ Some m → ⊥
+pub not_held : (past : List Entry) (m a : ℕ) → holder_in past a ≡ None → holder_in past a ≡ Some m → ⊥
 not_held past m a none is = let both : None ≡ Some m = sym none ∙ is in cc
 
-held_is : (holder : Option ℕ) (who : ℕ) → is_held_by holder who ≡ true → holder ≡ Some who
+pub held_is : (holder : Option ℕ) (who : ℕ) → is_held_by holder who ≡ true → holder ≡ Some who
 held_is None who is = absurd cc
 held_is (Some other) who is = ap (λ (n : ℕ). Some n) (eqb-true other who is)
 

@@ -64,3 +64,19 @@ mobile_search links own _ = None
 
 abbrev pub mobile_searches : (links : List ℕ) (own : Address) → List (Stamped mobiles.Step) → List Claiming
 mobile_searches links own past = filter_map (λ s. mobile_search links own s.step) past
+
+-- what an entry tells of the addresses that a mobile gives up: of those other than its home address
+abbrev pub release_told : (own : Address) (who : ℕ) → Entry → Option Claiming
+release_told own who (entries.Released by link address) = if (who == by) && not (address.0 == own.0) then Some (Releases address) else None
+release_told own who _ = None
+
+abbrev pub releases_told : (own : Address) (who : ℕ) → List Entry → List Claiming
+releases_told own who past = filter_map (release_told own who) past
+
+-- and a mobile's step
+abbrev pub mobile_release : (links : List ℕ) (own : Address) → mobiles.Step → Option Claiming
+mobile_release links own (mobiles.Releases address) = if is_on_link links address && not (address.0 == own.0) then Some (Releases address) else None
+mobile_release links own _ = None
+
+abbrev pub mobile_releases : (links : List ℕ) (own : Address) → List (Stamped mobiles.Step) → List Claiming
+mobile_releases links own past = filter_map (λ s. mobile_release links own s.step) past

@@ -1,18 +1,16 @@
 //! The laws, each the contract of a function that does nothing.
 
-ghost use Rattle.std.specs.Prelude.{◌≡◌, ◌≢◌, ◌++◌, ℕ, List, true, Option, Some, slice_get};
+ghost use Rattle.std.specs.Prelude.{◌≡◌, ◌≢◌, ◌++◌, ℕ, List, Option, Some, slice_get};
 ghost use Rattle.mip_words.specs.declared.address.Address.{Address};
-ghost use Rattle.mip_rules_agent.specs.Questions.{holds};
 ghost use Rattle.mip_links.specs.Table.{holder_outside};
 ghost use Rattle.mip_schedule.specs.declared.event.Event.{Event};
 ghost use Rattle.mip_history.specs.Setup.{Setup};
 ghost use Rattle.mip_history.specs.Setup.Kind.{Agent, Mobile};
 ghost use Rattle.mip_history.specs.Runs.{agent_past_at, mobile_past_at};
-ghost use Rattle.mip_history.specs.Questions.{holder_in};
-ghost use Rattle.mip_history.specs.Knowing.{agent_known_in};
 ghost use Rattle.mip_history.specs.Permitted.{run_of};
 ghost use Rattle.mip_claims.specs.Seekers.{EachMayFindTaken, NoAgentFindsTaken};
-ghost use Rattle.mip_claims.specs.Claimings.{Claiming, claimings_told, is_on_link, agent_claimings, searches_told, mobile_searches};
+ghost use Rattle.mip_claims.specs.Claimings.{Claiming, claimings_told, agent_claimings, searches_told, mobile_searches, releases_told, mobile_releases};
+ghost use Rattle.mip_claims.specs.Holdings.{HoldsWhatItClaimed, HoldsWhatItUses};
 
 /// Only a mobile or an outsider finds an address taken. A home agent claims a home address where its place answers that it may have
 /// it, and the table then says the same; so where no node's number is an outsider's, as in every schedule that was read, no agent
@@ -35,9 +33,9 @@ pub fn agents_claim_as_told()
 /// The address of a home that an agent has claimed and not given up is held by it, where the address is on a link.
 /// RFC 6275 section 10.4.1
 pub fn agents_hold_what_they_claimed()
-    ensures { (s : Setup) (events : List Event) (n : ℕ) (own : Address) (preference life room : ℕ) (serves : List Address) (home : Address)
+    ensures { (s : Setup) (events : List Event) (n : ℕ) (own : Address) (preference life room : ℕ) (serves : List Address)
         → slice_get s.hosts n ≡ Some (record { address = own; kind = Agent preference life room serves }) → ((o : ℕ) → n ≢ holder_outside o)
-        → holds (agent_known_in (run_of s events) n serves) home ≡ true → is_on_link s.links home ≡ true → holder_in (run_of s events).past home.0 ≡ Some n }
+        → HoldsWhatItClaimed s (run_of s events) n serves }
 {}
 
 /// What the steps of a mobile claim, through all its lives, is what the entries tell of it, one for one and in order: each address
@@ -47,4 +45,20 @@ pub fn agents_hold_what_they_claimed()
 pub fn mobiles_claim_as_told()
     ensures { (s : Setup) (events : List Event) (n : ℕ) (own : Address) (agent : Option Address) → slice_get s.hosts n ≡ Some (record { address = own; kind = Mobile agent })
         → ((o : ℕ) → n ≢ holder_outside o) → searches_told own n (run_of s events).past ≡ mobile_searches s.links own (mobile_past_at (run_of s events) n) }
+{}
+
+/// A mobile holds the care-of address that it uses, where the address is on a link: since it claimed the address nobody else could, and
+/// by no call but a move does it give one up. RFC 6275 section 11.5.1
+pub fn mobiles_hold_what_they_use()
+    ensures { (s : Setup) (events : List Event) (n : ℕ) (own : Address) (agent : Option Address) → slice_get s.hosts n ≡ Some (record { address = own; kind = Mobile agent })
+        → ((o : ℕ) → n ≢ holder_outside o) → HoldsWhatItUses s (run_of s events) n own agent }
+{}
+
+/// What the steps of a mobile give up, through all its lives, is what the entries tell of it, one for one and in order: each address
+/// other than its home address that a step gives up is released and leaves no `idle`, since the mobile holds it. The home address is
+/// left out, since a mobile gives it up where its place answers that it may have it. About an address that is on no link nothing is
+/// done. RFC 6275 section 11.5.1
+pub fn mobiles_give_up_as_told()
+    ensures { (s : Setup) (events : List Event) (n : ℕ) (own : Address) (agent : Option Address) → slice_get s.hosts n ≡ Some (record { address = own; kind = Mobile agent })
+        → ((o : ℕ) → n ≢ holder_outside o) → releases_told own n (run_of s events).past ≡ mobile_releases s.links own (mobile_past_at (run_of s events) n) }
 {}
