@@ -101,24 +101,21 @@ fn mark_of(alloc: Global, steps: &[Step]) -> Option<Mark> {
     }
 }
 
-#[test]
-fn histories_that_no_run_gives(rt: HostRuntime) {
-    let alloc = rt.alloc();
-    let origin = Mark::Origin {
-        hot: 2,
-        cot: Some(3),
-        update: 4,
-    };
-    let tests = [
-        Step::Claimed,
-        Step::Sent(2, HOME_TEST),
-        Step::Heard(2),
-        Step::Sent(3, CAREOF_TEST),
-        Step::Heard(3),
-    ];
-    assert_eq!(rt; mark_of(alloc, &[]), Some(Mark::Forged(1)));
-    assert_eq!(rt; mark_of(alloc, &tests), Some(Mark::Forged(1)));
-    assert_eq!(rt;
+// The marks of acceptances behind nothing, behind both tests, and behind an update that was made before the tests were sent, as
+// another of their packets was sent, and before they were heard.
+fn marks(alloc: Global) -> [Option<Mark>; 5] {
+    [
+        mark_of(alloc, &[]),
+        mark_of(
+            alloc,
+            &[
+                Step::Claimed,
+                Step::Sent(2, HOME_TEST),
+                Step::Heard(2),
+                Step::Sent(3, CAREOF_TEST),
+                Step::Heard(3),
+            ],
+        ),
         mark_of(
             alloc,
             &[
@@ -128,11 +125,8 @@ fn histories_that_no_run_gives(rt: HostRuntime) {
                 Step::Injected(4, UPDATE),
                 Step::Sent(2, HOME_TEST),
                 Step::Sent(3, CAREOF_TEST),
-            ]
+            ],
         ),
-        Some(origin)
-    );
-    assert_eq!(rt;
         mark_of(
             alloc,
             &[
@@ -144,11 +138,8 @@ fn histories_that_no_run_gives(rt: HostRuntime) {
                 Step::Heard(3),
                 Step::Injected(4, UPDATE),
                 Step::Sent(4, HOME_TEST),
-            ]
+            ],
         ),
-        Some(origin)
-    );
-    assert_eq!(rt;
         mark_of(
             alloc,
             &[
@@ -158,8 +149,21 @@ fn histories_that_no_run_gives(rt: HostRuntime) {
                 Step::Injected(4, UPDATE),
                 Step::Heard(2),
                 Step::Heard(3),
-            ]
+            ],
         ),
-        Some(Mark::Forged(1))
+    ]
+}
+
+#[test]
+fn histories_that_no_run_gives(rt: HostRuntime) {
+    let origin = Mark::Origin {
+        hot: 2,
+        cot: Some(3),
+        update: 4,
+    };
+    let forged = Some(Mark::Forged(1));
+    assert_eq!(rt;
+        marks(rt.alloc()),
+        [forged, forged, Some(origin), Some(origin), forged]
     );
 }
