@@ -45,11 +45,7 @@ module _ (home : Address) where
   same-row (Registers number h b) o other = ap (λ (same : Bool). binding_in home (found_if (bound_to b) same o)) other
   same-row (Claims h) o other = same-found (holding true) (λ s. refl) (h.0 == home.0) o
   same-row (Releases h) o other = same-found (holding false) (λ s. refl) (h.0 == home.0) o
-  same-row (Called call) o other = refl
-  same-row (Sends shield packet) o other = refl
-  same-row (Denies number status) o other = refl
-  same-row (Drops number why) o other = refl
-  same-row Rang o other = refl
+  same-row _ o other = refl
 
   binding-noted : (step : Step) (t : Transition) → is_registration_of home step ≡ false → binding_of (noted step t).known home ≡ binding_of t.known home
   binding-noted step t other =

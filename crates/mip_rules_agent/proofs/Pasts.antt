@@ -44,13 +44,7 @@ last_from k (s ∷ past) =
     by : (o : Option (Stamped Step)) (at : ℕ) (step : Step) → moment_of o (last_after k.last at step) ≡ moment_of (or_else o (if is_call step then Some (record { at = at; step = step }) else None)) k.last
     by (Some x) at step = refl
     by None at (Called call) = refl
-    by None at (Sends shield packet) = refl
-    by None at (Registers number home b) = refl
-    by None at (Claims home) = refl
-    by None at (Releases home) = refl
-    by None at (Denies number status) = refl
-    by None at (Drops number why) = refl
-    by None at Rang = refl
+    by None at _ = refl
 
 -- the last moment known is that of the last call
 pub known-last : (serves : List Address) (past : List (Stamped Step)) → (known serves past).last ≡ moment_of (last_where (λ s. is_call s.step) past) 0
@@ -70,11 +64,7 @@ module _ (home : Address) where
   served-step homes (Registers number h b) = find-changed (bound_to b) (λ s. refl) h home.0 homes
   served-step homes (Claims h) = find-changed (holding true) (λ s. refl) h home.0 homes
   served-step homes (Releases h) = find-changed (holding false) (λ s. refl) h home.0 homes
-  served-step homes (Called call) = refl
-  served-step homes (Sends shield packet) = refl
-  served-step homes (Denies number status) = refl
-  served-step homes (Drops number why) = refl
-  served-step homes Rang = refl
+  served-step homes _ = refl
 
   pub served-after : (k : Known) (at : ℕ) (step : Step) → served_at (after k (record { at = at; step = step })) home ≡ row_after step (served_at k home)
   unfolding after
@@ -82,18 +72,13 @@ module _ (home : Address) where
 
   found-there : (change : Served → Served) (same : Bool) (o : Option Served) → is_some (found_if change same o) ≡ is_some o
   found-there change true None = refl
-  found-there change true (Some s) = refl
-  found-there change false o = refl
+  found-there change _ _ = refl
 
   there-after : (step : Step) (o : Option Served) → is_some (row_after step o) ≡ is_some o
   there-after (Registers number h b) o = found-there (bound_to b) (h.0 == home.0) o
   there-after (Claims h) o = found-there (holding true) (h.0 == home.0) o
   there-after (Releases h) o = found-there (holding false) (h.0 == home.0) o
-  there-after (Called call) o = refl
-  there-after (Sends shield packet) o = refl
-  there-after (Denies number status) o = refl
-  there-after (Drops number why) o = refl
-  there-after Rang o = refl
+  there-after _ o = refl
 
   -- no step changes which homes are served
   pub served-same : (k : Known) (at : ℕ) (step : Step) → is_served (after k (record { at = at; step = step })) home ≡ is_served k home
@@ -117,8 +102,7 @@ module _ (home : Address) where
     where
       by : (same : Bool) (o : Option Served) (more : Bool) → (is_some (if same then Some (new_home h) else o) || more) ≡ (is_some o || (same || more))
       by true None more = refl
-      by true (Some s) more = refl
-      by false o more = refl
+      by _ _ more = refl
 
   -- a home is served from the beginning, or never
   pub known-served : (serves : List Address) (past : List (Stamped Step)) → is_served (known serves past) home ≡ is_one_of serves home
@@ -153,11 +137,7 @@ module _ (home : Address) where
       by : (same : Bool) → binding_in (found_if (holding false) same (Some s)) ≡ s.binding
       by true = refl
       by false = refl
-  binding-row at (Called call) s = refl
-  binding-row at (Sends shield packet) s = refl
-  binding-row at (Denies number status) s = refl
-  binding-row at (Drops number why) s = refl
-  binding-row at Rang s = refl
+  binding-row at _ s = refl
 
   binding-some : (at : ℕ) (step : Step) (o : Option Served) → is_some o ≡ true → binding_in (row_after step o) ≡ or_binding (mark (is_registration_of home) at step) (binding_in o)
   binding-some at step None served = absurd cc
@@ -232,11 +212,7 @@ module _ (home : Address) where
       by : (same : Bool) → held_in (found_if (holding false) same (Some s)) ≡ or_held (if same then Some (record { at = at; step = Releases h }) else None) s.held
       by true = refl
       by false = refl
-  held-row at (Called call) s = refl
-  held-row at (Sends shield packet) s = refl
-  held-row at (Denies number status) s = refl
-  held-row at (Drops number why) s = refl
-  held-row at Rang s = refl
+  held-row at _ s = refl
 
   held-some : (at : ℕ) (step : Step) (o : Option Served) → is_some o ≡ true → held_in (row_after step o) ≡ or_held (mark (is_claim_of home) at step) (held_in o)
   held-some at step None served = absurd cc
@@ -279,16 +255,7 @@ module _ (home : Address) where
 -- the plan
 plan-step : (plan : PrefixPlan) (at : ℕ) (step : Step) → plan_after plan at step ≡ unwrap_or (plan_in at step) plan
 plan-step plan at (Called (calls.Take number shield packet claim)) = refl
-plan-step plan at (Called calls.Tick) = refl
-plan-step plan at (Called (calls.Plan valid preferred)) = refl
-plan-step plan at (Called (calls.Hear agent preference life)) = refl
-plan-step plan at (Sends shield packet) = refl
-plan-step plan at (Registers number home b) = refl
-plan-step plan at (Claims home) = refl
-plan-step plan at (Releases home) = refl
-plan-step plan at (Denies number status) = refl
-plan-step plan at (Drops number why) = refl
-plan-step plan at Rang = refl
+plan-step plan at _ = refl
 
 plan-from : (k : Known) (past : List (Stamped Step)) → (fold after k past).plan ≡ asked (λ s. plan_in s.at s.step) k.plan past
 unfolding after
@@ -305,16 +272,7 @@ nothing agents heard stands = subst (StandsFor agents) (sym (append-nil heard)) 
 
 agents-step : (agents : AgentsSeen) (heard : List Heard) (at : ℕ) (step : Step) → StandsFor agents heard → StandsFor (agents_after agents at step) (heard ++ heard_in at step)
 agents-step agents heard at (Called (calls.Hear agent preference life)) stands = stands_on agents heard _ stands
-agents-step agents heard at (Called (calls.Take number shield packet claim)) stands = nothing agents heard stands
-agents-step agents heard at (Called calls.Tick) stands = nothing agents heard stands
-agents-step agents heard at (Called (calls.Plan valid preferred)) stands = nothing agents heard stands
-agents-step agents heard at (Sends shield packet) stands = nothing agents heard stands
-agents-step agents heard at (Registers number home b) stands = nothing agents heard stands
-agents-step agents heard at (Claims home) stands = nothing agents heard stands
-agents-step agents heard at (Releases home) stands = nothing agents heard stands
-agents-step agents heard at (Denies number status) stands = nothing agents heard stands
-agents-step agents heard at (Drops number why) stands = nothing agents heard stands
-agents-step agents heard at Rang stands = nothing agents heard stands
+agents-step agents heard at _ stands = nothing agents heard stands
 
 agents-from : (k : Known) (heard : List Heard) (past : List (Stamped Step)) → StandsFor k.agents heard → StandsFor (fold after k past).agents (heard ++ all_heard past)
 unfolding after

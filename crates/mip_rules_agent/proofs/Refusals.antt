@@ -33,23 +33,11 @@ plan-noted step t = ap (λ (k : Known). k.plan) (noted-known after step t)
 
 agents-quiet : (step : Step) (agents : AgentsSeen) (at : ℕ) → is_call step ≡ false → agents_after agents at step ≡ agents
 agents-quiet (Called call) agents at silent = absurd cc
-agents-quiet (Sends shield packet) agents at silent = refl
-agents-quiet (Registers number home b) agents at silent = refl
-agents-quiet (Claims home) agents at silent = refl
-agents-quiet (Releases home) agents at silent = refl
-agents-quiet (Denies number status) agents at silent = refl
-agents-quiet (Drops number why) agents at silent = refl
-agents-quiet Rang agents at silent = refl
+agents-quiet _ agents at silent = refl
 
 plan-quiet : (step : Step) (plan : PrefixPlan) (at : ℕ) → is_call step ≡ false → plan_after plan at step ≡ plan
 plan-quiet (Called call) plan at silent = absurd cc
-plan-quiet (Sends shield packet) plan at silent = refl
-plan-quiet (Registers number home b) plan at silent = refl
-plan-quiet (Claims home) plan at silent = refl
-plan-quiet (Releases home) plan at silent = refl
-plan-quiet (Denies number status) plan at silent = refl
-plan-quiet (Drops number why) plan at silent = refl
-plan-quiet Rang plan at silent = refl
+plan-quiet _ plan at silent = refl
 
 -- the other agents and the plan are those that the call leaves
 pub call-agents : (me : Identity) (k : Known) (now : ℕ) (c : Call) → (turn_of me k now c).known.agents ≡ agents_called k.agents now c
@@ -69,13 +57,7 @@ call-plan me k now c =
 -- a refusal is told, and nothing else tells of one
 step-refuses : (step : Step) → list_any refuses (answer_of step) ≡ is_refusal step
 step-refuses (Called call) = refl
-step-refuses (Sends shield packet) = refl
-step-refuses (Registers number home b) = refl
-step-refuses (Claims home) = refl
-step-refuses (Releases home) = refl
-step-refuses (Denies number status) = refl
-step-refuses (Drops number why) = refl
-step-refuses Rang = refl
+step-refuses _ = refl
 
 pub steps-refuse : (steps : List Step) → list_any refuses (answers_of steps) ≡ list_any is_refusal steps
 steps-refuse [] = refl

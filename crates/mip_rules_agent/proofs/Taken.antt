@@ -228,11 +228,7 @@ module _ (me : Identity) (k : Known) (now number : ℕ) (shield : Option Shield)
   unfolding names_agents
   of_icmp p (Ok (icmp.DiscoverAsk identifier)) = sent _ _
   of_icmp p (Ok (icmp.PrefixAsk identifier)) = of_solicitation (source_of p.head) identifier (careof_at given.known given.now (source_of p.head))
-  of_icmp p (Ok (icmp.Parameter pointer quoted)) = dropped _
-  of_icmp p (Ok (icmp.Advertisement hop agent life options)) = dropped _
-  of_icmp p (Ok (icmp.DiscoverReply identifier agents)) = dropped _
-  of_icmp p (Ok (icmp.PrefixReply identifier options)) = dropped _
-  of_icmp p (Err fault) = dropped _
+  of_icmp p _ = dropped _
 
   of_proto : (p : Packet) → Is (by_proto h p given)
   of_proto p =
@@ -250,13 +246,7 @@ module _ (me : Identity) (k : Known) (now number : ℕ) (shield : Option Shield)
         asks = ap (registration_said p.head.source p.head.home)
             (update_read p.body s a f l key t o (source_of p.head) (destination_of p.head) (message_read place p (Update s a f l key t o) is));
       })
-  of_role p place (Some (Refresh options)) read is = dropped _
-  of_role p place (Some (HomeInit cookie options)) read is = dropped _
-  of_role p place (Some (CareofInit cookie options)) read is = dropped _
-  of_role p place (Some (HomeTest index cookie token options)) read is = dropped _
-  of_role p place (Some (CareofTest index cookie token options)) read is = dropped _
-  of_role p place (Some (Acknowledgement s key q t o)) read is = dropped _
-  of_role p place (Some (Error s home options)) read is = dropped _
+  of_role p place (Some _) read is = dropped _
 
   of_reply : (reply : Option (List ℕ)) (why : Why) → Is (replies reply (noted (Drops number why) given))
   unfolding after

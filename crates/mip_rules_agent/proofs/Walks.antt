@@ -149,11 +149,7 @@ module _ (h : Handing) (P : Transition → Type 0) (more : (step : Step) (t : Tr
       more _ t refl (SendsAgents packet.head.source identifier (live h.now h.known.agents.agents), (refl, refl), tt) p
   every-icmp packet (Ok (icmp.PrefixAsk identifier)) t p =
       every-solicitation (source_of packet.head) identifier (careof_at h.known h.now (source_of packet.head)) refl t p
-  every-icmp packet (Ok (icmp.Parameter pointer quoted)) t p = every-drop whys.Role refl t p
-  every-icmp packet (Ok (icmp.Advertisement hop agent life options)) t p = every-drop whys.Role refl t p
-  every-icmp packet (Ok (icmp.DiscoverReply identifier agents)) t p = every-drop whys.Role refl t p
-  every-icmp packet (Ok (icmp.PrefixReply identifier options)) t p = every-drop whys.Role refl t p
-  every-icmp packet (Err fault) t p = every-drop whys.Role refl t p
+  every-icmp packet _ t p = every-drop whys.Role refl t p
 
   every-proto : (packet : Packet) → packet_of h.bytes ≡ Ok packet → (t : Transition) → P t → P (by_proto h packet t)
   every-proto packet read t p =
@@ -166,13 +162,7 @@ module _ (h : Handing) (P : Transition → Type 0) (more : (step : Step) (t : Tr
   every-role : (packet : Packet) → packet_of h.bytes ≡ Ok packet → (message : Option Said) (t : Transition) → P t → P (by_role h packet message t)
   every-role packet read None t p = every-proto packet read t p
   every-role packet read (Some (Update s a f l k t' o)) t p = every-update (registration packet.head.source packet.head.home s a f t' o) t p
-  every-role packet read (Some (Refresh options)) t p = every-drop whys.Role refl t p
-  every-role packet read (Some (HomeInit cookie options)) t p = every-drop whys.Role refl t p
-  every-role packet read (Some (CareofInit cookie options)) t p = every-drop whys.Role refl t p
-  every-role packet read (Some (HomeTest index cookie token options)) t p = every-drop whys.Role refl t p
-  every-role packet read (Some (CareofTest index cookie token options)) t p = every-drop whys.Role refl t p
-  every-role packet read (Some (Acknowledgement s k q t' o)) t p = every-drop whys.Role refl t p
-  every-role packet read (Some (Error status home options)) t p = every-drop whys.Role refl t p
+  every-role packet read (Some _) t p = every-drop whys.Role refl t p
 
   every-reply : (source : Address) (refusal : Refusal) (reply : Option (List ℕ)) → reply_packet h.me.own source h.bytes refusal.reply ≡ reply → (t : Transition) → P t → P (replies reply t)
   every-reply source refusal None is t p = p

@@ -115,11 +115,7 @@ module _ (me : Identity) (k : Known) (now number : ℕ) (p : Packet) where
       of_update (registration p.head.source p.head.home s a h t o) (parted_proto p (Update s a h l key t o) is)
       (ap (registration_said p.head.source p.head.home)
       (update_read p.body s a h l key t o (source_of p.head) (destination_of p.head) (parted_read p (Update s a h l key t o) is)))
-  of_message (Some (Refresh options)) is = still
-  of_message (Some (HomeTest index cookie token options)) is = still
-  of_message (Some (CareofTest index cookie token options)) is = still
-  of_message (Some (Acknowledgement s key q t o)) is = still
-  of_message (Some (Error s home options)) is = still
+  of_message (Some _) is = still
 
   pub parted_is : Is (turn_of me k now (calls.Part number p))
   unfolding does parts

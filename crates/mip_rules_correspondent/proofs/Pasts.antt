@@ -38,12 +38,7 @@ last_from k (s ∷ past) =
     by : (o : Option (Stamped Step)) (at : ℕ) (step : Step) → moment_of o (last_after k at step).0 ≡ moment_of (or_else o (if is_call step then Some (record { at = at; step = step }) else None)) k.last.0
     by (Some x) at step = refl
     by None at (Called call) = refl
-    by None at (Sends packet) = refl
-    by None at (Accepts number home binding accepted) = refl
-    by None at (Denies number status) = refl
-    by None at (Drops number why) = refl
-    by None at (HandsUp number source destination proto payload) = refl
-    by None at Idles = refl
+    by None at _ = refl
 
 -- the last moment known is that of the last call
 pub known-last : (room numbers : ℕ) (past : List (Stamped Step)) → (known room numbers past).last.0 ≡ moment_of (last_where (λ s. is_call s.step) past) 0

@@ -30,10 +30,7 @@ same-cache : (step : Step) (cache : CacheSeen) (at : ℕ) → is_call step ≡ f
 same-cache (Called call) cache at silent none = absurd cc
 same-cache (Sends packet) cache at silent none = refl
 same-cache (Accepts number home binding accepted) cache at silent none = absurd cc
-same-cache (Denies number status) cache at silent none = refl
-same-cache (Drops number why) cache at silent none = refl
-same-cache (HandsUp number source destination proto payload) cache at silent none = refl
-same-cache Idles cache at silent none = refl
+same-cache _ cache at silent none = refl
 
 -- the cache behind a step
 cache-noted : (step : Step) (t : Transition) → (noted step t).known.cache ≡ cache_after t.known.cache t.now step
@@ -55,12 +52,7 @@ keeps-call me c t other =
 -- a refusal is told, and nothing else tells of one
 step-refuses : (step : Step) → list_any refuses (answer_of step) ≡ is_refusal step
 step-refuses (Called call) = refl
-step-refuses (Sends packet) = refl
-step-refuses (Accepts number home binding accepted) = refl
-step-refuses (Denies number status) = refl
-step-refuses (Drops number why) = refl
-step-refuses (HandsUp number source destination proto payload) = refl
-step-refuses Idles = refl
+step-refuses _ = refl
 
 pub steps-refuse : (steps : List Step) → list_any refuses (answers_of steps) ≡ list_any is_refusal steps
 steps-refuse [] = refl

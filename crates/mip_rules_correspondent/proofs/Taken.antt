@@ -219,11 +219,7 @@ module _ (me : Identity) (k : Known) (now number : ℕ) (shield : Option Shield)
       of_update p (registration p.head.source p.head.home s a h t o) read (message_proto place p (Update s a h l key t o) is)
       (ap (registration_said p.head.source p.head.home)
       (update_read p.body s a h l key t o (source_of p.head) (destination_of p.head) (message_read place p (Update s a h l key t o) is)))
-  of_message p place (Some (Refresh options)) read is = still
-  of_message p place (Some (HomeTest index cookie token options)) read is = still
-  of_message p place (Some (CareofTest index cookie token options)) read is = still
-  of_message p place (Some (Acknowledgement s key q t o)) read is = still
-  of_message p place (Some (Error s home options)) read is = still
+  of_message p place (Some _) read is = still
 
   of_role : (p : Packet) (place : ℕ) (m : Option Said) → packet_of bytes ≡ Ok p → message_at place p ≡ Ok m → Is (by_role me number p m given)
   unfolding by_role

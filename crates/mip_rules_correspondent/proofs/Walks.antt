@@ -51,11 +51,7 @@ module _ (me : Identity) (c : Call) (P : Transition → Type 0) (more : (step : 
   every-message number packet (Some (Update s a h l k t' o)) t p =
       let r = registration packet.head.source packet.head.home s a h t' o in
       every-judged number r (verdict (bench me t.known t.now r) r packet.body) (verdict-right (bench me t.known t.now r) r packet.body) t p
-  every-message number packet (Some (Refresh options)) t p = p
-  every-message number packet (Some (HomeTest index cookie token options)) t p = p
-  every-message number packet (Some (CareofTest index cookie token options)) t p = p
-  every-message number packet (Some (Acknowledgement s k q t' o)) t p = p
-  every-message number packet (Some (Error status home options)) t p = p
+  every-message number packet (Some _) t p = p
 
   every-role : (number : ℕ) (packet : Packet) (message : Option Said) (t : Transition) → P t → P (by_role me number packet message t)
   unfolding by_role

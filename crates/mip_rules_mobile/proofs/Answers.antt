@@ -56,9 +56,7 @@ module _ (R : Known → Answer → Type 0) (I : Known → Type 0) (c : Call) (no
   step-answers k (Forgets row) i fits = tt
   step-answers k (Binds row peer end renew) i fits = (entry k _ refl, tt)
   step-answers k (Unbinds row peer) i fits = (entry k _ refl, tt)
-  step-answers k (Waits work wait) i fits = tt
-  step-answers k (Stops work) i fits = tt
-  step-answers k (Rings work) i fits = tt
+  step-answers k _ i fits = tt
 
   pub each-answer : (k : Known) (steps : List Step) → I k → EachFits c now k steps → EachAnswer R now k steps
   each-answer k [] i each = tt

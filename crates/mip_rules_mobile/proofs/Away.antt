@@ -63,10 +63,7 @@ steady-stays home (Tries row change) is = refl
 steady-stays home (Updates row update) is = refl
 steady-stays home (Forgets row) is = refl
 steady-stays home (Binds row peer end renew) is = absurd cc
-steady-stays home (Unbinds row peer) is = refl
-steady-stays home (Waits work wait) is = refl
-steady-stays home (Stops work) is = refl
-steady-stays home (Rings work) is = refl
+steady-stays home _ is = refl
 
 ack-stays : (home : Address) (step : Step) → kind_of step ≡ OfAck → Stays home step
 ack-stays home (Called call) is = absurd cc
@@ -96,10 +93,7 @@ ack-stays home (Tries row change) is = absurd cc
 ack-stays home (Updates row update) is = absurd cc
 ack-stays home (Forgets row) is = absurd cc
 ack-stays home (Binds row peer end renew) is = refl
-ack-stays home (Unbinds row peer) is = absurd cc
-ack-stays home (Waits work wait) is = absurd cc
-ack-stays home (Stops work) is = absurd cc
-ack-stays home (Rings work) is = absurd cc
+ack-stays home _ is = absurd cc
 
 one-more : (home : Address) (steps : List Step) (step : Step) → AllStay home steps → Stays home step → AllStay home (steps ++ step ∷ [])
 one-more home [] step all one = (one, tt)

@@ -86,9 +86,7 @@ module _ (past : List (Stamped Step)) (row : ℕ) where
       by : (aim : Aim) (h c : Option Test) → IfSome h (HomeGiven past row) → IfSome c (CareofGiven past row) → IfSome t.state.home (HomeGiven past row) → IfSome t.state.careof (CareofGiven past row)
           → TrialGiven past row (after_probe (Ok (proved_where (needed aim h c) t)))
       by (Bind to) (Some h) (Some c) x y home careof = (x, y)
-      by (Bind to) (Some h) None x y home careof = (home, careof)
-      by (Bind to) None (Some c) x y home careof = (home, careof)
-      by (Bind to) None None x y home careof = (home, careof)
+      by (Bind to) _ _ x y home careof = (home, careof)
       by Delete (Some h) (Some c) x y home careof = x
       by Delete (Some h) None x y home careof = x
       by Delete None (Some c) x y home careof = (home, careof)
@@ -221,12 +219,7 @@ rested P (r ∷ rs) (suc k) idles = rested P rs k idles
 
 start-other : (row at : ℕ) (change : Change) → row == at ≡ false → is_start row (Tries at change) ≡ false
 start-other row at (Start aim home careof) other = other
-start-other row at (HomeTest peer cookie test) other = refl
-start-other row at (CareofTest peer cookie test) other = refl
-start-other row at Make other = refl
-start-other row at (Resequence last) other = refl
-start-other row at (Acknowledge sequence granted) other = refl
-start-other row at Rest other = refl
+start-other row at _ other = refl
 
 module _ (past : List (Stamped Step)) (rows : List Row) (was : RowsGiven past rows) where
   abbrev then_ : Stamped Step → List (Stamped Step)

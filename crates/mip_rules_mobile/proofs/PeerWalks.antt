@@ -141,11 +141,7 @@ module _ (c : Call) (P : Transition → Type 0) (more : Goes c P) where
 
           of : (row : ℕ) (o : Option Any) → row_of t.known peer ≡ Some row → trial_of t.known row ≡ o → Q (acks_trial number row home status sequence lifetime authenticator message o t)
           of row (Some (Pending u)) placed is = pend row u (acknowledges home status sequence authenticator message u) placed is refl
-          of row (Some (Idle u)) placed is = drops number whys.Ack refl
-          of row (Some (Probing u)) placed is = drops number whys.Ack refl
-          of row (Some (Proved u)) placed is = drops number whys.Ack refl
-          of row (Some (Bound u)) placed is = drops number whys.Ack refl
-          of row None placed is = drops number whys.Ack refl
+          of row _ placed is = drops number whys.Ack refl
 
           by : (o : Option ℕ) → row_of t.known peer ≡ o → Q (acks_row number o status sequence lifetime authenticator message t)
           by None placed = drops number whys.Ack refl

@@ -61,10 +61,7 @@ module _ (now : Moment) where
   pub changed-own : (change : Change) (any : Any) → peer_of_any (changed now change any) ≡ peer_of_any any
   unfolding changed
   changed-own (Start aim home careof) (Idle t) = refl
-  changed-own (Start aim home careof) (Probing t) = refl
-  changed-own (Start aim home careof) (Proved t) = refl
-  changed-own (Start aim home careof) (Pending t) = refl
-  changed-own (Start aim home careof) (Bound t) = refl
+  changed-own (Start aim home careof) _ = refl
   changed-own (HomeTest peer cookie test) (Idle t) = refl
   changed-own (HomeTest peer cookie test) (Proved t) = refl
   changed-own (HomeTest peer cookie test) (Pending t) = refl
@@ -89,10 +86,7 @@ module _ (now : Moment) where
       by false false false = weighed-own (with_careof test t)
   changed-own Make any = made-own any
   changed-own (Resequence last) (Idle t) = refl
-  changed-own (Resequence last) (Probing t) = refl
-  changed-own (Resequence last) (Proved t) = refl
-  changed-own (Resequence last) (Pending t) = refl
-  changed-own (Resequence last) (Bound t) = refl
+  changed-own (Resequence last) _ = refl
   changed-own (Acknowledge sequence granted) (Idle t) = refl
   changed-own (Acknowledge sequence granted) (Probing t) = refl
   changed-own (Acknowledge sequence granted) (Proved t) = refl
@@ -109,10 +103,7 @@ module _ (now : Moment) where
       by false false (Both to home careof) = ended to (granted == 0)
       by false false (Home home) = refl
   changed-own Rest (Idle t) = refl
-  changed-own Rest (Probing t) = refl
-  changed-own Rest (Proved t) = refl
-  changed-own Rest (Pending t) = refl
-  changed-own Rest (Bound t) = refl
+  changed-own Rest _ = refl
 
 -- the trial of a row that was changed
 put-there : (rows : List Row) (row : ℕ) (any later : Any) → lifted row rows ≡ Some any → lifted row (with_trial row (Some later) rows) ≡ Some later

@@ -103,10 +103,7 @@ module _ (c : Call) (P : Transition → Type 0) (more : Goes c P) (acks : Acks c
       by (Err fault) = drops number whys.Icmp refl
       by (Ok (icmp.DiscoverReply identifier agents)) = every-discovery number identifier agents
       by (Ok (icmp.PrefixReply identifier options)) = every-prefixes number shield options
-      by (Ok (icmp.Parameter pointer quoted)) = drops number whys.Icmp refl
-      by (Ok (icmp.Advertisement hop agent life options)) = drops number whys.Icmp refl
-      by (Ok (icmp.DiscoverAsk identifier)) = drops number whys.Icmp refl
-      by (Ok (icmp.PrefixAsk identifier)) = drops number whys.Icmp refl
+      by (Ok _) = drops number whys.Icmp refl
 
   every-message : (number : ℕ) (tunnelled : Bool) (shield : Option Shield) (packet : Packet) (message : Option Said) → IsOfTake c t.known t.now number tunnelled shield packet → message_in packet ≡ message
       → Q (by_message number tunnelled shield packet message t)
@@ -128,9 +125,7 @@ module _ (c : Call) (P : Transition → Type 0) (more : Goes c P) (acks : Acks c
       every-error c P more acks Q done t p drops number (source_of packet.head) status home
   every-message number tunnelled shield packet (Some (Refresh options)) handed says =
       every-refresh c P more acks Q done t p drops number (source_of packet.head)
-  every-message number tunnelled shield packet (Some (HomeInit cookie options)) handed says = drops number whys.Role refl
-  every-message number tunnelled shield packet (Some (CareofInit cookie options)) handed says = drops number whys.Role refl
-  every-message number tunnelled shield packet (Some (Update s a h l k t' o)) handed says = drops number whys.Role refl
+  every-message number tunnelled shield packet (Some _) handed says = drops number whys.Role refl
 
   module _ (refusing : (number : ℕ) (bytes : List ℕ) (source : Address) (refusal : Refusal) → is_dropped_why refusal.why ≡ true → Q (refuses number bytes source refusal t))
       (parting : (number : ℕ) (tunnelled : Bool) (shield : Option Shield) (packet : Packet) (message : Option Said) → IsOfTake c t.known t.now number tunnelled shield packet → message_in packet ≡ message → is_for_part packet.head.proto message ≡ true

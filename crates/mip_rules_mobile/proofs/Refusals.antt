@@ -91,10 +91,7 @@ steady-quiet (Tries row change) is = refl
 steady-quiet (Updates row update) is = refl
 steady-quiet (Forgets row) is = refl
 steady-quiet (Binds row peer end renew) is = absurd cc
-steady-quiet (Unbinds row peer) is = refl
-steady-quiet (Waits work wait) is = refl
-steady-quiet (Stops work) is = refl
-steady-quiet (Rings work) is = refl
+steady-quiet _ is = refl
 
 ack-quiet : (step : Step) → kind_of step ≡ OfAck → is_refusal step ≡ false
 ack-quiet (Called call) is = absurd cc
@@ -124,10 +121,7 @@ ack-quiet (Tries row change) is = absurd cc
 ack-quiet (Updates row update) is = absurd cc
 ack-quiet (Forgets row) is = absurd cc
 ack-quiet (Binds row peer end renew) is = refl
-ack-quiet (Unbinds row peer) is = absurd cc
-ack-quiet (Waits work wait) is = absurd cc
-ack-quiet (Stops work) is = absurd cc
-ack-quiet (Rings work) is = absurd cc
+ack-quiet _ is = absurd cc
 
 goes-quiet : (c : Call) → Goes c IsQuiet
 goes-quiet c step t is fits quiet = quiet-noted step t (steady-quiet step is) quiet
@@ -255,11 +249,7 @@ module _ (me : Identity) (k : kept.Known) (now number : ℕ) (packet : Packet) w
   of-message (Some (Update s a h l k' t' o)) is =
       let r = registration packet.head.source packet.head.home s a h t' o in
       of-verdict r (verdict (part_rules.bench me given.known given.now r) r packet.body)
-  of-message (Some (Refresh options)) is = absurd cc
-  of-message (Some (HomeTest index cookie token options)) is = absurd cc
-  of-message (Some (CareofTest index cookie token options)) is = absurd cc
-  of-message (Some (Acknowledgement status key sequence lifetime options)) is = absurd cc
-  of-message (Some (Error status home options)) is = absurd cc
+  of-message (Some _) is = absurd cc
 
   decides : (message : Option Said) → message_in packet ≡ message → is_for_part packet.head.proto message ≡ true → Decides (part_doing.turn_of me k now (parts.Part number packet))
   unfolding part_doing.does part_doing.parts

@@ -141,26 +141,7 @@ apart-kept home k (Releases address) same was = was
 apart-kept home k (FindsTaken address holder) same was = tt
 apart-kept home k (Arrives address) same was = subst (λ (h : Address). IsApart (standing_at h address) home) (sym same) (apart-at home address)
 apart-kept home k Detaches same was = tt
-apart-kept home k (Restarts secrets) same was = was
-apart-kept home k (Registers agent end renew) same was = was
-apart-kept home k (Unregisters agent) same was = was
-apart-kept home k (IsRefused status) same was = was
-apart-kept home k (Resequences agent last) same was = was
-apart-kept home k Seeks same was = was
-apart-kept home k SeeksAgain same was = was
-apart-kept home k GivesUp same was = was
-apart-kept home k (Finds agents) same was = was
-apart-kept home k (Chooses agent) same was = was
-apart-kept home k (Learns valid preferred) same was = was
-apart-kept home k (Meets peer) same was = was
-apart-kept home k (Tries row change) same was = was
-apart-kept home k (Updates row update) same was = was
-apart-kept home k (Forgets row) same was = was
-apart-kept home k (Binds row peer end renew) same was = was
-apart-kept home k (Unbinds row peer) same was = was
-apart-kept home k (Waits work wait) same was = was
-apart-kept home k (Stops work) same was = was
-apart-kept home k (Rings work) same was = was
+apart-kept home k _ same was = was
 
 elsewhere-kept : (k : Known) (s : Stamped Step) → IsElsewhere k → IsElsewhere (after k s)
 unfolding after

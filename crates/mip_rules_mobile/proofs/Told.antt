@@ -56,36 +56,7 @@ told question says row k past = told_under (λ k. Unit {0}) (λ k s i. tt) quest
 -- its home address is the same for ever
 own-kept : (part : CorrespondentSeen) (at : ℕ) (step : Step) → (part_after part at step).identity.own ≡ part.identity.own
 own-kept part at (Called call) = refl
-own-kept part at (Parts call) = refl
-own-kept part at (Notes entry) = refl
-own-kept part at (Sends sending) = refl
-own-kept part at (Unsends why) = refl
-own-kept part at (Drops number why) = refl
-own-kept part at (Claims address) = refl
-own-kept part at (Releases address) = refl
-own-kept part at (FindsTaken address holder) = refl
-own-kept part at (Arrives address) = refl
-own-kept part at Detaches = refl
-own-kept part at (Restarts secrets) = refl
-own-kept part at (Registers agent end renew) = refl
-own-kept part at (Unregisters agent) = refl
-own-kept part at (IsRefused status) = refl
-own-kept part at (Resequences agent last) = refl
-own-kept part at Seeks = refl
-own-kept part at SeeksAgain = refl
-own-kept part at GivesUp = refl
-own-kept part at (Finds agents) = refl
-own-kept part at (Chooses agent) = refl
-own-kept part at (Learns valid preferred) = refl
-own-kept part at (Meets peer) = refl
-own-kept part at (Tries row change) = refl
-own-kept part at (Updates row update) = refl
-own-kept part at (Forgets row) = refl
-own-kept part at (Binds row peer end renew) = refl
-own-kept part at (Unbinds row peer) = refl
-own-kept part at (Waits work wait) = refl
-own-kept part at (Stops work) = refl
-own-kept part at (Rings work) = refl
+own-kept part at _ = refl
 
 pub home-kept : (k : Known) (s : Stamped Step) → home_of (after k s) ≡ home_of k
 unfolding after

@@ -126,9 +126,7 @@ module _ (c : Call) (P : Transition → Type 0) (more : Goes c P) where
       more (Waits (Resend row) wait) (asks_again row peer u t) refl positive (every-asks_again row peer u t p)
   going_on (Some (Proved u)) row peer wait t positive p = every-updates c P more row wait t positive p
   going_on (Some (Pending u)) row peer wait t positive p = every-updates c P more row wait t positive p
-  going_on (Some (Idle u)) row peer wait t positive p = p
-  going_on (Some (Bound u)) row peer wait t positive p = p
-  going_on None row peer wait t positive p = p
+  going_on _ row peer wait t positive p = p
 
   pub every-resends_row : (row : ℕ) (t : Transition) → P t → P (resends_row row t)
   unfolding resends_row

@@ -31,9 +31,7 @@ sending-long c now k (ByTunnel home careof agent inner) can is = tunnel-long _ _
 sending-long c now k (AsksCareof careof peer cookie) can is = message-long _ _
 sending-long c now k (RegistersHome home careof agent sequence) can is = message-long _ _
 sending-long c now k (DeregistersHome home agent sequence) can is = message-long _ _
-sending-long c now k (SendsData home careof to held proto payload) can is = data-long _ _
-sending-long c now k (Discovers home careof identifier) can is = data-long _ _
-sending-long c now k (Solicits home careof agent identifier) can is = data-long _ _
+sending-long c now k _ can is = data-long _ _
 
 update-long : (u : PeerUpdate) → IsLong (update_packet u)
 unfolding update_packet

@@ -112,9 +112,7 @@ answer_of (Updates row update) = Note (entries.Made myself update.peer 0 update.
 answer_of (Forgets row) = []
 answer_of (Binds row peer end renew) = Note (entries.Bound myself peer end) ∷ []
 answer_of (Unbinds row peer) = Note (entries.Unbound myself peer) ∷ []
-answer_of (Waits work wait) = []
-answer_of (Stops work) = []
-answer_of (Rings work) = []
+answer_of _ = []
 
 abbrev pub answers_of : List Step → List Answer
 answers_of steps = answers_by answer_of steps

@@ -100,9 +100,7 @@ abbrev pub goes_on : Option Any → ℕ → Address → ℕ → Transition → T
 goes_on (Some (Probing u)) row peer wait t = waits row wait (asks_again row peer u t)
 goes_on (Some (Proved u)) row peer wait t = updates row wait t
 goes_on (Some (Pending u)) row peer wait t = updates row wait t
-goes_on (Some (Idle u)) row peer wait t = t
-goes_on (Some (Bound u)) row peer wait t = t
-goes_on None row peer wait t = t
+goes_on _ row peer wait t = t
 
 abbrev pub resends_at : Option Address → ℕ → ℕ → Transition → Transition
 resends_at None row wait t = t
