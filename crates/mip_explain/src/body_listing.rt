@@ -8,6 +8,7 @@ use crate::rows::{put_body_line, put_number_line, put_word_line};
 use crate::words::fault_word;
 use mip_icmp::read_icmp;
 use mip_ipv6::Head;
+use mip_ipv6::constants::protocol::{ICMPV6, MOBILITY_HEADER};
 use mip_mobhdr::read_message;
 use mip_words::{Address, Bytes, Memory};
 
@@ -47,8 +48,8 @@ pub(crate) fn put_body(out: &mut Bytes, head: &Head, body: &[u8]) -> Result<(), 
     ensures { OnOk result (out.new ≡ out.old ++ body_lines head.now body.now) }
 {
     match head.proto {
-        135 => put_mobility(out, head.sender(), head.receiver(), body),
-        58 => put_icmp(out, head.sender(), head.receiver(), body),
+        MOBILITY_HEADER => put_mobility(out, head.sender(), head.receiver(), body),
+        ICMPV6 => put_icmp(out, head.sender(), head.receiver(), body),
         _ => put_body_line(out, b"body", body),
     }
 }

@@ -6,12 +6,9 @@ ghost use Rattle.mip_mobhdr.specs.Said.{said};
 ghost use Rattle.mip_inspection.specs.Says.{innermost as innermost_of, message_in as message_of_packet};
 ghost use Rattle.mip_inspection.specs.Updates.{IsReadUpdate};
 
+use mip_ipv6::constants::protocol::{IPV6, MOBILITY_HEADER};
 use mip_ipv6::{PacketRef, read_packet};
 use mip_mobhdr::{Message, read_message};
-
-const TUNNEL: u8 = 41;
-
-const MOBILITY: u8 = 135;
 
 /// The packet in which no further packet stands, through any depth of tunnels.
 #[tactic(auto, using(crate::proofs::Nesting::innermost_is, crate::proofs::Nesting::shorter))]
@@ -22,7 +19,7 @@ pub fn innermost(bytes: &[u8]) -> Option<PacketRef<'_>>
         Ok(packet) => packet,
         Err(_) => return None,
     };
-    while packet.head.proto == TUNNEL {
+    while packet.head.proto == IPV6 {
         packet = match read_packet(packet.body) {
             Ok(inner) => inner,
             Err(_) => return None,
@@ -37,7 +34,7 @@ pub fn message_in<'a>(packet: &PacketRef<'a>) -> Option<Message<'a>>
     ensures value { option_map said result ≡ message_of_packet (tree packet.now) }
     ensures update { IsReadUpdate (option_map said result) packet.now.body.now }
 {
-    if packet.head.proto != MOBILITY {
+    if packet.head.proto != MOBILITY_HEADER {
         return None;
     }
     match read_message(packet.head.sender(), packet.head.receiver(), packet.body) {

@@ -10,14 +10,12 @@ ghost use Rattle.mip_node.specs.Adverts.{prefix_said, prefix_told, is_to_all, pr
 
 use mip_frames::Frame;
 use mip_icmp::{Icmp, PrefixInfo, read_icmp};
+use mip_ipv6::constants::protocol::ICMPV6;
 use mip_ipv6::{Head, PacketRef, read_packet};
 use mip_words::{Address, Prefix};
 
 /// All nodes of a link, ff02::1 (RFC 4291 section 2.7.1).
 const ALL_NODES: Address = Address(0xff02_0000_0000_0000_0000_0000_0000_0001);
-
-/// The next-header number of ICMPv6.
-const ICMP: u8 = 58;
 
 /// The hop limit of what no router sent on.
 const HIGHEST: u8 = 255;
@@ -46,7 +44,7 @@ fn prefix_told(source: Address, destination: Address, body: &[u8]) -> Option<Pre
 fn is_to_all(head: &Head) -> bool
     ensures { result ≡ is_to_all head.now }
 {
-    head.receiver() == ALL_NODES && head.hop == HIGHEST && head.proto == ICMP
+    head.receiver() == ALL_NODES && head.hop == HIGHEST && head.proto == ICMPV6
 }
 
 /// The prefix that a packet advertises.

@@ -10,8 +10,9 @@ ghost use Rattle.mip_proxynd.specs.Reading.{neighbour_of};
 ghost use Rattle.mip_proxynd.specs.Spelling.{neighbour_bytes};
 
 use crate::neighbour::Neighbour;
-use crate::reading::{NEAR, PROTO};
+use crate::reading::NEAR;
 use crate::writing::write_neighbour;
+use mip_ipv6::constants::protocol::ICMPV6;
 use mip_ipv6::{Head, WriteFault, write_packet};
 use mip_symbols::{Declaration, Sort, member};
 use mip_words::{Address, Bytes, Memory};
@@ -51,7 +52,7 @@ fn near_head(source: Address, destination: Address) -> Head
         flow: 0,
         route: None,
         home: None,
-        proto: PROTO,
+        proto: ICMPV6,
     }
 }
 

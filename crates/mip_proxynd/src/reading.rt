@@ -9,10 +9,8 @@ use crate::fault::NeighbourFault;
 use crate::fields::{ADVERT, SOLICIT, is_group, message_of};
 use crate::neighbour::Neighbour;
 use mip_ipv6::checksum_holds;
+use mip_ipv6::constants::protocol::ICMPV6;
 use mip_words::Address;
-
-/// The protocol number of ICMPv6.
-pub(crate) const PROTO: u8 = 58;
 
 /// The hop limit of a packet that passed no router.
 pub(crate) const NEAR: u8 = 255;
@@ -35,7 +33,7 @@ fn checked(
     if body.len() < 24 {
         return Err(NeighbourFault::Short);
     }
-    if !checksum_holds(source, destination, PROTO, body) {
+    if !checksum_holds(source, destination, ICMPV6, body) {
         return Err(NeighbourFault::Checksum);
     }
     let kind = body[0];

@@ -8,8 +8,8 @@ ghost use Rattle.mip_proxynd.specs.Spelling.{flag_worth, flags_of, layer_bytes, 
 
 use crate::fields::{ADVERT, OVERRIDE, ROUTER, SOLICIT, SOLICITED};
 use crate::neighbour::Neighbour;
-use crate::reading::PROTO;
 use mip_ipv6::checksum;
+use mip_ipv6::constants::protocol::ICMPV6;
 use mip_words::{Address, Bytes, Memory};
 use std::alloc::Global;
 
@@ -116,7 +116,7 @@ fn summed(
     ensures fits { OnOk result (Fits message.now) }
 {
     let mut bytes = unsummed_of(alloc, message)?;
-    let sum = checksum(source, destination, PROTO, bytes.as_slice(), 2);
+    let sum = checksum(source, destination, ICMPV6, bytes.as_slice(), 2);
     bytes.set_u16(2, sum);
     Ok(bytes)
 }

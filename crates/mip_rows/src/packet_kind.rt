@@ -9,6 +9,7 @@ ghost use Rattle.mip_rows.specs.PacketKinds.{mobility_kind, icmp_kind, body_kind
 use mip_explain::message_word;
 use mip_icmp::read_icmp;
 use mip_inspection::message_in;
+use mip_ipv6::constants::protocol::{ICMPV6, IPV6, MOBILITY_HEADER, NO_NEXT_HEADER};
 use mip_ipv6::{PacketRef, read_packet};
 use mip_words::Address;
 
@@ -36,10 +37,10 @@ fn body_kind(packet: &PacketRef) -> &'static [u8]
     ensures { result.now ≡ body_kind (tree packet.now) }
 {
     match packet.head.proto {
-        135 => mobility_kind(packet),
-        58 => icmp_kind(packet.head.sender(), packet.head.receiver(), packet.body),
-        41 => b"tunnel",
-        59 => b"none",
+        MOBILITY_HEADER => mobility_kind(packet),
+        ICMPV6 => icmp_kind(packet.head.sender(), packet.head.receiver(), packet.body),
+        IPV6 => b"tunnel",
+        NO_NEXT_HEADER => b"none",
         _ => b"data",
     }
 }
