@@ -15,7 +15,7 @@ use Rattle.mip_rules_mobile.specs.Known.{Known}
 use Rattle.mip_rules_mobile.specs.Doing.{turn_of}
 use Rattle.mip_rules_mobile.specs.Refusing.{is_refusal, tells_of_refusal, tables_of}
 use Rattle.mip_rules_mobile.proofs.Refusals.{refused-keeps}
-use Rattle.mip_mobile.specs.Putting.{after_put, Puts, PutsAll}
+use Rattle.mip_transmission.specs.Putting.{after_put, Puts, PutsAll}
 use Rattle.mip_mobile.specs.Handling.{refuses}
 
 -- what the wire makes of a packet refuses nothing
