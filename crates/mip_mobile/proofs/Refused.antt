@@ -1,5 +1,5 @@
 -- A packet that a mobile drops, and an update that it denies, changes none of its tables.
-use Rattle.std.proofs.Common.{◌≡◌, ℕ, List, [], ◌∷◌, ◌++◌, Bool, true, false, refl, sym, ap, ◌∙◌, subst}
+use Rattle.std.proofs.Common.{◌≡◌, ℕ, List, [], ◌∷◌, Bool, true, false, refl, sym, ap, ◌∙◌, subst}
 use Rattle.std.specs.Prelude.{Option, ◌||◌}
 use Rattle.std.specs.List.{list_any}
 use Rattle.std.proofs.lemmas.List.Folds.{list_any-append}
@@ -8,7 +8,6 @@ use Rattle.mip_outside.specs.declared.put.Put.{Put}
 use Rattle.mip_outside.specs.declared.put.Put.TheVariants.{Sent, NoRoute, Oversize}
 use Rattle.mip_entries.specs.declared.answer.Answer.{Answer}
 use Rattle.mip_entries.specs.declared.answer.Answer.TheVariants.{Send, Note}
-use Rattle.mip_entries.specs.declared.entry.Entry.{Entry}
 use Rattle.mip_rules_mobile.specs.Calls.{Call, Take}
 use Rattle.mip_rules_mobile.specs.Steps.{Step, Notes, answer_of, answers_of}
 use Rattle.mip_rules_mobile.specs.Known.{Known}

@@ -1,5 +1,5 @@
 -- What a machine is after a call, and what it answered.
-use Rattle.std.specs.Prelude.{◌≡◌, ◌≢◌, ◌≤◌, ℕ, List, None, Some, Option, Result, Err, IfOk, IfSome, IfErr, OnOk, OnErr, IsErrOf, option_map}
+use Rattle.std.specs.Prelude.{◌≡◌, ◌≢◌, ◌≤◌, ℕ, List, None, Some, Result, Err, IfOk, IfSome, IfErr, OnOk, OnErr, IsErrOf, option_map}
 use Rattle.mip_outside.specs.Cause.{Rose}
 use Rattle.mip_outside.specs.Moments.{moments_after}
 use Rattle.mip_outside.specs.declared.clock.Clock.{Ghosts as Clocks}

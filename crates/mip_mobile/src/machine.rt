@@ -25,7 +25,7 @@ use mip_mobility::CallContext;
 use mip_nonce::Secrets;
 use mip_outside::{Clock, Wire};
 use mip_rules_mobile::Attachment;
-use mip_transmission::{send_all, StationFault};
+use mip_transmission::{StationFault, send_all};
 use mip_words::{Address, Memory, Moment, Shield};
 use std::alloc::Global;
 
