@@ -64,6 +64,7 @@ impl<C: Clock + Drop, W: Wire + Drop> Machine<C, W> {
         })
     }
 
+    /// Its clock. What is written there is in the machine once the borrow ends.
     pub fn clock(&mut self) -> &mut C
         ensures* lent { sem 𝓛 (Lends (the_row C.row W.row) C.row self.entry result (with_clock self.entry.now)) }
         ensures clock { result.now ≡ self.old.clock }
@@ -71,6 +72,7 @@ impl<C: Clock + Drop, W: Wire + Drop> Machine<C, W> {
         &mut self.clock
     }
 
+    /// Its wire. What is written there is in the machine once the borrow ends.
     pub fn wire(&mut self) -> &mut W
         ensures* lent { sem 𝓛 (Lends (the_row C.row W.row) W.row self.entry result (with_wire self.entry.now)) }
         ensures wire { result.now ≡ self.old.wire }

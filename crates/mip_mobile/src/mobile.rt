@@ -37,7 +37,7 @@ pub enum Mobile<C: Clock, W: Wire> {
 }
 
 /// What a call leaves: the mobile, and its answers. A call reads the clock once, unless there was a fault before. After a fault
-/// it answers that fault from then on, and puts nothing on its wire.
+/// the mobile answers that fault from then on, and puts nothing on its wire.
 pub type Turned<C, W> = (Mobile<C, W>, Result<Answers, StationFault>);
 
 impl<C: Clock + Drop, W: Wire + Drop> Mobile<C, W> {
@@ -158,7 +158,7 @@ impl<C: Clock + Drop, W: Wire + Drop> Mobile<C, W> {
         (Mobile::of(machine), answers)
     }
 
-    /// It leaves its link.
+    /// The mobile leaves its link.
     pub fn leave<P: Place>(self, alloc: Global, place: &mut P) -> Turned<C, W>
         requires home { (P.around place.old).room (home_of (machine_of self).context.known).0 ≡ true }
         ensures performs { Performs C.Clock W.Wire (machine_of self) (machine_of result.0)

@@ -76,7 +76,7 @@ impl<C: Clock + Drop, W: Wire + Drop> Machine<C, W> {
         mip_mobility::attach(alloc, &mut self.context, prefix, of_home, of_address)
     }
 
-    /// It leaves its link.
+    /// The mobile leaves its link.
     pub fn leave<P: Place>(&mut self, alloc: Global, place: &mut P) -> Result<Answers, StationFault>
         requires home { (P.around place.old).room (home_of self.old.context.known).0 ≡ true }
         ensures performs { Performs C.Clock W.Wire self.old self.new (leave_at (P.around place.old) (home_of self.old.context.known)) result }

@@ -19,7 +19,7 @@ pub struct Station<S: State, C: Clock, W: Wire> {
 }
 
 impl<C: Clock + Drop, W: Wire + Drop> Station<Away, C, W> {
-    /// Sends a packet from its home address, through the tunnel to its agent (RFC 6275 section 11.3.1). It is one that a tunnel takes.
+    /// Sends a packet from its home address, through the tunnel to its agent (RFC 6275 section 11.3.1). The packet is one that a tunnel takes.
     pub fn tunnel(&mut self, alloc: Global, inner: &[u8]) -> Result<Answers, StationFault>
         requires long { 40 ≤ length inner.now }
         requires hop { 2 ≤ hop_of inner.now }

@@ -16,7 +16,7 @@ use std::alloc::Global;
 /// A role writes 0 for its own number.
 const MYSELF: NodeId = NodeId(0);
 
-/// What a packet becomes that a wire took so.
+/// What becomes of a packet that its wire answered this to.
 fn after_put(put: Put, shield: Option<Shield>, packet: Bytes) -> Answer
     ensures { result ≡ after_put put shield packet }
 {
