@@ -19,10 +19,10 @@ use Rattle.mip_rules_mobile.proofs.Away.{away-call}
 use Rattle.mip_rules_mobile.proofs.Calls.{call-stands, call-now}
 use Rattle.mip_mobility.specs.Seen.{ContextSeen, Shows}
 use Rattle.mip_mobility.proofs.Noted.{shows-known, shows-moment}
-use Rattle.mip_mobile.specs.Putting.{after_put, Puts, PutsAll, PutsFront, Told, Answered, sends_of, puts_of}
+use Rattle.mip_transmission.specs.Putting.{after_put, Puts, PutsAll, PutsFront, Told, Answered, sends_of, puts_of}
 use Rattle.mip_mobile.specs.Handling.{Handles, BreaksOff, IsLeft}
 use Rattle.mip_rules_mobile.specs.Refusing.{tables_of}
-use Rattle.mip_mobile.proofs.PutLaws.{out-none}
+use Rattle.mip_transmission.proofs.PutLaws.{out-none}
 use Rattle.mip_mobile.proofs.Refused.{refused-call}
 
 pub if-both : {A E : Type 0} (P Q R : A → Type 0) (r : Result A E) → ((x : A) → P x → Q x → R x) → IfOk r P → IfOk r Q → IfOk r R

@@ -1,5 +1,5 @@
 -- A packet that a mobile drops, and an update that it denies, changes none of its tables.
-use Rattle.std.proofs.Common.{◌≡◌, ℕ, List, [], ◌∷◌, ◌++◌, Bool, true, false, refl, sym, ap, ◌∙◌, subst}
+use Rattle.std.proofs.Common.{◌≡◌, ℕ, List, [], ◌∷◌, Bool, true, false, refl, sym, ap, ◌∙◌, subst}
 use Rattle.std.specs.Prelude.{Option, ◌||◌}
 use Rattle.std.specs.List.{list_any}
 use Rattle.std.proofs.lemmas.List.Folds.{list_any-append}
@@ -8,14 +8,13 @@ use Rattle.mip_outside.specs.declared.put.Put.{Put}
 use Rattle.mip_outside.specs.declared.put.Put.TheVariants.{Sent, NoRoute, Oversize}
 use Rattle.mip_entries.specs.declared.answer.Answer.{Answer}
 use Rattle.mip_entries.specs.declared.answer.Answer.TheVariants.{Send, Note}
-use Rattle.mip_entries.specs.declared.entry.Entry.{Entry}
 use Rattle.mip_rules_mobile.specs.Calls.{Call, Take}
 use Rattle.mip_rules_mobile.specs.Steps.{Step, Notes, answer_of, answers_of}
 use Rattle.mip_rules_mobile.specs.Known.{Known}
 use Rattle.mip_rules_mobile.specs.Doing.{turn_of}
 use Rattle.mip_rules_mobile.specs.Refusing.{is_refusal, tells_of_refusal, tables_of}
 use Rattle.mip_rules_mobile.proofs.Refusals.{refused-keeps}
-use Rattle.mip_mobile.specs.Putting.{after_put, Puts, PutsAll}
+use Rattle.mip_transmission.specs.Putting.{after_put, Puts, PutsAll}
 use Rattle.mip_mobile.specs.Handling.{refuses}
 
 -- what the wire makes of a packet refuses nothing

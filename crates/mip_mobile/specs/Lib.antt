@@ -1,4 +1,4 @@
-pub mod Putting
 pub mod Handling
+pub mod Performing
 pub mod Placing
 pub mod Stations

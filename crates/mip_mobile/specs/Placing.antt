@@ -31,13 +31,13 @@ abbrev pub claims_come : Attachment → (home address : Address) → (held grant
 claims_come standing home address held granted claims = with_claim granted address.0 (claims_left standing home held claims)
 
 -- the claims after a call of this kind: where it uses the prefix already, they stay
-abbrev pub claims_attached : Around → Attachment → (home : Address) → (prefix : ℕ) → Claims → Claims
-claims_attached around standing home prefix claims =
-    if uses_prefix standing home prefix then claims
-    else claims_come standing home (address_under home prefix) (is_held (claim_in around home.0)) (is_held (claim_in around (address_under home prefix).0)) claims
+abbrev pub claims_attached : Around → Known → (prefix : ℕ) → Claims → Claims
+claims_attached around k prefix claims =
+    if uses_prefix k.standing (home_of k) prefix then claims
+    else claims_come k.standing (home_of k) (address_under (home_of k) prefix) (is_held (claim_in around (home_of k).0)) (is_held (claim_in around (address_under (home_of k) prefix).0)) claims
 
-abbrev pub claims_after_leaving : Around → Attachment → (home : Address) → Claims → Claims
-claims_after_leaving around standing home claims = claims_left standing home (is_held (claim_in around home.0)) claims
+abbrev pub claims_after_leaving : Around → Known → Claims → Claims
+claims_after_leaving around k claims = claims_left k.standing (home_of k) (is_held (claim_in around (home_of k).0)) claims
 
 -- these are the place's answers, as far as a call needs them: none where it uses the prefix already, and the one of the home
 -- address only where it stood at home

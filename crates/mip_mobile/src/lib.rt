@@ -1,16 +1,14 @@
 //! A mobile node over any clock, wire and place (RFC 6275 section 11).
 #![tactic(auto)]
 
-mod fault;
 mod machine;
 mod mobile;
 mod moving;
 mod placing;
-mod putting;
 mod state;
 mod station;
 
-pub use fault::StationFault;
+pub use mip_transmission::StationFault;
 pub use mobile::{Mobile, Turned};
 pub use state::{AtHome, Away, Detached, State};
 pub use station::Station;

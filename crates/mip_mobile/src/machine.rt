@@ -1,35 +1,31 @@
 //! A mobile with its clock and its wire, wherever it stands.
 
-ghost use Rattle.std.specs.Prelude.{◌≡◌, ◌≢◌, ℕ, ◌≤◌, ◌<◌, ◌^◌, [], None, Some, Err, IfOk, IfSome, IfErr, OnOk, OnErr, IsErrOf, IsTrue, IsFalse, length, option_copied, option_map, slice_get};
+ghost use Rattle.std.specs.Prelude.{◌≡◌, ◌≤◌, [], None, Some, IfOk, IfErr, OnOk, IsTrue, IsFalse, length, option_copied, option_map, slice_get};
 ghost use Rattle.mip_words.specs.Addresses.{is_routable};
 ghost use Rattle.mip_ipv6.specs.Packet.{names_no_body};
 ghost use Rattle.mip_rules_correspondent.specs.Rules.{is_data};
 ghost use Rattle.mip_bcache.specs.Seen.{rows_at};
 ghost use Rattle.mip_bulist.specs.Timers.{first_due};
 ghost use Rattle.mip_tunnel.specs.Tunnel.{hop_of};
-ghost use Rattle.mip_outside.specs.Cause.{Rose};
 ghost use Rattle.mip_outside.specs.Moments.{moments_after};
 ghost use Rattle.mip_rules_mobile.specs.Calls as calls;
 ghost use Rattle.mip_rules_mobile.specs.Calls.{Call};
 ghost use Rattle.mip_rules_mobile.specs.Steps.{Called};
-ghost use Rattle.mip_rules_mobile.specs.Known.{Known};
 ghost use Rattle.mip_rules_mobile.specs.Questions.{fresh};
 ghost use Rattle.mip_rules_mobile.specs.Transitions.{begun, noted};
-ghost use Rattle.mip_rules_mobile.specs.Doing.{turn_of};
 ghost use Rattle.mip_mobility.specs.Seen.{Shows};
-ghost use Rattle.mip_mobile.specs.Handling.{Handles, BreaksOff, IsLeft, moment_of};
+ghost use Rattle.mip_mobile.specs.Performing.{Performs, Finishes, moment_in, turn_in};
 ghost use Rattle.mip_mobile.specs.Stations.{with_clock, with_wire};
 ghost use Rattle.mip_mobile.specs.contracts.machine.Machine.{the_row};
 ghost use Rattle.std.specs.Borrow.{Lends, sem};
 
-use crate::fault::StationFault;
-use crate::putting::send_all;
 use mip_bcache::Row;
 use mip_entries::Answers;
 use mip_mobility::CallContext;
 use mip_nonce::Secrets;
 use mip_outside::{Clock, Wire};
 use mip_rules_mobile::Attachment;
+use mip_transmission::{StationFault, send_all};
 use mip_words::{Address, Memory, Moment, Shield};
 use std::alloc::Global;
 
@@ -68,6 +64,7 @@ impl<C: Clock + Drop, W: Wire + Drop> Machine<C, W> {
         })
     }
 
+    /// Its clock. What is written there is in the machine once the borrow ends.
     pub fn clock(&mut self) -> &mut C
         ensures* lent { sem 𝓛 (Lends (the_row C.row W.row) C.row self.entry result (with_clock self.entry.now)) }
         ensures clock { result.now ≡ self.old.clock }
@@ -75,6 +72,7 @@ impl<C: Clock + Drop, W: Wire + Drop> Machine<C, W> {
         &mut self.clock
     }
 
+    /// Its wire. What is written there is in the machine once the borrow ends.
     pub fn wire(&mut self) -> &mut W
         ensures* lent { sem 𝓛 (Lends (the_row C.row W.row) W.row self.entry result (with_wire self.entry.now)) }
         ensures wire { result.now ≡ self.old.wire }
@@ -106,7 +104,8 @@ impl<C: Clock + Drop, W: Wire + Drop> Machine<C, W> {
 
     /// A call begins: its moment is what the clock says, or that of the last call where this is later.
     pub fn begin(&mut self, alloc: Global) -> Result<(), Memory>
-        ensures shows { (call : Call) → OnOk result (Shows self.new.context (noted (Called call) (begun (moment_of (C.last self.new.clock) self.old.context.moment) self.old.context.known))) }
+        ensures shows { (call : Call) → OnOk result (Shows self.new.context
+            (noted (Called call) (begun (moment_in C.Clock self.old self.new) self.old.context.known))) }
         ensures rest { (self.new.wire ≡ self.old.wire) × (self.new.fault ≡ self.old.fault) }
         ensures read { C.ahead self.new.clock ≡ option_map moments_after (C.ahead self.old.clock) }
     {
@@ -121,17 +120,10 @@ impl<C: Clock + Drop, W: Wire + Drop> Machine<C, W> {
         done: Result<(), Memory>,
     ) -> Result<Answers, StationFault>
         requires { self.old.fault ≡ None }
-        ensures handles { (k : Known) (now : ℕ) (call : Call) → OnOk done (Shows self.old.context (turn_of k now call))
-            → IfOk result (λ answers. Handles W.gives k now call (W.out self.old.wire) (W.answered self.old.wire) answers self.new.context.known (W.out self.new.wire) (W.answered self.new.wire)) }
-        ensures front { (k : Known) (now : ℕ) (call : Call) → OnOk done (Shows self.old.context (turn_of k now call))
-            → OnErr result (BreaksOff W.gives k now call (W.out self.old.wire) (W.answered self.old.wire) (W.out self.new.wire) (W.answered self.new.wire)) }
-        ensures left { (k : Known) (now : ℕ) (call : Call) → OnOk done (Shows self.old.context (turn_of k now call))
-            → result ≢ Err StationFault.Memory → IsLeft self.new.context k now call }
+        ensures finishes { Finishes W.Wire self.old self.new done result }
         ensures clock { self.new.clock ≡ self.old.clock }
         ensures well { OnOk result (self.new.fault ≡ None) }
         ensures kept { IfErr result (λ fault. self.new.fault ≡ Some fault) }
-        ensures failed { IsErrOf result StationFault.Failed → Rose (W.faults self.old.wire) (W.faults self.new.wire) }
-        ensures wire { (W.faults self.old.wire ≤ W.faults self.new.wire) × W.is_same self.old.wire self.new.wire }
     {
         let result = self.finish_call(alloc, done);
         if let Err(fault) = result {
@@ -145,15 +137,8 @@ impl<C: Clock + Drop, W: Wire + Drop> Machine<C, W> {
         alloc: Global,
         done: Result<(), Memory>,
     ) -> Result<Answers, StationFault>
-        ensures handles { (k : Known) (now : ℕ) (call : Call) → OnOk done (Shows self.old.context (turn_of k now call))
-            → IfOk result (λ answers. Handles W.gives k now call (W.out self.old.wire) (W.answered self.old.wire) answers self.new.context.known (W.out self.new.wire) (W.answered self.new.wire)) }
-        ensures front { (k : Known) (now : ℕ) (call : Call) → OnOk done (Shows self.old.context (turn_of k now call))
-            → OnErr result (BreaksOff W.gives k now call (W.out self.old.wire) (W.answered self.old.wire) (W.out self.new.wire) (W.answered self.new.wire)) }
-        ensures left { (k : Known) (now : ℕ) (call : Call) → OnOk done (Shows self.old.context (turn_of k now call))
-            → result ≢ Err StationFault.Memory → IsLeft self.new.context k now call }
+        ensures finishes { Finishes W.Wire self.old self.new done result }
         ensures rest { (self.new.clock ≡ self.old.clock) × (self.new.fault ≡ self.old.fault) }
-        ensures failed { IsErrOf result StationFault.Failed → Rose (W.faults self.old.wire) (W.faults self.new.wire) }
-        ensures wire { (W.faults self.old.wire ≤ W.faults self.new.wire) × W.is_same self.old.wire self.new.wire }
     {
         done?;
         let asked = self.context.take_answers(alloc)?;
@@ -168,15 +153,7 @@ impl<C: Clock + Drop, W: Wire + Drop> Machine<C, W> {
         shield: Option<Shield>,
         packet: &[u8],
     ) -> Result<Answers, StationFault>
-        ensures faulted { IfSome self.old.fault (λ fault. (result ≡ Err fault) × (self.new ≡ self.old)) }
-        ensures read { self.old.fault ≡ None → C.ahead self.new.clock ≡ option_map moments_after (C.ahead self.old.clock) }
-        ensures handles { IfOk result (λ answers. Handles W.gives self.old.context.known (moment_of (C.last self.new.clock) self.old.context.moment) (calls.Take number shield packet.now) (W.out self.old.wire) (W.answered self.old.wire) answers self.new.context.known (W.out self.new.wire) (W.answered self.new.wire)) }
-        ensures front { self.old.fault ≡ None → OnErr result (BreaksOff W.gives self.old.context.known (moment_of (C.last self.new.clock) self.old.context.moment) (calls.Take number shield packet.now) (W.out self.old.wire) (W.answered self.old.wire) (W.out self.new.wire) (W.answered self.new.wire)) }
-        ensures left { self.old.fault ≡ None → result ≢ Err StationFault.Memory → IsLeft self.new.context self.old.context.known (moment_of (C.last self.new.clock) self.old.context.moment) (calls.Take number shield packet.now) }
-        ensures well { OnOk result (self.new.fault ≡ None) }
-        ensures kept { IfErr result (λ fault. self.new.fault ≡ Some fault) }
-        ensures failed { self.old.fault ≡ None → IsErrOf result StationFault.Failed → Rose (W.faults self.old.wire) (W.faults self.new.wire) }
-        ensures wire { (W.faults self.old.wire ≤ W.faults self.new.wire) × W.is_same self.old.wire self.new.wire }
+        ensures performs { Performs C.Clock W.Wire self.old self.new (calls.Take number shield packet.now) result }
     {
         if let Some(fault) = self.fault {
             return Err(fault);
@@ -193,7 +170,7 @@ impl<C: Clock + Drop, W: Wire + Drop> Machine<C, W> {
         shield: Option<Shield>,
         packet: &[u8],
     ) -> Result<(), Memory>
-        ensures shows { OnOk result (Shows self.new.context (turn_of self.old.context.known (moment_of (C.last self.new.clock) self.old.context.moment) (calls.Take number shield packet.now))) }
+        ensures shows { OnOk result (Shows self.new.context (turn_in C.Clock self.old self.new (calls.Take number shield packet.now))) }
         ensures rest { (self.new.wire ≡ self.old.wire) × (self.new.fault ≡ self.old.fault) }
         ensures read { C.ahead self.new.clock ≡ option_map moments_after (C.ahead self.old.clock) }
     {
@@ -203,15 +180,7 @@ impl<C: Clock + Drop, W: Wire + Drop> Machine<C, W> {
 
     /// Time goes on, and due work is done.
     pub fn tick(&mut self, alloc: Global) -> Result<Answers, StationFault>
-        ensures faulted { IfSome self.old.fault (λ fault. (result ≡ Err fault) × (self.new ≡ self.old)) }
-        ensures read { self.old.fault ≡ None → C.ahead self.new.clock ≡ option_map moments_after (C.ahead self.old.clock) }
-        ensures handles { IfOk result (λ answers. Handles W.gives self.old.context.known (moment_of (C.last self.new.clock) self.old.context.moment) calls.Tick (W.out self.old.wire) (W.answered self.old.wire) answers self.new.context.known (W.out self.new.wire) (W.answered self.new.wire)) }
-        ensures front { self.old.fault ≡ None → OnErr result (BreaksOff W.gives self.old.context.known (moment_of (C.last self.new.clock) self.old.context.moment) calls.Tick (W.out self.old.wire) (W.answered self.old.wire) (W.out self.new.wire) (W.answered self.new.wire)) }
-        ensures left { self.old.fault ≡ None → result ≢ Err StationFault.Memory → IsLeft self.new.context self.old.context.known (moment_of (C.last self.new.clock) self.old.context.moment) calls.Tick }
-        ensures well { OnOk result (self.new.fault ≡ None) }
-        ensures kept { IfErr result (λ fault. self.new.fault ≡ Some fault) }
-        ensures failed { self.old.fault ≡ None → IsErrOf result StationFault.Failed → Rose (W.faults self.old.wire) (W.faults self.new.wire) }
-        ensures wire { (W.faults self.old.wire ≤ W.faults self.new.wire) × W.is_same self.old.wire self.new.wire }
+        ensures performs { Performs C.Clock W.Wire self.old self.new calls.Tick result }
     {
         if let Some(fault) = self.fault {
             return Err(fault);
@@ -222,7 +191,7 @@ impl<C: Clock + Drop, W: Wire + Drop> Machine<C, W> {
 
     #[tactic(auto, unfolding(mip_rules_mobile::specs::Doing::does))]
     fn tick_context(&mut self, alloc: Global) -> Result<(), Memory>
-        ensures shows { OnOk result (Shows self.new.context (turn_of self.old.context.known (moment_of (C.last self.new.clock) self.old.context.moment) calls.Tick)) }
+        ensures shows { OnOk result (Shows self.new.context (turn_in C.Clock self.old self.new calls.Tick)) }
         ensures rest { (self.new.wire ≡ self.old.wire) × (self.new.fault ≡ self.old.fault) }
         ensures read { C.ahead self.new.clock ≡ option_map moments_after (C.ahead self.old.clock) }
     {
@@ -241,15 +210,7 @@ impl<C: Clock + Drop, W: Wire + Drop> Machine<C, W> {
         requires data { IsTrue (is_data proto) }
         requires proto { IsFalse (names_no_body proto) }
         requires short { length payload.now ≤ 512 }
-        ensures faulted { IfSome self.old.fault (λ fault. (result ≡ Err fault) × (self.new ≡ self.old)) }
-        ensures read { self.old.fault ≡ None → C.ahead self.new.clock ≡ option_map moments_after (C.ahead self.old.clock) }
-        ensures handles { IfOk result (λ answers. Handles W.gives self.old.context.known (moment_of (C.last self.new.clock) self.old.context.moment) (calls.Send to proto payload.now) (W.out self.old.wire) (W.answered self.old.wire) answers self.new.context.known (W.out self.new.wire) (W.answered self.new.wire)) }
-        ensures front { self.old.fault ≡ None → OnErr result (BreaksOff W.gives self.old.context.known (moment_of (C.last self.new.clock) self.old.context.moment) (calls.Send to proto payload.now) (W.out self.old.wire) (W.answered self.old.wire) (W.out self.new.wire) (W.answered self.new.wire)) }
-        ensures left { self.old.fault ≡ None → result ≢ Err StationFault.Memory → IsLeft self.new.context self.old.context.known (moment_of (C.last self.new.clock) self.old.context.moment) (calls.Send to proto payload.now) }
-        ensures well { OnOk result (self.new.fault ≡ None) }
-        ensures kept { IfErr result (λ fault. self.new.fault ≡ Some fault) }
-        ensures failed { self.old.fault ≡ None → IsErrOf result StationFault.Failed → Rose (W.faults self.old.wire) (W.faults self.new.wire) }
-        ensures wire { (W.faults self.old.wire ≤ W.faults self.new.wire) × W.is_same self.old.wire self.new.wire }
+        ensures performs { Performs C.Clock W.Wire self.old self.new (calls.Send to proto payload.now) result }
     {
         if let Some(fault) = self.fault {
             return Err(fault);
@@ -269,7 +230,7 @@ impl<C: Clock + Drop, W: Wire + Drop> Machine<C, W> {
         requires data { IsTrue (is_data proto) }
         requires proto { IsFalse (names_no_body proto) }
         requires short { length payload.now ≤ 512 }
-        ensures shows { OnOk result (Shows self.new.context (turn_of self.old.context.known (moment_of (C.last self.new.clock) self.old.context.moment) (calls.Send to proto payload.now))) }
+        ensures shows { OnOk result (Shows self.new.context (turn_in C.Clock self.old self.new (calls.Send to proto payload.now))) }
         ensures rest { (self.new.wire ≡ self.old.wire) × (self.new.fault ≡ self.old.fault) }
         ensures read { C.ahead self.new.clock ≡ option_map moments_after (C.ahead self.old.clock) }
     {
@@ -279,15 +240,7 @@ impl<C: Clock + Drop, W: Wire + Drop> Machine<C, W> {
 
     /// Asks for a Binding Refresh Request to a home.
     pub fn refresh(&mut self, alloc: Global, home: Address) -> Result<Answers, StationFault>
-        ensures faulted { IfSome self.old.fault (λ fault. (result ≡ Err fault) × (self.new ≡ self.old)) }
-        ensures read { self.old.fault ≡ None → C.ahead self.new.clock ≡ option_map moments_after (C.ahead self.old.clock) }
-        ensures handles { IfOk result (λ answers. Handles W.gives self.old.context.known (moment_of (C.last self.new.clock) self.old.context.moment) (calls.Refresh home) (W.out self.old.wire) (W.answered self.old.wire) answers self.new.context.known (W.out self.new.wire) (W.answered self.new.wire)) }
-        ensures front { self.old.fault ≡ None → OnErr result (BreaksOff W.gives self.old.context.known (moment_of (C.last self.new.clock) self.old.context.moment) (calls.Refresh home) (W.out self.old.wire) (W.answered self.old.wire) (W.out self.new.wire) (W.answered self.new.wire)) }
-        ensures left { self.old.fault ≡ None → result ≢ Err StationFault.Memory → IsLeft self.new.context self.old.context.known (moment_of (C.last self.new.clock) self.old.context.moment) (calls.Refresh home) }
-        ensures well { OnOk result (self.new.fault ≡ None) }
-        ensures kept { IfErr result (λ fault. self.new.fault ≡ Some fault) }
-        ensures failed { self.old.fault ≡ None → IsErrOf result StationFault.Failed → Rose (W.faults self.old.wire) (W.faults self.new.wire) }
-        ensures wire { (W.faults self.old.wire ≤ W.faults self.new.wire) × W.is_same self.old.wire self.new.wire }
+        ensures performs { Performs C.Clock W.Wire self.old self.new (calls.Refresh home) result }
     {
         if let Some(fault) = self.fault {
             return Err(fault);
@@ -298,7 +251,7 @@ impl<C: Clock + Drop, W: Wire + Drop> Machine<C, W> {
 
     #[tactic(auto, unfolding(mip_rules_mobile::specs::Doing::does))]
     fn refresh_context(&mut self, alloc: Global, home: Address) -> Result<(), Memory>
-        ensures shows { OnOk result (Shows self.new.context (turn_of self.old.context.known (moment_of (C.last self.new.clock) self.old.context.moment) (calls.Refresh home))) }
+        ensures shows { OnOk result (Shows self.new.context (turn_in C.Clock self.old self.new (calls.Refresh home))) }
         ensures rest { (self.new.wire ≡ self.old.wire) × (self.new.fault ≡ self.old.fault) }
         ensures read { C.ahead self.new.clock ≡ option_map moments_after (C.ahead self.old.clock) }
     {
@@ -308,15 +261,7 @@ impl<C: Clock + Drop, W: Wire + Drop> Machine<C, W> {
 
     /// Solicits the prefixes of its home link.
     pub fn ask(&mut self, alloc: Global) -> Result<Answers, StationFault>
-        ensures faulted { IfSome self.old.fault (λ fault. (result ≡ Err fault) × (self.new ≡ self.old)) }
-        ensures read { self.old.fault ≡ None → C.ahead self.new.clock ≡ option_map moments_after (C.ahead self.old.clock) }
-        ensures handles { IfOk result (λ answers. Handles W.gives self.old.context.known (moment_of (C.last self.new.clock) self.old.context.moment) calls.Ask (W.out self.old.wire) (W.answered self.old.wire) answers self.new.context.known (W.out self.new.wire) (W.answered self.new.wire)) }
-        ensures front { self.old.fault ≡ None → OnErr result (BreaksOff W.gives self.old.context.known (moment_of (C.last self.new.clock) self.old.context.moment) calls.Ask (W.out self.old.wire) (W.answered self.old.wire) (W.out self.new.wire) (W.answered self.new.wire)) }
-        ensures left { self.old.fault ≡ None → result ≢ Err StationFault.Memory → IsLeft self.new.context self.old.context.known (moment_of (C.last self.new.clock) self.old.context.moment) calls.Ask }
-        ensures well { OnOk result (self.new.fault ≡ None) }
-        ensures kept { IfErr result (λ fault. self.new.fault ≡ Some fault) }
-        ensures failed { self.old.fault ≡ None → IsErrOf result StationFault.Failed → Rose (W.faults self.old.wire) (W.faults self.new.wire) }
-        ensures wire { (W.faults self.old.wire ≤ W.faults self.new.wire) × W.is_same self.old.wire self.new.wire }
+        ensures performs { Performs C.Clock W.Wire self.old self.new calls.Ask result }
     {
         if let Some(fault) = self.fault {
             return Err(fault);
@@ -327,7 +272,7 @@ impl<C: Clock + Drop, W: Wire + Drop> Machine<C, W> {
 
     #[tactic(auto, unfolding(mip_rules_mobile::specs::Doing::does))]
     fn ask_context(&mut self, alloc: Global) -> Result<(), Memory>
-        ensures shows { OnOk result (Shows self.new.context (turn_of self.old.context.known (moment_of (C.last self.new.clock) self.old.context.moment) calls.Ask)) }
+        ensures shows { OnOk result (Shows self.new.context (turn_in C.Clock self.old self.new calls.Ask)) }
         ensures rest { (self.new.wire ≡ self.old.wire) × (self.new.fault ≡ self.old.fault) }
         ensures read { C.ahead self.new.clock ≡ option_map moments_after (C.ahead self.old.clock) }
     {
@@ -337,15 +282,7 @@ impl<C: Clock + Drop, W: Wire + Drop> Machine<C, W> {
 
     /// Loses all that it keeps, and goes on with these secrets.
     pub fn restart(&mut self, alloc: Global, secrets: Secrets) -> Result<Answers, StationFault>
-        ensures faulted { IfSome self.old.fault (λ fault. (result ≡ Err fault) × (self.new ≡ self.old)) }
-        ensures read { self.old.fault ≡ None → C.ahead self.new.clock ≡ option_map moments_after (C.ahead self.old.clock) }
-        ensures handles { IfOk result (λ answers. Handles W.gives self.old.context.known (moment_of (C.last self.new.clock) self.old.context.moment) (calls.Restart secrets) (W.out self.old.wire) (W.answered self.old.wire) answers self.new.context.known (W.out self.new.wire) (W.answered self.new.wire)) }
-        ensures front { self.old.fault ≡ None → OnErr result (BreaksOff W.gives self.old.context.known (moment_of (C.last self.new.clock) self.old.context.moment) (calls.Restart secrets) (W.out self.old.wire) (W.answered self.old.wire) (W.out self.new.wire) (W.answered self.new.wire)) }
-        ensures left { self.old.fault ≡ None → result ≢ Err StationFault.Memory → IsLeft self.new.context self.old.context.known (moment_of (C.last self.new.clock) self.old.context.moment) (calls.Restart secrets) }
-        ensures well { OnOk result (self.new.fault ≡ None) }
-        ensures kept { IfErr result (λ fault. self.new.fault ≡ Some fault) }
-        ensures failed { self.old.fault ≡ None → IsErrOf result StationFault.Failed → Rose (W.faults self.old.wire) (W.faults self.new.wire) }
-        ensures wire { (W.faults self.old.wire ≤ W.faults self.new.wire) × W.is_same self.old.wire self.new.wire }
+        ensures performs { Performs C.Clock W.Wire self.old self.new (calls.Restart secrets) result }
     {
         if let Some(fault) = self.fault {
             return Err(fault);
@@ -356,7 +293,7 @@ impl<C: Clock + Drop, W: Wire + Drop> Machine<C, W> {
 
     #[tactic(auto, unfolding(mip_rules_mobile::specs::Doing::does))]
     fn restart_context(&mut self, alloc: Global, secrets: Secrets) -> Result<(), Memory>
-        ensures shows { OnOk result (Shows self.new.context (turn_of self.old.context.known (moment_of (C.last self.new.clock) self.old.context.moment) (calls.Restart secrets))) }
+        ensures shows { OnOk result (Shows self.new.context (turn_in C.Clock self.old self.new (calls.Restart secrets))) }
         ensures rest { (self.new.wire ≡ self.old.wire) × (self.new.fault ≡ self.old.fault) }
         ensures read { C.ahead self.new.clock ≡ option_map moments_after (C.ahead self.old.clock) }
     {
@@ -369,15 +306,7 @@ impl<C: Clock + Drop, W: Wire + Drop> Machine<C, W> {
         requires long { 40 ≤ length inner.now }
         requires hop { 2 ≤ hop_of inner.now }
         requires fits { length inner.now ≤ 65535 }
-        ensures faulted { IfSome self.old.fault (λ fault. (result ≡ Err fault) × (self.new ≡ self.old)) }
-        ensures read { self.old.fault ≡ None → C.ahead self.new.clock ≡ option_map moments_after (C.ahead self.old.clock) }
-        ensures handles { IfOk result (λ answers. Handles W.gives self.old.context.known (moment_of (C.last self.new.clock) self.old.context.moment) (calls.Tunnel inner.now) (W.out self.old.wire) (W.answered self.old.wire) answers self.new.context.known (W.out self.new.wire) (W.answered self.new.wire)) }
-        ensures front { self.old.fault ≡ None → OnErr result (BreaksOff W.gives self.old.context.known (moment_of (C.last self.new.clock) self.old.context.moment) (calls.Tunnel inner.now) (W.out self.old.wire) (W.answered self.old.wire) (W.out self.new.wire) (W.answered self.new.wire)) }
-        ensures left { self.old.fault ≡ None → result ≢ Err StationFault.Memory → IsLeft self.new.context self.old.context.known (moment_of (C.last self.new.clock) self.old.context.moment) (calls.Tunnel inner.now) }
-        ensures well { OnOk result (self.new.fault ≡ None) }
-        ensures kept { IfErr result (λ fault. self.new.fault ≡ Some fault) }
-        ensures failed { self.old.fault ≡ None → IsErrOf result StationFault.Failed → Rose (W.faults self.old.wire) (W.faults self.new.wire) }
-        ensures wire { (W.faults self.old.wire ≤ W.faults self.new.wire) × W.is_same self.old.wire self.new.wire }
+        ensures performs { Performs C.Clock W.Wire self.old self.new (calls.Tunnel inner.now) result }
     {
         if let Some(fault) = self.fault {
             return Err(fault);
@@ -391,7 +320,7 @@ impl<C: Clock + Drop, W: Wire + Drop> Machine<C, W> {
         requires long { 40 ≤ length inner.now }
         requires hop { 2 ≤ hop_of inner.now }
         requires fits { length inner.now ≤ 65535 }
-        ensures shows { OnOk result (Shows self.new.context (turn_of self.old.context.known (moment_of (C.last self.new.clock) self.old.context.moment) (calls.Tunnel inner.now))) }
+        ensures shows { OnOk result (Shows self.new.context (turn_in C.Clock self.old self.new (calls.Tunnel inner.now))) }
         ensures rest { (self.new.wire ≡ self.old.wire) × (self.new.fault ≡ self.old.fault) }
         ensures read { C.ahead self.new.clock ≡ option_map moments_after (C.ahead self.old.clock) }
     {

@@ -1,10 +1,8 @@
-ghost use Rattle.std.specs.Prelude.{◌≡◌, ◌≢◌, ◌≤◌, [], true, None, Some, Err, IfOk, IfSome, IfErr, OnOk, OnErr, IsErrOf, IsTrue, IsFalse, length, option_copied, slice_get};
+ghost use Rattle.std.specs.Prelude.{◌≡◌, ◌≤◌, [], true, None, IfOk, IfSome, IsTrue, IsFalse, length, option_copied, slice_get};
 ghost use Rattle.std.specs.Option.{option_map};
 ghost use Rattle.std.specs.Borrow.{Lends, sem};
 ghost use Rattle.mip_words.specs.Addresses.{is_routable};
 ghost use Rattle.mip_ipv6.specs.Packet.{names_no_body};
-ghost use Rattle.mip_outside.specs.Cause.{Rose};
-ghost use Rattle.mip_outside.specs.Moments.{moments_after};
 ghost use Rattle.mip_bcache.specs.Seen.{rows_at};
 ghost use Rattle.mip_bulist.specs.Timers.{first_due};
 ghost use Rattle.mip_rules_correspondent.specs.Rules.{is_data};
@@ -12,12 +10,11 @@ ghost use Rattle.mip_rules_mobile.specs.Calls as calls;
 ghost use Rattle.mip_rules_mobile.specs.HomeQuestions.{home_of};
 ghost use Rattle.mip_rules_mobile.specs.Questions.{fresh};
 ghost use Rattle.mip_rules_mobile.specs.MovingRules.{address_under};
-ghost use Rattle.mip_mobile.specs.Handling.{Handles, BreaksOff, IsLeft, moment_of};
+ghost use Rattle.mip_mobile.specs.Performing.{Performs};
 ghost use Rattle.mip_mobile.specs.Placing.{attach_at, leave_at, claims_attached, claims_after_leaving};
 ghost use Rattle.mip_mobile.specs.Stations.{machine_of, IsTyped, with_clock_in, with_wire_in};
 ghost use Rattle.mip_mobile.specs.contracts.mobile.Mobile.{the_row};
 
-use crate::fault::StationFault;
 use crate::machine::Machine;
 use crate::state::{AtHome, Away, Detached};
 use crate::station::Station;
@@ -26,6 +23,7 @@ use mip_entries::Answers;
 use mip_nonce::Secrets;
 use mip_outside::{Clock, Place, Wire};
 use mip_rules_mobile::Attachment;
+use mip_transmission::StationFault;
 use mip_words::{Address, Memory, Moment, Prefix, Shield};
 use std::alloc::Global;
 
@@ -39,7 +37,7 @@ pub enum Mobile<C: Clock, W: Wire> {
 }
 
 /// What a call leaves: the mobile, and its answers. A call reads the clock once, unless there was a fault before. After a fault
-/// it answers that fault from then on, and puts nothing on its wire.
+/// the mobile answers that fault from then on, and puts nothing on its wire.
 pub type Turned<C, W> = (Mobile<C, W>, Result<Answers, StationFault>);
 
 impl<C: Clock + Drop, W: Wire + Drop> Mobile<C, W> {
@@ -147,17 +145,12 @@ impl<C: Clock + Drop, W: Wire + Drop> Mobile<C, W> {
     pub fn attach<P: Place>(self, alloc: Global, place: &mut P, prefix: Prefix) -> Turned<C, W>
         requires home { (P.around place.old).room (home_of (machine_of self).context.known).0 ≡ true }
         requires address { (P.around place.old).room (address_under (home_of (machine_of self).context.known) prefix.0).0 ≡ true }
-        ensures faulted { IfSome (machine_of self).fault (λ fault. (result.1 ≡ Err fault) × (machine_of result.0 ≡ machine_of self) × (P.claims place.new ≡ P.claims place.old)) }
-        ensures read { (machine_of self).fault ≡ None → C.ahead (machine_of result.0).clock ≡ option_map moments_after (C.ahead (machine_of self).clock) }
-        ensures handles { IfOk result.1 (λ answers. Handles W.gives (machine_of self).context.known (moment_of (C.last (machine_of result.0).clock) (machine_of self).context.moment) (attach_at (P.around place.old) (home_of (machine_of self).context.known) prefix.0) (W.out (machine_of self).wire) (W.answered (machine_of self).wire) answers (machine_of result.0).context.known (W.out (machine_of result.0).wire) (W.answered (machine_of result.0).wire)) }
-        ensures front { (machine_of self).fault ≡ None → OnErr result.1 (BreaksOff W.gives (machine_of self).context.known (moment_of (C.last (machine_of result.0).clock) (machine_of self).context.moment) (attach_at (P.around place.old) (home_of (machine_of self).context.known) prefix.0) (W.out (machine_of self).wire) (W.answered (machine_of self).wire) (W.out (machine_of result.0).wire) (W.answered (machine_of result.0).wire)) }
-        ensures left { (machine_of self).fault ≡ None → result.1 ≢ Err StationFault.Memory → IsLeft (machine_of result.0).context (machine_of self).context.known (moment_of (C.last (machine_of result.0).clock) (machine_of self).context.moment) (attach_at (P.around place.old) (home_of (machine_of self).context.known) prefix.0) }
+        ensures performs { Performs C.Clock W.Wire (machine_of self) (machine_of result.0)
+            (attach_at (P.around place.old) (home_of (machine_of self).context.known) prefix.0) result.1 }
+        ensures faulted { IfSome (machine_of self).fault (λ fault. P.claims place.new ≡ P.claims place.old) }
         ensures typed { IsTyped result.0 }
-        ensures well { OnOk result.1 ((machine_of result.0).fault ≡ None) }
-        ensures kept { IfErr result.1 (λ fault. (machine_of result.0).fault ≡ Some fault) }
-        ensures failed { (machine_of self).fault ≡ None → IsErrOf result.1 StationFault.Failed → Rose (W.faults (machine_of self).wire) (W.faults (machine_of result.0).wire) }
-        ensures wire { (W.faults (machine_of self).wire ≤ W.faults (machine_of result.0).wire) × W.is_same (machine_of self).wire (machine_of result.0).wire }
-        ensures claims { (machine_of self).fault ≡ None → P.claims place.new ≡ option_map (claims_attached (P.around place.old) (machine_of self).context.known.standing (home_of (machine_of self).context.known) prefix.0) (P.claims place.old) }
+        ensures claims { (machine_of self).fault ≡ None → P.claims place.new
+            ≡ option_map (claims_attached (P.around place.old) (machine_of self).context.known prefix.0) (P.claims place.old) }
         ensures place { (P.around place.new ≡ P.around place.old) × P.is_same place.old place.new }
     {
         let mut machine = self.into_machine();
@@ -165,20 +158,15 @@ impl<C: Clock + Drop, W: Wire + Drop> Mobile<C, W> {
         (Mobile::of(machine), answers)
     }
 
-    /// It leaves its link.
+    /// The mobile leaves its link.
     pub fn leave<P: Place>(self, alloc: Global, place: &mut P) -> Turned<C, W>
         requires home { (P.around place.old).room (home_of (machine_of self).context.known).0 ≡ true }
-        ensures faulted { IfSome (machine_of self).fault (λ fault. (result.1 ≡ Err fault) × (machine_of result.0 ≡ machine_of self) × (P.claims place.new ≡ P.claims place.old)) }
-        ensures read { (machine_of self).fault ≡ None → C.ahead (machine_of result.0).clock ≡ option_map moments_after (C.ahead (machine_of self).clock) }
-        ensures handles { IfOk result.1 (λ answers. Handles W.gives (machine_of self).context.known (moment_of (C.last (machine_of result.0).clock) (machine_of self).context.moment) (leave_at (P.around place.old) (home_of (machine_of self).context.known)) (W.out (machine_of self).wire) (W.answered (machine_of self).wire) answers (machine_of result.0).context.known (W.out (machine_of result.0).wire) (W.answered (machine_of result.0).wire)) }
-        ensures front { (machine_of self).fault ≡ None → OnErr result.1 (BreaksOff W.gives (machine_of self).context.known (moment_of (C.last (machine_of result.0).clock) (machine_of self).context.moment) (leave_at (P.around place.old) (home_of (machine_of self).context.known)) (W.out (machine_of self).wire) (W.answered (machine_of self).wire) (W.out (machine_of result.0).wire) (W.answered (machine_of result.0).wire)) }
-        ensures left { (machine_of self).fault ≡ None → result.1 ≢ Err StationFault.Memory → IsLeft (machine_of result.0).context (machine_of self).context.known (moment_of (C.last (machine_of result.0).clock) (machine_of self).context.moment) (leave_at (P.around place.old) (home_of (machine_of self).context.known)) }
+        ensures performs { Performs C.Clock W.Wire (machine_of self) (machine_of result.0)
+            (leave_at (P.around place.old) (home_of (machine_of self).context.known)) result.1 }
+        ensures faulted { IfSome (machine_of self).fault (λ fault. P.claims place.new ≡ P.claims place.old) }
         ensures typed { IsTyped result.0 }
-        ensures well { OnOk result.1 ((machine_of result.0).fault ≡ None) }
-        ensures kept { IfErr result.1 (λ fault. (machine_of result.0).fault ≡ Some fault) }
-        ensures failed { (machine_of self).fault ≡ None → IsErrOf result.1 StationFault.Failed → Rose (W.faults (machine_of self).wire) (W.faults (machine_of result.0).wire) }
-        ensures wire { (W.faults (machine_of self).wire ≤ W.faults (machine_of result.0).wire) × W.is_same (machine_of self).wire (machine_of result.0).wire }
-        ensures claims { (machine_of self).fault ≡ None → P.claims place.new ≡ option_map (claims_after_leaving (P.around place.old) (machine_of self).context.known.standing (home_of (machine_of self).context.known)) (P.claims place.old) }
+        ensures claims { (machine_of self).fault ≡ None → P.claims place.new
+            ≡ option_map (claims_after_leaving (P.around place.old) (machine_of self).context.known) (P.claims place.old) }
         ensures place { (P.around place.new ≡ P.around place.old) × P.is_same place.old place.new }
     {
         let mut machine = self.into_machine();
@@ -194,16 +182,8 @@ impl<C: Clock + Drop, W: Wire + Drop> Mobile<C, W> {
         shield: Option<Shield>,
         packet: &[u8],
     ) -> Turned<C, W>
-        ensures faulted { IfSome (machine_of self).fault (λ fault. (result.1 ≡ Err fault) × (machine_of result.0 ≡ machine_of self)) }
-        ensures read { (machine_of self).fault ≡ None → C.ahead (machine_of result.0).clock ≡ option_map moments_after (C.ahead (machine_of self).clock) }
-        ensures handles { IfOk result.1 (λ answers. Handles W.gives (machine_of self).context.known (moment_of (C.last (machine_of result.0).clock) (machine_of self).context.moment) (calls.Take number shield packet.now) (W.out (machine_of self).wire) (W.answered (machine_of self).wire) answers (machine_of result.0).context.known (W.out (machine_of result.0).wire) (W.answered (machine_of result.0).wire)) }
-        ensures front { (machine_of self).fault ≡ None → OnErr result.1 (BreaksOff W.gives (machine_of self).context.known (moment_of (C.last (machine_of result.0).clock) (machine_of self).context.moment) (calls.Take number shield packet.now) (W.out (machine_of self).wire) (W.answered (machine_of self).wire) (W.out (machine_of result.0).wire) (W.answered (machine_of result.0).wire)) }
-        ensures left { (machine_of self).fault ≡ None → result.1 ≢ Err StationFault.Memory → IsLeft (machine_of result.0).context (machine_of self).context.known (moment_of (C.last (machine_of result.0).clock) (machine_of self).context.moment) (calls.Take number shield packet.now) }
+        ensures performs { Performs C.Clock W.Wire (machine_of self) (machine_of result.0) (calls.Take number shield packet.now) result.1 }
         ensures typed { IsTyped result.0 }
-        ensures well { OnOk result.1 ((machine_of result.0).fault ≡ None) }
-        ensures kept { IfErr result.1 (λ fault. (machine_of result.0).fault ≡ Some fault) }
-        ensures failed { (machine_of self).fault ≡ None → IsErrOf result.1 StationFault.Failed → Rose (W.faults (machine_of self).wire) (W.faults (machine_of result.0).wire) }
-        ensures wire { (W.faults (machine_of self).wire ≤ W.faults (machine_of result.0).wire) × W.is_same (machine_of self).wire (machine_of result.0).wire }
     {
         let mut machine = self.into_machine();
         let answers = machine.take(alloc, number, shield, packet);
@@ -212,16 +192,8 @@ impl<C: Clock + Drop, W: Wire + Drop> Mobile<C, W> {
 
     /// Time goes on, and due work is done.
     pub fn tick(self, alloc: Global) -> Turned<C, W>
-        ensures faulted { IfSome (machine_of self).fault (λ fault. (result.1 ≡ Err fault) × (machine_of result.0 ≡ machine_of self)) }
-        ensures read { (machine_of self).fault ≡ None → C.ahead (machine_of result.0).clock ≡ option_map moments_after (C.ahead (machine_of self).clock) }
-        ensures handles { IfOk result.1 (λ answers. Handles W.gives (machine_of self).context.known (moment_of (C.last (machine_of result.0).clock) (machine_of self).context.moment) calls.Tick (W.out (machine_of self).wire) (W.answered (machine_of self).wire) answers (machine_of result.0).context.known (W.out (machine_of result.0).wire) (W.answered (machine_of result.0).wire)) }
-        ensures front { (machine_of self).fault ≡ None → OnErr result.1 (BreaksOff W.gives (machine_of self).context.known (moment_of (C.last (machine_of result.0).clock) (machine_of self).context.moment) calls.Tick (W.out (machine_of self).wire) (W.answered (machine_of self).wire) (W.out (machine_of result.0).wire) (W.answered (machine_of result.0).wire)) }
-        ensures left { (machine_of self).fault ≡ None → result.1 ≢ Err StationFault.Memory → IsLeft (machine_of result.0).context (machine_of self).context.known (moment_of (C.last (machine_of result.0).clock) (machine_of self).context.moment) calls.Tick }
+        ensures performs { Performs C.Clock W.Wire (machine_of self) (machine_of result.0) calls.Tick result.1 }
         ensures typed { IsTyped result.0 }
-        ensures well { OnOk result.1 ((machine_of result.0).fault ≡ None) }
-        ensures kept { IfErr result.1 (λ fault. (machine_of result.0).fault ≡ Some fault) }
-        ensures failed { (machine_of self).fault ≡ None → IsErrOf result.1 StationFault.Failed → Rose (W.faults (machine_of self).wire) (W.faults (machine_of result.0).wire) }
-        ensures wire { (W.faults (machine_of self).wire ≤ W.faults (machine_of result.0).wire) × W.is_same (machine_of self).wire (machine_of result.0).wire }
     {
         let mut machine = self.into_machine();
         let answers = machine.tick(alloc);
@@ -234,16 +206,8 @@ impl<C: Clock + Drop, W: Wire + Drop> Mobile<C, W> {
         requires data { IsTrue (is_data proto) }
         requires proto { IsFalse (names_no_body proto) }
         requires short { length payload.now ≤ 512 }
-        ensures faulted { IfSome (machine_of self).fault (λ fault. (result.1 ≡ Err fault) × (machine_of result.0 ≡ machine_of self)) }
-        ensures read { (machine_of self).fault ≡ None → C.ahead (machine_of result.0).clock ≡ option_map moments_after (C.ahead (machine_of self).clock) }
-        ensures handles { IfOk result.1 (λ answers. Handles W.gives (machine_of self).context.known (moment_of (C.last (machine_of result.0).clock) (machine_of self).context.moment) (calls.Send to proto payload.now) (W.out (machine_of self).wire) (W.answered (machine_of self).wire) answers (machine_of result.0).context.known (W.out (machine_of result.0).wire) (W.answered (machine_of result.0).wire)) }
-        ensures front { (machine_of self).fault ≡ None → OnErr result.1 (BreaksOff W.gives (machine_of self).context.known (moment_of (C.last (machine_of result.0).clock) (machine_of self).context.moment) (calls.Send to proto payload.now) (W.out (machine_of self).wire) (W.answered (machine_of self).wire) (W.out (machine_of result.0).wire) (W.answered (machine_of result.0).wire)) }
-        ensures left { (machine_of self).fault ≡ None → result.1 ≢ Err StationFault.Memory → IsLeft (machine_of result.0).context (machine_of self).context.known (moment_of (C.last (machine_of result.0).clock) (machine_of self).context.moment) (calls.Send to proto payload.now) }
+        ensures performs { Performs C.Clock W.Wire (machine_of self) (machine_of result.0) (calls.Send to proto payload.now) result.1 }
         ensures typed { IsTyped result.0 }
-        ensures well { OnOk result.1 ((machine_of result.0).fault ≡ None) }
-        ensures kept { IfErr result.1 (λ fault. (machine_of result.0).fault ≡ Some fault) }
-        ensures failed { (machine_of self).fault ≡ None → IsErrOf result.1 StationFault.Failed → Rose (W.faults (machine_of self).wire) (W.faults (machine_of result.0).wire) }
-        ensures wire { (W.faults (machine_of self).wire ≤ W.faults (machine_of result.0).wire) × W.is_same (machine_of self).wire (machine_of result.0).wire }
     {
         let mut machine = self.into_machine();
         let answers = machine.send(alloc, to, proto, payload);
@@ -252,16 +216,8 @@ impl<C: Clock + Drop, W: Wire + Drop> Mobile<C, W> {
 
     /// Asks the care-of address that is held for a home for a Binding Update; `idle` where none is held.
     pub fn refresh(self, alloc: Global, home: Address) -> Turned<C, W>
-        ensures faulted { IfSome (machine_of self).fault (λ fault. (result.1 ≡ Err fault) × (machine_of result.0 ≡ machine_of self)) }
-        ensures read { (machine_of self).fault ≡ None → C.ahead (machine_of result.0).clock ≡ option_map moments_after (C.ahead (machine_of self).clock) }
-        ensures handles { IfOk result.1 (λ answers. Handles W.gives (machine_of self).context.known (moment_of (C.last (machine_of result.0).clock) (machine_of self).context.moment) (calls.Refresh home) (W.out (machine_of self).wire) (W.answered (machine_of self).wire) answers (machine_of result.0).context.known (W.out (machine_of result.0).wire) (W.answered (machine_of result.0).wire)) }
-        ensures front { (machine_of self).fault ≡ None → OnErr result.1 (BreaksOff W.gives (machine_of self).context.known (moment_of (C.last (machine_of result.0).clock) (machine_of self).context.moment) (calls.Refresh home) (W.out (machine_of self).wire) (W.answered (machine_of self).wire) (W.out (machine_of result.0).wire) (W.answered (machine_of result.0).wire)) }
-        ensures left { (machine_of self).fault ≡ None → result.1 ≢ Err StationFault.Memory → IsLeft (machine_of result.0).context (machine_of self).context.known (moment_of (C.last (machine_of result.0).clock) (machine_of self).context.moment) (calls.Refresh home) }
+        ensures performs { Performs C.Clock W.Wire (machine_of self) (machine_of result.0) (calls.Refresh home) result.1 }
         ensures typed { IsTyped result.0 }
-        ensures well { OnOk result.1 ((machine_of result.0).fault ≡ None) }
-        ensures kept { IfErr result.1 (λ fault. (machine_of result.0).fault ≡ Some fault) }
-        ensures failed { (machine_of self).fault ≡ None → IsErrOf result.1 StationFault.Failed → Rose (W.faults (machine_of self).wire) (W.faults (machine_of result.0).wire) }
-        ensures wire { (W.faults (machine_of self).wire ≤ W.faults (machine_of result.0).wire) × W.is_same (machine_of self).wire (machine_of result.0).wire }
     {
         let mut machine = self.into_machine();
         let answers = machine.refresh(alloc, home);
@@ -270,16 +226,8 @@ impl<C: Clock + Drop, W: Wire + Drop> Mobile<C, W> {
 
     /// Solicits the prefixes of its home link (RFC 6275 section 11.4.2).
     pub fn ask(self, alloc: Global) -> Turned<C, W>
-        ensures faulted { IfSome (machine_of self).fault (λ fault. (result.1 ≡ Err fault) × (machine_of result.0 ≡ machine_of self)) }
-        ensures read { (machine_of self).fault ≡ None → C.ahead (machine_of result.0).clock ≡ option_map moments_after (C.ahead (machine_of self).clock) }
-        ensures handles { IfOk result.1 (λ answers. Handles W.gives (machine_of self).context.known (moment_of (C.last (machine_of result.0).clock) (machine_of self).context.moment) calls.Ask (W.out (machine_of self).wire) (W.answered (machine_of self).wire) answers (machine_of result.0).context.known (W.out (machine_of result.0).wire) (W.answered (machine_of result.0).wire)) }
-        ensures front { (machine_of self).fault ≡ None → OnErr result.1 (BreaksOff W.gives (machine_of self).context.known (moment_of (C.last (machine_of result.0).clock) (machine_of self).context.moment) calls.Ask (W.out (machine_of self).wire) (W.answered (machine_of self).wire) (W.out (machine_of result.0).wire) (W.answered (machine_of result.0).wire)) }
-        ensures left { (machine_of self).fault ≡ None → result.1 ≢ Err StationFault.Memory → IsLeft (machine_of result.0).context (machine_of self).context.known (moment_of (C.last (machine_of result.0).clock) (machine_of self).context.moment) calls.Ask }
+        ensures performs { Performs C.Clock W.Wire (machine_of self) (machine_of result.0) calls.Ask result.1 }
         ensures typed { IsTyped result.0 }
-        ensures well { OnOk result.1 ((machine_of result.0).fault ≡ None) }
-        ensures kept { IfErr result.1 (λ fault. (machine_of result.0).fault ≡ Some fault) }
-        ensures failed { (machine_of self).fault ≡ None → IsErrOf result.1 StationFault.Failed → Rose (W.faults (machine_of self).wire) (W.faults (machine_of result.0).wire) }
-        ensures wire { (W.faults (machine_of self).wire ≤ W.faults (machine_of result.0).wire) × W.is_same (machine_of self).wire (machine_of result.0).wire }
     {
         let mut machine = self.into_machine();
         let answers = machine.ask(alloc);
@@ -288,16 +236,8 @@ impl<C: Clock + Drop, W: Wire + Drop> Mobile<C, W> {
 
     /// Loses all that it keeps, and goes on with these secrets.
     pub fn restart(self, alloc: Global, secrets: Secrets) -> Turned<C, W>
-        ensures faulted { IfSome (machine_of self).fault (λ fault. (result.1 ≡ Err fault) × (machine_of result.0 ≡ machine_of self)) }
-        ensures read { (machine_of self).fault ≡ None → C.ahead (machine_of result.0).clock ≡ option_map moments_after (C.ahead (machine_of self).clock) }
-        ensures handles { IfOk result.1 (λ answers. Handles W.gives (machine_of self).context.known (moment_of (C.last (machine_of result.0).clock) (machine_of self).context.moment) (calls.Restart secrets) (W.out (machine_of self).wire) (W.answered (machine_of self).wire) answers (machine_of result.0).context.known (W.out (machine_of result.0).wire) (W.answered (machine_of result.0).wire)) }
-        ensures front { (machine_of self).fault ≡ None → OnErr result.1 (BreaksOff W.gives (machine_of self).context.known (moment_of (C.last (machine_of result.0).clock) (machine_of self).context.moment) (calls.Restart secrets) (W.out (machine_of self).wire) (W.answered (machine_of self).wire) (W.out (machine_of result.0).wire) (W.answered (machine_of result.0).wire)) }
-        ensures left { (machine_of self).fault ≡ None → result.1 ≢ Err StationFault.Memory → IsLeft (machine_of result.0).context (machine_of self).context.known (moment_of (C.last (machine_of result.0).clock) (machine_of self).context.moment) (calls.Restart secrets) }
+        ensures performs { Performs C.Clock W.Wire (machine_of self) (machine_of result.0) (calls.Restart secrets) result.1 }
         ensures typed { IsTyped result.0 }
-        ensures well { OnOk result.1 ((machine_of result.0).fault ≡ None) }
-        ensures kept { IfErr result.1 (λ fault. (machine_of result.0).fault ≡ Some fault) }
-        ensures failed { (machine_of self).fault ≡ None → IsErrOf result.1 StationFault.Failed → Rose (W.faults (machine_of self).wire) (W.faults (machine_of result.0).wire) }
-        ensures wire { (W.faults (machine_of self).wire ≤ W.faults (machine_of result.0).wire) × W.is_same (machine_of self).wire (machine_of result.0).wire }
     {
         let mut machine = self.into_machine();
         let answers = machine.restart(alloc, secrets);

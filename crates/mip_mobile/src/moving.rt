@@ -1,23 +1,21 @@
 //! How a mobile comes to a link and leaves one, over its place (RFC 6275 sections 11.5.1 to 11.5.5).
 
-ghost use Rattle.std.specs.Prelude.{◌≡◌, ◌≢◌, ◌≤◌, true, false, None, Some, Err, IfOk, IfSome, IfErr, OnOk, OnErr, IsErrOf, if◌then◌else◌};
+ghost use Rattle.std.specs.Prelude.{◌≡◌, true, None, IfSome, OnOk};
 ghost use Rattle.std.specs.Option.{option_map};
-ghost use Rattle.mip_outside.specs.Cause.{Rose};
 ghost use Rattle.mip_outside.specs.Moments.{moments_after};
-ghost use Rattle.mip_outside.specs.Places.{Around, claim_in, is_held};
+ghost use Rattle.mip_outside.specs.Places.{Around, claim_in};
 ghost use Rattle.mip_rules_mobile.specs.declared.attachment.Attachment.TheVariants.{AtHome};
 ghost use Rattle.mip_rules_mobile.specs.HomeQuestions.{home_of};
-ghost use Rattle.mip_rules_mobile.specs.MovingRules.{address_under, uses_prefix};
-ghost use Rattle.mip_rules_mobile.specs.Doing.{turn_of};
+ghost use Rattle.mip_rules_mobile.specs.MovingRules.{address_under};
 ghost use Rattle.mip_mobility.specs.Seen.{Shows};
 ghost use Rattle.mip_mobile.specs.Placing.{attach_at, leave_at, claims_attached, claims_after_leaving, AreAnswered};
-ghost use Rattle.mip_mobile.specs.Handling.{Handles, BreaksOff, IsLeft, moment_of};
+ghost use Rattle.mip_mobile.specs.Performing.{Performs, turn_in};
 
-use crate::fault::StationFault;
 use crate::machine::Machine;
 use crate::placing::{come, release_held};
 use mip_entries::Answers;
 use mip_outside::{Claim, Clock, Place, Wire};
+use mip_transmission::StationFault;
 use mip_words::{Memory, Prefix};
 use std::alloc::Global;
 
@@ -31,17 +29,11 @@ impl<C: Clock + Drop, W: Wire + Drop> Machine<C, W> {
     ) -> Result<Answers, StationFault>
         requires home { (P.around place.old).room (home_of self.old.context.known).0 ≡ true }
         requires address { (P.around place.old).room (address_under (home_of self.old.context.known) prefix.0).0 ≡ true }
-        ensures faulted { IfSome self.old.fault (λ fault. (result ≡ Err fault) × (self.new ≡ self.old) × (P.claims place.new ≡ P.claims place.old)) }
-        ensures read { self.old.fault ≡ None → C.ahead self.new.clock ≡ option_map moments_after (C.ahead self.old.clock) }
-        ensures handles { IfOk result (λ answers. Handles W.gives self.old.context.known (moment_of (C.last self.new.clock) self.old.context.moment) (attach_at (P.around place.old) (home_of self.old.context.known) prefix.0) (W.out self.old.wire) (W.answered self.old.wire) answers self.new.context.known (W.out self.new.wire) (W.answered self.new.wire)) }
-        ensures front { self.old.fault ≡ None → OnErr result (BreaksOff W.gives self.old.context.known (moment_of (C.last self.new.clock) self.old.context.moment) (attach_at (P.around place.old) (home_of self.old.context.known) prefix.0) (W.out self.old.wire) (W.answered self.old.wire) (W.out self.new.wire) (W.answered self.new.wire)) }
-        ensures left { self.old.fault ≡ None → result ≢ Err StationFault.Memory → IsLeft self.new.context self.old.context.known (moment_of (C.last self.new.clock) self.old.context.moment) (attach_at (P.around place.old) (home_of self.old.context.known) prefix.0) }
-        ensures claims { self.old.fault ≡ None → P.claims place.new ≡ option_map (claims_attached (P.around place.old) self.old.context.known.standing (home_of self.old.context.known) prefix.0) (P.claims place.old) }
+        ensures performs { Performs C.Clock W.Wire self.old self.new (attach_at (P.around place.old) (home_of self.old.context.known) prefix.0) result }
+        ensures faulted { IfSome self.old.fault (λ fault. P.claims place.new ≡ P.claims place.old) }
+        ensures claims { self.old.fault ≡ None → P.claims place.new
+            ≡ option_map (claims_attached (P.around place.old) self.old.context.known prefix.0) (P.claims place.old) }
         ensures place { (P.around place.new ≡ P.around place.old) × P.is_same place.old place.new }
-        ensures well { OnOk result (self.new.fault ≡ None) }
-        ensures kept { IfErr result (λ fault. self.new.fault ≡ Some fault) }
-        ensures failed { self.old.fault ≡ None → IsErrOf result StationFault.Failed → Rose (W.faults self.old.wire) (W.faults self.new.wire) }
-        ensures wire { (W.faults self.old.wire ≤ W.faults self.new.wire) × W.is_same self.old.wire self.new.wire }
     {
         if let Some(fault) = self.fault {
             return Err(fault);
@@ -56,7 +48,7 @@ impl<C: Clock + Drop, W: Wire + Drop> Machine<C, W> {
         requires home { (P.around place.old).room (home_of self.now.context.known).0 ≡ true }
         requires address { (P.around place.old).room (address_under (home_of self.now.context.known) prefix.0).0 ≡ true }
         ensures answered { AreAnswered (P.around place.old) self.now.context.known prefix.0 result.0 result.1 }
-        ensures claims { P.claims place.new ≡ option_map (claims_attached (P.around place.old) self.now.context.known.standing (home_of self.now.context.known) prefix.0) (P.claims place.old) }
+        ensures claims { P.claims place.new ≡ option_map (claims_attached (P.around place.old) self.now.context.known prefix.0) (P.claims place.old) }
         ensures place { (P.around place.new ≡ P.around place.old) × P.is_same place.old place.new }
     {
         let standing = self.context.standing();
@@ -76,7 +68,7 @@ impl<C: Clock + Drop, W: Wire + Drop> Machine<C, W> {
         of_address: Claim,
     ) -> Result<(), Memory>
         ensures shows { (around : Around) → AreAnswered around self.old.context.known prefix.0 of_home of_address
-            → OnOk result (Shows self.new.context (turn_of self.old.context.known (moment_of (C.last self.new.clock) self.old.context.moment) (attach_at around (home_of self.old.context.known) prefix.0))) }
+            → OnOk result (Shows self.new.context (turn_in C.Clock self.old self.new (attach_at around (home_of self.old.context.known) prefix.0))) }
         ensures rest { (self.new.wire ≡ self.old.wire) × (self.new.fault ≡ self.old.fault) }
         ensures read { C.ahead self.new.clock ≡ option_map moments_after (C.ahead self.old.clock) }
     {
@@ -84,20 +76,14 @@ impl<C: Clock + Drop, W: Wire + Drop> Machine<C, W> {
         mip_mobility::attach(alloc, &mut self.context, prefix, of_home, of_address)
     }
 
-    /// It leaves its link.
+    /// The mobile leaves its link.
     pub fn leave<P: Place>(&mut self, alloc: Global, place: &mut P) -> Result<Answers, StationFault>
         requires home { (P.around place.old).room (home_of self.old.context.known).0 ≡ true }
-        ensures faulted { IfSome self.old.fault (λ fault. (result ≡ Err fault) × (self.new ≡ self.old) × (P.claims place.new ≡ P.claims place.old)) }
-        ensures read { self.old.fault ≡ None → C.ahead self.new.clock ≡ option_map moments_after (C.ahead self.old.clock) }
-        ensures handles { IfOk result (λ answers. Handles W.gives self.old.context.known (moment_of (C.last self.new.clock) self.old.context.moment) (leave_at (P.around place.old) (home_of self.old.context.known)) (W.out self.old.wire) (W.answered self.old.wire) answers self.new.context.known (W.out self.new.wire) (W.answered self.new.wire)) }
-        ensures front { self.old.fault ≡ None → OnErr result (BreaksOff W.gives self.old.context.known (moment_of (C.last self.new.clock) self.old.context.moment) (leave_at (P.around place.old) (home_of self.old.context.known)) (W.out self.old.wire) (W.answered self.old.wire) (W.out self.new.wire) (W.answered self.new.wire)) }
-        ensures left { self.old.fault ≡ None → result ≢ Err StationFault.Memory → IsLeft self.new.context self.old.context.known (moment_of (C.last self.new.clock) self.old.context.moment) (leave_at (P.around place.old) (home_of self.old.context.known)) }
-        ensures claims { self.old.fault ≡ None → P.claims place.new ≡ option_map (claims_after_leaving (P.around place.old) self.old.context.known.standing (home_of self.old.context.known)) (P.claims place.old) }
+        ensures performs { Performs C.Clock W.Wire self.old self.new (leave_at (P.around place.old) (home_of self.old.context.known)) result }
+        ensures faulted { IfSome self.old.fault (λ fault. P.claims place.new ≡ P.claims place.old) }
+        ensures claims { self.old.fault ≡ None → P.claims place.new
+            ≡ option_map (claims_after_leaving (P.around place.old) self.old.context.known) (P.claims place.old) }
         ensures place { (P.around place.new ≡ P.around place.old) × P.is_same place.old place.new }
-        ensures well { OnOk result (self.new.fault ≡ None) }
-        ensures kept { IfErr result (λ fault. self.new.fault ≡ Some fault) }
-        ensures failed { self.old.fault ≡ None → IsErrOf result StationFault.Failed → Rose (W.faults self.old.wire) (W.faults self.new.wire) }
-        ensures wire { (W.faults self.old.wire ≤ W.faults self.new.wire) × W.is_same self.old.wire self.new.wire }
     {
         if let Some(fault) = self.fault {
             return Err(fault);
@@ -109,7 +95,7 @@ impl<C: Clock + Drop, W: Wire + Drop> Machine<C, W> {
 
     fn leave_context(&mut self, alloc: Global, of_home: Claim) -> Result<(), Memory>
         ensures shows { (around : Around) → (self.old.context.known.standing ≡ AtHome → of_home ≡ claim_in around (home_of self.old.context.known).0)
-            → OnOk result (Shows self.new.context (turn_of self.old.context.known (moment_of (C.last self.new.clock) self.old.context.moment) (leave_at around (home_of self.old.context.known)))) }
+            → OnOk result (Shows self.new.context (turn_in C.Clock self.old self.new (leave_at around (home_of self.old.context.known)))) }
         ensures rest { (self.new.wire ≡ self.old.wire) × (self.new.fault ≡ self.old.fault) }
         ensures read { C.ahead self.new.clock ≡ option_map moments_after (C.ahead self.old.clock) }
     {

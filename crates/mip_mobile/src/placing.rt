@@ -57,7 +57,8 @@ pub fn come<P: Place>(
     requires address { (P.around place.old).room (address_under home prefix.0).0 ≡ true }
     ensures of_home { standing ≡ AtHome → result.0 ≡ claim_in (P.around place.old) home.0 }
     ensures of_address { result.1 ≡ claim_in (P.around place.old) (address_under home prefix.0).0 }
-    ensures claims { P.claims place.new ≡ option_map (claims_come standing home (address_under home prefix.0) (is_held (claim_in (P.around place.old) home.0)) (is_held result.1)) (P.claims place.old) }
+    ensures claims { P.claims place.new ≡ option_map
+        (claims_come standing home (address_under home prefix.0) (is_held (claim_in (P.around place.old) home.0)) (is_held result.1)) (P.claims place.old) }
     ensures around { P.around place.new ≡ P.around place.old }
     ensures same { P.is_same place.old place.new }
 {

@@ -7,15 +7,15 @@ mod sealed {
 /// Where a mobile stands.
 pub trait State: sealed::Sealed + Copy {}
 
-/// It uses no address.
+/// A mobile that uses no address.
 #[derive(Clone, Copy, Debug, PartialEq, Eq)]
 pub struct Detached;
 
-/// It uses its home address.
+/// A mobile that uses its home address.
 #[derive(Clone, Copy, Debug, PartialEq, Eq)]
 pub struct AtHome;
 
-/// It uses a care-of address.
+/// A mobile that uses a care-of address.
 #[derive(Clone, Copy, Debug, PartialEq, Eq)]
 pub struct Away {
     pub careof: Address,

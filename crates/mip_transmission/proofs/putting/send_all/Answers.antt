@@ -3,9 +3,9 @@ use Rattle.std.specs.Prelude.{option_map}
 use Rattle.std.proofs.lemmas.Iterator.Consumers.{YieldsList-turn}
 use Rattle.std.proofs.lemmas.Iterator.Adapters.{YieldsList-from_vec}
 use Rattle.mip_entries.specs.declared.answer.Answer.{Answer}
-use Rattle.mip_mobile.specs.Putting.{PutsAll, puts_of, sends_of, put_fault}
-use Rattle.mip_mobile.proofs.PutLaws.{puts-more, out-more, answered-more, on-err, first-more, front-none, front-puts, front-failed}
-use Rattle.mip_mobile.proofs.putting.send_all.Goals as goal
+use Rattle.mip_transmission.specs.Putting.{PutsAll, puts_of, sends_of, put_fault}
+use Rattle.mip_transmission.proofs.PutLaws.{puts-more, out-more, answered-more, on-err, first-more, front-none, front-puts, front-failed}
+use Rattle.mip_transmission.proofs.putting.send_all.Goals as goal
 
 pub loop-answer-preserved : goal.loop-answer-preserved
 loop-answer-preserved g c =

@@ -13,7 +13,7 @@ pub enum StationFault {
 }
 
 impl From<Memory> for StationFault {
-    ghost use Rattle.mip_mobile.specs.declared.fault.StationFault.TheVariants.{Memory};
+    ghost use Rattle.mip_transmission.specs.declared.fault.StationFault.TheVariants.{Memory};
 
     ghost from_gives = { λ _ e. e ≡ Memory };
 
@@ -23,7 +23,7 @@ impl From<Memory> for StationFault {
 }
 
 impl From<PutFault> for StationFault {
-    ghost use Rattle.mip_mobile.specs.Putting.{station_fault};
+    ghost use Rattle.mip_transmission.specs.Putting.{station_fault};
 
     ghost from_gives = { λ f e. e ≡ station_fault f };
 

@@ -1,11 +1,11 @@
-//! A mobile's packets are handed to its wire.
+//! A node's packets are handed to its wire.
 
 ghost use Rattle.std.specs.Prelude.{◌≡◌, ◌++◌, ◌∷◌, ◌≤◌, [], Err, IfOk, IfErr, IsErrOf, OnErr, option_map};
 ghost use Rattle.mip_outside.specs.Cause.{Rose};
 ghost use Rattle.mip_words.specs.declared.why.Why.{Why};
 ghost use Rattle.mip_entries.specs.declared.answer.Answer.TheVariants.{Note};
 ghost use Rattle.mip_entries.specs.declared.entry.Entry.TheVariants.{Unsent};
-ghost use Rattle.mip_mobile.specs.Putting.{after_put, Puts, PutsAll, PutsFront, put_fault, puts_for, puts_of, sends_in, sends_of};
+ghost use Rattle.mip_transmission.specs.Putting.{after_put, Puts, PutsAll, PutsFront, put_fault, puts_for, puts_of, sends_in, sends_of};
 
 use crate::fault::StationFault;
 use mip_entries::{Answer, Answers, Entry};
@@ -16,7 +16,7 @@ use std::alloc::Global;
 /// A role writes 0 for its own number.
 const MYSELF: NodeId = NodeId(0);
 
-/// What a packet becomes that a wire took so.
+/// What becomes of a packet that its wire answered this to.
 fn after_put(put: Put, shield: Option<Shield>, packet: Bytes) -> Answer
     ensures { result ≡ after_put put shield packet }
 {
@@ -34,7 +34,7 @@ fn unsent(why: Why) -> Answer
 }
 
 /// One answer: a packet is handed to the wire, by one call, and an entry stays as it is.
-pub fn send_one<W: Wire>(wire: &mut W, answer: Answer) -> Result<Answer, StationFault>
+fn send_one<W: Wire>(wire: &mut W, answer: Answer) -> Result<Answer, StationFault>
     ensures puts { IfOk result (λ b. Puts W.gives answer b) }
     ensures out { IfOk result (λ b. W.out wire.new ≡ option_map (λ items. items ++ sends_in b) (W.out wire.old)) }
     ensures err { OnErr result (W.out wire.new ≡ W.out wire.old) }

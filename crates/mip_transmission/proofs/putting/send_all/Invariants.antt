@@ -1,7 +1,7 @@
 use Rattle.std.proofs.Common.{◌≡◌, ◌++◌, ◌≤◌, take, length}
 use Rattle.std.specs.Prelude.{option_map}
-use Rattle.mip_mobile.specs.Putting.{PutsAll, puts_of, sends_of}
-use Rattle.mip_mobile.proofs.putting.send_all.Given as goal
+use Rattle.mip_transmission.specs.Putting.{PutsAll, puts_of, sends_of}
+use Rattle.mip_transmission.proofs.putting.send_all.Given as goal
 
 abbrev pub invariant-loop-answer : goal.invariant-loop-answer
 invariant-loop-answer g l =

@@ -6,7 +6,7 @@ use Rattle.mip_words.specs.declared.shield.Shield.{Shield}
 use Rattle.mip_outside.specs.declared.put.Put.{Put}
 use Rattle.mip_outside.specs.declared.put_fault.PutFault.{PutFault}
 use Rattle.mip_entries.specs.declared.answer.Answer.{Answer}
-use Rattle.mip_mobile.specs.Putting.{Puts, PutsAll, PutsFront, Told, Answered, puts_for, puts_of, sends_in, sends_of}
+use Rattle.mip_transmission.specs.Putting.{Puts, PutsAll, PutsFront, Told, Answered, puts_for, puts_of, sends_in, sends_of}
 
 pub puts-more : (gives : Put → Bool) (asked bs : List Answer) (a b : Answer) → PutsAll gives asked bs → Puts gives a b → PutsAll gives (asked ++ a ∷ []) (bs ++ b ∷ [])
 puts-more gives [] [] a b all one = (one, tt)

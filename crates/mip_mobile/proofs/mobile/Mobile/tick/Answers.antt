@@ -1,6 +1,0 @@
-use Rattle.mip_mobile.proofs.Faulted.{still-faulted}
-use Rattle.mip_mobile.proofs.mobile.Mobile.tick.Goals as goal
-
-pub returns-clause-faulted : goal.returns-clause-faulted
-returns-clause-faulted g c =
-    still-faulted c.args.self c.of.result c.into_machine-machine.result c.tick-answers.new.self c.tick-answers.result c.into_machine-machine.ensures c.of.ensures.machine c.tick-answers.ensures.faulted
