@@ -96,7 +96,7 @@ impl<C: Clock + Drop, W: Wire + Drop> Mobile<C, W> {
         }
     }
 
-    /// Its clock. What is written there is in the mobile once the borrow ends.
+    /// The mobile's clock. What is written there is in the mobile once the borrow ends.
     pub fn clock(&mut self) -> &mut C
         ensures* lent { sem 𝓛 (Lends (the_row C.row W.row) C.row self.entry result (with_clock_in self.entry.now)) }
         ensures clock { result.now ≡ (machine_of self.old).clock }
@@ -108,7 +108,7 @@ impl<C: Clock + Drop, W: Wire + Drop> Mobile<C, W> {
         }
     }
 
-    /// Its wire. What is written there is in the mobile once the borrow ends.
+    /// The mobile's wire. What is written there is in the mobile once the borrow ends.
     pub fn wire(&mut self) -> &mut W
         ensures* lent { sem 𝓛 (Lends (the_row C.row W.row) W.row self.entry result (with_wire_in self.entry.now)) }
         ensures wire { result.now ≡ (machine_of self.old).wire }
@@ -165,7 +165,7 @@ impl<C: Clock + Drop, W: Wire + Drop> Mobile<C, W> {
         (Mobile::of(machine), answers)
     }
 
-    /// It leaves its link.
+    /// The mobile leaves its link.
     pub fn leave<P: Place>(self, alloc: Global, place: &mut P) -> Turned<C, W>
         requires home { (P.around place.old).room (home_of (machine_of self).context.known).0 ≡ true }
         ensures faulted { IfSome (machine_of self).fault (λ fault. (result.1 ≡ Err fault) × (machine_of result.0 ≡ machine_of self) × (P.claims place.new ≡ P.claims place.old)) }

@@ -84,7 +84,7 @@ impl<C: Clock + Drop, W: Wire + Drop> Machine<C, W> {
         mip_mobility::attach(alloc, &mut self.context, prefix, of_home, of_address)
     }
 
-    /// It leaves its link.
+    /// The mobile leaves its link.
     pub fn leave<P: Place>(&mut self, alloc: Global, place: &mut P) -> Result<Answers, StationFault>
         requires home { (P.around place.old).room (home_of self.old.context.known).0 ≡ true }
         ensures faulted { IfSome self.old.fault (λ fault. (result ≡ Err fault) × (self.new ≡ self.old) × (P.claims place.new ≡ P.claims place.old)) }

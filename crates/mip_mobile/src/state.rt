@@ -7,15 +7,15 @@ mod sealed {
 /// Where a mobile stands.
 pub trait State: sealed::Sealed + Copy {}
 
-/// It uses no address.
+/// The mobile uses no address.
 #[derive(Clone, Copy, Debug, PartialEq, Eq)]
 pub struct Detached;
 
-/// It uses its home address.
+/// The mobile uses its home address.
 #[derive(Clone, Copy, Debug, PartialEq, Eq)]
 pub struct AtHome;
 
-/// It uses a care-of address.
+/// The mobile uses a care-of address.
 #[derive(Clone, Copy, Debug, PartialEq, Eq)]
 pub struct Away {
     pub careof: Address,
