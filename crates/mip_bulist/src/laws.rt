@@ -28,7 +28,7 @@ pub fn an_update_is_of_its_tests()
     ensures grows { (now : Moment) (t : Trial Proved) → IfOk (updated now t) (λ r. r.0.next ≡ (t.next + 1) % 65536) }
 {}
 
-/// So is each later update. After `resequence` it takes the sequence after the one that was given.
+/// Each later update is made from its tests too. After `resequence` it takes the sequence after the one that was given.
 pub fn a_later_update_is_of_its_tests()
     ensures young { (now : Moment) (t : Trial Pending) → IfOk (made_again now t) (λ r. has_old now t.state.tested ≡ false) }
     ensures rate { (now : Moment) (t : Trial Pending) → IfOk (made_again now t) (λ r. is_too_soon now t.recent ≡ false) }

@@ -168,11 +168,7 @@ pass-append (x ∷ xs) ys first second = (first.0, pass-append xs ys first.1 sec
 step-passes : (me : Identity) (c : Call) (now : ℕ) (step : Step) → IsShort c → SendsOwn me c now step → CanPassAll (answer_of step)
 step-passes me c now (Called call) short own = tt
 step-passes me c now (Sends packet) short own = (sending-enters me c now own.0 packet short own.1, tt)
-step-passes me c now (Accepts number home binding accepted) short own = (tt, tt)
-step-passes me c now (Denies number status) short own = (tt, tt)
-step-passes me c now (Drops number why) short own = (tt, tt)
-step-passes me c now (HandsUp number source destination proto payload) short own = (tt, tt)
-step-passes me c now Idles short own = (tt, tt)
+step-passes me c now _ short own = (tt, tt)
 
 steps-pass : (me : Identity) (c : Call) (now : ℕ) (steps : List Step) → IsShort c → AllByRecursion (SendsOwn me c now) steps → CanPassAll (answers_of steps)
 steps-pass me c now [] short all = tt

@@ -25,9 +25,7 @@ neutral-same k at (ByTunnel home careof agent inner) is = refl
 neutral-same k at (AsksCareof careof peer cookie) is = refl
 neutral-same k at (SendsData home careof to held proto payload) is = refl
 neutral-same k at (Discovers home careof identifier) is = refl
-neutral-same k at (RegistersHome home careof agent sequence) is = absurd is
-neutral-same k at (DeregistersHome home agent sequence) is = absurd is
-neutral-same k at (Solicits home careof agent identifier) is = absurd is
+neutral-same k at _ is = absurd is
 
 -- what a turn knows is what the context knows
 pub shows-known : (d : ContextSeen) (t : Transition) → Shows d t → t.known ≡ d.known

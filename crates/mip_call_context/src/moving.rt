@@ -14,7 +14,7 @@ use mip_words::Memory;
 use std::alloc::Global;
 
 impl CallContext {
-    /// It uses no address any more: every trial is given up, and every timer stops.
+    /// The mobile uses no address any more: every trial is given up, and every timer stops.
     pub fn detach(&mut self)
         ensures { (t : Transition) → Shows self.old t → Shows self.new (noted (Detaches) t) }
     {
@@ -25,7 +25,7 @@ impl CallContext {
         peers::unbind_all(&mut self.known.peers);
     }
 
-    /// It loses all that it keeps, and goes on with these secrets.
+    /// The mobile loses all that it keeps, and goes on with these secrets.
     pub fn restart(&mut self, alloc: Global, secrets: Secrets) -> Result<(), Memory>
         ensures { (t : Transition) → Shows self.old t → OnOk result (Shows self.new (noted (Restarts secrets) t)) }
     {

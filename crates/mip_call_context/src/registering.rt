@@ -18,7 +18,7 @@ use mip_rules_mobile::{HomeUpdate, Registered};
 use mip_words::{Address, Bytes, Memory, Moment, Shield};
 
 impl CallContext {
-    /// Its agent's last accepted sequence was this one.
+    /// The last accepted sequence of the mobile's agent was this one.
     pub fn resequence(&mut self, agent: Address, last: u16) -> Result<(), Memory>
         ensures { (t : Transition) → Shows self.old t → OnOk result (Shows self.new (noted (Resequences agent last) t)) }
     {
@@ -50,7 +50,7 @@ impl CallContext {
         self.known.discovery = None;
     }
 
-    /// It heard of these agents.
+    /// The mobile heard of these agents.
     pub fn find(&mut self, agents: Agents)
         ensures { (t : Transition) → Shows self.old t → Shows self.new (noted (Finds agents) t) }
     {
@@ -78,7 +78,7 @@ impl CallContext {
         let _was = self.known.list.stop(work);
     }
 
-    /// Its registration is acknowledged, until an end, to be renewed at a moment.
+    /// The mobile's registration is acknowledged, until an end, to be renewed at a moment.
     pub fn register(&mut self, agent: Address, end: Moment, renew: Moment) -> Result<(), Memory>
         ensures { (t : Transition) → Shows self.old t → OnOk result (Shows self.new (noted (Registers agent end renew) t)) }
     {
@@ -93,7 +93,7 @@ impl CallContext {
         Ok(())
     }
 
-    /// It hands a packet to the wire, which changes nothing of what is known.
+    /// The mobile hands a packet to the wire, which changes nothing of what is known.
     pub fn put(&mut self, shield: Option<Shield>, packet: Bytes) -> Result<(), Memory>
         ensures { (x : Sending) (t : Transition) → IsNeutral x → shield ≡ shield_of x → packet ≡ packet_of_sending x → Shows self.old t → OnOk result (Shows self.new (noted (Sends x) t)) }
     {
@@ -101,7 +101,7 @@ impl CallContext {
         Ok(())
     }
 
-    /// It hands a home registration to the wire.
+    /// The mobile hands a home registration to the wire.
     pub fn put_registration(
         &mut self,
         careof: Address,
@@ -126,7 +126,7 @@ impl CallContext {
         Ok(())
     }
 
-    /// It hands a deregistration to the wire.
+    /// The mobile hands a deregistration to the wire.
     pub fn put_deregistration(
         &mut self,
         agent: Address,
@@ -148,7 +148,7 @@ impl CallContext {
         Ok(())
     }
 
-    /// It hands a Mobile Prefix Solicitation to the wire.
+    /// The mobile hands a Mobile Prefix Solicitation to the wire.
     pub fn put_solicitation(
         &mut self,
         careof: Address,

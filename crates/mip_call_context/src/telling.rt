@@ -12,7 +12,7 @@ use mip_rules_mobile::Attachment;
 use mip_words::{Address, Memory, Why};
 
 impl CallContext {
-    /// It claims an address.
+    /// The mobile claims an address.
     pub fn claim(&mut self, address: Address) -> Result<(), Memory>
         ensures { (t : Transition) → Shows self.old t → OnOk result (Shows self.new (noted (Claims address) t)) }
     {
@@ -24,7 +24,7 @@ impl CallContext {
         Ok(())
     }
 
-    /// It gives an address up.
+    /// The mobile gives an address up.
     pub fn release(&mut self, address: Address) -> Result<(), Memory>
         ensures { (t : Transition) → Shows self.old t → OnOk result (Shows self.new (noted (Releases address) t)) }
     {
@@ -36,7 +36,7 @@ impl CallContext {
         Ok(())
     }
 
-    /// Its agent refuses.
+    /// The mobile's agent refuses.
     pub fn refused(&mut self, status: u8) -> Result<(), Memory>
         ensures shows { (t : Transition) → Shows self.old t → OnOk result (Shows self.new (noted (IsRefused status) t)) }
         ensures same { OnOk result (self.new.known ≡ self.old.known) }
@@ -48,7 +48,7 @@ impl CallContext {
         Ok(())
     }
 
-    /// It learns how long its home prefix is valid and preferred.
+    /// The mobile learns how long its home prefix is valid and preferred.
     pub fn learn(&mut self, valid: u32, preferred: u32) -> Result<(), Memory>
         ensures { (t : Transition) → Shows self.old t → OnOk result (Shows self.new (noted (Learns valid preferred) t)) }
     {
@@ -60,7 +60,7 @@ impl CallContext {
         Ok(())
     }
 
-    /// It can't send.
+    /// The mobile can't send.
     pub fn unsend(&mut self, why: Why) -> Result<(), Memory>
         ensures { (t : Transition) → Shows self.old t → OnOk result (Shows self.new (noted (Unsends why) t)) }
     {
@@ -69,7 +69,7 @@ impl CallContext {
         Ok(())
     }
 
-    /// It drops a packet.
+    /// The mobile drops a packet.
     pub fn drop_packet(&mut self, number: u64, why: Why) -> Result<(), Memory>
         ensures { (t : Transition) → Shows self.old t → OnOk result (Shows self.new (noted (Drops number why) t)) }
     {
@@ -81,7 +81,7 @@ impl CallContext {
         Ok(())
     }
 
-    /// Its registration ends.
+    /// The mobile's registration ends.
     pub fn unregister(&mut self, agent: Address) -> Result<(), Memory>
         ensures { (t : Transition) → Shows self.old t → OnOk result (Shows self.new (noted (Unregisters agent) t)) }
     {
@@ -94,7 +94,7 @@ impl CallContext {
         Ok(())
     }
 
-    /// It turns to an agent.
+    /// The mobile turns to an agent.
     pub fn choose(&mut self, agent: Address) -> Result<(), Memory>
         requires { self.old.known.tried + 1 < 2 ^ 64 }
         ensures { (t : Transition) → Shows self.old t → OnOk result (Shows self.new (noted (Chooses agent) t)) }
@@ -108,7 +108,7 @@ impl CallContext {
         Ok(())
     }
 
-    /// It leaves an entry of its correspondent part.
+    /// The mobile leaves an entry of its correspondent part.
     pub fn note_entry(&mut self, entry: Entry) -> Result<(), Memory>
         ensures { (t : Transition) → Shows self.old t → OnOk result (Shows self.new (noted (Notes entry) t)) }
     {
@@ -116,7 +116,7 @@ impl CallContext {
         Ok(())
     }
 
-    /// It uses an address.
+    /// The mobile uses an address.
     pub fn arrive(&mut self, address: Address) -> Result<(), Memory>
         ensures { (t : Transition) → Shows self.old t → OnOk result (Shows self.new (noted (Arrives address) t)) }
     {
@@ -141,7 +141,7 @@ impl CallContext {
         }
     }
 
-    /// It finds an address taken.
+    /// The mobile finds an address taken.
     pub fn find_taken(&mut self, address: Address, holder: u8) -> Result<(), Memory>
         ensures { (t : Transition) → Shows self.old t → OnOk result (Shows self.new (noted (FindsTaken address holder) t)) }
     {

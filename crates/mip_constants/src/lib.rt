@@ -28,7 +28,7 @@ pub const MAX_HOME_LIFETIME: u16 = 900;
 /// After this an update is sent again for the first time.
 pub const INITIAL_BINDACK_TIMEOUT: u64 = 1_000;
 
-/// The same for the first home registration of a life.
+/// After this the first home registration of a life is sent again for the first time.
 pub const INITIAL_BINDACK_TIMEOUT_FIRST_REG: u64 = 1_500;
 
 /// The longest time between two sendings.

@@ -31,7 +31,7 @@ fn careof_index(number: Option<u64>) -> Option<u16>
     }
 }
 
-/// It sends a packet, unshielded.
+/// The correspondent sends a packet, unshielded.
 pub fn send(answers: &mut Answers, packet: Bytes) -> Result<(), Memory>
     ensures { (now : ℕ) (cache : CacheSeen) (t : Transition) → Shows now cache answers.old t → OnOk result (Shows now cache answers.new (noted (Sends packet) t)) }
 {
@@ -42,7 +42,7 @@ pub fn send(answers: &mut Answers, packet: Bytes) -> Result<(), Memory>
     Ok(())
 }
 
-/// It drops a packet.
+/// The correspondent drops a packet.
 pub fn drop_packet(answers: &mut Answers, number: u64, why: Why) -> Result<(), Memory>
     ensures { (now : ℕ) (cache : CacheSeen) (t : Transition) → Shows now cache answers.old t → OnOk result (Shows now cache answers.new (noted (Drops number why) t)) }
 {
@@ -54,7 +54,7 @@ pub fn drop_packet(answers: &mut Answers, number: u64, why: Why) -> Result<(), M
     Ok(())
 }
 
-/// It denies the update in a packet.
+/// The correspondent denies the update in a packet.
 pub fn note_denial(answers: &mut Answers, number: u64, status: u8) -> Result<(), Memory>
     ensures { (now : ℕ) (cache : CacheSeen) (t : Transition) → Shows now cache answers.old t → OnOk result (Shows now cache answers.new (noted (Denies number status) t)) }
 {
@@ -84,7 +84,7 @@ fn accepted_entry(number: u64, kept: &AcceptedBinding) -> Entry
     }
 }
 
-/// It accepts the update in a packet: its row will stand in the cache.
+/// The correspondent accepts the update in a packet: its row will stand in the cache.
 pub fn note_acceptance(
     answers: &mut Answers,
     number: u64,
@@ -96,7 +96,7 @@ pub fn note_acceptance(
     Ok(())
 }
 
-/// It hands up data.
+/// The correspondent hands up data.
 pub fn hand_up(
     alloc: Global,
     answers: &mut Answers,
@@ -120,7 +120,7 @@ pub fn hand_up(
     Ok(())
 }
 
-/// It was asked for something that can't be.
+/// The correspondent was asked for something that can't be.
 pub fn idle(answers: &mut Answers) -> Result<(), Memory>
     ensures { (now : ℕ) (cache : CacheSeen) (t : Transition) → Shows now cache answers.old t → OnOk result (Shows now cache answers.new (noted Idles t)) }
 {

@@ -5,11 +5,11 @@ use mip_words::{Bytes, Shield};
 /// number of a packet that it sends next.
 #[derive(Drop)]
 pub enum Answer {
-    /// It sends a packet, under a shield or none.
+    /// The node sends a packet, under a shield or none.
     Send {
         shield: Option<Shield>,
         packet: Bytes,
     },
-    /// It leaves an entry.
+    /// The node leaves an entry.
     Note(Entry),
 }

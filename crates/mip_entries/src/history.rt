@@ -60,6 +60,7 @@ impl History {
     pub fn widths(&self)
         ensures { AllByRecursion HasWidths self.now }
     {
+        // For the prover alone: once the list is read, the facts of its entries are at hand.
         let _count = self.list.len();
     }
 

@@ -1,4 +1,5 @@
 //! What the types of its fields say of an entry. The functions do nothing: what they ensure is the law.
+//! Each `let _` of theirs reads a value for the prover alone, who then has what its type says of it.
 
 ghost use Rattle.mip_words.specs.Numbers.{IsBytes};
 ghost use Rattle.mip_entries.specs.Widths.{IsNumber, IsAddress, IsMoment, IsToken, IfPresent, HasWidths, HasPlaceWidths, HasPacketWidths, HasMobileWidths, HasRowWidths, HasUpdateWidths};

@@ -24,7 +24,7 @@ impl<T> GhostLog<T> {
         GhostLog { of: PhantomData }
     }
 
-    /// This item too, behind those before.
+    /// The log with this item behind those before.
     pub fn with(&self, item: &T) -> GhostLog<T>
         ensures { result.items ≡ self.now.items ++ item.now ∷ [] }
     {

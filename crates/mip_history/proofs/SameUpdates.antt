@@ -186,15 +186,7 @@ told p key e = by (p.head.proto == 135) (message_of (source_of p.head) (destinat
     by : (b : Bool) (r : Result Said Fault) → message_of (source_of p.head) (destination_of p.head) p.body ≡ r
         → option_map_or (said_by p.head.source (source_of p.head) p.head.destination p.body) (cond b (result_ok r) None) Other ≡ Update key → Told p key
     by true (Ok (BindingUpdate s a h l k t o)) is e = with_authenticator s a h l k t o is o.authorization refl e
-    by true (Ok (Refresh o)) is e = absurd cc
-    by true (Ok (HomeInit c o)) is e = absurd cc
-    by true (Ok (CareofInit c o)) is e = absurd cc
-    by true (Ok (HomeTest i c t o)) is e = absurd cc
-    by true (Ok (CareofTest i c t o)) is e = absurd cc
-    by true (Ok (Acknowledgement s k q t o)) is e = absurd cc
-    by true (Ok (Error s h o)) is e = absurd cc
-    by true (Err fault) is e = absurd cc
-    by false r is e = absurd cc
+    by _ _ is e = absurd cc
 
 -- what it asks
 module _ (p : Packet) (key : UpdateIdentity) (t : Told p key) where

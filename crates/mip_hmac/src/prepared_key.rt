@@ -53,7 +53,7 @@ impl PreparedKey {
     }
 }
 
-/// The same hash once more.
+/// A copy of a hash.
 fn again(hash: &Sha1) -> Sha1
     ensures { result ≡ hash.now }
 {

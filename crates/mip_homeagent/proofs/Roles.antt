@@ -27,13 +27,7 @@ by_registration h (Some r) t = takes_update h r t
 
 pub role_is : (h : Handing) (p : Packet) (m : Said) (t : Transition) → by_role h p (Some m) t ≡ by_registration h (registration_said p.head.source p.head.home (Ok m)) t
 role_is h p (Refresh o) t = refl
-role_is h p (HomeInit c o) t = refl
-role_is h p (CareofInit c o) t = refl
-role_is h p (HomeTest i c k o) t = refl
-role_is h p (CareofTest i c k o) t = refl
-role_is h p (Update s a f l k q o) t = refl
-role_is h p (Acknowledgement s k q l o) t = refl
-role_is h p (Error s home o) t = refl
+role_is h p _ t = refl
 
 module _ (source : Address) (home : Option Address) (r : Registration) where
   abbrev IsOf : Registration → Type 0
@@ -47,13 +41,7 @@ module _ (source : Address) (home : Option Address) (r : Registration) where
   said_home (Update s a f l k q o) e =
       let same : r ≡ registration source home s a f q o = registration_is (registration source home s a f q o) e in
       subst IsOf (sym same) (refl, refl)
-  said_home (Refresh o) e = absurd cc
-  said_home (HomeInit c o) e = absurd cc
-  said_home (CareofInit c o) e = absurd cc
-  said_home (HomeTest i c k o) e = absurd cc
-  said_home (CareofTest i c k o) e = absurd cc
-  said_home (Acknowledgement s k q l o) e = absurd cc
-  said_home (Error s home' o) e = absurd cc
+  said_home _ e = absurd cc
 
 -- a place has room for a home that is served
 pub room_served : (around : Around) (k : Known) (home : Address) → HasRoom around k → is_served k home ≡ true → around.room home.0 ≡ true

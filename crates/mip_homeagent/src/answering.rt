@@ -16,7 +16,7 @@ const MYSELF: NodeId = NodeId(0);
 
 const HERE: LinkId = LinkId(0);
 
-/// It sends a packet.
+/// The agent sends a packet.
 pub fn send(answers: &mut Answers, shield: Option<Shield>, packet: Bytes) -> Result<(), Memory>
     ensures { Goes result (noted (Sends shield packet)) answers.old answers.new }
 {
@@ -24,7 +24,7 @@ pub fn send(answers: &mut Answers, shield: Option<Shield>, packet: Bytes) -> Res
     Ok(())
 }
 
-/// It drops a packet.
+/// The agent drops a packet.
 pub fn drop_packet(answers: &mut Answers, number: u64, why: Why) -> Result<(), Memory>
     ensures { Goes result (noted (Drops number why)) answers.old answers.new }
 {
@@ -36,7 +36,7 @@ pub fn drop_packet(answers: &mut Answers, number: u64, why: Why) -> Result<(), M
     Ok(())
 }
 
-/// It denies the update in a packet.
+/// The agent denies the update in a packet.
 pub fn note_denial(answers: &mut Answers, number: u64, status: u8) -> Result<(), Memory>
     ensures { Goes result (noted (Denies number status)) answers.old answers.new }
 {
@@ -48,7 +48,7 @@ pub fn note_denial(answers: &mut Answers, number: u64, status: u8) -> Result<(),
     Ok(())
 }
 
-/// It accepts a registration, or a deregistration.
+/// The agent accepts a registration, or a deregistration.
 pub fn note_registration(
     answers: &mut Answers,
     home: Address,
@@ -66,7 +66,7 @@ pub fn note_registration(
     Ok(())
 }
 
-/// It has an address from here on.
+/// The agent has an address from here on.
 pub fn note_claim(answers: &mut Answers, home: Address) -> Result<(), Memory>
     ensures { OnOk result (answers.new ≡ answers.old ++ answer_of (Claims home)) }
 {
@@ -78,7 +78,7 @@ pub fn note_claim(answers: &mut Answers, home: Address) -> Result<(), Memory>
     Ok(())
 }
 
-/// And gives it up.
+/// The agent gives an address up.
 pub fn note_release(answers: &mut Answers, home: Address) -> Result<(), Memory>
     ensures { OnOk result (answers.new ≡ answers.old ++ answer_of (Releases home)) }
 {

@@ -1,12 +1,12 @@
 /// What becomes of a datagram.
 #[derive(Clone, Copy)]
 pub enum Passing {
-    /// It is no frame, or its packet is refused.
+    /// The datagram is no frame, or its packet is refused.
     Dropped(&'static [u8]),
     /// No port has its destination.
     Gone,
-    /// Its turn has no copies.
+    /// The datagram's turn has no copies.
     Lost,
-    /// It is sent to a port so many times.
+    /// The datagram is sent to a port so many times.
     To { port: u16, count: u8 },
 }

@@ -84,7 +84,7 @@ fn tell(hub: &mut Hub, copies: u8, datagram: &[u8]) -> Result<Passing, Memory>
     Ok(passing)
 }
 
-/// The same bytes go to the port that has the destination.
+/// The bytes of a datagram go to the port that has its destination.
 #[tactic(auto, unfolding(crate::specs::Passing::passed_calls), using(crate::proofs::CallLaws::same_sent))]
 fn send_on<L: Link>(link: &mut L, passing: Passing, datagram: &[u8]) -> Result<(), PutFault>
     ensures goes { Goes (passed_calls datagram.now (judged passing)) result (L.sent link.old) (L.sent link.new) }

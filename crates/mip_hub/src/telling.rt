@@ -62,7 +62,7 @@ pub fn put_numbered(out: &mut Bytes, word: &[u8], number: u64) -> Result<(), Mem
     put_line(out, &[word, digits.format(number).as_bytes()])
 }
 
-/// The same with a word behind it.
+/// A line of a word, the number of a datagram, and a word that says why.
 pub fn put_because(out: &mut Bytes, word: &[u8], number: u64, why: &[u8]) -> Result<(), Memory>
     ensures { OnOk result (out.new ≡ out.old ++ line_text (word.now ∷ decimal number ∷ why.now ∷ [])) }
 {

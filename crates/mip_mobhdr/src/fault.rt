@@ -5,7 +5,7 @@ use mip_options::BadOption;
 /// Why a message is refused: the first of these that applies.
 #[derive(Clone, Copy, Debug, PartialEq, Eq)]
 pub enum Fault {
-    /// It has fewer than 8 bytes, or not as many as Header Len says.
+    /// The message has fewer than 8 bytes, or not as many as Header Len says.
     Size,
     /// The checksum does not hold.
     Checksum,

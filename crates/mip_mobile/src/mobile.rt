@@ -94,7 +94,7 @@ impl<C: Clock + Drop, W: Wire + Drop> Mobile<C, W> {
         }
     }
 
-    /// Its clock. What is written there is in the mobile once the borrow ends.
+    /// The mobile's clock. What is written there is in the mobile once the borrow ends.
     pub fn clock(&mut self) -> &mut C
         ensures* lent { sem 𝓛 (Lends (the_row C.row W.row) C.row self.entry result (with_clock_in self.entry.now)) }
         ensures clock { result.now ≡ (machine_of self.old).clock }
@@ -106,7 +106,7 @@ impl<C: Clock + Drop, W: Wire + Drop> Mobile<C, W> {
         }
     }
 
-    /// Its wire. What is written there is in the mobile once the borrow ends.
+    /// The mobile's wire. What is written there is in the mobile once the borrow ends.
     pub fn wire(&mut self) -> &mut W
         ensures* lent { sem 𝓛 (Lends (the_row C.row W.row) W.row self.entry result (with_wire_in self.entry.now)) }
         ensures wire { result.now ≡ (machine_of self.old).wire }

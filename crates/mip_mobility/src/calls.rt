@@ -39,7 +39,7 @@ pub fn attach(
     moving::attach(alloc, context, prefix, of_home, of_address)
 }
 
-/// It leaves its link.
+/// The mobile leaves its link.
 pub fn leave(context: &mut CallContext, of_home: Claim) -> Result<(), Memory>
     ensures { (t : Transition) → Shows context.old t → OnOk result (Shows context.new (handles (calls.Leave of_home) t)) }
 {
@@ -71,7 +71,7 @@ pub fn tick(alloc: Global, context: &mut CallContext) -> Result<(), Memory>
     ring_all(alloc, context)
 }
 
-/// It is asked to send data.
+/// The mobile is asked to send data.
 pub fn send(
     alloc: Global,
     context: &mut CallContext,
@@ -87,21 +87,21 @@ pub fn send(
     transmit(alloc, context, to, proto, payload)
 }
 
-/// It is asked for a Binding Refresh Request to a home.
+/// The mobile is asked for a Binding Refresh Request to a home.
 pub fn refresh(alloc: Global, context: &mut CallContext, home: Address) -> Result<(), Memory>
     ensures { (t : Transition) → Shows context.old t → OnOk result (Shows context.new (handles (calls.Refresh home) t)) }
 {
     ask_refresh(alloc, context, home)
 }
 
-/// It is asked to solicit the prefixes of its home link.
+/// The mobile is asked to solicit the prefixes of its home link.
 pub fn ask(alloc: Global, context: &mut CallContext) -> Result<(), Memory>
     ensures { (t : Transition) → Shows context.old t → OnOk result (Shows context.new (handles calls.Ask t)) }
 {
     solicit(alloc, context)
 }
 
-/// It loses all that it keeps, and goes on with these secrets.
+/// The mobile loses all that it keeps, and goes on with these secrets.
 pub fn restart(alloc: Global, context: &mut CallContext, secrets: Secrets) -> Result<(), Memory>
     ensures { (t : Transition) → Shows context.old t → OnOk result (Shows context.new (handles (calls.Restart secrets) t)) }
 {
@@ -118,7 +118,7 @@ fn is_signal(packet: &[u8]) -> bool
     }
 }
 
-/// It is asked to send a packet from its home address while it is away. It is one that a tunnel takes.
+/// The mobile is asked to send a packet from its home address while it is away. It is one that a tunnel takes.
 pub fn tunnel(alloc: Global, context: &mut CallContext, inner: &[u8]) -> Result<(), Memory>
     requires long { 40 ≤ length inner.now }
     requires hop { 2 ≤ hop_of inner.now }

@@ -88,7 +88,7 @@ fn unbind_all(context: &mut CallContext) -> Result<(), Memory>
     Ok(())
 }
 
-/// It leaves: it holds no address, every trial is given up, and every timer stops.
+/// The mobile leaves: it holds no address, every trial is given up, and every timer stops.
 pub fn detach(context: &mut CallContext, of_home: Claim) -> Result<(), Memory>
     ensures { (t : Transition) → Shows context.old t → OnOk result (Shows context.new (leaves of_home t)) }
 {
@@ -158,7 +158,7 @@ fn register_if_away(
     }
 }
 
-/// It loses all that it keeps, and goes on with these secrets.
+/// The mobile loses all that it keeps, and goes on with these secrets.
 pub fn restart(alloc: Global, context: &mut CallContext, secrets: Secrets) -> Result<(), Memory>
     ensures { (t : Transition) → Shows context.old t → OnOk result (Shows context.new (restarts secrets t)) }
 {

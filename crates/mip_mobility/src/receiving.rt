@@ -23,7 +23,7 @@ use mip_rules_mobile::Attachment;
 use mip_words::{Address, Memory, u16_at};
 use std::alloc::Global;
 
-/// Its address: the home address at home, the care-of address away.
+/// The mobile's address: the home address at home, the care-of address away.
 fn is_address_of(standing: Attachment, home: Address, address: Address) -> bool
     ensures { result ≡ is_address_of standing home address }
 {

@@ -23,7 +23,7 @@ use mip_options::Options;
 use mip_routability::{
     PeerAck, meet, take_ack_of, take_careof_test, take_error, take_home_test, take_refresh,
 };
-use mip_words::{Memory, Why};
+use mip_words::{Address, Cookie, Memory, Token, Why};
 use std::alloc::Global;
 
 /// After data from a tunnel its peer is met.
@@ -108,6 +108,18 @@ fn take_ack(
     }
 }
 
+/// A test as it came from a peer.
+fn heard(peer: Address, cookie: Cookie, index: u16, token: Token) -> Heard
+    ensures { result ≡ record { peer = peer; cookie = cookie; index = index; token = token } }
+{
+    Heard {
+        peer,
+        cookie,
+        index,
+        token,
+    }
+}
+
 /// A mobility message that is not for the correspondent part.
 fn take_message(
     alloc: Global,
@@ -127,12 +139,7 @@ fn take_message(
             token,
             ..
         } => {
-            let test = Heard {
-                peer,
-                cookie,
-                index,
-                token,
-            };
+            let test = heard(peer, cookie, index, token);
             take_home_test(alloc, context, number, handed.tunnelled, &test)
         }
         Message::CareofTest {
@@ -141,12 +148,7 @@ fn take_message(
             token,
             ..
         } => {
-            let test = Heard {
-                peer,
-                cookie,
-                index,
-                token,
-            };
+            let test = heard(peer, cookie, index, token);
             take_careof_test(alloc, context, number, handed.tunnelled, &test)
         }
         Message::Acknowledgement {

@@ -18,7 +18,7 @@ use mip_nodes::Call;
 use mip_outside::{Link, PutFault};
 use mip_words::Moment;
 
-/// It is asked something.
+/// The node is asked something.
 #[tactic(auto, unfolding(crate::specs::Nodes::asked_at))]
 pub fn ask<L: Link>(
     node: &mut Node,

@@ -59,7 +59,7 @@ impl Node {
         })
     }
 
-    /// It leaves an entry.
+    /// The node leaves an entry.
     pub fn note(&mut self, entry: Entry) -> Result<(), Memory>
         ensures ok { OnOk result (self.new ≡ noted entry self.old) }
         ensures err { OnErr result (self.new ≡ self.old) }
@@ -143,7 +143,7 @@ impl Node {
         Ok(())
     }
 
-    /// Its role is asked something.
+    /// The node's role is asked something.
     pub fn act(
         &mut self,
         setting: &Setting<'_>,

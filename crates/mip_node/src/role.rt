@@ -63,7 +63,7 @@ fn new_role(setting: &Setting<'_>) -> Result<Role, Memory>
     Role::new(setting.alloc, &config.seed, config.node, 0, own, &kind, 1)
 }
 
-/// It is asked something, where nobody else holds an address.
+/// The role is asked something, where nobody else holds an address.
 #[tactic(auto, unfolding(crate::specs::Roles::answers_at, crate::specs::Roles::role_after, crate::specs::Roles::IsBy))]
 pub fn act(
     role: &mut Role,

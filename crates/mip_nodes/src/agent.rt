@@ -58,7 +58,7 @@ fn take(
     role.take(alloc, place, now, number, shield, packet)
 }
 
-/// It is asked something; what is nothing to it leaves `idle`. After want of memory no clause says what it is.
+/// The agent is asked something; what is nothing to it leaves `idle`. After want of memory no clause says what it is.
 pub fn ask(
     role: &mut HomeAgent,
     alloc: Global,

@@ -10,19 +10,19 @@ pub enum Call<'a> {
         shield: Option<Shield>,
         packet: &'a [u8],
     },
-    /// It is to send data, of 512 bytes at most.
+    /// The node is to send data, of 512 bytes at most.
     Send {
         to: Address,
         proto: u8,
         payload: &'a [u8],
     },
-    /// It is to ask for a binding to be refreshed.
+    /// The node is to ask for a binding to be refreshed.
     Refresh {
         home: Address,
     },
     /// Time goes on, and due work is done.
     Tick,
-    /// Its prefix is valid and preferred for so many seconds.
+    /// The node's prefix is valid and preferred for so many seconds.
     Plan {
         valid: u32,
         preferred: u32,
@@ -37,11 +37,11 @@ pub enum Call<'a> {
     Attach {
         prefix: Prefix,
     },
-    /// It leaves its link.
+    /// The node leaves its link.
     Leave,
-    /// It is to solicit the prefixes of its home link.
+    /// The node is to solicit the prefixes of its home link.
     Ask,
-    /// It loses all that it keeps, and goes on with these secrets, which stand apart: so every other call is short.
+    /// The node loses all that it keeps, and goes on with these secrets, which stand apart: so every other call is short.
     Restart {
         secrets: Box<Secrets>,
     },

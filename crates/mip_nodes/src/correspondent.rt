@@ -14,7 +14,7 @@ use mip_entries::Answers;
 use mip_words::{Memory, Moment};
 use std::alloc::Global;
 
-/// It is asked something; what is nothing to it leaves `idle`. After want of memory no clause says what it is.
+/// The correspondent is asked something; what is nothing to it leaves `idle`. After want of memory no clause says what it is.
 pub fn ask(
     role: &mut Correspondent,
     alloc: Global,

@@ -44,7 +44,7 @@ fn take(
     mip_mobility::take(alloc, context, number, shield, packet)
 }
 
-/// It sends data.
+/// The mobile sends data.
 #[tactic(auto, unfolding(mip_rules_mobile::specs::Doing::does))]
 fn send(
     context: &mut CallContext,
@@ -65,7 +65,7 @@ fn send(
     mip_mobility::send(alloc, context, to, proto, payload)
 }
 
-/// It asks for a Binding Refresh Request to a home.
+/// The mobile asks for a Binding Refresh Request to a home.
 #[tactic(auto, unfolding(mip_rules_mobile::specs::Doing::does))]
 fn refresh(
     context: &mut CallContext,
@@ -110,7 +110,7 @@ fn attach(
     mip_mobility::attach(alloc, context, prefix, of_home, of_address)
 }
 
-/// It leaves its link.
+/// The mobile leaves its link.
 #[tactic(auto, unfolding(mip_rules_mobile::specs::Doing::does))]
 fn leave(
     context: &mut CallContext,
@@ -126,7 +126,7 @@ fn leave(
     mip_mobility::leave(context, of_home)
 }
 
-/// It solicits the prefixes of its home link.
+/// The mobile solicits the prefixes of its home link.
 #[tactic(auto, unfolding(mip_rules_mobile::specs::Doing::does))]
 fn solicit(context: &mut CallContext, alloc: Global, now: Moment) -> Result<(), Memory>
     requires later { context.old.moment ≤ now.0 }
@@ -137,7 +137,7 @@ fn solicit(context: &mut CallContext, alloc: Global, now: Moment) -> Result<(), 
     mip_mobility::ask(alloc, context)
 }
 
-/// It loses all that it keeps, and goes on with these secrets.
+/// The mobile loses all that it keeps, and goes on with these secrets.
 #[tactic(auto, unfolding(mip_rules_mobile::specs::Doing::does))]
 fn restart(
     context: &mut CallContext,
@@ -181,7 +181,7 @@ fn finish(
     context.take_answers(alloc)
 }
 
-/// It is asked something; what is nothing to it leaves `idle`.
+/// The mobile is asked something; what is nothing to it leaves `idle`.
 pub fn ask(
     context: &mut CallContext,
     alloc: Global,

@@ -68,7 +68,7 @@ impl MobileRole {
         })
     }
 
-    /// It is asked something; what is nothing to it leaves `idle`.
+    /// The mobile is asked something; what is nothing to it leaves `idle`.
     pub fn ask(
         &mut self,
         alloc: Global,

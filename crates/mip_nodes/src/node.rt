@@ -63,8 +63,8 @@ impl Node {
         })
     }
 
-    /// Its next life begins: a correspondent and an agent have nothing behind them. A mobile is yet to be told. After want of
-    /// memory the node is as it was.
+    /// The node's next life begins: a correspondent and an agent have nothing behind them. A mobile is yet to be told. After want
+    /// of memory the node is as it was.
     pub fn begin_life(
         &mut self,
         alloc: Global,
@@ -106,7 +106,7 @@ impl Node {
         self.spot
     }
 
-    /// It stands on this link from here on, or on none.
+    /// The node stands on this link from here on, or on none.
     pub fn stand(&mut self, spot: Option<LinkId>)
         ensures { self.new ≡ with_spot (option_map (λ l. l.0) spot) self.old }
     {
@@ -138,7 +138,7 @@ impl Node {
         }
     }
 
-    /// It is asked something, where its network is this one. After want of memory no clause says what it is.
+    /// The node is asked something, where its network is this one. After want of memory no clause says what it is.
     pub fn act(
         &mut self,
         alloc: Global,

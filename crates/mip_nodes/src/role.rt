@@ -119,7 +119,7 @@ impl Role {
         }
     }
 
-    /// It is asked something.
+    /// The node is asked something.
     pub fn act(
         &mut self,
         alloc: Global,

@@ -36,7 +36,6 @@ use Rattle.mip_origin.specs.OwnHistories.{kind_at, is_agent_kind, HasCome, IsRig
 -- the packets of a history are found alike
 told_alike : (k : ℕ) (e : Entry) → bound.packet_told k e ≡ packet_told k e
 told_alike k (entries.Sent number node shielded packet) = refl
-told_alike k (entries.Injected number outsider link packet) = refl
 told_alike k _ = refl
 
 first_alike : (k : ℕ) (es : List Entry) → first_some (bound.packet_told k) es ≡ first_some (packet_told k) es
@@ -110,9 +109,7 @@ module _ (past : List Entry) where
   -- an agent sends a test only if it was handed to it
   agent_sends : (s : Setup) (front : List Entry) (n : ℕ) (packet : List ℕ) (o : Option Kind) → is_agent_kind o ≡ true → IsRightFrom s front n packet o → IfSome (token_in (carried packet)) (HasCome front n)
   agent_sends s front n packet (Some (Agent preference life room serves)) is right = right
-  agent_sends s front n packet (Some (Correspondent room)) is right = absurd cc
-  agent_sends s front n packet (Some (Mobile agent)) is right = absurd cc
-  agent_sends s front n packet None is right = absurd cc
+  agent_sends s front n packet _ is right = absurd cc
 
   -- a number that no packet has is not posted
   not_posted : (k : ℕ) (e : Entry) → packet_told k e ≡ None → is_post k (sight past e) ≡ false

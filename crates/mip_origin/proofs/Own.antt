@@ -130,12 +130,7 @@ sending-own me c now (SendsData to proto payload held) packet plain is =
 
 step-own : (me : Identity) (c : Call) (now : ℕ) (step : Step) → SendsPlainData c → SendsOwn me c now step → SendsOwnTests me now step
 step-own me c now (Sends packet) plain own = sending-own me c now own.0 packet plain own.1
-step-own me c now (Called call) plain own = tt
-step-own me c now (Accepts number home binding accepted) plain own = tt
-step-own me c now (Denies number status) plain own = tt
-step-own me c now (Drops number why) plain own = tt
-step-own me c now (HandsUp number source destination proto payload) plain own = tt
-step-own me c now Idles plain own = tt
+step-own me c now _ plain own = tt
 
 each-own : (me : Identity) (c : Call) (now : ℕ) (steps : List Step) → SendsPlainData c → AllByRecursion (SendsOwn me c now) steps → AllByRecursion (SendsOwnTests me now) steps
 each-own me c now [] plain all = tt

@@ -163,9 +163,7 @@ module _ (s : Setup) (Q : Type 0) (front : List Entry) (n : ℕ) where
     step_right past k (Forgets row) is given fits mine says = tt
     step_right past k (Binds row peer end renew) is given fits mine says = (tt, tt)
     step_right past k (Unbinds row peer) is given fits mine says = (tt, tt)
-    step_right past k (Waits work wait) is given fits mine says = tt
-    step_right past k (Stops work) is given fits mine says = tt
-    step_right past k (Rings work) is given fits mine says = tt
+    step_right past k _ is given fits mine says = tt
 
     pub mobile_right : (past : List (Stamped Step)) (k : Known) (steps : List Step) → k ≡ known own agent numbers secrets past → AreGiven front n past → EachFits c now k steps
         → (Q → k.part.identity.secrets ≡ life_of s front n) → (Q → EachAnswer (SaysRight c now) now k steps) → list_any begins_anew steps ≡ false → AllRight (answers_of steps)

@@ -1,10 +1,10 @@
 /// What became of a packet that a wire took.
 #[derive(Clone, Copy, Debug, PartialEq, Eq)]
 pub enum Put {
-    /// It was sent.
+    /// The packet was sent.
     Sent,
-    /// It was not sent: there is no way to its destination.
+    /// The packet was not sent: there is no way to its destination.
     NoRoute,
-    /// It was not sent: it is longer than the wire carries.
+    /// The packet was not sent: it is longer than the wire carries.
     Oversize,
 }

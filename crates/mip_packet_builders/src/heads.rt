@@ -29,7 +29,7 @@ pub fn node_head(
     }
 }
 
-/// The same without extension headers.
+/// A head without extension headers.
 pub fn straight(source: Address, destination: Address, proto: u8) -> Head
     ensures { result ≡ straight source destination proto }
 {

@@ -32,6 +32,7 @@ pub(crate) fn message_for(alloc: Global, head: &Head, message: &Plain) -> Result
     ensures short { IfOk result (λ b. length b ≤ 2048) }
 {
     let bytes = write_message(alloc, head.sender(), head.receiver(), message)?;
+    // For the prover alone: Header Len is one byte, which is what bounds the length of a message.
     let _units = units(bytes.as_slice());
     Ok(bytes)
 }

@@ -31,24 +31,12 @@ small i e = omega arith
 home_test_of_read : (to source destination dest : Address) (m : Said) (i c : ℕ) (t : List ℕ) (o : Values) → type_of m ≡ 3 → IsTestIn (HomeTest i c t o) (message_bytes source destination m) → address_bytes dest ≡ address_bytes to → IsTestOf to m 0 i t dest
 home_test_of_read to source destination dest (HomeTest j d u p) i c t o is fields there =
     (refl, (λ fits. sym fields.0 ∙ home_index_written source destination j d u p (small j fits)), (λ long. sym fields.1 ∙ home_token_written source destination j d u p long), there)
-home_test_of_read to source destination dest (Refresh p) i c t o is fields there = absurd (omega (arith, is))
-home_test_of_read to source destination dest (HomeInit d p) i c t o is fields there = absurd (omega (arith, is))
-home_test_of_read to source destination dest (CareofInit d p) i c t o is fields there = absurd (omega (arith, is))
-home_test_of_read to source destination dest (CareofTest j d u p) i c t o is fields there = absurd (omega (arith, is))
-home_test_of_read to source destination dest (Update s a h l k q p) i c t o is fields there = absurd (omega (arith, is))
-home_test_of_read to source destination dest (Acknowledgement s k q l p) i c t o is fields there = absurd (omega (arith, is))
-home_test_of_read to source destination dest (Error s h p) i c t o is fields there = absurd (omega (arith, is))
+home_test_of_read to source destination dest _ i c t o is fields there = absurd (omega (arith, is))
 
 careof_test_of_read : (to source destination dest : Address) (m : Said) (i c : ℕ) (t : List ℕ) (o : Values) → type_of m ≡ 4 → IsTestIn (CareofTest i c t o) (message_bytes source destination m) → address_bytes dest ≡ address_bytes to → IsTestOf to m 1 i t dest
 careof_test_of_read to source destination dest (CareofTest j d u p) i c t o is fields there =
     (refl, (λ fits. sym fields.0 ∙ careof_index_written source destination j d u p (small j fits)), (λ long. sym fields.1 ∙ careof_token_written source destination j d u p long), there)
-careof_test_of_read to source destination dest (Refresh p) i c t o is fields there = absurd (omega (arith, is))
-careof_test_of_read to source destination dest (HomeInit d p) i c t o is fields there = absurd (omega (arith, is))
-careof_test_of_read to source destination dest (CareofInit d p) i c t o is fields there = absurd (omega (arith, is))
-careof_test_of_read to source destination dest (HomeTest j d u p) i c t o is fields there = absurd (omega (arith, is))
-careof_test_of_read to source destination dest (Update s a h l k q p) i c t o is fields there = absurd (omega (arith, is))
-careof_test_of_read to source destination dest (Acknowledgement s k q l p) i c t o is fields there = absurd (omega (arith, is))
-careof_test_of_read to source destination dest (Error s h p) i c t o is fields there = absurd (omega (arith, is))
+careof_test_of_read to source destination dest _ i c t o is fields there = absurd (omega (arith, is))
 
 -- an update says no test, with or without an authenticator
 update_tests : (to : Address) (m : Said) (source home : Address) (body : List ℕ) (o : Values) (a : Option (List ℕ)) → TestsOf to m (update_said source home body o a)
@@ -116,9 +104,7 @@ none_of to (HomeInit c o) (Test kind index token destination) none tests = tests
 none_of to (CareofInit c o) (Test kind index token destination) none tests = tests
 none_of to (HomeTest i c t o) (Test kind index token destination) none tests = absurd cc
 none_of to (CareofTest i c t o) (Test kind index token destination) none tests = absurd cc
-none_of to (Update s a h l k t o) (Test kind index token destination) none tests = tests
-none_of to (Acknowledgement s k q t o) (Test kind index token destination) none tests = tests
-none_of to (Error s h o) (Test kind index token destination) none tests = tests
+none_of to _ (Test kind index token destination) none tests = tests
 
 pub message_says_no_test : (head : Head) (m : Said) → head.proto ≡ 135 → is_test m ≡ false → SaysNoTest (carried (message_packet head m))
 message_says_no_test head m proto none = none_of head.destination m (carried (message_packet head m)) none (message_says head m proto)

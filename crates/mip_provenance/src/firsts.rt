@@ -25,7 +25,7 @@ fn same_message(a: &[u8], b: &[u8]) -> bool
     front == other_front && back == other_back
 }
 
-/// The same update.
+/// Whether two updates are the same.
 fn same_key(a: &UpdateIdentity, b: &UpdateIdentity) -> bool
     ensures { result ≡ same_key (key_of a.now) (key_of b.now) }
 {

@@ -13,7 +13,7 @@ pub enum Mark {
         cot: Option<u64>,
         update: u64,
     },
-    /// It has no such origin: the lowest cause that holds, 1 to 3.
+    /// The acceptance has no such origin: the lowest cause that holds, 1 to 3.
     Forged(u8),
 }
 

@@ -30,7 +30,7 @@ fn same_kind(a: TestKind, b: TestKind) -> bool
 }
 
 impl Name {
-    /// The same name.
+    /// Whether both are the same name.
     pub fn is(&self, other: &Name) -> bool
         ensures { result ≡ same_name (name_of self.now) (name_of other.now) }
     {

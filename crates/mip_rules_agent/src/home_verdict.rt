@@ -3,14 +3,14 @@ use mip_words::{Address, Why};
 /// What becomes of a home registration (RFC 6275 sections 10.3.1 and 10.3.2).
 #[derive(Clone, Copy, Debug, PartialEq, Eq)]
 pub enum HomeVerdict {
-    /// It is dropped in silence.
+    /// The update is dropped in silence.
     Refuse(Why),
-    /// It is answered with this status and this sequence.
+    /// The update is answered with this status and this sequence.
     Deny {
         status: u8,
         last: u16,
     },
-    /// It registers a home, or ends its registration, for this lifetime in units of 4 s.
+    /// The update registers a home, or ends its registration, for this lifetime in units of 4 s.
     Accept {
         home: Address,
         careof: Address,

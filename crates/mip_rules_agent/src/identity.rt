@@ -3,9 +3,9 @@ use mip_words::Address;
 /// What a home agent was made with.
 #[derive(Clone, Copy, Debug, PartialEq, Eq)]
 pub struct Identity {
-    /// Its own address.
+    /// The agent's own address.
     pub own: Address,
-    /// Its preference, as it advertises it.
+    /// The agent's preference, as it advertises it.
     pub preference: u16,
     /// How many seconds an advertisement of it lasts.
     pub life: u16,

@@ -4,7 +4,7 @@ use mip_words::Address;
 /// What a correspondent was made with.
 #[derive(Drop)]
 pub struct Identity {
-    /// Its own address.
+    /// The correspondent's own address.
     pub own: Address,
     /// The secrets of its present life.
     pub secrets: Secrets,

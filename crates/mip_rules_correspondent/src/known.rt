@@ -6,6 +6,6 @@ use mip_words::Moment;
 pub struct Known {
     /// The moment of the last call that it was given, 0 before the first.
     pub last: Moment,
-    /// Its binding cache.
+    /// The correspondent's binding cache.
     pub cache: Cache,
 }

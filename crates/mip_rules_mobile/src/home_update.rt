@@ -7,6 +7,6 @@ pub struct HomeUpdate {
     pub sequence: u16,
     /// When it was sent.
     pub at: Moment,
-    /// It is a deregistration.
+    /// The update is a deregistration.
     pub deletes: bool,
 }

@@ -1,4 +1,5 @@
-//! What is known of each schedule.
+//! What is known of each schedule. Each `let _start` reads a field for the prover alone, who then has what the type says of the
+//! whole.
 
 ghost use Rattle.std.specs.Prelude.{◌≡◌, ◌≤◌, ℕ, List, Ok};
 ghost use Rattle.mip_schedule.specs.Contents.{Content};

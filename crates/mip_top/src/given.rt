@@ -57,7 +57,7 @@ pub fn room_for(all: IoResult<Args>) -> usize
     }
 }
 
-/// The same by the first word behind the program's name.
+/// How many bytes of the output may wait, by the first word behind the program's name.
 fn room_behind(word: Option<String>) -> usize
     ensures { result ≡ room_by (option_map string_bytes word) }
 {

@@ -34,6 +34,7 @@ pub fn run_hub<S: Source, K: Sink, C: Clock, L: Link>(
     ensures no_fewer { (S.faults source.old ≤ S.faults source.new) × (K.faults sink.old ≤ K.faults sink.new) × (L.faults link.old ≤ L.faults link.new) }
     ensures clock { clock.new ≡ clock.old }
 {
+    // A hub reads no clock: this names the argument, and does nothing.
     let _ = clock;
     let bytes = match read_input(alloc, source) {
         Ok(bytes) => bytes,

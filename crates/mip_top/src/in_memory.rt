@@ -20,7 +20,7 @@ pub fn mip_in_memory(alloc: Global, words: &[String], input: &[u8]) -> Result<Ou
     Ok(Output { status, text })
 }
 
-/// The same into a sink that never fails.
+/// The program over an outside that never fails, into a sink that its caller has.
 fn tell_in_memory(
     alloc: Global,
     words: &[String],

@@ -54,7 +54,7 @@ pub fn run<S: Source, K: Sink + Drop, C: Clock, L: Link>(
     Status::of(attempt(alloc, given, source, sink, clock, link)).0
 }
 
-/// The same, where memory may run out before it begins.
+/// The program over what it is given, where memory may run out before it begins.
 fn attempt<S: Source, K: Sink + Drop, C: Clock, L: Link>(
     alloc: Global,
     given: IoResult<Args>,

@@ -3,9 +3,9 @@ use mip_words::Memory;
 /// Why a packet did not enter a tunnel.
 #[derive(Clone, Copy, Debug, PartialEq, Eq)]
 pub enum EntryFault {
-    /// Its hop limit is below 2.
+    /// The packet's hop limit is below 2.
     Hop,
-    /// It is longer than the body of a packet may be, 65,535 bytes.
+    /// The packet is longer than the body of a packet may be, 65,535 bytes.
     TooBig,
     /// Memory has run out.
     Memory,

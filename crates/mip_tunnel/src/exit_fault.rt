@@ -4,10 +4,10 @@ use mip_words::Address;
 /// Why a packet did not leave a tunnel.
 #[derive(Clone, Copy, Debug, PartialEq, Eq)]
 pub enum ExitFault {
-    /// Its proto is not 41.
+    /// The packet's proto is not 41.
     NotTunnel,
-    /// It comes from somebody else than the tunnel's entry.
+    /// The packet comes from somebody else than the tunnel's entry.
     WrongEntry { seen: Address },
-    /// Its body is no packet.
+    /// The packet's body is no packet.
     Inner(NotPacket),
 }

@@ -36,7 +36,7 @@ pub fn judge(
     verdict(now, secrets, cache, own, &registration, update.message).verdict
 }
 
-/// The same of an update that was read, with the key that the verdict names.
+/// What becomes of an update that was read, with the key that the verdict names.
 pub fn verdict(
     now: Moment,
     secrets: &Secrets,

@@ -31,7 +31,7 @@ const CAREOF: Address = Address(0x2001_0db8_0003_0000_0000_0000_0000_0077);
 struct Row {
     at: u64,
     call: Call,
-    /// Its answers, a line each.
+    /// The agent's answers, a line each.
     told: &'static [&'static str],
 }
 

@@ -7,9 +7,9 @@ use std::io::{Error, ErrorKind, Read, Result, Write};
 /// What a call does.
 #[derive(Clone, Copy)]
 pub enum Turn {
-    /// It moves so many bytes at most.
+    /// The turn moves so many bytes at most.
     Moves(usize),
-    /// It fails.
+    /// The turn fails.
     Fails,
 }
 
