@@ -16,6 +16,7 @@ ghost use Rattle.mip_rules_correspondent.specs.Transitions.{Stands, with_turn};
 ghost use Rattle.mip_rules_correspondent.specs.Rules.{is_data, is_for_part};
 ghost use Rattle.mip_rules_correspondent.specs.Calls as calls;
 ghost use Rattle.mip_rules_correspondent.specs.Seen.{turn_at, called};
+ghost use Rattle.mip_correspondent.specs.Requirements.{IsTimely, IsOfPart, IsSendable};
 ghost use Rattle.mip_correspondent.specs.Showing.{left, with_kept, Fits};
 
 use crate::accepted_binding::AcceptedBinding;
@@ -148,8 +149,7 @@ impl Correspondent {
         shield: Option<Shield>,
         packet: &[u8],
     ) -> Result<Answers, Memory>
-        requires later { self.old.known.last.0 ≤ now.0 }
-        requires early { now.0 < 2 ^ 62 }
+        requires timely { IsTimely self.old.known.last.0 now.0 }
         ensures answers { IfOk result (λ a. a ≡ answers_of (turn_at self.old now.0 (calls.Take number shield packet.now)).steps) }
         ensures after { OnOk result (self.new ≡ called self.old now.0 (calls.Take number shield packet.now)) }
         ensures stands { (room numbers : ℕ) (past : List (Stamped Step)) → Stands room numbers past self.old.known →
@@ -179,10 +179,8 @@ impl Correspondent {
         number: u64,
         packet: &PacketRef<'_>,
     ) -> Result<Answers, Memory>
-        requires later { self.old.known.last.0 ≤ now.0 }
-        requires early { now.0 < 2 ^ 62 }
-        requires kind { IsTrue (is_for_part packet.now.head.proto (message_in (tree packet.now))) }
-        requires plain { IsTrue (is_routable_if_any packet.now.head.home) }
+        requires timely { IsTimely self.old.known.last.0 now.0 }
+        requires packet { IsOfPart packet.now }
         ensures answers { IfOk result (λ a. a ≡ answers_of (turn_at self.old now.0 (calls.Part number (tree packet.now))).steps) }
         ensures after { OnOk result (self.new ≡ called self.old now.0 (calls.Part number (tree packet.now))) }
         ensures stands { (room numbers : ℕ) (past : List (Stamped Step)) → Stands room numbers past self.old.known →
@@ -218,8 +216,7 @@ impl Correspondent {
     /// Asks the care-of address that is held for a home for a Binding Update; `idle` where none is held. After
     /// want of memory the node is as it was.
     pub fn refresh(&mut self, alloc: Global, now: Moment, home: Address) -> Result<Answers, Memory>
-        requires later { self.old.known.last.0 ≤ now.0 }
-        requires early { now.0 < 2 ^ 62 }
+        requires timely { IsTimely self.old.known.last.0 now.0 }
         ensures answers { IfOk result (λ a. a ≡ answers_of (turn_at self.old now.0 (calls.Refresh home)).steps) }
         ensures after { OnOk result (self.new ≡ called self.old now.0 (calls.Refresh home)) }
         ensures stands { (room numbers : ℕ) (past : List (Stamped Step)) → Stands room numbers past self.old.known →
@@ -244,11 +241,8 @@ impl Correspondent {
         proto: u8,
         payload: &[u8],
     ) -> Result<Answers, Memory>
-        requires later { self.old.known.last.0 ≤ now.0 }
-        requires early { now.0 < 2 ^ 62 }
-        requires data { IsTrue (is_data proto) }
-        requires proto { IsFalse (names_no_body proto) }
-        requires short { length payload.now ≤ 512 }
+        requires timely { IsTimely self.old.known.last.0 now.0 }
+        requires data { IsSendable proto payload.now }
         ensures answers { IfOk result (λ a. a ≡ answers_of (turn_at self.old now.0 (calls.Send to proto payload.now)).steps) }
         ensures after { OnOk result (self.new ≡ called self.old now.0 (calls.Send to proto payload.now)) }
         ensures stands { (room numbers : ℕ) (past : List (Stamped Step)) → Stands room numbers past self.old.known →

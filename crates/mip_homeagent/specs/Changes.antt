@@ -1,7 +1,7 @@
 -- What a call changes: the registration that it accepts.
-use Rattle.std.specs.Prelude.{◌≡◌, ℕ, List, [], ◌++◌, Bool, true, false, Option, Some, None}
+use Rattle.std.specs.Prelude.{◌≡◌, ℕ, List, [], ◌++◌, Bool, true, false, Option, Some, None, Result, IfOk, OnErr, option_map}
 use Rattle.mip_words.specs.declared.address.Address.{Address}
-use Rattle.mip_outside.specs.Places.{with_claim, without_claim}
+use Rattle.mip_outside.specs.Places.{Around, with_claim, without_claim}
 use Rattle.mip_updates.specs.declared.registration.Registration.{Registration}
 use Rattle.mip_updates.specs.Registrations.{home_of, deletes}
 use Rattle.mip_entries.specs.declared.answer.Answer.{Answer}
@@ -47,6 +47,14 @@ claims_held (Some false) home claims = without_claim home.0 claims
 abbrev pub claims_with : Option Change → Claiming
 claims_with None claims = claims
 claims_with (Some c) claims = claims_held c.holding c.home claims
+
+-- what a call makes of its place: its claims change by what the call answers, and are as they were where it fails; what no call
+-- of a place changes stays, and it is the same place
+pub record ChangesClaims {A E : Type 0} (result : Result A E) (claiming : A → Claiming) (before after : Around) (old new : Option (ℕ → Bool)) (is_same : Type 0) : Type 0 where
+  pub claims : IfOk result (λ a. new ≡ option_map (claiming a) old)
+  pub left : OnErr result (new ≡ old)
+  pub around : after ≡ before
+  pub same : is_same
 
 -- an address is claimed with the first registration, and given up with the deregistration
 abbrev pub holding_of : (held ends : Bool) → Option Bool

@@ -1,5 +1,5 @@
 -- What always holds of what a home agent keeps.
-use Rattle.std.specs.Prelude.{◌≡◌, ◌≤◌, List, true}
+use Rattle.std.specs.Prelude.{◌≡◌, ◌≤◌, ◌<◌, ◌^◌, ℕ, List, true}
 use Rattle.std.specs.List.{AllByRecursion}
 use Rattle.mip_words.specs.Addresses.{is_routable}
 use Rattle.mip_outside.specs.Places.{Around}
@@ -27,3 +27,9 @@ pub record IsSound (k : Known) : Type 0 where
 -- a place has room for each home that is served
 abbrev pub HasRoom : Around → Known → Type 0
 HasRoom around k = AllByRecursion (λ s. around.room s.home.0 ≡ true) k.homes
+
+-- what a call with a packet asks for: its moment is small, and no earlier than the last; its place has room
+pub record IsReady (around : Around) (now : ℕ) (k : Known) : Type 0 where
+  pub early : now < 2 ^ 62
+  pub later : k.last ≤ now
+  pub room : HasRoom around k

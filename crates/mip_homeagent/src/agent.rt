@@ -16,7 +16,8 @@ ghost use Rattle.mip_rules_agent.specs.Rules.{bench};
 ghost use Rattle.mip_rules_agent.specs.Refusing.{KeepsTables};
 ghost use Rattle.mip_reception.specs.Refusing.{refuses};
 ghost use Rattle.mip_rules_agent.specs.Seen.{turn_at, called};
-ghost use Rattle.mip_homeagent.specs.Soundness.{HasRoom};
+ghost use Rattle.mip_homeagent.specs.Changes.{ChangesClaims};
+ghost use Rattle.mip_homeagent.specs.Soundness.{IsReady};
 
 use crate::agent_state::AgentState;
 use crate::answering::note_ends;
@@ -140,10 +141,8 @@ impl HomeAgent {
         ensures after { OnOk result (self.new ≡ called self.old now.0 calls.Tick) }
         ensures stands { (serves : List Address) (past : List (Stamped Step)) → Stands serves past self.old.known →
             OnOk result (Stands serves (with_turn past (turn_at self.old now.0 calls.Tick)) self.new.known) }
-        ensures claims { OnOk result (P.claims place.new ≡ option_map (claims_by (turn_at self.old now.0 calls.Tick).steps) (P.claims place.old)) }
-        ensures left { OnErr result (P.claims place.new ≡ P.claims place.old) }
-        ensures around { P.around place.new ≡ P.around place.old }
-        ensures same { P.is_same place.old place.new }
+        ensures place { ChangesClaims result (λ _. claims_by (turn_at self.old now.0 calls.Tick).steps)
+            (P.around place.old) (P.around place.new) (P.claims place.old) (P.claims place.new) (P.is_same place.old place.new) }
         ensures last { OnOk result (self.new.known.last ≡ now.0) }
         ensures err { OnErr result (self.new ≡ self.old) }
     {
@@ -198,18 +197,14 @@ impl HomeAgent {
         shield: Option<Shield>,
         packet: &[u8],
     ) -> Result<Answers, Memory>
-        requires later { self.old.known.last ≤ now.0 }
-        requires early { now.0 < 2 ^ 62 }
-        requires room { HasRoom (P.around place.old) self.old.known }
+        requires ready { IsReady (P.around place.old) now.0 self.old.known }
         ensures answers { IfOk result (λ a. a ≡ answers_of (turn_at self.old now.0 (calls.Take number shield packet.now (claim_for (P.around place.old) packet.now))).steps) }
         ensures after { OnOk result (self.new ≡ called self.old now.0 (calls.Take number shield packet.now (claim_for (P.around place.old) packet.now))) }
         ensures stands { (serves : List Address) (past : List (Stamped Step)) → Stands serves past self.old.known →
             OnOk result (Stands serves (with_turn past (turn_at self.old now.0 (calls.Take number shield packet.now (claim_for (P.around place.old) packet.now)))) self.new.known) }
-        ensures claims { OnOk result (P.claims place.new ≡ option_map (claims_by (turn_at self.old now.0 (calls.Take number shield packet.now (claim_for (P.around place.old) packet.now))).steps) (P.claims place.old)) }
-        ensures left { OnErr result (P.claims place.new ≡ P.claims place.old) }
+        ensures place { ChangesClaims result (λ _. claims_by (turn_at self.old now.0 (calls.Take number shield packet.now (claim_for (P.around place.old) packet.now))).steps)
+            (P.around place.old) (P.around place.new) (P.claims place.old) (P.claims place.new) (P.is_same place.old place.new) }
         ensures refused { IfOk result (λ a. list_any refuses a ≡ true → KeepsTables self.old.known self.new.known × (P.claims place.new ≡ P.claims place.old)) }
-        ensures around { P.around place.new ≡ P.around place.old }
-        ensures same { P.is_same place.old place.new }
         ensures last { OnOk result (self.new.known.last ≡ now.0) }
         ensures err { OnErr result (self.new ≡ self.old) }
     {

@@ -11,9 +11,9 @@ ghost use Rattle.mip_rules_agent.specs.Calls.{claim_for};
 ghost use Rattle.mip_rules_agent.specs.Questions.{careof_at};
 ghost use Rattle.mip_rules_agent.specs.Rules.{holds_option, standing_of, refuses, by_proto, by_role, after_checks, by_destination, place_in, receives};
 ghost use Rattle.mip_homeagent.specs.Showing.{Goes, Leads, opened};
-ghost use Rattle.mip_homeagent.specs.Changes.{claims_with};
-ghost use Rattle.mip_homeagent.specs.Contexts.{handing_at, claim_of};
-ghost use Rattle.mip_homeagent.specs.Soundness.{HasRoom};
+ghost use Rattle.mip_homeagent.specs.Changes.{claims_with, ChangesClaims};
+ghost use Rattle.mip_homeagent.specs.Contexts.{handing_at, claim_of, IsRead};
+ghost use Rattle.mip_homeagent.specs.Soundness.{IsReady};
 
 use crate::answering::{drop_packet, send};
 use crate::change::Change;
@@ -103,15 +103,10 @@ fn take_message<P: Place>(
     packet: &PacketRef<'_>,
     message: &Message<'_>,
 ) -> Result<Option<Change>, Memory>
-    requires early { context.now.moment.0 < 2 ^ 62 }
-    requires later { context.now.known.now.last ≤ context.now.moment.0 }
+    requires ready { IsReady (P.around place.old) context.now.moment.0 context.now.known.now }
     requires plain { IsTrue (is_routable_if_any packet.now.head.home) }
-    requires room { HasRoom (P.around place.old) context.now.known.now }
     requires empty { answers.old ≡ [] }
-    ensures claims { IfOk result (λ change. P.claims place.new ≡ option_map (claims_with change) (P.claims place.old)) }
-    ensures left { OnErr result (P.claims place.new ≡ P.claims place.old) }
-    ensures around { P.around place.new ≡ P.around place.old }
-    ensures same { P.is_same place.old place.new }
+    ensures place { ChangesClaims result claims_with (P.around place.old) (P.around place.new) (P.claims place.old) (P.claims place.new) (P.is_same place.old place.new) }
     ensures shows { IfOk result (λ change. Leads (by_role (handing_at context.now (claim_of (P.around place.old) packet.now.head)) (tree packet.now) (Some (said message.now))) context.now.moment.0 (opened context.now.moment.0 context.now.known.now) answers.old answers.new change) }
 {
     match registration_of(packet.head.source, packet.head.home, message) {
@@ -132,16 +127,11 @@ fn answer_role<P: Place>(
     packet: &PacketRef<'_>,
     message: &Option<Message<'_>>,
 ) -> Result<Option<Change>, Memory>
-    requires early { context.now.moment.0 < 2 ^ 62 }
-    requires later { context.now.known.now.last ≤ context.now.moment.0 }
+    requires ready { IsReady (P.around place.old) context.now.moment.0 context.now.known.now }
     requires plain { IsTrue (is_routable_if_any packet.now.head.home) }
     requires short { length packet.now.body.now ≤ 65535 }
-    requires room { HasRoom (P.around place.old) context.now.known.now }
     requires empty { answers.old ≡ [] }
-    ensures claims { IfOk result (λ change. P.claims place.new ≡ option_map (claims_with change) (P.claims place.old)) }
-    ensures left { OnErr result (P.claims place.new ≡ P.claims place.old) }
-    ensures around { P.around place.new ≡ P.around place.old }
-    ensures same { P.is_same place.old place.new }
+    ensures place { ChangesClaims result claims_with (P.around place.old) (P.around place.new) (P.claims place.old) (P.claims place.new) (P.is_same place.old place.new) }
     ensures shows { IfOk result (λ change. Leads (by_role (handing_at context.now (claim_of (P.around place.old) packet.now.head)) (tree packet.now) (option_map said message.now)) context.now.moment.0 (opened context.now.moment.0 context.now.known.now) answers.old answers.new change) }
 {
     match message {
@@ -161,18 +151,10 @@ fn take_own<P: Place>(
     place: &mut P,
     packet: &PacketRef<'_>,
 ) -> Result<Option<Change>, Memory>
-    requires early { context.now.moment.0 < 2 ^ 62 }
-    requires later { context.now.known.now.last ≤ context.now.moment.0 }
-    requires plain { IsTrue (is_routable_if_any packet.now.head.home) }
-    requires short { length packet.now.body.now ≤ 65535 }
-    requires placed { packet.now.place ≡ place_in context.now.bytes.now (tree packet.now) }
-    requires near { packet.now.place < 2 ^ 32 - 1 }
-    requires room { HasRoom (P.around place.old) context.now.known.now }
+    requires ready { IsReady (P.around place.old) context.now.moment.0 context.now.known.now }
+    requires read { IsRead context.now.bytes.now packet.now }
     requires empty { answers.old ≡ [] }
-    ensures claims { IfOk result (λ change. P.claims place.new ≡ option_map (claims_with change) (P.claims place.old)) }
-    ensures left { OnErr result (P.claims place.new ≡ P.claims place.old) }
-    ensures around { P.around place.new ≡ P.around place.old }
-    ensures same { P.is_same place.old place.new }
+    ensures place { ChangesClaims result claims_with (P.around place.old) (P.around place.new) (P.claims place.old) (P.claims place.new) (P.is_same place.old place.new) }
     ensures shows { IfOk result (λ change. Leads (by_destination (handing_at context.now (claim_of (P.around place.old) packet.now.head)) (tree packet.now) None) context.now.moment.0 (opened context.now.moment.0 context.now.known.now) answers.old answers.new change) }
 {
     match check(packet, standing(context, &packet.head)) {
@@ -192,19 +174,11 @@ fn take_packet<P: Place>(
     place: &mut P,
     packet: &PacketRef<'_>,
 ) -> Result<Option<Change>, Memory>
-    requires early { context.now.moment.0 < 2 ^ 62 }
-    requires later { context.now.known.now.last ≤ context.now.moment.0 }
-    requires plain { IsTrue (is_routable_if_any packet.now.head.home) }
-    requires short { length packet.now.body.now ≤ 65535 }
+    requires ready { IsReady (P.around place.old) context.now.moment.0 context.now.known.now }
+    requires read { IsRead context.now.bytes.now packet.now }
     requires long { 40 ≤ length context.now.bytes.now }
-    requires placed { packet.now.place ≡ place_in context.now.bytes.now (tree packet.now) }
-    requires near { packet.now.place < 2 ^ 32 - 1 }
-    requires room { HasRoom (P.around place.old) context.now.known.now }
     requires empty { answers.old ≡ [] }
-    ensures claims { IfOk result (λ change. P.claims place.new ≡ option_map (claims_with change) (P.claims place.old)) }
-    ensures left { OnErr result (P.claims place.new ≡ P.claims place.old) }
-    ensures around { P.around place.new ≡ P.around place.old }
-    ensures same { P.is_same place.old place.new }
+    ensures place { ChangesClaims result claims_with (P.around place.old) (P.around place.new) (P.claims place.old) (P.claims place.new) (P.is_same place.old place.new) }
     ensures shows { IfOk result (λ change. Leads (by_destination (handing_at context.now (claim_of (P.around place.old) packet.now.head)) (tree packet.now) (careof_at context.now.known.now context.now.moment.0 packet.now.head.destination)) context.now.moment.0 (opened context.now.moment.0 context.now.known.now) answers.old answers.new change) }
 {
     let head = packet.head;
@@ -231,14 +205,9 @@ pub fn receive<P: Place>(
     context: &PacketContext<'_>,
     place: &mut P,
 ) -> Result<Option<Change>, Memory>
-    requires early { context.now.moment.0 < 2 ^ 62 }
-    requires later { context.now.known.now.last ≤ context.now.moment.0 }
-    requires room { HasRoom (P.around place.old) context.now.known.now }
+    requires ready { IsReady (P.around place.old) context.now.moment.0 context.now.known.now }
     requires empty { answers.old ≡ [] }
-    ensures claims { IfOk result (λ change. P.claims place.new ≡ option_map (claims_with change) (P.claims place.old)) }
-    ensures left { OnErr result (P.claims place.new ≡ P.claims place.old) }
-    ensures around { P.around place.new ≡ P.around place.old }
-    ensures same { P.is_same place.old place.new }
+    ensures place { ChangesClaims result claims_with (P.around place.old) (P.around place.new) (P.claims place.old) (P.claims place.new) (P.is_same place.old place.new) }
     ensures shows { IfOk result (λ change. Leads (receives (handing_at context.now (claim_for (P.around place.old) context.now.bytes.now)) (packet_of context.now.bytes.now)) context.now.moment.0 (opened context.now.moment.0 context.now.known.now) answers.old answers.new change) }
 {
     match read_packet(context.bytes) {

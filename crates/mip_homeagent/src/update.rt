@@ -10,7 +10,7 @@ ghost use Rattle.mip_rules_agent.specs.Questions.{is_served};
 ghost use Rattle.mip_rules_agent.specs.Verdicts.{binding_for, by_claim};
 ghost use Rattle.mip_rules_agent.specs.Rules.{acknowledges, denies, answers_if, accepts, claim_with, judged, takes_update};
 ghost use Rattle.mip_homeagent.specs.Showing.{Goes, Leads, opened};
-ghost use Rattle.mip_homeagent.specs.Changes.{claims_held, claims_with, holding_of, holding_by, claim_part, release_part, IsOfHome, answers_change};
+ghost use Rattle.mip_homeagent.specs.Changes.{claims_held, claims_with, ChangesClaims, holding_of, holding_by, claim_part, release_part, IsOfHome, answers_change};
 ghost use Rattle.mip_homeagent.specs.Contexts.{handing_at};
 
 use crate::answering::{
@@ -227,10 +227,7 @@ fn conclude<P: Place>(
     requires plain { IsTrue (is_routable_if_any registration.now.home_option) }
     requires home { IsOfHome registration.now verdict }
     requires unclaimed { claim_part (holding_by held registration.now verdict) ≡ None }
-    ensures claims { IfOk result (λ change. P.claims place.new ≡ option_map (claims_with change) (P.claims place.old)) }
-    ensures left { OnErr result (P.claims place.new ≡ P.claims place.old) }
-    ensures around { P.around place.new ≡ P.around place.old }
-    ensures same { P.is_same place.old place.new }
+    ensures place { ChangesClaims result claims_with (P.around place.old) (P.around place.new) (P.claims place.old) (P.claims place.new) (P.is_same place.old place.new) }
     ensures shows { (claim : Claim) → IfOk result (λ change. Leads (judged (handing_at context.now claim) registration.now held verdict) context.now.moment.0 (opened context.now.moment.0 context.now.known.now) answers.old answers.new change) }
 {
     let holding = holding_by(held, registration, &verdict);
@@ -283,10 +280,7 @@ fn claim_home<P: Place>(
     requires room { (P.around place.old).room (home_of registration.now).0 ≡ true }
     requires lasts { deletes registration.now ≡ false }
     requires empty { answers.old ≡ [] }
-    ensures claims { IfOk result (λ change. P.claims place.new ≡ option_map (claims_with change) (P.claims place.old)) }
-    ensures left { OnErr result (P.claims place.new ≡ P.claims place.old) }
-    ensures around { P.around place.new ≡ P.around place.old }
-    ensures same { P.is_same place.old place.new }
+    ensures place { ChangesClaims result claims_with (P.around place.old) (P.around place.new) (P.claims place.old) (P.claims place.new) (P.is_same place.old place.new) }
     ensures shows { (claim : Claim) → IfOk result (λ change. Leads (judged (handing_at context.now claim) registration.now false (by_claim bench.now registration.now (claim_in (P.around place.old) (home_of registration.now).0))) context.now.moment.0 (opened context.now.moment.0 context.now.known.now) answers.old answers.new change) }
 {
     let accepted = by_claim(bench, registration, Claim::Held);
@@ -315,10 +309,7 @@ fn take_claim<P: Place>(
     requires room { (P.around place.old).room (home_of registration.now).0 ≡ true }
     requires lasts { deletes registration.now ≡ false }
     requires empty { answers.old ≡ [] }
-    ensures claims { IfOk result (λ change. P.claims place.new ≡ option_map (claims_with change) (P.claims place.old)) }
-    ensures left { OnErr result (P.claims place.new ≡ P.claims place.old) }
-    ensures around { P.around place.new ≡ P.around place.old }
-    ensures same { P.is_same place.old place.new }
+    ensures place { ChangesClaims result claims_with (P.around place.old) (P.around place.new) (P.claims place.old) (P.claims place.new) (P.is_same place.old place.new) }
     ensures shows { (claim : Claim) → IfOk result (λ change. Leads (judged (handing_at context.now claim) registration.now held (by_claim bench.now registration.now (claim_with held (claim_in (P.around place.old) (home_of registration.now).0)))) context.now.moment.0 (opened context.now.moment.0 context.now.known.now) answers.old answers.new change) }
 {
     if held {
@@ -342,10 +333,7 @@ pub fn take_update<P: Place>(
     requires plain { IsTrue (is_routable_if_any registration.now.home_option) }
     requires room { is_served context.now.known.now (home_of registration.now) ≡ true → (P.around place.old).room (home_of registration.now).0 ≡ true }
     requires empty { answers.old ≡ [] }
-    ensures claims { IfOk result (λ change. P.claims place.new ≡ option_map (claims_with change) (P.claims place.old)) }
-    ensures left { OnErr result (P.claims place.new ≡ P.claims place.old) }
-    ensures around { P.around place.new ≡ P.around place.old }
-    ensures same { P.is_same place.old place.new }
+    ensures place { ChangesClaims result claims_with (P.around place.old) (P.around place.new) (P.claims place.old) (P.claims place.new) (P.is_same place.old place.new) }
     ensures shows { IfOk result (λ change. Leads (takes_update (handing_at context.now (claim_in (P.around place.old) (home_of registration.now).0)) registration.now) context.now.moment.0 (opened context.now.moment.0 context.now.known.now) answers.old answers.new change) }
 {
     let held = context.known.holds(home_of(registration));

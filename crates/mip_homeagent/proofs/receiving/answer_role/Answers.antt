@@ -1,4 +1,4 @@
-use Rattle.std.proofs.Common.{sym, subst}
+use Rattle.std.proofs.Common.{sym, subst, rules}
 use Rattle.std.specs.Prelude.{Option, option_map}
 use Rattle.mip_ipv6.specs.Packet.{packet as tree}
 use Rattle.mip_mobhdr.specs.declared.message.Message.{Message}
@@ -10,8 +10,8 @@ use Rattle.mip_homeagent.specs.Contexts.{handing_at, claim_of}
 use Rattle.mip_homeagent.proofs.Befores.{unchanged}
 use Rattle.mip_homeagent.proofs.receiving.answer_role.Goals as goal
 
-pub returns-in_ok-take_other-in-None-clause-claims : goal.returns-in_ok-take_other-in-None-clause-claims
-returns-in_ok-take_other-in-None-clause-claims g c = unchanged (g.P.Place.claims c.args.place.now)
+pub returns-in_ok-take_other-in-None-clause-place : goal.returns-in_ok-take_other-in-None-clause-place
+returns-in_ok-take_other-in-None-clause-place g c = record { claims = unchanged (g.P.Place.claims c.args.place.now); left = search rules; around = search rules; same = search rules }
 
 pub returns-in_ok-take_other-in-None-clause-shows : goal.returns-in_ok-take_other-in-None-clause-shows
 returns-in_ok-take_other-in-None-clause-shows g c = λ t shows.

@@ -1,4 +1,4 @@
-use Rattle.std.proofs.Common.{sym, subst, ap, ◌∙◌}
+use Rattle.std.proofs.Common.{sym, subst, ap, ◌∙◌, rules}
 use Rattle.std.specs.Prelude.{Option, IsTrue}
 use Rattle.std.proofs.lemmas.Result.{IfOk-weaker}
 use Rattle.mip_words.specs.declared.address.Address.{Address}
@@ -23,7 +23,7 @@ take_update-requires-clause-plain g c =
     subst (λ (o : Option Address). IsTrue (is_routable_if_any o)) (sym is.1) c.requires.plain
 
 pub take_update-requires-clause-room : goal.take_update-requires-clause-room
-take_update-requires-clause-room g c = λ served. room_served (g.P.Place.around c.args.place.now) c.args.context.now.known.now (home_of c.in-Some.registration) c.requires.room served
+take_update-requires-clause-room g c = λ served. room_served (g.P.Place.around c.args.place.now) c.args.context.now.known.now (home_of c.in-Some.registration) c.requires.ready.room served
 
 pub returns-in-Some-clause-shows : goal.returns-in-Some-clause-shows
 returns-in-Some-clause-shows g c =
@@ -54,5 +54,5 @@ returns-in_ok-drop_packet-in-None-clause-shows g c = λ t shows.
     (ap (λ (o : Option Registration). by_registration h o t) (sym c.in-None.is ∙ c.registration_of.ensures) ∙ sym (role_is h p m t))
     (c.in_ok-drop_packet-in-None.ensures now k unclaimed t shows)
 
-pub returns-in_ok-drop_packet-in-None-clause-claims : goal.returns-in_ok-drop_packet-in-None-clause-claims
-returns-in_ok-drop_packet-in-None-clause-claims g c = unchanged (g.P.Place.claims c.args.place.now)
+pub returns-in_ok-drop_packet-in-None-clause-place : goal.returns-in_ok-drop_packet-in-None-clause-place
+returns-in_ok-drop_packet-in-None-clause-place g c = record { claims = unchanged (g.P.Place.claims c.args.place.now); left = search rules; around = search rules; same = search rules }

@@ -1,4 +1,4 @@
-use Rattle.std.proofs.Common.{ℕ, sym, subst, ap, ◌∙◌}
+use Rattle.std.proofs.Common.{ℕ, sym, subst, ap, ◌∙◌, rules}
 use Rattle.std.specs.Prelude.{Option, Result}
 use Rattle.std.proofs.lemmas.Result.{IfOk-weaker}
 use Rattle.mip_ipv6.specs.Packet.{packet as tree}
@@ -13,8 +13,8 @@ use Rattle.mip_homeagent.specs.Contexts.{handing_at, claim_of}
 use Rattle.mip_homeagent.proofs.Befores.{unchanged}
 use Rattle.mip_homeagent.proofs.receiving.take_own.Goals as goal
 
-pub returns-in_ok-refuse-in-Err-clause-claims : goal.returns-in_ok-refuse-in-Err-clause-claims
-returns-in_ok-refuse-in-Err-clause-claims g c = unchanged (g.P.Place.claims c.args.place.now)
+pub returns-in_ok-refuse-in-Err-clause-place : goal.returns-in_ok-refuse-in-Err-clause-place
+returns-in_ok-refuse-in-Err-clause-place g c = record { claims = unchanged (g.P.Place.claims c.args.place.now); left = search rules; around = search rules; same = search rules }
 
 pub returns-in_ok-refuse-in-Err-clause-shows : goal.returns-in_ok-refuse-in-Err-clause-shows
 returns-in_ok-refuse-in-Err-clause-shows g c = λ t shows.
@@ -24,7 +24,7 @@ returns-in_ok-refuse-in-Err-clause-shows g c = λ t shows.
     let p = tree c.args.packet.now in
     let h = handing_at d (claim_of (g.P.Place.around c.args.place.now) p.head) in
     subst (λ (r : Result (Option Said) Refusal). Shows now k unclaimed c.refuse.new.answers (after_checks h p r t))
-    (sym c.in-Err.ensures.exact ∙ ap (λ (n : ℕ). checked c.standing.result n p) c.requires.placed ∙ ap (λ (s : AddressMatch). checked s (place_in d.bytes.now p) p) c.standing.ensures)
+    (sym c.in-Err.ensures.exact ∙ ap (λ (n : ℕ). checked c.standing.result n p) c.requires.read.placed ∙ ap (λ (s : AddressMatch). checked s (place_in d.bytes.now p) p) c.standing.ensures)
     (c.in_ok-refuse-in-Err.ensures (claim_of (g.P.Place.around c.args.place.now) p.head) now k unclaimed t shows)
 
 pub returns-in-Ok-clause-shows : goal.returns-in-Ok-clause-shows
@@ -36,5 +36,5 @@ returns-in-Ok-clause-shows g c =
     let h = handing_at d (claim_of (g.P.Place.around c.args.place.now) p.head) in
     IfOk-weaker c.answer_role.result _ _ (λ change leads t shows.
     subst (λ (r : Result (Option Said) Refusal). Shows now (with_change change k) (claims_with change) c.answer_role.new.answers (after_checks h p r t))
-    (sym c.in-Ok.ensures.exact ∙ ap (λ (n : ℕ). checked c.standing.result n p) c.requires.placed ∙ ap (λ (s : AddressMatch). checked s (place_in d.bytes.now p) p) c.standing.ensures)
+    (sym c.in-Ok.ensures.exact ∙ ap (λ (n : ℕ). checked c.standing.result n p) c.requires.read.placed ∙ ap (λ (s : AddressMatch). checked s (place_in d.bytes.now p) p) c.standing.ensures)
     (leads t shows)) c.answer_role.ensures.shows

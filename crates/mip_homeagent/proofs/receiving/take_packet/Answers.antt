@@ -1,4 +1,4 @@
-use Rattle.std.proofs.Common.{sym, subst, ◌∙◌}
+use Rattle.std.proofs.Common.{sym, subst, ◌∙◌, rules}
 use Rattle.std.specs.Prelude.{Option}
 use Rattle.std.proofs.lemmas.Result.{IfOk-weaker}
 use Rattle.mip_words.specs.declared.address.Address.{Address}
@@ -10,8 +10,8 @@ use Rattle.mip_homeagent.specs.Contexts.{handing_at, claim_of}
 use Rattle.mip_homeagent.proofs.Befores.{unchanged}
 use Rattle.mip_homeagent.proofs.receiving.take_packet.Goals as goal
 
-pub returns-in_ok-intercept-in-Some-clause-claims : goal.returns-in_ok-intercept-in-Some-clause-claims
-returns-in_ok-intercept-in-Some-clause-claims g c = unchanged (g.P.Place.claims c.args.place.now)
+pub returns-in_ok-intercept-in-Some-clause-place : goal.returns-in_ok-intercept-in-Some-clause-place
+returns-in_ok-intercept-in-Some-clause-place g c = record { claims = unchanged (g.P.Place.claims c.args.place.now); left = search rules; around = search rules; same = search rules }
 
 pub returns-in_ok-intercept-in-Some-clause-shows : goal.returns-in_ok-intercept-in-Some-clause-shows
 returns-in_ok-intercept-in-Some-clause-shows g c = λ t shows.

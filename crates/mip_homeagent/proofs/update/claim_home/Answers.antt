@@ -1,7 +1,6 @@
-use Rattle.std.proofs.Common.{List, Bool, true, false, sym, subst, ap, ◌∙◌}
+use Rattle.std.proofs.Common.{rules, List, false, sym, subst, ap, ◌∙◌}
 use Rattle.std.proofs.lemmas.Result.{IfOk-weaker}
 use Rattle.std.specs.Option.{option_map}
-use Rattle.std.specs.Prelude.{[]}
 use Rattle.std.specs.Result.{IfOk}
 use Rattle.mip_words.specs.declared.address.Address.{Address}
 use Rattle.mip_updates.specs.Registrations.{home_of}
@@ -17,24 +16,34 @@ use Rattle.mip_homeagent.specs.Contexts.{handing_at}
 use Rattle.mip_homeagent.proofs.Befores.{claims_given, claims_denied}
 use Rattle.mip_homeagent.proofs.update.claim_home.Goals as goal
 
-pub returns-then-is_held-clause-claims : goal.returns-then-is_held-clause-claims
-returns-then-is_held-clause-claims g c =
+pub returns-then-is_held-clause-place : goal.returns-then-is_held-clause-place
+returns-then-is_held-clause-place g c =
     let r = c.args.registration.now in
     let old = g.P.Place.claims c.args.place.now in
-    claims_given c.args.bench.now r c.in_ok-change.change c.claim-claim.result (home_of r) old (g.P.Place.claims c.claim-claim.new.self)
-    (sym c.is_held.ensures ∙ c.if-is_held.true) c.requires.lasts
-    (c.claim-claim.ensures.claims ∙ ap (λ (a : Address). option_map (with_claim (is_held c.claim-claim.result) a.0) old) c.home_of.ensures)
-    (c.in_ok-change.ensures.claims ∙ ap (λ (v : HomeVerdict). claims_held (holding_by false r v) (home_of r)) c.by_claim-accepted.ensures)
+    record {
+      claims = claims_given c.args.bench.now r c.in_ok-change.change c.claim-claim.result (home_of r) old (g.P.Place.claims c.claim-claim.new.self)
+          (sym c.is_held.ensures ∙ c.if-is_held.true) c.requires.lasts
+          (c.claim-claim.ensures.claims ∙ ap (λ (a : Address). option_map (with_claim (is_held c.claim-claim.result) a.0) old) c.home_of.ensures)
+          (c.in_ok-change.ensures.claims ∙ ap (λ (v : HomeVerdict). claims_held (holding_by false r v) (home_of r)) c.by_claim-accepted.ensures);
+      left = search rules;
+      around = search rules;
+      same = search rules;
+    }
 
-pub returns-else-is_held-clause-claims : goal.returns-else-is_held-clause-claims
-returns-else-is_held-clause-claims g c =
+pub returns-else-is_held-clause-place : goal.returns-else-is_held-clause-place
+returns-else-is_held-clause-place g c =
     let r = c.args.registration.now in
     let old = g.P.Place.claims c.args.place.now in
-    IfOk-weaker c.deny_claim.result _ _ (λ change with.
-    claims_denied c.args.bench.now r change c.claim-claim.result (home_of r) old (g.P.Place.claims c.claim-claim.new.self)
-    (sym c.is_held.ensures ∙ c.if-is_held.false)
-    (c.claim-claim.ensures.claims ∙ ap (λ (a : Address). option_map (with_claim (is_held c.claim-claim.result) a.0) old) c.home_of.ensures) with)
-    c.deny_claim.ensures.claims
+    let denied = sym c.is_held.ensures ∙ c.if-is_held.false in
+    let is = c.claim-claim.ensures.claims ∙ ap (λ (a : Address). option_map (with_claim (is_held c.claim-claim.result) a.0) old) c.home_of.ensures in
+    record {
+      claims = IfOk-weaker c.deny_claim.result _ _ (λ change with.
+          claims_denied c.args.bench.now r change c.claim-claim.result (home_of r) old (g.P.Place.claims c.claim-claim.new.self) denied is with)
+          c.deny_claim.ensures.claims;
+      left = search rules;
+      around = search rules;
+      same = search rules;
+    }
 
 pub returns-else-is_held-clause-shows : goal.returns-else-is_held-clause-shows
 returns-else-is_held-clause-shows g c = λ asked.

@@ -1,5 +1,4 @@
-use Rattle.std.proofs.Common.{Bool, true, false, sym, subst}
-use Rattle.std.specs.Prelude.{Result}
+use Rattle.std.proofs.Common.{Bool, true, sym, subst}
 use Rattle.std.specs.Result.{IfOk}
 use Rattle.mip_outside.specs.Places.{claim_in}
 use Rattle.mip_updates.specs.Registrations.{home_of}

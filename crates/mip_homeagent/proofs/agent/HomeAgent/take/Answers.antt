@@ -1,4 +1,4 @@
-use Rattle.std.proofs.Common.{List, ℕ, Bool, ap, sym, subst, ◌∙◌}
+use Rattle.std.proofs.Common.{rules, List, ap, sym, subst, ◌∙◌}
 use Rattle.std.specs.Prelude.{true, ◌≡◌}
 use Rattle.std.specs.List.{list_any}
 use Rattle.mip_entries.specs.declared.answer.Answer.{Answer}
@@ -50,8 +50,13 @@ returns-clause-stands g c = λ serves past stands.
     subst (λ (k : Known). Stands serves (with_turn past (turn_at s c.args.now.0 (call g c))) k) (sym (ap (λ (s : AgentSeen). s.known) (ended g c).after))
     (call-stands serves past s.known c.args.now.0 s.identity (call g c) stands)
 
-pub returns-clause-claims : goal.returns-clause-claims
-returns-clause-claims g c = c.in_ok-change.ensures.claims ∙ claims_told (g.P.Place.claims c.args.place.now) _ _ (ended g c).claimed
+pub returns-clause-place : goal.returns-clause-place
+returns-clause-place g c = record {
+  claims = c.in_ok-change.ensures.place.claims ∙ claims_told (g.P.Place.claims c.args.place.now) _ _ (ended g c).claimed;
+  left = search rules;
+  around = search rules;
+  same = search rules;
+}
 
 pub returns-clause-last : goal.returns-clause-last
 returns-clause-last g c =
@@ -64,5 +69,5 @@ returns-clause-refused g c = λ told.
     let claim = claim_for (g.P.Place.around c.args.place.now) c.args.packet.now in
     let keeps = refused-call s.identity s.known c.args.now.0 c.args.number c.args.shield c.args.packet.now claim (subst (λ (l : List Answer). list_any refuses l ≡ true) (ended g c).answered told) in (
       subst (λ (s' : AgentSeen). KeepsTables s.known s'.known) (sym (ended g c).after) keeps.0,
-      c.in_ok-change.ensures.claims ∙ claims_told (g.P.Place.claims c.args.place.now) _ _ (ended g c).claimed ∙ claims_told (g.P.Place.claims c.args.place.now) (claims_by (turn_at s c.args.now.0 (call g c)).steps) unclaimed (λ claims. sym (keeps.1 claims)) ∙ sym (unchanged (g.P.Place.claims c.args.place.now)),
+      c.in_ok-change.ensures.place.claims ∙ claims_told (g.P.Place.claims c.args.place.now) _ _ (ended g c).claimed ∙ claims_told (g.P.Place.claims c.args.place.now) (claims_by (turn_at s c.args.now.0 (call g c)).steps) unclaimed (λ claims. sym (keeps.1 claims)) ∙ sym (unchanged (g.P.Place.claims c.args.place.now)),
     )

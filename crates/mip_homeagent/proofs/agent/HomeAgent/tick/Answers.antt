@@ -1,4 +1,4 @@
-use Rattle.std.proofs.Common.{List, ap, sym, subst, ◌∙◌}
+use Rattle.std.proofs.Common.{rules, List, ap, sym, subst, ◌∙◌}
 use Rattle.mip_rules_agent.specs.Known.{Known}
 use Rattle.mip_rules_agent.specs.Calls as calls
 use Rattle.mip_rules_agent.specs.Calls.{Call}
@@ -32,8 +32,13 @@ returns-clause-answers g c = (ended g c).answered
 pub returns-clause-after : goal.returns-clause-after
 returns-clause-after g c = (ended g c).after
 
-pub returns-clause-claims : goal.returns-clause-claims
-returns-clause-claims g c = c.release_all.ensures.claims ∙ ap (λ (es : List Ending). option_map (claims_released es) (g.P.Place.claims c.args.place.now)) c.deref-3.ensures.value ∙ claims_told (g.P.Place.claims c.args.place.now) _ _ (ended g c).claimed
+pub returns-clause-place : goal.returns-clause-place
+returns-clause-place g c = record {
+  claims = c.release_all.ensures.claims ∙ ap (λ (es : List Ending). option_map (claims_released es) (g.P.Place.claims c.args.place.now)) c.deref-3.ensures.value ∙ claims_told (g.P.Place.claims c.args.place.now) _ _ (ended g c).claimed;
+  left = search rules;
+  around = search rules;
+  same = search rules;
+}
 
 pub returns-clause-stands : goal.returns-clause-stands
 returns-clause-stands g c = λ serves past stands.
