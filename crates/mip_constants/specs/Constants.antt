@@ -39,7 +39,7 @@ initial_bindack_timeout_first_reg = 1500
 abbrev pub max_bindack_timeout : ℕ
 max_bindack_timeout = 32000
 
--- so many updates go to one peer within a second at most
+-- so many updates go to one peer within a second at most: for definitions outside this repository
 abbrev pub max_update_rate : ℕ
 max_update_rate = 3
 

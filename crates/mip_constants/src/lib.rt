@@ -34,7 +34,8 @@ pub const INITIAL_BINDACK_TIMEOUT_FIRST_REG: u64 = 1_500;
 /// The longest time between two sendings.
 pub const MAX_BINDACK_TIMEOUT: u64 = 32_000;
 
-/// So many updates go to one peer within a second at most.
+/// So many updates go to one peer within a second at most. Code here counts them by the three fields of `mip_bulist::Recent`: this
+/// is for callers outside this repository.
 pub const MAX_UPDATE_RATE: usize = 3;
 
 /// After this a discovery request is sent again for the first time.

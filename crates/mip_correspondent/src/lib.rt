@@ -13,6 +13,8 @@ mod test_init;
 mod update;
 
 pub use correspondent::Correspondent;
+pub use part::is_for_part;
+
+// For callers outside this repository.
 pub use mip_rules_correspondent::Verdict;
 pub use mip_verdict::judge;
-pub use part::is_for_part;

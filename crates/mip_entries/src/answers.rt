@@ -30,13 +30,6 @@ impl Answers {
         })
     }
 
-    /// The answers of a list, in its order.
-    pub(crate) fn of_vec(list: Vec<Answer>) -> Answers
-        ensures { result ≡ list.items }
-    {
-        Answers { list }
-    }
-
     /// Appends an answer.
     pub fn push(&mut self, answer: Answer) -> Result<(), Memory>
         ensures ok { OnOk result (self.new ≡ self.old ++ answer ∷ []) }

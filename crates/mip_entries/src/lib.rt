@@ -8,7 +8,6 @@ mod answers;
 mod completing;
 mod entry;
 mod history;
-mod reserved;
 mod update_seen;
 mod widths;
 
@@ -16,5 +15,4 @@ pub use answer::Answer;
 pub use answers::Answers;
 pub use entry::Entry;
 pub use history::History;
-pub use reserved::ReservedAnswers;
 pub use update_seen::UpdateSeen;

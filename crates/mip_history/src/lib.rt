@@ -11,5 +11,7 @@ pub use laws::{
     packets_are_numbered, registered_was_sent, registrations_have_their_update,
     repeats_come_after_rounds, rows_are_last_acceptances, work_stays_within_its_wait,
 };
+
+// For callers outside this repository.
 pub use mip_entries::{Answer, Answers, Entry, History, UpdateSeen};
 pub use mip_provenance::{Mark, Watch};

@@ -2,9 +2,9 @@
 
 ghost use Rattle.std.specs.Prelude.{◌≡◌, ◌++◌, IfOk, OnOk};
 ghost use Rattle.mip_words.specs.Hex.{unhex_exact};
-ghost use Rattle.mip_lines.specs.HexFields.{hex_number, number_hex, address_in, address_hex, hex_field, hex_text};
+ghost use Rattle.mip_lines.specs.HexFields.{hex_number, address_in, address_hex, hex_field, hex_text};
 
-use mip_words::{Address, Bytes, Memory, hex_exact, put_hex, u64_at, u64_bytes};
+use mip_words::{Address, Bytes, Memory, hex_exact, put_hex, u64_at};
 use std::alloc::Global;
 
 /// The address whose 32 digits the field is.
@@ -59,13 +59,6 @@ pub fn put_address(out: &mut Bytes, address: Address) -> Result<(), Memory>
     ensures { OnOk result (out.new ≡ out.old ++ address_hex address) }
 {
     put_hex(out, &address.bytes())
-}
-
-/// Appends the 16 digits of a number.
-pub fn put_hex_u64(out: &mut Bytes, number: u64) -> Result<(), Memory>
-    ensures { OnOk result (out.new ≡ out.old ++ number_hex 8 number) }
-{
-    put_hex(out, &u64_bytes(number))
 }
 
 /// Appends the digits of the bytes, or `-` for none.

@@ -1,4 +1,4 @@
-ghost use Rattle.std.specs.Prelude.{None};
+ghost use Rattle.std.specs.Prelude.{◌≡◌, None};
 ghost use Rattle.mip_outside.specs.Places.{free};
 
 use crate::claim::Claim;
@@ -10,7 +10,11 @@ use mip_words::Address;
 pub struct FreePlace;
 
 impl FreePlace {
-    pub fn new() -> FreePlace {
+    /// A place with room for each address, where nobody else holds one and no claims are told.
+    pub fn new() -> FreePlace
+        ensures around { ⟦<FreePlace as Place>⟧.around result ≡ free }
+        ensures claims { ⟦<FreePlace as Place>⟧.claims result ≡ None }
+    {
         FreePlace
     }
 }
