@@ -202,7 +202,8 @@ impl HomeAgent {
         ensures after { OnOk result (self.new ≡ called self.old now.0 (calls.Take number shield packet.now (claim_for (P.around place.old) packet.now))) }
         ensures stands { (serves : List Address) (past : List (Stamped Step)) → Stands serves past self.old.known →
             OnOk result (Stands serves (with_turn past (turn_at self.old now.0 (calls.Take number shield packet.now (claim_for (P.around place.old) packet.now)))) self.new.known) }
-        ensures place { ChangesClaims result (λ _. claims_by (turn_at self.old now.0 (calls.Take number shield packet.now (claim_for (P.around place.old) packet.now))).steps)
+        ensures place { ChangesClaims result
+            (λ _. claims_by (turn_at self.old now.0 (calls.Take number shield packet.now (claim_for (P.around place.old) packet.now))).steps)
             (P.around place.old) (P.around place.new) (P.claims place.old) (P.claims place.new) (P.is_same place.old place.new) }
         ensures refused { IfOk result (λ a. list_any refuses a ≡ true → KeepsTables self.old.known self.new.known × (P.claims place.new ≡ P.claims place.old)) }
         ensures last { OnOk result (self.new.known.last ≡ now.0) }

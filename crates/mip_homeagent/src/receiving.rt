@@ -106,7 +106,8 @@ fn take_message<P: Place>(
     requires ready { IsReady (P.around place.old) context.now.moment.0 context.now.known.now }
     requires plain { IsTrue (is_routable_if_any packet.now.head.home) }
     requires empty { answers.old ≡ [] }
-    ensures place { ChangesClaims result claims_with (P.around place.old) (P.around place.new) (P.claims place.old) (P.claims place.new) (P.is_same place.old place.new) }
+    ensures place { ChangesClaims result claims_with
+        (P.around place.old) (P.around place.new) (P.claims place.old) (P.claims place.new) (P.is_same place.old place.new) }
     ensures shows { IfOk result (λ change. Leads (by_role (handing_at context.now (claim_of (P.around place.old) packet.now.head)) (tree packet.now) (Some (said message.now))) context.now.moment.0 (opened context.now.moment.0 context.now.known.now) answers.old answers.new change) }
 {
     match registration_of(packet.head.source, packet.head.home, message) {
@@ -131,7 +132,8 @@ fn answer_role<P: Place>(
     requires plain { IsTrue (is_routable_if_any packet.now.head.home) }
     requires short { length packet.now.body.now ≤ 65535 }
     requires empty { answers.old ≡ [] }
-    ensures place { ChangesClaims result claims_with (P.around place.old) (P.around place.new) (P.claims place.old) (P.claims place.new) (P.is_same place.old place.new) }
+    ensures place { ChangesClaims result claims_with
+        (P.around place.old) (P.around place.new) (P.claims place.old) (P.claims place.new) (P.is_same place.old place.new) }
     ensures shows { IfOk result (λ change. Leads (by_role (handing_at context.now (claim_of (P.around place.old) packet.now.head)) (tree packet.now) (option_map said message.now)) context.now.moment.0 (opened context.now.moment.0 context.now.known.now) answers.old answers.new change) }
 {
     match message {
@@ -154,7 +156,8 @@ fn take_own<P: Place>(
     requires ready { IsReady (P.around place.old) context.now.moment.0 context.now.known.now }
     requires read { IsRead context.now.bytes.now packet.now }
     requires empty { answers.old ≡ [] }
-    ensures place { ChangesClaims result claims_with (P.around place.old) (P.around place.new) (P.claims place.old) (P.claims place.new) (P.is_same place.old place.new) }
+    ensures place { ChangesClaims result claims_with
+        (P.around place.old) (P.around place.new) (P.claims place.old) (P.claims place.new) (P.is_same place.old place.new) }
     ensures shows { IfOk result (λ change. Leads (by_destination (handing_at context.now (claim_of (P.around place.old) packet.now.head)) (tree packet.now) None) context.now.moment.0 (opened context.now.moment.0 context.now.known.now) answers.old answers.new change) }
 {
     match check(packet, standing(context, &packet.head)) {
@@ -178,7 +181,8 @@ fn take_packet<P: Place>(
     requires read { IsRead context.now.bytes.now packet.now }
     requires long { 40 ≤ length context.now.bytes.now }
     requires empty { answers.old ≡ [] }
-    ensures place { ChangesClaims result claims_with (P.around place.old) (P.around place.new) (P.claims place.old) (P.claims place.new) (P.is_same place.old place.new) }
+    ensures place { ChangesClaims result claims_with
+        (P.around place.old) (P.around place.new) (P.claims place.old) (P.claims place.new) (P.is_same place.old place.new) }
     ensures shows { IfOk result (λ change. Leads (by_destination (handing_at context.now (claim_of (P.around place.old) packet.now.head)) (tree packet.now) (careof_at context.now.known.now context.now.moment.0 packet.now.head.destination)) context.now.moment.0 (opened context.now.moment.0 context.now.known.now) answers.old answers.new change) }
 {
     let head = packet.head;
@@ -207,7 +211,8 @@ pub fn receive<P: Place>(
 ) -> Result<Option<Change>, Memory>
     requires ready { IsReady (P.around place.old) context.now.moment.0 context.now.known.now }
     requires empty { answers.old ≡ [] }
-    ensures place { ChangesClaims result claims_with (P.around place.old) (P.around place.new) (P.claims place.old) (P.claims place.new) (P.is_same place.old place.new) }
+    ensures place { ChangesClaims result claims_with
+        (P.around place.old) (P.around place.new) (P.claims place.old) (P.claims place.new) (P.is_same place.old place.new) }
     ensures shows { IfOk result (λ change. Leads (receives (handing_at context.now (claim_for (P.around place.old) context.now.bytes.now)) (packet_of context.now.bytes.now)) context.now.moment.0 (opened context.now.moment.0 context.now.known.now) answers.old answers.new change) }
 {
     match read_packet(context.bytes) {

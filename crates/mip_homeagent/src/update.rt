@@ -227,7 +227,8 @@ fn conclude<P: Place>(
     requires plain { IsTrue (is_routable_if_any registration.now.home_option) }
     requires home { IsOfHome registration.now verdict }
     requires unclaimed { claim_part (holding_by held registration.now verdict) ≡ None }
-    ensures place { ChangesClaims result claims_with (P.around place.old) (P.around place.new) (P.claims place.old) (P.claims place.new) (P.is_same place.old place.new) }
+    ensures place { ChangesClaims result claims_with
+        (P.around place.old) (P.around place.new) (P.claims place.old) (P.claims place.new) (P.is_same place.old place.new) }
     ensures shows { (claim : Claim) → IfOk result (λ change. Leads (judged (handing_at context.now claim) registration.now held verdict) context.now.moment.0 (opened context.now.moment.0 context.now.known.now) answers.old answers.new change) }
 {
     let holding = holding_by(held, registration, &verdict);
@@ -280,7 +281,8 @@ fn claim_home<P: Place>(
     requires room { (P.around place.old).room (home_of registration.now).0 ≡ true }
     requires lasts { deletes registration.now ≡ false }
     requires empty { answers.old ≡ [] }
-    ensures place { ChangesClaims result claims_with (P.around place.old) (P.around place.new) (P.claims place.old) (P.claims place.new) (P.is_same place.old place.new) }
+    ensures place { ChangesClaims result claims_with
+        (P.around place.old) (P.around place.new) (P.claims place.old) (P.claims place.new) (P.is_same place.old place.new) }
     ensures shows { (claim : Claim) → IfOk result (λ change. Leads (judged (handing_at context.now claim) registration.now false (by_claim bench.now registration.now (claim_in (P.around place.old) (home_of registration.now).0))) context.now.moment.0 (opened context.now.moment.0 context.now.known.now) answers.old answers.new change) }
 {
     let accepted = by_claim(bench, registration, Claim::Held);
@@ -309,7 +311,8 @@ fn take_claim<P: Place>(
     requires room { (P.around place.old).room (home_of registration.now).0 ≡ true }
     requires lasts { deletes registration.now ≡ false }
     requires empty { answers.old ≡ [] }
-    ensures place { ChangesClaims result claims_with (P.around place.old) (P.around place.new) (P.claims place.old) (P.claims place.new) (P.is_same place.old place.new) }
+    ensures place { ChangesClaims result claims_with
+        (P.around place.old) (P.around place.new) (P.claims place.old) (P.claims place.new) (P.is_same place.old place.new) }
     ensures shows { (claim : Claim) → IfOk result (λ change. Leads (judged (handing_at context.now claim) registration.now held (by_claim bench.now registration.now (claim_with held (claim_in (P.around place.old) (home_of registration.now).0)))) context.now.moment.0 (opened context.now.moment.0 context.now.known.now) answers.old answers.new change) }
 {
     if held {
@@ -333,7 +336,8 @@ pub fn take_update<P: Place>(
     requires plain { IsTrue (is_routable_if_any registration.now.home_option) }
     requires room { is_served context.now.known.now (home_of registration.now) ≡ true → (P.around place.old).room (home_of registration.now).0 ≡ true }
     requires empty { answers.old ≡ [] }
-    ensures place { ChangesClaims result claims_with (P.around place.old) (P.around place.new) (P.claims place.old) (P.claims place.new) (P.is_same place.old place.new) }
+    ensures place { ChangesClaims result claims_with
+        (P.around place.old) (P.around place.new) (P.claims place.old) (P.claims place.new) (P.is_same place.old place.new) }
     ensures shows { IfOk result (λ change. Leads (takes_update (handing_at context.now (claim_in (P.around place.old) (home_of registration.now).0)) registration.now) context.now.moment.0 (opened context.now.moment.0 context.now.known.now) answers.old answers.new change) }
 {
     let held = context.known.holds(home_of(registration));
