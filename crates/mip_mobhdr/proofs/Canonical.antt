@@ -87,9 +87,7 @@ room_of (HomeInit c o) fits = record { least_room = omega arith; short = omega a
 room_of (CareofInit c o) fits = record { least_room = omega arith; short = omega arith }
 room_of (HomeTest i c t o) (i_fits, c_fits, long) = record { least_room = omega (arith, long); short = omega (arith, long) }
 room_of (CareofTest i c t o) (i_fits, c_fits, long) = record { least_room = omega (arith, long); short = omega (arith, long) }
-room_of (Update s a h l k t o) fits = record { least_room = omega arith; short = omega arith }
-room_of (Acknowledgement s k q t o) fits = record { least_room = omega arith; short = omega arith }
-room_of (Error s h o) fits = record { least_room = omega arith; short = omega arith }
+room_of _ fits = record { least_room = omega arith; short = omega arith }
 
 pub field_short : (m : Said) → HasWidths m → length (field_bytes m) ≤ 18
 field_short m fits = (room_of m fits).short

@@ -157,13 +157,7 @@ message_spelled source destination body m are e =
 
 small_type : (m : Said) → type_of m ≤ 7
 small_type (Refresh o) = omega arith
-small_type (HomeInit c o) = omega arith
-small_type (CareofInit c o) = omega arith
-small_type (HomeTest i c t o) = omega arith
-small_type (CareofTest i c t o) = omega arith
-small_type (Update s a h l k t o) = omega arith
-small_type (Acknowledgement s k q t o) = omega arith
-small_type (Error s h o) = omega arith
+small_type _ = omega arith
 
 fields_again : (m : Said) (body : List ℕ) → IsFields m body → fields_of (type_of m) body ≡ Ok m
 unfolding fields_of refresh_of home_init_of careof_init_of home_test_of careof_test_of update_of acknowledgement_of error_of

@@ -3,10 +3,8 @@
 ghost use Rattle.std.specs.Prelude.{◌≡◌, ◌≤◌, OnOk, IsTrue, IsFalse, length};
 ghost use Rattle.mip_ipv6.specs.Packet.{names_no_body};
 ghost use Rattle.mip_rules_correspondent.specs.Rules.{is_data};
-ghost use Rattle.mip_ipv6.specs.Reading.{packet_of};
 ghost use Rattle.mip_rules_mobile.specs.Calls as calls;
 ghost use Rattle.mip_tunnel.specs.Tunnel.{hop_of};
-ghost use Rattle.mip_rules_mobile.specs.Sendings.{is_mobility};
 ghost use Rattle.mip_rules_mobile.specs.Doing.{handles};
 ghost use Rattle.mip_rules_mobile.specs.Transitions.{Transition};
 ghost use Rattle.mip_call_context.specs.Seen.{Shows};
@@ -16,9 +14,7 @@ use crate::moving::{self, detach};
 use crate::receiving::take_bytes;
 use crate::ringing::ring_all;
 use crate::sending::transmit;
-use mip_call_context::{CallContext, ask_refresh, go_out};
-use mip_constants::protocol::MOBILITY_HEADER;
-use mip_ipv6::read_packet;
+use mip_call_context::{CallContext, ask_refresh, go_out, is_mobility};
 use mip_nonce::Secrets;
 use mip_outside::Claim;
 use mip_registration::solicit;
@@ -108,16 +104,6 @@ pub fn restart(alloc: Global, context: &mut CallContext, secrets: Secrets) -> Re
     moving::restart(alloc, context, secrets)
 }
 
-/// Whether a packet carries a mobility message.
-fn is_signal(packet: &[u8]) -> bool
-    ensures { result ≡ is_mobility (packet_of packet.now) }
-{
-    match read_packet(packet) {
-        Ok(packet) => packet.head.proto == MOBILITY_HEADER,
-        Err(_) => false,
-    }
-}
-
 /// The mobile is asked to send a packet from its home address while it is away. It is one that a tunnel takes.
 pub fn tunnel(alloc: Global, context: &mut CallContext, inner: &[u8]) -> Result<(), Memory>
     requires long { 40 ≤ length inner.now }
@@ -125,7 +111,7 @@ pub fn tunnel(alloc: Global, context: &mut CallContext, inner: &[u8]) -> Result<
     requires fits { length inner.now ≤ 65535 }
     ensures { (t : Transition) → Shows context.old t → OnOk result (Shows context.new (handles (calls.Tunnel inner.now) t)) }
 {
-    let is_signal = is_signal(inner);
+    let signals = is_mobility(inner);
     let packet = Bytes::copy(alloc, inner)?;
-    go_out(alloc, context, is_signal, packet)
+    go_out(alloc, context, signals, packet)
 }

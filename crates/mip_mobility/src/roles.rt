@@ -120,6 +120,17 @@ fn heard(peer: Address, cookie: Cookie, index: u16, token: Token) -> Heard
     }
 }
 
+/// What an acknowledgement says of its update.
+fn ack_of(status: u8, sequence: u16, lifetime: u16) -> Ack
+    ensures { result ≡ record { status = status; sequence = sequence; lifetime = lifetime } }
+{
+    Ack {
+        status,
+        sequence,
+        lifetime,
+    }
+}
+
 /// A mobility message that is not for the correspondent part.
 fn take_message(
     alloc: Global,
@@ -158,18 +169,12 @@ fn take_message(
             options,
             ..
         } => {
-            let ack = Ack {
-                status,
-                sequence,
-                lifetime,
-            };
+            let ack = ack_of(status, sequence, lifetime);
             take_ack(alloc, context, handed, packet, &ack, &options)
         }
         Message::Error { status, home, .. } => take_error(context, number, peer, status, home),
         Message::Refresh { .. } => take_refresh(alloc, context, number, peer),
-        Message::HomeInit { .. } | Message::CareofInit { .. } | Message::Update { .. } => {
-            context.drop_packet(number, Why::Role)
-        }
+        _ => context.drop_packet(number, Why::Role),
     }
 }
 

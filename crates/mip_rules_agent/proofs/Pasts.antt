@@ -18,8 +18,7 @@ use Rattle.mip_rules_agent.specs.declared.home_binding.HomeBinding.{HomeBinding}
 use Rattle.mip_rules_agent.specs.declared.served.Served.{Served}
 use Rattle.mip_rules_agent.specs.Known.{Known}
 use Rattle.mip_rules_agent.specs.Calls as calls
-use Rattle.mip_rules_agent.specs.Calls.{Call}
-use Rattle.mip_rules_agent.specs.Steps.{Step, Called, Sends, Registers, Claims, Releases, Denies, Drops, Rang, is_call}
+use Rattle.mip_rules_agent.specs.Steps.{Step, Called, Registers, Claims, Releases, is_call}
 use Rattle.mip_rules_agent.specs.Questions.{last_after, key_of, bound_to, holding, homes_after, agents_after, plan_after, after, new_home, fresh, known, served_at, is_served, binding_of, holds}
 use Rattle.mip_rules_agent.specs.Transitions.{Stands}
 use Rattle.mip_rules_agent.specs.Pasts.{is_one_of, is_registration_of, registered_by, last_binding, is_claim_of, is_claim, is_claimed, plan_in, last_plan, heard_in, all_heard}

@@ -15,7 +15,7 @@ use Rattle.mip_icmp.specs.declared.fault.IcmpFault.{IcmpFault}
 use Rattle.mip_icmp.specs.Said as icmp
 use Rattle.mip_icmp.specs.Reading.{icmp_of}
 use Rattle.mip_mobhdr.specs.Said.{Said}
-use Rattle.mip_mobhdr.specs.Said.Said.{Refresh, HomeInit, CareofInit, HomeTest, CareofTest, Update, Acknowledgement, Error}
+use Rattle.mip_mobhdr.specs.Said.Said.{Update}
 use Rattle.mip_tunnel.specs.Tunnel.{hop_of}
 use Rattle.mip_discovery.specs.Heard.{live}
 use Rattle.mip_reception.specs.declared.refusal.Refusal.{Refusal}

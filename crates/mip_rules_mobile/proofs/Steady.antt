@@ -9,7 +9,7 @@ use Rattle.mip_rules_correspondent.specs.declared.identity.Identity.{Identity}
 use Rattle.mip_rules_mobile.specs.declared.attachment.Attachment.{Attachment}
 use Rattle.mip_rules_correspondent.specs.Calls as parts
 use Rattle.mip_rules_mobile.specs.Calls.{Call}
-use Rattle.mip_rules_mobile.specs.Steps.{Step, Called, Parts, Notes, Sends, Unsends, Drops, Claims, Releases, FindsTaken, Arrives, Detaches, Restarts, Registers, Unregisters, IsRefused, Resequences, Seeks, SeeksAgain, GivesUp, Finds, Chooses, Learns, Meets, Tries, Updates, Forgets, Binds, Unbinds, Waits, Stops, Rings}
+use Rattle.mip_rules_mobile.specs.Steps.{Step, Called, Parts, Notes, Sends, Unsends, Drops, Claims, Releases, FindsTaken, Arrives, Detaches, Restarts}
 use Rattle.mip_rules_mobile.specs.Known.{Known}
 use Rattle.mip_rules_mobile.specs.HomeQuestions.{standing_after}
 use Rattle.mip_rules_mobile.specs.Questions.{after, part_after}

@@ -12,7 +12,7 @@ use Rattle.mip_entries.specs.Stamped.{Stamped}
 use Rattle.mip_rules_correspondent.specs.Seen.{CorrespondentSeen}
 use Rattle.mip_rules_mobile.specs.declared.attachment.Attachment.TheVariants.{AtHome}
 use Rattle.mip_rules_mobile.specs.declared.numbering.Numbering.{Numbering}
-use Rattle.mip_rules_mobile.specs.Steps.{Step, Called, Parts, Notes, Sends, Unsends, Drops, Claims, Releases, FindsTaken, Arrives, Detaches, Restarts, Registers, Unregisters, IsRefused, Resequences, Seeks, SeeksAgain, GivesUp, Finds, Chooses, Learns, Meets, Tries, Updates, Forgets, Binds, Unbinds, Waits, Stops, Rings, is_call}
+use Rattle.mip_rules_mobile.specs.Steps.{Step, Called, is_call}
 use Rattle.mip_rules_mobile.specs.Known.{Known}
 use Rattle.mip_rules_mobile.specs.HomeQuestions.{standing_said, registered_said, latest_said, agent_said, owes_said, Next, next_said, next_to, with_next, renumbered, home_of}
 use Rattle.mip_rules_mobile.specs.DiscoveryQuestions.{found_said, chosen_said, is_choice}

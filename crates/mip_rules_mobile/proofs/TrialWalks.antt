@@ -6,7 +6,7 @@ use Rattle.mip_words.specs.declared.address.Address.{Address}
 use Rattle.mip_words.specs.declared.token.Cookie.{Cookie}
 use Rattle.mip_bulist.specs.declared.aim.Aim.TheVariants.{Bind, Delete}
 use Rattle.mip_bulist.specs.declared.any.Any.{Any}
-use Rattle.mip_bulist.specs.declared.any.Any.TheVariants.{Idle, Probing, Proved, Pending, Bound}
+use Rattle.mip_bulist.specs.declared.any.Any.TheVariants.{Probing, Proved, Pending}
 use Rattle.mip_bulist.specs.declared.made.Made.{Made}
 use Rattle.mip_bulist.specs.declared.refused.Refused.{Refused}
 use Rattle.mip_bulist.specs.declared.refused.Refused.TheVariants as refused

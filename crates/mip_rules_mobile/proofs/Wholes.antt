@@ -7,7 +7,7 @@ use Rattle.mip_packet_builders.proofs.Longs.{IsLong, packet-long, data-long, mes
 use Rattle.mip_rules_correspondent.specs.declared.identity.Identity.{Identity}
 use Rattle.mip_rules_correspondent.proofs.Wholes as parts
 use Rattle.mip_rules_mobile.specs.Calls.{Call}
-use Rattle.mip_rules_mobile.specs.Sendings.{Inner, OfPart, AsksHome, Given, Sending, FromHome, ByTunnel, AsksCareof, RegistersHome, DeregistersHome, SendsData, Discovers, Solicits, PeerUpdate, inner_packet, registration_packet, deregistration_packet, discovery_packet, solicitation_packet, packet_of_sending, update_bytes, update_packet}
+use Rattle.mip_rules_mobile.specs.Sendings.{Inner, OfPart, AsksHome, Given, Sending, FromHome, ByTunnel, AsksCareof, RegistersHome, DeregistersHome, PeerUpdate, inner_packet, registration_packet, deregistration_packet, discovery_packet, solicitation_packet, packet_of_sending, update_bytes, update_packet}
 use Rattle.mip_rules_mobile.specs.Known.{Known}
 use Rattle.mip_rules_mobile.specs.Doing.{turn_of}
 use Rattle.mip_rules_mobile.specs.Fitting.{IsInner, IsSentBy}

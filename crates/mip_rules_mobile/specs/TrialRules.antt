@@ -3,7 +3,7 @@ use Rattle.std.specs.Prelude.{ℕ, zero, suc, ◌+◌, Bool, ◌==◌, if◌then
 use Rattle.mip_words.specs.declared.address.Address.{Address}
 use Rattle.mip_bulist.specs.declared.aim.Aim.TheVariants.{Bind, Delete}
 use Rattle.mip_bulist.specs.declared.any.Any.{Any}
-use Rattle.mip_bulist.specs.declared.any.Any.TheVariants.{Idle, Probing, Proved, Pending, Bound}
+use Rattle.mip_bulist.specs.declared.any.Any.TheVariants.{Probing, Proved, Pending}
 use Rattle.mip_bulist.specs.declared.made.Made.{Made}
 use Rattle.mip_bulist.specs.declared.refused.Refused.{Refused}
 use Rattle.mip_bulist.specs.declared.refused.Refused.TheVariants as refused

@@ -33,7 +33,7 @@ pub use head::{head_field, seed_line, version_line};
 pub use kept_address::KeptAddress;
 pub use kept_ends::KeptEnds;
 pub use laws::{few, lawful, names_found, spelling_read, waits_are_short};
-pub use mip_symbols::{Declaration, Declarations, Name, Reason, Sort, place_of};
+pub use mip_symbols::{Declaration, Declarations, Name, Reason};
 pub use schedule::Schedule;
 pub use schedule_reading::read_schedule;
 pub use update_ends::UpdateEnds;

@@ -135,8 +135,7 @@ module _ {S : Type 0} (s : Setup) (says : Entry → Option S) (d : S) (n : ℕ) 
     where
       kinds : (kind : Kind) → tells s says d (emptied_by_kind m run kind) ≡ tells s says d run
       kinds (Correspondent room) = refl
-      kinds (Agent preference life room serves) = refl
-      kinds (Mobile agent) = refl
+      kinds _ = refl
 
       by : (o : Option Host) → tells s says d (emptied_by_host m run o) ≡ tells s says d run
       by None = refl

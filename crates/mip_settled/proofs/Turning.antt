@@ -163,9 +163,7 @@ module _ {S V : Type 0} (s : Setup) (n : ℕ) (own : Address) (I : Known → Typ
   plain_step from x (Forgets row) is right = refl
   plain_step from x (Binds row peer end renew) is right = entered_own x (entries.Bound myself peer end)
   plain_step from x (Unbinds row peer) is right = entered_own x (entries.Unbound myself peer)
-  plain_step from x (Waits work wait) is right = refl
-  plain_step from x (Stops work) is right = refl
-  plain_step from x (Rings work) is right = refl
+  plain_step from x _ is right = refl
 
   -- in a turn from a run on: the history says what the mobile knows, and it stands there
   module _ (from : ℕ) (start : Run) where
