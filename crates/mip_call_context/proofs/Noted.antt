@@ -29,7 +29,7 @@ neutral-same k at (RegistersHome home careof agent sequence) is = absurd is
 neutral-same k at (DeregistersHome home agent sequence) is = absurd is
 neutral-same k at (Solicits home careof agent identifier) is = absurd is
 
--- what a turn knows is what the context knows
+-- what a transition knows is what the context knows
 pub shows-known : (d : ContextSeen) (t : Transition) → Shows d t → t.known ≡ d.known
 shows-known d t shows = known_of answer_of d.moment d.known d.answers t shows
 

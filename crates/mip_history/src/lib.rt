@@ -12,4 +12,4 @@ pub use laws::{
     repeats_come_after_rounds, rows_are_last_acceptances, work_stays_within_its_wait,
 };
 pub use mip_entries::{Answer, Answers, Entry, History, UpdateSeen};
-pub use mip_provenance::{Mark, Watch};
+pub use mip_provenance::{Mark, WholeHistory};

@@ -11,6 +11,6 @@ mod state;
 mod station;
 
 pub use fault::StationFault;
-pub use mobile::{Mobile, Turned};
+pub use mobile::{Mobile, Outcome};
 pub use state::{AtHome, Away, Detached, State};
 pub use station::Station;

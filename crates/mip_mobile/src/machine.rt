@@ -15,7 +15,7 @@ ghost use Rattle.mip_rules_mobile.specs.Steps.{Called};
 ghost use Rattle.mip_rules_mobile.specs.Known.{Known};
 ghost use Rattle.mip_rules_mobile.specs.Questions.{fresh};
 ghost use Rattle.mip_rules_mobile.specs.Transitions.{begun, noted};
-ghost use Rattle.mip_rules_mobile.specs.Doing.{turn_of};
+ghost use Rattle.mip_rules_mobile.specs.Doing.{transition_of};
 ghost use Rattle.mip_mobility.specs.Seen.{Shows};
 ghost use Rattle.mip_mobile.specs.Handling.{Handles, BreaksOff, IsLeft, moment_of};
 ghost use Rattle.mip_mobile.specs.Stations.{with_clock, with_wire};
@@ -121,11 +121,11 @@ impl<C: Clock + Drop, W: Wire + Drop> Machine<C, W> {
         done: Result<(), Memory>,
     ) -> Result<Answers, StationFault>
         requires { self.old.fault ≡ None }
-        ensures handles { (k : Known) (now : ℕ) (call : Call) → OnOk done (Shows self.old.context (turn_of k now call))
+        ensures handles { (k : Known) (now : ℕ) (call : Call) → OnOk done (Shows self.old.context (transition_of k now call))
             → IfOk result (λ answers. Handles W.gives k now call (W.out self.old.wire) (W.answered self.old.wire) answers self.new.context.known (W.out self.new.wire) (W.answered self.new.wire)) }
-        ensures front { (k : Known) (now : ℕ) (call : Call) → OnOk done (Shows self.old.context (turn_of k now call))
+        ensures front { (k : Known) (now : ℕ) (call : Call) → OnOk done (Shows self.old.context (transition_of k now call))
             → OnErr result (BreaksOff W.gives k now call (W.out self.old.wire) (W.answered self.old.wire) (W.out self.new.wire) (W.answered self.new.wire)) }
-        ensures left { (k : Known) (now : ℕ) (call : Call) → OnOk done (Shows self.old.context (turn_of k now call))
+        ensures left { (k : Known) (now : ℕ) (call : Call) → OnOk done (Shows self.old.context (transition_of k now call))
             → result ≢ Err StationFault.Memory → IsLeft self.new.context k now call }
         ensures clock { self.new.clock ≡ self.old.clock }
         ensures well { OnOk result (self.new.fault ≡ None) }
@@ -145,11 +145,11 @@ impl<C: Clock + Drop, W: Wire + Drop> Machine<C, W> {
         alloc: Global,
         done: Result<(), Memory>,
     ) -> Result<Answers, StationFault>
-        ensures handles { (k : Known) (now : ℕ) (call : Call) → OnOk done (Shows self.old.context (turn_of k now call))
+        ensures handles { (k : Known) (now : ℕ) (call : Call) → OnOk done (Shows self.old.context (transition_of k now call))
             → IfOk result (λ answers. Handles W.gives k now call (W.out self.old.wire) (W.answered self.old.wire) answers self.new.context.known (W.out self.new.wire) (W.answered self.new.wire)) }
-        ensures front { (k : Known) (now : ℕ) (call : Call) → OnOk done (Shows self.old.context (turn_of k now call))
+        ensures front { (k : Known) (now : ℕ) (call : Call) → OnOk done (Shows self.old.context (transition_of k now call))
             → OnErr result (BreaksOff W.gives k now call (W.out self.old.wire) (W.answered self.old.wire) (W.out self.new.wire) (W.answered self.new.wire)) }
-        ensures left { (k : Known) (now : ℕ) (call : Call) → OnOk done (Shows self.old.context (turn_of k now call))
+        ensures left { (k : Known) (now : ℕ) (call : Call) → OnOk done (Shows self.old.context (transition_of k now call))
             → result ≢ Err StationFault.Memory → IsLeft self.new.context k now call }
         ensures rest { (self.new.clock ≡ self.old.clock) × (self.new.fault ≡ self.old.fault) }
         ensures failed { IsErrOf result StationFault.Failed → Rose (W.faults self.old.wire) (W.faults self.new.wire) }
@@ -193,7 +193,7 @@ impl<C: Clock + Drop, W: Wire + Drop> Machine<C, W> {
         shield: Option<Shield>,
         packet: &[u8],
     ) -> Result<(), Memory>
-        ensures shows { OnOk result (Shows self.new.context (turn_of self.old.context.known (moment_of (C.last self.new.clock) self.old.context.moment) (calls.Take number shield packet.now))) }
+        ensures shows { OnOk result (Shows self.new.context (transition_of self.old.context.known (moment_of (C.last self.new.clock) self.old.context.moment) (calls.Take number shield packet.now))) }
         ensures rest { (self.new.wire ≡ self.old.wire) × (self.new.fault ≡ self.old.fault) }
         ensures read { C.ahead self.new.clock ≡ option_map moments_after (C.ahead self.old.clock) }
     {
@@ -222,7 +222,7 @@ impl<C: Clock + Drop, W: Wire + Drop> Machine<C, W> {
 
     #[tactic(auto, unfolding(mip_rules_mobile::specs::Doing::does))]
     fn tick_context(&mut self, alloc: Global) -> Result<(), Memory>
-        ensures shows { OnOk result (Shows self.new.context (turn_of self.old.context.known (moment_of (C.last self.new.clock) self.old.context.moment) calls.Tick)) }
+        ensures shows { OnOk result (Shows self.new.context (transition_of self.old.context.known (moment_of (C.last self.new.clock) self.old.context.moment) calls.Tick)) }
         ensures rest { (self.new.wire ≡ self.old.wire) × (self.new.fault ≡ self.old.fault) }
         ensures read { C.ahead self.new.clock ≡ option_map moments_after (C.ahead self.old.clock) }
     {
@@ -269,7 +269,7 @@ impl<C: Clock + Drop, W: Wire + Drop> Machine<C, W> {
         requires data { IsTrue (is_data proto) }
         requires proto { IsFalse (names_no_body proto) }
         requires short { length payload.now ≤ 512 }
-        ensures shows { OnOk result (Shows self.new.context (turn_of self.old.context.known (moment_of (C.last self.new.clock) self.old.context.moment) (calls.Send to proto payload.now))) }
+        ensures shows { OnOk result (Shows self.new.context (transition_of self.old.context.known (moment_of (C.last self.new.clock) self.old.context.moment) (calls.Send to proto payload.now))) }
         ensures rest { (self.new.wire ≡ self.old.wire) × (self.new.fault ≡ self.old.fault) }
         ensures read { C.ahead self.new.clock ≡ option_map moments_after (C.ahead self.old.clock) }
     {
@@ -298,7 +298,7 @@ impl<C: Clock + Drop, W: Wire + Drop> Machine<C, W> {
 
     #[tactic(auto, unfolding(mip_rules_mobile::specs::Doing::does))]
     fn refresh_context(&mut self, alloc: Global, home: Address) -> Result<(), Memory>
-        ensures shows { OnOk result (Shows self.new.context (turn_of self.old.context.known (moment_of (C.last self.new.clock) self.old.context.moment) (calls.Refresh home))) }
+        ensures shows { OnOk result (Shows self.new.context (transition_of self.old.context.known (moment_of (C.last self.new.clock) self.old.context.moment) (calls.Refresh home))) }
         ensures rest { (self.new.wire ≡ self.old.wire) × (self.new.fault ≡ self.old.fault) }
         ensures read { C.ahead self.new.clock ≡ option_map moments_after (C.ahead self.old.clock) }
     {
@@ -327,7 +327,7 @@ impl<C: Clock + Drop, W: Wire + Drop> Machine<C, W> {
 
     #[tactic(auto, unfolding(mip_rules_mobile::specs::Doing::does))]
     fn ask_context(&mut self, alloc: Global) -> Result<(), Memory>
-        ensures shows { OnOk result (Shows self.new.context (turn_of self.old.context.known (moment_of (C.last self.new.clock) self.old.context.moment) calls.Ask)) }
+        ensures shows { OnOk result (Shows self.new.context (transition_of self.old.context.known (moment_of (C.last self.new.clock) self.old.context.moment) calls.Ask)) }
         ensures rest { (self.new.wire ≡ self.old.wire) × (self.new.fault ≡ self.old.fault) }
         ensures read { C.ahead self.new.clock ≡ option_map moments_after (C.ahead self.old.clock) }
     {
@@ -356,7 +356,7 @@ impl<C: Clock + Drop, W: Wire + Drop> Machine<C, W> {
 
     #[tactic(auto, unfolding(mip_rules_mobile::specs::Doing::does))]
     fn restart_context(&mut self, alloc: Global, secrets: Secrets) -> Result<(), Memory>
-        ensures shows { OnOk result (Shows self.new.context (turn_of self.old.context.known (moment_of (C.last self.new.clock) self.old.context.moment) (calls.Restart secrets))) }
+        ensures shows { OnOk result (Shows self.new.context (transition_of self.old.context.known (moment_of (C.last self.new.clock) self.old.context.moment) (calls.Restart secrets))) }
         ensures rest { (self.new.wire ≡ self.old.wire) × (self.new.fault ≡ self.old.fault) }
         ensures read { C.ahead self.new.clock ≡ option_map moments_after (C.ahead self.old.clock) }
     {
@@ -391,7 +391,7 @@ impl<C: Clock + Drop, W: Wire + Drop> Machine<C, W> {
         requires long { 40 ≤ length inner.now }
         requires hop { 2 ≤ hop_of inner.now }
         requires fits { length inner.now ≤ 65535 }
-        ensures shows { OnOk result (Shows self.new.context (turn_of self.old.context.known (moment_of (C.last self.new.clock) self.old.context.moment) (calls.Tunnel inner.now))) }
+        ensures shows { OnOk result (Shows self.new.context (transition_of self.old.context.known (moment_of (C.last self.new.clock) self.old.context.moment) (calls.Tunnel inner.now))) }
         ensures rest { (self.new.wire ≡ self.old.wire) × (self.new.fault ≡ self.old.fault) }
         ensures read { C.ahead self.new.clock ≡ option_map moments_after (C.ahead self.old.clock) }
     {

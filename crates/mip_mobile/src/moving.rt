@@ -8,7 +8,7 @@ ghost use Rattle.mip_outside.specs.Places.{Around, claim_in, is_held};
 ghost use Rattle.mip_rules_mobile.specs.declared.attachment.Attachment.TheVariants.{AtHome};
 ghost use Rattle.mip_rules_mobile.specs.HomeQuestions.{home_of};
 ghost use Rattle.mip_rules_mobile.specs.MovingRules.{address_under, uses_prefix};
-ghost use Rattle.mip_rules_mobile.specs.Doing.{turn_of};
+ghost use Rattle.mip_rules_mobile.specs.Doing.{transition_of};
 ghost use Rattle.mip_mobility.specs.Seen.{Shows};
 ghost use Rattle.mip_mobile.specs.Placing.{attach_at, leave_at, claims_attached, claims_after_leaving, AreAnswered};
 ghost use Rattle.mip_mobile.specs.Handling.{Handles, BreaksOff, IsLeft, moment_of};
@@ -76,7 +76,7 @@ impl<C: Clock + Drop, W: Wire + Drop> Machine<C, W> {
         of_address: Claim,
     ) -> Result<(), Memory>
         ensures shows { (around : Around) → AreAnswered around self.old.context.known prefix.0 of_home of_address
-            → OnOk result (Shows self.new.context (turn_of self.old.context.known (moment_of (C.last self.new.clock) self.old.context.moment) (attach_at around (home_of self.old.context.known) prefix.0))) }
+            → OnOk result (Shows self.new.context (transition_of self.old.context.known (moment_of (C.last self.new.clock) self.old.context.moment) (attach_at around (home_of self.old.context.known) prefix.0))) }
         ensures rest { (self.new.wire ≡ self.old.wire) × (self.new.fault ≡ self.old.fault) }
         ensures read { C.ahead self.new.clock ≡ option_map moments_after (C.ahead self.old.clock) }
     {
@@ -109,7 +109,7 @@ impl<C: Clock + Drop, W: Wire + Drop> Machine<C, W> {
 
     fn leave_context(&mut self, alloc: Global, of_home: Claim) -> Result<(), Memory>
         ensures shows { (around : Around) → (self.old.context.known.standing ≡ AtHome → of_home ≡ claim_in around (home_of self.old.context.known).0)
-            → OnOk result (Shows self.new.context (turn_of self.old.context.known (moment_of (C.last self.new.clock) self.old.context.moment) (leave_at around (home_of self.old.context.known)))) }
+            → OnOk result (Shows self.new.context (transition_of self.old.context.known (moment_of (C.last self.new.clock) self.old.context.moment) (leave_at around (home_of self.old.context.known)))) }
         ensures rest { (self.new.wire ≡ self.old.wire) × (self.new.fault ≡ self.old.fault) }
         ensures read { C.ahead self.new.clock ≡ option_map moments_after (C.ahead self.old.clock) }
     {

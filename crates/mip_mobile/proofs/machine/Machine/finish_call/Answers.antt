@@ -1,6 +1,6 @@
 use Rattle.std.proofs.Common.{◌≡◌, ◌++◌, subst, ap}
 use Rattle.std.specs.Prelude.{OnOk, option_map}
-use Rattle.mip_rules_mobile.specs.Doing.{turn_of}
+use Rattle.mip_rules_mobile.specs.Doing.{transition_of}
 use Rattle.mip_mobility.specs.Seen.{ContextSeen, Shows}
 use Rattle.mip_mobile.specs.Putting.{PutsAll, PutsFront, puts_of, sends_of}
 use Rattle.mip_mobile.specs.Handling.{Handles, BreaksOff}
@@ -16,7 +16,7 @@ returns-clause-handles g c = λ k now call shown.
     let told = g.W.Wire.out c.send_all.new.wire in
     let puts = g.W.Wire.answered c.args.self.now.wire in
     let puts_after = g.W.Wire.answered c.send_all.new.wire in
-    let shows : Shows context (turn_of k now call) = subst (λ r. OnOk r (Shows context (turn_of k now call))) c.in_ok-done.was shown in
+    let shows : Shows context (transition_of k now call) = subst (λ r. OnOk r (Shows context (transition_of k now call))) c.in_ok-done.was shown in
     if-both (λ answers. PutsAll gives c.in_ok-asked.asked answers × (told ≡ option_map (λ items. items ++ sends_of answers) out)) (λ answers. puts_after ≡ puts ++ puts_of c.in_ok-asked.asked answers)
     (λ answers. Handles gives k now call out puts answers c.take_answers.new.self.known told puts_after) c.send_all.result
     (λ answers took answered.
@@ -35,7 +35,7 @@ returns-clause-front g c = λ k now call shown.
     let told = g.W.Wire.out c.send_all.new.wire in
     let puts = g.W.Wire.answered c.args.self.now.wire in
     let puts_after = g.W.Wire.answered c.send_all.new.wire in
-    let shows : Shows context (turn_of k now call) = subst (λ r. OnOk r (Shows context (turn_of k now call))) c.in_ok-done.was shown in
+    let shows : Shows context (transition_of k now call) = subst (λ r. OnOk r (Shows context (transition_of k now call))) c.in_ok-done.was shown in
     on-errs {P = PutsFront gives c.in_ok-asked.asked out told puts puts_after} {Q = BreaksOff gives k now call out puts told puts_after} c.send_all.result
     (λ front. breaks-off gives k now call context c.in_ok-asked.asked out told puts puts_after shows c.in_ok-asked.ensures.answers front) c.send_all.ensures.front
 
@@ -50,4 +50,4 @@ returns-in_err-asked-clause-front g c = λ k now call shown.
 pub returns-clause-left : goal.returns-clause-left
 returns-clause-left g c = λ k now call shown remembers.
     let context : ContextSeen = c.args.self.now.context in
-    is-left k now call context c.take_answers.new.self (subst (λ r. OnOk r (Shows context (turn_of k now call))) c.in_ok-done.was shown) c.in_ok-asked.ensures.context
+    is-left k now call context c.take_answers.new.self (subst (λ r. OnOk r (Shows context (transition_of k now call))) c.in_ok-done.was shown) c.in_ok-asked.ensures.context
