@@ -35,7 +35,7 @@ use Rattle.mip_rules_correspondent.specs.declared.known.Known.{Known}
 use Rattle.mip_rules_correspondent.specs.Calls as calls
 use Rattle.mip_rules_correspondent.specs.Calls.{Call}
 use Rattle.mip_rules_correspondent.specs.Steps.{Step, Called, Sends, Accepts, Denies, Drops, HandsUp, Idles, answer_of, answers_of}
-use Rattle.mip_rules_correspondent.specs.Doing.{turn_of, data_head, data_sent}
+use Rattle.mip_rules_correspondent.specs.Doing.{transition_of, data_head, data_sent}
 use Rattle.mip_rules_correspondent.specs.Sendings.{Sending, SendsHomeTest, SendsCareofTest, SendsAck, SendsReply, SendsRefresh, SendsData, IsPacketOf, SendsOwn}
 use Rattle.mip_rules_correspondent.proofs.Sendings.{call-own}
 use Rattle.mip_call_context.specs.Outgoing.{CanEnter, CanPass}
@@ -174,5 +174,5 @@ steps-pass : (me : Identity) (c : Call) (now : ℕ) (steps : List Step) → IsSh
 steps-pass me c now [] short all = tt
 steps-pass me c now (step ∷ steps) short all = pass-append (answer_of step) (answers_of steps) (step-passes me c now step short all.0) (steps-pass me c now steps short all.1)
 
-pub part-passes : (me : Identity) (k : Known) (now : ℕ) (c : Call) → IsShort c → AllByRecursion CanPass (answers_of (turn_of me k now c).steps)
-part-passes me k now c short = steps-pass me c now (turn_of me k now c).steps short (call-own me k now c)
+pub part-passes : (me : Identity) (k : Known) (now : ℕ) (c : Call) → IsShort c → AllByRecursion CanPass (answers_of (transition_of me k now c).steps)
+part-passes me k now c short = steps-pass me c now (transition_of me k now c).steps short (call-own me k now c)

@@ -27,7 +27,7 @@ neutral-same k at (SendsData home careof to held proto payload) is = refl
 neutral-same k at (Discovers home careof identifier) is = refl
 neutral-same k at _ is = absurd is
 
--- what a turn knows is what the context knows
+-- what a transition knows is what the context knows
 pub shows-known : (d : ContextSeen) (t : Transition) → Shows d t → t.known ≡ d.known
 shows-known d t shows = known_of answer_of d.moment d.known d.answers t shows
 

@@ -7,7 +7,7 @@ use Rattle.mip_reception.specs.declared.reply.Reply.{Reply}
 use Rattle.mip_reception.specs.Replies.{reply_packet}
 use Rattle.mip_rules_correspondent.specs.Calls as parts
 use Rattle.mip_rules_correspondent.specs.Steps.{answers_of}
-use Rattle.mip_rules_correspondent.specs.Seen.{turn_at}
+use Rattle.mip_rules_correspondent.specs.Seen.{transition_at}
 use Rattle.mip_rules_mobile.specs.declared.attachment.Attachment.{Attachment}
 use Rattle.mip_rules_mobile.specs.declared.attachment.Attachment.TheVariants.{AtHome}
 use Rattle.mip_rules_mobile.specs.Sendings.{Inner, FromHome, ByTunnel}
@@ -43,14 +43,14 @@ passes-push [] a t = refl
 passes-push (x ∷ answers) a t = passes-push answers a (passes_on x t)
 
 -- the answers of the correspondent part, by what the context knows
-pub asks-by : (call : parts.Call) (t : Transition) (k : Known) (now : ℕ) (answers : List Answer) → t.known ≡ k → t.now ≡ now → answers ≡ answers_of (turn_at k.part now call).steps
+pub asks-by : (call : parts.Call) (t : Transition) (k : Known) (now : ℕ) (answers : List Answer) → t.known ≡ k → t.now ≡ now → answers ≡ answers_of (transition_at k.part now call).steps
     → passes_all answers (noted (Parts call) t) ≡ asks_part call t
 unfolding asks_part
 asks-by call t k now answers known moment is =
     ap (λ (l : List Answer). passes_all l (noted (Parts call) t))
     (is
-    ∙ ap (λ (l : Known). answers_of (turn_at l.part now call).steps) (sym known)
-    ∙ ap (λ (n : ℕ). answers_of (turn_at t.known.part n call).steps) (sym moment))
+    ∙ ap (λ (l : Known). answers_of (transition_at l.part now call).steps) (sym known)
+    ∙ ap (λ (n : ℕ). answers_of (transition_at t.known.part n call).steps) (sym moment))
 
 -- what goes back, by what the context knows
 pub replies-by : (source : Address) (packet : List ℕ) (reply : Reply) (t : Transition) (k : Known) (o : Option (List ℕ)) → t.known ≡ k → o ≡ reply_packet (home_of k) source packet reply

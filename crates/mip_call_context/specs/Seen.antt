@@ -27,7 +27,7 @@ pub record IsSound (d : ContextSeen) (address : Address) : Type 0 where
   pub sent : AreEarly d.known.list.rows
   pub registered : IfSome d.known.latest (λ u. u.at.0 < 2 ^ 62)
 
--- the context shows a turn
+-- the context shows a transition
 abbrev pub Shows : ContextSeen → Transition → Type 0
 Shows d t = ShowsAt d.moment d.known d.answers t
 

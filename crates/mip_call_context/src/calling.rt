@@ -7,7 +7,7 @@ ghost use Rattle.mip_inspection.specs.Says.{message_in};
 ghost use Rattle.mip_rules_correspondent.specs.Calls as parts;
 ghost use Rattle.mip_rules_correspondent.specs.Rules.{is_data, is_for_part};
 ghost use Rattle.mip_rules_correspondent.specs.Steps.{answers_of};
-ghost use Rattle.mip_rules_correspondent.specs.Seen.{turn_at};
+ghost use Rattle.mip_rules_correspondent.specs.Seen.{transition_at};
 ghost use Rattle.mip_rules_mobile.specs.Steps.{Parts};
 ghost use Rattle.mip_rules_mobile.specs.Transitions.{Transition, noted};
 ghost use Rattle.mip_call_context.specs.Seen.{Shows};
@@ -30,7 +30,7 @@ impl CallContext {
         requires kind { IsTrue (is_for_part packet.now.head.proto (message_in (tree packet.now))) }
         requires plain { IsTrue (is_routable_if_any packet.now.head.home) }
         ensures shows { (t : Transition) → Shows self.old t → OnOk result (Shows self.new (noted (Parts (parts.Part number (tree packet.now))) t)) }
-        ensures answers { IfOk result (λ a. a ≡ answers_of (turn_at self.old.known.part self.old.moment (parts.Part number (tree packet.now))).steps) }
+        ensures answers { IfOk result (λ a. a ≡ answers_of (transition_at self.old.known.part self.old.moment (parts.Part number (tree packet.now))).steps) }
         ensures pass { IfOk result (λ a. AllByRecursion CanPass a) }
     {
         let answers = self.known.part.part(alloc, self.moment, number, packet)?;
@@ -40,7 +40,7 @@ impl CallContext {
     /// The correspondent part is asked for a Binding Refresh Request to a home.
     pub(crate) fn refresh_part(&mut self, alloc: Global, home: Address) -> Result<Answers, Memory>
         ensures shows { (t : Transition) → Shows self.old t → OnOk result (Shows self.new (noted (Parts (parts.Refresh home)) t)) }
-        ensures answers { IfOk result (λ a. a ≡ answers_of (turn_at self.old.known.part self.old.moment (parts.Refresh home)).steps) }
+        ensures answers { IfOk result (λ a. a ≡ answers_of (transition_at self.old.known.part self.old.moment (parts.Refresh home)).steps) }
         ensures pass { IfOk result (λ a. AllByRecursion CanPass a) }
     {
         let answers = self.known.part.refresh(alloc, self.moment, home)?;
@@ -59,7 +59,7 @@ impl CallContext {
         requires proto { IsFalse (names_no_body proto) }
         requires short { length payload.now ≤ 512 }
         ensures shows { (t : Transition) → Shows self.old t → OnOk result (Shows self.new (noted (Parts (parts.Send to proto payload.now)) t)) }
-        ensures answers { IfOk result (λ a. a ≡ answers_of (turn_at self.old.known.part self.old.moment (parts.Send to proto payload.now)).steps) }
+        ensures answers { IfOk result (λ a. a ≡ answers_of (transition_at self.old.known.part self.old.moment (parts.Send to proto payload.now)).steps) }
         ensures pass { IfOk result (λ a. AllByRecursion CanPass a) }
     {
         let answers = self

@@ -6,15 +6,15 @@ use Rattle.mip_entries.specs.declared.answer.Answer.{Answer}
 use Rattle.mip_entries.specs.declared.entry.Entry.TheVariants as entries
 use Rattle.mip_entries.specs.Stamped.{Stamped}
 use Rattle.mip_rules_correspondent.specs.Calls as correspondent_calls
-use Rattle.mip_rules_correspondent.specs.Transitions as correspondent_turns
+use Rattle.mip_rules_correspondent.specs.Transitions as correspondent_transitions
 use Rattle.mip_rules_correspondent.specs.Steps as correspondents
 use Rattle.mip_rules_correspondent.specs.Doing as correspondent_doing
 use Rattle.mip_rules_agent.specs.Calls as agent_calls
-use Rattle.mip_rules_agent.specs.Transitions as agent_turns
+use Rattle.mip_rules_agent.specs.Transitions as agent_transitions
 use Rattle.mip_rules_agent.specs.Steps as agents
 use Rattle.mip_rules_agent.specs.Doing as agent_doing
 use Rattle.mip_rules_mobile.specs.Calls as mobile_calls
-use Rattle.mip_rules_mobile.specs.Transitions as mobile_turns
+use Rattle.mip_rules_mobile.specs.Transitions as mobile_transitions
 use Rattle.mip_rules_mobile.specs.Steps as mobiles
 use Rattle.mip_rules_mobile.specs.Doing as mobile_doing
 use Rattle.mip_history.specs.Setup.{Setup, Host, Kind}
@@ -22,7 +22,7 @@ use Rattle.mip_history.specs.Setup.Kind.{Correspondent, Agent, Mobile}
 use Rattle.mip_history.specs.Runs.{Run, note, past_at, agent_past_at, mobile_past_at, with_past, with_agent_past, with_mobile_past}
 use Rattle.mip_history.specs.Calls.{Call, for_correspondent, for_agent, for_mobile}
 use Rattle.mip_history.specs.Knowing.{link_or_first, now_in, identity_in, known_in, agent_of, agent_known_in, mobile_known_in, stands_on, around_in}
-use Rattle.mip_history.specs.Nodes.{answered, turned, agent_turned, mobile_turned, asks, by_kind, by_host, acts}
+use Rattle.mip_history.specs.Nodes.{answered, after_transition, after_agent_transition, after_mobile_transition, asks, by_kind, by_host, acts}
 
 module _ (s : Setup) (n : ℕ) (P : Run → Type 0) (nothing : (run : Run) → P run → P (note entries.Idle run))
     (answers : (from : ℕ) (list : List Answer) (run : Run) → P run → P (answered s n from run list)) (run : Run) (p : P run)
@@ -34,19 +34,19 @@ module _ (s : Setup) (n : ℕ) (P : Run → Type 0) (nothing : (run : Run) → P
 
   kind_kept : (own : Address) (call : Call) (kind : Kind) → P (by_kind s n own call run kind)
   kind_kept own call (Correspondent room) =
-      asked_kept (λ c x. turned s n own (correspondent_doing.turn_of (identity_in s x n own room) (known_in s x n room) (now_in s x) c) x) (for_correspondent call) (λ (c : correspondent_calls.Call).
-      let t : correspondent_turns.Transition = correspondent_doing.turn_of (identity_in s run n own room) (known_in s run n room) (now_in s run) c in
-      let past : List (Stamped correspondents.Step) = correspondent_turns.with_turn (past_at run n) t in
+      asked_kept (λ c x. after_transition s n own (correspondent_doing.transition_of (identity_in s x n own room) (known_in s x n room) (now_in s x) c) x) (for_correspondent call) (λ (c : correspondent_calls.Call).
+      let t : correspondent_transitions.Transition = correspondent_doing.transition_of (identity_in s run n own room) (known_in s run n room) (now_in s run) c in
+      let past : List (Stamped correspondents.Step) = correspondent_transitions.with_transition (past_at run n) t in
       answers (link_or_first s own.0) (correspondents.answers_of t.steps) (with_past n past run) (of_correspondent past))
   kind_kept own call (Agent preference life room serves) =
-      asked_kept (λ c x. agent_turned s n own (agent_doing.turn_of (agent_of own preference life room) (agent_known_in x n serves) (now_in s x) c) x) (for_agent (around_in run n None) call) (λ (c : agent_calls.Call).
-      let t : agent_turns.Transition = agent_doing.turn_of (agent_of own preference life room) (agent_known_in run n serves) (now_in s run) c in
-      let past : List (Stamped agents.Step) = agent_turns.with_turn (agent_past_at run n) t in
+      asked_kept (λ c x. after_agent_transition s n own (agent_doing.transition_of (agent_of own preference life room) (agent_known_in x n serves) (now_in s x) c) x) (for_agent (around_in run n None) call) (λ (c : agent_calls.Call).
+      let t : agent_transitions.Transition = agent_doing.transition_of (agent_of own preference life room) (agent_known_in run n serves) (now_in s run) c in
+      let past : List (Stamped agents.Step) = agent_transitions.with_transition (agent_past_at run n) t in
       answers (link_or_first s own.0) (agents.answers_of t.steps) (with_agent_past n past run) (of_agent past))
   kind_kept own call (Mobile agent) =
-      asked_kept (λ c x. mobile_turned s n own (mobile_doing.turn_of (mobile_known_in s x n own agent) (now_in s x) c) x) (for_mobile (around_in run n (Some own.0)) own call) (λ (c : mobile_calls.Call).
-      let t : mobile_turns.Transition = mobile_doing.turn_of (mobile_known_in s run n own agent) (now_in s run) c in
-      let past : List (Stamped mobiles.Step) = mobile_turns.with_turn (mobile_past_at run n) t in
+      asked_kept (λ c x. after_mobile_transition s n own (mobile_doing.transition_of (mobile_known_in s x n own agent) (now_in s x) c) x) (for_mobile (around_in run n (Some own.0)) own call) (λ (c : mobile_calls.Call).
+      let t : mobile_transitions.Transition = mobile_doing.transition_of (mobile_known_in s run n own agent) (now_in s run) c in
+      let past : List (Stamped mobiles.Step) = mobile_transitions.with_transition (mobile_past_at run n) t in
       answers (unwrap_or (stands_on s run n own) 0) (mobiles.answers_of t.steps) (with_mobile_past n past run) (of_mobile past))
 
   pub acts_kept : (call : Call) → P (acts s n call run)

@@ -18,7 +18,7 @@ use Rattle.mip_entries.specs.declared.entry.Entry.TheVariants as entries
 use Rattle.mip_entries.specs.Completed.{node_id}
 use Rattle.mip_entries.specs.Stamped.{Stamped, stamped}
 use Rattle.mip_transitions.specs.Transitions.{known_by, noted_by, StandsBy}
-use Rattle.mip_transitions.proofs.TurnLaws.{none-noted}
+use Rattle.mip_transitions.proofs.TransitionLaws.{none-noted}
 use Rattle.mip_updates.specs.declared.registration.Registration.{Registration}
 use Rattle.mip_updates.specs.Registrations.{home_of, deletes, careof_of}
 use Rattle.mip_rules_agent.specs.declared.home_binding.HomeBinding.{HomeBinding}
@@ -35,10 +35,10 @@ use Rattle.mip_rules_agent.specs.Pasts.{is_one_of}
 use Rattle.mip_rules_agent.specs.Refusing.{is_claim}
 use Rattle.mip_rules_agent.specs.Rules.{bench, claim_with, advertises}
 use Rattle.mip_rules_agent.specs.Soundness.{IsSound}
-use Rattle.mip_rules_agent.specs.Transitions as agent_turns
+use Rattle.mip_rules_agent.specs.Transitions as agent_transitions
 use Rattle.mip_rules_agent.specs.Verdicts.{binding_for}
 use Rattle.mip_rules_agent.specs.Doing as agent_doing
-use Rattle.mip_rules_agent.specs.Doing.{turn_of}
+use Rattle.mip_rules_agent.specs.Doing.{transition_of}
 use Rattle.mip_rules_agent.proofs.Calls.{call-stands}
 use Rattle.mip_rules_agent.proofs.Pasts.{stands-known, served-same, known-served, known-held}
 use Rattle.mip_rules_agent.proofs.VerdictLaws.{sound}
@@ -52,7 +52,7 @@ use Rattle.mip_history.specs.Calls.{Call, Take, Tick, Plan, Hear}
 use Rattle.mip_history.specs.Claims.{claims}
 use Rattle.mip_history.specs.Homes.{gives_up}
 use Rattle.mip_history.specs.Knowing.{link_or_first, now_in, agent_of, agent_known_in, other_than, around_in}
-use Rattle.mip_history.specs.Nodes.{answered, agent_turned, by_kind, by_host, acts}
+use Rattle.mip_history.specs.Nodes.{answered, after_agent_transition, by_kind, by_host, acts}
 use Rattle.mip_history.specs.Restarting.{homes_left}
 use Rattle.mip_history.specs.Permitted.{opened, run_of}
 use Rattle.mip_history.proofs.Keeping.{keeps_gives_up}
@@ -65,30 +65,30 @@ use Rattle.mip_claims.proofs.Ends.{flipped, holds_after, AreApart, AreHeld, apar
 use Rattle.mip_claims.proofs.Agents.{steps_claimings, stamped_claimings, IsHeld, IsMid, mid_other, quiet_known, mid_claimed, more_told, ready_told}
 use Rattle.mip_claims.proofs.Pasts.{answers_pasts}
 
--- a turn that claims and gives up nothing, and leaves the homes as they were
-abbrev Stays : Known → agent_turns.Transition → Type 0
+-- a transition that claims and gives up nothing, and leaves the homes as they were
+abbrev Stays : Known → agent_transitions.Transition → Type 0
 Stays k t = (list_any is_claim t.steps ≡ false) × (t.known.homes ≡ k.homes) × (t.known.ends ≡ k.ends)
 
-stays_sends : (k : Known) (shield : Option Shield) (packet : List ℕ) (t : agent_turns.Transition) → Stays k t → Stays k (agent_turns.noted (Sends shield packet) t)
+stays_sends : (k : Known) (shield : Option Shield) (packet : List ℕ) (t : agent_transitions.Transition) → Stays k t → Stays k (agent_transitions.noted (Sends shield packet) t)
 unfolding noted_by after
 stays_sends k shield packet t is = (none-noted after is_claim (Sends shield packet) t is.0 refl, is.1, is.2)
 
-stays_all : (k : Known) (own : Address) (kk : Known) (now : ℕ) (rows : List HomeRow) (t : agent_turns.Transition) → Stays k t → Stays k (agent_doing.advertises_all own kk now rows t)
+stays_all : (k : Known) (own : Address) (kk : Known) (now : ℕ) (rows : List HomeRow) (t : agent_transitions.Transition) → Stays k t → Stays k (agent_doing.advertises_all own kk now rows t)
 unfolding advertises
 stays_all k own kk now [] t is = is
 stays_all k own kk now (r ∷ rows) t is = stays_all k own kk now rows (advertises own kk now r.home r.careof 0 t) (stays_sends k _ _ t is)
 
-stays_called : (k : Known) (now : ℕ) (c : agent_calls.Call) → Stays k (agent_turns.noted (Called c) (agent_turns.begun now k))
+stays_called : (k : Known) (now : ℕ) (c : agent_calls.Call) → Stays k (agent_transitions.noted (Called c) (agent_transitions.begun now k))
 unfolding noted_by after
 stays_called k now c = (refl, refl, refl)
 
-stays_plan : (me : Identity) (k : Known) (now valid preferred : ℕ) → Stays k (turn_of me k now (agent_calls.Plan valid preferred))
+stays_plan : (me : Identity) (k : Known) (now valid preferred : ℕ) → Stays k (transition_of me k now (agent_calls.Plan valid preferred))
 unfolding agent_doing.does agent_doing.plans
 stays_plan me k now valid preferred =
-    let t : agent_turns.Transition = agent_turns.noted (Called (agent_calls.Plan valid preferred)) (agent_turns.begun now k) in
+    let t : agent_transitions.Transition = agent_transitions.noted (Called (agent_calls.Plan valid preferred)) (agent_transitions.begun now k) in
     stays_all k me.own t.known t.now (rows_at t.now t.known.homes) t (stays_called k now (agent_calls.Plan valid preferred))
 
-stays_hear : (me : Identity) (k : Known) (now : ℕ) (agent : Address) (preference life : ℕ) → Stays k (turn_of me k now (agent_calls.Hear agent preference life))
+stays_hear : (me : Identity) (k : Known) (now : ℕ) (agent : Address) (preference life : ℕ) → Stays k (transition_of me k now (agent_calls.Hear agent preference life))
 unfolding agent_doing.does
 stays_hear me k now agent preference life = stays_called k now (agent_calls.Hear agent preference life)
 
@@ -181,14 +181,14 @@ module _ (s : Setup) (m : ℕ) (own : Address) (preference life room : ℕ) (ser
     abbrev now : ℕ
     now = now_in s run
 
-    abbrev turn : agent_calls.Call → agent_turns.Transition
-    turn c = turn_of me k now c
+    abbrev transition : agent_calls.Call → agent_transitions.Transition
+    transition c = transition_of me k now c
 
     abbrev past : List (Stamped Step)
     past = agent_past_at run m
 
     abbrev middle : agent_calls.Call → Run
-    middle c = with_agent_past m (agent_turns.with_turn past (turn c)) run
+    middle c = with_agent_past m (agent_transitions.with_transition past (transition c)) run
 
     abbrev from : ℕ
     from = link_or_first s own.0
@@ -199,35 +199,35 @@ module _ (s : Setup) (m : ℕ) (own : Address) (preference life room : ℕ) (ser
     start : (c : agent_calls.Call) → IsMid s m none k base (middle c).past
     start c = let on = h.on in record { held = on.held; told = refl }
 
-    stands : agent_turns.Stands serves past k
+    stands : agent_transitions.Stands serves past k
     unfolding known StandsBy
     stands = refl
 
-    known_then : (c : agent_calls.Call) → known serves (agent_turns.with_turn past (turn c)) ≡ (turn c).known
-    known_then c = sym (stands-known serves (agent_turns.with_turn past (turn c)) (turn c).known (call-stands serves past k now me c stands))
+    known_then : (c : agent_calls.Call) → known serves (agent_transitions.with_transition past (transition c)) ≡ (transition c).known
+    known_then c = sym (stands-known serves (agent_transitions.with_transition past (transition c)) (transition c).known (call-stands serves past k now me c stands))
 
     here : (new : List (Stamped Step)) → slice_index_or (slice_set run.agent_pasts m new) m [] ≡ new
     here new =
         let inside : m < length s.hosts = slice_get_within s.hosts m (record { address = own; kind = Agent preference life room serves }) host in
         get_or-set_same run.agent_pasts m new [] (let i = h.agents in omega (arith, i, inside))
 
-    -- a turn by these steps
-    module _ (c : agent_calls.Call) (at : ℕ) (steps : List Step) (is : turn c ≡ by_steps at k steps) where
+    -- a transition by these steps
+    module _ (c : agent_calls.Call) (at : ℕ) (steps : List Step) (is : transition c ≡ by_steps at k steps) where
       abbrev n : Known
       n = known_by after k (stamped at steps)
 
       abbrev final : Run
       final = answered s m from (middle c) (answers_of steps)
 
-      told_then : agent_claimings s.links (agent_turns.with_turn past (turn c)) ≡ agent_claimings s.links past ++ steps_claimings s.links steps
+      told_then : agent_claimings s.links (agent_transitions.with_transition past (transition c)) ≡ agent_claimings s.links past ++ steps_claimings s.links steps
       told_then =
-          ap (λ (u : agent_turns.Transition). agent_claimings s.links (agent_turns.with_turn past u)) is
+          ap (λ (u : agent_transitions.Transition). agent_claimings s.links (agent_transitions.with_transition past u)) is
           ∙ filter_map-append (λ (x : Stamped Step). agent_claiming s.links x.step) past (stamped at steps)
           ∙ ap (λ (l : List Claiming). agent_claimings s.links past ++ l) (stamped_claimings s.links at steps)
 
-      on_turn : IsMid s m none n (base ++ steps_claimings s.links steps) final.past → AreHeld n n.ends → AreApart n.ends → IsAgreedOn (agent_turns.with_turn past (turn c)) final.past
-      on_turn mid had apart =
-          let same : n ≡ known serves (agent_turns.with_turn past (turn c)) = sym (known_then c ∙ ap (λ (u : agent_turns.Transition). u.known) is) in
+      on_transition : IsMid s m none n (base ++ steps_claimings s.links steps) final.past → AreHeld n n.ends → AreApart n.ends → IsAgreedOn (agent_transitions.with_transition past (transition c)) final.past
+      on_transition mid had apart =
+          let same : n ≡ known serves (agent_transitions.with_transition past (transition c)) = sym (known_then c ∙ ap (λ (u : agent_transitions.Transition). u.known) is) in
           let on = h.on in
           record {
             held = subst (λ (x : Known). IsHeld s m none x final.past) same mid.held;
@@ -239,33 +239,33 @@ module _ (s : Setup) (m : ℕ) (own : Address) (preference life room : ℕ) (ser
                 ∙ ap (λ (l : List Claiming). on.front ++ l) (sym told_then);
           }
 
-      finish : IsMid s m none n (base ++ steps_claimings s.links steps) final.past → AreHeld n n.ends → AreApart n.ends → IsAgreed (agent_turned s m own (turn c) run)
+      finish : IsMid s m none n (base ++ steps_claimings s.links steps) final.past → AreHeld n n.ends → AreApart n.ends → IsAgreed (after_agent_transition s m own (transition c) run)
       finish mid had apart =
-          let pasts : final.agent_pasts ≡ slice_set run.agent_pasts m (agent_turns.with_turn past (turn c)) = answers_pasts s m from (answers_of steps) (middle c) in
+          let pasts : final.agent_pasts ≡ slice_set run.agent_pasts m (agent_transitions.with_transition past (transition c)) = answers_pasts s m from (answers_of steps) (middle c) in
           let done : IsAgreed final = record {
-            agents = ap (λ (l : List (List (Stamped Step))). length l) pasts ∙ length-set run.agent_pasts m (agent_turns.with_turn past (turn c)) ∙ h.agents;
+            agents = ap (λ (l : List (List (Stamped Step))). length l) pasts ∙ length-set run.agent_pasts m (agent_transitions.with_transition past (transition c)) ∙ h.agents;
             on = subst (λ (l : List (Stamped Step)). IsAgreedOn l final.past)
-                (sym (ap (λ (l : List (List (Stamped Step))). slice_index_or l m []) pasts ∙ here (agent_turns.with_turn past (turn c)))) (on_turn mid had apart);
+                (sym (ap (λ (l : List (List (Stamped Step))). slice_index_or l m []) pasts ∙ here (agent_transitions.with_transition past (transition c)))) (on_transition mid had apart);
           } in
-          subst (λ (l : List Step). IsAgreed (answered s m from (middle c) (answers_of l))) (sym (ap (λ (u : agent_turns.Transition). u.steps) is)) done
+          subst (λ (l : List Step). IsAgreed (answered s m from (middle c) (answers_of l))) (sym (ap (λ (u : agent_transitions.Transition). u.steps) is)) done
 
-    -- a turn is by its steps
-    by_its_steps : (c : agent_calls.Call) → turn c ≡ by_steps (turn c).now k (turn c).steps
+    -- a transition is by its steps
+    by_its_steps : (c : agent_calls.Call) → transition c ≡ by_steps (transition c).now k (transition c).steps
     unfolding known StandsBy
     by_its_steps c =
-        ap (λ (x : Known). record { now = (turn c).now; known = x; steps = (turn c).steps })
-        (call-stands serves past k now me c stands ∙ fold-append after _ past (stamped (turn c).now (turn c).steps))
+        ap (λ (x : Known). record { now = (transition c).now; known = x; steps = (transition c).steps })
+        (call-stands serves past k now me c stands ∙ fold-append after _ past (stamped (transition c).now (transition c).steps))
 
     -- the agent claims and gives up nothing
-    staying : (c : agent_calls.Call) → Stays k (turn c) → IsAgreed (agent_turned s m own (turn c) run)
+    staying : (c : agent_calls.Call) → Stays k (transition c) → IsAgreed (after_agent_transition s m own (transition c) run)
     staying c is =
         let on = h.on in
-        let steps : List Step = (turn c).steps in
-        let at : ℕ = (turn c).now in
-        let same : (turn c).known ≡ known_by after k (stamped at steps) = ap (λ (u : agent_turns.Transition). u.known) (by_its_steps c) in
-        let had : AreHeld (turn c).known k.ends = subst (λ (homes : List Served). AllByRecursion (λ (e : Ending). option_map_or (λ (x : Served). x.held) (find_by key_of e.home.0 homes) false ≡ true) k.ends) (sym is.1) on.had in
+        let steps : List Step = (transition c).steps in
+        let at : ℕ = (transition c).now in
+        let same : (transition c).known ≡ known_by after k (stamped at steps) = ap (λ (u : agent_transitions.Transition). u.known) (by_its_steps c) in
+        let had : AreHeld (transition c).known k.ends = subst (λ (homes : List Served). AllByRecursion (λ (e : Ending). option_map_or (λ (x : Served). x.held) (find_by key_of e.home.0 homes) false ≡ true) k.ends) (sym is.1) on.had in
         finish c at steps (by_its_steps c) (ready_told s m none at from steps k base (middle c) (still_ready at k steps is.0) (start c))
-        (subst (λ (x : Known). AreHeld x x.ends) same (subst (λ (es : List Ending). AreHeld (turn c).known es) (sym is.2) had))
+        (subst (λ (x : Known). AreHeld x x.ends) same (subst (λ (es : List Ending). AreHeld (transition c).known es) (sym is.2) had))
         (subst (λ (x : Known). AreApart x.ends) same (subst AreApart (sym is.2) on.apart))
 
     -- time goes on
@@ -277,7 +277,7 @@ module _ (s : Setup) (m : ℕ) (own : Address) (preference life room : ℕ) (ser
     unfolding after
     called_ends c = refl
 
-    ticking : IsAgreed (agent_turned s m own (turn agent_calls.Tick) run)
+    ticking : IsAgreed (after_agent_transition s m own (transition agent_calls.Tick) run)
     ticking =
         let on = h.on in
         let c = agent_calls.Tick in
@@ -299,7 +299,7 @@ module _ (s : Setup) (m : ℕ) (own : Address) (preference life room : ℕ) (ser
       abbrev call : agent_calls.Call
       call = agent_calls.Take number shield bytes claim
 
-      module _ (a : IsAccepted me k now number shield bytes claim (turn call)) where
+      module _ (a : IsAccepted me k now number shield bytes claim (transition call)) where
         abbrev b : HomeBinding
         b = binding_for now a.careof a.sequence a.granted
 
@@ -415,15 +415,15 @@ module _ (s : Setup) (m : ℕ) (own : Address) (preference life room : ℕ) (ser
         by_case false true is stops = mid_ready false true (tt, (tt, acked_ready now me a.update a.granted a.update.ack k1))
         by_case false false is stops = mid_new is stops
 
-        accepting : IsAgreed (agent_turned s m own (turn call) run)
+        accepting : IsAgreed (after_agent_transition s m own (transition call) run)
         accepting =
             let held : Bool = holds k (home_of a.update) in
             let ends : Bool = deletes a.update in
             finish call now (steps held ends) a.is (by_case held ends refl refl) (had_then held ends refl refl) (apart_then held ends)
 
-      taking : IsAgreed (agent_turned s m own (turn call) run)
+      taking : IsAgreed (after_agent_transition s m own (transition call) run)
       taking =
-          elim (taking_is me k now number shield bytes claim) as (λ _. IsAgreed (agent_turned s m own (turn call) run)) [
+          elim (taking_is me k now number shield bytes claim) as (λ _. IsAgreed (after_agent_transition s m own (transition call) run)) [
             | inl still ↦ staying call still
             | inr a ↦ accepting a
           ]

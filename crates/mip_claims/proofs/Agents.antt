@@ -1,4 +1,4 @@
--- A turn of a home agent tells what it does about addresses, and the agent holds those that it has claimed.
+-- A transition of a home agent tells what it does about addresses, and the agent holds those that it has claimed.
 use Rattle.std.proofs.Common.{◌≡◌, ℕ, List, [], ◌∷◌, ◌++◌, Bool, true, false, ◌⊎◌, inl, inr, refl, sym, ap, ◌∙◌, subst}
 use Rattle.std.specs.Prelude.{Option, Some, None, is_some, ◌==◌, if◌then◌else◌}
 use Rattle.std.specs.List.{filter_map, cons_option}
@@ -42,7 +42,7 @@ module _ (s : Setup) (m : ℕ) (none : is_mobile_at s m ≡ false) where
   abbrev pub IsHeld : Known → List Entry → Type 0
   IsHeld k past = (home : Address) → holds k home ≡ true → is_on_link s.links home ≡ true → holder_in past home.0 ≡ Some m
 
-  -- within a turn: this is known, and so much is told
+  -- within a transition: this is known, and so much is told
   pub record IsMid (k : Known) (done : List Claiming) (past : List Entry) : Type 0 where
     pub held : IsHeld k past
     pub told : claimings_told m past ≡ done

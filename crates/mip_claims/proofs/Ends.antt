@@ -8,7 +8,7 @@ use Rattle.mip_words.specs.declared.address.Address.{Address}
 use Rattle.mip_discovery.proofs.ListLaws.{all-filter, all-more}
 use Rattle.mip_entries.specs.Stamped.{stamped}
 use Rattle.mip_transitions.specs.Transitions.{known_by, noted_by}
-use Rattle.mip_transitions.proofs.TurnLaws.{noted_all, noted_all-is}
+use Rattle.mip_transitions.proofs.TransitionLaws.{noted_all, noted_all-is}
 use Rattle.mip_rules_agent.specs.declared.ending.Ending.{Ending}
 use Rattle.mip_rules_agent.specs.declared.home_binding.HomeBinding.{HomeBinding}
 use Rattle.mip_rules_agent.specs.declared.identity.Identity.{Identity}
@@ -18,7 +18,7 @@ use Rattle.mip_rules_agent.specs.Calls as calls
 use Rattle.mip_rules_agent.specs.Steps.{Step, Called, Sends, Registers, Claims, Releases, Denies, Drops, Rang}
 use Rattle.mip_rules_agent.specs.Questions.{bound_to, holding, place_of, without_end, with_end, ends_with, due_ends, later_ends, after, served_at, is_served, holds}
 use Rattle.mip_rules_agent.specs.Transitions.{Transition, begun, noted}
-use Rattle.mip_rules_agent.specs.Doing.{releases_all, ticks, does, turn_of}
+use Rattle.mip_rules_agent.specs.Doing.{releases_all, ticks, does, transition_of}
 use Rattle.mip_rules_agent.proofs.Homes.{found_if}
 use Rattle.mip_rules_agent.proofs.Pasts.{row_after, served-after}
 use Rattle.mip_claims.proofs.Updating.{by_steps}
@@ -164,7 +164,7 @@ releasing_is : (es : List Ending) (t : Transition) → noted Rang (releases_all 
 releasing_is [] t = refl
 releasing_is (e ∷ es) t = releasing_is es (noted (Releases e.home) t)
 
-pub tick_is : (me : Identity) (k : Known) (now : ℕ) → turn_of me k now calls.Tick ≡ by_steps now k (Called calls.Tick ∷ releasing (due_ends now k.ends))
+pub tick_is : (me : Identity) (k : Known) (now : ℕ) → transition_of me k now calls.Tick ≡ by_steps now k (Called calls.Tick ∷ releasing (due_ends now k.ends))
 unfolding does ticks after noted_by
 tick_is me k now =
     releasing_is (due_ends now k.ends) (noted (Called calls.Tick) (begun now k)) ∙ noted_all-is after (Called calls.Tick ∷ releasing (due_ends now k.ends)) (begun now k)

@@ -1,4 +1,4 @@
--- In a turn of a mobile it holds the care-of address that it uses, from the claim on until it gives the address up.
+-- In a transition of a mobile it holds the care-of address that it uses, from the claim on until it gives the address up.
 use Rattle.std.proofs.Common.{◌≡◌, ℕ, List, [], ◌∷◌, Bool, true, false, refl, sym, ap, ◌∙◌, subst}
 use Rattle.std.specs.Prelude.{Option, Some, None, is_some, ◌==◌, ◌||◌, if◌then◌else◌, slice_get}
 use Rattle.std.specs.List.{list_any}
@@ -22,7 +22,7 @@ use Rattle.mip_rules_mobile.specs.TrialRules.{each_row}
 use Rattle.mip_rules_mobile.specs.MovingRules.{releases, unbinds, leaves, arrives_by, address_under, arrives, uses_prefix, leaves_first, attaches, restarts}
 use Rattle.mip_rules_mobile.specs.Part.{is_restart}
 use Rattle.mip_rules_mobile.specs.Answering.{stays_put}
-use Rattle.mip_rules_mobile.specs.Doing.{does, turn_of}
+use Rattle.mip_rules_mobile.specs.Doing.{does, transition_of}
 use Rattle.mip_rules_mobile.proofs.Steady.{standing-noted}
 use Rattle.mip_links.specs.Table.{Post, link_of}
 use Rattle.mip_history.specs.Setup.{Setup}
@@ -108,7 +108,7 @@ module _ (s : Setup) (m : ℕ) (own : Address) (agent : Option Address) (host : 
   abbrev now_run : Transition → Run
   now_run t = then_ s m own agent host from start t
 
-  -- in a turn from a run on
+  -- in a transition from a run on
   abbrev pub Holds : Transition → Type 0
   Holds t = (careof : Address) → t.known.standing ≡ Away careof → is_on_link s.links careof ≡ true → holder_in (now_run t).past careof.0 ≡ Some m
 
@@ -135,17 +135,17 @@ module _ (s : Setup) (m : ℕ) (own : Address) (agent : Option Address) (host : 
     unfolding answered
     first c = plain (Called c) (begun now k) refl (λ careof here on. before careof here on)
 
-    pub staying_holds : (c : Call) → stays_put c ≡ true → is_restart c ≡ false → Holds (turn_of k now c)
+    pub staying_holds : (c : Call) → stays_put c ≡ true → is_restart c ≡ false → Holds (transition_of k now c)
     unfolding does
     staying_holds c stays lives = still_handles Holds plain notes (noted (Called c) (begun now k)) (first c) c stays lives
 
-    pub restarting_holds : (secrets : Life) → Holds (turn_of k now (calls.Restart secrets))
+    pub restarting_holds : (secrets : Life) → Holds (transition_of k now (calls.Restart secrets))
     unfolding does restarts
     restarting_holds secrets =
         let t : Transition = noted (Called (calls.Restart secrets)) (begun now k) in
         still_if_away Holds plain notes t.known.standing (noted (Restarts secrets) t) (holds_step (Restarts secrets) t refl tt refl (first (calls.Restart secrets)))
 
-    pub leaving_holds : (of_home : Claim) → Holds (turn_of k now (calls.Leave of_home))
+    pub leaving_holds : (of_home : Claim) → Holds (transition_of k now (calls.Leave of_home))
     unfolding does leaves
     leaving_holds of_home =
         let t : Transition = noted (Called (calls.Leave of_home)) (begun now k) in
@@ -203,7 +203,7 @@ module _ (s : Setup) (m : ℕ) (own : Address) (agent : Option Address) (host : 
             by true uses = held
             by false other = arriving_holds (leaves_first t.known.standing of_home t) (same_leaves_first s m own agent host from start prefix t.known.standing of_home t other p)
 
-      pub attaching_holds : (of_home of_address : Claim) → home_of k ≡ own → of_address ≡ claim_of (other_than m (holder_in start.past a.0)) (own.0 == a.0) → Holds (turn_of k now (calls.Attach prefix of_home of_address))
+      pub attaching_holds : (of_home of_address : Claim) → home_of k ≡ own → of_address ≡ claim_of (other_than m (holder_in start.past a.0)) (own.0 == a.0) → Holds (transition_of k now (calls.Attach prefix of_home of_address))
       unfolding does
       attaching_holds of_home of_address home answers =
           let c : Call = calls.Attach prefix of_home of_address in

@@ -22,8 +22,8 @@ use Rattle.mip_rules_mobile.specs.HomeQuestions.{home_of}
 use Rattle.mip_rules_mobile.specs.Questions.{known}
 use Rattle.mip_rules_mobile.specs.MovingRules.{address_under}
 use Rattle.mip_rules_mobile.specs.Steps.{Step, answers_of}
-use Rattle.mip_rules_mobile.specs.Transitions.{Transition, Stands, with_turn}
-use Rattle.mip_rules_mobile.specs.Doing.{turn_of}
+use Rattle.mip_rules_mobile.specs.Transitions.{Transition, Stands, with_transition}
+use Rattle.mip_rules_mobile.specs.Doing.{transition_of}
 use Rattle.mip_rules_mobile.proofs.Shielding.{past-home}
 use Rattle.mip_rules_mobile.proofs.Calls.{stands-known, call-stands}
 use Rattle.mip_links.specs.Table.{Post, link_of, holder_outside}
@@ -37,7 +37,7 @@ use Rattle.mip_history.specs.Questions.{holder_in}
 use Rattle.mip_history.specs.Claims.{link_id, claims}
 use Rattle.mip_history.specs.Homes.{resident, passes_to, left_on, given_up_on, gives_up}
 use Rattle.mip_history.specs.Knowing.{now_in, secrets_in, mobile_known_in, stands_on, around_in}
-use Rattle.mip_history.specs.Nodes.{left_by, answered_one, answered, mobile_turned, by_kind, by_host, acts}
+use Rattle.mip_history.specs.Nodes.{left_by, answered_one, answered, after_mobile_transition, by_kind, by_host, acts}
 use Rattle.mip_history.specs.Restarting.{homes_left}
 use Rattle.mip_history.specs.Permitted.{opened, run_of}
 use Rattle.mip_claims.specs.Holdings.{HoldsWhatItUses}
@@ -157,11 +157,11 @@ module _ (s : Setup) (m : ℕ) (own : Address) (agent : Option Address) (host : 
     abbrev k : Known
     k = mobile_known_in s run m own agent
 
-    abbrev turn : mobiles.Call → Transition
-    turn c = turn_of k (now_in s run) c
+    abbrev transition : mobiles.Call → Transition
+    transition c = transition_of k (now_in s run) c
 
     abbrev middle : mobiles.Call → Run
-    middle c = with_mobile_past m (with_turn past (turn c)) run
+    middle c = with_mobile_past m (with_transition past (transition c)) run
 
     abbrev from : ℕ
     from = unwrap_or (stands_on s run m own) 0
@@ -173,17 +173,17 @@ module _ (s : Setup) (m : ℕ) (own : Address) (agent : Option Address) (host : 
     unfolding known StandsBy
     stands = refl
 
-    -- what the turn leaves known is what the past with it leaves known
-    known_then : (c : mobiles.Call) → (turn c).known ≡ knows (with_turn past (turn c))
+    -- what the transition leaves known is what the past with it leaves known
+    known_then : (c : mobiles.Call) → (transition c).known ≡ knows (with_transition past (transition c))
     known_then c =
-        stands-known own agent s.numbers (secrets_in s m 0) (with_turn past (turn c)) (turn c).known
+        stands-known own agent s.numbers (secrets_in s m 0) (with_transition past (transition c)) (transition c).known
         (call-stands own agent s.numbers (secrets_in s m 0) past k (now_in s run) c stands)
 
-    finish : (c : mobiles.Call) → Holds s m own agent host from (middle c) (turn c) → IsHolding (mobile_turned s m own (turn c) run)
+    finish : (c : mobiles.Call) → Holds s m own agent host from (middle c) (transition c) → IsHolding (after_mobile_transition s m own (transition c) run)
     finish c holds =
-        let new : List (Stamped Step) = with_turn past (turn c) in
-        let final : Run = mobile_turned s m own (turn c) run in
-        let pasts : final.mobile_pasts ≡ slice_set run.mobile_pasts m new = answers_mobiles s m from (answers_of (turn c).steps) (middle c) in
+        let new : List (Stamped Step) = with_transition past (transition c) in
+        let final : Run = after_mobile_transition s m own (transition c) run in
+        let pasts : final.mobile_pasts ≡ slice_set run.mobile_pasts m new = answers_mobiles s m from (answers_of (transition c).steps) (middle c) in
         let inside : m < length s.hosts = slice_get_within s.hosts m (record { address = own; kind = Mobile agent }) host in
         let long : length run.mobile_pasts ≡ length s.hosts = h.long in
         let here : mobile_past_at final m ≡ new =

@@ -20,8 +20,8 @@ use Rattle.mip_rules_mobile.specs.Calls as mobiles
 use Rattle.mip_rules_mobile.specs.HomeQuestions.{home_of}
 use Rattle.mip_rules_mobile.specs.MovingRules.{address_under}
 use Rattle.mip_rules_mobile.specs.Steps.{Step, answers_of}
-use Rattle.mip_rules_mobile.specs.Transitions.{Transition, with_turn}
-use Rattle.mip_rules_mobile.specs.Doing.{turn_of}
+use Rattle.mip_rules_mobile.specs.Transitions.{Transition, with_transition}
+use Rattle.mip_rules_mobile.specs.Doing.{transition_of}
 use Rattle.mip_rules_mobile.proofs.Shielding.{past-home}
 use Rattle.mip_links.specs.Table.{Post, link_of, holder_outside}
 use Rattle.mip_schedule.specs.declared.event.Event.{Event}
@@ -31,7 +31,7 @@ use Rattle.mip_history.specs.Runs.{Run, note, entered, mobile_past_at, with_agen
 use Rattle.mip_history.specs.Calls.{Call, Take, Send, Refresh, Tick, Plan, Hear, Attach, Leave, Ask, Restart}
 use Rattle.mip_history.specs.Homes.{gives_up}
 use Rattle.mip_history.specs.Knowing.{now_in, secrets_in, mobile_known_in, stands_on, around_in}
-use Rattle.mip_history.specs.Nodes.{answered, mobile_turned, by_kind, by_host, acts}
+use Rattle.mip_history.specs.Nodes.{answered, after_mobile_transition, by_kind, by_host, acts}
 use Rattle.mip_history.specs.Restarting.{homes_left}
 use Rattle.mip_history.specs.Permitted.{is_first_agent, anycast_at, claimed_entry, claims_of, claims_from, opened, run_of}
 use Rattle.mip_claims.specs.Claimings.{Claiming, search_told, searches_told, mobile_search, mobile_searches}
@@ -71,14 +71,14 @@ module _ (s : Setup) (m : ℕ) (own : Address) (agent : Option Address) (host : 
     abbrev k : Known
     k = mobile_known_in s run m own agent
 
-    abbrev turn : mobiles.Call → Transition
-    turn c = turn_of k (now_in s run) c
+    abbrev transition : mobiles.Call → Transition
+    transition c = transition_of k (now_in s run) c
 
     abbrev past : List (Stamped Step)
     past = mobile_past_at run m
 
     abbrev middle : mobiles.Call → Run
-    middle c = with_mobile_past m (with_turn past (turn c)) run
+    middle c = with_mobile_past m (with_transition past (transition c)) run
 
     abbrev from : ℕ
     from = unwrap_or (stands_on s run m own) 0
@@ -90,11 +90,11 @@ module _ (s : Setup) (m : ℕ) (own : Address) (agent : Option Address) (host : 
     stamped_searches now [] = refl
     stamped_searches now (step ∷ steps) = ap (cons_option (mobile_search s.links own step)) (stamped_searches now steps)
 
-    finish : (c : mobiles.Call) → Told s m own agent host from (middle c) (turn c) → IsTelling (mobile_turned s m own (turn c) run)
+    finish : (c : mobiles.Call) → Told s m own agent host from (middle c) (transition c) → IsTelling (after_mobile_transition s m own (transition c) run)
     finish c told =
-        let new : List (Stamped Step) = with_turn past (turn c) in
-        let final : Run = mobile_turned s m own (turn c) run in
-        let pasts : final.mobile_pasts ≡ slice_set run.mobile_pasts m new = answers_mobiles s m from (answers_of (turn c).steps) (middle c) in
+        let new : List (Stamped Step) = with_transition past (transition c) in
+        let final : Run = after_mobile_transition s m own (transition c) run in
+        let pasts : final.mobile_pasts ≡ slice_set run.mobile_pasts m new = answers_mobiles s m from (answers_of (transition c).steps) (middle c) in
         let inside : m < length s.hosts = slice_get_within s.hosts m (record { address = own; kind = Mobile agent }) host in
         let long : length run.mobile_pasts ≡ length s.hosts = h.long in
         let here : mobile_past_at final m ≡ new =
@@ -102,9 +102,9 @@ module _ (s : Setup) (m : ℕ) (own : Address) (agent : Option Address) (host : 
         record {
           long = ap (λ (l : List (List (Stamped Step))). length l) pasts ∙ length-set run.mobile_pasts m new ∙ long;
           told =
-              told ∙ ap (λ (l : List Claiming). l ++ filter_map (mobile_search s.links own) (turn c).steps) h.told
-              ∙ ap (λ (l : List Claiming). mobile_searches s.links own past ++ l) (sym (stamped_searches (turn c).now (turn c).steps))
-              ∙ sym (filter_map-append (λ (x : Stamped Step). mobile_search s.links own x.step) past (stamped (turn c).now (turn c).steps))
+              told ∙ ap (λ (l : List Claiming). l ++ filter_map (mobile_search s.links own) (transition c).steps) h.told
+              ∙ ap (λ (l : List Claiming). mobile_searches s.links own past ++ l) (sym (stamped_searches (transition c).now (transition c).steps))
+              ∙ sym (filter_map-append (λ (x : Stamped Step). mobile_search s.links own x.step) past (stamped (transition c).now (transition c).steps))
               ∙ ap (mobile_searches s.links own) (sym here);
         }
 

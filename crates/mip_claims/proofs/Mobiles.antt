@@ -1,4 +1,4 @@
--- A turn of a mobile tells which addresses it claims and finds taken: the table says what its place answered as the call began.
+-- A transition of a mobile tells which addresses it claims and finds taken: the table says what its place answered as the call began.
 use Rattle.std.proofs.Common.{◌≡◌, ℕ, List, [], ◌∷◌, ◌++◌, Bool, true, false, refl, sym, ap, ◌∙◌, subst, arith}
 use Rattle.std.specs.Prelude.{Option, Some, None, is_some, not, ◌==◌, ◌&&◌, if◌then◌else◌, slice_get}
 use Rattle.std.specs.List.{filter_map, cons_option}
@@ -15,7 +15,7 @@ use Rattle.mip_outside.specs.Places.{is_held, claim_of}
 use Rattle.mip_entries.specs.declared.answer.Answer.{Answer}
 use Rattle.mip_entries.specs.declared.entry.Entry.{Entry}
 use Rattle.mip_entries.specs.declared.entry.Entry.TheVariants as entries
-use Rattle.mip_transitions.proofs.TurnLaws.{noted-known, noted-steps}
+use Rattle.mip_transitions.proofs.TransitionLaws.{noted-known, noted-steps}
 use Rattle.mip_transitions.proofs.ShowLaws.{answers-noted}
 use Rattle.mip_rules_correspondent.specs.Wholes.{is_own}
 use Rattle.mip_rules_mobile.specs.declared.attachment.Attachment.{Attachment}
@@ -33,7 +33,7 @@ use Rattle.mip_rules_mobile.specs.TrialRules.{each_row}
 use Rattle.mip_rules_mobile.specs.MovingRules.{releases, unbinds_with, unbinds, leaves, arrives_by, address_under, arrives, uses_prefix, leaves_first, attaches, registers_if_away, restarts}
 use Rattle.mip_rules_mobile.specs.Part.{is_restart}
 use Rattle.mip_rules_mobile.specs.Answering.{stays_put}
-use Rattle.mip_rules_mobile.specs.Doing.{does, turn_of}
+use Rattle.mip_rules_mobile.specs.Doing.{does, transition_of}
 use Rattle.mip_rules_mobile.specs.Fitting.{Fits, kind_of}
 use Rattle.mip_rules_mobile.specs.Fitting.Kind.{OfAck, Steady}
 use Rattle.mip_rules_mobile.proofs.Told.{home-kept}
@@ -173,7 +173,7 @@ module _ (s : Setup) (m : ℕ) (own : Address) (agent : Option Address) (host : 
     abbrev pub done : List Step → List Claiming
     done steps = filter_map (mobile_search s.links own) steps
 
-    -- in a turn from a run on
+    -- in a transition from a run on
     abbrev pub Told : Transition → Type 0
     Told t = searches_told own m (then_ t).past ≡ searches_told own m start.past ++ done t.steps
 
@@ -220,11 +220,11 @@ module _ (s : Setup) (m : ℕ) (own : Address) (agent : Option Address) (host : 
     first c now k = told_quiet (Called c) (begun now k) refl tt (sym (append-nil (searches_told own m start.past)))
 
     -- a call by which the mobile stays where it stands, and goes on living
-    pub staying_told : (k : Known) (now : ℕ) (c : Call) → stays_put c ≡ true → is_restart c ≡ false → Told (turn_of k now c)
+    pub staying_told : (k : Known) (now : ℕ) (c : Call) → stays_put c ≡ true → is_restart c ≡ false → Told (transition_of k now c)
     unfolding does
     staying_told k now c stays lives = every-staying c Told (more c) (asks c) (notes c) (acks c) (drops c) (noted (Called c) (begun now k)) (first c now k) c refl stays lives
 
-    pub restarting_told : (k : Known) (now : ℕ) (secrets : Life) → Told (turn_of k now (calls.Restart secrets))
+    pub restarting_told : (k : Known) (now : ℕ) (secrets : Life) → Told (transition_of k now (calls.Restart secrets))
     unfolding does restarts
     restarting_told k now secrets = by t.known.standing refl
       where
@@ -264,7 +264,7 @@ module _ (s : Setup) (m : ℕ) (own : Address) (agent : Option Address) (host : 
         told_quiet Detaches (each_row unbinds (releases t.known.standing of_home t)) refl tt
         (every-row Told unbinds unbinds_told (releases t.known.standing of_home t) (releases_told t.known.standing of_home t p))
 
-    pub leaving_told : (k : Known) (now : ℕ) (of_home : Claim) → Told (turn_of k now (calls.Leave of_home))
+    pub leaving_told : (k : Known) (now : ℕ) (of_home : Claim) → Told (transition_of k now (calls.Leave of_home))
     unfolding does
     leaving_told k now of_home = leaves_told of_home (noted (Called (calls.Leave of_home)) (begun now k)) (first (calls.Leave of_home) now k)
 
@@ -394,7 +394,7 @@ module _ (s : Setup) (m : ℕ) (own : Address) (agent : Option Address) (host : 
       same_first c now k home = same_step (Called c) (begun now k) refl tt refl (record { told = sym (append-nil (searches_told own m start.past)); holder = refl; home = home })
 
       pub attaching_told : (k : Known) (now : ℕ) (of_home of_address : Claim) → home_of k ≡ own → of_address ≡ claim_of (other_than m (holder_in start.past a.0)) (own.0 == a.0)
-          → Told (turn_of k now (calls.Attach prefix of_home of_address))
+          → Told (transition_of k now (calls.Attach prefix of_home of_address))
       unfolding does
       attaching_told k now of_home of_address home answers =
           let c : Call = calls.Attach prefix of_home of_address in

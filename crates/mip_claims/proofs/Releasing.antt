@@ -1,4 +1,4 @@
--- A turn of a mobile tells which addresses it gives up: away it holds the one that it gives up.
+-- A transition of a mobile tells which addresses it gives up: away it holds the one that it gives up.
 use Rattle.std.proofs.Common.{◌≡◌, ℕ, List, [], ◌∷◌, ◌++◌, Bool, true, false, refl, sym, ap, ◌∙◌, subst}
 use Rattle.std.specs.Prelude.{Option, Some, None, is_some, not, ◌==◌, ◌&&◌, if◌then◌else◌, slice_get}
 use Rattle.std.specs.List.{filter_map, cons_option}
@@ -12,7 +12,7 @@ use Rattle.mip_outside.specs.declared.claim.Claim.TheVariants as claim
 use Rattle.mip_outside.specs.Places.{is_held}
 use Rattle.mip_entries.specs.declared.entry.Entry.{Entry}
 use Rattle.mip_entries.specs.declared.entry.Entry.TheVariants as entries
-use Rattle.mip_transitions.proofs.TurnLaws.{noted-known, noted-steps}
+use Rattle.mip_transitions.proofs.TransitionLaws.{noted-known, noted-steps}
 use Rattle.mip_rules_mobile.specs.declared.attachment.Attachment.{Attachment}
 use Rattle.mip_rules_mobile.specs.declared.attachment.Attachment.TheVariants.{Detached, AtHome, Away}
 use Rattle.mip_rules_mobile.specs.Calls as calls
@@ -27,7 +27,7 @@ use Rattle.mip_rules_mobile.specs.TrialRules.{each_row}
 use Rattle.mip_rules_mobile.specs.MovingRules.{releases, unbinds_with, unbinds, leaves, arrives_by, address_under, arrives, uses_prefix, leaves_first, attaches, restarts}
 use Rattle.mip_rules_mobile.specs.Part.{is_restart}
 use Rattle.mip_rules_mobile.specs.Answering.{stays_put}
-use Rattle.mip_rules_mobile.specs.Doing.{does, turn_of}
+use Rattle.mip_rules_mobile.specs.Doing.{does, transition_of}
 use Rattle.mip_rules_mobile.proofs.Told.{home-kept}
 use Rattle.mip_rules_mobile.proofs.TrialWalks.{every-row}
 use Rattle.mip_links.specs.Table.{Post, link_of}
@@ -114,7 +114,7 @@ module _ (s : Setup) (m : ℕ) (own : Address) (agent : Option Address) (host : 
     abbrev run_at : Transition → Run
     run_at t = then_ s m own agent host from start t
 
-    -- in a turn from a run on
+    -- in a transition from a run on
     abbrev pub Tells : Transition → Type 0
     Tells t = releases_told own m (run_at t).past ≡ releases_told own m start.past ++ done t.steps
 
@@ -217,24 +217,24 @@ module _ (s : Setup) (m : ℕ) (own : Address) (agent : Option Address) (host : 
     begins_home : (c : Call) (now : ℕ) (k : Known) → home_of k ≡ own → home_of (noted (Called c) (begun now k)).known ≡ own
     begins_home c now k home = ap home_of (noted-known after (Called c) (begun now k)) ∙ home-kept k (record { at = now; step = Called c }) ∙ home
 
-    pub staying_tells : (k : Known) (now : ℕ) (c : Call) → stays_put c ≡ true → is_restart c ≡ false → Tells (turn_of k now c)
+    pub staying_tells : (k : Known) (now : ℕ) (c : Call) → stays_put c ≡ true → is_restart c ≡ false → Tells (transition_of k now c)
     unfolding does
     staying_tells k now c stays lives = still_handles Tells plain notes (noted (Called c) (begun now k)) (begins c now k) c stays lives
 
-    pub restarting_tells : (k : Known) (now : ℕ) (secrets : Life) → Tells (turn_of k now (calls.Restart secrets))
+    pub restarting_tells : (k : Known) (now : ℕ) (secrets : Life) → Tells (transition_of k now (calls.Restart secrets))
     unfolding does restarts
     restarting_tells k now secrets =
         let t : Transition = noted (Called (calls.Restart secrets)) (begun now k) in
         still_if_away Tells plain notes t.known.standing (noted (Restarts secrets) t) (other (Restarts secrets) t refl tt (begins (calls.Restart secrets) now k))
 
     module _ (k : Known) (now : ℕ) (home : home_of k ≡ own) (before : (careof : Address) → k.standing ≡ Away careof → is_on_link s.links careof ≡ true → holder_in start.past careof.0 ≡ Some m) where
-      pub leaving_tells : (of_home : Claim) → Tells (turn_of k now (calls.Leave of_home))
+      pub leaving_tells : (of_home : Claim) → Tells (transition_of k now (calls.Leave of_home))
       unfolding does
       leaving_tells of_home =
           let c : Call = calls.Leave of_home in
           leaves_tells of_home (noted (Called c) (begun now k)) (begins_home c now k home) (first s m own agent host from start k now before c) (begins c now k)
 
-      pub attaching_tells : (prefix : ℕ) (of_home of_address : Claim) → Tells (turn_of k now (calls.Attach prefix of_home of_address))
+      pub attaching_tells : (prefix : ℕ) (of_home of_address : Claim) → Tells (transition_of k now (calls.Attach prefix of_home of_address))
       unfolding does
       attaching_tells prefix of_home of_address =
           let c : Call = calls.Attach prefix of_home of_address in

@@ -19,11 +19,11 @@ use Rattle.mip_provenance.specs.declared.mark.Mark.{Mark}
 use Rattle.mip_provenance.specs.declared.mark.Mark.TheVariants.{Origin, Forged}
 use Rattle.mip_provenance.specs.Entries.{update_accepted, mark_entry}
 use Rattle.mip_provenance.specs.Marks.{mark_in}
-use Rattle.mip_transitions.proofs.TurnLaws.{none-noted}
+use Rattle.mip_transitions.proofs.TransitionLaws.{none-noted}
 use Rattle.mip_updates.specs.declared.registration.Registration.{Registration}
 use Rattle.mip_updates.specs.Registrations.{home_of, deletes}
 use Rattle.mip_rules_correspondent.specs.Steps as correspondents
-use Rattle.mip_rules_correspondent.specs.Transitions as correspondent_turns
+use Rattle.mip_rules_correspondent.specs.Transitions as correspondent_transitions
 use Rattle.mip_rules_correspondent.specs.Calls as correspondent_calls
 use Rattle.mip_rules_correspondent.specs.Doing as correspondent_doing
 use Rattle.mip_rules_agent.specs.declared.identity.Identity.{Identity}
@@ -39,10 +39,10 @@ use Rattle.mip_rules_agent.specs.Refusing.{is_claim}
 use Rattle.mip_rules_agent.specs.Rules.{bench, claim_with, advertises}
 use Rattle.mip_rules_agent.specs.Verdicts.{binding_for}
 use Rattle.mip_rules_agent.specs.Soundness.{IsSound}
-use Rattle.mip_rules_agent.specs.Transitions as agent_turns
+use Rattle.mip_rules_agent.specs.Transitions as agent_transitions
 use Rattle.mip_rules_agent.specs.Doing as agent_doing
 use Rattle.mip_rules_agent.proofs.VerdictLaws.{sound}
-use Rattle.mip_rules_mobile.specs.Transitions as mobile_turns
+use Rattle.mip_rules_mobile.specs.Transitions as mobile_transitions
 use Rattle.mip_rules_mobile.specs.Steps as mobiles
 use Rattle.mip_rules_mobile.specs.Calls as mobile_calls
 use Rattle.mip_rules_mobile.specs.Doing as mobile_doing
@@ -55,7 +55,7 @@ use Rattle.mip_history.specs.Questions.{holder_says, holder_in}
 use Rattle.mip_history.specs.Calls.{Call, Take, Tick, Plan, Hear, Leave, Restart, for_correspondent, for_mobile}
 use Rattle.mip_history.specs.Claims.{link_id, claim_entry, claimed_on, claims}
 use Rattle.mip_history.specs.Knowing.{link_or_first, now_in, identity_in, known_in, agent_of, agent_known_in, mobile_known_in, other_than, around_in}
-use Rattle.mip_history.specs.Nodes.{marks_of, marked, left_by, answered_one, answered, agent_turned, asks, by_kind, by_host, acts}
+use Rattle.mip_history.specs.Nodes.{marks_of, marked, left_by, answered_one, answered, after_agent_transition, asks, by_kind, by_host, acts}
 use Rattle.mip_history.specs.Permitted.{run_of}
 use Rattle.mip_history.specs.Registered.{is_agent_kind, is_agent_host, is_agent_at}
 use Rattle.mip_history.proofs.Reasons.{all_append}
@@ -194,51 +194,51 @@ ending_none (agents.Denies number status ∷ steps) none = ending_none steps non
 ending_none (agents.Drops number why ∷ steps) none = ending_none steps none
 ending_none (agents.Rang ∷ steps) none = ending_none steps none
 
-abbrev Silent : agent_turns.Transition → Type 0
+abbrev Silent : agent_transitions.Transition → Type 0
 Silent t = list_any claims_home t.steps ≡ false
 
-silent_noted : (step : agents.Step) (t : agent_turns.Transition) → claims_home step ≡ false → Silent t → Silent (agent_turns.noted step t)
+silent_noted : (step : agents.Step) (t : agent_transitions.Transition) → claims_home step ≡ false → Silent t → Silent (agent_transitions.noted step t)
 silent_noted step t none is = none-noted after claims_home step t is none
 
 -- a tick gives up addresses, and other calls do nothing about one
-silent_releases : (es : List Ending) (t : agent_turns.Transition) → Silent t → Silent (agent_doing.releases_all es t)
+silent_releases : (es : List Ending) (t : agent_transitions.Transition) → Silent t → Silent (agent_doing.releases_all es t)
 silent_releases [] t is = is
-silent_releases (e ∷ es) t is = silent_releases es (agent_turns.noted (agents.Releases e.home) t) (silent_noted (agents.Releases e.home) t refl is)
+silent_releases (e ∷ es) t is = silent_releases es (agent_transitions.noted (agents.Releases e.home) t) (silent_noted (agents.Releases e.home) t refl is)
 
-silent_advertises : (own : Address) (k : Known) (now : ℕ) (rows : List HomeRow) (t : agent_turns.Transition) → Silent t → Silent (agent_doing.advertises_all own k now rows t)
+silent_advertises : (own : Address) (k : Known) (now : ℕ) (rows : List HomeRow) (t : agent_transitions.Transition) → Silent t → Silent (agent_doing.advertises_all own k now rows t)
 unfolding advertises
 silent_advertises own k now [] t is = is
 silent_advertises own k now (r ∷ rows) t is =
     silent_advertises own k now rows (advertises own k now r.home r.careof 0 t) (silent_noted _ t refl is)
 
 module _ (me : Identity) (k : Known) (now : ℕ) where
-  abbrev begins : agent_calls.Call → agent_turns.Transition
-  begins c = agent_turns.noted (agents.Called c) (agent_turns.begun now k)
+  abbrev begins : agent_calls.Call → agent_transitions.Transition
+  begins c = agent_transitions.noted (agents.Called c) (agent_transitions.begun now k)
 
   silent_begins : (c : agent_calls.Call) → Silent (begins c)
-  silent_begins c = silent_noted (agents.Called c) (agent_turns.begun now k) refl refl
+  silent_begins c = silent_noted (agents.Called c) (agent_transitions.begun now k) refl refl
 
-  silent_tick : Silent (agent_doing.turn_of me k now agent_calls.Tick)
+  silent_tick : Silent (agent_doing.transition_of me k now agent_calls.Tick)
   unfolding agent_doing.does agent_doing.ticks
-  silent_tick = let t : agent_turns.Transition = begins agent_calls.Tick in silent_noted agents.Rang _ refl (silent_releases (due_ends t.now t.known.ends) t (silent_begins agent_calls.Tick))
+  silent_tick = let t : agent_transitions.Transition = begins agent_calls.Tick in silent_noted agents.Rang _ refl (silent_releases (due_ends t.now t.known.ends) t (silent_begins agent_calls.Tick))
 
-  silent_plan : (valid preferred : ℕ) → Silent (agent_doing.turn_of me k now (agent_calls.Plan valid preferred))
+  silent_plan : (valid preferred : ℕ) → Silent (agent_doing.transition_of me k now (agent_calls.Plan valid preferred))
   unfolding agent_doing.does agent_doing.plans
   silent_plan valid preferred =
-      let t : agent_turns.Transition = begins (agent_calls.Plan valid preferred) in
+      let t : agent_transitions.Transition = begins (agent_calls.Plan valid preferred) in
       silent_advertises me.own t.known t.now (rows_at t.now t.known.homes) t (silent_begins (agent_calls.Plan valid preferred))
 
-  silent_hear : (agent : Address) (preference life : ℕ) → Silent (agent_doing.turn_of me k now (agent_calls.Hear agent preference life))
+  silent_hear : (agent : Address) (preference life : ℕ) → Silent (agent_doing.transition_of me k now (agent_calls.Hear agent preference life))
   unfolding agent_doing.does
   silent_hear agent preference life = silent_begins (agent_calls.Hear agent preference life)
 
 -- an agent, where a call claims nothing, and where it accepts an update: then its place had no other holder of the home address
 module _ (s : Setup) (n : ℕ) (own : Address) (run : Run) (p : IsFairRun s run) where
-  abbrev with_turn : agent_turns.Transition → Run
-  with_turn t = with_agent_past n (agent_turns.with_turn (agent_past_at run n) t) run
+  abbrev with_transition : agent_transitions.Transition → Run
+  with_transition t = with_agent_past n (agent_transitions.with_transition (agent_past_at run n) t) run
 
-  silent_turn : (t : agent_turns.Transition) → Silent t → IsFairRun s (agent_turned s n own t run)
-  silent_turn t is = quiet_answers s n (link_or_first s own.0) (agents.answers_of t.steps) (with_turn t) (ending_none t.steps is) p
+  silent_transition : (t : agent_transitions.Transition) → Silent t → IsFairRun s (after_agent_transition s n own t run)
+  silent_transition t is = quiet_answers s n (link_or_first s own.0) (agents.answers_of t.steps) (with_transition t) (ending_none t.steps is) p
 
   acknowledging_none : (ack : Bool) (me : Identity) (r : Registration) (granted : ℕ) → list_any claims_home (acknowledging_steps ack me r granted) ≡ false
   acknowledging_none true me r granted = refl
@@ -264,13 +264,13 @@ module _ (s : Setup) (n : ℕ) (own : Address) (run : Run) (p : IsFairRun s run)
     claim = claim_for (around_in run n None) bytes
 
     -- where the update is accepted
-    module _ (t : agent_turns.Transition) (a : IsAccepted me k now number shield bytes claim t) where
+    module _ (t : agent_transitions.Transition) (a : IsAccepted me k now number shield bytes claim t) where
       judged : IsSound (bench me k now a.update) shield (claim_with (holds k (home_of a.update)) claim) a.update a.home a.careof a.sequence a.granted
       judged = sound (bench me k now a.update) shield (claim_with (holds k (home_of a.update)) claim) a.update a.home a.careof a.sequence a.granted a.verdict_is
 
       -- the entry of the registration changes no holder
       abbrev registered : Run
-      registered = note (entries.Home (node_id n) a.home a.careof a.sequence (let b : HomeBinding = binding_for now a.careof a.sequence a.granted in b.end)) (with_turn t)
+      registered = note (entries.Home (node_id n) a.home a.careof a.sequence (let b : HomeBinding = binding_for now a.careof a.sequence a.granted in b.end)) (with_transition t)
 
       same_holder : holder_in registered.past a.home.0 ≡ holder_in run.past a.home.0
       same_holder =
@@ -293,26 +293,26 @@ module _ (s : Setup) (n : ℕ) (own : Address) (run : Run) (p : IsFairRun s run)
       abbrev last : List agents.Step
       last = acknowledging_steps a.update.ack me a.update a.granted
 
-      by : (held ends : Bool) → holds k (home_of a.update) ≡ held → deletes a.update ≡ ends → IsFairRun s (answered s n (link_or_first s own.0) (with_turn t) (agents.answers_of (steps held ends)))
+      by : (held ends : Bool) → holds k (home_of a.update) ≡ held → deletes a.update ≡ ends → IsFairRun s (answered s n (link_or_first s own.0) (with_transition t) (agents.answers_of (steps held ends)))
       unfolding answered
-      by true true is ends = quiet_answers s n _ (agents.answers_of (steps true true)) (with_turn t) (ending_none (steps true true) (acknowledging_none a.update.ack me a.update a.granted)) p
-      by true false is ends = quiet_answers s n _ (agents.answers_of (steps true false)) (with_turn t) (ending_none (steps true false) (acknowledging_none a.update.ack me a.update a.granted)) p
-      by false true is ends = quiet_answers s n _ (agents.answers_of (steps false true)) (with_turn t) (ending_none (steps false true) (acknowledging_none a.update.ack me a.update a.granted)) p
+      by true true is ends = quiet_answers s n _ (agents.answers_of (steps true true)) (with_transition t) (ending_none (steps true true) (acknowledging_none a.update.ack me a.update a.granted)) p
+      by true false is ends = quiet_answers s n _ (agents.answers_of (steps true false)) (with_transition t) (ending_none (steps true false) (acknowledging_none a.update.ack me a.update a.granted)) p
+      by false true is ends = quiet_answers s n _ (agents.answers_of (steps false true)) (with_transition t) (ending_none (steps false true) (acknowledging_none a.update.ack me a.update a.granted)) p
       by false false is ends =
           quiet_answers s n (link_or_first s own.0) (agents.answers_of last) (claims s n a.home registered) (ending_none last (acknowledging_none a.update.ack me a.update a.granted))
-          (free_claim s n a.home registered (free is ends) (noted_fair s _ (with_turn t) tt p))
+          (free_claim s n a.home registered (free is ends) (noted_fair s _ (with_transition t) tt p))
 
-      accepted_fair : IsFairRun s (agent_turned s n own t run)
+      accepted_fair : IsFairRun s (after_agent_transition s n own t run)
       accepted_fair =
-          subst (λ (l : List agents.Step). IsFairRun s (answered s n (link_or_first s own.0) (with_turn t) (agents.answers_of l))) (sym (ap (λ (u : agent_turns.Transition). u.steps) a.is))
+          subst (λ (l : List agents.Step). IsFairRun s (answered s n (link_or_first s own.0) (with_transition t) (agents.answers_of l))) (sym (ap (λ (u : agent_transitions.Transition). u.steps) a.is))
           (by (holds k (home_of a.update)) (deletes a.update) refl refl)
 
-    taking_fair : IsFairRun s (agent_turned s n own (agent_doing.turn_of me k now (agent_calls.Take number shield bytes claim)) run)
+    taking_fair : IsFairRun s (after_agent_transition s n own (agent_doing.transition_of me k now (agent_calls.Take number shield bytes claim)) run)
     taking_fair =
-        let turn : agent_turns.Transition = agent_doing.turn_of me k now (agent_calls.Take number shield bytes claim) in
-        elim (taking_is me k now number shield bytes claim) as (λ _. IsFairRun s (agent_turned s n own turn run)) [
-          | inl still ↦ silent_turn turn (still_silent turn.steps still.0)
-          | inr a ↦ accepted_fair turn a
+        let transition : agent_transitions.Transition = agent_doing.transition_of me k now (agent_calls.Take number shield bytes claim) in
+        elim (taking_is me k now number shield bytes claim) as (λ _. IsFairRun s (after_agent_transition s n own transition run)) [
+          | inl still ↦ silent_transition transition (still_silent transition.steps still.0)
+          | inr a ↦ accepted_fair transition a
         ]
 
 -- a node acts
@@ -322,31 +322,31 @@ module _ (s : Setup) (n : ℕ) (run : Run) (p : IsFairRun s run) where
   asks_fair does (Some call) go = go call
 
   module _ (own : Address) (preference life room : ℕ) (serves : List Address) where
-    abbrev turn : agent_calls.Call → agent_turns.Transition
-    turn c = agent_doing.turn_of (agent_of own preference life room) (agent_known_in run n serves) (now_in s run) c
+    abbrev transition : agent_calls.Call → agent_transitions.Transition
+    transition c = agent_doing.transition_of (agent_of own preference life room) (agent_known_in run n serves) (now_in s run) c
 
     agent_fair : (call : Call) → IsFairRun s (by_kind s n own call run (Agent preference life room serves))
     agent_fair (Take number shield packet) =
         taking_fair s n own run p (agent_of own preference life room) (agent_known_in run n serves) (now_in s run) number shield packet
     agent_fair Tick =
-        silent_turn s n own run p (turn agent_calls.Tick) (silent_tick (agent_of own preference life room) (agent_known_in run n serves) (now_in s run))
+        silent_transition s n own run p (transition agent_calls.Tick) (silent_tick (agent_of own preference life room) (agent_known_in run n serves) (now_in s run))
     agent_fair (Plan valid preferred) =
-        silent_turn s n own run p (turn (agent_calls.Plan valid preferred))
+        silent_transition s n own run p (transition (agent_calls.Plan valid preferred))
         (silent_plan (agent_of own preference life room) (agent_known_in run n serves) (now_in s run) valid preferred)
     agent_fair (Hear agent preference' life') =
-        silent_turn s n own run p (turn (agent_calls.Hear agent preference' life'))
+        silent_transition s n own run p (transition (agent_calls.Hear agent preference' life'))
         (silent_hear (agent_of own preference life room) (agent_known_in run n serves) (now_in s run) agent preference' life')
     agent_fair _ = noted_fair s entries.Idle run tt p
 
   kind_fair : (own : Address) (call : Call) (kind : Kind) → (is_mobile_kind kind ≡ true → MayFindTaken s n) → IsFairRun s (by_kind s n own call run kind)
   kind_fair own call (Correspondent room) may =
       asks_fair _ (for_correspondent call) (λ (c : correspondent_calls.Call).
-      let t : correspondent_turns.Transition = correspondent_doing.turn_of (identity_in s run n own room) (known_in s run n room) (now_in s run) c in
+      let t : correspondent_transitions.Transition = correspondent_doing.transition_of (identity_in s run n own room) (known_in s run n room) (now_in s run) c in
       quiet_answers s n _ (correspondents.answers_of t.steps) _ (correspondent_none t.steps) p)
   kind_fair own call (Agent preference life room serves) may = agent_fair own preference life room serves call
   kind_fair own call (Mobile agent) may =
       asks_fair _ (for_mobile (around_in run n (Some own.0)) own call) (λ (c : mobile_calls.Call).
-      let t : mobile_turns.Transition = mobile_doing.turn_of (mobile_known_in s run n own agent) (now_in s run) c in
+      let t : mobile_transitions.Transition = mobile_doing.transition_of (mobile_known_in s run n own agent) (now_in s run) c in
       seeker_answers s n _ (mobiles.answers_of t.steps) _ (may refl) p)
 
   acts_fair : (call : Call) → IsFairRun s (acts s n call run)

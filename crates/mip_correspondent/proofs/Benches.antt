@@ -1,4 +1,4 @@
--- An update is judged by what the turn leaves of its home, and what is accepted fits into the cache.
+-- An update is judged by what the transition leaves of its home, and what is accepted fits into the cache.
 use Rattle.std.proofs.Common.{◌≡◌, ℕ, ◌<◌, List, true, false, sym, ap, ◌∙◌, subst}
 use Rattle.std.specs.Prelude.{Option}
 use Rattle.mip_words.specs.Addresses.{is_routable}

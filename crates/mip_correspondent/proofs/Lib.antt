@@ -3,4 +3,4 @@ pub mod Benches
 pub mod Parts
 pub mod Receivings
 pub mod Rows
-pub mod Turning
+pub mod CallTransitions

@@ -1,4 +1,4 @@
--- A packet that was read is checked by what the turn leaves, and its head may be written again.
+-- A packet that was read is checked by what the transition leaves, and its head may be written again.
 use Rattle.std.proofs.Common.{◌≡◌, ℕ, List, sym, ap, ◌∙◌}
 use Rattle.std.specs.Prelude.{Option, Result, Ok}
 use Rattle.mip_ipv6.specs.declared.head.Head.{Head}

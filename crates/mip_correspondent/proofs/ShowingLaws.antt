@@ -1,4 +1,4 @@
--- How what a turn shows goes on with its steps.
+-- How what a transition shows goes on with its steps.
 use Rattle.std.proofs.Common.{◌≡◌, ℕ, List, [], ◌++◌, Bool, false, sym, ap, subst}
 use Rattle.std.specs.Prelude.{if◌then◌else◌}
 use Rattle.mip_entries.specs.declared.answer.Answer.{Answer}

@@ -1,4 +1,4 @@
--- What a turn shows, and what it leaves in the binding cache.
+-- What a transition shows, and what it leaves in the binding cache.
 use Rattle.std.specs.Prelude.{◌≡◌, ◌≢◌, ◌<◌, ℕ, List, true, false, Option, Some, None, IfSome}
 use Rattle.mip_words.specs.Addresses.{is_routable}
 use Rattle.mip_entries.specs.declared.answer.Answer.{Answer}
@@ -13,7 +13,7 @@ use Rattle.mip_correspondent.specs.declared.accepted_binding.AcceptedBinding.{Ac
 abbrev pub left : ℕ → CacheSeen → Known
 left now cache = record { last = record { 0 = now }; cache = cache }
 
--- a turn at a moment: the last call is of then, this cache is left, and these are the answers
+-- a transition at a moment: the last call is of then, this cache is left, and these are the answers
 abbrev pub Shows : (now : ℕ) (cache : CacheSeen) (answers : List Answer) → Transition → Type 0
 Shows now cache answers t = ShowsAt now (left now cache) answers t
 

@@ -12,10 +12,10 @@ ghost use Rattle.mip_entries.specs.Stamped.{Stamped};
 ghost use Rattle.mip_reception.specs.Refusing.{refuses};
 ghost use Rattle.mip_rules_correspondent.specs.Steps.{Step, answers_of};
 ghost use Rattle.mip_rules_correspondent.specs.Questions.{fresh, held_of, holds_for};
-ghost use Rattle.mip_rules_correspondent.specs.Transitions.{Stands, with_turn};
+ghost use Rattle.mip_rules_correspondent.specs.Transitions.{Stands, with_transition};
 ghost use Rattle.mip_rules_correspondent.specs.Rules.{is_data, is_for_part};
 ghost use Rattle.mip_rules_correspondent.specs.Calls as calls;
-ghost use Rattle.mip_rules_correspondent.specs.Seen.{turn_at, called};
+ghost use Rattle.mip_rules_correspondent.specs.Seen.{transition_at, called};
 ghost use Rattle.mip_correspondent.specs.Requirements.{IsTimely, IsOfPart, IsSendable};
 ghost use Rattle.mip_correspondent.specs.Showing.{left, with_kept, Fits};
 
@@ -150,10 +150,10 @@ impl Correspondent {
         packet: &[u8],
     ) -> Result<Answers, Memory>
         requires timely { IsTimely self.old.known.last.0 now.0 }
-        ensures answers { IfOk result (λ a. a ≡ answers_of (turn_at self.old now.0 (calls.Take number shield packet.now)).steps) }
+        ensures answers { IfOk result (λ a. a ≡ answers_of (transition_at self.old now.0 (calls.Take number shield packet.now)).steps) }
         ensures after { OnOk result (self.new ≡ called self.old now.0 (calls.Take number shield packet.now)) }
         ensures stands { (room numbers : ℕ) (past : List (Stamped Step)) → Stands room numbers past self.old.known →
-            OnOk result (Stands room numbers (with_turn past (turn_at self.old now.0 (calls.Take number shield packet.now))) self.new.known) }
+            OnOk result (Stands room numbers (with_transition past (transition_at self.old now.0 (calls.Take number shield packet.now))) self.new.known) }
         ensures last { OnOk result (self.new.known.last ≡ now) }
         ensures refused { IfOk result (λ a. list_any refuses a ≡ true → self.new.known.cache ≡ self.old.known.cache) }
         ensures err { OnErr result (self.new ≡ self.old) }
@@ -181,10 +181,10 @@ impl Correspondent {
     ) -> Result<Answers, Memory>
         requires timely { IsTimely self.old.known.last.0 now.0 }
         requires packet { IsOfPart packet.now }
-        ensures answers { IfOk result (λ a. a ≡ answers_of (turn_at self.old now.0 (calls.Part number (tree packet.now))).steps) }
+        ensures answers { IfOk result (λ a. a ≡ answers_of (transition_at self.old now.0 (calls.Part number (tree packet.now))).steps) }
         ensures after { OnOk result (self.new ≡ called self.old now.0 (calls.Part number (tree packet.now))) }
         ensures stands { (room numbers : ℕ) (past : List (Stamped Step)) → Stands room numbers past self.old.known →
-            OnOk result (Stands room numbers (with_turn past (turn_at self.old now.0 (calls.Part number (tree packet.now)))) self.new.known) }
+            OnOk result (Stands room numbers (with_transition past (transition_at self.old now.0 (calls.Part number (tree packet.now)))) self.new.known) }
         ensures last { OnOk result (self.new.known.last ≡ now) }
         ensures refused { IfOk result (λ a. list_any refuses a ≡ true → self.new.known.cache ≡ self.old.known.cache) }
         ensures err { OnErr result (self.new ≡ self.old) }
@@ -206,7 +206,7 @@ impl Correspondent {
     pub fn tick(&mut self, now: Moment)
         requires { self.old.known.last.0 ≤ now.0 }
         ensures after { self.new ≡ called self.old now.0 calls.Tick }
-        ensures stands { (room numbers : ℕ) (past : List (Stamped Step)) → Stands room numbers past self.old.known → Stands room numbers (with_turn past (turn_at self.old now.0 calls.Tick)) self.new.known }
+        ensures stands { (room numbers : ℕ) (past : List (Stamped Step)) → Stands room numbers past self.old.known → Stands room numbers (with_transition past (transition_at self.old now.0 calls.Tick)) self.new.known }
         ensures last { self.new.known.last ≡ now }
     {
         let _given_up = self.known.cache.give_up(now);
@@ -217,10 +217,10 @@ impl Correspondent {
     /// want of memory the node is as it was.
     pub fn refresh(&mut self, alloc: Global, now: Moment, home: Address) -> Result<Answers, Memory>
         requires timely { IsTimely self.old.known.last.0 now.0 }
-        ensures answers { IfOk result (λ a. a ≡ answers_of (turn_at self.old now.0 (calls.Refresh home)).steps) }
+        ensures answers { IfOk result (λ a. a ≡ answers_of (transition_at self.old now.0 (calls.Refresh home)).steps) }
         ensures after { OnOk result (self.new ≡ called self.old now.0 (calls.Refresh home)) }
         ensures stands { (room numbers : ℕ) (past : List (Stamped Step)) → Stands room numbers past self.old.known →
-            OnOk result (Stands room numbers (with_turn past (turn_at self.old now.0 (calls.Refresh home))) self.new.known) }
+            OnOk result (Stands room numbers (with_transition past (transition_at self.old now.0 (calls.Refresh home))) self.new.known) }
         ensures last { OnOk result (self.new.known.last ≡ now) }
         ensures err { OnErr result (self.new ≡ self.old) }
     {
@@ -243,10 +243,10 @@ impl Correspondent {
     ) -> Result<Answers, Memory>
         requires timely { IsTimely self.old.known.last.0 now.0 }
         requires data { IsSendable proto payload.now }
-        ensures answers { IfOk result (λ a. a ≡ answers_of (turn_at self.old now.0 (calls.Send to proto payload.now)).steps) }
+        ensures answers { IfOk result (λ a. a ≡ answers_of (transition_at self.old now.0 (calls.Send to proto payload.now)).steps) }
         ensures after { OnOk result (self.new ≡ called self.old now.0 (calls.Send to proto payload.now)) }
         ensures stands { (room numbers : ℕ) (past : List (Stamped Step)) → Stands room numbers past self.old.known →
-            OnOk result (Stands room numbers (with_turn past (turn_at self.old now.0 (calls.Send to proto payload.now))) self.new.known) }
+            OnOk result (Stands room numbers (with_transition past (transition_at self.old now.0 (calls.Send to proto payload.now))) self.new.known) }
         ensures last { OnOk result (self.new.known.last ≡ now) }
         ensures err { OnErr result (self.new ≡ self.old) }
     {

@@ -21,7 +21,7 @@ use Rattle.mip_reception.specs.declared.refusal.Refusal.{Refusal}
 use Rattle.mip_reception.specs.Checks.{checked}
 use Rattle.mip_reception.specs.Replies.{reply_packet}
 use Rattle.mip_transitions.proofs.ShowLaws.{answers-noted}
-use Rattle.mip_transitions.proofs.TurnLaws.{noted-known}
+use Rattle.mip_transitions.proofs.TransitionLaws.{noted-known}
 use Rattle.mip_updates.specs.declared.registration.Registration.{Registration}
 use Rattle.mip_updates.specs.Registrations.{registration, home_of, deletes}
 use Rattle.mip_rules_agent.specs.declared.identity.Identity.{Identity}
@@ -40,7 +40,7 @@ use Rattle.mip_rules_agent.specs.Questions.{key_of, place_of, without_end, with_
 use Rattle.mip_rules_agent.specs.Transitions.{Transition, begun, noted}
 use Rattle.mip_rules_agent.specs.Verdicts.{is_from, verdict, binding_for}
 use Rattle.mip_rules_agent.specs.Rules.{Handing, shield_for, intercepts, is_careof, opens, takes_tunnel, bench, claim_with, acknowledges, denies, claims_if, answers_if, accepts, judged, takes_update, names_agents, advertises, answers_solicitation, takes_icmp, by_proto, by_role, replies, refuses, standing_of, after_checks, place_in, by_destination, receives}
-use Rattle.mip_rules_agent.specs.Doing.{takes, releases_all, ticks, advertises_all, plans, does, turn_of}
+use Rattle.mip_rules_agent.specs.Doing.{takes, releases_all, ticks, advertises_all, plans, does, transition_of}
 use Rattle.mip_rules_agent.proofs.Pasts.{served-same}
 use Rattle.mip_rules_agent.proofs.VerdictLaws.{sound}
 use Rattle.mip_history.proofs.Reasons.{all_append}
@@ -95,7 +95,7 @@ module _ (g : ℕ) (own : Address) where
   ends_after_fine k at Rang fine none = none_kept _ k.ends none
   ends_after_fine k at _ fine none = none
 
-  -- what a turn has answered and knows
+  -- what a transition has answered and knows
   pub record IsGood (t : Transition) : Type 0 where
     pub answers : AllByRecursion (MayAnswer may g) (answers_of t.steps)
     pub apart : IsApart t.known
@@ -255,9 +255,9 @@ module _ (g : ℕ) (own : Address) where
   planned me t p = advertised me.own t.known t.now (rows_at t.now t.known.homes) t p
 
   -- whatever the agent is asked
-  pub turn_good : (me : Identity) (k : Known) (now : ℕ) (c : Call) → IsApart k → IsGood (turn_of me k now c)
+  pub transition_good : (me : Identity) (k : Known) (now : ℕ) (c : Call) → IsApart k → IsGood (transition_of me k now c)
   unfolding does
-  turn_good me k now c apart = by c
+  transition_good me k now c apart = by c
     where
       start : (c : Call) → IsGood (noted (Called c) (begun now k))
       start c = more (Called c) (begun now k) tt (record { answers = tt; apart = apart })

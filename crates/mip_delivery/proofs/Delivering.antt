@@ -27,20 +27,20 @@ use Rattle.mip_rules_correspondent.specs.declared.identity.Identity.{Identity}
 use Rattle.mip_rules_correspondent.specs.declared.known.Known as parts
 use Rattle.mip_rules_correspondent.specs.Calls as part_calls
 use Rattle.mip_rules_correspondent.specs.Questions as part_questions
-use Rattle.mip_rules_correspondent.specs.Transitions as part_turns
+use Rattle.mip_rules_correspondent.specs.Transitions as part_transitions
 use Rattle.mip_rules_correspondent.specs.Doing as part_doing
 use Rattle.mip_rules_agent.specs.Steps as agent_steps
 use Rattle.mip_rules_agent.specs.Known as agents
 use Rattle.mip_rules_agent.specs.Calls as agent_calls
 use Rattle.mip_rules_agent.specs.Calls.{claim_for}
 use Rattle.mip_rules_agent.specs.Questions as agent_questions
-use Rattle.mip_rules_agent.specs.Transitions as agent_turns
+use Rattle.mip_rules_agent.specs.Transitions as agent_transitions
 use Rattle.mip_rules_agent.specs.Doing as agent_doing
 use Rattle.mip_rules_mobile.specs.Steps as mobile_steps
 use Rattle.mip_rules_mobile.specs.Known as mobiles
 use Rattle.mip_rules_mobile.specs.Calls as mobile_calls
 use Rattle.mip_rules_mobile.specs.Questions as mobile_questions
-use Rattle.mip_rules_mobile.specs.Transitions as mobile_turns
+use Rattle.mip_rules_mobile.specs.Transitions as mobile_transitions
 use Rattle.mip_rules_mobile.specs.Doing as mobile_doing
 use Rattle.mip_history.specs.Setup.{Setup, Host}
 use Rattle.mip_history.specs.Setup.Kind.{Correspondent, Agent, Mobile}
@@ -143,32 +143,32 @@ module _ (s : Setup) (from run : Run) (beside : IsBeside from run) where
   life_beside n =
       ap (λ (l : List Entry). life_in l n) beside.past ∙ fold-append (restarts n) 0 from.past beside.es ∙ fold_quiet (restarts n) (life_quiet n) (life_in from.past n) beside.es beside.quiet
 
-  -- a turn of a node is what it would have been
+  -- a transition of a node is what it would have been
   module _ (n : ℕ) (own : Address) where
     correspondent_beside : (room : ℕ) (c : part_calls.Call)
-        → part_doing.turn_of (identity_in s run n own room) (known_in s run n room) (now_in s run) c ≡ part_doing.turn_of (identity_in s from n own room) (known_in s from n room) (now_in s from) c
+        → part_doing.transition_of (identity_in s run n own room) (known_in s run n room) (now_in s run) c ≡ part_doing.transition_of (identity_in s from n own room) (known_in s from n room) (now_in s from) c
     correspondent_beside room c =
         by (ap (λ (life : ℕ). let x : Identity = record { own = own; secrets = secrets_in s n life; room = room } in x) (life_beside n))
         (ap (λ (l : List (List (Stamped part_steps.Step))). part_questions.known room s.numbers (slice_index_or l n [])) beside.pasts) now_beside
       where
-        by : {me you : Identity} {k l : parts.Known} {t u : ℕ} → me ≡ you → k ≡ l → t ≡ u → part_doing.turn_of me k t c ≡ part_doing.turn_of you l u c
+        by : {me you : Identity} {k l : parts.Known} {t u : ℕ} → me ≡ you → k ≡ l → t ≡ u → part_doing.transition_of me k t c ≡ part_doing.transition_of you l u c
         by a b d = cc
 
     agent_beside : (preference life room : ℕ) (serves : List Address) (c : agent_calls.Call)
-        → agent_doing.turn_of (agent_of own preference life room) (agent_known_in run n serves) (now_in s run) c
-        ≡ agent_doing.turn_of (agent_of own preference life room) (agent_known_in from n serves) (now_in s from) c
+        → agent_doing.transition_of (agent_of own preference life room) (agent_known_in run n serves) (now_in s run) c
+        ≡ agent_doing.transition_of (agent_of own preference life room) (agent_known_in from n serves) (now_in s from) c
     agent_beside preference life room serves c =
         by (ap (λ (l : List (List (Stamped agent_steps.Step))). agent_questions.known serves (slice_index_or l n [])) beside.agents) now_beside
       where
-        by : {k l : agents.Known} {t u : ℕ} → k ≡ l → t ≡ u → agent_doing.turn_of (agent_of own preference life room) k t c ≡ agent_doing.turn_of (agent_of own preference life room) l u c
+        by : {k l : agents.Known} {t u : ℕ} → k ≡ l → t ≡ u → agent_doing.transition_of (agent_of own preference life room) k t c ≡ agent_doing.transition_of (agent_of own preference life room) l u c
         by a b = cc
 
     mobile_beside : (agent : Option Address) (c : mobile_calls.Call)
-        → mobile_doing.turn_of (mobile_known_in s run n own agent) (now_in s run) c ≡ mobile_doing.turn_of (mobile_known_in s from n own agent) (now_in s from) c
+        → mobile_doing.transition_of (mobile_known_in s run n own agent) (now_in s run) c ≡ mobile_doing.transition_of (mobile_known_in s from n own agent) (now_in s from) c
     mobile_beside agent c =
         by (ap (λ (l : List (List (Stamped mobile_steps.Step))). mobile_questions.known own agent s.numbers (secrets_in s n 0) (slice_index_or l n [])) beside.mobiles) now_beside
       where
-        by : {k l : mobiles.Known} {t u : ℕ} → k ≡ l → t ≡ u → mobile_doing.turn_of k t c ≡ mobile_doing.turn_of l u c
+        by : {k l : mobiles.Known} {t u : ℕ} → k ≡ l → t ≡ u → mobile_doing.transition_of k t c ≡ mobile_doing.transition_of l u c
         by a b = cc
 
 -- the first entry that a run leaves behind another one
@@ -212,37 +212,37 @@ module _ (s : Setup) (from run : Run) (beside : IsBeside from run) (n : ℕ) (ow
   taken = acts s n (Take number shield bytes) run
 
   pub correspondent_hands_up : (room : ℕ) (p : Packet) → slice_get s.hosts n ≡ Some (record { address = own; kind = Correspondent room })
-      → BeginsWith (up number p) (part_steps.answers_of (part_doing.turn_of (identity_in s from n own room) (known_in s from n room) (now_in s from) (part_calls.Take number shield bytes)).steps)
+      → BeginsWith (up number p) (part_steps.answers_of (part_doing.transition_of (identity_in s from n own room) (known_in s from n room) (now_in s from) (part_calls.Take number shield bytes)).steps)
       → LeavesFirst run taken (up_entry n number p)
   correspondent_hands_up room p host begins =
-      let turn : part_turns.Transition = part_doing.turn_of (identity_in s run n own room) (known_in s run n room) (now_in s run) (part_calls.Take number shield bytes) in
-      let next : Run = with_past n (part_turns.with_turn (past_at run n) turn) run in
+      let transition : part_transitions.Transition = part_doing.transition_of (identity_in s run n own room) (known_in s run n room) (now_in s run) (part_calls.Take number shield bytes) in
+      let next : Run = with_past n (part_transitions.with_transition (past_at run n) transition) run in
       let same = correspondent_beside s from run beside n own room (part_calls.Take number shield bytes) in
-      let left = up_left s n (link_or_first s own.0) next number p (part_steps.answers_of turn.steps)
-      (subst (λ (t : part_turns.Transition). BeginsWith (up number p) (part_steps.answers_of t.steps)) (sym same) begins) in
+      let left = up_left s n (link_or_first s own.0) next number p (part_steps.answers_of transition.steps)
+      (subst (λ (t : part_transitions.Transition). BeginsWith (up number p) (part_steps.answers_of t.steps)) (sym same) begins) in
       subst (λ (o : Option Host). LeavesFirst run (by_host s n (Take number shield bytes) run o) (up_entry n number p)) (sym host) (record { rest = left.rest; whole = left.whole })
 
   pub mobile_hands_up : (agent : Option Address) (p : Packet) → slice_get s.hosts n ≡ Some (record { address = own; kind = Mobile agent })
-      → BeginsWith (up number p) (mobile_steps.answers_of (mobile_doing.turn_of (mobile_known_in s from n own agent) (now_in s from) (mobile_calls.Take number shield bytes)).steps)
+      → BeginsWith (up number p) (mobile_steps.answers_of (mobile_doing.transition_of (mobile_known_in s from n own agent) (now_in s from) (mobile_calls.Take number shield bytes)).steps)
       → LeavesFirst run taken (up_entry n number p)
   mobile_hands_up agent p host begins =
-      let turn : mobile_turns.Transition = mobile_doing.turn_of (mobile_known_in s run n own agent) (now_in s run) (mobile_calls.Take number shield bytes) in
-      let next : Run = with_mobile_past n (mobile_turns.with_turn (mobile_past_at run n) turn) run in
+      let transition : mobile_transitions.Transition = mobile_doing.transition_of (mobile_known_in s run n own agent) (now_in s run) (mobile_calls.Take number shield bytes) in
+      let next : Run = with_mobile_past n (mobile_transitions.with_transition (mobile_past_at run n) transition) run in
       let same = mobile_beside s from run beside n own agent (mobile_calls.Take number shield bytes) in
-      let left = up_left s n (unwrap_or (stands_on s run n own) 0) next number p (mobile_steps.answers_of turn.steps)
-      (subst (λ (t : mobile_turns.Transition). BeginsWith (up number p) (mobile_steps.answers_of t.steps)) (sym same) begins) in
+      let left = up_left s n (unwrap_or (stands_on s run n own) 0) next number p (mobile_steps.answers_of transition.steps)
+      (subst (λ (t : mobile_transitions.Transition). BeginsWith (up number p) (mobile_steps.answers_of t.steps)) (sym same) begins) in
       subst (λ (o : Option Host). LeavesFirst run (by_host s n (Take number shield bytes) run o) (up_entry n number p)) (sym host) (record { rest = left.rest; whole = left.whole })
 
   pub agent_sends : (preference life room : ℕ) (serves : List Address) (packet : List ℕ) → slice_get s.hosts n ≡ Some (record { address = own; kind = Agent preference life room serves })
-      → ((claim : Claim) → agent_steps.answers_of (agent_doing.turn_of (agent_of own preference life room) (agent_known_in from n serves) (now_in s from) (agent_calls.Take number shield bytes claim)).steps ≡ Send None packet ∷ [])
+      → ((claim : Claim) → agent_steps.answers_of (agent_doing.transition_of (agent_of own preference life room) (agent_known_in from n serves) (now_in s from) (agent_calls.Take number shield bytes claim)).steps ≡ Send None packet ∷ [])
       → LeavesPost s n (link_or_first s own.0) run packet taken
   agent_sends preference life room serves packet host sends =
       let call : agent_calls.Call = agent_calls.Take number shield bytes (claim_for (around_in run n None) bytes) in
-      let turn : agent_turns.Transition = agent_doing.turn_of (agent_of own preference life room) (agent_known_in run n serves) (now_in s run) call in
-      let next : Run = with_agent_past n (agent_turns.with_turn (agent_past_at run n) turn) run in
+      let transition : agent_transitions.Transition = agent_doing.transition_of (agent_of own preference life room) (agent_known_in run n serves) (now_in s run) call in
+      let next : Run = with_agent_past n (agent_transitions.with_transition (agent_past_at run n) transition) run in
       let same = agent_beside s from run beside n own preference life room serves call in
-      let left = send_left s n (link_or_first s own.0) next packet (agent_steps.answers_of turn.steps)
-      (ap (λ (t : agent_turns.Transition). agent_steps.answers_of t.steps) same ∙ sends (claim_for (around_in run n None) bytes)) in
+      let left = send_left s n (link_or_first s own.0) next packet (agent_steps.answers_of transition.steps)
+      (ap (λ (t : agent_transitions.Transition). agent_steps.answers_of t.steps) same ∙ sends (claim_for (around_in run n None) bytes)) in
       subst (λ (o : Option Host). LeavesPost s n (link_or_first s own.0) run packet (by_host s n (Take number shield bytes) run o)) (sym host)
       (record { first = record { rest = left.first.rest; whole = left.first.whole }; posts = left.posts })
 

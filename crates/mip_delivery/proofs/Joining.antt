@@ -46,7 +46,7 @@ module _ (s : Setup) (firsts more : List Event) (single : AreSingle more) where
   abbrev pub EachFront : (Run → Type 0) → Type 0
   EachFront P = (before : List Event) (event : Event) (after : List Event) → more ≡ before ++ event ∷ after → P (run_on s from before)
 
-  -- what is left behind a node's turn is left in the stretch
+  -- what is left behind a node's transition is left in the stretch
   first_left : (k n : ℕ) (post : Post) (h : HandedIn s from more k post n) (e : Entry) → LeavesFirst h.beside (acts s n (Take k post.shield (handed_over post.packet h.link)) h.beside) e
       → Leaves (run_on s from h.before) (happens s (run_on s from h.before) h.event) e
   first_left k n post h e l = record {

@@ -13,7 +13,7 @@ use Rattle.mip_entries.specs.declared.entry.Entry.TheVariants.{Sent, Heard}
 use Rattle.mip_entries.specs.Completed.{node_id}
 use Rattle.mip_links.specs.Table.{Post}
 use Rattle.mip_rules_correspondent.specs.Calls as part_calls
-use Rattle.mip_rules_correspondent.specs.Transitions as part_turns
+use Rattle.mip_rules_correspondent.specs.Transitions as part_transitions
 use Rattle.mip_rules_correspondent.specs.Doing as part_doing
 use Rattle.mip_rules_mobile.specs.declared.attachment.Attachment.{Attachment}
 use Rattle.mip_rules_mobile.specs.declared.attachment.Attachment.TheVariants.{Detached, AtHome, Away}
@@ -22,8 +22,8 @@ use Rattle.mip_rules_mobile.specs.Calls as mobile_calls
 use Rattle.mip_rules_mobile.specs.Steps.{answers_of}
 use Rattle.mip_rules_mobile.specs.HomeQuestions.{registered_agent}
 use Rattle.mip_rules_mobile.specs.RowQuestions.{bound_row_of}
-use Rattle.mip_rules_mobile.specs.Transitions as mobile_turns
-use Rattle.mip_rules_mobile.specs.Doing.{turn_of}
+use Rattle.mip_rules_mobile.specs.Transitions as mobile_transitions
+use Rattle.mip_rules_mobile.specs.Doing.{transition_of}
 use Rattle.mip_history.specs.Setup.{Setup, Host}
 use Rattle.mip_history.specs.Setup.Kind.{Correspondent, Mobile}
 use Rattle.mip_history.specs.Runs.{Run, note, notes, entered, past_at, mobile_past_at, with_past, with_mobile_past}
@@ -91,11 +91,11 @@ record IsOneSend (answers : List Answer) : Type 0 where
 one_send : {answers : List Answer} {shield : Option Shield} {packet : List ℕ} → answers ≡ Send shield packet ∷ [] → IsOneSend answers
 one_send {answers} {shield} {packet} is = record { shield = shield; packet = packet; is = is }
 
-mobile_sends : (k : Known) (now : ℕ) (to : Address) (proto : ℕ) (payload : List ℕ) → can_send k now ≡ true → IsOneSend (answers_of (turn_of k now (mobile_calls.Send to proto payload)).steps)
+mobile_sends : (k : Known) (now : ℕ) (to : Address) (proto : ℕ) (payload : List ℕ) → can_send k now ≡ true → IsOneSend (answers_of (transition_of k now (mobile_calls.Send to proto payload)).steps)
 mobile_sends k now to proto payload can = by k.standing (registered_agent k now) (bound_row_of k now to) refl refl refl can
   where
     by : (here : Attachment) (agent : Option Address) (row : Option ℕ) → k.standing ≡ here → registered_agent k now ≡ agent → bound_row_of k now to ≡ row → sends_from here agent ≡ true
-        → IsOneSend (answers_of (turn_of k now (mobile_calls.Send to proto payload)).steps)
+        → IsOneSend (answers_of (transition_of k now (mobile_calls.Send to proto payload)).steps)
     by Detached agent row a b c can = absurd cc
     by AtHome agent row a b c can = one_send (sent_at_home k now to proto payload a)
     by (Away careof) None row a b c can = absurd cc
@@ -111,8 +111,8 @@ module _ (s : Setup) (run : Run) (n : ℕ) (own to : Address) (proto : ℕ) (pay
 
   pub correspondent_leaves : (room : ℕ) → slice_get s.hosts n ≡ Some (record { address = own; kind = Correspondent room }) → SendsOne (left_by s run (sending n to proto payload ∷ [])) (length run.posts) n
   correspondent_leaves room host =
-      let turn : part_turns.Transition = part_doing.turn_of (identity_in s run n own room) (known_in s run n room) (now_in s run) (part_calls.Send to proto payload) in
-      let behind : Run = with_past n (part_turns.with_turn (past_at run n) turn) run in
+      let transition : part_transitions.Transition = part_doing.transition_of (identity_in s run n own room) (known_in s run n room) (now_in s run) (part_calls.Send to proto payload) in
+      let behind : Run = with_past n (part_transitions.with_transition (past_at run n) transition) run in
       subst Leaves (sym host)
       (subst (λ (l : List Answer). SendsOne (drop (length run.past) (answered s n (link_or_first s own.0) behind l).past) (length run.posts) n)
       (sym (sent_by_correspondent (identity_in s run n own room) (known_in s run n room) (now_in s run) to proto payload))
@@ -121,8 +121,8 @@ module _ (s : Setup) (run : Run) (n : ℕ) (own to : Address) (proto : ℕ) (pay
   pub mobile_leaves : (agent : Option Address) → slice_get s.hosts n ≡ Some (record { address = own; kind = Mobile agent }) → can_send (mobile_known_in s run n own agent) (now_in s run) ≡ true
       → SendsOne (left_by s run (sending n to proto payload ∷ [])) (length run.posts) n
   mobile_leaves agent host can =
-      let turn : mobile_turns.Transition = turn_of (mobile_known_in s run n own agent) (now_in s run) (mobile_calls.Send to proto payload) in
-      let behind : Run = with_mobile_past n (mobile_turns.with_turn (mobile_past_at run n) turn) run in
+      let transition : mobile_transitions.Transition = transition_of (mobile_known_in s run n own agent) (now_in s run) (mobile_calls.Send to proto payload) in
+      let behind : Run = with_mobile_past n (mobile_transitions.with_transition (mobile_past_at run n) transition) run in
       let one = mobile_sends (mobile_known_in s run n own agent) (now_in s run) to proto payload can in
       subst Leaves (sym host)
       (subst (λ (l : List Answer). SendsOne (drop (length run.past) (answered s n (unwrap_or (stands_on s run n own) 0) behind l).past) (length run.posts) n)

@@ -16,8 +16,8 @@ use Rattle.mip_links.specs.Table.{holder_outside}
 use Rattle.mip_rules_agent.specs.Steps as agents
 use Rattle.mip_rules_agent.specs.Known.{Known}
 use Rattle.mip_rules_agent.specs.Calls as agent_calls
-use Rattle.mip_rules_agent.specs.Transitions.{Transition, Stands, with_turn}
-use Rattle.mip_rules_agent.specs.Doing.{turn_of}
+use Rattle.mip_rules_agent.specs.Transitions.{Transition, Stands, with_transition}
+use Rattle.mip_rules_agent.specs.Doing.{transition_of}
 use Rattle.mip_rules_agent.specs.Questions.{known, rows_at}
 use Rattle.mip_rules_agent.specs.declared.home_row.HomeRow.{HomeRow}
 use Rattle.mip_rules_agent.proofs.Pasts.{stands-known, known-served}
@@ -36,7 +36,7 @@ use Rattle.mip_history.proofs.Bindings.{each_rest}
 use Rattle.mip_delivery.specs.Orderly.{IsOrderly}
 use Rattle.mip_delivery.proofs.Reaching.{is_special, MayAnswer, IsMild, all_may, events_calm}
 use Rattle.mip_delivery.proofs.Serving.{homes_by}
-use Rattle.mip_delivery.proofs.Agents.{may, IsApart, turn_good, rows_good}
+use Rattle.mip_delivery.proofs.Agents.{may, IsApart, transition_good, rows_good}
 
 module _ (s : Setup) (orderly : IsOrderly s) (g : ℕ) (own : Address) (preference life room : ℕ) (serves : List Address)
     (host : slice_get s.hosts g ≡ Some (record { address = own; kind = Agent preference life room serves })) where
@@ -100,29 +100,29 @@ module _ (s : Setup) (orderly : IsOrderly s) (g : ℕ) (own : Address) (preferen
   }
 
   module _ (pasts : Pasts) (stand : Stand pasts) (now : ℕ) where
-    abbrev turn : Address → ℕ → ℕ → ℕ → List Address → ℕ → agent_calls.Call → Transition
-    turn a p l r z n c = turn_of (agent_of a p l r) (known z (slice_index_or pasts n [])) now c
+    abbrev transition : Address → ℕ → ℕ → ℕ → List Address → ℕ → agent_calls.Call → Transition
+    transition a p l r z n c = transition_of (agent_of a p l r) (known z (slice_index_or pasts n [])) now c
 
-    abbrev IsTurn : Address → ℕ → ℕ → ℕ → List Address → ℕ → agent_calls.Call → Type 0
-    IsTurn a p l r z n c =
-        AllByRecursion (MayAnswer (may g own) n) (agents.answers_of (turn a p l r z n c).steps) × Stand (slice_set pasts n (with_turn (slice_index_or pasts n []) (turn a p l r z n c)))
+    abbrev IsTransition : Address → ℕ → ℕ → ℕ → List Address → ℕ → agent_calls.Call → Type 0
+    IsTransition a p l r z n c =
+        AllByRecursion (MayAnswer (may g own) n) (agents.answers_of (transition a p l r z n c).steps) × Stand (slice_set pasts n (with_transition (slice_index_or pasts n []) (transition a p l r z n c)))
 
-    own_turn : (a : Address) (p l r : ℕ) (c : agent_calls.Call) → IsTurn a p l r serves g c
+    own_transition : (a : Address) (p l r : ℕ) (c : agent_calls.Call) → IsTransition a p l r serves g c
     unfolding known StandsBy
-    own_turn a p l r c =
-        let good = turn_good g own (agent_of a p l r) (knows pasts) now c stand.apart in
+    own_transition a p l r c =
+        let good = transition_good g own (agent_of a p l r) (knows pasts) now c stand.apart in
         let stands : Stands serves (slice_index_or pasts g []) (knows pasts) = refl in
-        let same = stands-known serves (with_turn (slice_index_or pasts g []) (turn a p l r serves g c)) (turn a p l r serves g c).known (call-stands serves (slice_index_or pasts g []) (knows pasts) now (agent_of a p l r) c stands) in
+        let same = stands-known serves (with_transition (slice_index_or pasts g []) (transition a p l r serves g c)) (transition a p l r serves g c).known (call-stands serves (slice_index_or pasts g []) (knows pasts) now (agent_of a p l r) c stands) in
         (good.answers, set_own pasts _ (subst (IsApart g own) same good.apart) stand)
 
     serves_same : (a : Address) (p l r : ℕ) (z : List Address) → slice_get s.hosts g ≡ Some (record { address = a; kind = Agent p l r z }) → serves ≡ z
     serves_same a p l r z is = let both : (let o : Option (List Address) = Some serves in o) ≡ Some z = sym (ap homes_by host) ∙ ap homes_by is in cc
 
-    any_turn : (n : ℕ) (a : Address) (p l r : ℕ) (z : List Address) → slice_get s.hosts n ≡ Some (record { address = a; kind = Agent p l r z }) → (c : agent_calls.Call) → IsTurn a p l r z n c
-    any_turn n a p l r z is c = elim (cases_eq n g) as (λ _. IsTurn a p l r z n c) [
+    any_transition : (n : ℕ) (a : Address) (p l r : ℕ) (z : List Address) → slice_get s.hosts n ≡ Some (record { address = a; kind = Agent p l r z }) → (c : agent_calls.Call) → IsTransition a p l r z n c
+    any_transition n a p l r z is c = elim (cases_eq n g) as (λ _. IsTransition a p l r z n c) [
       | inl same ↦
-          subst (λ (m : ℕ). IsTurn a p l r z m c) (sym same)
-          (subst (λ (y : List Address). IsTurn a p l r y g c) (serves_same a p l r z (ap (slice_get s.hosts) (sym same) ∙ is)) (own_turn a p l r c))
+          subst (λ (m : ℕ). IsTransition a p l r z m c) (sym same)
+          (subst (λ (y : List Address). IsTransition a p l r y g c) (serves_same a p l r z (ap (slice_get s.hosts) (sym same) ∙ is)) (own_transition a p l r c))
       | inr other ↦
           (all_may (may g own) n (λ address. inl other) _, set_other pasts n _ (λ same. other (sym same)) stand)
     ]
@@ -149,7 +149,7 @@ module _ (s : Setup) (orderly : IsOrderly s) (g : ℕ) (own : Address) (preferen
     released = released;
     free = free;
     outside = outside;
-    turn = λ n a p l r z is pasts stand now c. any_turn pasts stand now n a p l r z is c;
+    transition = λ n a p l r z is pasts stand now c. any_transition pasts stand now n a p l r z is c;
     rows = λ n a p l r z is pasts stand now. any_rows pasts stand now n a p l r z is;
   }
 

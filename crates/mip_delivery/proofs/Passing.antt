@@ -17,16 +17,16 @@ use Rattle.mip_rules_agent.specs.Calls.{Take}
 use Rattle.mip_rules_agent.specs.Steps.{answers_of}
 use Rattle.mip_rules_agent.specs.Questions.{after}
 use Rattle.mip_rules_agent.specs.Rules.{shield_for, intercepts, takes_tunnel}
-use Rattle.mip_rules_agent.specs.Doing.{takes, does, turn_of}
+use Rattle.mip_rules_agent.specs.Doing.{takes, does, transition_of}
 use Rattle.mip_delivery.specs.Legs.{IsForHome, IsFromHome}
 
 module _ (me : Identity) (k : Known) (now number : ℕ) (shield : Option Shield) (bytes : List ℕ) (claim : Claim) where
   pub caught : (p : Packet) (careof : Address) → IsForHome k now bytes p careof
-      → answers_of (turn_of me k now (Take number shield bytes claim)).steps ≡ Send (shield_for me.own p.head.destination p.head.proto) (encapsulated me.own careof bytes) ∷ []
+      → answers_of (transition_of me k now (Take number shield bytes claim)).steps ≡ Send (shield_for me.own p.head.destination p.head.proto) (encapsulated me.own careof bytes) ∷ []
   unfolding does takes intercepts noted_by after
   caught p careof is = rw (is.read, is.registered, le-ltb (hop_of bytes) 2 is.hop, le-ltb 65535 (length bytes) is.size) refl
 
-  pub passed : (outer inner : Packet) → IsFromHome me k now bytes outer inner → answers_of (turn_of me k now (Take number shield bytes claim)).steps ≡ Send None outer.body ∷ []
+  pub passed : (outer inner : Packet) → IsFromHome me k now bytes outer inner → answers_of (transition_of me k now (Take number shield bytes claim)).steps ≡ Send None outer.body ∷ []
   unfolding does takes takes_tunnel noted_by after
   passed outer inner is =
       rw (is.read, is.own, is.passes, eq-eqb outer.head.proto 41 is.tunnel, eq-eqb outer.head.destination.0 me.own.0 is.exit, is.inside, is.registered, ne_eqb inner.head.destination.0 me.own.0 is.further, ne_eqb inner.head.proto 135 is.plain)

@@ -9,7 +9,7 @@ use Rattle.mip_links.specs.Table.{Post}
 use Rattle.mip_rules_correspondent.specs.Calls as part_calls
 use Rattle.mip_rules_correspondent.specs.Steps as part_steps
 use Rattle.mip_rules_correspondent.specs.Questions.{held_of}
-use Rattle.mip_rules_correspondent.specs.Transitions as part_turns
+use Rattle.mip_rules_correspondent.specs.Transitions as part_transitions
 use Rattle.mip_rules_correspondent.specs.Doing as part_doing
 use Rattle.mip_rules_mobile.specs.declared.attachment.Attachment.TheVariants.{AtHome, Away}
 use Rattle.mip_rules_mobile.specs.Known.{Known}
@@ -18,7 +18,7 @@ use Rattle.mip_rules_mobile.specs.Steps as mobile_steps
 use Rattle.mip_rules_mobile.specs.Sendings as sendings
 use Rattle.mip_rules_mobile.specs.HomeQuestions.{home_of, registered_agent}
 use Rattle.mip_rules_mobile.specs.RowQuestions.{bound_row_of}
-use Rattle.mip_rules_mobile.specs.Transitions as mobile_turns
+use Rattle.mip_rules_mobile.specs.Transitions as mobile_transitions
 use Rattle.mip_rules_mobile.specs.Doing as mobile_doing
 use Rattle.mip_schedule.specs.declared.event.Event.{Event}
 use Rattle.mip_history.specs.Setup.{Setup, Host}
@@ -60,10 +60,10 @@ module _ (s : Setup) (run : Run) (n : ℕ) (own to : Address) (proto : ℕ) (pay
   pub correspondent_posts : (room : ℕ) → slice_get s.hosts n ≡ Some (record { address = own; kind = Correspondent room })
       → Posts s run after (data_packet (part_doing.data_head own to proto (held_of (known_in s run n room) (now_in s run) to)) payload)
   correspondent_posts room host =
-      let turn : part_turns.Transition = part_doing.turn_of (identity_in s run n own room) (known_in s run n room) (now_in s run) (part_calls.Send to proto payload) in
-      let next : Run = with_past n (part_turns.with_turn (past_at run n) turn) run in
+      let transition : part_transitions.Transition = part_doing.transition_of (identity_in s run n own room) (known_in s run n room) (now_in s run) (part_calls.Send to proto payload) in
+      let next : Run = with_past n (part_transitions.with_transition (past_at run n) transition) run in
       let packet : List ℕ = data_packet (part_doing.data_head own to proto (held_of (known_in s run n room) (now_in s run) to)) payload in
-      let left = send_left s n (link_or_first s own.0) next packet (part_steps.answers_of turn.steps)
+      let left = send_left s n (link_or_first s own.0) next packet (part_steps.answers_of transition.steps)
       (sent_by_correspondent (identity_in s run n own room) (known_in s run n room) (now_in s run) to proto payload) in
       subst (λ (o : Option Host). Posts s run (by_host s n call run o) packet) (sym host) (record { link = link_or_first s own.0; posts = left.posts })
 
@@ -71,11 +71,11 @@ module _ (s : Setup) (run : Run) (n : ℕ) (own to : Address) (proto : ℕ) (pay
     abbrev k : Known
     k = mobile_known_in s run n own agent
 
-    mobile_posts : (packet : List ℕ) → mobile_steps.answers_of (mobile_doing.turn_of k (now_in s run) (mobile_calls.Send to proto payload)).steps ≡ Send None packet ∷ [] → Posts s run after packet
+    mobile_posts : (packet : List ℕ) → mobile_steps.answers_of (mobile_doing.transition_of k (now_in s run) (mobile_calls.Send to proto payload)).steps ≡ Send None packet ∷ [] → Posts s run after packet
     mobile_posts packet sends =
-        let turn : mobile_turns.Transition = mobile_doing.turn_of k (now_in s run) (mobile_calls.Send to proto payload) in
-        let next : Run = with_mobile_past n (mobile_turns.with_turn (mobile_past_at run n) turn) run in
-        let left = send_left s n (unwrap_or (stands_on s run n own) 0) next packet (mobile_steps.answers_of turn.steps) sends in
+        let transition : mobile_transitions.Transition = mobile_doing.transition_of k (now_in s run) (mobile_calls.Send to proto payload) in
+        let next : Run = with_mobile_past n (mobile_transitions.with_transition (mobile_past_at run n) transition) run in
+        let left = send_left s n (unwrap_or (stands_on s run n own) 0) next packet (mobile_steps.answers_of transition.steps) sends in
         subst (λ (o : Option Host). Posts s run (by_host s n call run o) packet) (sym host) (record { link = unwrap_or (stands_on s run n own) 0; posts = left.posts })
 
     pub home_posts : k.standing ≡ AtHome → Posts s run after (data_packet (part_doing.data_head (home_of k) to proto (held_of k.part.known (now_in s run) to)) payload)

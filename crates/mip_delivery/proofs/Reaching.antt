@@ -26,13 +26,13 @@ use Rattle.mip_provenance.specs.Marks.{mark_in}
 use Rattle.mip_rules_agent.specs.declared.home_row.HomeRow.{HomeRow}
 use Rattle.mip_rules_agent.specs.Steps as agents
 use Rattle.mip_rules_agent.specs.Calls as agent_calls
-use Rattle.mip_rules_agent.specs.Transitions.{with_turn}
-use Rattle.mip_rules_agent.specs.Doing.{turn_of}
+use Rattle.mip_rules_agent.specs.Transitions.{with_transition}
+use Rattle.mip_rules_agent.specs.Doing.{transition_of}
 use Rattle.mip_rules_agent.specs.Questions.{rows_at, known}
 use Rattle.mip_rules_correspondent.specs.Calls as correspondent_calls
-use Rattle.mip_rules_correspondent.specs.Doing.{turn_of as correspondent_turn}
+use Rattle.mip_rules_correspondent.specs.Doing.{transition_of as correspondent_transition}
 use Rattle.mip_rules_mobile.specs.Calls as mobile_calls
-use Rattle.mip_rules_mobile.specs.Doing.{turn_of as mobile_turn}
+use Rattle.mip_rules_mobile.specs.Doing.{transition_of as mobile_transition}
 use Rattle.mip_links.specs.Table.{Post, link_of, delivery, in_pool, outsider_of, holder_outside}
 use Rattle.mip_links.specs.Nets.{lowest_of, is_held_by}
 use Rattle.mip_links.specs.declared.delivery.Delivery.{Delivery}
@@ -49,7 +49,7 @@ use Rattle.mip_history.specs.Calls.{Call, Take, for_correspondent, for_agent, fo
 use Rattle.mip_history.specs.Claims.{link_id, claim_entry, claimed_on, claims}
 use Rattle.mip_history.specs.Homes.{resident, passes_to, left_on, given_up_on, gives_up}
 use Rattle.mip_history.specs.Knowing.{now_in, secrets_in, known_in, agent_known_in, mobile_known_in, around_in, identity_in, agent_of}
-use Rattle.mip_history.specs.Nodes.{marks_of, marked, left_by, answered_one, answered, asks, by_kind, by_host, acts, row_entry, home_entry, rows_by_kind, rows_shown, shown, turned, agent_turned, mobile_turned}
+use Rattle.mip_history.specs.Nodes.{marks_of, marked, left_by, answered_one, answered, asks, by_kind, by_host, acts, row_entry, home_entry, rows_by_kind, rows_shown, shown, after_transition, after_agent_transition, after_mobile_transition}
 use Rattle.mip_history.specs.Posting.{heards, is_other, overheard}
 use Rattle.mip_history.specs.Delivery.{handed_over, overheard_at, hears_there, handed, is_no_holder, became, arrival_link, arrived, delivered, carried_one, carried}
 use Rattle.mip_history.specs.Outsiders.{injected, injected_if, probe_packet, update_packet, test_packet}
@@ -101,10 +101,10 @@ pub record IsMild (s : Setup) (bad : Entry → Bool) (may : ℕ → Address → 
   pub released : (who link : ℕ) (address : Address) → may who address → bad (entries.Released who (link_id link) address) ≡ false
   pub free : (n : ℕ) → is_agent_at s n ≡ false → (address : Address) → may n address
   pub outside : (o : ℕ) (address : Address) → may (holder_outside o) address
-  pub turn : (n : ℕ) (own : Address) (preference life room : ℕ) (serves : List Address) → slice_get s.hosts n ≡ Some (record { address = own; kind = Agent preference life room serves })
+  pub transition : (n : ℕ) (own : Address) (preference life room : ℕ) (serves : List Address) → slice_get s.hosts n ≡ Some (record { address = own; kind = Agent preference life room serves })
       → (pasts : List (List (Stamped agents.Step))) → stand pasts → (now : ℕ) (c : agent_calls.Call)
-      → AllByRecursion (MayAnswer may n) (agents.answers_of (turn_of (agent_of own preference life room) (known serves (slice_index_or pasts n [])) now c).steps)
-      × stand (slice_set pasts n (with_turn (slice_index_or pasts n []) (turn_of (agent_of own preference life room) (known serves (slice_index_or pasts n [])) now c)))
+      → AllByRecursion (MayAnswer may n) (agents.answers_of (transition_of (agent_of own preference life room) (known serves (slice_index_or pasts n [])) now c).steps)
+      × stand (slice_set pasts n (with_transition (slice_index_or pasts n []) (transition_of (agent_of own preference life room) (known serves (slice_index_or pasts n [])) now c)))
   pub rows : (n : ℕ) (own : Address) (preference life room : ℕ) (serves : List Address) → slice_get s.hosts n ≡ Some (record { address = own; kind = Agent preference life room serves })
       → (pasts : List (List (Stamped agents.Step))) → stand pasts → (now : ℕ)
       → AllByRecursion (λ (r : HomeRow). may n r.home) (rows_at now (known serves (slice_index_or pasts n [])).homes) × stand (slice_set pasts n [])
@@ -274,15 +274,15 @@ module _ (s : Setup) (bad : Entry → Bool) (may : ℕ → Address → Type 0) (
     where
       kinds : (own : Address) (kind : Kind) → slice_get s.hosts n ≡ Some (record { address = own; kind = kind }) → Calm (by_kind s n own call run kind)
       kinds own (Correspondent room) host =
-          asks_calm (λ (x : correspondent_calls.Call) (r : Run). turned s n own (correspondent_turn (identity_in s r n own room) (known_in s r n room) (now_in s r) x) r) (for_correspondent call) run
+          asks_calm (λ (x : correspondent_calls.Call) (r : Run). after_transition s n own (correspondent_transition (identity_in s r n own room) (known_in s r n room) (now_in s r) x) r) (for_correspondent call) run
           (λ (x : correspondent_calls.Call). answers_calm n _ _ _ (all_may may n (mild.free n (ap is_agent_host host)) _) (record { rest = c.rest; whole = c.whole; calm = c.calm; stands = c.stands })) c
       kinds own (Agent preference life room serves) host =
-          asks_calm (λ (x : agent_calls.Call) (r : Run). agent_turned s n own (turn_of (agent_of own preference life room) (agent_known_in r n serves) (now_in s r) x) r) (for_agent (around_in run n None) call) run
+          asks_calm (λ (x : agent_calls.Call) (r : Run). after_agent_transition s n own (transition_of (agent_of own preference life room) (agent_known_in r n serves) (now_in s r) x) r) (for_agent (around_in run n None) call) run
           (λ (x : agent_calls.Call).
-          let m = mild.turn n own preference life room serves host run.agent_pasts c.stands (now_in s run) x in
+          let m = mild.transition n own preference life room serves host run.agent_pasts c.stands (now_in s run) x in
           answers_calm n _ _ _ m.0 (record { rest = c.rest; whole = c.whole; calm = c.calm; stands = m.1 })) c
       kinds own (Mobile agent) host =
-          asks_calm (λ (x : mobile_calls.Call) (r : Run). mobile_turned s n own (mobile_turn (mobile_known_in s r n own agent) (now_in s r) x) r) (for_mobile (around_in run n (Some own.0)) own call) run
+          asks_calm (λ (x : mobile_calls.Call) (r : Run). after_mobile_transition s n own (mobile_transition (mobile_known_in s r n own agent) (now_in s r) x) r) (for_mobile (around_in run n (Some own.0)) own call) run
           (λ (x : mobile_calls.Call). answers_calm n _ _ _ (all_may may n (mild.free n (ap is_agent_host host)) _) (record { rest = c.rest; whole = c.whole; calm = c.calm; stands = c.stands })) c
 
       by_node : (o : Option Host) → slice_get s.hosts n ≡ o → Calm (by_host s n call run o)
@@ -538,7 +538,7 @@ mild_of s bad other claimed released = record {
   released = λ who link address allowed. released who link address;
   free = λ n none address. tt;
   outside = λ o address. tt;
-  turn = λ n own preference life room serves host pasts stand now c. (all_may any_may n (λ address. tt) _, tt);
+  transition = λ n own preference life room serves host pasts stand now c. (all_may any_may n (λ address. tt) _, tt);
   rows = λ n own preference life room serves host pasts stand now. (all_rows _, tt);
 }
 

@@ -26,11 +26,11 @@ use Rattle.mip_rules_mobile.specs.HomeQuestions.{home_of, registered_agent}
 use Rattle.mip_rules_mobile.specs.RowQuestions.{bound_row_of}
 use Rattle.mip_rules_mobile.specs.Questions.{after}
 use Rattle.mip_rules_mobile.specs.OutRules.{goes_out, passes_all, asks_part}
-use Rattle.mip_rules_mobile.specs.Doing.{does, transmits, turn_of}
+use Rattle.mip_rules_mobile.specs.Doing.{does, transmits, transition_of}
 use Rattle.mip_delivery.specs.Legs.{CanBeSent}
 
 pub sent_by_correspondent : (me : Identity) (k : parts.Known) (now : ℕ) (to : Address) (proto : ℕ) (payload : List ℕ)
-    → part_steps.answers_of (part_doing.turn_of me k now (part_calls.Send to proto payload)).steps ≡ Send None (data_packet (part_doing.data_head me.own to proto (held_of k now to)) payload) ∷ []
+    → part_steps.answers_of (part_doing.transition_of me k now (part_calls.Send to proto payload)).steps ≡ Send None (data_packet (part_doing.data_head me.own to proto (held_of k now to)) payload) ∷ []
 unfolding part_does part_transmits noted_by part_after
 sent_by_correspondent me k now to proto payload = refl
 
@@ -39,18 +39,18 @@ module _ (k : Known) (now : ℕ) (to : Address) (proto : ℕ) (payload : List �
   abbrev head_at_home : Head
   head_at_home = part_doing.data_head (home_of k) to proto (held_of k.part.known now to)
 
-  pub sent_at_home : k.standing ≡ AtHome → answers_of (turn_of k now (Sending to proto payload)).steps ≡ Send None (data_packet head_at_home payload) ∷ []
+  pub sent_at_home : k.standing ≡ AtHome → answers_of (transition_of k now (Sending to proto payload)).steps ≡ Send None (data_packet head_at_home payload) ∷ []
   unfolding does transmits asks_part passes_all goes_out noted_by after part_does part_transmits part_after
   sent_at_home home = rw (home) refl
 
   pub sent_bound : (careof : Address) (row : ℕ) → k.standing ≡ Away careof → bound_row_of k now to ≡ Some row
-      → answers_of (turn_of k now (Sending to proto payload)).steps ≡ Send None (data_packet (sendings.data_head (home_of k) careof to proto (held_of k.part.known now to)) payload) ∷ []
+      → answers_of (transition_of k now (Sending to proto payload)).steps ≡ Send None (data_packet (sendings.data_head (home_of k) careof to proto (held_of k.part.known now to)) payload) ∷ []
   unfolding does transmits noted_by after
   sent_bound careof row away bound = rw (away, bound) refl
 
   -- through the tunnel goes what it sends at home
   pub sent_into_tunnel : (careof agent : Address) → k.standing ≡ Away careof → registered_agent k now ≡ Some agent → bound_row_of k now to ≡ None
-      → answers_of (turn_of k now (Sending to proto payload)).steps
+      → answers_of (transition_of k now (Sending to proto payload)).steps
       ≡ Send (sendings.shield_of (sendings.ByTunnel (home_of k) careof agent (sendings.OfPart (data_packet head_at_home payload)))) (encapsulated careof agent (data_packet head_at_home payload)) ∷ []
   unfolding does transmits asks_part passes_all goes_out noted_by after part_does part_transmits part_after
   sent_into_tunnel careof agent away registered unbound = rw (away, unbound, registered) refl
@@ -69,6 +69,6 @@ module _ (k : Known) (now : ℕ) (to : Address) (proto : ℕ) (payload : List �
       by (Some careof) = ne_eqb proto 135 plain
 
   pub sent_tunnelled : (careof agent : Address) → k.standing ≡ Away careof → bound_row_of k now to ≡ None → registered_agent k now ≡ Some agent → CanBeSent head_at_home payload → proto ≢ 135
-      → answers_of (turn_of k now (Sending to proto payload)).steps ≡ Send None (encapsulated careof agent (data_packet head_at_home payload)) ∷ []
+      → answers_of (transition_of k now (Sending to proto payload)).steps ≡ Send None (encapsulated careof agent (data_packet head_at_home payload)) ∷ []
   unfolding does transmits asks_part passes_all goes_out noted_by after part_does part_transmits part_after
   sent_tunnelled careof agent away unbound registered can plain = rw (away, unbound, registered, no_signal can plain) refl

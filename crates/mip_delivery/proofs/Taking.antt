@@ -25,7 +25,7 @@ use Rattle.mip_rules_mobile.specs.OutRules.{passes_all, asks_part}
 use Rattle.mip_rules_mobile.specs.PeerRules.{meets}
 use Rattle.mip_rules_mobile.specs.ReceivingRules.{takes_for_part, by_role, takes_inner, opens, takes}
 use Rattle.mip_rules_mobile.specs.Steps.{Called}
-use Rattle.mip_rules_mobile.specs.Doing.{does, turn_of}
+use Rattle.mip_rules_mobile.specs.Doing.{does, transition_of}
 use Rattle.mip_rules_mobile.proofs.PeerWalks.{every-meets}
 use Rattle.mip_delivery.specs.Legs.{up, BeginsWith, IsDataHere, IsDataStraight, IsDataTunnelled}
 
@@ -47,14 +47,14 @@ no_other proto is = by (proto == 41) (proto == 58) (proto == 59) (proto == 135) 
     by false false false false p q r s e = record { tunnel = p; icmp = q; nothing = r; message = s }
 
 pub taken_by_correspondent : (me : Identity) (k : parts.Known) (now number : ℕ) (shield : Option Shield) (bytes : List ℕ) (p : Packet) → IsDataHere me k now bytes p
-    → part_steps.answers_of (part_doing.turn_of me k now (part_calls.Take number shield bytes)).steps ≡ up number p ∷ []
+    → part_steps.answers_of (part_doing.transition_of me k now (part_calls.Take number shield bytes)).steps ≡ up number p ∷ []
 unfolding part_does part_takes part_by_role hands_up noted_by part_after
 taken_by_correspondent me k now number shield bytes p is =
     let other = no_other p.head.proto is.plain in
     rw (is.read, is.passes, other.tunnel, other.icmp, other.nothing, other.message) refl
 
 module _ (k : Known) (now number : ℕ) (shield : Option Shield) (bytes : List ℕ) where
-  pub taken_straight : (p : Packet) → IsDataStraight k now bytes p → answers_of (turn_of k now (Take number shield bytes)).steps ≡ up number p ∷ []
+  pub taken_straight : (p : Packet) → IsDataStraight k now bytes p → answers_of (transition_of k now (Take number shield bytes)).steps ≡ up number p ∷ []
   unfolding does takes by_role takes_for_part asks_part passes_all noted_by after part_does part_parts hands_up part_after
   taken_straight p is =
       let other = no_other p.head.proto is.plain in
@@ -69,7 +69,7 @@ module _ (k : Known) (now number : ℕ) (shield : Option Shield) (bytes : List �
   up_first p other = rw (other.message) refl
 
   -- then its peer is met
-  met_then : (outer p : Packet) → IsDataTunnelled k now bytes outer p → turn_of k now (Take number shield bytes) ≡ meets (source_of p.head) (after_part p)
+  met_then : (outer p : Packet) → IsDataTunnelled k now bytes outer p → transition_of k now (Take number shield bytes) ≡ meets (source_of p.head) (after_part p)
   unfolding does takes opens takes_inner by_role takes_for_part noted_by after
   met_then outer p is =
       let other = no_other p.head.proto is.plain in
@@ -80,7 +80,7 @@ module _ (k : Known) (now number : ℕ) (shield : Option Shield) (bytes : List �
   begins_noted first step t so =
       record { rest = so.rest ++ answer_of step; is = answers-noted answer_of after step t ∙ ap (λ (l : List Answer). l ++ answer_of step) so.is }
 
-  pub taken_tunnelled : (outer p : Packet) → IsDataTunnelled k now bytes outer p → BeginsWith (up number p) (answers_of (turn_of k now (Take number shield bytes)).steps)
+  pub taken_tunnelled : (outer p : Packet) → IsDataTunnelled k now bytes outer p → BeginsWith (up number p) (answers_of (transition_of k now (Take number shield bytes)).steps)
   taken_tunnelled outer p is =
       subst (λ (t : Transition). BeginsWith (up number p) (answers_of t.steps)) (sym (met_then outer p is))
       (every-meets (Take number shield bytes) (λ (t : Transition). BeginsWith (up number p) (answers_of t.steps)) (λ step t steady fits so. begins_noted (up number p) step t so) (source_of p.head) (after_part p)

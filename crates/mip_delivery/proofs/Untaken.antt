@@ -24,7 +24,7 @@ use Rattle.mip_rules_mobile.specs.Questions.{after, known}
 use Rattle.mip_rules_mobile.specs.Transitions.{Transition, begun, noted}
 use Rattle.mip_rules_mobile.specs.TrialRules.{each_row}
 use Rattle.mip_rules_mobile.specs.MovingRules.{uses_prefix, releases, unbinds, leaves}
-use Rattle.mip_rules_mobile.specs.Doing.{does, turn_of}
+use Rattle.mip_rules_mobile.specs.Doing.{does, transition_of}
 use Rattle.mip_rules_mobile.proofs.Steady.{standing-noted}
 use Rattle.mip_rules_mobile.specs.Answering.{stays_put}
 use Rattle.mip_rules_mobile.specs.Part.{is_restart}
@@ -42,9 +42,9 @@ use Rattle.mip_history.proofs.Opening.{nothing}
 use Rattle.mip_history.proofs.Keeping.{is_busy, IsThere, IsCall, is_leave, is_rebirth, emptied_by_kind, emptied_by_host, emptied, Keeps}
 use Rattle.mip_history.proofs.Walking.{walk_run}
 use Rattle.mip_settled.proofs.Answered.{IsQuiet, IsMute, tells, tells_push, tells_same}
-use Rattle.mip_settled.proofs.Turning.{is_plain, entry_of, says_of, IsRightNote, IsKnown, Tells, arrived_at, staying_tells, restart_tells, using_tells, attaching_tells}
+use Rattle.mip_settled.proofs.MobileTransitions.{is_plain, entry_of, says_of, IsRightNote, IsKnown, Tells, arrived_at, staying_tells, restart_tells, using_tells, attaching_tells}
 use Rattle.mip_settled.proofs.Questions.{IsHome, present_known}
-use Rattle.mip_settled.proofs.Roaming.{IsNode, IsRoaming, acts_mute, others_acts, home, turn, then_, middle, known_then, acts_as, roaming_keeps, roaming_nothing, no_past}
+use Rattle.mip_settled.proofs.Roaming.{IsNode, IsRoaming, acts_mute, others_acts, home, transition, then_, middle, known_then, acts_as, roaming_keeps, roaming_nothing, no_past}
 use Rattle.mip_delivery.specs.Quiet.{Circle, has_node, is_loud}
 use Rattle.mip_delivery.proofs.Silence.{is_loud_or_taken}
 
@@ -90,7 +90,7 @@ apart_standing : (own : Address) (k : Known) (at : ℕ) (address : Address) (hol
 unfolding after
 apart_standing own k at address holder = refl
 
-left_standing : (k : Known) (now : ℕ) (of_home : Claim) → (turn_of k now (mobiles.Leave of_home)).known.standing ≡ Detached
+left_standing : (k : Known) (now : ℕ) (of_home : Claim) → (transition_of k now (mobiles.Leave of_home)).known.standing ≡ Detached
 unfolding does leaves
 left_standing k now of_home =
     let t : Transition = noted (Called (mobiles.Leave of_home)) (begun now k) in
@@ -130,14 +130,14 @@ module _ (s : Setup) (n : ℕ) (own : Address) (agent : Option Address) (host : 
     abbrev SoTells : mobiles.Call → Attachment → Type 0
     SoTells c st =
         Tells s n own (IsHome n own) (λ l is. is) (found_says n) (λ (step : Step). None) (λ (l : Known). address_of own l.standing) (λ (o : Option Address). o) (found_known n own) (Some own)
-        (unwrap_or (stands_on s run n own) 0) (middle s n own agent host run r.long c) st (turn s n own agent host run r.long c)
+        (unwrap_or (stands_on s run n own) 0) (middle s n own agent host run r.long c) st (transition s n own agent host run r.long c)
 
-    turned : (c : mobiles.Call) (st : Attachment) → SoTells c st → told (then_ s n own agent host run r.long c) ≡ knows (then_ s n own agent host run r.long c)
-    turned c st p = p.so ∙ ap (λ (l : Known). address_of own l.standing) (sym (known_then s n own agent host run r.long c))
+    after_transition : (c : mobiles.Call) (st : Attachment) → SoTells c st → told (then_ s n own agent host run r.long c) ≡ knows (then_ s n own agent host run r.long c)
+    after_transition c st p = p.so ∙ ap (λ (l : Known). address_of own l.standing) (sym (known_then s n own agent host run r.long c))
 
     staying : (c : mobiles.Call) → stays_put c ≡ true → is_restart c ≡ false → told (then_ s n own agent host run r.long c) ≡ knows (then_ s n own agent host run r.long c)
     staying c stays lives =
-        turned c k.standing
+        after_transition c k.standing
         (staying_tells s n own (IsHome n own) (λ l is. is) (found_says n) (λ (step : Step). None) (λ (l : Known). address_of own l.standing) (λ (o : Option Address). o) (found_known n own) (Some own) _
         (middle s n own agent host run r.long c) k (now_in s run) c stays lives so (home s n own agent host run r.long))
 
@@ -145,7 +145,7 @@ module _ (s : Setup) (n : ℕ) (own : Address) (agent : Option Address) (host : 
         → told (then_ s n own agent host run r.long (mobiles.Attach prefix of_home of_address)) ≡ knows (then_ s n own agent host run r.long (mobiles.Attach prefix of_home of_address))
     uses prefix there of_home of_address u =
         let c : mobiles.Call = mobiles.Attach prefix of_home of_address in
-        turned c k.standing
+        after_transition c k.standing
         (using_tells s n own (IsHome n own) (λ l is. is) (found_says n) (λ (step : Step). None) (λ (l : Known). address_of own l.standing) (λ (o : Option Address). o) (found_known n own) (Some own) _
         (middle s n own agent host run r.long c) k (now_in s run) prefix of_home of_address (ap (λ (a : Address). uses_prefix k.standing a prefix) (home s n own agent host run r.long) ∙ u) so (home s n own agent host run r.long))
 
@@ -154,7 +154,7 @@ module _ (s : Setup) (n : ℕ) (own : Address) (agent : Option Address) (host : 
     apart prefix there of_home of_address is =
         let c : mobiles.Call = mobiles.Attach prefix of_home of_address in
         let nowhere : address_of own k.standing ≡ None = ap (address_of own) is in
-        turned c (arrived_at of_address own prefix)
+        after_transition c (arrived_at of_address own prefix)
         (attaching_tells s n own (IsHome n own) (λ l is. is) (found_says n) (λ (step : Step). None) (λ (l : Known). address_of own l.standing) (λ (o : Option Address). o) (found_known n own) (Some own) _
         (middle s n own agent host run r.long c) k (now_in s run) prefix of_home of_address is so (home s n own agent host run r.long)
         (λ x same link address holder. ended (same ∙ nowhere)) (λ l at address holder same. apart_standing own l at address holder ∙ sym nowhere))

@@ -60,14 +60,14 @@ ghost use Rattle.mip_delivery.specs.Legs.{can_send, CanBeSent, up, BeginsWith, I
 /// and straight where it holds none (RFC 6275 section 9.3.2).
 pub fn correspondent_sends()
     ensures { (me : correspondent.Identity) (k : correspondent_known.Known) (now : ℕ) (to : Address) (proto : ℕ) (payload : List ℕ)
-        → correspondent_steps.answers_of (correspondent_doing.turn_of me k now (correspondent_calls.Send to proto payload)).steps
+        → correspondent_steps.answers_of (correspondent_doing.transition_of me k now (correspondent_calls.Send to proto payload)).steps
         ≡ Send None (data_packet (correspondent_doing.data_head me.own to proto (held_of k now to)) payload) ∷ [] }
 {}
 
 /// A mobile at home sends data as a correspondent does, from its home address (RFC 6275 section 11.3.1).
 pub fn mobile_sends_at_home()
     ensures { (k : mobile_known.Known) (now : ℕ) (to : Address) (proto : ℕ) (payload : List ℕ) → k.standing ≡ AtHome
-        → mobile_steps.answers_of (mobile_doing.turn_of k now (mobile_calls.Send to proto payload)).steps
+        → mobile_steps.answers_of (mobile_doing.transition_of k now (mobile_calls.Send to proto payload)).steps
         ≡ Send None (data_packet (correspondent_doing.data_head (home_of k) to proto (held_of k.part.known now to)) payload) ∷ [] }
 {}
 
@@ -76,7 +76,7 @@ pub fn mobile_sends_at_home()
 pub fn mobile_sends_bound()
     ensures { (k : mobile_known.Known) (now : ℕ) (careof : Address) (row : ℕ) (to : Address) (proto : ℕ) (payload : List ℕ)
         → k.standing ≡ Away careof → bound_row_of k now to ≡ Some row
-        → mobile_steps.answers_of (mobile_doing.turn_of k now (mobile_calls.Send to proto payload)).steps
+        → mobile_steps.answers_of (mobile_doing.transition_of k now (mobile_calls.Send to proto payload)).steps
         ≡ Send None (data_packet (sendings.data_head (home_of k) careof to proto (held_of k.part.known now to)) payload) ∷ [] }
 {}
 
@@ -86,7 +86,7 @@ pub fn mobile_sends_tunnelled()
     ensures { (k : mobile_known.Known) (now : ℕ) (careof agent to : Address) (proto : ℕ) (payload : List ℕ)
         → k.standing ≡ Away careof → bound_row_of k now to ≡ None → registered_agent k now ≡ Some agent
         → CanBeSent (correspondent_doing.data_head (home_of k) to proto (held_of k.part.known now to)) payload → proto ≢ mobility_header
-        → mobile_steps.answers_of (mobile_doing.turn_of k now (mobile_calls.Send to proto payload)).steps
+        → mobile_steps.answers_of (mobile_doing.transition_of k now (mobile_calls.Send to proto payload)).steps
         ≡ Send None (encapsulated careof agent (data_packet (correspondent_doing.data_head (home_of k) to proto (held_of k.part.known now to)) payload)) ∷ [] }
 {}
 
@@ -111,7 +111,7 @@ pub fn mobile_leaves_one_packet()
 pub fn agent_catches()
     ensures { (me : agent.Identity) (k : agent_known.Known) (now number : ℕ) (shield : Option Shield) (bytes : List ℕ) (claim : Claim) (p : Packet) (careof : Address)
         → IsForHome k now bytes p careof
-        → agent_steps.answers_of (agent_doing.turn_of me k now (agent_calls.Take number shield bytes claim)).steps
+        → agent_steps.answers_of (agent_doing.transition_of me k now (agent_calls.Take number shield bytes claim)).steps
         ≡ Send (shield_for me.own p.head.destination p.head.proto) (encapsulated me.own careof bytes) ∷ [] }
 {}
 
@@ -120,7 +120,7 @@ pub fn agent_catches()
 pub fn agent_passes_on()
     ensures { (me : agent.Identity) (k : agent_known.Known) (now number : ℕ) (shield : Option Shield) (bytes : List ℕ) (claim : Claim) (outer inner : Packet)
         → IsFromHome me k now bytes outer inner
-        → agent_steps.answers_of (agent_doing.turn_of me k now (agent_calls.Take number shield bytes claim)).steps ≡ Send None outer.body ∷ [] }
+        → agent_steps.answers_of (agent_doing.transition_of me k now (agent_calls.Take number shield bytes claim)).steps ≡ Send None outer.body ∷ [] }
 {}
 
 /// A correspondent hands up data that passes its checks, with home addresses restored, and does nothing else (RFC 6275 section
@@ -128,7 +128,7 @@ pub fn agent_passes_on()
 pub fn correspondent_takes()
     ensures { (me : correspondent.Identity) (k : correspondent_known.Known) (now number : ℕ) (shield : Option Shield) (bytes : List ℕ) (p : Packet)
         → IsDataHere me k now bytes p
-        → correspondent_steps.answers_of (correspondent_doing.turn_of me k now (correspondent_calls.Take number shield bytes)).steps ≡ up number p ∷ [] }
+        → correspondent_steps.answers_of (correspondent_doing.transition_of me k now (correspondent_calls.Take number shield bytes)).steps ≡ up number p ∷ [] }
 {}
 
 /// A mobile hands up data that comes to it outside a tunnel and passes its checks, with home addresses restored, and does nothing
@@ -136,7 +136,7 @@ pub fn correspondent_takes()
 pub fn mobile_takes_straight()
     ensures { (k : mobile_known.Known) (now number : ℕ) (shield : Option Shield) (bytes : List ℕ) (p : Packet)
         → IsDataStraight k now bytes p
-        → mobile_steps.answers_of (mobile_doing.turn_of k now (mobile_calls.Take number shield bytes)).steps ≡ up number p ∷ [] }
+        → mobile_steps.answers_of (mobile_doing.transition_of k now (mobile_calls.Take number shield bytes)).steps ≡ up number p ∷ [] }
 {}
 
 /// A mobile first hands up data that comes to it in the tunnel of its agent, with home addresses restored; behind that it may
@@ -144,7 +144,7 @@ pub fn mobile_takes_straight()
 pub fn mobile_takes_tunnelled()
     ensures { (k : mobile_known.Known) (now number : ℕ) (shield : Option Shield) (bytes : List ℕ) (outer p : Packet)
         → IsDataTunnelled k now bytes outer p
-        → BeginsWith (up number p) (mobile_steps.answers_of (mobile_doing.turn_of k now (mobile_calls.Take number shield bytes)).steps) }
+        → BeginsWith (up number p) (mobile_steps.answers_of (mobile_doing.transition_of k now (mobile_calls.Take number shield bytes)).steps) }
 {}
 
 /// Data passes the checks of a node that it is for: with a routing header where the node takes one, and with a Home Address option

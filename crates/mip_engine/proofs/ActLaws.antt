@@ -8,17 +8,17 @@ use Rattle.mip_links.specs.Table.{Asked, link_of}
 use Rattle.mip_outside.specs.Places.{Around}
 use Rattle.mip_rules_correspondent.specs.Calls as correspondents
 use Rattle.mip_rules_correspondent.specs.Steps as correspondent_steps
-use Rattle.mip_rules_correspondent.specs.Transitions as correspondent_turns
+use Rattle.mip_rules_correspondent.specs.Transitions as correspondent_transitions
 use Rattle.mip_rules_correspondent.specs.Doing as correspondent_doing
 use Rattle.mip_rules_correspondent.specs.Questions.{known}
 use Rattle.mip_rules_agent.specs.Calls as agents
 use Rattle.mip_rules_agent.specs.Steps as agent_steps
-use Rattle.mip_rules_agent.specs.Transitions as agent_turns
+use Rattle.mip_rules_agent.specs.Transitions as agent_transitions
 use Rattle.mip_rules_agent.specs.Doing as agent_doing
 use Rattle.mip_rules_agent.specs.Questions as agent_questions
 use Rattle.mip_rules_mobile.specs.Calls as mobiles
 use Rattle.mip_rules_mobile.specs.Steps as mobile_steps
-use Rattle.mip_rules_mobile.specs.Transitions as mobile_turns
+use Rattle.mip_rules_mobile.specs.Transitions as mobile_transitions
 use Rattle.mip_rules_mobile.specs.Doing as mobile_doing
 use Rattle.mip_rules_mobile.specs.Questions as mobile_questions
 use Rattle.mip_history.specs.Setup.{Setup, Host, Kind}
@@ -26,7 +26,7 @@ use Rattle.mip_history.specs.Setup.Kind.{Correspondent as OfCorrespondent, Agent
 use Rattle.mip_history.specs.Runs.{Run, past_at, agent_past_at, mobile_past_at, with_past, with_agent_past, with_mobile_past}
 use Rattle.mip_history.specs.Calls.{Call, for_correspondent, for_agent, for_mobile}
 use Rattle.mip_history.specs.Knowing.{now_in, identity_in, known_in, agent_of, agent_known_in, mobile_known_in, secrets_in, stands_on, around_in}
-use Rattle.mip_history.specs.Nodes.{acts, by_host, by_kind, answered, turned, agent_turned, mobile_turned, asks}
+use Rattle.mip_history.specs.Nodes.{acts, by_host, by_kind, answered, after_transition, after_agent_transition, after_mobile_transition, asks}
 use Rattle.mip_nodes.specs.declared.role.Role.{Role}
 use Rattle.mip_nodes.specs.declared.role.Role.TheVariants.{Correspondent, Agent, Mobile}
 use Rattle.mip_nodes.specs.Roles.{or_idle, or_same, answers_to, after_call}
@@ -49,12 +49,12 @@ module _ (e : EngineSeen) (s : Setup) (run : Run) (at : IsAt e s run) (n : ℕ) 
   here kind = node_in s run n (record { address = own; kind = kind })
 
   -- a correspondent that knows what a call leaves known
-  correspondent_on : (room : ℕ) (call : correspondents.Call) → At (OfCorrespondent room) → (let me = identity_in s run n own room in let t = correspondent_doing.turn_of me (known_in s run n room) (now_in s run) call in
+  correspondent_on : (room : ℕ) (call : correspondents.Call) → At (OfCorrespondent room) → (let me = identity_in s run n own room in let t = correspondent_doing.transition_of me (known_in s run n room) (now_in s run) call in
       with_role (Correspondent (record { identity = me; known = t.known })) (here (OfCorrespondent room))
-      ≡ node_in s (with_past n (correspondent_turns.with_turn (past_at run n) t) run) n (record { address = own; kind = OfCorrespondent room }))
+      ≡ node_in s (with_past n (correspondent_transitions.with_transition (past_at run n) t) run) n (record { address = own; kind = OfCorrespondent room }))
   correspondent_on room call is_host =
       let me = identity_in s run n own room in
-      let past = correspondent_turns.with_turn (past_at run n) (correspondent_doing.turn_of me (known_in s run n room) (now_in s run) call) in
+      let past = correspondent_transitions.with_transition (past_at run n) (correspondent_doing.transition_of me (known_in s run n room) (now_in s run) call) in
       let inside = slice_get_within s.hosts n _ is_host in
       let same : slice_index_or (slice_set run.pasts n past) n [] ≡ past = get_or-set_same run.pasts n past [] (omega (arith, inside, at.pasts)) in
       ap (λ k. with_role (Correspondent (record { identity = me; known = k })) (here (OfCorrespondent room)))
@@ -64,14 +64,14 @@ module _ (e : EngineSeen) (s : Setup) (run : Run) (at : IsAt e s run) (n : ℕ) 
   pub correspondent_acts : (room : ℕ) → At (OfCorrespondent room) → slice_get e.nodes n ≡ Some (here (OfCorrespondent room)) → (from : ℕ) → unwrap_or (link_of s.links own.0) 0 ≡ from
       → (o : Option correspondents.Call) → (let me = identity_in s run n own room in let k = known_in s run n room in let now = now_in s run in
       Acts e s n (here (OfCorrespondent room)) from
-      (or_same (Correspondent (record { identity = me; known = k })) (λ x. Correspondent (record { identity = me; known = (correspondent_doing.turn_of me k now x).known })) o)
-      (or_idle (λ x. correspondent_steps.answers_of (correspondent_doing.turn_of me k now x).steps) o)
-      (asks (λ c run. turned s n own (correspondent_doing.turn_of (identity_in s run n own room) (known_in s run n room) (now_in s run) c) run) o run))
+      (or_same (Correspondent (record { identity = me; known = k })) (λ x. Correspondent (record { identity = me; known = (correspondent_doing.transition_of me k now x).known })) o)
+      (or_idle (λ x. correspondent_steps.answers_of (correspondent_doing.transition_of me k now x).steps) o)
+      (asks (λ c run. after_transition s n own (correspondent_doing.transition_of (identity_in s run n own room) (known_in s run n room) (now_in s run) c) run) o run))
   correspondent_acts room is_host there from sends None = acts_idle e s run at n (here (OfCorrespondent room)) from there
   correspondent_acts room is_host there from sends (Some call) =
       let me = identity_in s run n own room in
-      let t = correspondent_doing.turn_of me (known_in s run n room) (now_in s run) call in
-      let past = correspondent_turns.with_turn (past_at run n) t in
+      let t = correspondent_doing.transition_of me (known_in s run n room) (now_in s run) call in
+      let past = correspondent_transitions.with_transition (past_at run n) t in
       record {
         next = with_past n past run;
         stands = at_node e s run at n _ _ (with_past n past run) is_host (differs_past n past run) (correspondent_on room call is_host);
@@ -79,12 +79,12 @@ module _ (e : EngineSeen) (s : Setup) (run : Run) (at : IsAt e s run) (n : ℕ) 
       }
 
   -- an agent that knows what a call leaves known
-  agent_on : (preference life room : ℕ) (serves : List Address) (call : agents.Call) → At (OfAgent preference life room serves) → (let me = agent_of own preference life room in let t = agent_doing.turn_of me (agent_known_in run n serves) (now_in s run) call in
+  agent_on : (preference life room : ℕ) (serves : List Address) (call : agents.Call) → At (OfAgent preference life room serves) → (let me = agent_of own preference life room in let t = agent_doing.transition_of me (agent_known_in run n serves) (now_in s run) call in
       with_role (Agent (record { identity = me; known = t.known })) (here (OfAgent preference life room serves))
-      ≡ node_in s (with_agent_past n (agent_turns.with_turn (agent_past_at run n) t) run) n (record { address = own; kind = OfAgent preference life room serves }))
+      ≡ node_in s (with_agent_past n (agent_transitions.with_transition (agent_past_at run n) t) run) n (record { address = own; kind = OfAgent preference life room serves }))
   agent_on preference life room serves call is_host =
       let me = agent_of own preference life room in
-      let past = agent_turns.with_turn (agent_past_at run n) (agent_doing.turn_of me (agent_known_in run n serves) (now_in s run) call) in
+      let past = agent_transitions.with_transition (agent_past_at run n) (agent_doing.transition_of me (agent_known_in run n serves) (now_in s run) call) in
       let inside = slice_get_within s.hosts n _ is_host in
       let same : slice_index_or (slice_set run.agent_pasts n past) n [] ≡ past = get_or-set_same run.agent_pasts n past [] (omega (arith, inside, at.agent_pasts)) in
       ap (λ k. with_role (Agent (record { identity = me; known = k })) (here (OfAgent preference life room serves)))
@@ -93,14 +93,14 @@ module _ (e : EngineSeen) (s : Setup) (run : Run) (at : IsAt e s run) (n : ℕ) 
   pub agent_acts : (preference life room : ℕ) (serves : List Address) → At (OfAgent preference life room serves) → slice_get e.nodes n ≡ Some (here (OfAgent preference life room serves)) → (from : ℕ) → unwrap_or (link_of s.links own.0) 0 ≡ from
       → (o : Option agents.Call) → (let me = agent_of own preference life room in let k = agent_known_in run n serves in let now = now_in s run in
       Acts e s n (here (OfAgent preference life room serves)) from
-      (or_same (Agent (record { identity = me; known = k })) (λ x. Agent (record { identity = me; known = (agent_doing.turn_of me k now x).known })) o)
-      (or_idle (λ x. agent_steps.answers_of (agent_doing.turn_of me k now x).steps) o)
-      (asks (λ c run. agent_turned s n own (agent_doing.turn_of (agent_of own preference life room) (agent_known_in run n serves) (now_in s run) c) run) o run))
+      (or_same (Agent (record { identity = me; known = k })) (λ x. Agent (record { identity = me; known = (agent_doing.transition_of me k now x).known })) o)
+      (or_idle (λ x. agent_steps.answers_of (agent_doing.transition_of me k now x).steps) o)
+      (asks (λ c run. after_agent_transition s n own (agent_doing.transition_of (agent_of own preference life room) (agent_known_in run n serves) (now_in s run) c) run) o run))
   agent_acts preference life room serves is_host there from sends None = acts_idle e s run at n (here (OfAgent preference life room serves)) from there
   agent_acts preference life room serves is_host there from sends (Some call) =
       let me = agent_of own preference life room in
-      let t = agent_doing.turn_of me (agent_known_in run n serves) (now_in s run) call in
-      let past = agent_turns.with_turn (agent_past_at run n) t in
+      let t = agent_doing.transition_of me (agent_known_in run n serves) (now_in s run) call in
+      let past = agent_transitions.with_transition (agent_past_at run n) t in
       record {
         next = with_agent_past n past run;
         stands = at_node e s run at n _ _ (with_agent_past n past run) is_host (differs_agent_past n past run) (agent_on preference life room serves call is_host);
@@ -108,11 +108,11 @@ module _ (e : EngineSeen) (s : Setup) (run : Run) (at : IsAt e s run) (n : ℕ) 
       }
 
   -- a mobile that knows what a call leaves known
-  mobile_on : (agent : Option Address) (call : mobiles.Call) → At (OfMobile agent) → (let t = mobile_doing.turn_of (mobile_known_in s run n own agent) (now_in s run) call in
+  mobile_on : (agent : Option Address) (call : mobiles.Call) → At (OfMobile agent) → (let t = mobile_doing.transition_of (mobile_known_in s run n own agent) (now_in s run) call in
       with_role (Mobile t.known) (here (OfMobile agent))
-      ≡ node_in s (with_mobile_past n (mobile_turns.with_turn (mobile_past_at run n) t) run) n (record { address = own; kind = OfMobile agent }))
+      ≡ node_in s (with_mobile_past n (mobile_transitions.with_transition (mobile_past_at run n) t) run) n (record { address = own; kind = OfMobile agent }))
   mobile_on agent call is_host =
-      let past = mobile_turns.with_turn (mobile_past_at run n) (mobile_doing.turn_of (mobile_known_in s run n own agent) (now_in s run) call) in
+      let past = mobile_transitions.with_transition (mobile_past_at run n) (mobile_doing.transition_of (mobile_known_in s run n own agent) (now_in s run) call) in
       let inside = slice_get_within s.hosts n _ is_host in
       let same : slice_index_or (slice_set run.mobile_pasts n past) n [] ≡ past = get_or-set_same run.mobile_pasts n past [] (omega (arith, inside, at.mobile_pasts)) in
       ap (λ k. with_role (Mobile k) (here (OfMobile agent)))
@@ -121,13 +121,13 @@ module _ (e : EngineSeen) (s : Setup) (run : Run) (at : IsAt e s run) (n : ℕ) 
   pub mobile_acts : (agent : Option Address) → At (OfMobile agent) → slice_get e.nodes n ≡ Some (here (OfMobile agent)) → (from : ℕ) → unwrap_or (stands_on s run n own) 0 ≡ from
       → (o : Option mobiles.Call) → (let k = mobile_known_in s run n own agent in let now = now_in s run in
       Acts e s n (here (OfMobile agent)) from
-      (or_same (Mobile k) (λ x. Mobile (mobile_doing.turn_of k now x).known) o)
-      (or_idle (λ x. mobile_steps.answers_of (mobile_doing.turn_of k now x).steps) o)
-      (asks (λ c run. mobile_turned s n own (mobile_doing.turn_of (mobile_known_in s run n own agent) (now_in s run) c) run) o run))
+      (or_same (Mobile k) (λ x. Mobile (mobile_doing.transition_of k now x).known) o)
+      (or_idle (λ x. mobile_steps.answers_of (mobile_doing.transition_of k now x).steps) o)
+      (asks (λ c run. after_mobile_transition s n own (mobile_doing.transition_of (mobile_known_in s run n own agent) (now_in s run) c) run) o run))
   mobile_acts agent is_host there from sends None = acts_idle e s run at n (here (OfMobile agent)) from there
   mobile_acts agent is_host there from sends (Some call) =
-      let t = mobile_doing.turn_of (mobile_known_in s run n own agent) (now_in s run) call in
-      let past = mobile_turns.with_turn (mobile_past_at run n) t in
+      let t = mobile_doing.transition_of (mobile_known_in s run n own agent) (now_in s run) call in
+      let past = mobile_transitions.with_transition (mobile_past_at run n) t in
       record {
         next = with_mobile_past n past run;
         stands = at_node e s run at n _ _ (with_mobile_past n past run) is_host (differs_mobile_past n past run) (mobile_on agent call is_host);
@@ -153,8 +153,8 @@ module _ (e : EngineSeen) (s : Setup) (run : Run) (at : IsAt e s run) (n : ℕ) 
       let c = node_in s run n (record { address = own; kind = OfMobile agent }) in
       let a = around_in run n (Some own.0) in
       subst (λ (h : Address). Acts e s n c from
-      (or_same (Mobile k) (λ x. Mobile (mobile_doing.turn_of k (now_in s run) x).known) (for_mobile a h call))
-      (or_idle (λ x. mobile_steps.answers_of (mobile_doing.turn_of k (now_in s run) x).steps) (for_mobile a h call))
+      (or_same (Mobile k) (λ x. Mobile (mobile_doing.transition_of k (now_in s run) x).known) (for_mobile a h call))
+      (or_idle (λ x. mobile_steps.answers_of (mobile_doing.transition_of k (now_in s run) x).steps) (for_mobile a h call))
       (by_kind s n own call run (OfMobile agent)))
       (sym (home_in s run n own agent))
       (mobile_acts e s run at n own agent is_host there from sends (for_mobile a own call))

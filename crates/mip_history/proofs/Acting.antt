@@ -7,12 +7,12 @@ use Rattle.mip_entries.specs.declared.entry.Entry.{Entry}
 use Rattle.mip_entries.specs.declared.entry.Entry.TheVariants as entries
 use Rattle.mip_entries.specs.Stamped.{Stamped}
 use Rattle.mip_rules_correspondent.specs.Calls as correspondents
-use Rattle.mip_rules_correspondent.specs.Doing.{turn_of}
+use Rattle.mip_rules_correspondent.specs.Doing.{transition_of}
 use Rattle.mip_rules_correspondent.proofs.Taken.{refreshed_none, sent_none}
 use Rattle.mip_rules_agent.specs.declared.identity.Identity.{Identity}
 use Rattle.mip_rules_agent.specs.Known.{Known}
 use Rattle.mip_rules_agent.specs.Steps as agents
-use Rattle.mip_rules_agent.specs.Transitions as agent_turns
+use Rattle.mip_rules_agent.specs.Transitions as agent_transitions
 use Rattle.mip_rules_agent.specs.Calls as agent_calls
 use Rattle.mip_rules_agent.specs.Doing as agent_doing
 use Rattle.mip_rules_agent.proofs.Answers.{call-whole}
@@ -26,11 +26,11 @@ use Rattle.mip_history.specs.Setup.Kind.{Correspondent, Agent, Mobile}
 use Rattle.mip_history.specs.Runs.{Run, note, agent_past_at, with_agent_past}
 use Rattle.mip_history.specs.Calls.{Call, Take, Send, Refresh, Tick, Plan, Hear, Attach, Leave, Ask, Restart, for_agent}
 use Rattle.mip_history.specs.Knowing.{link_or_first, now_in, identity_in, known_in, agent_of, agent_known_in, mobile_known_in, around_in}
-use Rattle.mip_history.specs.Nodes.{agent_turned, mobile_turned, asks, by_kind, by_host, acts}
+use Rattle.mip_history.specs.Nodes.{after_agent_transition, after_mobile_transition, asks, by_kind, by_host, acts}
 use Rattle.mip_history.proofs.Runs.{IsRun, IsQuiet, Goes, quiet_same, quiet_then, quiet_notes, is_met, goes_quietly}
 use Rattle.mip_history.proofs.Answering.{quiet_whole}
-use Rattle.mip_history.proofs.Handing.{turned_quietly}
-use Rattle.mip_history.proofs.PartTurns.{mobile_turn}
+use Rattle.mip_history.proofs.Handing.{after_quiet_transition}
+use Rattle.mip_history.proofs.PartTransitions.{mobile_transition}
 
 -- a run as it stands, and with an entry of which nothing is known
 pub stays : (s : Setup) (run : Run) → IsRun s run → Goes s run run
@@ -51,10 +51,10 @@ quiet_agent_past s n past run = record {
   kept = λ k. k;
 }
 
-quiet_agent_turn : (s : Setup) (n : ℕ) (own : Address) (me : Identity) (k : Known) (now : ℕ) (c : agent_calls.Call) (run : Run) → IsQuiet s run (agent_turned s n own (agent_doing.turn_of me k now c) run)
-quiet_agent_turn s n own me k now c run =
-    let t = agent_doing.turn_of me k now c in
-    let past = agent_turns.with_turn (agent_past_at run n) t in
+quiet_agent_transition : (s : Setup) (n : ℕ) (own : Address) (me : Identity) (k : Known) (now : ℕ) (c : agent_calls.Call) (run : Run) → IsQuiet s run (after_agent_transition s n own (agent_doing.transition_of me k now c) run)
+quiet_agent_transition s n own me k now c run =
+    let t = agent_doing.transition_of me k now c in
+    let past = agent_transitions.with_transition (agent_past_at run n) t in
     quiet_then s run (with_agent_past n past run) _ (quiet_agent_past s n past run)
     (quiet_whole s n (link_or_first s own.0) (with_agent_past n past run) (agents.answers_of t.steps) (call-whole me k now c))
 
@@ -67,7 +67,7 @@ module _ (s : Setup) (n : ℕ) (call : Call) (run : Run) (is : IsRun s run) wher
   agent_goes : (own : Address) (preference life room : ℕ) (serves : List Address) → IsQuiet s run (by_kind s n own call run (Agent preference life room serves))
   agent_goes own preference life room serves =
       quiet_asks s _ (for_agent (around_in run n None) call) run
-      (λ (c : agent_calls.Call). quiet_agent_turn s n own (agent_of own preference life room) (agent_known_in run n serves) (now_in s run) c run)
+      (λ (c : agent_calls.Call). quiet_agent_transition s n own (agent_of own preference life room) (agent_known_in run n serves) (now_in s run) c run)
 
   -- a call to whatever node it is, if it keeps the run where that is a correspondent or a mobile
   pub acts_goes : ((own : Address) (room : ℕ) → slice_get s.hosts n ≡ Some (record { address = own; kind = Correspondent room }) → Goes s run (by_kind s n own call run (Correspondent room)))
@@ -102,9 +102,9 @@ no_restart (mobile_calls.Restart secrets) calm = absurd cc
 no_restart _ calm = refl
 
 module _ (s : Setup) (n : ℕ) (run : Run) (is : IsRun s run) (own : Address) (agent : Option Address) (host_is : slice_get s.hosts n ≡ Some (record { address = own; kind = Mobile agent })) where
-  roams_calmly : (c : mobile_calls.Call) → is_grave_for c ≡ false → Goes s run (mobile_turned s n own (mobile_doing.turn_of (mobile_known_in s run n own agent) (now_in s run) c) run)
+  roams_calmly : (c : mobile_calls.Call) → is_grave_for c ≡ false → Goes s run (after_mobile_transition s n own (mobile_doing.transition_of (mobile_known_in s run n own agent) (now_in s run) c) run)
   roams_calmly c calm =
-      mobile_turn s n own agent run is host_is c (no_restart c calm)
+      mobile_transition s n own agent run is host_is c (no_restart c calm)
       (λ x. absurd (let both : true ≡ false = sym (ap is_grave_for x.call) ∙ calm in cc))
 
   mobile_goes : (call : Call) → is_grave call ≡ false → Goes s run (by_kind s n own call run (Mobile agent))
@@ -132,10 +132,10 @@ acts_calmly s n call run is calm = acts_goes s n call run is (λ own room e. min
         let me = identity_in s run n own room in
         let k = known_in s run n room in
         let q = sent_none me k (now_in s run) to proto payload in
-        turned_quietly s n own run (turn_of me k (now_in s run) (correspondents.Send to proto payload)) is (slice_get_within s.hosts n _ e) (ap is_correspondent_host e) q.0 q.1
+        after_quiet_transition s n own run (transition_of me k (now_in s run) (correspondents.Send to proto payload)) is (slice_get_within s.hosts n _ e) (ap is_correspondent_host e) q.0 q.1
     mine own room e (Refresh home) calm =
         let me = identity_in s run n own room in
         let k = known_in s run n room in
         let q = refreshed_none me k (now_in s run) home in
-        turned_quietly s n own run (turn_of me k (now_in s run) (correspondents.Refresh home)) is (slice_get_within s.hosts n _ e) (ap is_correspondent_host e) q.0 q.1
+        after_quiet_transition s n own run (transition_of me k (now_in s run) (correspondents.Refresh home)) is (slice_get_within s.hosts n _ e) (ap is_correspondent_host e) q.0 q.1
     mine own room e _ calm = noted_goes s run entries.Idle is refl

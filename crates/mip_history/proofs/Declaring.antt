@@ -239,20 +239,20 @@ module _ (ds : List Declaration) (s : Setup) (of : IsOf ds s) where
   d-by_kind n own call run within p (Correspondent room) =
       d-asks _ (for_correspondent call) run p
       (λ (c : correspondent_calls.Call).
-      let t = correspondent_doing.turn_of (identity_in s run n own room) (known_in s run n room) (now_in s run) c in
+      let t = correspondent_doing.transition_of (identity_in s run n own room) (known_in s run n room) (now_in s run) c in
       d-answered n (link_or_first s own.0) _ (correspondents.answers_of t.steps) within
       (part_reasons (correspondents.answers_of t.steps) (correspondent_answers.call-whole (identity_in s run n own room) (known_in s run n room) (now_in s run) c)) p)
   d-by_kind n own call run within p (Agent preference life room serves) =
       d-asks _ (for_agent (around_in run n None) call) run p
       (λ (c : agent_calls.Call).
-      let t = agent_doing.turn_of (agent_of own preference life room) (agent_known_in run n serves) (now_in s run) c in
+      let t = agent_doing.transition_of (agent_of own preference life room) (agent_known_in run n serves) (now_in s run) c in
       d-answered n (link_or_first s own.0) _ (agents.answers_of t.steps) within
       (agent_reasons (agents.answers_of t.steps) (agent_answers.call-whole (agent_of own preference life room) (agent_known_in run n serves) (now_in s run) c)) p)
   d-by_kind n own call run within p (Mobile agent) =
       d-asks _ (for_mobile (around_in run n (Some own.0)) own call) run p
       (λ (c : mobile_calls.Call).
       let k = mobile_known_in s run n own agent in
-      d-answered n (unwrap_or (stands_on s run n own) 0) _ (mobiles.answers_of (let t = mobile_doing.turn_of k (now_in s run) c in t.steps)) within (mobile_reasons k (now_in s run) c) p)
+      d-answered n (unwrap_or (stands_on s run n own) 0) _ (mobiles.answers_of (let t = mobile_doing.transition_of k (now_in s run) c in t.steps)) within (mobile_reasons k (now_in s run) c) p)
 
   pub d-acts : (n : ℕ) (call : Call) (run : Run) → P run → P (acts s n call run)
   d-acts n call run p = by (slice_get s.hosts n) refl

@@ -26,7 +26,7 @@ use Rattle.mip_rules_correspondent.specs.declared.verdict.Verdict.TheVariants.{A
 use Rattle.mip_rules_correspondent.specs.Verdicts.{Bench, verdict}
 use Rattle.mip_rules_correspondent.specs.Rules.{bench}
 use Rattle.mip_rules_correspondent.specs.Calls.{Take}
-use Rattle.mip_rules_correspondent.specs.Doing.{turn_of}
+use Rattle.mip_rules_correspondent.specs.Doing.{transition_of}
 use Rattle.mip_rules_correspondent.specs.Taken.{IsUpdateTaken}
 use Rattle.mip_rules_correspondent.proofs.Acceptances.{floor-answers, full-answers}
 use Rattle.mip_rules_correspondent.proofs.Pasts.{known-numbers}
@@ -37,20 +37,20 @@ use Rattle.mip_history.specs.Setup.Kind.{Correspondent}
 use Rattle.mip_history.specs.Runs.{Run, note, past_at}
 use Rattle.mip_history.specs.Questions.{moment_in, life_in}
 use Rattle.mip_history.specs.Knowing.{link_or_first, secrets_in, identity_in, known_in, now_in}
-use Rattle.mip_history.specs.Nodes.{turned}
+use Rattle.mip_history.specs.Nodes.{after_transition}
 use Rattle.mip_history.specs.Delivery.{handed_over}
 use Rattle.mip_history.specs.Bound.{accepted_by, packet_in, judge_in, IsAccepted}
 use Rattle.mip_history.proofs.Numbered.{packet_numbered}
 use Rattle.mip_history.proofs.Runs.{IsPast, IsRun, Goes, quiet_handed, quiet_run}
-use Rattle.mip_history.proofs.Transitions.{done, quiet_turn, accepting_turn}
+use Rattle.mip_history.proofs.Transitions.{done, quiet_transition, accepting_transition}
 use Rattle.mip_rules_correspondent.proofs.Taken.{accepted_home, taken_is}
 
--- a turn of a correspondent in which nothing is accepted
-pub turned_quietly : (s : Setup) (n : ℕ) (own : Address) (run : Run) (t : Transition) → IsRun s run → n < length s.hosts → is_correspondent_at s n ≡ true
-    → t.now ≡ now_in s run → list_any is_acceptance t.steps ≡ false → Goes s run (turned s n own t run)
-turned_quietly s n own run t is inside corresponds now none =
+-- a transition of a correspondent in which nothing is accepted
+pub after_quiet_transition : (s : Setup) (n : ℕ) (own : Address) (run : Run) (t : Transition) → IsRun s run → n < length s.hosts → is_correspondent_at s n ≡ true
+    → t.now ≡ now_in s run → list_any is_acceptance t.steps ≡ false → Goes s run (after_transition s n own t run)
+after_quiet_transition s n own run t is inside corresponds now none =
     subst (λ (at : ℕ). Goes s run (done s n (link_or_first s own.0) at t.steps run)) (sym now)
-    (quiet_turn s n (link_or_first s own.0) run is inside corresponds t.steps none)
+    (quiet_transition s n (link_or_first s own.0) run is inside corresponds t.steps none)
 
 -- what is handed over reads as what was posted
 pub record ReadsAs (bytes : List ℕ) (q : Packet) : Type 0 where
@@ -82,7 +82,7 @@ bench_same : (own : Address) (now : ℕ) {s t : Life} {a b : Option ℕ} {x y : 
     → (let k : Bench = record { own = own; secrets = s; now = now; floor = a; full = x; numbers = m } in k) ≡ record { own = own; secrets = t; now = now; floor = b; full = y; numbers = n }
 bench_same own now o p q r = cc
 
--- the judge of a turn is the one of the history
+-- the judge of a transition is the one of the history
 pub judge_same : (s : Setup) (past : List Entry) (n : ℕ) (own : Address) (secrets : Life) (room : ℕ) (steps : List (Stamped Step)) → secrets ≡ secrets_in s n (life_in past n) → IsPast s past steps n
     → (r : Registration) (home : Address) → home ≡ home_of r
     → bench (record { own = own; secrets = secrets; room = room }) (known room s.numbers steps) (moment_in s.start past) r ≡ judge_in s past n own room home.0
@@ -130,7 +130,7 @@ module _ (s : Setup) (k n : ℕ) (post : Post) (link : Option ℕ) (before : Run
   same_judge r home same = judge_same s run.past n own me.secrets room (past_at run n) refl (run_is.pasts n corresponds) r home same
 
   abbrev steps : List Step
-  steps = (turn_of me (known_in s run n room) (now_in s run) (Take k post.shield (handed_over post.packet link))).steps
+  steps = (transition_of me (known_in s run n room) (now_in s run) (Take k post.shield (handed_over post.packet link))).steps
 
   -- an update that is accepted stands behind its packet
   stands : (u : IsUpdateTaken me (known_in s run n room) (now_in s run) k post.shield (handed_over post.packet link) steps) → IsAccepted s run.past n k u.home u.binding u.accepted
@@ -164,18 +164,18 @@ module _ (s : Setup) (k n : ℕ) (post : Post) (link : Option ℕ) (before : Run
       same : {a b : Address} {x y : Option Address} {l m : List ℕ} → b ≡ a → y ≡ x → m ≡ l → registration_in a x l ≡ registration_in b y m
       same p q r = cc
 
-  pub handed_to : Goes s run (turned s n own (turn_of me (known_in s run n room) (now_in s run) (Take k post.shield (handed_over post.packet link))) run)
+  pub handed_to : Goes s run (after_transition s n own (transition_of me (known_in s run n room) (now_in s run) (Take k post.shield (handed_over post.packet link))) run)
   handed_to = by found.1
     where
       t : Transition
-      t = turn_of me (known_in s run n room) (now_in s run) (Take k post.shield (handed_over post.packet link))
+      t = transition_of me (known_in s run n room) (now_in s run) (Take k post.shield (handed_over post.packet link))
 
       found : (t.now ≡ now_in s run) × ((list_any is_acceptance t.steps ≡ false) ⊎ IsUpdateTaken me (known_in s run n room) (now_in s run) k post.shield (handed_over post.packet link) t.steps)
       found = taken_is me (known_in s run n room) (now_in s run) k post.shield (handed_over post.packet link)
 
-      by : ((list_any is_acceptance t.steps ≡ false) ⊎ IsUpdateTaken me (known_in s run n room) (now_in s run) k post.shield (handed_over post.packet link) t.steps) → Goes s run (turned s n own t run)
-      by (inl none) = turned_quietly s n own run t run_is inside corresponds found.0 none
+      by : ((list_any is_acceptance t.steps ≡ false) ⊎ IsUpdateTaken me (known_in s run n room) (now_in s run) k post.shield (handed_over post.packet link) t.steps) → Goes s run (after_transition s n own t run)
+      by (inl none) = after_quiet_transition s n own run t run_is inside corresponds found.0 none
       by (inr u) =
           subst (λ (at : ℕ). Goes s run (done s n (link_or_first s own.0) at t.steps run)) (sym found.0)
           (subst (λ (l : List Step). Goes s run (done s n (link_or_first s own.0) (now_in s run) l run)) (sym u.steps_are)
-          (accepting_turn s n (link_or_first s own.0) run run_is inside corresponds (Take k post.shield (handed_over post.packet link)) k u.home u.binding u.accepted u.rest u.none (stands u)))
+          (accepting_transition s n (link_or_first s own.0) run run_is inside corresponds (Take k post.shield (handed_over post.packet link)) k u.home u.binding u.accepted u.rest u.none (stands u)))

@@ -8,7 +8,7 @@ use Rattle.mip_lists.proofs.EachLaws.{each-append}
 use Rattle.mip_entries.specs.declared.entry.Entry.TheVariants as entries
 use Rattle.mip_entries.specs.Completed.{node_id}
 use Rattle.mip_entries.specs.Stamped.{Stamped}
-use Rattle.mip_rules_correspondent.specs.Transitions as correspondent_turns
+use Rattle.mip_rules_correspondent.specs.Transitions as correspondent_transitions
 use Rattle.mip_rules_correspondent.specs.Steps as correspondents
 use Rattle.mip_rules_correspondent.specs.Calls as correspondent_calls
 use Rattle.mip_rules_correspondent.specs.Doing as correspondent_doing
@@ -21,7 +21,7 @@ use Rattle.mip_rules_agent.specs.Questions.{binding_of, known}
 use Rattle.mip_rules_agent.proofs.Taken.{taken_is}
 use Rattle.mip_rules_agent.proofs.HomeLaws.{tick-quiet, plan-quiet, hear-quiet}
 use Rattle.mip_rules_mobile.specs.Known as mobile_known
-use Rattle.mip_rules_mobile.specs.Transitions as mobile_turns
+use Rattle.mip_rules_mobile.specs.Transitions as mobile_transitions
 use Rattle.mip_rules_mobile.specs.Steps as mobiles
 use Rattle.mip_rules_mobile.specs.Calls as mobile_calls
 use Rattle.mip_rules_mobile.specs.Doing as mobile_doing
@@ -34,7 +34,7 @@ use Rattle.mip_history.specs.Setup.Kind.{Correspondent, Agent, Mobile}
 use Rattle.mip_history.specs.Runs.{Run, note, past_at, mobile_past_at, with_past, with_agent_past, with_mobile_past}
 use Rattle.mip_history.specs.Calls.{Call, Take, Tick, Plan, Hear, Leave, Restart, for_correspondent, for_mobile}
 use Rattle.mip_history.specs.Knowing.{link_or_first, now_in, secrets_in, identity_in, known_in, agent_of, agent_known_in, mobile_known_in, around_in}
-use Rattle.mip_history.specs.Nodes.{turned, agent_turned, mobile_turned, asks, by_kind, by_host, acts}
+use Rattle.mip_history.specs.Nodes.{after_transition, after_agent_transition, after_mobile_transition, asks, by_kind, by_host, acts}
 use Rattle.mip_history.specs.Permitted.{run_of}
 use Rattle.mip_history.specs.Registered.{is_agent_kind, is_agent_host, is_agent_at, registration_says, last_registration}
 use Rattle.mip_history.proofs.Opening.{nothing}
@@ -49,30 +49,30 @@ homed_asks s does None run h go = homed_other s entries.Idle run refl h
 homed_asks s does (Some call) run h go = go call
 
 module _ (s : Setup) (n : ℕ) (run : Run) (h : IsHomed s run) where
-  homed_correspondent : (own : Address) (t : correspondent_turns.Transition) → IsHomed s (turned s n own t run)
+  homed_correspondent : (own : Address) (t : correspondent_transitions.Transition) → IsHomed s (after_transition s n own t run)
   homed_correspondent own t =
-      homed_answers s n (link_or_first s own.0) (correspondents.answers_of t.steps) (with_past n (correspondent_turns.with_turn (past_at run n) t) run)
+      homed_answers s n (link_or_first s own.0) (correspondents.answers_of t.steps) (with_past n (correspondent_transitions.with_transition (past_at run n) t) run)
       (correspondent_fine s n t.steps) (record { agents = h.agents; each = h.each; under = h.under; homes = h.homes })
 
   homed_mobile : (own : Address) (agent : Option Address) → slice_get s.hosts n ≡ Some (record { address = own; kind = Mobile agent }) → (c : mobile_calls.Call)
-      → IsHomed s (mobile_turned s n own (mobile_doing.turn_of (mobile_known_in s run n own agent) (now_in s run) c) run)
+      → IsHomed s (after_mobile_transition s n own (mobile_doing.transition_of (mobile_known_in s run n own agent) (now_in s run) c) run)
   homed_mobile own agent host c =
       let k : mobile_known.Known = mobile_known_in s run n own agent in
-      let t : mobile_turns.Transition = mobile_doing.turn_of k (now_in s run) c in
+      let t : mobile_transitions.Transition = mobile_doing.transition_of k (now_in s run) c in
       let under : AreShieldedFrom own (mobiles.answers_of t.steps) =
       subst (λ (a : Address). AreShieldedFrom a (mobiles.answers_of t.steps)) (past-home own agent s.numbers (secrets_in s n 0) (mobile_past_at run n)) (call-shielded k (now_in s run) c) in
-      homed_answers s n _ (mobiles.answers_of t.steps) (with_mobile_past n (mobile_turns.with_turn (mobile_past_at run n) t) run)
+      homed_answers s n _ (mobiles.answers_of t.steps) (with_mobile_past n (mobile_transitions.with_transition (mobile_past_at run n) t) run)
       (mobile_fine s n own agent host (mobiles.answers_of t.steps) under) (record { agents = h.agents; each = h.each; under = h.under; homes = h.homes })
 
   -- an agent, by the call
   module _ (own : Address) (preference life room : ℕ) (serves : List Address) (host : slice_get s.hosts n ≡ Some (record { address = own; kind = Agent preference life room serves })) where
-    abbrev turn : agent_calls.Call → Run
-    turn c = agent_turned s n own (agent_doing.turn_of (agent_of own preference life room) (agent_known_in run n serves) (now_in s run) c) run
+    abbrev transition : agent_calls.Call → Run
+    transition c = after_agent_transition s n own (agent_doing.transition_of (agent_of own preference life room) (agent_known_in run n serves) (now_in s run) c) run
 
     homed_agent : (call : Call) → IsCall s run n call → IsHomed s (by_kind s n own call run (Agent preference life room serves))
     homed_agent (Take number shield packet) handed =
         let c = agent_calls.Take number shield packet (claim_for (around_in run n None) packet) in
-        elim (taken_is (agent_of own preference life room) (agent_known_in run n serves) (now_in s run) number shield packet (claim_for (around_in run n None) packet)) as (λ _. IsHomed s (turn c)) [
+        elim (taken_is (agent_of own preference life room) (agent_known_in run n serves) (now_in s run) number shield packet (claim_for (around_in run n None) packet)) as (λ _. IsHomed s (transition c)) [
           | inl quiet ↦ quiet_agent s n own preference life room serves host run h c quiet.0
           | inr u ↦ taking_agent s n own preference life room serves host run h number shield packet (claim_for (around_in run n None) packet) handed u
         ]
@@ -89,7 +89,7 @@ module _ (s : Setup) (n : ℕ) (run : Run) (h : IsHomed s run) where
   homed_by_kind : (own : Address) (call : Call) → IsCall s run n call → (kind : Kind) → slice_get s.hosts n ≡ Some (record { address = own; kind = kind }) → IsHomed s (by_kind s n own call run kind)
   homed_by_kind own call handed (Correspondent room) host =
       homed_asks s _ (for_correspondent call) run h
-      (λ (c : correspondent_calls.Call). homed_correspondent own (correspondent_doing.turn_of (identity_in s run n own room) (known_in s run n room) (now_in s run) c))
+      (λ (c : correspondent_calls.Call). homed_correspondent own (correspondent_doing.transition_of (identity_in s run n own room) (known_in s run n room) (now_in s run) c))
   homed_by_kind own call handed (Agent preference life room serves) host = homed_agent own preference life room serves host call handed
   homed_by_kind own call handed (Mobile agent) host =
       homed_asks s _ (for_mobile (around_in run n (Some own.0)) own call) run h (λ (c : mobile_calls.Call). homed_mobile own agent host c)

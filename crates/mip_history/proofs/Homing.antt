@@ -1,4 +1,4 @@
--- A turn of any node keeps what is kept of homes: what an agent registers was sent by the mobile with that home.
+-- A transition of any node keeps what is kept of homes: what an agent registers was sent by the mobile with that home.
 use Rattle.std.proofs.Common.{◌≡◌, ◌≢◌, ℕ, ◌<◌, List, [], ◌∷◌, ◌++◌, Bool, true, false, length, inl, inr, refl, sym, ap, ◌∙◌, subst, arith, length-set}
 use Rattle.std.specs.Prelude.{Option, Some, None, option_map, unwrap_or, Result, Ok, Err, ◌==◌, ◌&&◌, ◌||◌, if◌then◌else◌, slice_get, slice_set, slice_index, slice_index_or}
 use Rattle.std.specs.List.{list_any}
@@ -27,9 +27,9 @@ use Rattle.mip_rules_agent.specs.declared.home_binding.HomeBinding.{HomeBinding}
 use Rattle.mip_rules_agent.specs.Known as agent_known
 use Rattle.mip_rules_agent.specs.Calls as agent_calls
 use Rattle.mip_rules_agent.specs.Steps.{Step, Called, Sends, Registers, Claims, Releases, Denies, Drops, Rang, answers_of, is_registration}
-use Rattle.mip_rules_agent.specs.Transitions as agent_turns
+use Rattle.mip_rules_agent.specs.Transitions as agent_transitions
 use Rattle.mip_rules_agent.specs.Questions.{known, binding_of, holds}
-use Rattle.mip_rules_agent.specs.Doing.{turn_of}
+use Rattle.mip_rules_agent.specs.Doing.{transition_of}
 use Rattle.mip_rules_agent.specs.Rules.{bench, claim_with}
 use Rattle.mip_rules_agent.specs.Verdicts.{binding_for}
 use Rattle.mip_rules_agent.specs.Pasts.{is_one_of, is_registration_of}
@@ -48,7 +48,7 @@ use Rattle.mip_history.specs.Setup.{Setup}
 use Rattle.mip_history.specs.Setup.Kind.{Agent, Mobile}
 use Rattle.mip_history.specs.Runs.{Run, note, agent_past_at, with_agent_past}
 use Rattle.mip_history.specs.Knowing.{link_or_first, now_in, agent_of, agent_known_in}
-use Rattle.mip_history.specs.Nodes.{agent_turned, answered}
+use Rattle.mip_history.specs.Nodes.{after_agent_transition, answered}
 use Rattle.mip_history.specs.Delivery.{handed_over}
 use Rattle.mip_history.specs.Registered.{is_agent_host, is_agent_at, registration_entry, last_registration, IsSentFrom, IsRegistration}
 use Rattle.mip_history.proofs.Keeping.{IsHanded}
@@ -132,11 +132,11 @@ module _ (s : Setup) (n : ℕ) (own : Address) (preference life room : ℕ) (ser
   abbrev now : ℕ
   now = now_in s run
 
-  abbrev turn : agent_calls.Call → agent_turns.Transition
-  turn c = turn_of me k now c
+  abbrev transition : agent_calls.Call → agent_transitions.Transition
+  transition c = transition_of me k now c
 
   abbrev more : agent_calls.Call → List (Stamped Step)
-  more c = agent_turns.with_turn (agent_past_at run n) (turn c)
+  more c = agent_transitions.with_transition (agent_past_at run n) (transition c)
 
   abbrev middle : agent_calls.Call → Run
   middle c = with_agent_past n (more c) run
@@ -144,12 +144,12 @@ module _ (s : Setup) (n : ℕ) (own : Address) (preference life room : ℕ) (ser
   serving : serves_in s n ≡ Some serves
   serving = ap serves_by_host host
 
-  stands : agent_turns.Stands serves (agent_past_at run n) k
+  stands : agent_transitions.Stands serves (agent_past_at run n) k
   unfolding known StandsBy
   stands = refl
 
-  known_then : (c : agent_calls.Call) → known serves (more c) ≡ (turn c).known
-  known_then c = sym (stands-known serves (more c) (turn c).known (call-stands serves (agent_past_at run n) k now me c stands))
+  known_then : (c : agent_calls.Call) → known serves (more c) ≡ (transition c).known
+  known_then c = sym (stands-known serves (more c) (transition c).known (call-stands serves (agent_past_at run n) k now me c stands))
 
   long : (past : List (Stamped Step)) → length (slice_set run.agent_pasts n past) ≡ length s.hosts
   long past = length-set run.agent_pasts n past ∙ h.agents
@@ -179,22 +179,22 @@ module _ (s : Setup) (n : ℕ) (own : Address) (preference life room : ℕ) (ser
   known_before : (home : Address) → binding_of k home ≡ last_registration run.past n home
   known_before home = h.homes n serves serving home
 
-  -- a turn in which nothing is registered
-  pub quiet_agent : (c : agent_calls.Call) → list_any is_registration (turn c).steps ≡ false → IsHomed s (agent_turned s n own (turn c) run)
+  -- a transition in which nothing is registered
+  pub quiet_agent : (c : agent_calls.Call) → list_any is_registration (transition c).steps ≡ false → IsHomed s (after_agent_transition s n own (transition c) run)
   quiet_agent c none =
-      homed_answers s n (link_or_first s own.0) (answers_of (turn c).steps) (middle c) (agent_fine s n (turn c).steps none (call-none me k now c))
+      homed_answers s n (link_or_first s own.0) (answers_of (transition c).steps) (middle c) (agent_fine s n (transition c).steps none (call-none me k now c))
       (record {
         agents = long (more c);
         each = h.each;
         under = h.under;
         homes = homes_with run.past (more c)
-            (λ home. ap (λ (l : agent_known.Known). binding_of l home) (known_then c) ∙ keeps-call home me k now c (of_home_none home (turn c).steps none) ∙ known_before home)
+            (λ home. ap (λ (l : agent_known.Known). binding_of l home) (known_then c) ∙ keeps-call home me k now c (of_home_none home (transition c).steps none) ∙ known_before home)
             (λ m home other. refl);
       })
 
   -- one in which an update is accepted
   module _ (number : ℕ) (shield : Option Shield) (bytes : List ℕ) (claim : Claim) (handed : IsHanded run n number shield bytes)
-      (u : IsUpdateTaken me k now number shield bytes claim (turn (agent_calls.Take number shield bytes claim)).steps) where
+      (u : IsUpdateTaken me k now number shield bytes claim (transition (agent_calls.Take number shield bytes claim)).steps) where
     abbrev call : agent_calls.Call
     call = agent_calls.Take number shield bytes claim
 
@@ -252,7 +252,7 @@ module _ (s : Setup) (n : ℕ) (own : Address) (preference life room : ℕ) (ser
           some = bounded.some;
         }
 
-    steps_of_home : (home : Address) (same : Bool) → (u.home.0 == home.0) ≡ same → list_any (is_registration_of home) (turn call).steps ≡ same
+    steps_of_home : (home : Address) (same : Bool) → (u.home.0 == home.0) ≡ same → list_any (is_registration_of home) (transition call).steps ≡ same
     steps_of_home home same is =
         ap (list_any (is_registration_of home)) u.steps_are
         ∙ ap (λ (x : Bool). x || list_any (is_registration_of home) u.rest) is
@@ -271,10 +271,10 @@ module _ (s : Setup) (n : ℕ) (own : Address) (preference life room : ℕ) (ser
         ∙ ap (λ (x : Bool). unwrap_or (if x then Some (Some b) else None) (last_registration run.past n home)) is
 
     -- the agent keeps it, and so does the history
-    kept_then : (home : Address) → binding_of (turn call).known home ≡ last_registration past n home
+    kept_then : (home : Address) → binding_of (transition call).known home ≡ last_registration past n home
     kept_then home = by (u.home.0 == home.0) refl
       where
-        by : (same : Bool) → (u.home.0 == home.0) ≡ same → binding_of (turn call).known home ≡ last_registration past n home
+        by : (same : Bool) → (u.home.0 == home.0) ≡ same → binding_of (transition call).known home ≡ last_registration past n home
         by true is =
             let j = judged in
             becomes me k now number shield bytes claim home (steps_of_home home true is) u
@@ -306,5 +306,5 @@ module _ (s : Setup) (n : ℕ) (own : Address) (preference life room : ℕ) (ser
     unfolding answered
     behind = homed_answers s n (link_or_first s own.0) (answers_of u.rest) left (agent_fine s n u.rest u.none rest_shielded) left_homed
 
-    pub taking_agent : IsHomed s (agent_turned s n own (turn call) run)
+    pub taking_agent : IsHomed s (after_agent_transition s n own (transition call) run)
     taking_agent = subst (λ (l : List Step). IsHomed s (answered s n (link_or_first s own.0) (middle call) (answers_of l))) (sym u.steps_are) behind

@@ -20,7 +20,7 @@ use Rattle.mip_rules_agent.specs.declared.identity.Identity.{Identity}
 use Rattle.mip_rules_agent.specs.Known as agent_known
 use Rattle.mip_rules_agent.specs.Steps as agents
 use Rattle.mip_rules_agent.specs.Calls as agent_calls
-use Rattle.mip_rules_agent.specs.Transitions as agent_turns
+use Rattle.mip_rules_agent.specs.Transitions as agent_transitions
 use Rattle.mip_rules_agent.specs.Questions as agent_questions
 use Rattle.mip_rules_agent.specs.Doing as agent_doing
 use Rattle.mip_rules_agent.proofs.Pasts as agent_pasts
@@ -29,7 +29,7 @@ use Rattle.mip_rules_agent.proofs.Ticking.{tick-leaves}
 use Rattle.mip_rules_mobile.specs.Known as mobile_known
 use Rattle.mip_rules_mobile.specs.Steps as mobiles
 use Rattle.mip_rules_mobile.specs.Calls as mobile_calls
-use Rattle.mip_rules_mobile.specs.Transitions as mobile_turns
+use Rattle.mip_rules_mobile.specs.Transitions as mobile_transitions
 use Rattle.mip_rules_mobile.specs.Questions as mobile_questions
 use Rattle.mip_rules_mobile.specs.Doing as mobile_doing
 use Rattle.mip_rules_mobile.proofs.Calls as mobile_stands
@@ -61,7 +61,7 @@ same run = record { agents = refl; mobiles = refl }
 same_then : (a b c : Run) → AreSame a b → AreSame b c → AreSame a c
 same_then a b c p q = record { agents = q.agents ∙ p.agents; mobiles = q.mobiles ∙ p.mobiles }
 
--- what a node does beside its turn
+-- what a node does beside its transition
 same_claimed : (who : ℕ) (address : Address) (run : Run) (link : Option ℕ) → AreSame run (claimed_on who address run link)
 same_claimed who address run None = record { agents = refl; mobiles = refl }
 same_claimed who address run (Some link) = record { agents = refl; mobiles = refl }
@@ -186,28 +186,28 @@ module _ (s : Setup) (run : Run) (is : IsRun s run) (n : ℕ) (own : Address) (p
   abbrev k : agent_known.Known
   k = agent_known_in run n serves
 
-  abbrev turn : agent_turns.Transition
-  turn = agent_doing.turn_of me k now agent_calls.Tick
+  abbrev transition : agent_transitions.Transition
+  transition = agent_doing.transition_of me k now agent_calls.Tick
 
   abbrev more : List (Stamped agents.Step)
-  more = agent_turns.with_turn (agent_past_at run n) turn
+  more = agent_transitions.with_transition (agent_past_at run n) transition
 
   abbrev middle : Run
   middle = with_agent_past n more run
 
   abbrev done : Run
-  done = answered s n (link_or_first s own.0) (with_agent_past n (agent_turns.with_turn (agent_past_at run n) (agent_doing.turn_of (agent_of own preference life room) (agent_known_in run n serves) (now_in s run) agent_calls.Tick)) run)
-      (agents.answers_of (agent_doing.turn_of (agent_of own preference life room) (agent_known_in run n serves) (now_in s run) agent_calls.Tick).steps)
+  done = answered s n (link_or_first s own.0) (with_agent_past n (agent_transitions.with_transition (agent_past_at run n) (agent_doing.transition_of (agent_of own preference life room) (agent_known_in run n serves) (now_in s run) agent_calls.Tick)) run)
+      (agents.answers_of (agent_doing.transition_of (agent_of own preference life room) (agent_known_in run n serves) (now_in s run) agent_calls.Tick).steps)
 
   done_same : AreSame middle done
-  done_same = same_answered s n (link_or_first s own.0) middle (agents.answers_of turn.steps)
+  done_same = same_answered s n (link_or_first s own.0) middle (agents.answers_of transition.steps)
 
-  stands : agent_turns.Stands serves (agent_past_at run n) k
+  stands : agent_transitions.Stands serves (agent_past_at run n) k
   unfolding agent_questions.known StandsBy
   stands = refl
 
-  knows : agent_questions.known serves more ≡ turn.known
-  knows = sym (agent_pasts.stands-known serves more turn.known (agent_stands.call-stands serves (agent_past_at run n) k now me agent_calls.Tick stands))
+  knows : agent_questions.known serves more ≡ transition.known
+  knows = sym (agent_pasts.stands-known serves more transition.known (agent_stands.call-stands serves (agent_past_at run n) k now me agent_calls.Tick stands))
 
   there : agent_past_at done n ≡ more
   there =
@@ -238,24 +238,24 @@ module _ (s : Setup) (run : Run) (is : IsRun s run) (n : ℕ) (home : Address) (
   abbrev knew : mobile_known.Known
   knew = mobile_known_in s run n home agent
 
-  abbrev tick : mobile_turns.Transition
-  tick = mobile_doing.turn_of knew at mobile_calls.Tick
+  abbrev tick : mobile_transitions.Transition
+  tick = mobile_doing.transition_of knew at mobile_calls.Tick
 
   abbrev longer : List (Stamped mobiles.Step)
-  longer = mobile_turns.with_turn (mobile_past_at run n) tick
+  longer = mobile_transitions.with_transition (mobile_past_at run n) tick
 
   abbrev between : Run
   between = with_mobile_past n longer run
 
   abbrev gone : Run
   gone = answered s n (unwrap_or (stands_on s run n home) 0)
-      (with_mobile_past n (mobile_turns.with_turn (mobile_past_at run n) (mobile_doing.turn_of (mobile_known_in s run n home agent) (now_in s run) mobile_calls.Tick)) run)
-      (mobiles.answers_of (mobile_doing.turn_of (mobile_known_in s run n home agent) (now_in s run) mobile_calls.Tick).steps)
+      (with_mobile_past n (mobile_transitions.with_transition (mobile_past_at run n) (mobile_doing.transition_of (mobile_known_in s run n home agent) (now_in s run) mobile_calls.Tick)) run)
+      (mobiles.answers_of (mobile_doing.transition_of (mobile_known_in s run n home agent) (now_in s run) mobile_calls.Tick).steps)
 
   gone_same : AreSame between gone
   gone_same = same_answered s n (unwrap_or (stands_on s run n home) 0) between (mobiles.answers_of tick.steps)
 
-  roams : mobile_turns.Stands home agent s.numbers (secrets_in s n 0) (mobile_past_at run n) knew
+  roams : mobile_transitions.Stands home agent s.numbers (secrets_in s n 0) (mobile_past_at run n) knew
   unfolding mobile_questions.known StandsBy
   roams = refl
 

@@ -7,7 +7,7 @@ mod Answering
 mod Transitions
 pub mod Numbered
 mod Handing
-pub mod PartTurns
+pub mod PartTransitions
 mod PartHanding
 mod Acting
 mod Deliveries

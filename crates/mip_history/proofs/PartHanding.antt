@@ -20,7 +20,7 @@ use Rattle.mip_rules_correspondent.proofs.VerdictLaws.{sound}
 use Rattle.mip_rules_mobile.specs.Calls.{Call, Take}
 use Rattle.mip_rules_mobile.specs.Known.{Known}
 use Rattle.mip_rules_mobile.specs.Questions.{part_room}
-use Rattle.mip_rules_mobile.specs.Doing.{turn_of}
+use Rattle.mip_rules_mobile.specs.Doing.{transition_of}
 use Rattle.mip_rules_mobile.specs.Part.{PartLife, IsReadIn, Itself, Within, IsPartTaken}
 use Rattle.mip_rules_mobile.proofs.PartLives.{part_is}
 use Rattle.mip_rules_mobile.proofs.Trusts.{came-read}
@@ -29,12 +29,12 @@ use Rattle.mip_history.specs.Setup.{Setup}
 use Rattle.mip_history.specs.Setup.Kind.{Mobile}
 use Rattle.mip_history.specs.Runs.{Run, note, mobile_past_at}
 use Rattle.mip_history.specs.Knowing.{now_in, secrets_in, mobile_known_in, part_in}
-use Rattle.mip_history.specs.Nodes.{mobile_turned}
+use Rattle.mip_history.specs.Nodes.{after_mobile_transition}
 use Rattle.mip_history.specs.Delivery.{handed_over}
 use Rattle.mip_history.specs.Bound.{judge_in, IsAccepted}
 use Rattle.mip_history.proofs.Runs.{IsPart, IsRun, Goes}
 use Rattle.mip_history.proofs.Handing.{reads_as, judge_same, handed_run, handed_packet}
-use Rattle.mip_history.proofs.PartTurns.{mobile_turn}
+use Rattle.mip_history.proofs.PartTransitions.{mobile_transition}
 
 -- what is handed over has in it what was posted
 record ReadsIn (bytes : List ℕ) (q : Packet) : Type 0 where
@@ -101,7 +101,7 @@ module _ (s : Setup) (k n : ℕ) (post : Post) (link : Option ℕ) (before : Run
   abbrev c : Call
   c = Take k post.shield (handed_over post.packet link)
 
-  module _ (x : IsPartTaken known (now_in s run) c (turn_of known (now_in s run) c).steps) where
+  module _ (x : IsPartTaken known (now_in s run) c (transition_of known (now_in s run) c).steps) where
     abbrev bench_of : CorrespondentSeen → Bench
     bench_of part = bench part.identity part.known (now_in s run) x.taken.registration
 
@@ -150,5 +150,5 @@ module _ (s : Setup) (k n : ℕ) (post : Post) (link : Option ℕ) (before : Run
     stands : IsAccepted s run.past n x.number x.taken.home x.taken.binding x.taken.accepted
     stands = subst (λ (number : ℕ). IsAccepted s run.past n number x.taken.home x.taken.binding x.taken.accepted) (ap number_in x.call) stands_at
 
-  pub handed_to_part : Goes s run (mobile_turned s n own (turn_of known (now_in s run) c) run)
-  handed_to_part = mobile_turn s n own agent run run_is host_is c refl stands
+  pub handed_to_part : Goes s run (after_mobile_transition s n own (transition_of known (now_in s run) c) run)
+  handed_to_part = mobile_transition s n own agent run run_is host_is c refl stands

@@ -25,7 +25,7 @@ use Rattle.mip_rules_mobile.specs.Calls.{Call}
 use Rattle.mip_rules_mobile.specs.Steps.{Step, answer_of, answers_of}
 use Rattle.mip_rules_mobile.specs.Known.{Known}
 use Rattle.mip_rules_mobile.specs.Questions.{after}
-use Rattle.mip_rules_mobile.specs.Doing.{turn_of}
+use Rattle.mip_rules_mobile.specs.Doing.{transition_of}
 use Rattle.mip_rules_mobile.specs.Answering.{EachAnswer, is_mobiles}
 use Rattle.mip_rules_mobile.proofs.Answers.{each-answer}
 use Rattle.mip_rules_mobile.proofs.Fits.{call-fits}
@@ -82,11 +82,11 @@ step_reasons now k [] each = tt
 step_reasons now k (step ∷ steps) each =
     all_append HasReasons (answer_of step) (answers_of steps) each.0 (step_reasons now (after k (record { at = now; step = step })) steps each.1)
 
-pub mobile_reasons : (k : Known) (now : ℕ) (c : Call) → AllByRecursion HasReasons (answers_of (turn_of k now c).steps)
+pub mobile_reasons : (k : Known) (now : ℕ) (c : Call) → AllByRecursion HasReasons (answers_of (transition_of k now c).steps)
 mobile_reasons k now c =
-    step_reasons now k (turn_of k now c).steps
+    step_reasons now k (transition_of k now c).steps
     (each-answer (λ k answer. HasReasons answer) (λ k. Unit {0}) c now (λ k step i. tt) (λ k e own. mobile_reason e own) (λ k x i sent. tt) (λ k row u i of. tt)
-    k (turn_of k now c).steps tt (call-fits k now c))
+    k (transition_of k now c).steps tt (call-fits k now c))
 
 -- the cause of a mark
 abbrev pub HasCause : Mark → Type 0

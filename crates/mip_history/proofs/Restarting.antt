@@ -20,24 +20,24 @@ use Rattle.mip_rules_agent.specs.Questions.{rows_at}
 use Rattle.mip_rules_mobile.specs.Calls as mobiles
 use Rattle.mip_rules_mobile.specs.Steps as mobile_steps
 use Rattle.mip_rules_mobile.specs.Transitions.{Transition}
-use Rattle.mip_rules_mobile.specs.Doing.{turn_of}
+use Rattle.mip_rules_mobile.specs.Doing.{transition_of}
 use Rattle.mip_rules_mobile.specs.Part.{PartLife, part_life, IsPartReborn}
 use Rattle.mip_rules_mobile.proofs.Calls.{call-now}
-use Rattle.mip_rules_mobile.proofs.PartTurns.{restart-part}
+use Rattle.mip_rules_mobile.proofs.PartTransitions.{restart-part}
 use Rattle.mip_history.specs.Setup.{Setup, Host, Kind, is_correspondent_host, is_correspondent_at, is_mobile_host}
 use Rattle.mip_history.specs.Setup.Kind.{Correspondent, Agent, Mobile}
 use Rattle.mip_history.specs.Runs.{Run, note, past_at, mobile_past_at, with_past, with_agent_past, with_mobile_past}
 use Rattle.mip_history.specs.Questions.{moment_says, moment_in, restarts, life_in}
 use Rattle.mip_history.specs.Calls.{Restart}
 use Rattle.mip_history.specs.Knowing.{now_in, secrets_in, agent_known_in, mobile_known_in, part_in, stands_on}
-use Rattle.mip_history.specs.Nodes.{mobile_turned, by_host}
+use Rattle.mip_history.specs.Nodes.{after_mobile_transition, by_host}
 use Rattle.mip_history.specs.Homes.{gives_up}
 use Rattle.mip_history.specs.Restarting.{homes_left, reborn_by_kind, reborn_by_host, restarted}
 use Rattle.mip_history.specs.Bound.{Lived, lived, accepted_by, packet_posted, packets_of}
 use Rattle.mip_history.proofs.Runs.{Meets, IsKept, IsPast, IsPart, past_stays, part_stays, IsRun, IsQuiet, quiet_same, quiet_then, quiet_run, goes_quietly}
 use Rattle.mip_history.proofs.Claiming.{quiet_gives_up}
 use Rattle.mip_history.proofs.Answering.{differs}
-use Rattle.mip_history.proofs.PartTurns.{mobile_apart, part_goes, mobile_done, reborn_life, quiet_reborn}
+use Rattle.mip_history.proofs.PartTransitions.{mobile_apart, part_goes, mobile_done, reborn_life, quiet_reborn}
 use Rattle.mip_history.proofs.Acting.{quiet_agent_past}
 use Rattle.mip_history.proofs.Passes.{Passes, passes_behind, passes_before}
 
@@ -138,28 +138,28 @@ module _ (s : Setup) (run : Run) (n : ℕ) (is : IsRun s run) where
     abbrev secrets : Life
     secrets = secrets_in s n (life_in next.past n)
 
-    abbrev turn : Transition
-    turn = turn_of (mobile_known_in s next n home agent) (now_in s next) (mobiles.Restart secrets)
+    abbrev transition : Transition
+    transition = transition_of (mobile_known_in s next n home agent) (now_in s next) (mobiles.Restart secrets)
 
-    reborn : IsPartReborn secrets (turn_of (mobile_known_in s next n home agent) (now_in s next) (mobiles.Restart secrets)).steps
+    reborn : IsPartReborn secrets (transition_of (mobile_known_in s next n home agent) (now_in s next) (mobiles.Restart secrets)).steps
     reborn = restart-part (mobile_known_in s next n home agent) (now_in s next) secrets
 
     abbrev moved : List (Stamped mobile_steps.Step)
-    moved = mobile_past_at run n ++ stamped (now_in s next) turn.steps
+    moved = mobile_past_at run n ++ stamped (now_in s next) transition.steps
 
-    begins_anew : IsPart s past (part_life home s.numbers (secrets_in s n 0) (mobile_past_at run n ++ stamped (now_in s next) turn.steps)) n
+    begins_anew : IsPart s past (part_life home s.numbers (secrets_in s n 0) (mobile_past_at run n ++ stamped (now_in s next) transition.steps)) n
     begins_anew =
         subst (λ (q : PartLife). IsPart s past q n)
-        (sym (reborn_life home s.numbers (secrets_in s n 0) (mobile_past_at run n) (now_in s next) secrets turn.steps reborn))
+        (sym (reborn_life home s.numbers (secrets_in s n 0) (mobile_past_at run n) (now_in s next) secrets transition.steps reborn))
         (record { secrets = refl; past = past_of_this })
 
-    mobile_reborn : Passes s run (mobile_turned s n home turn next) 0 (again n)
+    mobile_reborn : Passes s run (after_mobile_transition s n home transition next) 0 (again n)
     mobile_reborn =
         let middle = with_mobile_past n moved next in
         let there : IsRun s middle = part_goes s n home agent run is host_is past moved begins_anew accepted_apart moment_then life_apart kept_then in
-        subst (λ (at : ℕ). Passes s run (mobile_done s n (unwrap_or (stands_on s next n home) 0) at turn.steps next) 0 (again n)) (sym (call-now (mobile_known_in s next n home agent) (now_in s next) (mobiles.Restart secrets)))
+        subst (λ (at : ℕ). Passes s run (mobile_done s n (unwrap_or (stands_on s next n home) 0) at transition.steps next) 0 (again n)) (sym (call-now (mobile_known_in s next n home agent) (now_in s next) (mobiles.Restart secrets)))
         (passes_before s run middle _ 0 (again n) (record { run = there; moment = moment_then ∙ omega arith; life = life_then })
-        (goes_quietly s middle _ there (quiet_reborn s n (unwrap_or (stands_on s next n home) 0) middle secrets turn.steps reborn)))
+        (goes_quietly s middle _ there (quiet_reborn s n (unwrap_or (stands_on s next n home) 0) middle secrets transition.steps reborn)))
 
 -- an agent gives up its homes
 quiet_homes : (s : Setup) (n : ℕ) (rows : List HomeRow) (run : Run) → IsQuiet s run (homes_left s n rows run)

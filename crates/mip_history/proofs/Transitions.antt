@@ -1,4 +1,4 @@
--- A turn of a correspondent keeps a run, whether an update is accepted in it or not.
+-- A transition of a correspondent keeps a run, whether an update is accepted in it or not.
 use Rattle.std.proofs.Common.{◌≡◌, ◌≢◌, ℕ, ◌<◌, ◌≤◌, List, [], ◌∷◌, ◌++◌, Bool, true, false, length, inl, inr, refl, sym, ap, ◌∙◌, subst, arith, length-set}
 use Rattle.std.specs.Prelude.{fold, unwrap_or, option_map, ◌||◌, ◌==◌, if◌then◌else◌}
 use Rattle.std.specs.List.{list_any, AllByRecursion}
@@ -16,7 +16,7 @@ use Rattle.mip_entries.specs.declared.entry.Entry.{Entry}
 use Rattle.mip_entries.specs.declared.entry.Entry.TheVariants as entries
 use Rattle.mip_entries.specs.Stamped.{Stamped, stamped}
 use Rattle.mip_links.specs.Table.{Post}
-use Rattle.mip_transitions.proofs.PastLaws.{rises_turn}
+use Rattle.mip_transitions.proofs.PastLaws.{rises_transition}
 use Rattle.mip_rules_correspondent.specs.Calls.{Call}
 use Rattle.mip_rules_correspondent.specs.Steps.{Step, Called, Accepts, answers_of, is_acceptance}
 use Rattle.mip_rules_correspondent.specs.Pasts.{acceptance_in, accepted_in}
@@ -48,10 +48,10 @@ lived_at n l (e ∷ past) = lived_at n (lived n l e) past ∙ ap (λ (at : ℕ).
         if_at (n == node.0) (l.accepted ++ record { at = l.at; home = home.0; number = binding; careof = careof.0; sequence = sequence; end = end.0 } ∷ []) []
     by _ = refl
 
--- the acceptances of a turn stand behind those before it
-accepted_turn : (past turn : List (Stamped Step)) → accepted_in (past ++ turn) ≡ accepted_in past ++ accepted_in turn
+-- the acceptances of a transition stand behind those before it
+accepted_transition : (past transition : List (Stamped Step)) → accepted_in (past ++ transition) ≡ accepted_in past ++ accepted_in transition
 unfolding accepted_in
-accepted_turn past turn = flat_map-append (λ (t : Stamped Step). acceptance_in t.at t.step) past turn
+accepted_transition past transition = flat_map-append (λ (t : Stamped Step). acceptance_in t.at t.step) past transition
 
 none_in : (at : ℕ) (step : Step) → is_acceptance step ≡ false → acceptance_in at step ≡ []
 none_in at (Accepts number home binding accepted) none = absurd cc
@@ -64,26 +64,26 @@ none_accepted at (step ∷ steps) none =
     let parts = or_parts (is_acceptance step) (list_any is_acceptance steps) none in
     ap (λ (l : List Acceptance). l ++ accepted_in (stamped at steps)) (none_in at step parts.0) ∙ none_accepted at steps parts.1
 
--- moments rise through a turn
+-- moments rise through a transition
 early_stamped : (at : ℕ) (steps : List Step) → AllByRecursion (λ t. t.at ≤ at) (stamped at steps)
 early_stamped at [] = tt
 early_stamped at (step ∷ steps) = (omega arith, early_stamped at steps)
 
-early_turn : (at : ℕ) (past : List (Stamped Step)) (steps : List Step) → AllByRecursion (λ t. t.at ≤ at) past → AllByRecursion (λ t. t.at ≤ at) (past ++ stamped at steps)
-early_turn at [] steps all = early_stamped at steps
-early_turn at (t ∷ past) steps all = (all.0, early_turn at past steps all.1)
+early_transition : (at : ℕ) (past : List (Stamped Step)) (steps : List Step) → AllByRecursion (λ t. t.at ≤ at) past → AllByRecursion (λ t. t.at ≤ at) (past ++ stamped at steps)
+early_transition at [] steps all = early_stamped at steps
+early_transition at (t ∷ past) steps all = (all.0, early_transition at past steps all.1)
 
--- a past goes on by a turn at the present moment, in which nothing is accepted; or by one in which an update is accepted
+-- a past goes on by a transition at the present moment, in which nothing is accepted; or by one in which an update is accepted
 pub quiet_past : (s : Setup) (past : List Entry) (old : List (Stamped Step)) (n : ℕ) (steps : List Step) → list_any is_acceptance steps ≡ false → IsPast s past old n
     → IsPast s past (old ++ stamped (moment_in s.start past) steps) n
 quiet_past s past old n steps none p = record {
   accepted =
-      accepted_turn old (stamped (moment_in s.start past) steps)
+      accepted_transition old (stamped (moment_in s.start past) steps)
       ∙ ap (λ (l : List Acceptance). accepted_in old ++ l) (none_accepted (moment_in s.start past) steps none)
       ∙ append-nil (accepted_in old)
       ∙ p.accepted;
-  rises = rises_turn 0 (moment_in s.start past) old steps (omega arith) p.early p.rises;
-  early = early_turn (moment_in s.start past) old steps p.early;
+  rises = rises_transition 0 (moment_in s.start past) old steps (omega arith) p.early p.rises;
+  early = early_transition (moment_in s.start past) old steps p.early;
 }
 
 -- the history with one acceptance more
@@ -124,23 +124,23 @@ accepted_other start m n k past home binding a other =
     by l true is = absurd cc
     by l false is = refl
 
--- a past goes on by a turn in which an update is accepted, and so does the history
+-- a past goes on by a transition in which an update is accepted, and so does the history
 pub accepting_past : (s : Setup) (past : List Entry) (old : List (Stamped Step)) (n number : ℕ) (home : Address) (binding : ℕ) (a : Accepted) (call : Call) (rest : List Step) → list_any is_acceptance rest ≡ false → IsPast s past old n
     → IsPast s (past ++ accepted_entry n number home binding a ∷ []) (old ++ stamped (moment_in s.start past) (Called call ∷ Accepts number home binding a ∷ rest)) n
 unfolding accepted_in
 accepting_past s past old n number home binding a call rest none p = record {
   accepted =
-      accepted_turn old (stamped (moment_in s.start past) (Called call ∷ Accepts number home binding a ∷ rest))
+      accepted_transition old (stamped (moment_in s.start past) (Called call ∷ Accepts number home binding a ∷ rest))
       ∙ ap (λ (l : List Acceptance). accepted_in old ++ acceptance (moment_in s.start past) home binding a ∷ l) (none_accepted (moment_in s.start past) rest none)
       ∙ ap (λ (l : List Acceptance). l ++ acceptance (moment_in s.start past) home binding a ∷ []) p.accepted
       ∙ sym (accepted_more s.start n number past home binding a);
-  rises = rises_turn 0 (moment_in s.start past) old (Called call ∷ Accepts number home binding a ∷ rest) (omega arith) p.early p.rises;
+  rises = rises_transition 0 (moment_in s.start past) old (Called call ∷ Accepts number home binding a ∷ rest) (omega arith) p.early p.rises;
   early =
       subst (λ (at : ℕ). AllByRecursion (λ t. t.at ≤ at) (old ++ stamped (moment_in s.start past) (Called call ∷ Accepts number home binding a ∷ rest))) (sym (accepted_moment s.start n number past home binding a))
-      (early_turn (moment_in s.start past) old (Called call ∷ Accepts number home binding a ∷ rest) p.early);
+      (early_transition (moment_in s.start past) old (Called call ∷ Accepts number home binding a ∷ rest) p.early);
 }
 
--- what a node does in a turn, from the history before it
+-- what a node does in a transition, from the history before it
 abbrev pub done : Setup → ℕ → ℕ → ℕ → List Step → Run → Run
 done s n from now steps run = answered s n from (with_past n (past_at run n ++ stamped now steps) run) (answers_of steps)
 
@@ -204,19 +204,19 @@ module _ (s : Setup) (n from : ℕ) (run : Run) (is : IsRun s run) (inside : n <
   quietly middle end run_is moment life quiet =
       goes_then s run middle end (record { run = run_is; moment = moment; life = life }) (goes_quietly s middle end run_is quiet)
 
-  pub quiet_turn : (steps : List Step) → list_any is_acceptance steps ≡ false → Goes s run (done s n from (moment_in s.start run.past) steps run)
-  quiet_turn steps none =
+  pub quiet_transition : (steps : List Step) → list_any is_acceptance steps ≡ false → Goes s run (done s n from (moment_in s.start run.past) steps run)
+  quiet_transition steps none =
       let middle = with_past n (past_at run n ++ stamped (moment_in s.start run.past) steps) run in
       quietly middle (answered s n from middle (answers_of steps))
       (goes_on steps run.past (quiet_past s run.past (past_at run n) n steps none (is.pasts n corresponds)) (λ m other. refl) refl (λ m. refl) is.kept)
       refl (λ m. refl)
       (quiet_steps s n from middle steps none)
 
-  pub accepting_turn : (call : Call) (number : ℕ) (home : Address) (binding : ℕ) (a : Accepted) (rest : List Step) → list_any is_acceptance rest ≡ false
+  pub accepting_transition : (call : Call) (number : ℕ) (home : Address) (binding : ℕ) (a : Accepted) (rest : List Step) → list_any is_acceptance rest ≡ false
       → IsAccepted s run.past n number home binding a
       → Goes s run (done s n from (moment_in s.start run.past) (Called call ∷ Accepts number home binding a ∷ rest) run)
   unfolding answered
-  accepting_turn call number home binding a rest none stands =
+  accepting_transition call number home binding a rest none stands =
       quietly middle (answered s n from (marked_with n number home binding a middle run.past) (answers_of rest))
       (goes_on steps (run.past ++ accepted_entry n number home binding a ∷ [])
       (accepting_past s run.past (past_at run n) n number home binding a call rest none (is.pasts n corresponds))

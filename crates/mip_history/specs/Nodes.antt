@@ -1,4 +1,4 @@
--- What a node does in a turn, and what becomes of it in the run.
+-- What a node does in a transition, and what becomes of it in the run.
 use Rattle.std.specs.Prelude.{ℕ, List, [], ◌∷◌, length, fold, map, Option, Some, None, is_some, unwrap_or, slice_get}
 use Rattle.mip_words.specs.declared.address.Address.{Address}
 use Rattle.mip_bcache.specs.Seen as caches
@@ -9,15 +9,15 @@ use Rattle.mip_entries.specs.declared.entry.Entry.{Entry}
 use Rattle.mip_entries.specs.declared.entry.Entry.TheVariants.{Sent, Idle, Claimed, Released, Taken, Restarted, Row as ShownRow}
 use Rattle.mip_entries.specs.Completed.{node_id, named}
 use Rattle.mip_rules_correspondent.specs.Steps as correspondents
-use Rattle.mip_rules_correspondent.specs.Transitions as correspondent_turns
+use Rattle.mip_rules_correspondent.specs.Transitions as correspondent_transitions
 use Rattle.mip_rules_correspondent.specs.Doing as correspondent_doing
 use Rattle.mip_rules_agent.specs.Steps as agents
-use Rattle.mip_rules_agent.specs.Transitions as agent_turns
+use Rattle.mip_rules_agent.specs.Transitions as agent_transitions
 use Rattle.mip_rules_agent.specs.Doing as agent_doing
 use Rattle.mip_rules_agent.specs.Questions.{rows_at}
 use Rattle.mip_rules_agent.specs.declared.home_row.HomeRow.{HomeRow}
 use Rattle.mip_rules_mobile.specs.Steps as mobiles
-use Rattle.mip_rules_mobile.specs.Transitions as mobile_turns
+use Rattle.mip_rules_mobile.specs.Transitions as mobile_transitions
 use Rattle.mip_rules_mobile.specs.Doing as mobile_doing
 use Rattle.mip_provenance.specs.declared.accepted_update.AcceptedUpdate.{AcceptedUpdate}
 use Rattle.mip_provenance.specs.Entries.{update_accepted, mark_entry}
@@ -58,18 +58,18 @@ answered_one s n from run (Note entry) = left_by s n run entry
 unfoldable pub answered : Setup → ℕ → ℕ → Run → List Answer → Run
 answered s n from run answers = fold (λ r answer. answered_one s n from r answer) run answers
 
--- node n with this address has done a turn; a mobile sends from the link on which it stands
-abbrev pub turned : Setup → ℕ → Address → correspondent_turns.Transition → Run → Run
-turned s n own turn run =
-    answered s n (link_or_first s own.0) (with_past n (correspondent_turns.with_turn (past_at run n) turn) run) (correspondents.answers_of turn.steps)
+-- node n with this address has done a transition; a mobile sends from the link on which it stands
+abbrev pub after_transition : Setup → ℕ → Address → correspondent_transitions.Transition → Run → Run
+after_transition s n own transition run =
+    answered s n (link_or_first s own.0) (with_past n (correspondent_transitions.with_transition (past_at run n) transition) run) (correspondents.answers_of transition.steps)
 
-abbrev pub agent_turned : Setup → ℕ → Address → agent_turns.Transition → Run → Run
-agent_turned s n own turn run =
-    answered s n (link_or_first s own.0) (with_agent_past n (agent_turns.with_turn (agent_past_at run n) turn) run) (agents.answers_of turn.steps)
+abbrev pub after_agent_transition : Setup → ℕ → Address → agent_transitions.Transition → Run → Run
+after_agent_transition s n own transition run =
+    answered s n (link_or_first s own.0) (with_agent_past n (agent_transitions.with_transition (agent_past_at run n) transition) run) (agents.answers_of transition.steps)
 
-abbrev pub mobile_turned : Setup → ℕ → Address → mobile_turns.Transition → Run → Run
-mobile_turned s n own turn run =
-    answered s n (unwrap_or (stands_on s run n own) 0) (with_mobile_past n (mobile_turns.with_turn (mobile_past_at run n) turn) run) (mobiles.answers_of turn.steps)
+abbrev pub after_mobile_transition : Setup → ℕ → Address → mobile_transitions.Transition → Run → Run
+after_mobile_transition s n own transition run =
+    answered s n (unwrap_or (stands_on s run n own) 0) (with_mobile_past n (mobile_transitions.with_transition (mobile_past_at run n) transition) run) (mobiles.answers_of transition.steps)
 
 -- what is nothing to a node leaves `idle`
 abbrev pub asks : {C : Type 0} → (C → Run → Run) → Option C → Run → Run
@@ -79,12 +79,12 @@ asks does (Some call) run = does call run
 -- node n does what it does about a call
 abbrev pub by_kind : Setup → ℕ → Address → Call → Run → Kind → Run
 by_kind s n own call run (Correspondent room) =
-    asks (λ c run. turned s n own (correspondent_doing.turn_of (identity_in s run n own room) (known_in s run n room) (now_in s run) c) run) (for_correspondent call) run
+    asks (λ c run. after_transition s n own (correspondent_doing.transition_of (identity_in s run n own room) (known_in s run n room) (now_in s run) c) run) (for_correspondent call) run
 by_kind s n own call run (Agent preference life room serves) =
-    asks (λ c run. agent_turned s n own (agent_doing.turn_of (agent_of own preference life room) (agent_known_in run n serves) (now_in s run) c) run)
+    asks (λ c run. after_agent_transition s n own (agent_doing.transition_of (agent_of own preference life room) (agent_known_in run n serves) (now_in s run) c) run)
     (for_agent (around_in run n None) call) run
 by_kind s n own call run (Mobile agent) =
-    asks (λ c run. mobile_turned s n own (mobile_doing.turn_of (mobile_known_in s run n own agent) (now_in s run) c) run)
+    asks (λ c run. after_mobile_transition s n own (mobile_doing.transition_of (mobile_known_in s run n own agent) (now_in s run) c) run)
     (for_mobile (around_in run n (Some own.0)) own call) run
 
 -- nothing where there is no such node

@@ -14,4 +14,4 @@ pub use laws::{
 
 // For callers outside this repository.
 pub use mip_entries::{Answer, Answers, Entry, History, UpdateSeen};
-pub use mip_provenance::{Mark, Watch};
+pub use mip_provenance::{Mark, WholeHistory};

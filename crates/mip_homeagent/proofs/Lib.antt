@@ -5,4 +5,4 @@ pub mod Sizes
 pub mod Befores
 pub mod Roles
 pub mod Sounds
-pub mod Turning
+pub mod CallTransitions

@@ -1,4 +1,4 @@
--- How what a turn shows goes on with its steps.
+-- How what a transition shows goes on with its steps.
 use Rattle.std.proofs.Common.{◌≡◌, ℕ, List, [], ◌∷◌, ◌++◌, refl, sym, ap, ◌∙◌, subst}
 use Rattle.std.specs.Prelude.{Bool, true, false, Option, None}
 use Rattle.std.proofs.lemmas.List.{append_assoc}
@@ -7,7 +7,7 @@ use Rattle.mip_words.specs.declared.address.Address.{Address}
 use Rattle.mip_words.specs.declared.shield.Shield.{Shield}
 use Rattle.mip_words.specs.declared.why.Why.{Why}
 use Rattle.mip_entries.specs.declared.answer.Answer.{Answer}
-use Rattle.mip_transitions.proofs.TurnLaws.{noted-steps}
+use Rattle.mip_transitions.proofs.TransitionLaws.{noted-steps}
 use Rattle.mip_transitions.specs.Shows.{ShowsBy}
 use Rattle.mip_transitions.proofs.ShowLaws as laws
 use Rattle.mip_rules_agent.specs.declared.home_binding.HomeBinding.{HomeBinding}
@@ -54,7 +54,7 @@ denied number status answers more e = λ now known claiming t s. shown (Denies n
 pub shows_begun : (c : Call) (now : ℕ) (k : Known) → Shows now (after k (record { at = now; step = Called c })) unclaimed [] (noted (Called c) (begun now k))
 shows_begun c now k = shown (Called c) now k unclaimed [] [] (begun now k) refl (laws.shows-begun answer_of now k, λ claims. refl)
 
--- what is shown is what the turn has
+-- what is shown is what the transition has
 pub shows-answers : (now : ℕ) (k : Known) (claiming : Claiming) (answers : List Answer) (t : Transition) → Shows now k claiming answers t → answers_of t.steps ≡ answers
 shows-answers now k claiming answers t s = laws.shows-answers answer_of now k answers t s.0
 

@@ -1,4 +1,4 @@
--- What a turn shows as it goes on: its answers so far, what is known, and what became of claims.
+-- What a transition shows as it goes on: its answers so far, what is known, and what became of claims.
 use Rattle.std.specs.Prelude.{◌≡◌, ℕ, List, Option, Bool, Result, OnOk}
 use Rattle.mip_entries.specs.declared.answer.Answer.{Answer}
 use Rattle.mip_rules_agent.specs.Known.{Known}

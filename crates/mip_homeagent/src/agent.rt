@@ -10,12 +10,12 @@ ghost use Rattle.mip_rules_agent.specs.Calls.{claim_for};
 ghost use Rattle.mip_rules_agent.specs.Steps.{Step, answers_of};
 ghost use Rattle.mip_rules_agent.specs.Claims.{claims_by};
 ghost use Rattle.mip_rules_agent.specs.Questions.{fresh, careof_at, rows_at};
-ghost use Rattle.mip_rules_agent.specs.Transitions.{Stands, with_turn};
+ghost use Rattle.mip_rules_agent.specs.Transitions.{Stands, with_transition};
 ghost use Rattle.mip_rules_agent.specs.Verdicts.{verdict};
 ghost use Rattle.mip_rules_agent.specs.Rules.{bench};
 ghost use Rattle.mip_rules_agent.specs.Refusing.{KeepsTables};
 ghost use Rattle.mip_reception.specs.Refusing.{refuses};
-ghost use Rattle.mip_rules_agent.specs.Seen.{turn_at, called};
+ghost use Rattle.mip_rules_agent.specs.Seen.{transition_at, called};
 ghost use Rattle.mip_homeagent.specs.Changes.{ChangesClaims};
 ghost use Rattle.mip_homeagent.specs.Soundness.{IsReady};
 
@@ -94,7 +94,7 @@ impl HomeAgent {
         requires early { now.0 < 2 ^ 62 }
         ensures after { OnOk result (self.new ≡ called self.old now.0 (calls.Hear agent preference life)) }
         ensures stands { (serves : List Address) (past : List (Stamped Step)) → Stands serves past self.old.known →
-            OnOk result (Stands serves (with_turn past (turn_at self.old now.0 (calls.Hear agent preference life))) self.new.known) }
+            OnOk result (Stands serves (with_transition past (transition_at self.old now.0 (calls.Hear agent preference life))) self.new.known) }
         ensures last { OnOk result (self.new.known.last ≡ now.0) }
         ensures err { OnErr result (self.new ≡ self.old) }
     {
@@ -112,10 +112,10 @@ impl HomeAgent {
         preferred: u32,
     ) -> Result<Answers, Memory>
         requires later { self.old.known.last ≤ now.0 }
-        ensures answers { IfOk result (λ a. a ≡ answers_of (turn_at self.old now.0 (calls.Plan valid preferred)).steps) }
+        ensures answers { IfOk result (λ a. a ≡ answers_of (transition_at self.old now.0 (calls.Plan valid preferred)).steps) }
         ensures after { OnOk result (self.new ≡ called self.old now.0 (calls.Plan valid preferred)) }
         ensures stands { (serves : List Address) (past : List (Stamped Step)) → Stands serves past self.old.known →
-            OnOk result (Stands serves (with_turn past (turn_at self.old now.0 (calls.Plan valid preferred))) self.new.known) }
+            OnOk result (Stands serves (with_transition past (transition_at self.old now.0 (calls.Plan valid preferred))) self.new.known) }
         ensures last { OnOk result (self.new.known.last ≡ now.0) }
         ensures err { OnErr result (self.new ≡ self.old) }
     {
@@ -137,11 +137,11 @@ impl HomeAgent {
         now: Moment,
     ) -> Result<Answers, Memory>
         requires later { self.old.known.last ≤ now.0 }
-        ensures answers { IfOk result (λ a. a ≡ answers_of (turn_at self.old now.0 calls.Tick).steps) }
+        ensures answers { IfOk result (λ a. a ≡ answers_of (transition_at self.old now.0 calls.Tick).steps) }
         ensures after { OnOk result (self.new ≡ called self.old now.0 calls.Tick) }
         ensures stands { (serves : List Address) (past : List (Stamped Step)) → Stands serves past self.old.known →
-            OnOk result (Stands serves (with_turn past (turn_at self.old now.0 calls.Tick)) self.new.known) }
-        ensures place { ChangesClaims result (λ _. claims_by (turn_at self.old now.0 calls.Tick).steps)
+            OnOk result (Stands serves (with_transition past (transition_at self.old now.0 calls.Tick)) self.new.known) }
+        ensures place { ChangesClaims result (λ _. claims_by (transition_at self.old now.0 calls.Tick).steps)
             (P.around place.old) (P.around place.new) (P.claims place.old) (P.claims place.new) (P.is_same place.old place.new) }
         ensures last { OnOk result (self.new.known.last ≡ now.0) }
         ensures err { OnErr result (self.new ≡ self.old) }
@@ -198,12 +198,12 @@ impl HomeAgent {
         packet: &[u8],
     ) -> Result<Answers, Memory>
         requires ready { IsReady (P.around place.old) now.0 self.old.known }
-        ensures answers { IfOk result (λ a. a ≡ answers_of (turn_at self.old now.0 (calls.Take number shield packet.now (claim_for (P.around place.old) packet.now))).steps) }
+        ensures answers { IfOk result (λ a. a ≡ answers_of (transition_at self.old now.0 (calls.Take number shield packet.now (claim_for (P.around place.old) packet.now))).steps) }
         ensures after { OnOk result (self.new ≡ called self.old now.0 (calls.Take number shield packet.now (claim_for (P.around place.old) packet.now))) }
         ensures stands { (serves : List Address) (past : List (Stamped Step)) → Stands serves past self.old.known →
-            OnOk result (Stands serves (with_turn past (turn_at self.old now.0 (calls.Take number shield packet.now (claim_for (P.around place.old) packet.now)))) self.new.known) }
+            OnOk result (Stands serves (with_transition past (transition_at self.old now.0 (calls.Take number shield packet.now (claim_for (P.around place.old) packet.now)))) self.new.known) }
         ensures place { ChangesClaims result
-            (λ _. claims_by (turn_at self.old now.0 (calls.Take number shield packet.now (claim_for (P.around place.old) packet.now))).steps)
+            (λ _. claims_by (transition_at self.old now.0 (calls.Take number shield packet.now (claim_for (P.around place.old) packet.now))).steps)
             (P.around place.old) (P.around place.new) (P.claims place.old) (P.claims place.new) (P.is_same place.old place.new) }
         ensures refused { IfOk result (λ a. list_any refuses a ≡ true → KeepsTables self.old.known self.new.known × (P.claims place.new ≡ P.claims place.old)) }
         ensures last { OnOk result (self.new.known.last ≡ now.0) }

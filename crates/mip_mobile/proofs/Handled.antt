@@ -1,4 +1,4 @@
--- A call whose context shows the definition's turn is handled, once its answers are after_put.
+-- A call whose context shows the definition's transition is handled, once its answers are after_put.
 use Rattle.std.proofs.Common.{◌≡◌, ℕ, zero, suc, List, [], ◌∷◌, ◌++◌, take, map, Bool, sym, ap, subst, ◌∙◌, lit≤}
 use Rattle.std.proofs.lemmas.List.{append-nil}
 use Rattle.std.specs.Prelude.{Option, Result, Ok, Err, IfOk, OnErr, option_map}
@@ -12,8 +12,8 @@ use Rattle.mip_transitions.proofs.ShowLaws.{shows-answers}
 use Rattle.mip_rules_mobile.specs.Calls.{Call}
 use Rattle.mip_rules_mobile.specs.Steps.{answer_of, answers_of}
 use Rattle.mip_rules_mobile.specs.Known.{Known}
-use Rattle.mip_rules_mobile.specs.Transitions.{Stands, with_turn}
-use Rattle.mip_rules_mobile.specs.Doing.{turn_of}
+use Rattle.mip_rules_mobile.specs.Transitions.{Stands, with_transition}
+use Rattle.mip_rules_mobile.specs.Doing.{transition_of}
 use Rattle.mip_rules_mobile.specs.Answering.{IsFrom, AreFrom}
 use Rattle.mip_rules_mobile.proofs.Away.{away-call}
 use Rattle.mip_rules_mobile.proofs.Calls.{call-stands, call-now}
@@ -50,18 +50,18 @@ from-after_put gives careof (a ∷ asked) (b ∷ bs) all from = (one a all.0 fro
     one (Send shield packet) is leaves = by is.0 shield packet is.2 leaves
 
 pub handled : (gives : Put → Bool) (k : Known) (now : ℕ) (call : Call) (context : ContextSeen) (asked : List Answer) (left : Known) (out told : Told) (puts puts_after : Answered) (answers : List Answer)
-    → Shows context (turn_of k now call) → asked ≡ context.answers → left ≡ context.known → PutsAll gives asked answers → told ≡ option_map (λ items. items ++ sends_of answers) out
+    → Shows context (transition_of k now call) → asked ≡ context.answers → left ≡ context.known → PutsAll gives asked answers → told ≡ option_map (λ items. items ++ sends_of answers) out
     → puts_after ≡ puts ++ puts_of asked answers → Handles gives k now call out puts answers left told puts_after
 handled gives k now call context asked left out told puts puts_after answers shows is known took sent answered =
-    let same : left ≡ (turn_of k now call).known = known ∙ sym (shows-known context (turn_of k now call) shows) in
-    let own : asked ≡ answers_of (turn_of k now call).steps = is ∙ sym (shows-answers answer_of context.moment context.known context.answers (turn_of k now call) shows) in
-    let all : PutsAll gives (answers_of (turn_of k now call).steps) answers = subst (λ (xs : List Answer). PutsAll gives xs answers) own took in
+    let same : left ≡ (transition_of k now call).known = known ∙ sym (shows-known context (transition_of k now call) shows) in
+    let own : asked ≡ answers_of (transition_of k now call).steps = is ∙ sym (shows-answers answer_of context.moment context.known context.answers (transition_of k now call) shows) in
+    let all : PutsAll gives (answers_of (transition_of k now call).steps) answers = subst (λ (xs : List Answer). PutsAll gives xs answers) own took in
     record {
       taken = all;
-      away = λ careof here elsewhere stays. from-after_put gives careof (answers_of (turn_of k now call).steps) answers all (away-call k now call careof here elsewhere stays);
+      away = λ careof here elsewhere stays. from-after_put gives careof (answers_of (transition_of k now call).steps) answers all (away-call k now call careof here elsewhere stays);
       known = same;
       stands = λ home declared numbers secrets past stands.
-          subst (λ (l : Known). Stands home declared numbers secrets (with_turn past (turn_of k now call)) l) (sym same) (call-stands home declared numbers secrets past k now call stands);
+          subst (λ (l : Known). Stands home declared numbers secrets (with_transition past (transition_of k now call)) l) (sym same) (call-stands home declared numbers secrets past k now call stands);
       sent = sent;
       answered = subst (λ (xs : List Answer). puts_after ≡ puts ++ puts_of xs answers) own answered;
       refused = λ number shield packet is_take some. ap tables_of same ∙ refused-call gives k now call answers all number shield packet is_take some;
@@ -85,12 +85,12 @@ from-front careof zero asked from = tt
 from-front careof (suc n) [] from = tt
 from-front careof (suc n) (a ∷ asked) from = (from.0, from-front careof n asked from.1)
 
--- a call whose context shows the definition's turn breaks off in it, where its wire took a front of its answers
+-- a call whose context shows the definition's transition breaks off in it, where its wire took a front of its answers
 pub breaks-off : (gives : Put → Bool) (k : Known) (now : ℕ) (call : Call) (context : ContextSeen) (asked : List Answer) (out told : Told) (puts puts_after : Answered)
-    → Shows context (turn_of k now call) → asked ≡ context.answers → PutsFront gives asked out told puts puts_after → BreaksOff gives k now call out puts told puts_after
+    → Shows context (transition_of k now call) → asked ≡ context.answers → PutsFront gives asked out told puts puts_after → BreaksOff gives k now call out puts told puts_after
 breaks-off gives k now call context asked out told puts puts_after shows is front =
-    let own : List Answer = answers_of (turn_of k now call).steps in
-    let same : asked ≡ own = is ∙ sym (shows-answers answer_of context.moment context.known context.answers (turn_of k now call) shows) in
+    let own : List Answer = answers_of (transition_of k now call).steps in
+    let same : asked ≡ own = is ∙ sym (shows-answers answer_of context.moment context.known context.answers (transition_of k now call) shows) in
     let all : PutsAll gives (take front.count own) front.answers = subst (λ (xs : List Answer). PutsAll gives (take front.count xs) front.answers) same front.taken in
     record {
       count = front.count;
@@ -103,7 +103,7 @@ breaks-off gives k now call context asked out told puts puts_after shows is fron
       answered = subst (λ (xs : List Answer). puts_after ≡ puts ++ (puts_of (take front.count xs) front.answers ++ map Err front.failed)) same front.answered;
     }
 
--- a context that shows the definition's turn keeps what that leaves, once its answers are taken
-pub is-left : (k : Known) (now : ℕ) (call : Call) (context after : ContextSeen) → Shows context (turn_of k now call) → after ≡ record context { answers = [] } → IsLeft after k now call
+-- a context that shows the definition's transition keeps what that leaves, once its answers are taken
+pub is-left : (k : Known) (now : ℕ) (call : Call) (context after : ContextSeen) → Shows context (transition_of k now call) → after ≡ record context { answers = [] } → IsLeft after k now call
 is-left k now call context after shows is =
-    (ap (λ (d : ContextSeen). d.known) is ∙ sym (shows-known context (turn_of k now call) shows), ap (λ (d : ContextSeen). d.moment) is ∙ sym (shows-moment context (turn_of k now call) shows) ∙ call-now k now call)
+    (ap (λ (d : ContextSeen). d.known) is ∙ sym (shows-known context (transition_of k now call) shows), ap (λ (d : ContextSeen). d.moment) is ∙ sym (shows-moment context (transition_of k now call) shows) ∙ call-now k now call)

@@ -14,8 +14,8 @@ use Rattle.mip_rules_mobile.specs.Questions.{after}
 use Rattle.mip_rules_mobile.specs.Transitions.{Transition, begun, noted}
 use Rattle.mip_rules_mobile.specs.TrialRules.{each_row}
 use Rattle.mip_rules_mobile.specs.MovingRules.{releases, unbinds, leaves, leaves_first, arrives, attaches, uses_prefix, address_under}
-use Rattle.mip_rules_mobile.specs.Doing.{handles, does, turn_of}
-use Rattle.mip_transitions.proofs.TurnLaws.{noted-known}
+use Rattle.mip_rules_mobile.specs.Doing.{handles, does, transition_of}
+use Rattle.mip_transitions.proofs.TransitionLaws.{noted-known}
 use Rattle.mip_mobile.specs.Placing.{attach_at, leave_at, AreAnswered}
 
 leaves-fit : (h other : Claim) (t : Transition) → (t.known.standing ≡ AtHome → h ≡ other) → leaves h t ≡ leaves other t
@@ -53,10 +53,10 @@ called-home : (k : Known) (now : ℕ) (c : calls.Call) → home_of (noted (Calle
 unfolding after
 called-home k now c = ap (λ (l : Known). home_of l) (noted-known after (Called c) (begun now k))
 
-pub attach-turn : (around : Around) (k : Known) (now prefix : ℕ) (h a : Claim) → AreAnswered around k prefix h a
-    → handles (calls.Attach prefix h a) (noted (Called (attach_at around (home_of k) prefix)) (begun now k)) ≡ turn_of k now (attach_at around (home_of k) prefix)
+pub attach-transition : (around : Around) (k : Known) (now prefix : ℕ) (h a : Claim) → AreAnswered around k prefix h a
+    → handles (calls.Attach prefix h a) (noted (Called (attach_at around (home_of k) prefix)) (begun now k)) ≡ transition_of k now (attach_at around (home_of k) prefix)
 unfolding does
-attach-turn around k now prefix h a answered =
+attach-transition around k now prefix h a answered =
     let call : calls.Call = attach_at around (home_of k) prefix in
     let t : Transition = noted (Called call) (begun now k) in
     let standing : t.known.standing ≡ k.standing = called-standing k now call in
@@ -65,10 +65,10 @@ attach-turn around k now prefix h a answered =
     let f = answered (ap (λ (s : Attachment). uses_prefix s (home_of k) prefix) (sym standing) ∙ ap (λ (x : Address). uses_prefix t.known.standing x prefix) (sym home) ∙ none) in
     ((λ is. f.0 (sym standing ∙ is)), f.1))
 
-pub leave-turn : (around : Around) (k : Known) (now : ℕ) (h : Claim) → (k.standing ≡ AtHome → h ≡ claim_in around (home_of k).0)
-    → handles (calls.Leave h) (noted (Called (leave_at around (home_of k))) (begun now k)) ≡ turn_of k now (leave_at around (home_of k))
+pub leave-transition : (around : Around) (k : Known) (now : ℕ) (h : Claim) → (k.standing ≡ AtHome → h ≡ claim_in around (home_of k).0)
+    → handles (calls.Leave h) (noted (Called (leave_at around (home_of k))) (begun now k)) ≡ transition_of k now (leave_at around (home_of k))
 unfolding does
-leave-turn around k now h answered =
+leave-transition around k now h answered =
     let call : calls.Call = leave_at around (home_of k) in
     let t : Transition = noted (Called call) (begun now k) in
     leaves-fit h (claim_in around (home_of k).0) t (λ is. answered (sym (called-standing k now call) ∙ is))

@@ -11,7 +11,7 @@ use Rattle.mip_entries.specs.declared.answer.Answer.TheVariants.{Send, Note}
 use Rattle.mip_rules_mobile.specs.Calls.{Call, Take}
 use Rattle.mip_rules_mobile.specs.Steps.{Step, Notes, answer_of, answers_of}
 use Rattle.mip_rules_mobile.specs.Known.{Known}
-use Rattle.mip_rules_mobile.specs.Doing.{turn_of}
+use Rattle.mip_rules_mobile.specs.Doing.{transition_of}
 use Rattle.mip_rules_mobile.specs.Refusing.{is_refusal, tells_of_refusal, tables_of}
 use Rattle.mip_rules_mobile.proofs.Refusals.{refused-keeps}
 use Rattle.mip_transmission.specs.Putting.{after_put, Puts, PutsAll}
@@ -50,9 +50,9 @@ steps-refuse (step ∷ steps) =
     ∙ ap (λ (c : Bool). c || list_any refuses (answers_of steps)) (step-refuses step)
     ∙ ap (λ (c : Bool). is_refusal step || c) (steps-refuse steps)
 
-pub refused-call : (gives : Put → Bool) (k : Known) (now : ℕ) (call : Call) (answers : List Answer) → PutsAll gives (answers_of (turn_of k now call).steps) answers
-    → (number : ℕ) (shield : Option Shield) (packet : List ℕ) → call ≡ Take number shield packet → list_any refuses answers ≡ true → tables_of (turn_of k now call).known ≡ tables_of k
+pub refused-call : (gives : Put → Bool) (k : Known) (now : ℕ) (call : Call) (answers : List Answer) → PutsAll gives (answers_of (transition_of k now call).steps) answers
+    → (number : ℕ) (shield : Option Shield) (packet : List ℕ) → call ≡ Take number shield packet → list_any refuses answers ≡ true → tables_of (transition_of k now call).known ≡ tables_of k
 refused-call gives k now call answers all number shield packet is some =
-    let own : List Step = (turn_of k now call).steps in
+    let own : List Step = (transition_of k now call).steps in
     let told : list_any is_refusal own ≡ true = sym (steps-refuse own) ∙ sym (refuses-all gives (answers_of own) answers all) ∙ some in
-    subst (λ (c : Call). list_any is_refusal (turn_of k now c).steps ≡ true → tables_of (turn_of k now c).known ≡ tables_of k) (sym is) (refused-keeps k now number shield packet) told
+    subst (λ (c : Call). list_any is_refusal (transition_of k now c).steps ≡ true → tables_of (transition_of k now c).known ≡ tables_of k) (sym is) (refused-keeps k now number shield packet) told

@@ -1,13 +1,9 @@
 -- What a node does does not depend on what its link had sent before.
-use Rattle.std.proofs.Common.{◌≡◌, ℕ, ◌+◌, List, [], ◌∷◌, ◌++◌, Bool, true, false, refl, sym, subst, ◌∙◌, ap}
-use Rattle.std.specs.Prelude.{fold, None, Some, Option, ◌==◌, if◌then◌else◌, is_some}
-use Rattle.mip_words.specs.declared.shield.Shield.{Shield}
-use Rattle.mip_entries.specs.Completed.{named}
+use Rattle.std.proofs.Common.{◌≡◌, ℕ, ◌+◌, List, [], ◌∷◌, ◌++◌, Bool, true, false, refl, subst, ◌∙◌, ap}
+use Rattle.std.specs.Prelude.{fold, None, Some, Option, ◌==◌, if◌then◌else◌}
 use Rattle.mip_entries.specs.declared.answer.Answer.{Answer}
 use Rattle.mip_entries.specs.declared.answer.Answer.TheVariants.{Send, Note}
-use Rattle.mip_entries.specs.declared.entry.Entry.{Entry}
 use Rattle.mip_frames.specs.Framing.{Framed, framed_in}
-use Rattle.mip_frames.specs.Routing.{put_for}
 use Rattle.mip_history.specs.Calls as calls
 use Rattle.mip_history.specs.Calls.{Call, Tick}
 use Rattle.mip_trace.specs.Lines.{trace_text}
@@ -15,8 +11,8 @@ use Rattle.mip_config.specs.declared.payload.Payload.{Payload}
 use Rattle.mip_config.specs.Configs.{Content}
 use Rattle.mip_config.specs.Facts.{address_of}
 use Rattle.mip_node.specs.Roles.{answers_at, role_after, has_due}
-use Rattle.mip_node.specs.Nodes.{Running, Datagrams, Serving, serving, noted, counted, with_role, begun, after_put, put_on, answered_one, answered, asked_at}
-use Rattle.mip_node.specs.Turns.{Seen, World, worked, paid_one, paid, before, noting, told_of_router, given, taken, advertised_to, handed, heard, received, turned, turned_once, first_world, run}
+use Rattle.mip_node.specs.Nodes.{Running, Datagrams, Serving, serving, counted, with_role, begun, put_on, answered_one, answered, asked_at}
+use Rattle.mip_node.specs.Turns.{Seen, World, worked, paid_one, paid, before, given, taken, advertised_to, handed, heard, received, turned, turned_once, first_world, run}
 use Rattle.mip_node.specs.Runs.{node_text}
 
 -- two servings whose nodes are the same

@@ -1,5 +1,5 @@
 -- How a run ended, from the turns that were done.
-use Rattle.std.proofs.Common.{◌≡◌, ℕ, ◌+◌, ◌<◌, ◌≤◌, List, [], ◌∷◌, ◌++◌, take, length, refl, sym, subst, ◌∙◌, ap, inl, inr, arith, length-append}
+use Rattle.std.proofs.Common.{◌≡◌, ℕ, ◌+◌, ◌<◌, ◌≤◌, List, [], ◌∷◌, ◌++◌, take, length, refl, sym, subst, ◌∙◌, ap, inl, inr, arith}
 use Rattle.std.specs.Prelude.{fold, None, Option, ◌⊎◌, Result, Ok, Err, OnOk}
 use Rattle.std.specs.Io.KnownBytes.{append_known}
 use Rattle.std.proofs.Math.Seq.{take-append-add}
@@ -7,8 +7,8 @@ use Rattle.std.proofs.lemmas.List.{take_all, length_push}
 use Rattle.mip_trace.specs.Lines.{trace_text}
 use Rattle.mip_outside.proofs.Known.{append_more}
 use Rattle.mip_config.specs.Configs.{Content}
-use Rattle.mip_node.specs.Nodes.{Running, Datagrams, Serving, serving}
-use Rattle.mip_node.specs.Seen.{Ahead, Coming, IsSeen, Sees, ahead_after, coming_after}
+use Rattle.mip_node.specs.Nodes.{Datagrams, Serving, serving}
+use Rattle.mip_node.specs.Seen.{Ahead, Coming, IsSeen, ahead_after}
 use Rattle.mip_node.specs.Turns.{Seen, World, first_node, first_world, turned, turned_once, run}
 use Rattle.mip_node.specs.Runs.{Start, Stand, HasRun, Ran, start, WroteFront, node_text, node_sent}
 use Rattle.mip_node.specs.Faults.{WrotePart, DidNothing, BrokeAfter, WroteAfter, StoppedAfter}

@@ -1,20 +1,20 @@
 -- What a link sent only grows in a turn.
-use Rattle.std.proofs.Common.{◌≡◌, ℕ, ◌+◌, ◌<◌, List, [], ◌∷◌, ◌++◌, length, get_or, take, drop, Bool, true, false, refl, sym, subst, ◌∙◌, ap, arith}
+use Rattle.std.proofs.Common.{◌≡◌, ℕ, ◌+◌, ◌<◌, List, [], ◌∷◌, ◌++◌, length, get_or, take, drop, Bool, true, false, refl, sym, subst, ◌∙◌, ap}
 use Rattle.std.specs.Prelude.{fold, option_map, None, Some, Option, nat_lt, ◌==◌, if◌then◌else◌}
 use Rattle.std.proofs.lemmas.List.{append-nil, append_assoc, take-append-drop, take_more}
 use Rattle.std.proofs.lemmas.List.Sums.{fold-append, fold_push}
 use Rattle.mip_words.specs.declared.shield.Shield.{Shield}
 use Rattle.mip_entries.specs.declared.answer.Answer.{Answer}
 use Rattle.mip_entries.specs.declared.answer.Answer.TheVariants.{Send, Note}
-use Rattle.mip_frames.specs.Framing.{Framed, framed_in, frame_bytes}
-use Rattle.mip_frames.specs.Routing.{port_of, with_frame, sent_for}
+use Rattle.mip_frames.specs.Framing.{frame_bytes}
+use Rattle.mip_frames.specs.Routing.{port_of, with_frame}
 use Rattle.mip_history.specs.Calls as calls
 use Rattle.mip_history.specs.Calls.{Call, Tick}
 use Rattle.mip_config.specs.declared.payload.Payload.{Payload}
 use Rattle.mip_config.specs.Configs.{Content}
-use Rattle.mip_node.specs.Roles.{answers_at, role_after, has_due, is_mobile}
+use Rattle.mip_node.specs.Roles.{answers_at, role_after, has_due}
 use Rattle.mip_node.specs.Nodes.{Running, Datagrams, Serving, serving, with_role, begun, put_on, answered_one, answered, asked_at}
-use Rattle.mip_node.specs.Turns.{Seen, worked, paid_one, paid, before, given, taken, advertised_to, handed, heard, received, turned}
+use Rattle.mip_node.specs.Turns.{worked, paid_one, paid, before}
 use Rattle.mip_node.specs.Faults.{Grew, Between}
 
 pub grew_not : (a : Datagrams) → Grew a a

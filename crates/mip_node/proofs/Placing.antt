@@ -1,6 +1,6 @@
 -- A role that finds nobody else around it.
 use Rattle.std.proofs.Common.{◌≡◌, ℕ, List, subst}
-use Rattle.std.specs.Prelude.{Result, Ok, Err, IfOk, OnOk}
+use Rattle.std.specs.Prelude.{Result, IfOk, OnOk}
 use Rattle.mip_entries.specs.declared.answer.Answer.{Answer}
 use Rattle.mip_outside.specs.Places.{Around, free}
 use Rattle.mip_history.specs.Calls.{Call}

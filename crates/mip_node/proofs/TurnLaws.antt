@@ -1,12 +1,12 @@
 -- A turn from its parts.
-use Rattle.std.proofs.Common.{◌≡◌, ℕ, List, drop, refl, sym, subst, ◌∙◌, ap, inl, inr}
+use Rattle.std.proofs.Common.{◌≡◌, ℕ, List, drop, sym, subst, ◌∙◌, ap, inl, inr}
 use Rattle.std.specs.Prelude.{Option, IfSome, Result, Ok, Err, OnOk, option_map}
 use Rattle.mip_outside.specs.Moments.{IsAnswer}
 use Rattle.mip_config.specs.Configs.{Content}
 use Rattle.mip_node.specs.Nodes.{Running, Datagrams, Serving, serving}
 use Rattle.mip_node.specs.Seen.{Ahead, Coming, IsNext, IsSeen}
 use Rattle.mip_node.specs.Turns.{Seen, before, received, turned}
-use Rattle.mip_node.specs.Faults.{Grew, Between, Broke}
+use Rattle.mip_node.specs.Faults.{Between, Broke}
 use Rattle.mip_node.proofs.Growing.{grew_not, before_grew}
 
 -- what came is what the turn found

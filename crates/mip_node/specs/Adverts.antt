@@ -1,13 +1,12 @@
 -- The router advertisements that a mobile takes from its link. RFC 4861 section 6.1.2, RFC 6275 section 7.2
-use Rattle.std.specs.Prelude.{ℕ, ◌+◌, ◌*◌, ◌^◌, List, Bool, not, ◌&&◌, ◌==◌, if◌then◌else◌, Option, Some, None, is_some, Result, Ok, Err}
+use Rattle.std.specs.Prelude.{ℕ, ◌+◌, ◌*◌, ◌^◌, Bool, ◌&&◌, ◌==◌, if◌then◌else◌, Option, Some, None, is_some, Result, Ok, Err}
 use Rattle.mip_words.specs.Addresses.{prefix_of}
-use Rattle.mip_words.specs.declared.shield.Shield.{Shield}
 use Rattle.mip_ipv6.specs.Packet.{Packet, source_of, destination_of}
 use Rattle.mip_ipv6.specs.Reading.{packet_of}
 use Rattle.mip_ipv6.specs.declared.head.Head.{Head}
 use Rattle.mip_ipv6.specs.declared.not_packet.NotPacket.{NotPacket}
 use Rattle.mip_icmp.specs.Reading.{icmp_of}
-use Rattle.mip_icmp.specs.Said.{Said, Parameter, Advertisement, DiscoverAsk, DiscoverReply, PrefixAsk, PrefixReply}
+use Rattle.mip_icmp.specs.Said.{Said, Advertisement}
 use Rattle.mip_icmp.specs.declared.fault.IcmpFault.{IcmpFault}
 use Rattle.mip_icmp.specs.declared.prefix_info.PrefixInfo.{PrefixInfo}
 use Rattle.mip_frames.specs.Framing.{Framed}

@@ -1,6 +1,7 @@
 -- What was sent and written where a call of the link or of the sink failed.
 use Rattle.std.specs.Prelude.{◌≡◌, ℕ, ◌+◌, ◌<◌, ◌≤◌, ◌⊎◌, List, ◌++◌, drop, take, Option, None, IfSome, option_map}
 use Rattle.std.specs.Io.KnownBytes.{append_known}
+use Rattle.mip_outside.specs.Cause.{Rose}
 use Rattle.mip_outside.specs.Moments.{IsAnswer}
 use Rattle.mip_trace.specs.Lines.{trace_text}
 use Rattle.mip_config.specs.Configs.{Content}
@@ -8,6 +9,17 @@ use Rattle.mip_node.specs.Nodes.{Datagrams, Serving, serving}
 use Rattle.mip_node.specs.Seen.{Ahead, Coming, IsSeen}
 use Rattle.mip_node.specs.Turns.{Seen, before, turned}
 use Rattle.mip_node.specs.Runs.{Start, Stand, HasRun}
+
+-- the faults that a link or a sink counts do not fall, and they rise where a call of it failed
+pub record CountsFaults (failed : Type 0) (before after : ℕ) : Type 0 where
+  pub no_fewer : before ≤ after
+  pub cause : failed → Rose before after
+
+-- those of a link and of a sink, each where a call of it failed
+pub record CountsBoth (link_failed write_failed : Type 0) (link_before link_after sink_before sink_after : ℕ) : Type 0 where
+  pub no_fewer : (link_before ≤ link_after) × (sink_before ≤ sink_after)
+  pub link_cause : link_failed → Rose link_before link_after
+  pub write_cause : write_failed → Rose sink_before sink_after
 
 -- more was sent since
 pub record Grew (first last : Datagrams) : Type 0 where

@@ -6,7 +6,7 @@ use Rattle.mip_trace.specs.Lines.{trace_text}
 use Rattle.mip_config.specs.Configs.{Content}
 use Rattle.mip_node.specs.Nodes.{Running, Datagrams, serving}
 use Rattle.mip_node.specs.Seen.{Ahead, Coming, IsSeen, Sees, ahead_after, coming_after}
-use Rattle.mip_node.specs.Turns.{Seen, World, turned, run}
+use Rattle.mip_node.specs.Turns.{Seen, turned, run}
 
 -- a run: its configuration, what its clock and its link tell at first, what the link had sent, and what the sink held
 pub record Start : Type 0 where

@@ -1,5 +1,5 @@
 -- What the turns of a node find, where its clock and its link tell what they will answer.
-use Rattle.std.specs.Prelude.{◌≡◌, ℕ, List, [], ◌∷◌, take, drop, ⊤, Option, Some, None, IfSome, option_map}
+use Rattle.std.specs.Prelude.{◌≡◌, ℕ, List, [], ◌∷◌, take, drop, ⊤, Option, None, IfSome, option_map}
 use Rattle.mip_outside.specs.Moments.{IsAnswer, moments_after}
 use Rattle.mip_node.specs.Turns.{Seen}
 

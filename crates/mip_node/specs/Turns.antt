@@ -1,11 +1,10 @@
 -- The run of a node over a link: turn by turn.
-use Rattle.std.specs.Prelude.{◌≡◌, ℕ, ◌+◌, List, [], ◌∷◌, ◌++◌, fold, Bool, true, false, ◌==◌, if◌then◌else◌, Option, Some, None}
-use Rattle.mip_words.specs.declared.shield.Shield.{Shield}
+use Rattle.std.specs.Prelude.{ℕ, ◌+◌, List, [], ◌++◌, fold, ◌==◌, if◌then◌else◌, Option, Some, None}
 use Rattle.mip_words.specs.declared.why.Why.TheVariants.{Frame}
 use Rattle.mip_entries.specs.declared.entry.Entry.{Entry}
 use Rattle.mip_entries.specs.declared.entry.Entry.TheVariants.{Handed, Dropped, Advertised}
 use Rattle.mip_frames.specs.Framing.{Framed, framed_in}
-use Rattle.mip_history.specs.Calls.{Call, Tick, Take, Send, Attach}
+use Rattle.mip_history.specs.Calls.{Tick, Take, Send, Attach}
 use Rattle.mip_trace.specs.Lines.{trace_text}
 use Rattle.mip_config.specs.declared.payload.Payload.{Payload}
 use Rattle.mip_config.specs.Configs.{Content}

@@ -1,10 +1,9 @@
 //! A node is asked something: it answers, and its answers are carried out.
 
 ghost use Rattle.std.specs.Prelude.{◌≡◌, ◌<◌, ◌≤◌, ◌^◌, true, OnOk, IsErrOf};
-ghost use Rattle.mip_outside.specs.Cause.{Rose};
 ghost use Rattle.mip_nodes.specs.Calls.{asked, IsAskable};
 ghost use Rattle.mip_config.specs.Facts.{is_sendable};
-ghost use Rattle.mip_node.specs.Faults.{Between};
+ghost use Rattle.mip_node.specs.Faults.{CountsFaults, Between};
 ghost use Rattle.mip_node.specs.Roles.{IsBy};
 ghost use Rattle.mip_node.specs.Nodes.{serving, asked_at};
 ghost use Rattle.mip_node.specs.Settings.{said};
@@ -34,8 +33,7 @@ pub fn ask<L: Link>(
     ensures cut { IsErrOf result PutFault.Failed → Between (L.sent link.old) (L.sent link.new) (asked_at (said setting.now) now.0 (asked call.entry) (serving node.old (L.sent link.old))).sent }
     ensures timely { IsBy node.new.role now.0 }
     ensures kept { (L.coming link.new ≡ L.coming link.old) × (L.port link.new ≡ L.port link.old) }
-    ensures no_fewer { L.faults link.old ≤ L.faults link.new }
-    ensures cause { IsErrOf result PutFault.Failed → Rose (L.faults link.old) (L.faults link.new) }
+    ensures faults { CountsFaults (IsErrOf result PutFault.Failed) (L.faults link.old) (L.faults link.new) }
 {
     let answers = node.act(setting, now, call)?;
     answer_all(node, setting, link, answers)
@@ -55,8 +53,7 @@ fn work<L: Link>(
     ensures cut { IsErrOf result PutFault.Failed → Between (L.sent link.old) (L.sent link.new) (worked (said setting.now) now.0 (serving node.old (L.sent link.old))).sent }
     ensures timely { IsBy node.new.role now.0 }
     ensures kept { (L.coming link.new ≡ L.coming link.old) × (L.port link.new ≡ L.port link.old) }
-    ensures no_fewer { L.faults link.old ≤ L.faults link.new }
-    ensures cause { IsErrOf result PutFault.Failed → Rose (L.faults link.old) (L.faults link.new) }
+    ensures faults { CountsFaults (IsErrOf result PutFault.Failed) (L.faults link.old) (L.faults link.new) }
 {
     if node.has_due(now) {
         ask(node, setting, link, now, Call::Tick)
@@ -82,8 +79,7 @@ fn pay_one<L: Link>(
     ensures cut { IsErrOf result PutFault.Failed → Between (L.sent link.old) (L.sent link.new) (paid_one (said setting.now) turn now.0 (serving node.old (L.sent link.old)) payload.now).sent }
     ensures timely { IsBy node.new.role now.0 }
     ensures kept { (L.coming link.new ≡ L.coming link.old) × (L.port link.new ≡ L.port link.old) }
-    ensures no_fewer { L.faults link.old ≤ L.faults link.new }
-    ensures cause { IsErrOf result PutFault.Failed → Rose (L.faults link.old) (L.faults link.new) }
+    ensures faults { CountsFaults (IsErrOf result PutFault.Failed) (L.faults link.old) (L.faults link.new) }
 {
     if payload.turn != turn {
         return Ok(());
@@ -111,8 +107,7 @@ fn pay<L: Link>(
     ensures cut { IsErrOf result PutFault.Failed → Between (L.sent link.old) (L.sent link.new) (paid (said setting.now) turn now.0 (said setting.now).payloads (serving node.old (L.sent link.old))).sent }
     ensures timely { IsBy node.new.role now.0 }
     ensures kept { (L.coming link.new ≡ L.coming link.old) × (L.port link.new ≡ L.port link.old) }
-    ensures no_fewer { L.faults link.old ≤ L.faults link.new }
-    ensures cause { IsErrOf result PutFault.Failed → Rose (L.faults link.old) (L.faults link.new) }
+    ensures faults { CountsFaults (IsErrOf result PutFault.Failed) (L.faults link.old) (L.faults link.new) }
 {
     for payload in setting.config.payloads.as_slice() {
         pay_one(node, setting, link, turn, now, payload)?;
@@ -135,8 +130,7 @@ pub fn act_first<L: Link>(
     ensures cut { IsErrOf result PutFault.Failed → Between (L.sent link.old) (L.sent link.new) (before (said setting.now) turn now.0 (serving node.old (L.sent link.old))).sent }
     ensures timely { IsBy node.new.role now.0 }
     ensures kept { (L.coming link.new ≡ L.coming link.old) × (L.port link.new ≡ L.port link.old) }
-    ensures no_fewer { L.faults link.old ≤ L.faults link.new }
-    ensures cause { IsErrOf result PutFault.Failed → Rose (L.faults link.old) (L.faults link.new) }
+    ensures faults { CountsFaults (IsErrOf result PutFault.Failed) (L.faults link.old) (L.faults link.new) }
 {
     node.begin(now)?;
     work(node, setting, link, now)?;

@@ -1,9 +1,8 @@
 //! A node is handed what comes over its link.
 
 ghost use Rattle.std.specs.Prelude.{◌≡◌, ◌<◌, ◌≤◌, ◌^◌, option_map, OnOk, IsErrOf};
-ghost use Rattle.mip_outside.specs.Cause.{Rose};
 ghost use Rattle.mip_frames.specs.Framing.{framed};
-ghost use Rattle.mip_node.specs.Faults.{Between};
+ghost use Rattle.mip_node.specs.Faults.{CountsFaults, Between};
 ghost use Rattle.mip_node.specs.Roles.{IsBy};
 ghost use Rattle.mip_node.specs.Nodes.{serving};
 ghost use Rattle.mip_node.specs.Settings.{said};
@@ -35,8 +34,7 @@ fn attach<L: Link>(
     ensures cut { IsErrOf result PutFault.Failed → Between (L.sent link.old) (L.sent link.new) (told_of_router (said setting.now) now.0 prefix.0 (serving node.old (L.sent link.old))).sent }
     ensures timely { IsBy node.new.role now.0 }
     ensures kept { (L.coming link.new ≡ L.coming link.old) × (L.port link.new ≡ L.port link.old) }
-    ensures no_fewer { L.faults link.old ≤ L.faults link.new }
-    ensures cause { IsErrOf result PutFault.Failed → Rose (L.faults link.old) (L.faults link.new) }
+    ensures faults { CountsFaults (IsErrOf result PutFault.Failed) (L.faults link.old) (L.faults link.new) }
 {
     node.note(Entry::Advertised {
         node: setting.config.node,
@@ -73,8 +71,7 @@ fn give<L: Link>(
     ensures cut { IsErrOf result PutFault.Failed → Between (L.sent link.old) (L.sent link.new) (given (said setting.now) now.0 number (framed frame.entry) (option_map (λ p. p.0) prefix) (serving node.old (L.sent link.old))).sent }
     ensures timely { IsBy node.new.role now.0 }
     ensures kept { (L.coming link.new ≡ L.coming link.old) × (L.port link.new ≡ L.port link.old) }
-    ensures no_fewer { L.faults link.old ≤ L.faults link.new }
-    ensures cause { IsErrOf result PutFault.Failed → Rose (L.faults link.old) (L.faults link.new) }
+    ensures faults { CountsFaults (IsErrOf result PutFault.Failed) (L.faults link.old) (L.faults link.new) }
 {
     match prefix {
         Some(prefix) => attach(node, setting, link, now, prefix),
@@ -105,8 +102,7 @@ fn take<L: Link>(
     ensures cut { IsErrOf result PutFault.Failed → Between (L.sent link.old) (L.sent link.new) (taken (said setting.now) now.0 number (framed frame.entry) (serving node.old (L.sent link.old))).sent }
     ensures timely { IsBy node.new.role now.0 }
     ensures kept { (L.coming link.new ≡ L.coming link.old) × (L.port link.new ≡ L.port link.old) }
-    ensures no_fewer { L.faults link.old ≤ L.faults link.new }
-    ensures cause { IsErrOf result PutFault.Failed → Rose (L.faults link.old) (L.faults link.new) }
+    ensures faults { CountsFaults (IsErrOf result PutFault.Failed) (L.faults link.old) (L.faults link.new) }
 {
     node.note(Entry::Handed {
         number,
@@ -131,8 +127,7 @@ pub fn hear<L: Link>(
     ensures cut { IsErrOf result PutFault.Failed → Between (L.sent link.old) (L.sent link.new) (heard (said setting.now) now.0 datagram.now (serving node.old (L.sent link.old))).sent }
     ensures timely { IsBy node.new.role now.0 }
     ensures kept { (L.coming link.new ≡ L.coming link.old) × (L.port link.new ≡ L.port link.old) }
-    ensures no_fewer { L.faults link.old ≤ L.faults link.new }
-    ensures cause { IsErrOf result PutFault.Failed → Rose (L.faults link.old) (L.faults link.new) }
+    ensures faults { CountsFaults (IsErrOf result PutFault.Failed) (L.faults link.old) (L.faults link.new) }
 {
     let number = node.next();
     node.count();

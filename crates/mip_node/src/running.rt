@@ -1,7 +1,7 @@
 ghost use Rattle.std.specs.Prelude.{◌≡◌, ◌≤◌, ◌⊎◌, Some, OnOk, OnErr, IsErrOf, option_map};
 ghost use Rattle.mip_outside.specs.Cause.{Rose};
 ghost use Rattle.mip_config.specs.Configs.{content};
-ghost use Rattle.mip_node.specs.Faults.{Broke, WrotePart, DidNothing, BrokeAfter, WroteAfter, StoppedAfter};
+ghost use Rattle.mip_node.specs.Faults.{CountsFaults, CountsBoth, Broke, WrotePart, DidNothing, BrokeAfter, WroteAfter, StoppedAfter};
 ghost use Rattle.mip_node.specs.Nodes.{serving};
 ghost use Rattle.mip_node.specs.Roles.{IsBy};
 ghost use Rattle.mip_node.specs.Runs.{HasRun, TurnDone, Ran, WroteFront, start, stand};
@@ -23,8 +23,7 @@ fn listen<L: Link>(link: &mut L, port: u16) -> Result<(), Ended>
     ensures ok { OnOk result (L.port link.new ≡ option_map (λ _. Some port) (L.port link.old)) }
     ensures kept { (L.sent link.new ≡ L.sent link.old) × (L.coming link.new ≡ L.coming link.old) }
     ensures only { OnErr result (result ≡ Err Ended.Link) }
-    ensures no_fewer { L.faults link.old ≤ L.faults link.new }
-    ensures cause { IsErrOf result Ended.Link → Rose (L.faults link.old) (L.faults link.new) }
+    ensures faults { CountsFaults (IsErrOf result Ended.Link) (L.faults link.old) (L.faults link.new) }
 {
     match link.listen_on(port) {
         Ok(()) => Ok(()),
@@ -52,9 +51,8 @@ fn turn_told<C: Clock, L: Link, K: Sink>(
     ensures memory { IsErrOf result Ended.Memory → (K.held sink.new ≡ K.held sink.old)
         ⊎ WrotePart (said setting.now) number (stand (C.ahead clock.old) (L.coming link.old) node.old (L.sent link.old) (K.held sink.old)) (L.sent link.new) (K.held sink.new) }
     ensures kept { IsBy node.new.role (C.last clock.new) × (L.port link.new ≡ L.port link.old) }
-    ensures no_fewer { (L.faults link.old ≤ L.faults link.new) × (K.faults sink.old ≤ K.faults sink.new) }
-    ensures link_cause { IsErrOf result Ended.Link → Rose (L.faults link.old) (L.faults link.new) }
-    ensures write_cause { IsErrOf result Ended.Sink → Rose (K.faults sink.old) (K.faults sink.new) }
+    ensures faults { CountsBoth (IsErrOf result Ended.Link) (IsErrOf result Ended.Sink)
+        (L.faults link.old) (L.faults link.new) (K.faults sink.old) (K.faults sink.new) }
 {
     match turn(node, setting, clock, link, number) {
         Ok(()) => tell(setting.alloc, node, sink),
@@ -88,9 +86,8 @@ fn run_turns<C: Clock, L: Link, K: Sink>(
         (start (said setting.now) (C.ahead clock.old) (L.coming link.old) (L.sent link.old) (K.held sink.old)) turns
         (K.held sink.new) }
     ensures port { L.port link.new ≡ L.port link.old }
-    ensures no_fewer { (L.faults link.old ≤ L.faults link.new) × (K.faults sink.old ≤ K.faults sink.new) }
-    ensures link_cause { IsErrOf result Ended.Link → Rose (L.faults link.old) (L.faults link.new) }
-    ensures write_cause { IsErrOf result Ended.Sink → Rose (K.faults sink.old) (K.faults sink.new) }
+    ensures faults { CountsBoth (IsErrOf result Ended.Link) (IsErrOf result Ended.Sink)
+        (L.faults link.old) (L.faults link.new) (K.faults sink.old) (K.faults sink.new) }
 {
     for done in 0..turns {
         turn_told(node, setting, clock, link, sink, done + 1)?;
@@ -119,9 +116,8 @@ fn run<C: Clock, L: Link, K: Sink>(
         (L.sent link.new) (K.held sink.new) }
     ensures memory { IsErrOf result Ended.Memory
         → StoppedAfter (start (content config.now) (C.ahead clock.old) (L.coming link.old) (L.sent link.old) (K.held sink.old)) turns (K.held sink.new) }
-    ensures no_fewer { (L.faults link.old ≤ L.faults link.new) × (K.faults sink.old ≤ K.faults sink.new) }
-    ensures link_cause { IsErrOf result Ended.Link → Rose (L.faults link.old) (L.faults link.new) }
-    ensures write_cause { IsErrOf result Ended.Sink → Rose (K.faults sink.old) (K.faults sink.new) }
+    ensures faults { CountsBoth (IsErrOf result Ended.Link) (IsErrOf result Ended.Sink)
+        (L.faults link.old) (L.faults link.new) (K.faults sink.old) (K.faults sink.new) }
 {
     let setting = Setting::new(alloc, config)?;
     let mut node = Node::new(&setting)?;

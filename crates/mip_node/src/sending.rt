@@ -1,9 +1,9 @@
 //! A node carries out what its role answers.
 
 ghost use Rattle.std.specs.Prelude.{◌≡◌, ℕ, ◌≤◌, take, OnOk, IsErrOf};
-ghost use Rattle.mip_outside.specs.Cause.{Rose};
 ghost use Rattle.mip_node.specs.Nodes.{serving, put_on, answered_one, answered};
 ghost use Rattle.mip_node.specs.Settings.{said};
+ghost use Rattle.mip_node.specs.Faults.{CountsFaults};
 
 use crate::node::Node;
 use crate::setting::Setting;
@@ -28,8 +28,7 @@ fn put<L: Link>(
     ensures cut { IsErrOf result PutFault.Failed → L.sent link.new ≡ L.sent link.old }
     ensures role { node.new.role ≡ node.old.role }
     ensures kept { (L.coming link.new ≡ L.coming link.old) × (L.port link.new ≡ L.port link.old) }
-    ensures no_fewer { L.faults link.old ≤ L.faults link.new }
-    ensures cause { IsErrOf result PutFault.Failed → Rose (L.faults link.old) (L.faults link.new) }
+    ensures faults { CountsFaults (IsErrOf result PutFault.Failed) (L.faults link.old) (L.faults link.new) }
 {
     let config = setting.config;
     let bytes = packet.as_slice();
@@ -57,8 +56,7 @@ fn answer_one<L: Link>(
     ensures cut { IsErrOf result PutFault.Failed → L.sent link.new ≡ L.sent link.old }
     ensures role { node.new.role ≡ node.old.role }
     ensures kept { (L.coming link.new ≡ L.coming link.old) × (L.port link.new ≡ L.port link.old) }
-    ensures no_fewer { L.faults link.old ≤ L.faults link.new }
-    ensures cause { IsErrOf result PutFault.Failed → Rose (L.faults link.old) (L.faults link.new) }
+    ensures faults { CountsFaults (IsErrOf result PutFault.Failed) (L.faults link.old) (L.faults link.new) }
 {
     match answer {
         Answer::Send { shield, packet } => put(node, setting, link, shield, packet),
@@ -82,8 +80,7 @@ pub fn answer_all<L: Link>(
     ensures cut { IsErrOf result PutFault.Failed → ((count : ℕ) × (L.sent link.new ≡ (answered (said setting.now) (take count answers) (serving node.old (L.sent link.old))).sent)) }
     ensures role { node.new.role ≡ node.old.role }
     ensures kept { (L.coming link.new ≡ L.coming link.old) × (L.port link.new ≡ L.port link.old) }
-    ensures no_fewer { L.faults link.old ≤ L.faults link.new }
-    ensures cause { IsErrOf result PutFault.Failed → Rose (L.faults link.old) (L.faults link.new) }
+    ensures faults { CountsFaults (IsErrOf result PutFault.Failed) (L.faults link.old) (L.faults link.new) }
 {
     for answer in answers.into_vec() {
         answer_one(node, setting, link, answer)?;

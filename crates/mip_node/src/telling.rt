@@ -2,8 +2,8 @@
 
 ghost use Rattle.std.specs.Prelude.{◌≡◌, ℕ, ◌≤◌, None, length, take, OnOk, OnErr, IsErrOf};
 ghost use Rattle.std.specs.Io.KnownBytes.{append_known};
-ghost use Rattle.mip_outside.specs.Cause.{Rose};
 ghost use Rattle.mip_trace.specs.Lines.{trace_text};
+ghost use Rattle.mip_node.specs.Faults.{CountsFaults};
 
 use crate::ended::Ended;
 use crate::node::Node;
@@ -19,8 +19,7 @@ const LINE: usize = 512;
 fn write<K: Sink>(alloc: Global, node: &Node, sink: &mut K) -> Result<(), PutFault>
     ensures ok { OnOk result (K.held sink.new ≡ append_known (K.held sink.old) (trace_text None node.now.entries)) }
     ensures front { OnErr result ((count : ℕ) × (K.held sink.new ≡ append_known (K.held sink.old) (take count (trace_text None node.now.entries)))) }
-    ensures no_fewer { K.faults sink.old ≤ K.faults sink.new }
-    ensures cause { IsErrOf result PutFault.Failed → Rose (K.faults sink.old) (K.faults sink.new) }
+    ensures faults { CountsFaults (IsErrOf result PutFault.Failed) (K.faults sink.old) (K.faults sink.new) }
 {
     let names = NameTable::untabled(alloc, None);
     let mut line = Bytes::with_capacity(alloc, LINE)?;
@@ -32,8 +31,7 @@ pub fn tell<K: Sink>(alloc: Global, node: &Node, sink: &mut K) -> Result<(), End
     ensures ok { OnOk result (K.held sink.new ≡ append_known (K.held sink.old) (trace_text None node.now.entries)) }
     ensures front { OnErr result ((count : ℕ) × (K.held sink.new ≡ append_known (K.held sink.old) (take count (trace_text None node.now.entries)))) }
     ensures other { IsErrOf result Ended.Link → ⊥ }
-    ensures no_fewer { K.faults sink.old ≤ K.faults sink.new }
-    ensures cause { IsErrOf result Ended.Sink → Rose (K.faults sink.old) (K.faults sink.new) }
+    ensures faults { CountsFaults (IsErrOf result Ended.Sink) (K.faults sink.old) (K.faults sink.new) }
 {
     match write(alloc, node, sink) {
         Ok(()) => Ok(()),

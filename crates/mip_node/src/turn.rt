@@ -1,9 +1,8 @@
 //! A turn of a node: the moment, due work, payloads, and what comes over the link.
 
 ghost use Rattle.std.specs.Prelude.{◌≡◌, ◌<◌, ◌≤◌, ◌^◌, IfOk, IfSome, OnOk, IsErrOf, drop, option_map};
-ghost use Rattle.mip_outside.specs.Cause.{Rose};
 ghost use Rattle.mip_outside.specs.Moments.{moments_after};
-ghost use Rattle.mip_node.specs.Faults.{Between, Broke};
+ghost use Rattle.mip_node.specs.Faults.{CountsFaults, Between, Broke};
 ghost use Rattle.mip_node.specs.Roles.{IsBy};
 ghost use Rattle.mip_node.specs.Nodes.{serving};
 ghost use Rattle.mip_node.specs.Seen.{IsNext, IsSeen};
@@ -30,8 +29,7 @@ fn next_datagram<L: Link>(alloc: Global, link: &mut L) -> Result<Option<Bytes>, 
     ensures ok { OnOk result (L.coming link.new ≡ option_map (drop 1) (L.coming link.old)) }
     ensures failed { IsErrOf result PutFault.Failed → L.coming link.new ≡ L.coming link.old }
     ensures kept { (L.sent link.new ≡ L.sent link.old) × (L.port link.new ≡ L.port link.old) }
-    ensures no_fewer { L.faults link.old ≤ L.faults link.new }
-    ensures cause { IsErrOf result PutFault.Failed → Rose (L.faults link.old) (L.faults link.new) }
+    ensures faults { CountsFaults (IsErrOf result PutFault.Failed) (L.faults link.old) (L.faults link.new) }
 {
     let mut room = [0; ROOM];
     match link.receive(&mut room, WAIT) {
@@ -59,8 +57,7 @@ fn receive<L: Link>(
     ensures cut { IsErrOf result PutFault.Failed → Between (L.sent link.old) (L.sent link.new) (received (said setting.now) now.0 datagram (serving node.old (L.sent link.old))).sent }
     ensures timely { IsBy node.new.role now.0 }
     ensures kept { (L.coming link.new ≡ L.coming link.old) × (L.port link.new ≡ L.port link.old) }
-    ensures no_fewer { L.faults link.old ≤ L.faults link.new }
-    ensures cause { IsErrOf result PutFault.Failed → Rose (L.faults link.old) (L.faults link.new) }
+    ensures faults { CountsFaults (IsErrOf result PutFault.Failed) (L.faults link.old) (L.faults link.new) }
 {
     match datagram {
         Some(datagram) => hear(node, setting, link, now, datagram.as_slice()),
@@ -85,8 +82,7 @@ pub fn turn<C: Clock, L: Link>(
     ensures ahead { C.ahead clock.new ≡ option_map moments_after (C.ahead clock.old) }
     ensures coming { OnOk result (L.coming link.new ≡ option_map (drop 1) (L.coming link.old)) }
     ensures port { L.port link.new ≡ L.port link.old }
-    ensures no_fewer { L.faults link.old ≤ L.faults link.new }
-    ensures cause { IsErrOf result PutFault.Failed → Rose (L.faults link.old) (L.faults link.new) }
+    ensures faults { CountsFaults (IsErrOf result PutFault.Failed) (L.faults link.old) (L.faults link.new) }
 {
     let now = Moment(clock.now());
     act_first(node, setting, link, turn, now)?;

@@ -22,7 +22,7 @@ use Rattle.mip_rules_mobile.specs.Known.{Known}
 use Rattle.mip_rules_mobile.specs.HomeQuestions.{home_of}
 use Rattle.mip_rules_mobile.specs.Steps as mobile_steps
 use Rattle.mip_rules_mobile.specs.Questions.{after}
-use Rattle.mip_rules_mobile.specs.Doing.{turn_of}
+use Rattle.mip_rules_mobile.specs.Doing.{transition_of}
 use Rattle.mip_rules_mobile.specs.Answering as answering
 use Rattle.mip_rules_mobile.specs.Answering.{EachAnswer, CanBeAsked}
 use Rattle.mip_rules_mobile.proofs.Wholes as mobile_wholes
@@ -126,11 +126,11 @@ can_ask (ask.Restart secrets) can = tt
 
 pub role_whole : (around : Around) (role : Role) (now : ℕ) (call : Call) → CanAsk call → AllByRecursion IsWhole (answers_to around role now call)
 role_whole around (Correspondent c) now call can =
-    idle-or (λ x. correspondent_steps.answers_of (correspondents.turn_at c now x).steps) (for_correspondent call) (λ _. Unit {0}) (some (for_correspondent call))
-    (λ x _. weaker correspondent_wholes.IsWhole of-correspondent (correspondent_steps.answers_of (correspondents.turn_at c now x).steps) (correspondent_answers.call-whole c.identity c.known now x))
+    idle-or (λ x. correspondent_steps.answers_of (correspondents.transition_at c now x).steps) (for_correspondent call) (λ _. Unit {0}) (some (for_correspondent call))
+    (λ x _. weaker correspondent_wholes.IsWhole of-correspondent (correspondent_steps.answers_of (correspondents.transition_at c now x).steps) (correspondent_answers.call-whole c.identity c.known now x))
 role_whole around (Agent a) now call can =
-    idle-or (λ x. agent_steps.answers_of (agents.turn_at a now x).steps) (for_agent around call) (λ _. Unit {0}) (some (for_agent around call))
-    (λ x _. weaker agent_wholes.IsWhole of-agent (agent_steps.answers_of (agents.turn_at a now x).steps) (agent_answers.call-whole a.identity a.known now x))
+    idle-or (λ x. agent_steps.answers_of (agents.transition_at a now x).steps) (for_agent around call) (λ _. Unit {0}) (some (for_agent around call))
+    (λ x _. weaker agent_wholes.IsWhole of-agent (agent_steps.answers_of (agents.transition_at a now x).steps) (agent_answers.call-whole a.identity a.known now x))
 role_whole around (Mobile k) now call can =
-    idle-or (λ x. mobile_steps.answers_of (turn_of k now x).steps) (for_mobile around (home_of k) call) CanBeAsked (can-mobile around (home_of k) call can)
-    (λ x can. each now k (turn_of k now x).steps (mobile_wholes.call-whole k now x can))
+    idle-or (λ x. mobile_steps.answers_of (transition_of k now x).steps) (for_mobile around (home_of k) call) CanBeAsked (can-mobile around (home_of k) call can)
+    (λ x can. each now k (transition_of k now x).steps (mobile_wholes.call-whole k now x can))

@@ -16,7 +16,7 @@ use Rattle.mip_rules_agent.specs.Questions.{rows_at}
 use Rattle.mip_rules_agent.specs.Seen as agents
 use Rattle.mip_rules_agent.specs.Steps as agent_steps
 use Rattle.mip_rules_agent.specs.declared.home_row.HomeRow.{HomeRow}
-use Rattle.mip_rules_mobile.specs.Doing.{turn_of}
+use Rattle.mip_rules_mobile.specs.Doing.{transition_of}
 use Rattle.mip_rules_mobile.specs.HomeQuestions.{home_of}
 use Rattle.mip_rules_mobile.specs.Questions as mobile_questions
 use Rattle.mip_rules_mobile.specs.Steps as mobile_steps
@@ -41,9 +41,9 @@ or_idle answers (Some call) = answers call
 
 -- its answers to a call
 abbrev pub answers_to : Around → Role → ℕ → Call → List Answer
-answers_to around (Correspondent c) now call = or_idle (λ x. correspondent_steps.answers_of (correspondents.turn_at c now x).steps) (for_correspondent call)
-answers_to around (Agent a) now call = or_idle (λ x. agent_steps.answers_of (agents.turn_at a now x).steps) (for_agent around call)
-answers_to around (Mobile k) now call = or_idle (λ x. mobile_steps.answers_of (turn_of k now x).steps) (for_mobile around (home_of k) call)
+answers_to around (Correspondent c) now call = or_idle (λ x. correspondent_steps.answers_of (correspondents.transition_at c now x).steps) (for_correspondent call)
+answers_to around (Agent a) now call = or_idle (λ x. agent_steps.answers_of (agents.transition_at a now x).steps) (for_agent around call)
+answers_to around (Mobile k) now call = or_idle (λ x. mobile_steps.answers_of (transition_of k now x).steps) (for_mobile around (home_of k) call)
 
 -- and changes nothing
 abbrev pub or_same : {C R : Type 0} → R → (C → R) → Option C → R
@@ -54,7 +54,7 @@ or_same role becomes (Some call) = becomes call
 abbrev pub after_call : Around → Role → ℕ → Call → Role
 after_call around (Correspondent c) now call = or_same (Correspondent c) (λ x. Correspondent (correspondents.called c now x)) (for_correspondent call)
 after_call around (Agent a) now call = or_same (Agent a) (λ x. Agent (agents.called a now x)) (for_agent around call)
-after_call around (Mobile k) now call = or_same (Mobile k) (λ x. Mobile (turn_of k now x).known) (for_mobile around (home_of k) call)
+after_call around (Mobile k) now call = or_same (Mobile k) (λ x. Mobile (transition_of k now x).known) (for_mobile around (home_of k) call)
 
 -- when it has work due: an agent the end of a registration, a mobile whatever its timers are set for
 abbrev pub due_of : Role → Option ℕ

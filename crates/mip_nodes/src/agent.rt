@@ -30,7 +30,7 @@ fn hear(
 ) -> Result<Answers, Memory>
     requires later { role.old.known.last ≤ now.0 }
     requires early { now.0 < 2 ^ 62 }
-    ensures answers { IfOk result (λ a. a ≡ answers_of (agents.turn_at role.old now.0 (calls.Hear agent preference life)).steps) }
+    ensures answers { IfOk result (λ a. a ≡ answers_of (agents.transition_at role.old now.0 (calls.Hear agent preference life)).steps) }
     ensures after { OnOk result (role.new ≡ agents.called role.old now.0 (calls.Hear agent preference life)) }
     ensures timely { role.new.known.last ≤ now.0 }
 {
@@ -51,7 +51,7 @@ fn take(
 ) -> Result<Answers, Memory>
     requires later { role.old.known.last ≤ now.0 }
     requires early { now.0 < 2 ^ 62 }
-    ensures answers { IfOk result (λ a. a ≡ answers_of (agents.turn_at role.old now.0 (calls.Take number shield packet.now (claim_for (around_seen place.old) packet.now))).steps) }
+    ensures answers { IfOk result (λ a. a ≡ answers_of (agents.transition_at role.old now.0 (calls.Take number shield packet.now (claim_for (around_seen place.old) packet.now))).steps) }
     ensures after { OnOk result (role.new ≡ agents.called role.old now.0 (calls.Take number shield packet.now (claim_for (around_seen place.old) packet.now))) }
     ensures timely { role.new.known.last ≤ now.0 }
 {
@@ -68,7 +68,7 @@ pub fn ask(
 ) -> Result<Answers, Memory>
     requires later { role.old.known.last ≤ now.0 }
     requires early { now.0 < 2 ^ 62 }
-    ensures answers { IfOk result (λ a. a ≡ or_idle (λ x. answers_of (agents.turn_at role.old now.0 x).steps) (for_agent (around_seen place.old) (asked call.entry))) }
+    ensures answers { IfOk result (λ a. a ≡ or_idle (λ x. answers_of (agents.transition_at role.old now.0 x).steps) (for_agent (around_seen place.old) (asked call.entry))) }
     ensures after { OnOk result (role.new ≡ or_same role.old (agents.called role.old now.0) (for_agent (around_seen place.old) (asked call.entry))) }
     ensures timely { role.new.known.last ≤ now.0 }
 {

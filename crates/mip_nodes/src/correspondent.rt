@@ -24,7 +24,8 @@ pub fn ask(
     requires later { role.old.known.last.0 ≤ now.0 }
     requires early { now.0 < 2 ^ 62 }
     requires askable { IsAskable call }
-    ensures answers { IfOk result (λ a. a ≡ or_idle (λ x. answers_of (correspondents.turn_at role.old now.0 x).steps) (for_correspondent (asked call.entry))) }
+    ensures answers { IfOk result (λ a. a ≡ or_idle (λ x. answers_of (correspondents.transition_at role.old now.0 x).steps)
+        (for_correspondent (asked call.entry))) }
     ensures after { OnOk result (role.new ≡ or_same role.old (correspondents.called role.old now.0) (for_correspondent (asked call.entry))) }
     ensures timely { role.new.known.last.0 ≤ now.0 }
 {

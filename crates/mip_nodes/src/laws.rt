@@ -11,19 +11,19 @@ ghost use Rattle.mip_rules_correspondent.specs.Calls as correspondents;
 ghost use Rattle.mip_rules_correspondent.specs.Doing as correspondent_doing;
 ghost use Rattle.mip_rules_correspondent.specs.Questions as correspondent_questions;
 ghost use Rattle.mip_rules_correspondent.specs.Steps as correspondent_steps;
-ghost use Rattle.mip_rules_correspondent.specs.Transitions as correspondent_turns;
+ghost use Rattle.mip_rules_correspondent.specs.Transitions as correspondent_transitions;
 ghost use Rattle.mip_rules_agent.specs.declared.identity.Identity as agent;
 ghost use Rattle.mip_rules_agent.specs.Calls as agents;
 ghost use Rattle.mip_rules_agent.specs.Doing as agent_doing;
 ghost use Rattle.mip_rules_agent.specs.Questions as agent_questions;
 ghost use Rattle.mip_rules_agent.specs.Steps as agent_steps;
-ghost use Rattle.mip_rules_agent.specs.Transitions as agent_turns;
+ghost use Rattle.mip_rules_agent.specs.Transitions as agent_transitions;
 ghost use Rattle.mip_rules_mobile.specs.Calls as mobiles;
 ghost use Rattle.mip_rules_mobile.specs.Doing as mobile_doing;
 ghost use Rattle.mip_rules_mobile.specs.HomeQuestions.{home_of};
 ghost use Rattle.mip_rules_mobile.specs.Questions as mobile_questions;
 ghost use Rattle.mip_rules_mobile.specs.Steps as mobile_steps;
-ghost use Rattle.mip_rules_mobile.specs.Transitions as mobile_turns;
+ghost use Rattle.mip_rules_mobile.specs.Transitions as mobile_transitions;
 ghost use Rattle.mip_history.specs.Setup.{Kind};
 ghost use Rattle.mip_history.specs.Calls.{Call};
 ghost use Rattle.mip_nodes.specs.Calls.{asked, IsAskable, CanAsk};
@@ -38,18 +38,18 @@ pub fn answers_are_whole()
     ensures asked { (call : asks.Call) → IsAskable call → CanAsk (asked call) }
 {}
 
-/// What a call leaves known is that of the past with its turn, whatever the role.
+/// What a call leaves known is that of the past with its transition, whatever the role.
 #[tactic(auto, using(crate::proofs::RoleLaws::knows_on, crate::proofs::RoleLaws::agent_knows_on, crate::proofs::RoleLaws::mobile_knows_on))]
 pub fn roles_stand_for_their_pasts()
     ensures correspondent { (me : Identity) (now room numbers : ℕ) (past : List (Stamped correspondent_steps.Step)) (call : correspondents.Call)
-        → (correspondent_doing.turn_of me (correspondent_questions.known room numbers past) now call).known
-        ≡ correspondent_questions.known room numbers (correspondent_turns.with_turn past (correspondent_doing.turn_of me (correspondent_questions.known room numbers past) now call)) }
+        → (correspondent_doing.transition_of me (correspondent_questions.known room numbers past) now call).known
+        ≡ correspondent_questions.known room numbers (correspondent_transitions.with_transition past (correspondent_doing.transition_of me (correspondent_questions.known room numbers past) now call)) }
     ensures agent { (me : agent.Identity) (now : ℕ) (serves : List Address) (past : List (Stamped agent_steps.Step)) (call : agents.Call)
-        → (agent_doing.turn_of me (agent_questions.known serves past) now call).known
-        ≡ agent_questions.known serves (agent_turns.with_turn past (agent_doing.turn_of me (agent_questions.known serves past) now call)) }
+        → (agent_doing.transition_of me (agent_questions.known serves past) now call).known
+        ≡ agent_questions.known serves (agent_transitions.with_transition past (agent_doing.transition_of me (agent_questions.known serves past) now call)) }
     ensures mobile { (now : ℕ) (home : Address) (declared : Option Address) (numbers : ℕ) (secrets : Life) (past : List (Stamped mobile_steps.Step)) (call : mobiles.Call)
-        → (mobile_doing.turn_of (mobile_questions.known home declared numbers secrets past) now call).known
-        ≡ mobile_questions.known home declared numbers secrets (mobile_turns.with_turn past (mobile_doing.turn_of (mobile_questions.known home declared numbers secrets past) now call)) }
+        → (mobile_doing.transition_of (mobile_questions.known home declared numbers secrets past) now call).known
+        ≡ mobile_questions.known home declared numbers secrets (mobile_transitions.with_transition past (mobile_doing.transition_of (mobile_questions.known home declared numbers secrets past) now call)) }
 {}
 
 /// With nothing behind it, each knows what a new one does, whose last moment is 0.

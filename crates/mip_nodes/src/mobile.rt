@@ -5,7 +5,7 @@ ghost use Rattle.mip_ipv6.specs.Packet.{names_no_body};
 ghost use Rattle.mip_outside.specs.Places.{claim_in};
 ghost use Rattle.mip_rules_correspondent.specs.Rules.{is_data};
 ghost use Rattle.mip_rules_mobile.specs.Calls as calls;
-ghost use Rattle.mip_rules_mobile.specs.Doing.{turn_of};
+ghost use Rattle.mip_rules_mobile.specs.Doing.{transition_of};
 ghost use Rattle.mip_rules_mobile.specs.HomeQuestions.{home_of};
 ghost use Rattle.mip_rules_mobile.specs.Known.{Known};
 ghost use Rattle.mip_rules_mobile.specs.MovingRules.{address_under};
@@ -38,7 +38,7 @@ fn take(
 ) -> Result<(), Memory>
     requires later { context.old.moment ≤ now.0 }
     requires early { now.0 < 2 ^ 62 }
-    ensures { OnOk result (Shows context.new (turn_of context.old.known now.0 (calls.Take number shield packet.now))) }
+    ensures { OnOk result (Shows context.new (transition_of context.old.known now.0 (calls.Take number shield packet.now))) }
 {
     context.call(alloc, now)?;
     mip_mobility::take(alloc, context, number, shield, packet)
@@ -59,7 +59,7 @@ fn send(
     requires data { IsTrue (is_data proto) }
     requires proto { IsFalse (names_no_body proto) }
     requires short { length payload.now ≤ 512 }
-    ensures { OnOk result (Shows context.new (turn_of context.old.known now.0 (calls.Send to proto payload.now))) }
+    ensures { OnOk result (Shows context.new (transition_of context.old.known now.0 (calls.Send to proto payload.now))) }
 {
     context.call(alloc, now)?;
     mip_mobility::send(alloc, context, to, proto, payload)
@@ -75,7 +75,7 @@ fn refresh(
 ) -> Result<(), Memory>
     requires later { context.old.moment ≤ now.0 }
     requires early { now.0 < 2 ^ 62 }
-    ensures { OnOk result (Shows context.new (turn_of context.old.known now.0 (calls.Refresh home))) }
+    ensures { OnOk result (Shows context.new (transition_of context.old.known now.0 (calls.Refresh home))) }
 {
     context.call(alloc, now)?;
     mip_mobility::refresh(alloc, context, home)
@@ -86,7 +86,7 @@ fn refresh(
 fn tick(context: &mut CallContext, alloc: Global, now: Moment) -> Result<(), Memory>
     requires later { context.old.moment ≤ now.0 }
     requires early { now.0 < 2 ^ 62 }
-    ensures { OnOk result (Shows context.new (turn_of context.old.known now.0 calls.Tick)) }
+    ensures { OnOk result (Shows context.new (transition_of context.old.known now.0 calls.Tick)) }
 {
     context.call(alloc, now)?;
     mip_mobility::tick(alloc, context)
@@ -104,7 +104,7 @@ fn attach(
 ) -> Result<(), Memory>
     requires later { context.old.moment ≤ now.0 }
     requires early { now.0 < 2 ^ 62 }
-    ensures { OnOk result (Shows context.new (turn_of context.old.known now.0 (calls.Attach prefix.0 of_home of_address))) }
+    ensures { OnOk result (Shows context.new (transition_of context.old.known now.0 (calls.Attach prefix.0 of_home of_address))) }
 {
     context.call(alloc, now)?;
     mip_mobility::attach(alloc, context, prefix, of_home, of_address)
@@ -120,7 +120,7 @@ fn leave(
 ) -> Result<(), Memory>
     requires later { context.old.moment ≤ now.0 }
     requires early { now.0 < 2 ^ 62 }
-    ensures { OnOk result (Shows context.new (turn_of context.old.known now.0 (calls.Leave of_home))) }
+    ensures { OnOk result (Shows context.new (transition_of context.old.known now.0 (calls.Leave of_home))) }
 {
     context.call(alloc, now)?;
     mip_mobility::leave(context, of_home)
@@ -131,7 +131,7 @@ fn leave(
 fn solicit(context: &mut CallContext, alloc: Global, now: Moment) -> Result<(), Memory>
     requires later { context.old.moment ≤ now.0 }
     requires early { now.0 < 2 ^ 62 }
-    ensures { OnOk result (Shows context.new (turn_of context.old.known now.0 calls.Ask)) }
+    ensures { OnOk result (Shows context.new (transition_of context.old.known now.0 calls.Ask)) }
 {
     context.call(alloc, now)?;
     mip_mobility::ask(alloc, context)
@@ -147,7 +147,7 @@ fn restart(
 ) -> Result<(), Memory>
     requires later { context.old.moment ≤ now.0 }
     requires early { now.0 < 2 ^ 62 }
-    ensures { OnOk result (Shows context.new (turn_of context.old.known now.0 (calls.Restart secrets))) }
+    ensures { OnOk result (Shows context.new (transition_of context.old.known now.0 (calls.Restart secrets))) }
 {
     context.call(alloc, now)?;
     mip_mobility::restart(alloc, context, secrets)
@@ -173,9 +173,9 @@ fn finish(
     alloc: Global,
     done: Result<(), Memory>,
 ) -> Result<Answers, Memory>
-    ensures answers { (k : Known) (now : ℕ) (call : calls.Call) → OnOk done (Shows context.old (turn_of k now call)) → IfOk result (λ a. a ≡ answers_of (turn_of k now call).steps) }
-    ensures known { (k : Known) (now : ℕ) (call : calls.Call) → OnOk done (Shows context.old (turn_of k now call)) → OnOk result (context.new.known ≡ (turn_of k now call).known) }
-    ensures calm { (k : Known) (now : ℕ) (call : calls.Call) → OnOk done (Shows context.old (turn_of k now call)) → OnOk result ((context.new.moment ≡ now) × (context.new.known.last.0 ≡ now)) }
+    ensures answers { (k : Known) (now : ℕ) (call : calls.Call) → OnOk done (Shows context.old (transition_of k now call)) → IfOk result (λ a. a ≡ answers_of (transition_of k now call).steps) }
+    ensures known { (k : Known) (now : ℕ) (call : calls.Call) → OnOk done (Shows context.old (transition_of k now call)) → OnOk result (context.new.known ≡ (transition_of k now call).known) }
+    ensures calm { (k : Known) (now : ℕ) (call : calls.Call) → OnOk done (Shows context.old (transition_of k now call)) → OnOk result ((context.new.moment ≡ now) × (context.new.known.last.0 ≡ now)) }
 {
     done?;
     context.take_answers(alloc)
@@ -193,8 +193,8 @@ pub fn ask(
     requires later { context.old.known.last.0 ≤ now.0 }
     requires early { now.0 < 2 ^ 62 }
     requires askable { IsAskable call }
-    ensures answers { IfOk result (λ a. a ≡ or_idle (λ x. answers_of (turn_of context.old.known now.0 x).steps) (for_mobile (around_seen place.now) (home_of context.old.known) (asked call.entry))) }
-    ensures after { OnOk result (context.new.known ≡ or_same context.old.known (λ x. (turn_of context.old.known now.0 x).known) (for_mobile (around_seen place.now) (home_of context.old.known) (asked call.entry))) }
+    ensures answers { IfOk result (λ a. a ≡ or_idle (λ x. answers_of (transition_of context.old.known now.0 x).steps) (for_mobile (around_seen place.now) (home_of context.old.known) (asked call.entry))) }
+    ensures after { OnOk result (context.new.known ≡ or_same context.old.known (λ x. (transition_of context.old.known now.0 x).known) (for_mobile (around_seen place.now) (home_of context.old.known) (asked call.entry))) }
     ensures calm { OnOk result ((context.new.moment ≤ context.new.known.last.0) × (context.new.known.last.0 ≤ now.0)) }
 {
     match call {

@@ -18,38 +18,38 @@ use Rattle.mip_entries.specs.Stamped.{Stamped, stamped}
 use Rattle.mip_provenance.specs.Sights.{token_in}
 use Rattle.mip_rules_correspondent.specs.declared.identity.Identity.{Identity}
 use Rattle.mip_rules_correspondent.specs.Calls as correspondents
-use Rattle.mip_rules_correspondent.specs.Transitions as correspondent_turns
+use Rattle.mip_rules_correspondent.specs.Transitions as correspondent_transitions
 use Rattle.mip_rules_correspondent.specs.Steps as correspondent_steps
 use Rattle.mip_rules_correspondent.specs.Doing as correspondent_doing
 use Rattle.mip_rules_correspondent.specs.Seen.{CorrespondentSeen}
 use Rattle.mip_rules_agent.specs.Calls as agents
 use Rattle.mip_rules_agent.specs.Calls.{bytes_of, claim_for}
-use Rattle.mip_rules_agent.specs.Transitions as agent_turns
+use Rattle.mip_rules_agent.specs.Transitions as agent_transitions
 use Rattle.mip_rules_agent.specs.Steps as agent_steps
 use Rattle.mip_rules_agent.specs.Doing as agent_doing
 use Rattle.mip_rules_agent.proofs.Sayings.{call-says as agent_says}
 use Rattle.mip_rules_mobile.specs.Calls as mobiles
 use Rattle.mip_rules_mobile.specs.MovingRules.{address_under}
-use Rattle.mip_rules_mobile.specs.Transitions as mobile_turns
+use Rattle.mip_rules_mobile.specs.Transitions as mobile_transitions
 use Rattle.mip_rules_mobile.specs.Steps.{Step, Called, Restarts, answers_of}
 use Rattle.mip_rules_mobile.specs.Known.{Known}
 use Rattle.mip_rules_mobile.specs.Questions.{part_after, after}
-use Rattle.mip_rules_mobile.specs.Doing.{turn_of}
+use Rattle.mip_rules_mobile.specs.Doing.{transition_of}
 use Rattle.mip_rules_mobile.specs.Fitting.{EachFits}
 use Rattle.mip_rules_mobile.specs.Answering.{EachAnswer, SendsPlainData as SendsPlain, SaysRight}
-use Rattle.mip_rules_mobile.specs.Part.{PartLife, part_goes_on, part_life, concerns_part, IsPartTurn, Silent, Asked, Accepting, is_restart, IsPartReborn}
+use Rattle.mip_rules_mobile.specs.Part.{PartLife, part_goes_on, part_life, concerns_part, IsPartTransition, Silent, Asked, Accepting, is_restart, IsPartReborn}
 use Rattle.mip_rules_mobile.proofs.Fits.{call-fits}
 use Rattle.mip_rules_mobile.proofs.Says.{call-says}
 use Rattle.mip_rules_mobile.proofs.PartLives.{part_is}
-use Rattle.mip_rules_mobile.proofs.PartTurns.{call-part, restart-part}
+use Rattle.mip_rules_mobile.proofs.PartTransitions.{call-part, restart-part}
 use Rattle.mip_history.specs.Setup.{Setup, Host, Kind}
 use Rattle.mip_history.specs.Setup.Kind.{Correspondent, Agent, Mobile}
 use Rattle.mip_history.specs.Runs.{Run, note, past_at, agent_past_at, mobile_past_at, with_past, with_agent_past, with_mobile_past}
 use Rattle.mip_history.specs.Questions.{restarts, life_in}
 use Rattle.mip_history.specs.Calls.{Call, Take, Send, Refresh, Tick, Plan, Hear, Attach, Leave, Ask, Restart, for_correspondent, for_agent, for_mobile}
 use Rattle.mip_history.specs.Knowing.{link_or_first, now_in, secrets_in, identity_in, known_in, agent_of, agent_known_in, mobile_known_in, part_in, stands_on, around_in}
-use Rattle.mip_history.specs.Nodes.{turned, agent_turned, mobile_turned, asks, by_kind, by_host, acts}
-use Rattle.mip_history.proofs.PartTurns.{goes_along, life_along, same_host, reborn_life}
+use Rattle.mip_history.specs.Nodes.{after_transition, after_agent_transition, after_mobile_transition, asks, by_kind, by_host, acts}
+use Rattle.mip_history.proofs.PartTransitions.{goes_along, life_along, same_host, reborn_life}
 use Rattle.mip_origin.specs.OwnTests.{SendsPlainData}
 use Rattle.mip_origin.specs.OwnHistories.{life_of, kind_at, HasCome}
 use Rattle.mip_origin.proofs.Own.{call-own-tests}
@@ -89,11 +89,11 @@ no_anew (step ∷ steps) none =
     by (Restarts secrets) none = absurd cc
     by _ none = refl
 
-no_restart : (k : Known) (now : ℕ) (c : mobiles.Call) → is_restart c ≡ false → list_any begins_anew (turn_of k now c).steps ≡ false
+no_restart : (k : Known) (now : ℕ) (c : mobiles.Call) → is_restart c ≡ false → list_any begins_anew (transition_of k now c).steps ≡ false
 no_restart k now c other = by (call-part k now c other)
   where
-    by : IsPartTurn k now c (turn_of k now c).steps → list_any begins_anew (turn_of k now c).steps ≡ false
-    by (Silent none) = no_anew (turn_of k now c).steps none
+    by : IsPartTransition k now c (transition_of k now c).steps → list_any begins_anew (transition_of k now c).steps ≡ false
+    by (Silent none) = no_anew (transition_of k now c).steps none
     by (Asked call rest is none calm) = ap (list_any begins_anew) is ∙ no_anew rest none
     by (Accepting x) = ap (list_any begins_anew) x.steps_are ∙ no_anew x.rest x.none
 
@@ -151,48 +151,48 @@ module _ (s : Setup) (n : ℕ) (own : Address) (agent : Option Address) (host_is
     abbrev known : Known
     known = mobile_known_in s run n own agent
 
-    -- the turn of a call, and the run that has it
-    abbrev turn_at : mobiles.Call → mobile_turns.Transition
-    turn_at c = turn_of known (now_in s run) c
+    -- the transition of a call, and the run that has it
+    abbrev transition_at : mobiles.Call → mobile_transitions.Transition
+    transition_at c = transition_of known (now_in s run) c
 
     abbrev gone : mobiles.Call → List (Stamped Step)
-    gone c = mobile_turns.with_turn (mobile_past_at run n) (turn_at c)
+    gone c = mobile_transitions.with_transition (mobile_past_at run n) (transition_at c)
 
     abbrev next : mobiles.Call → Run
     next c = with_mobile_past n (gone c) run
 
-    adds_turn : (H : Type 0) (c : mobiles.Call) → HasTaken run.past n c → AllByRecursion (IsRight s H run.past n) (answers_of (turn_at c).steps)
-        → Adds s H (next c) (mobile_turned s n own (turn_at c) run)
-    adds_turn H c came right =
+    adds_transition : (H : Type 0) (c : mobiles.Call) → HasTaken run.past n c → AllByRecursion (IsRight s H run.past n) (answers_of (transition_at c).steps)
+        → Adds s H (next c) (after_mobile_transition s n own (transition_at c) run)
+    adds_transition H c came right =
         let given : AreGiven run.past n (gone c) =
-        all_both (λ (y : Stamped Step). IsGiven run.past n y.step) (mobile_past_at run n) (stamped (turn_at c).now (turn_at c).steps) (good.mobiles n)
-        (fits_given run.past n c (now_in s run) (turn_at c).now known (turn_at c).steps came (call-fits known (now_in s run) c)) in
+        all_both (λ (y : Stamped Step). IsGiven run.past n y.step) (mobile_past_at run n) (stamped (transition_at c).now (transition_at c).steps) (good.mobiles n)
+        (fits_given run.past n c (now_in s run) (transition_at c).now known (transition_at c).steps came (call-fits known (now_in s run) c)) in
         let still : IsGood (next c) = record { packets = good.packets; mobiles = set_keeps (AreGiven run.past) run.mobile_pasts n (gone c) [] good.mobiles given } in
-        adds_answers s H n (unwrap_or (stands_on s run n own) 0) (answers_of (turn_at c).steps) (next c) still right
+        adds_answers s H n (unwrap_or (stands_on s run n own) 0) (answers_of (transition_at c).steps) (next c) still right
 
     -- a call that is no restart
     module _ (c : mobiles.Call) (came : HasTaken run.past n c) (other : is_restart c ≡ false) (asked : (inner : List ℕ) → c ≡ mobiles.Tunnel inner → ⊥) (plain : Q → SendsPlain c) where
-      none : list_any begins_anew (turn_at c).steps ≡ false
+      none : list_any begins_anew (transition_at c).steps ≡ false
       none = no_restart known (now_in s run) c other
 
       mine : HaveSecrets s run → known.part.identity.secrets ≡ life_of s run.past n
       mine have = ap (λ (x : CorrespondentSeen). x.identity.secrets) (part_is own agent s.numbers (secrets_in s n 0) (mobile_past_at run n)) ∙ have.1 n own agent host_is
 
-      right : AllByRecursion (IsRight s (Q × HaveSecrets s run) run.past n) (answers_of (turn_at c).steps)
+      right : AllByRecursion (IsRight s (Q × HaveSecrets s run) run.past n) (answers_of (transition_at c).steps)
       right =
-          mobile_right s (Q × HaveSecrets s run) run.past n own agent s.numbers (secrets_in s n 0) c (now_in s run) came kind_is refl asked (mobile_past_at run n) known (turn_at c).steps refl (good.mobiles n)
+          mobile_right s (Q × HaveSecrets s run) run.past n own agent s.numbers (secrets_in s n 0) c (now_in s run) came kind_is refl asked (mobile_past_at run n) known (transition_at c).steps refl (good.mobiles n)
           (call-fits known (now_in s run) c) (λ q. mine q.1) (λ q. call-says known (now_in s run) c (plain q.0)) none
 
       secrets_next : HaveSecrets s run → HaveSecrets s (next c)
       secrets_next have =
           secrets_set run run.past (gone c) (λ m other. refl)
-          (ap (λ (p : PartLife). p.secrets) (life_along own s.numbers (secrets_in s n 0) (mobile_past_at run n) (turn_at c).now (turn_at c).steps)
-          ∙ life_secrets own s.numbers (part_in s run n own) (turn_at c).now (turn_at c).steps none
+          (ap (λ (p : PartLife). p.secrets) (life_along own s.numbers (secrets_in s n 0) (mobile_past_at run n) (transition_at c).now (transition_at c).steps)
+          ∙ life_secrets own s.numbers (part_in s run n own) (transition_at c).now (transition_at c).steps none
           ∙ have.1 n own agent host_is) have
 
-      pub adds_roams : Adds s Q run (mobile_turned s n own (turn_at c) run)
+      pub adds_roams : Adds s Q run (after_mobile_transition s n own (transition_at c) run)
       adds_roams =
-          let a : Adds s (Q × HaveSecrets s run) (next c) (mobile_turned s n own (turn_at c) run) = adds_turn (Q × HaveSecrets s run) c came right in
+          let a : Adds s (Q × HaveSecrets s run) (next c) (after_mobile_transition s n own (transition_at c) run) = adds_transition (Q × HaveSecrets s run) c came right in
           record {
             es = a.es;
             whole = a.whole;
@@ -211,10 +211,10 @@ module _ (s : Setup) (n : ℕ) (own : Address) (agent : Option Address) (host_is
     abbrev secrets : Life
     secrets = secrets_in s n (life_in again.past n)
 
-    abbrev begun_anew : mobile_turns.Transition
-    begun_anew = turn_at Q again good (mobiles.Restart secrets)
+    abbrev begun_anew : mobile_transitions.Transition
+    begun_anew = transition_at Q again good (mobiles.Restart secrets)
 
-    r : IsPartReborn secrets (turn_of (mobile_known_in s again n own agent) (now_in s again) (mobiles.Restart secrets)).steps
+    r : IsPartReborn secrets (transition_of (mobile_known_in s again n own agent) (now_in s again) (mobiles.Restart secrets)).steps
     r = restart-part (mobile_known_in s again n own agent) (now_in s again) secrets
 
     abbrev H : Type 0
@@ -262,8 +262,8 @@ module _ (s : Setup) (n : ℕ) (own : Address) (agent : Option Address) (host_is
         rest_right begun_anew.steps r.steps_are (call-fits (mobile_known_in s again n own agent) (now_in s again) (mobiles.Restart secrets))
         (call-says (mobile_known_in s again n own agent) (now_in s again) (mobiles.Restart secrets) tt)
 
-    pub restart_adds : Adds s (Q × HaveSecrets s base) (next Q again good (mobiles.Restart secrets)) (mobile_turned s n own begun_anew again)
-    restart_adds = adds_turn Q again good (Q × HaveSecrets s base) (mobiles.Restart secrets) tt restart_right
+    pub restart_adds : Adds s (Q × HaveSecrets s base) (next Q again good (mobiles.Restart secrets)) (after_mobile_transition s n own begun_anew again)
+    restart_adds = adds_transition Q again good (Q × HaveSecrets s base) (mobiles.Restart secrets) tt restart_right
 
     pub restart_secrets : HaveSecrets s base → HaveSecrets s (next Q again good (mobiles.Restart secrets))
     restart_secrets have =
@@ -274,17 +274,17 @@ module _ (s : Setup) (Q : Type 0) (n : ℕ) (run : Run) (good : IsGood run) wher
   -- a correspondent
   module _ (own : Address) (room : ℕ) (kind : kind_at s n ≡ Some (Correspondent room)) where
     abbrev corresponds : correspondents.Call → Run → Run
-    corresponds c run = turned s n own (correspondent_doing.turn_of (identity_in s run n own room) (known_in s run n room) (now_in s run) c) run
+    corresponds c run = after_transition s n own (correspondent_doing.transition_of (identity_in s run n own room) (known_in s run n room) (now_in s run) c) run
 
     adds_corresponds : (c : correspondents.Call) → (Q → SendsPlainData c) → Adds s Q run (corresponds c run)
     adds_corresponds c plain =
         let me : Identity = identity_in s run n own room in
-        let turn : correspondent_turns.Transition = correspondent_doing.turn_of me (known_in s run n room) (now_in s run) c in
-        let next : Run = with_past n (correspondent_turns.with_turn (past_at run n) turn) run in
+        let transition : correspondent_transitions.Transition = correspondent_doing.transition_of me (known_in s run n room) (now_in s run) c in
+        let next : Run = with_past n (correspondent_transitions.with_transition (past_at run n) transition) run in
         let still : IsGood next = record { packets = good.packets; mobiles = good.mobiles } in
         adds_then s Q run next _ (adds_same s Q run next refl refl still)
-        (adds_answers s Q n (link_or_first s own.0) (correspondent_steps.answers_of turn.steps) next still
-        (correspondent_right s Q run.past n me (now_in s run) room kind refl refl turn.steps (λ q. call-own-tests me (known_in s run n room) (now_in s run) c (plain q))))
+        (adds_answers s Q n (link_or_first s own.0) (correspondent_steps.answers_of transition.steps) next still
+        (correspondent_right s Q run.past n me (now_in s run) room kind refl refl transition.steps (λ q. call-own-tests me (known_in s run n room) (now_in s run) c (plain q))))
 
     adds_correspondent : (call : Call) → (Q → IsPlainCall call) → Adds s Q run (asks corresponds (for_correspondent call) run)
     adds_correspondent (Take number shield packet) plain = adds_corresponds (correspondents.Take number shield packet) (λ q. tt)
@@ -295,16 +295,16 @@ module _ (s : Setup) (Q : Type 0) (n : ℕ) (run : Run) (good : IsGood run) wher
   -- an agent
   module _ (own : Address) (preference life room : ℕ) (serves : List Address) (kind : kind_at s n ≡ Some (Agent preference life room serves)) where
     abbrev serves_by : agents.Call → Run → Run
-    serves_by c run = agent_turned s n own (agent_doing.turn_of (agent_of own preference life room) (agent_known_in run n serves) (now_in s run) c) run
+    serves_by c run = after_agent_transition s n own (agent_doing.transition_of (agent_of own preference life room) (agent_known_in run n serves) (now_in s run) c) run
 
     adds_serves : (c : agents.Call) → ((t : List ℕ) → token_in (carried (bytes_of c)) ≡ Some t → HasCome run.past n t) → Adds s Q run (serves_by c run)
     adds_serves c came =
-        let turn : agent_turns.Transition = agent_doing.turn_of (agent_of own preference life room) (agent_known_in run n serves) (now_in s run) c in
-        let next : Run = with_agent_past n (agent_turns.with_turn (agent_past_at run n) turn) run in
+        let transition : agent_transitions.Transition = agent_doing.transition_of (agent_of own preference life room) (agent_known_in run n serves) (now_in s run) c in
+        let next : Run = with_agent_past n (agent_transitions.with_transition (agent_past_at run n) transition) run in
         let still : IsGood next = record { packets = good.packets; mobiles = good.mobiles } in
         adds_then s Q run next _ (adds_same s Q run next refl refl still)
-        (adds_answers s Q n (link_or_first s own.0) (agent_steps.answers_of turn.steps) next still
-        (agent_right s Q run.past n (bytes_of c) came preference life room serves kind turn.steps
+        (adds_answers s Q n (link_or_first s own.0) (agent_steps.answers_of transition.steps) next still
+        (agent_right s Q run.past n (bytes_of c) came preference life room serves kind transition.steps
         (agent_says (agent_of own preference life room) (agent_known_in run n serves) (now_in s run) c)))
 
     adds_agent : (around : Around) (call : Call) → HasTold run.past n call → Adds s Q run (asks serves_by (for_agent around call) run)
@@ -317,7 +317,7 @@ module _ (s : Setup) (Q : Type 0) (n : ℕ) (run : Run) (good : IsGood run) wher
   -- a mobile
   module _ (own : Address) (agent : Option Address) (host_is : slice_get s.hosts n ≡ Some (record { address = own; kind = Mobile agent })) where
     abbrev roams : mobiles.Call → Run → Run
-    roams c run = mobile_turned s n own (turn_of (mobile_known_in s run n own agent) (now_in s run) c) run
+    roams c run = after_mobile_transition s n own (transition_of (mobile_known_in s run n own agent) (now_in s run) c) run
 
     adds_mobile : (around : Around) (call : Call) → is_reborn call ≡ false → (Q → IsPlainCall call) → HasTold run.past n call → Adds s Q run (asks roams (for_mobile around own call) run)
     adds_mobile around (Take number shield packet) calm plain came = adds_roams s n own agent host_is Q run good (mobiles.Take number shield packet) came refl (λ inner e. absurd cc) (λ q. tt)

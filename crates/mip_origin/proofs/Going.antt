@@ -29,7 +29,7 @@ use Rattle.mip_origin.specs.OwnHistories.{life_of, IsOwnEntry}
 use Rattle.mip_origin.proofs.Following.{followed-append}
 use Rattle.mip_origin.proofs.Adding.{IsGood, HaveSecrets, secrets_stay, Adds, adds_same, adds_one, good_notes}
 use Rattle.mip_origin.proofs.Posting.{adds_gives_up}
-use Rattle.mip_history.proofs.PartTurns.{mobile_apart}
+use Rattle.mip_history.proofs.PartTransitions.{mobile_apart}
 use Rattle.mip_origin.proofs.Acting.{lives_apart, restart_adds, restart_secrets, adds_acts}
 
 -- lives as time goes on

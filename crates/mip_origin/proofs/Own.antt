@@ -28,7 +28,7 @@ use Rattle.mip_rules_correspondent.specs.Calls as calls
 use Rattle.mip_rules_correspondent.specs.Calls.{Call}
 use Rattle.mip_rules_correspondent.specs.Steps.{Step, Called, Sends, Accepts, Denies, Drops, HandsUp, Idles}
 use Rattle.mip_rules_correspondent.specs.Rules.{home_test, careof_test}
-use Rattle.mip_rules_correspondent.specs.Doing.{turn_of, data_head}
+use Rattle.mip_rules_correspondent.specs.Doing.{transition_of, data_head}
 use Rattle.mip_rules_correspondent.specs.Sendings.{Sending, SendsHomeTest, SendsCareofTest, SendsAck, SendsReply, SendsRefresh, SendsData, IsPacketOf, SendsOwn}
 use Rattle.mip_rules_correspondent.proofs.Sendings.{call-own}
 use Rattle.mip_origin.specs.OwnTests.{IsOwnTest, SendsOwnTests, SendsPlainData}
@@ -136,5 +136,5 @@ each-own : (me : Identity) (c : Call) (now : ℕ) (steps : List Step) → SendsP
 each-own me c now [] plain all = tt
 each-own me c now (step ∷ steps) plain all = (step-own me c now step plain all.0, each-own me c now steps plain all.1)
 
-pub call-own-tests : (me : Identity) (k : Known) (now : ℕ) (c : Call) → SendsPlainData c → AllByRecursion (SendsOwnTests me now) (turn_of me k now c).steps
-call-own-tests me k now c plain = each-own me c now (turn_of me k now c).steps plain (call-own me k now c)
+pub call-own-tests : (me : Identity) (k : Known) (now : ℕ) (c : Call) → SendsPlainData c → AllByRecursion (SendsOwnTests me now) (transition_of me k now c).steps
+call-own-tests me k now c plain = each-own me c now (transition_of me k now c).steps plain (call-own me k now c)

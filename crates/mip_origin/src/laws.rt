@@ -7,7 +7,7 @@ ghost use Rattle.mip_schedule.specs.Contents.{Content};
 ghost use Rattle.mip_rules_correspondent.specs.declared.identity.Identity.{Identity};
 ghost use Rattle.mip_rules_correspondent.specs.declared.known.Known.{Known};
 ghost use Rattle.mip_rules_correspondent.specs.Calls.{Call};
-ghost use Rattle.mip_rules_correspondent.specs.Doing.{turn_of};
+ghost use Rattle.mip_rules_correspondent.specs.Doing.{transition_of};
 ghost use Rattle.mip_provenance.specs.declared.accepted_update.AcceptedUpdate.{AcceptedUpdate};
 ghost use Rattle.mip_provenance.specs.declared.mark.Mark.TheVariants.{Origin};
 ghost use Rattle.mip_provenance.specs.Entries.{update_accepted};
@@ -25,7 +25,7 @@ ghost use Rattle.mip_origin.specs.Marked.{EachIsFollowed, EachIsMarked};
 /// Each test that a correspondent sends is its own: it has the index of the newest nonce of this life, and the token for the
 /// address that it goes to (RFC 6275 sections 9.4.3 and 9.4.4).
 pub fn tests_are_own()
-    ensures { (me : Identity) (k : Known) (now : ℕ) (c : Call) → SendsPlainData c → AllByRecursion (SendsOwnTests me now) (turn_of me k now c).steps }
+    ensures { (me : Identity) (k : Known) (now : ℕ) (c : Call) → SendsPlainData c → AllByRecursion (SendsOwnTests me now) (transition_of me k now c).steps }
 {}
 
 /// In the permitted history of every schedule, each accepted update is followed by its mark, whoever accepted it.

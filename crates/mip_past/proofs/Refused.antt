@@ -1,4 +1,4 @@
--- What a node gives out changes no past of steps. So what it knows behind a turn is what the turn leaves known, and a packet that it
+-- What a node gives out changes no past of steps. So what it knows behind a transition is what the transition leaves known, and a packet that it
 -- refuses leaves its tables.
 use Rattle.std.proofs.Common.{◌≡◌, ℕ, zero, suc, List, [], ◌∷◌, true, false, refl, sym, ap, ◌∙◌, subst}
 use Rattle.std.specs.Prelude.{Option, Some, None, unwrap_or, slice_get, slice_set, slice_index_or}
@@ -17,7 +17,7 @@ use Rattle.mip_rules_correspondent.specs.declared.identity.Identity.{Identity}
 use Rattle.mip_rules_correspondent.specs.Calls as correspondent_calls
 use Rattle.mip_rules_correspondent.specs.Steps as correspondents
 use Rattle.mip_rules_correspondent.specs.Questions as correspondent_questions
-use Rattle.mip_rules_correspondent.specs.Transitions as correspondent_turns
+use Rattle.mip_rules_correspondent.specs.Transitions as correspondent_transitions
 use Rattle.mip_rules_correspondent.specs.Refusing as correspondent_refusing
 use Rattle.mip_rules_correspondent.proofs.Pasts as correspondent_pasts
 use Rattle.mip_rules_correspondent.proofs.Calls as correspondent_stands
@@ -27,7 +27,7 @@ use Rattle.mip_rules_agent.specs.declared.identity.Identity as agent_identity
 use Rattle.mip_rules_agent.specs.Calls as agent_calls
 use Rattle.mip_rules_agent.specs.Steps as agents
 use Rattle.mip_rules_agent.specs.Questions as agent_questions
-use Rattle.mip_rules_agent.specs.Transitions as agent_turns
+use Rattle.mip_rules_agent.specs.Transitions as agent_transitions
 use Rattle.mip_rules_agent.specs.Refusing as agent_refusing
 use Rattle.mip_rules_agent.proofs.Pasts as agent_pasts
 use Rattle.mip_rules_agent.proofs.Calls as agent_stands
@@ -36,7 +36,7 @@ use Rattle.mip_rules_mobile.specs.Known as mobile_known
 use Rattle.mip_rules_mobile.specs.Calls as mobile_calls
 use Rattle.mip_rules_mobile.specs.Steps as mobiles
 use Rattle.mip_rules_mobile.specs.Questions as mobile_questions
-use Rattle.mip_rules_mobile.specs.Transitions as mobile_turns
+use Rattle.mip_rules_mobile.specs.Transitions as mobile_transitions
 use Rattle.mip_rules_mobile.specs.Refusing as mobile_refusing
 use Rattle.mip_rules_mobile.proofs.Calls as mobile_stands
 use Rattle.mip_rules_mobile.proofs.Refusals as mobile_refusals
@@ -47,7 +47,7 @@ use Rattle.mip_history.specs.Calls.{Call, Take}
 use Rattle.mip_history.specs.Knowing.{link_or_first, now_in, identity_in, known_in, secrets_in, agent_of, agent_known_in, mobile_known_in, stands_on, around_in}
 use Rattle.mip_history.specs.Nodes.{left_by, answered_one, answered, by_host}
 use Rattle.mip_history.proofs.Keeping.{is_busy, keeps_overheard, keeps_claims, keeps_gives_up}
-use Rattle.mip_past.specs.Refused.{Handed, correspondent_turn, agent_turn, mobile_turn, taken_by, LeavesTables}
+use Rattle.mip_past.specs.Refused.{Handed, correspondent_transition, agent_transition, mobile_transition, taken_by, LeavesTables}
 
 -- a run has the pasts of another
 abbrev HasPasts : Run → Run → Type 0
@@ -80,11 +80,11 @@ at_place P (past ∷ pasts) zero more old new = new
 at_place P (past ∷ pasts) (suc n) more old new = at_place P pasts n more old new
 
 -- what is known of a past stands for it
-agent-stands : (serves : List Address) (past : List (Stamped agents.Step)) → agent_turns.Stands serves past (agent_questions.known serves past)
+agent-stands : (serves : List Address) (past : List (Stamped agents.Step)) → agent_transitions.Stands serves past (agent_questions.known serves past)
 unfolding agent_questions.known StandsBy
 agent-stands serves past = refl
 
-mobile-stands : (home : Address) (declared : Option Address) (numbers : ℕ) (secrets : Life) (past : List (Stamped mobiles.Step)) → mobile_turns.Stands home declared numbers secrets past (mobile_questions.known home declared numbers secrets past)
+mobile-stands : (home : Address) (declared : Option Address) (numbers : ℕ) (secrets : Life) (past : List (Stamped mobiles.Step)) → mobile_transitions.Stands home declared numbers secrets past (mobile_questions.known home declared numbers secrets past)
 unfolding mobile_questions.known StandsBy
 mobile-stands home declared numbers secrets past = refl
 
@@ -93,7 +93,7 @@ module _ (s : Setup) (run : Run) (n : ℕ) (h : Handed) where
   call = Take h.number h.shield h.packet
 
   correspondent_leaves : (own : Address) (room : ℕ) → slice_get s.hosts n ≡ Some (record { address = own; kind = Correspondent room })
-      → list_any correspondent_refusing.is_refusal (correspondent_turn s run n own room h).steps ≡ true
+      → list_any correspondent_refusing.is_refusal (correspondent_transition s run n own room h).steps ≡ true
       → (known_in s (taken_by s n h run) n room).cache ≡ (known_in s run n room).cache
   correspondent_leaves own room host refuses =
       subst (λ (o : Option Host). (known_in s (by_host s n call run o) n room).cache ≡ k.cache) (sym host)
@@ -110,24 +110,24 @@ module _ (s : Setup) (run : Run) (n : ℕ) (h : Handed) where
       taking : correspondent_calls.Call
       taking = correspondent_calls.Take h.number h.shield h.packet
 
-      turn : correspondent_turns.Transition
-      turn = correspondent_turn s run n own room h
+      transition : correspondent_transitions.Transition
+      transition = correspondent_transition s run n own room h
 
       more : List (Stamped correspondents.Step)
-      more = correspondent_turns.with_turn (past_at run n) turn
+      more = correspondent_transitions.with_transition (past_at run n) transition
 
-      pasts : HasPasts (with_past n more run) (answered s n (link_or_first s own.0) (with_past n more run) (correspondents.answers_of turn.steps))
-      pasts = pasts_answers s (with_past n more run) n (link_or_first s own.0) (with_past n more run) (correspondents.answers_of turn.steps) (refl, refl, refl)
+      pasts : HasPasts (with_past n more run) (answered s n (link_or_first s own.0) (with_past n more run) (correspondents.answers_of transition.steps))
+      pasts = pasts_answers s (with_past n more run) n (link_or_first s own.0) (with_past n more run) (correspondents.answers_of transition.steps) (refl, refl, refl)
 
-      knows : correspondent_questions.known room s.numbers more ≡ turn.known
+      knows : correspondent_questions.known room s.numbers more ≡ transition.known
       knows =
-          sym (correspondent_pasts.stands-known room s.numbers more turn.known
+          sym (correspondent_pasts.stands-known room s.numbers more transition.known
           (correspondent_stands.call-stands room s.numbers (past_at run n) k (now_in s run) me taking (correspondent_pasts.known-stands room s.numbers (past_at run n) k refl)))
 
   agent_leaves : (own : Address) (preference life room : ℕ) (serves : List Address) → slice_get s.hosts n ≡ Some (record { address = own; kind = Agent preference life room serves })
-      → list_any agent_refusing.is_refusal (agent_turn s run n own preference life room serves h).steps ≡ true
+      → list_any agent_refusing.is_refusal (agent_transition s run n own preference life room serves h).steps ≡ true
       → agent_refusing.KeepsTables (agent_known_in run n serves) (agent_known_in (taken_by s n h run) n serves)
-      × (list_any agent_refusing.is_claim (agent_turn s run n own preference life room serves h).steps ≡ false)
+      × (list_any agent_refusing.is_claim (agent_transition s run n own preference life room serves h).steps ≡ false)
   agent_leaves own preference life room serves host refuses = (
     subst (λ (o : Option Host). agent_refusing.KeepsTables k (agent_known_in (by_host s n call run o) n serves)) (sym host)
         (subst (λ (l : List (List (Stamped agents.Step))). agent_refusing.KeepsTables k (agent_questions.known serves (slice_index_or l n []))) (sym pasts.1)
@@ -148,22 +148,22 @@ module _ (s : Setup) (run : Run) (n : ℕ) (h : Handed) where
       taking : agent_calls.Call
       taking = agent_calls.Take h.number h.shield h.packet claim
 
-      turn : agent_turns.Transition
-      turn = agent_turn s run n own preference life room serves h
+      transition : agent_transitions.Transition
+      transition = agent_transition s run n own preference life room serves h
 
       more : List (Stamped agents.Step)
-      more = agent_turns.with_turn (agent_past_at run n) turn
+      more = agent_transitions.with_transition (agent_past_at run n) transition
 
-      pasts : HasPasts (with_agent_past n more run) (answered s n (link_or_first s own.0) (with_agent_past n more run) (agents.answers_of turn.steps))
-      pasts = pasts_answers s (with_agent_past n more run) n (link_or_first s own.0) (with_agent_past n more run) (agents.answers_of turn.steps) (refl, refl, refl)
+      pasts : HasPasts (with_agent_past n more run) (answered s n (link_or_first s own.0) (with_agent_past n more run) (agents.answers_of transition.steps))
+      pasts = pasts_answers s (with_agent_past n more run) n (link_or_first s own.0) (with_agent_past n more run) (agents.answers_of transition.steps) (refl, refl, refl)
 
-      knows : agent_questions.known serves more ≡ turn.known
-      knows = sym (agent_pasts.stands-known serves more turn.known (agent_stands.call-stands serves (agent_past_at run n) k (now_in s run) me taking (agent-stands serves (agent_past_at run n))))
+      knows : agent_questions.known serves more ≡ transition.known
+      knows = sym (agent_pasts.stands-known serves more transition.known (agent_stands.call-stands serves (agent_past_at run n) k (now_in s run) me taking (agent-stands serves (agent_past_at run n))))
 
-      keeps : (turn.known.homes ≡ k.homes) × (turn.known.ends ≡ k.ends) × (list_any agent_refusing.is_claim turn.steps ≡ false)
+      keeps : (transition.known.homes ≡ k.homes) × (transition.known.ends ≡ k.ends) × (list_any agent_refusing.is_claim transition.steps ≡ false)
       keeps = agent_refusals.refused-keeps me k (now_in s run) h.number h.shield h.packet claim refuses
 
-      kept : agent_refusing.KeepsTables k turn.known
+      kept : agent_refusing.KeepsTables k transition.known
       kept = record {
         homes = keeps.0;
         ends = keeps.1;
@@ -172,7 +172,7 @@ module _ (s : Setup) (run : Run) (n : ℕ) (h : Handed) where
       }
 
   mobile_leaves : (own : Address) (agent : Option Address) → slice_get s.hosts n ≡ Some (record { address = own; kind = Mobile agent })
-      → list_any mobile_refusing.is_refusal (mobile_turn s run n own agent h).steps ≡ true
+      → list_any mobile_refusing.is_refusal (mobile_transition s run n own agent h).steps ≡ true
       → mobile_refusing.tables_of (mobile_known_in s (taken_by s n h run) n own agent) ≡ mobile_refusing.tables_of (mobile_known_in s run n own agent)
   mobile_leaves own agent host refuses =
       subst (λ (o : Option Host). mobile_refusing.tables_of (mobile_known_in s (by_host s n call run o) n own agent) ≡ mobile_refusing.tables_of k) (sym host)
@@ -186,18 +186,18 @@ module _ (s : Setup) (run : Run) (n : ℕ) (h : Handed) where
       k : mobile_known.Known
       k = mobile_known_in s run n own agent
 
-      turn : mobile_turns.Transition
-      turn = mobile_turn s run n own agent h
+      transition : mobile_transitions.Transition
+      transition = mobile_transition s run n own agent h
 
       more : List (Stamped mobiles.Step)
-      more = mobile_turns.with_turn (mobile_past_at run n) turn
+      more = mobile_transitions.with_transition (mobile_past_at run n) transition
 
-      pasts : HasPasts (with_mobile_past n more run) (answered s n (unwrap_or (stands_on s run n own) 0) (with_mobile_past n more run) (mobiles.answers_of turn.steps))
-      pasts = pasts_answers s (with_mobile_past n more run) n (unwrap_or (stands_on s run n own) 0) (with_mobile_past n more run) (mobiles.answers_of turn.steps) (refl, refl, refl)
+      pasts : HasPasts (with_mobile_past n more run) (answered s n (unwrap_or (stands_on s run n own) 0) (with_mobile_past n more run) (mobiles.answers_of transition.steps))
+      pasts = pasts_answers s (with_mobile_past n more run) n (unwrap_or (stands_on s run n own) 0) (with_mobile_past n more run) (mobiles.answers_of transition.steps) (refl, refl, refl)
 
-      knows : known more ≡ turn.known
+      knows : known more ≡ transition.known
       knows =
-          sym (mobile_stands.stands-known own agent s.numbers (secrets_in s n 0) more turn.known
+          sym (mobile_stands.stands-known own agent s.numbers (secrets_in s n 0) more transition.known
           (mobile_stands.call-stands own agent s.numbers (secrets_in s n 0) (mobile_past_at run n) k (now_in s run) (mobile_calls.Take h.number h.shield h.packet)
           (mobile-stands own agent s.numbers (secrets_in s n 0) (mobile_past_at run n))))
 

@@ -18,7 +18,7 @@ mod post;
 mod posts;
 mod reached;
 mod signed;
-mod watch;
+mod whole_history;
 
 pub use accepted_update::AcceptedUpdate;
 pub use claim::Claim;
@@ -30,4 +30,4 @@ pub use naming::Naming;
 pub use pair::Pair;
 pub use posts::{key_said, token_said};
 pub use signed::Signed;
-pub use watch::{Watch, mark as mark_behind};
+pub use whole_history::{WholeHistory, mark as mark_behind};

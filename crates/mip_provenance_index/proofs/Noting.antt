@@ -1,4 +1,4 @@
--- A watch stands for a history and one more entry.
+-- An index stands for a history and one more entry.
 use Rattle.std.proofs.Common.{◌≡◌, ℕ, List, [], ◌∷◌, ◌++◌, length, Bool, true, false, refl, sym, ap, ◌∙◌, subst, arith}
 use Rattle.std.specs.Prelude.{Option, Some, None, ◌||◌, option_map}
 use Rattle.std.specs.List.{list_any, filter_map, cons_option}
@@ -265,7 +265,7 @@ stands_hearing w h past e number outsider token is known list old next bytes =
     (stands_heard w h past number outsider token known list old (subst (IsNext past) is next)
     (subst (λ (x : Entry). IsHeard past x (option_map (λ (t : Token). t.0) token)) is bytes))
 
--- a new watch
+-- a new index
 pub stands_new : (w : ProvenanceIndex) → ((n : ℕ) → address_at w.addresses n ≡ None) → ((n : ℕ) → known_at w.nodes n ≡ stranger) → ((t : List ℕ) → named_at w.names t ≡ None)
     → ((o : ℕ) (t : List ℕ) → has_come w.heard o t ≡ false) → w.heard.list.items ≡ [] → ((t : List ℕ) → is_used w.early t ≡ false) → ((n k : ℕ) → made_at w.made n k ≡ None)
     → AreOf w.updates (λ _. None) → ((k : ℕ) → update_at w.updates k ≡ None) → StandsFor w []

@@ -1,4 +1,4 @@
--- What a watch stands for: each index answers as the history does.
+-- What a provenance index stands for: each index answers as the history does.
 use Rattle.std.specs.Prelude.{◌≡◌, ℕ, suc, ◌≤◌, List, [], ◌∷◌, length, take, Bool, false, Option, Some, None, ⊤}
 use Rattle.std.specs.List.{list_any, filter_map, find}
 use Rattle.std.specs.Str.{bytes_eq}
@@ -95,7 +95,7 @@ pub record UpdatesStand (u : Updates) (arrivals : List Arrival) (seen : List Sig
   pub keys : (key : UpdateIdentity) → IsFirstIf arrivals seen key (look key)
   pub numbers : (k : ℕ) → IsFirstAtIf arrivals seen k (update_at u k)
 
--- a watch stands for a history
+-- an index stands for a history
 pub record StandsFor (w : ProvenanceIndex) (past : List Entry) : Type 0 where
   pub numbered : AreNumberedFrom 0 (seen_in past)
   pub addresses : (n : ℕ) → address_at w.addresses n ≡ declared_in past n

@@ -14,7 +14,7 @@ use Rattle.mip_lists.proofs.LastLaws.{last_where-push}
 use Rattle.mip_entries.specs.declared.entry.Entry.{Entry}
 use Rattle.mip_entries.specs.declared.entry.Entry.TheVariants as entries
 use Rattle.mip_proxynd.specs.declared.claim.Claim.{Claim}
-use Rattle.mip_proxynd.specs.declared.kept.Kept.{Kept}
+use Rattle.mip_proxynd.specs.declared.neighbour_entry.NeighbourEntry.{NeighbourEntry}
 use Rattle.mip_proxynd.specs.declared.neighbour.Neighbour.{Neighbour}
 use Rattle.mip_proxynd.specs.Adverts.{layer_of, advert, heard_of, adverts_heard}
 use Rattle.mip_proxynd.specs.Claims.{claim_says, claim_in}
@@ -35,10 +35,10 @@ first_of-push [] x = refl
 first_of-push (y ∷ ys) x = refl
 
 -- one telling more
-pub kept-push : (ts : List Kept) (k : Kept) → kept_of (ts ++ k ∷ []) ≡ kept_after k (kept_of ts)
+pub kept-push : (ts : List NeighbourEntry) (k : NeighbourEntry) → kept_of (ts ++ k ∷ []) ≡ kept_after k (kept_of ts)
 kept-push ts k = rw (last_where-push is_over ts k, first_of-push ts k) (by (last_where is_over ts) (first_of ts))
   where
-    by : (last first : Option Kept) → or_else (if k.over then Some k else last) (or_else first (Some k)) ≡ kept_after k (or_else last first)
+    by : (last first : Option NeighbourEntry) → or_else (if k.over then Some k else last) (or_else first (Some k)) ≡ kept_after k (or_else last first)
     by None None = elim k.over as (λ b. or_else (if b then Some k else None) (Some k) ≡ Some k) [ true ↦ refl | false ↦ refl ]
     by None (Some f) = elim k.over as (λ b. or_else (if b then Some k else None) (Some f) ≡ (if b then Some k else Some f)) [ true ↦ refl | false ↦ refl ]
     by (Some l) f = elim k.over as (λ b. or_else (if b then Some k else Some l) (or_else f (Some k)) ≡ (if b then Some k else Some l)) [ true ↦ refl | false ↦ refl ]
@@ -52,14 +52,14 @@ pub quiet-push : (link address : ℕ) (heard : List Heard) (h : Heard) → told 
 quiet-push link address heard h none = rw (tellings-push link address heard h, none) (ap kept_of (append-nil (tellings link address heard)))
 
 -- a message that says something of it
-pub told-push : (link address : ℕ) (heard : List Heard) (h : Heard) (k : Kept) → told link address h ≡ Some k → kept_of (tellings link address (heard ++ h ∷ [])) ≡ kept_after k (kept_of (tellings link address heard))
+pub told-push : (link address : ℕ) (heard : List Heard) (h : Heard) (k : NeighbourEntry) → told link address h ≡ Some k → kept_of (tellings link address (heard ++ h ∷ [])) ≡ kept_after k (kept_of (tellings link address heard))
 told-push link address heard h k some = rw (tellings-push link address heard h, some) (kept-push (tellings link address heard) k)
 
 abbrev heard_on : ℕ → Neighbour → Heard
 heard_on link m = record { link = link; message = m }
 
 -- a table hears an advertisement with a link-layer address
-pub heard-kept : (old new : TableRows) (heard : List Heard) (link : ℕ) (m : Neighbour) (k : Kept) → kept_in m ≡ Some k
+pub heard-kept : (old new : TableRows) (heard : List Heard) (link : ℕ) (m : Neighbour) (k : NeighbourEntry) → kept_in m ≡ Some k
     → ((l a : ℕ) → kept_at new l a ≡ (if link == l && (target_of m).0 == a then kept_after k (kept_at old l a) else kept_at old l a))
     → IsTable old heard → IsTable new (heard ++ heard_on link m ∷ [])
 heard-kept old new heard link m k says e is = λ l a. e l a ∙ by l a (cases_Bool (is_about l a (heard_on link m)))
@@ -119,10 +119,10 @@ some_claim : (x y : Claim) → Some x ≡ Some y → x ≡ y
 some_claim x y e = cc
 
 -- what is kept of a claim
-abbrev over_of : ℕ → Kept
+abbrev over_of : ℕ → NeighbourEntry
 over_of who = record { layer = layer_of who; over = true }
 
-away : (k : Kept) (t : Bool) → (if t && false then Some k else None) ≡ None
+away : (k : NeighbourEntry) (t : Bool) → (if t && false then Some k else None) ≡ None
 away k true = refl
 away k false = refl
 
@@ -142,7 +142,7 @@ claimed-entry a single past who link b same c stands =
     subst (λ (x : Claim). holder_of x.link.0 a.0 (adverts_heard (past ++ e ∷ [])) ≡ Some (layer_of x.who)) (some_claim (claim_of who link b) c now)
     (rw (heard-push past e, heard, kept) (by (kept_of (tellings link.0 a.0 (adverts_heard past)))))
   where
-    by : (o : Option Kept) → option_map (λ (k : Kept). k.layer) (kept_after (over_of who) o) ≡ Some (layer_of who)
+    by : (o : Option NeighbourEntry) → option_map (λ (k : NeighbourEntry). k.layer) (kept_after (over_of who) o) ≡ Some (layer_of who)
     by None = refl
     by (Some k) = refl
 

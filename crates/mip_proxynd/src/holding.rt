@@ -3,9 +3,9 @@
 ghost use Rattle.std.specs.Prelude.{◌≡◌, ◌++◌, length, OnOk};
 ghost use Rattle.mip_proxynd.specs.Text.{holds_line, holds_of, holds_on, holds};
 
+use crate::address_claims::AddressClaims;
 use crate::claim::Claim;
 use crate::packets::layer_of;
-use crate::standing::Standing;
 use mip_lines::put_line_hex;
 use mip_symbols::{Declaration, Sort, count, link_name};
 use mip_words::{Bytes, Memory};
@@ -45,12 +45,12 @@ fn put_row(
 fn put_link(
     out: &mut Bytes,
     ds: &[Declaration],
-    standing: &Standing,
+    claims: &AddressClaims,
     link: usize,
 ) -> Result<(), Memory>
-    ensures { OnOk result (out.new ≡ out.old ++ holds_on ds.now standing.now link) }
+    ensures { OnOk result (out.new ≡ out.old ++ holds_on ds.now claims.now link) }
 {
-    for row in standing.rows.values() {
+    for row in claims.rows.values() {
         put_row(out, ds, link, *row)?;
     }
     Ok(())
@@ -61,12 +61,12 @@ fn put_link(
 pub(crate) fn put_holds(
     out: &mut Bytes,
     ds: &[Declaration],
-    standing: &Standing,
+    claims: &AddressClaims,
 ) -> Result<(), Memory>
-    ensures { OnOk result (out.new ≡ out.old ++ holds ds.now standing.now) }
+    ensures { OnOk result (out.new ≡ out.old ++ holds ds.now claims.now) }
 {
     for link in 0..count(ds, Sort::Link) {
-        put_link(out, ds, standing, link)?;
+        put_link(out, ds, claims, link)?;
     }
     Ok(())
 }

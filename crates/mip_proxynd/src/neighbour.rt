@@ -2,7 +2,7 @@ ghost use Rattle.std.specs.Prelude.{◌≡◌};
 ghost use Rattle.mip_proxynd.specs.Fields.{target_of};
 ghost use Rattle.mip_proxynd.specs.Tables.{kept_in};
 
-use crate::kept::Kept;
+use crate::neighbour_entry::NeighbourEntry;
 use mip_words::Address;
 
 /// A neighbour message (RFC 4861 sections 4.3 and 4.4).
@@ -39,7 +39,7 @@ impl Neighbour {
     }
 
     /// The link-layer address that an advertisement has, and whether it overrides.
-    pub(crate) fn kept(&self) -> Option<Kept>
+    pub(crate) fn kept(&self) -> Option<NeighbourEntry>
         ensures { result ≡ kept_in self.now }
     {
         match self {
@@ -47,7 +47,7 @@ impl Neighbour {
                 over,
                 layer: Some(layer),
                 ..
-            } => Some(Kept {
+            } => Some(NeighbourEntry {
                 layer: *layer,
                 over: *over,
             }),

@@ -6,8 +6,8 @@ ghost use Rattle.mip_proxynd.specs.Fields.{is_group};
 ghost use Rattle.mip_proxynd.specs.Tables.{Heard, IsTable, kept_at, kept_after, kept_in, holder_of};
 ghost use Rattle.mip_proxynd.specs.declared.claim.Claim as claims;
 
-use crate::kept::Kept;
 use crate::neighbour::Neighbour;
+use crate::neighbour_entry::NeighbourEntry;
 use mip_words::{Address, LinkId, Memory};
 use std::alloc::Global;
 use std::collections::BTreeMap;
@@ -16,7 +16,7 @@ use std::marker::Model;
 /// The link-layer addresses that were heard in advertisements, by link and address.
 #[derive(Drop)]
 pub struct Table {
-    rows: BTreeMap<(u8, u128), Kept>,
+    rows: BTreeMap<(u8, u128), NeighbourEntry>,
 }
 
 impl Model for Table {
@@ -38,14 +38,14 @@ impl Table {
     }
 
     /// What is kept of an address on a link.
-    fn kept(&self, link: LinkId, address: Address) -> Option<Kept>
+    fn kept(&self, link: LinkId, address: Address) -> Option<NeighbourEntry>
         ensures { result ≡ kept_at self.now link.0 address.0 }
     {
         self.rows.get(&(link.0, address.0)).copied()
     }
 
     /// Puts what is kept of an address on a link.
-    fn put(&mut self, link: LinkId, address: Address, kept: Kept) -> Result<(), Memory>
+    fn put(&mut self, link: LinkId, address: Address, kept: NeighbourEntry) -> Result<(), Memory>
         ensures ok { OnOk result ((l a : ℕ) → kept_at self.new l a ≡ (if link.0 == l && address.0 == a then Some kept else kept_at self.old l a)) }
         ensures err { OnErr result (self.new ≡ self.old) }
     {
@@ -54,7 +54,7 @@ impl Table {
     }
 
     /// Takes what one more advertisement says: it counts where it overrides, or is the first.
-    fn keep(&mut self, link: LinkId, address: Address, kept: Kept) -> Result<(), Memory>
+    fn keep(&mut self, link: LinkId, address: Address, kept: NeighbourEntry) -> Result<(), Memory>
         ensures ok { OnOk result ((l a : ℕ) → kept_at self.new l a ≡ (if link.0 == l && address.0 == a then kept_after kept (kept_at self.old l a) else kept_at self.old l a)) }
         ensures err { OnErr result (self.new ≡ self.old) }
     {

@@ -5,11 +5,11 @@ ghost use Rattle.mip_proxynd.specs.Claims.{rows_in};
 ghost use Rattle.mip_proxynd.specs.Fields.{is_group};
 ghost use Rattle.mip_proxynd.specs.Text.{who_text, advert_line, advert_of, adverts, answered, answer_of, asked_text, holds, end_text, claims_text};
 
+use crate::address_claims::AddressClaims;
 use crate::claim::Claim;
 use crate::fields::is_group;
 use crate::holding::put_holds;
 use crate::packets::{OUTSIDER, advert_packet, answer_packet, solicit_packet};
-use crate::standing::Standing;
 use mip_entries::Entry;
 use mip_lines::{put_line, put_line_hex};
 use mip_symbols::{Declaration, link_name, node_name, outsider_name};
@@ -90,14 +90,14 @@ pub fn tell_entries(
     alloc: Global,
     out: &mut Bytes,
     ds: &[Declaration],
-    standing: &mut Standing,
+    claims: &mut AddressClaims,
     entries: &[Entry],
 ) -> Result<(), Memory>
     ensures adverts { OnOk result (out.new ≡ out.old ++ adverts ds.now entries.now) }
-    ensures stands { OnOk result (standing.new ≡ rows_in standing.old entries.now) }
+    ensures stands { OnOk result (claims.new ≡ rows_in claims.old entries.now) }
 {
     put_adverts(alloc, out, ds, entries)?;
-    standing.take(entries)
+    claims.take(entries)
 }
 
 /// Appends the question who holds an address, and its holder's answer.
@@ -151,13 +151,13 @@ fn put_asked(
     alloc: Global,
     out: &mut Bytes,
     ds: &[Declaration],
-    standing: &Standing,
+    claims: &AddressClaims,
     ask: Option<Address>,
 ) -> Result<(), Memory>
-    ensures { OnOk result (out.new ≡ out.old ++ asked_text ds.now standing.now ask) }
+    ensures { OnOk result (out.new ≡ out.old ++ asked_text ds.now claims.now ask) }
 {
     match ask {
-        Some(address) => put_answer(alloc, out, ds, address, standing.claim(address)),
+        Some(address) => put_answer(alloc, out, ds, address, claims.claim(address)),
         None => Ok(()),
     }
 }
@@ -168,13 +168,13 @@ pub fn tell_end(
     alloc: Global,
     out: &mut Bytes,
     ds: &[Declaration],
-    standing: &Standing,
+    claims: &AddressClaims,
     ask: Option<Address>,
 ) -> Result<(), Memory>
-    ensures { OnOk result (out.new ≡ out.old ++ end_text ds.now standing.now ask) }
+    ensures { OnOk result (out.new ≡ out.old ++ end_text ds.now claims.now ask) }
 {
-    put_holds(out, ds, standing)?;
-    put_asked(alloc, out, ds, standing, ask)
+    put_holds(out, ds, claims)?;
+    put_asked(alloc, out, ds, claims, ask)
 }
 
 /// The text of the claims of a history.
@@ -187,8 +187,8 @@ pub fn neighbours(
     ensures { IfOk result (λ text. text ≡ claims_text ds.now history.now ask) }
 {
     let mut out = Bytes::new(alloc);
-    let mut standing = Standing::new(alloc);
-    tell_entries(alloc, &mut out, ds, &mut standing, history)?;
-    tell_end(alloc, &mut out, ds, &standing, ask)?;
+    let mut claims = AddressClaims::new(alloc);
+    tell_entries(alloc, &mut out, ds, &mut claims, history)?;
+    tell_end(alloc, &mut out, ds, &claims, ask)?;
     Ok(out)
 }

@@ -11,7 +11,7 @@ ghost use Rattle.mip_replies.specs.Answers.{claims_of};
 
 use mip_outside::{PutFault, Sink};
 use mip_printing::write_text;
-use mip_proxynd::{Standing, tell_end, tell_entries};
+use mip_proxynd::{AddressClaims, tell_end, tell_entries};
 use mip_replay::Run;
 use mip_schedule::Schedule;
 use mip_symbols::Declaration;
@@ -33,15 +33,9 @@ pub fn write_claims<K: Sink>(
     ensures no_fewer { K.faults sink.old ≤ K.faults sink.new }
     ensures cause { IsErrOf result PutFault.Failed → Rose (K.faults sink.old) (K.faults sink.new) }
 {
-    let mut standing = Standing::new(alloc);
-    write_adverts(alloc, sink, schedule, &mut standing)?;
-    write_end(
-        alloc,
-        sink,
-        schedule.declarations.as_slice(),
-        &standing,
-        ask,
-    )
+    let mut claims = AddressClaims::new(alloc);
+    write_adverts(alloc, sink, schedule, &mut claims)?;
+    write_end(alloc, sink, schedule.declarations.as_slice(), &claims, ask)
 }
 
 /// Writes what the claims of a schedule's run advertise, and keeps those that stand at its end.
@@ -49,11 +43,11 @@ fn write_adverts<K: Sink>(
     alloc: Global,
     sink: &mut K,
     schedule: &Schedule,
-    standing: &mut Standing,
+    claims: &mut AddressClaims,
 ) -> Result<(), PutFault>
-    requires { standing.old ≡ [] }
+    requires { claims.old ≡ [] }
     ensures ok { OnOk result (K.held sink.new ≡ append_known (K.held sink.old) (adverts schedule.now.declarations (permitted (content schedule.now)))) }
-    ensures stands { OnOk result (standing.new ≡ rows_in [] (permitted (content schedule.now))) }
+    ensures stands { OnOk result (claims.new ≡ rows_in [] (permitted (content schedule.now))) }
     ensures front { OnErr result ((count : ℕ) × (count ≤ length (adverts schedule.now.declarations (permitted (content schedule.now))))
         × (K.held sink.new ≡ append_known (K.held sink.old) (take count (adverts schedule.now.declarations (permitted (content schedule.now)))))) }
     ensures part { IsErrOf result PutFault.Failed → ((count : ℕ) × (count < length (adverts schedule.now.declarations (permitted (content schedule.now))))
@@ -69,7 +63,7 @@ fn write_adverts<K: Sink>(
             alloc,
             &mut text,
             schedule.declarations.as_slice(),
-            standing,
+            claims,
             piece.as_slice(),
         )?;
         write_text(sink, text.as_slice())?;
@@ -82,18 +76,18 @@ fn write_end<K: Sink>(
     alloc: Global,
     sink: &mut K,
     declarations: &[Declaration],
-    standing: &Standing,
+    claims: &AddressClaims,
     ask: Option<Address>,
 ) -> Result<(), PutFault>
-    ensures ok { OnOk result (K.held sink.new ≡ append_known (K.held sink.old) (end_text declarations.now standing.now ask)) }
-    ensures front { OnErr result ((count : ℕ) × (count ≤ length (end_text declarations.now standing.now ask))
-        × (K.held sink.new ≡ append_known (K.held sink.old) (take count (end_text declarations.now standing.now ask)))) }
-    ensures part { IsErrOf result PutFault.Failed → ((count : ℕ) × (count < length (end_text declarations.now standing.now ask))
-        × (K.held sink.new ≡ append_known (K.held sink.old) (take count (end_text declarations.now standing.now ask)))) }
+    ensures ok { OnOk result (K.held sink.new ≡ append_known (K.held sink.old) (end_text declarations.now claims.now ask)) }
+    ensures front { OnErr result ((count : ℕ) × (count ≤ length (end_text declarations.now claims.now ask))
+        × (K.held sink.new ≡ append_known (K.held sink.old) (take count (end_text declarations.now claims.now ask)))) }
+    ensures part { IsErrOf result PutFault.Failed → ((count : ℕ) × (count < length (end_text declarations.now claims.now ask))
+        × (K.held sink.new ≡ append_known (K.held sink.old) (take count (end_text declarations.now claims.now ask)))) }
     ensures no_fewer { K.faults sink.old ≤ K.faults sink.new }
     ensures cause { IsErrOf result PutFault.Failed → Rose (K.faults sink.old) (K.faults sink.new) }
 {
     let mut text = Bytes::new(alloc);
-    tell_end(alloc, &mut text, declarations, standing, ask)?;
+    tell_end(alloc, &mut text, declarations, claims, ask)?;
     write_text(sink, text.as_slice())
 }

@@ -9,7 +9,7 @@ use Rattle.mip_rules_agent.specs.Calls.{Call, bytes_of}
 use Rattle.mip_rules_agent.specs.Steps.{Step, Called, Sends, Registers, Claims, Releases, Denies, Drops, Rang, answer_of, answers_of}
 use Rattle.mip_rules_agent.specs.Questions.{after}
 use Rattle.mip_rules_agent.specs.Transitions.{Transition, begun, noted}
-use Rattle.mip_rules_agent.specs.Doing.{turn_of}
+use Rattle.mip_rules_agent.specs.Doing.{transition_of}
 use Rattle.mip_rules_agent.specs.Sendings.{SendsOwn}
 use Rattle.mip_rules_agent.specs.Wholes.{IsWhole}
 use Rattle.mip_rules_agent.proofs.Wholes.{sending-long}
@@ -40,7 +40,7 @@ whole-noted : (me : Identity) (bytes : List ℕ) (step : Step) (t : Transition) 
 whole-noted me bytes step t own whole =
     subst AreWhole (sym (answers-noted answer_of after step t)) (whole-append (answers_of t.steps) (answer_of step) whole (whole-step me bytes step own))
 
-pub call-whole : (me : Identity) (k : Known) (now : ℕ) (c : Call) → GivesWhole (turn_of me k now c)
+pub call-whole : (me : Identity) (k : Known) (now : ℕ) (c : Call) → GivesWhole (transition_of me k now c)
 call-whole me k now c =
     every-call me GivesWhole c (λ step t silent own whole. whole-noted me (bytes_of c) step t own whole)
     (λ t whole. whole-noted me (bytes_of c) (Called c) t tt whole) (begun now k) tt

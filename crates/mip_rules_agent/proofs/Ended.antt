@@ -21,9 +21,9 @@ use Rattle.mip_rules_agent.specs.Pasts.{is_registration_of, registered_by, last_
 use Rattle.mip_rules_agent.specs.Ends.{IsEndOf, has_end, AreUntil}
 
 -- a fact of all elements that is another one of each
-all-turned : {X : Type 0} (P Q : X → Type 0) → ((x : X) → P x → Q x) → (xs : List X) → AllByRecursion P xs → AllByRecursion Q xs
-all-turned P Q turn [] all = tt
-all-turned P Q turn (x ∷ xs) all = (turn x all.0, all-turned P Q turn xs all.1)
+all-weaker : {X : Type 0} (P Q : X → Type 0) → ((x : X) → P x → Q x) → (xs : List X) → AllByRecursion P xs → AllByRecursion Q xs
+all-weaker P Q weaker [] all = tt
+all-weaker P Q weaker (x ∷ xs) all = (weaker x all.0, all-weaker P Q weaker xs all.1)
 
 all-between : {X : Type 0} (P : X → Type 0) (x : X) (xs ys : List X) → P x → AllByRecursion P (xs ++ ys) → AllByRecursion P (xs ++ x ∷ ys)
 all-between P x [] ys is all = (is, all)
@@ -34,23 +34,23 @@ all-insert P x n xs is all = all-between P x (take n xs) (drop n xs) is (subst (
 
 -- what the test of a filter tells of what it leaves
 all-kept : {X : Type 0} (P Q : X → Type 0) (p : X → Bool) → ((x : X) → p x ≡ true → P x → Q x) → (xs : List X) → AllByRecursion P xs → AllByRecursion Q (filter p xs)
-all-kept P Q p turn [] all = tt
-all-kept P Q p turn (x ∷ xs) all =
+all-kept P Q p weaker [] all = tt
+all-kept P Q p weaker (x ∷ xs) all =
     (elim (p x) as (λ b. p x ≡ b → AllByRecursion Q (cond b (x ∷ filter p xs) (filter p xs))) [
-      | true ↦ λ is. (turn x is all.0, all-kept P Q p turn xs all.1)
-      | false ↦ λ is. all-kept P Q p turn xs all.1
+      | true ↦ λ is. (weaker x is all.0, all-kept P Q p weaker xs all.1)
+      | false ↦ λ is. all-kept P Q p weaker xs all.1
     ]) refl
 
 -- one that passes a test is there still
 any-kept : {X : Type 0} (test p : X → Bool) → ((x : X) → test x ≡ true → p x ≡ true) → (xs : List X) → list_any test xs ≡ true → list_any test (filter p xs) ≡ true
-any-kept test p turn [] any = any
-any-kept test p turn (x ∷ xs) any =
+any-kept test p weaker [] any = any
+any-kept test p weaker (x ∷ xs) any =
     (elim (test x) as (λ t. test x ≡ t → (t || list_any test xs) ≡ true → list_any test (cond (p x) (x ∷ filter p xs) (filter p xs)) ≡ true) [
-      | true ↦ λ is some. subst (λ (b : Bool). list_any test (cond b (x ∷ filter p xs) (filter p xs)) ≡ true) (sym (turn x is)) (ap (λ (b : Bool). b || list_any test (filter p xs)) is)
+      | true ↦ λ is some. subst (λ (b : Bool). list_any test (cond b (x ∷ filter p xs) (filter p xs)) ≡ true) (sym (weaker x is)) (ap (λ (b : Bool). b || list_any test (filter p xs)) is)
       | false ↦ λ is some.
           elim (p x) as (λ b. list_any test (cond b (x ∷ filter p xs) (filter p xs)) ≡ true) [
-            | true ↦ ap (λ (b : Bool). b || list_any test (filter p xs)) is ∙ any-kept test p turn xs some
-            | false ↦ any-kept test p turn xs some
+            | true ↦ ap (λ (b : Bool). b || list_any test (filter p xs)) is ∙ any-kept test p weaker xs some
+            | false ↦ any-kept test p weaker xs some
           ]
     ]) refl any
 
@@ -105,7 +105,7 @@ AreEndsOf past es = AllByRecursion (IsEndOf past) es
 
 -- a step that registers nothing
 quiet : (past : List (Stamped Step)) (s : Stamped Step) (es : List Ending) → ((home : Address) → is_registration_of home s.step ≡ false) → AreEndsOf past es → AreEndsOf (past ++ s ∷ []) es
-quiet past s es none all = all-turned (IsEndOf past) (IsEndOf (past ++ s ∷ [])) (λ e is. still past s e (none e.home) is) es all
+quiet past s es none all = all-weaker (IsEndOf past) (IsEndOf (past ++ s ∷ [])) (λ e is. still past s e (none e.home) is) es all
 
 listed-after : (past : List (Stamped Step)) (es : List Ending) (at : ℕ) (step : Step) → AreEndsOf past es → AreEndsOf (past ++ record { at = at; step = step } ∷ []) (ends_after es at step)
 listed-after past es at (Registers number home b) all = by (b.careof.0 == home.0) refl

@@ -19,7 +19,7 @@ use Rattle.mip_rules_agent.specs.Steps.{is_registration}
 use Rattle.mip_rules_agent.specs.Questions.{holds}
 use Rattle.mip_rules_agent.specs.Verdicts.{granted_of, verdict}
 use Rattle.mip_rules_agent.specs.Rules.{bench, claim_with}
-use Rattle.mip_rules_agent.specs.Doing.{turn_of}
+use Rattle.mip_rules_agent.specs.Doing.{transition_of}
 use Rattle.mip_rules_agent.specs.Granting.{IsBounded, IsGranted}
 use Rattle.mip_rules_agent.proofs.VerdictLaws.{sound}
 use Rattle.mip_rules_agent.proofs.Refusals.{some-update}
@@ -63,8 +63,8 @@ accepted-bounded b shield claim r home careof sequence granted is =
     let so = sound b shield claim r home careof sequence granted is in bounded-time b r granted so.fit.valid so.of_time
 
 pub granted-bounded : (me : Identity) (k : Known) (now number : ℕ) (shield : Option Shield) (bytes : List ℕ) (claim : Claim)
-    → list_any is_registration (turn_of me k now (Take number shield bytes claim)).steps ≡ true
-    → IsGranted me k now number shield bytes claim (turn_of me k now (Take number shield bytes claim)).steps
+    → list_any is_registration (transition_of me k now (Take number shield bytes claim)).steps ≡ true
+    → IsGranted me k now number shield bytes claim (transition_of me k now (Take number shield bytes claim)).steps
 granted-bounded me k now number shield bytes claim some =
     let u = some-update me k now number shield bytes claim some in
     record {

@@ -9,7 +9,7 @@ use Rattle.mip_words.specs.declared.shield.Shield.{Shield}
 use Rattle.mip_lists.specs.Last.{or_else, last_where}
 use Rattle.mip_lists.proofs.LastLaws.{last_where-push, last_where-none}
 use Rattle.mip_outside.specs.declared.claim.Claim.{Claim}
-use Rattle.mip_transitions.proofs.TurnLaws.{noted-known, noted-steps, none-noted, none-parts}
+use Rattle.mip_transitions.proofs.TransitionLaws.{noted-known, noted-steps, none-noted, none-parts}
 use Rattle.mip_updates.specs.Registrations.{home_of, registered_of}
 use Rattle.mip_rules_agent.specs.declared.home_binding.HomeBinding.{HomeBinding}
 use Rattle.mip_rules_agent.specs.declared.home_row.HomeRow.{HomeRow}
@@ -24,7 +24,7 @@ use Rattle.mip_rules_agent.specs.Questions.{bound_to, holding, after, served_at,
 use Rattle.mip_rules_agent.specs.Transitions.{Transition, begun, noted}
 use Rattle.mip_rules_agent.specs.Verdicts.{binding_for}
 use Rattle.mip_rules_agent.specs.Rules.{bench, claim_with, advertises}
-use Rattle.mip_rules_agent.specs.Doing.{releases_all, ticks, advertises_all, plans, does, turn_of}
+use Rattle.mip_rules_agent.specs.Doing.{releases_all, ticks, advertises_all, plans, does, transition_of}
 use Rattle.mip_rules_agent.specs.Pasts.{is_registration_of, registered_by}
 use Rattle.mip_rules_agent.specs.Soundness.{IsSound}
 use Rattle.mip_rules_agent.specs.Taken.{IsUpdateTaken, IsRegisteredBy}
@@ -61,7 +61,7 @@ module _ (home : Address) where
       let parts = none-parts after (is_registration_of home) step u none in
       binding-noted step u parts.1 ∙ keeps parts.0
 
-  pub keeps-call : (me : Identity) (k : Known) (now : ℕ) (c : Call) → Keeps k (turn_of me k now c)
+  pub keeps-call : (me : Identity) (k : Known) (now : ℕ) (c : Call) → Keeps k (transition_of me k now c)
   keeps-call me k now c =
       every-call me (Keeps k) c (λ step u silent own keeps. keeps-noted k step u keeps) (λ u keeps. keeps-noted k (Called c) u keeps) (begun now k) (λ none. refl)
 
@@ -93,7 +93,7 @@ module _ (home : Address) where
       stamp true = refl
       stamp false = refl
 
-  binds-call : (me : Identity) (k : Known) (now : ℕ) (c : Call) → is_served k home ≡ true → Binds k (turn_of me k now c)
+  binds-call : (me : Identity) (k : Known) (now : ℕ) (c : Call) → is_served k home ≡ true → Binds k (transition_of me k now c)
   binds-call me k now c served =
       every-call me (Binds k) c (λ step u silent own binds. binds-noted k step u binds) (λ u binds. binds-noted k (Called c) u binds) (begun now k) (served, refl)
 
@@ -113,20 +113,20 @@ advertised-quiet own m at (r ∷ rows) t none = advertised-quiet own m at rows _
 called-quiet : (now : ℕ) (k : Known) (c : Call) → Quiet (noted (Called c) (begun now k))
 called-quiet now k c = none-noted after is_registration (Called c) (begun now k) refl refl
 
-pub tick-quiet : (me : Identity) (k : Known) (now : ℕ) → Quiet (turn_of me k now calls.Tick)
+pub tick-quiet : (me : Identity) (k : Known) (now : ℕ) → Quiet (transition_of me k now calls.Tick)
 unfolding does ticks
 tick-quiet me k now =
     let t : Transition = noted (Called calls.Tick) (begun now k) in
     none-noted after is_registration Rang (releases_all (due_ends t.now t.known.ends) t)
     (released-quiet (due_ends t.now t.known.ends) t (called-quiet now k calls.Tick)) refl
 
-pub plan-quiet : (me : Identity) (k : Known) (now valid preferred : ℕ) → Quiet (turn_of me k now (calls.Plan valid preferred))
+pub plan-quiet : (me : Identity) (k : Known) (now valid preferred : ℕ) → Quiet (transition_of me k now (calls.Plan valid preferred))
 unfolding does plans
 plan-quiet me k now valid preferred =
     let t : Transition = noted (Called (calls.Plan valid preferred)) (begun now k) in
     advertised-quiet me.own t.known t.now (rows_at t.now t.known.homes) t (called-quiet now k (calls.Plan valid preferred))
 
-pub hear-quiet : (me : Identity) (k : Known) (now : ℕ) (agent : Address) (preference life : ℕ) → Quiet (turn_of me k now (calls.Hear agent preference life))
+pub hear-quiet : (me : Identity) (k : Known) (now : ℕ) (agent : Address) (preference life : ℕ) → Quiet (transition_of me k now (calls.Hear agent preference life))
 unfolding does
 hear-quiet me k now agent preference life = called-quiet now k (calls.Hear agent preference life)
 
@@ -151,8 +151,8 @@ or_false false b e none = absurd cc
 
 -- the update that was taken registers its home
 module _ (me : Identity) (k : Known) (now number : ℕ) (shield : Option Shield) (bytes : List ℕ) (claim : Claim) (home : Address)
-    (some : list_any (is_registration_of home) (turn_of me k now (calls.Take number shield bytes claim)).steps ≡ true)
-    (is : IsUpdateTaken me k now number shield bytes claim (turn_of me k now (calls.Take number shield bytes claim)).steps) where
+    (some : list_any (is_registration_of home) (transition_of me k now (calls.Take number shield bytes claim)).steps ≡ true)
+    (is : IsUpdateTaken me k now number shield bytes claim (transition_of me k now (calls.Take number shield bytes claim)).steps) where
   abbrev call : Call
   call = calls.Take number shield bytes claim
 
@@ -174,7 +174,7 @@ module _ (me : Identity) (k : Known) (now number : ℕ) (shield : Option Shield)
   served : is_served k home ≡ true
   served = let s = judged-sound in let f = s.fit in subst (λ (a : Address). is_served k a ≡ true) update-home f.served
 
-  last-one : last_where (is_registration_of home) (turn_of me k now call).steps ≡ Some accepted
+  last-one : last_where (is_registration_of home) (transition_of me k now call).steps ≡ Some accepted
   last-one =
       ap (last_where (is_registration_of home)) is.steps_are
       ∙ ap (λ (o : Option Step). or_else (or_else o (if is.home.0 == home.0 then Some accepted else None)) None) (last_where-none (is_registration_of home) is.rest (of_home_none home is.rest is.none))
@@ -189,7 +189,7 @@ module _ (me : Identity) (k : Known) (now number : ℕ) (shield : Option Shield)
       by true is = refl
       by false is = absurd cc
 
-  pub becomes : binding_of (turn_of me k now call).known home ≡ Some (binding_for now (registered_of is.update) is.update.sequence is.granted)
+  pub becomes : binding_of (transition_of me k now call).known home ≡ Some (binding_for now (registered_of is.update) is.update.sequence is.granted)
   becomes =
       let s = judged-sound in
       let b = binds-call home me k now call served in
@@ -218,24 +218,24 @@ module _ (me : Identity) (k : Known) (now number : ℕ) (shield : Option Shield)
       }
 
 module _ (me : Identity) (k : Known) (now : ℕ) (home : Address) where
-  some-registered : (c : Call) → list_any (is_registration_of home) (turn_of me k now c).steps ≡ true → IsRegisteredBy me k now c home
+  some-registered : (c : Call) → list_any (is_registration_of home) (transition_of me k now c).steps ≡ true → IsRegisteredBy me k now c home
   some-registered (calls.Take number shield bytes claim) some =
       elim (taken_is me k now number shield bytes claim) as (λ _. IsRegisteredBy me k now (calls.Take number shield bytes claim) home) [
-        | inl quiet ↦ absurd (let none = of_home_none home (turn_of me k now (calls.Take number shield bytes claim)).steps quiet.0 in let both : true ≡ false = sym some ∙ none in cc)
+        | inl quiet ↦ absurd (let none = of_home_none home (transition_of me k now (calls.Take number shield bytes claim)).steps quiet.0 in let both : true ≡ false = sym some ∙ none in cc)
         | inr is ↦ registered me k now number shield bytes claim home some is
       ]
   some-registered calls.Tick some =
-      absurd (let none = of_home_none home (turn_of me k now calls.Tick).steps (tick-quiet me k now) in let both : true ≡ false = sym some ∙ none in cc)
+      absurd (let none = of_home_none home (transition_of me k now calls.Tick).steps (tick-quiet me k now) in let both : true ≡ false = sym some ∙ none in cc)
   some-registered (calls.Plan valid preferred) some =
-      absurd (let none = of_home_none home (turn_of me k now (calls.Plan valid preferred)).steps (plan-quiet me k now valid preferred) in let both : true ≡ false = sym some ∙ none in cc)
+      absurd (let none = of_home_none home (transition_of me k now (calls.Plan valid preferred)).steps (plan-quiet me k now valid preferred) in let both : true ≡ false = sym some ∙ none in cc)
   some-registered (calls.Hear agent preference life) some =
-      absurd (let none = of_home_none home (turn_of me k now (calls.Hear agent preference life)).steps (hear-quiet me k now agent preference life) in let both : true ≡ false = sym some ∙ none in cc)
+      absurd (let none = of_home_none home (transition_of me k now (calls.Hear agent preference life)).steps (hear-quiet me k now agent preference life) in let both : true ≡ false = sym some ∙ none in cc)
 
   -- the registered care-of address stays, or the call hands over an update for the home
-  pub careof-changes : (c : Call) (later : ℕ) → (careof_at (turn_of me k now c).known later home ≡ careof_at k later home) ⊎ IsRegisteredBy me k now c home
-  careof-changes c later = by (list_any (is_registration_of home) (turn_of me k now c).steps) refl
+  pub careof-changes : (c : Call) (later : ℕ) → (careof_at (transition_of me k now c).known later home ≡ careof_at k later home) ⊎ IsRegisteredBy me k now c home
+  careof-changes c later = by (list_any (is_registration_of home) (transition_of me k now c).steps) refl
     where
-      by : (some : Bool) → list_any (is_registration_of home) (turn_of me k now c).steps ≡ some → (careof_at (turn_of me k now c).known later home ≡ careof_at k later home) ⊎ IsRegisteredBy me k now c home
+      by : (some : Bool) → list_any (is_registration_of home) (transition_of me k now c).steps ≡ some → (careof_at (transition_of me k now c).known later home ≡ careof_at k later home) ⊎ IsRegisteredBy me k now c home
       by true is = inr (some-registered c is)
       by false is = inl (ap (λ (o : Option HomeBinding). option_map (λ (b : HomeBinding). b.careof) (if_standing home later o)) (keeps-call home me k now c is))
 

@@ -11,7 +11,7 @@ use Rattle.mip_ipv6.specs.Packet.{Packet}
 use Rattle.mip_ipv6.specs.Reading.{packet_of}
 use Rattle.mip_tunnel.specs.Tunnel.{hop_of, encapsulated}
 use Rattle.mip_outside.specs.declared.claim.Claim.{Claim}
-use Rattle.mip_transitions.proofs.TurnLaws.{noted-now, noted-known}
+use Rattle.mip_transitions.proofs.TransitionLaws.{noted-now, noted-known}
 use Rattle.mip_rules_agent.specs.declared.identity.Identity.{Identity}
 use Rattle.mip_rules_agent.specs.Known.{Known}
 use Rattle.mip_rules_agent.specs.Calls.{Call, Take}
@@ -19,7 +19,7 @@ use Rattle.mip_rules_agent.specs.Steps.{Step, Called, Sends, Drops}
 use Rattle.mip_rules_agent.specs.Questions.{careof_at, after}
 use Rattle.mip_rules_agent.specs.Transitions.{Transition, begun, noted}
 use Rattle.mip_rules_agent.specs.Rules.{Handing, shield_for, intercepts, by_destination, receives}
-use Rattle.mip_rules_agent.specs.Doing.{takes, handing, does, turn_of}
+use Rattle.mip_rules_agent.specs.Doing.{takes, handing, does, transition_of}
 use Rattle.mip_rules_agent.specs.Sendings.{Sending, SendsInto, SendsOut, SendsAck, SendsReply, SendsAgents, SendsPrefix}
 use Rattle.mip_rules_agent.specs.Rights.{IsRightful, SendsRightly, IsTunnelled}
 use Rattle.mip_rules_agent.proofs.Sendings.{all-noted}
@@ -66,7 +66,7 @@ module _ (me : Identity) (k : Known) (now number : ℕ) (shield : Option Shield)
   abbrev h : Handing
   h = handing me given.now given.known number shield bytes claim
 
-  pub call-rightly : AllByRecursion (SendsRightly me k now shield bytes) (turn_of me k now (Take number shield bytes claim)).steps
+  pub call-rightly : AllByRecursion (SendsRightly me k now shield bytes) (transition_of me k now (Take number shield bytes claim)).steps
   unfolding does
   call-rightly =
       let R : Step → Type 0 = SendsRightly me k now shield bytes in
@@ -75,7 +75,7 @@ module _ (me : Identity) (k : Known) (now number : ℕ) (shield : Option Shield)
       given (all-noted R (Called call) (begun now k) tt tt)
 
   pub keeps-shield : (p : Packet) (careof : Address) → packet_of bytes ≡ Ok p → careof_at k now p.head.destination ≡ Some careof
-      → AllByRecursion (IsTunnelled me.own p careof bytes) (turn_of me k now (Take number shield bytes claim)).steps
+      → AllByRecursion (IsTunnelled me.own p careof bytes) (transition_of me k now (Take number shield bytes claim)).steps
   unfolding does takes intercepts
   keeps-shield p careof read at =
       subst (λ (r : Result Packet NotPacket). AllOf (receives h r given)) (sym read)

@@ -26,7 +26,7 @@ use Rattle.mip_rules_agent.specs.Known.{Known}
 use Rattle.mip_rules_agent.specs.Calls.{Call, bytes_of}
 use Rattle.mip_rules_agent.specs.Steps.{Step, Called, Sends, Registers, Claims, Releases, Denies, Drops, Rang, answer_of, answers_of}
 use Rattle.mip_rules_agent.specs.Messages.{prefix_packet}
-use Rattle.mip_rules_agent.specs.Doing.{turn_of}
+use Rattle.mip_rules_agent.specs.Doing.{transition_of}
 use Rattle.mip_rules_agent.specs.Sendings.{Sending, SendsInto, SendsOut, SendsAck, SendsReply, SendsAgents, SendsPrefix, IsPacketOf, SendsOwn}
 use Rattle.mip_rules_agent.specs.Sayings.{SaysHanded, SaysNoOther}
 use Rattle.mip_rules_agent.proofs.Sendings.{call-own}
@@ -94,5 +94,5 @@ module _ (me : Identity) (bytes : List ℕ) where
   steps-say (step ∷ steps) all = step-says step (answers_of steps) all.0 (steps-say steps all.1)
 
 -- each answer of a call
-pub call-says : (me : Identity) (k : Known) (now : ℕ) (c : Call) → AllByRecursion (SaysNoOther (bytes_of c)) (answers_of (turn_of me k now c).steps)
-call-says me k now c = steps-say me (bytes_of c) (turn_of me k now c).steps (call-own me k now c)
+pub call-says : (me : Identity) (k : Known) (now : ℕ) (c : Call) → AllByRecursion (SaysNoOther (bytes_of c)) (answers_of (transition_of me k now c).steps)
+call-says me k now c = steps-say me (bytes_of c) (transition_of me k now c).steps (call-own me k now c)

@@ -21,7 +21,7 @@ use Rattle.mip_rules_agent.specs.Known.{Known}
 use Rattle.mip_rules_agent.specs.Calls.{Call, bytes_of}
 use Rattle.mip_rules_agent.specs.Steps.{Step, Called, Sends, Registers, Claims, Releases, Denies, Drops, Rang, answer_of, answers_of}
 use Rattle.mip_rules_agent.specs.Messages.{prefix_packet}
-use Rattle.mip_rules_agent.specs.Doing.{turn_of}
+use Rattle.mip_rules_agent.specs.Doing.{transition_of}
 use Rattle.mip_rules_agent.specs.Sendings.{Sending, SendsInto, SendsOut, SendsAck, SendsReply, SendsAgents, SendsPrefix, IsPacketOf, SendsOwn}
 use Rattle.mip_rules_agent.specs.Shielding.{HasNoUpdate, ShieldsNoUpdate, ShieldNoUpdate}
 use Rattle.mip_rules_agent.proofs.Sendings.{call-own}
@@ -90,5 +90,5 @@ module _ (me : Identity) (bytes : List ℕ) where
   steps-none [] all = tt
   steps-none (step ∷ steps) all = step-none step (answers_of steps) all.0 (steps-none steps all.1)
 
-pub call-none : (me : Identity) (k : Known) (now : ℕ) (c : Call) → ShieldNoUpdate (answers_of (turn_of me k now c).steps)
-call-none me k now c = steps-none me (bytes_of c) (turn_of me k now c).steps (call-own me k now c)
+pub call-none : (me : Identity) (k : Known) (now : ℕ) (c : Call) → ShieldNoUpdate (answers_of (transition_of me k now c).steps)
+call-none me k now c = steps-none me (bytes_of c) (transition_of me k now c).steps (call-own me k now c)

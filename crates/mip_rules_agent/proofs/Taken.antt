@@ -24,7 +24,7 @@ use Rattle.mip_tunnel.specs.Tunnel.{hop_of}
 use Rattle.mip_outside.specs.declared.claim.Claim.{Claim}
 use Rattle.mip_entries.specs.Stamped.{stamped}
 use Rattle.mip_transitions.specs.Transitions.{known_by}
-use Rattle.mip_transitions.proofs.TurnLaws.{noted_all, noted_all-is}
+use Rattle.mip_transitions.proofs.TransitionLaws.{noted_all, noted_all-is}
 use Rattle.mip_reception.specs.declared.refusal.Refusal.{Refusal}
 use Rattle.mip_reception.specs.declared.address_match.AddressMatch.{AddressMatch}
 use Rattle.mip_reception.specs.Checks.{message_or_refusal, message_at, then_home, is_probe, is_update, checked}
@@ -45,7 +45,7 @@ use Rattle.mip_rules_agent.specs.Questions.{careof_at, holds, after}
 use Rattle.mip_rules_agent.specs.Transitions.{Transition, begun, noted}
 use Rattle.mip_rules_agent.specs.Verdicts.{is_from, verdict, binding_for}
 use Rattle.mip_rules_agent.specs.Rules.{Handing, intercepts, is_careof, opens, takes_tunnel, bench, claim_with, acknowledges, denies, claims_if, answers_if, accepts, judged, takes_update, names_agents, advertises, answers_solicitation, takes_icmp, by_proto, by_role, replies, refuses, standing_of, after_checks, place_in, by_destination, receives}
-use Rattle.mip_rules_agent.specs.Doing.{takes, handing, does, turn_of}
+use Rattle.mip_rules_agent.specs.Doing.{takes, handing, does, transition_of}
 use Rattle.mip_rules_agent.specs.Taken.{IsUpdateIn, IsUpdateTaken}
 
 -- whichever way a choice goes
@@ -269,6 +269,6 @@ module _ (me : Identity) (k : Known) (now number : ℕ) (shield : Option Shield)
   of_packet (Err fault) read = dropped _
   of_packet (Ok p) read = of_destination p (careof_at given.known given.now p.head.destination) read
 
-  pub taken_is : Is (turn_of me k now (calls.Take number shield bytes claim))
+  pub taken_is : Is (transition_of me k now (calls.Take number shield bytes claim))
   unfolding does takes
   taken_is = of_packet (packet_of bytes) refl

@@ -4,7 +4,7 @@ use Rattle.std.specs.Prelude.{not, map, filter, Option, Some, None}
 use Rattle.std.specs.List.{cons_option}
 use Rattle.std.proofs.lemmas.List.{append_assoc, append-nil}
 use Rattle.mip_words.specs.declared.address.Address.{Address}
-use Rattle.mip_transitions.proofs.TurnLaws.{noted-now, noted-known, noted-steps}
+use Rattle.mip_transitions.proofs.TransitionLaws.{noted-now, noted-known, noted-steps}
 use Rattle.mip_rules_agent.specs.declared.identity.Identity.{Identity}
 use Rattle.mip_rules_agent.specs.declared.ending.Ending.{Ending}
 use Rattle.mip_rules_agent.specs.Known.{Known}
@@ -12,7 +12,7 @@ use Rattle.mip_rules_agent.specs.Calls.{Tick}
 use Rattle.mip_rules_agent.specs.Steps.{Step, Called, Releases, Rang}
 use Rattle.mip_rules_agent.specs.Questions.{due_ends, ends_after, later_ends, after}
 use Rattle.mip_rules_agent.specs.Transitions.{Transition, begun, noted}
-use Rattle.mip_rules_agent.specs.Doing.{releases_all, ticks, does, turn_of}
+use Rattle.mip_rules_agent.specs.Doing.{releases_all, ticks, does, transition_of}
 use Rattle.mip_rules_agent.specs.Refusing.{release_of, released}
 
 abbrev homes_in : List Ending → List Address
@@ -61,7 +61,7 @@ module _ (me : Identity) (k : Known) (now : ℕ) where
   abbrev rung : Transition
   rung = releases_all (due_ends first.now first.known.ends) first
 
-  pub tick-releases : released (turn_of me k now Tick).steps ≡ map (λ (e : Ending). e.home) (filter (λ (e : Ending). not (nat_lt now e.end.0)) k.ends)
+  pub tick-releases : released (transition_of me k now Tick).steps ≡ map (λ (e : Ending). e.home) (filter (λ (e : Ending). not (nat_lt now e.end.0)) k.ends)
   unfolding does ticks
   tick-releases =
       released-noted Rang rung
@@ -71,7 +71,7 @@ module _ (me : Identity) (k : Known) (now : ℕ) where
       ∙ ap (λ (n : ℕ). homes_in (due_ends n first.known.ends)) first-now
       ∙ ap (λ (es : List Ending). homes_in (due_ends now es)) first-ends
 
-  pub tick-leaves : (turn_of me k now Tick).known.ends ≡ filter (λ (e : Ending). nat_lt now e.end.0) k.ends
+  pub tick-leaves : (transition_of me k now Tick).known.ends ≡ filter (λ (e : Ending). nat_lt now e.end.0) k.ends
   unfolding does ticks
   tick-leaves =
       ends-noted Rang rung

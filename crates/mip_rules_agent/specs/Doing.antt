@@ -1,4 +1,4 @@
--- What a home agent does about each call: the turn that the call is.
+-- What a home agent does about each call: the transition that the call is.
 use Rattle.std.specs.Prelude.{ℕ, List, [], ◌∷◌, Option}
 use Rattle.mip_words.specs.declared.address.Address.{Address}
 use Rattle.mip_words.specs.declared.shield.Shield.{Shield}
@@ -51,6 +51,6 @@ handles me (calls.Hear agent preference life) t = t
 unfoldable pub does : Identity → Call → Transition → Transition
 does me c t = handles me c (noted (Called c) t)
 
--- the turn of a call, from what was known before it
-abbrev pub turn_of : Identity → Known → ℕ → Call → Transition
-turn_of me k now c = does me c (begun now k)
+-- the transition of a call, from what was known before it
+abbrev pub transition_of : Identity → Known → ℕ → Call → Transition
+transition_of me k now c = does me c (begun now k)

@@ -18,7 +18,7 @@ use Rattle.mip_rules_agent.specs.Refusing.{is_refusal}
 use Rattle.mip_rules_agent.specs.Questions.{kept_of, holds, binding_of}
 use Rattle.mip_rules_agent.specs.Verdicts.{verdict, binding_for}
 use Rattle.mip_rules_agent.specs.Rules.{bench, claim_with}
-use Rattle.mip_rules_agent.specs.Doing.{turn_of}
+use Rattle.mip_rules_agent.specs.Doing.{transition_of}
 
 -- the packet has this update, a message of type 5
 pub record IsUpdateIn (bytes : List ℕ) (update : Registration) : Type 0 where
@@ -56,4 +56,4 @@ pub record IsRegisteredBy (me : Identity) (k : Known) (now : ℕ) (c : Call) (ho
   pub of_home : (home_of update).0 ≡ home.0
   pub newer : (last : ℕ) → kept_of k home ≡ Some last → is_after update.sequence last ≡ true
   pub granted : ℕ
-  pub becomes : binding_of (turn_of me k now c).known home ≡ Some (binding_for now (registered_of update) update.sequence granted)
+  pub becomes : binding_of (transition_of me k now c).known home ≡ Some (binding_for now (registered_of update) update.sequence granted)

@@ -19,8 +19,8 @@ ghost use Rattle.mip_rules_agent.specs.Known.{Known};
 ghost use Rattle.mip_rules_agent.specs.Calls.{Call, Take, Tick, Plan, Hear, bytes_of};
 ghost use Rattle.mip_rules_agent.specs.Steps.{Step, answers_of, is_call, is_registration};
 ghost use Rattle.mip_rules_agent.specs.Questions.{known, is_served, binding_of, holds, is_standing, careof_at, agents_called, plan_called};
-ghost use Rattle.mip_rules_agent.specs.Transitions.{Stands, with_turn};
-ghost use Rattle.mip_rules_agent.specs.Doing.{turn_of};
+ghost use Rattle.mip_rules_agent.specs.Transitions.{Stands, with_transition};
+ghost use Rattle.mip_rules_agent.specs.Doing.{transition_of};
 ghost use Rattle.mip_rules_agent.specs.Verdicts.{verdict};
 ghost use Rattle.mip_rules_agent.specs.Soundness.{IsSound, IsBehind};
 ghost use Rattle.mip_rules_agent.specs.Sendings.{SendsOwn};
@@ -41,7 +41,7 @@ pub fn last_is_of_the_last_call()
 
 /// The last moment that a call leaves known is its own.
 pub fn each_call_is_the_last()
-    ensures { (me : Identity) (k : Known) (now : ℕ) (c : Call) → (turn_of me k now c).known.last ≡ now }
+    ensures { (me : Identity) (k : Known) (now : ℕ) (c : Call) → (transition_of me k now c).known.last ≡ now }
 {}
 
 /// Whoever stands for a past knows what it leaves known.
@@ -49,9 +49,9 @@ pub fn stands_for_what_is_known()
     ensures { (serves : List Address) (past : List (Stamped Step)) (k : Known) → Stands serves past k → k ≡ known serves past }
 {}
 
-/// Whoever stands for a past stands, after any call, for the past with the call's turn.
+/// Whoever stands for a past stands, after any call, for the past with the call's transition.
 pub fn stands_after_each_call()
-    ensures { (serves : List Address) (past : List (Stamped Step)) (k : Known) (now : ℕ) (me : Identity) (c : Call) → Stands serves past k → Stands serves (with_turn past (turn_of me k now c)) (turn_of me k now c).known }
+    ensures { (serves : List Address) (past : List (Stamped Step)) (k : Known) (now : ℕ) (me : Identity) (c : Call) → Stands serves past k → Stands serves (with_transition past (transition_of me k now c)) (transition_of me k now c).known }
 {}
 
 /// A home is served from the beginning or never. Of one that is served, what is kept is the last registration or
@@ -88,40 +88,41 @@ pub fn agents_are_as_heard()
 
 /// Whatever a call gives out is whole.
 pub fn answers_are_whole()
-    ensures { (me : Identity) (k : Known) (now : ℕ) (c : Call) → AllByRecursion IsWhole (answers_of (turn_of me k now c).steps) }
+    ensures { (me : Identity) (k : Known) (now : ℕ) (c : Call) → AllByRecursion IsWhole (answers_of (transition_of me k now c).steps) }
 {}
 
 /// Whatever a call sends is the packet that it hands over, in a tunnel or out of one, or a message of the agent's own: an
 /// acknowledgement, what goes back to the source of a refused packet, the list of home agents, or its prefix.
 pub fn each_packet_is_its_own()
-    ensures { (me : Identity) (k : Known) (now : ℕ) (c : Call) → AllByRecursion (SendsOwn me (bytes_of c)) (turn_of me k now c).steps }
+    ensures { (me : Identity) (k : Known) (now : ℕ) (c : Call) → AllByRecursion (SendsOwn me (bytes_of c)) (transition_of me k now c).steps }
 {}
 
 /// Whatever a call sends says no test, or what the packet says that it hands over: a home agent passes on no other test, and
 /// makes none of its own.
 pub fn each_test_was_handed_over()
-    ensures { (me : Identity) (k : Known) (now : ℕ) (c : Call) → AllByRecursion (SaysNoOther (bytes_of c)) (answers_of (turn_of me k now c).steps) }
+    ensures { (me : Identity) (k : Known) (now : ℕ) (c : Call) → AllByRecursion (SaysNoOther (bytes_of c)) (answers_of (transition_of me k now c).steps) }
 {}
 
 /// No packet that a call sends under a shield has a Binding Update: those have an acknowledgement, a prefix or a tunnel.
 pub fn no_update_goes_under_its_shield()
-    ensures { (me : Identity) (k : Known) (now : ℕ) (c : Call) → ShieldNoUpdate (answers_of (turn_of me k now c).steps) }
+    ensures { (me : Identity) (k : Known) (now : ℕ) (c : Call) → ShieldNoUpdate (answers_of (transition_of me k now c).steps) }
 {}
 
 /// A packet that is handed over leads to no registration, or at once to that of the update in it, with the verdict Accept
 /// on it by what is kept of its home; no other call leads to one.
 pub fn what_is_registered_was_taken()
-    ensures taken { (me : Identity) (k : Known) (now number : ℕ) (shield : Option Shield) (bytes : List ℕ) (claim : Claim) → list_any is_registration (turn_of me k now (Take number shield bytes claim)).steps ≡ true
-        → IsUpdateTaken me k now number shield bytes claim (turn_of me k now (Take number shield bytes claim)).steps }
-    ensures ticked { (me : Identity) (k : Known) (now : ℕ) → list_any is_registration (turn_of me k now Tick).steps ≡ false }
-    ensures planned { (me : Identity) (k : Known) (now valid preferred : ℕ) → list_any is_registration (turn_of me k now (Plan valid preferred)).steps ≡ false }
-    ensures heard { (me : Identity) (k : Known) (now : ℕ) (agent : Address) (preference life : ℕ) → list_any is_registration (turn_of me k now (Hear agent preference life)).steps ≡ false }
+    ensures taken { (me : Identity) (k : Known) (now number : ℕ) (shield : Option Shield) (bytes : List ℕ) (claim : Claim) → list_any is_registration (transition_of me k now (Take number shield bytes claim)).steps ≡ true
+        → IsUpdateTaken me k now number shield bytes claim (transition_of me k now (Take number shield bytes claim)).steps }
+    ensures ticked { (me : Identity) (k : Known) (now : ℕ) → list_any is_registration (transition_of me k now Tick).steps ≡ false }
+    ensures planned { (me : Identity) (k : Known) (now valid preferred : ℕ) → list_any is_registration (transition_of me k now (Plan valid preferred)).steps
+        ≡ false }
+    ensures heard { (me : Identity) (k : Known) (now : ℕ) (agent : Address) (preference life : ℕ) → list_any is_registration (transition_of me k now (Hear agent preference life)).steps ≡ false }
 {}
 
 /// The registered care-of address of a home changes only by a call that hands over an update for that home, which came
 /// under its shield and comes after the sequence that is kept; or by the end of its time.
 pub fn registrations_change_by_updates_alone()
-    ensures call { (me : Identity) (k : Known) (now : ℕ) (home : Address) (c : Call) (later : ℕ) → (careof_at (turn_of me k now c).known later home ≡ careof_at k later home) ⊎ IsRegisteredBy me k now c home }
+    ensures call { (me : Identity) (k : Known) (now : ℕ) (home : Address) (c : Call) (later : ℕ) → (careof_at (transition_of me k now c).known later home ≡ careof_at k later home) ⊎ IsRegisteredBy me k now c home }
     ensures time { (k : Known) (home careof : Address) (earlier later : ℕ) → earlier ≤ later → careof_at k later home ≡ Some careof → careof_at k earlier home ≡ Some careof }
 {}
 
@@ -129,14 +130,14 @@ pub fn registrations_change_by_updates_alone()
 /// other that leads to no registration. Only a plan changes the lifetimes of the prefix, and only an advertisement the list of
 /// agents.
 pub fn refused_changes_nothing()
-    ensures refused { (me : Identity) (k : Known) (now number : ℕ) (shield : Option Shield) (bytes : List ℕ) (claim : Claim) → list_any is_refusal (turn_of me k now (Take number shield bytes claim)).steps ≡ true
-        → ((turn_of me k now (Take number shield bytes claim)).known.homes ≡ k.homes) × ((turn_of me k now (Take number shield bytes claim)).known.ends ≡ k.ends) × (list_any is_claim (turn_of me k now (Take number shield bytes claim)).steps ≡ false) }
-    ensures homes { (me : Identity) (k : Known) (now number : ℕ) (shield : Option Shield) (bytes : List ℕ) (claim : Claim) → list_any is_registration (turn_of me k now (Take number shield bytes claim)).steps ≡ false
-        → ((turn_of me k now (Take number shield bytes claim)).known.homes ≡ k.homes) × ((turn_of me k now (Take number shield bytes claim)).known.ends ≡ k.ends) }
-    ensures claims { (me : Identity) (k : Known) (now number : ℕ) (shield : Option Shield) (bytes : List ℕ) (claim : Claim) → list_any is_registration (turn_of me k now (Take number shield bytes claim)).steps ≡ false
-        → list_any is_claim (turn_of me k now (Take number shield bytes claim)).steps ≡ false }
-    ensures agents { (me : Identity) (k : Known) (now : ℕ) (c : Call) → (turn_of me k now c).known.agents ≡ agents_called k.agents now c }
-    ensures plan { (me : Identity) (k : Known) (now : ℕ) (c : Call) → (turn_of me k now c).known.plan ≡ plan_called k.plan now c }
+    ensures refused { (me : Identity) (k : Known) (now number : ℕ) (shield : Option Shield) (bytes : List ℕ) (claim : Claim) → list_any is_refusal (transition_of me k now (Take number shield bytes claim)).steps ≡ true
+        → ((transition_of me k now (Take number shield bytes claim)).known.homes ≡ k.homes) × ((transition_of me k now (Take number shield bytes claim)).known.ends ≡ k.ends) × (list_any is_claim (transition_of me k now (Take number shield bytes claim)).steps ≡ false) }
+    ensures homes { (me : Identity) (k : Known) (now number : ℕ) (shield : Option Shield) (bytes : List ℕ) (claim : Claim) → list_any is_registration (transition_of me k now (Take number shield bytes claim)).steps ≡ false
+        → ((transition_of me k now (Take number shield bytes claim)).known.homes ≡ k.homes) × ((transition_of me k now (Take number shield bytes claim)).known.ends ≡ k.ends) }
+    ensures claims { (me : Identity) (k : Known) (now number : ℕ) (shield : Option Shield) (bytes : List ℕ) (claim : Claim) → list_any is_registration (transition_of me k now (Take number shield bytes claim)).steps ≡ false
+        → list_any is_claim (transition_of me k now (Take number shield bytes claim)).steps ≡ false }
+    ensures agents { (me : Identity) (k : Known) (now : ℕ) (c : Call) → (transition_of me k now c).known.agents ≡ agents_called k.agents now c }
+    ensures plan { (me : Identity) (k : Known) (now : ℕ) (c : Call) → (transition_of me k now c).known.plan ≡ plan_called k.plan now c }
 {}
 
 /// An update is accepted only for a home agent, under the shield of its home address, which is served and of the agent's
@@ -155,26 +156,26 @@ pub fn out_of_window_tells_the_kept()
 /// registration, and else something. So is whatever a call registers.
 pub fn granted_is_bounded()
     ensures verdict { (b : Bench) (shield : Option Shield) (claim : Claim) (r : Registration) (home careof : Address) (sequence granted : ℕ) → verdict b shield claim r ≡ Accept home careof sequence granted → IsBounded b.valid r granted }
-    ensures turn { (me : Identity) (k : Known) (now number : ℕ) (shield : Option Shield) (bytes : List ℕ) (claim : Claim) → list_any is_registration (turn_of me k now (Take number shield bytes claim)).steps ≡ true
-        → IsGranted me k now number shield bytes claim (turn_of me k now (Take number shield bytes claim)).steps }
+    ensures transition { (me : Identity) (k : Known) (now number : ℕ) (shield : Option Shield) (bytes : List ℕ) (claim : Claim) → list_any is_registration (transition_of me k now (Take number shield bytes claim)).steps ≡ true
+        → IsGranted me k now number shield bytes claim (transition_of me k now (Take number shield bytes claim)).steps }
 {}
 
 /// A packet to a registered home goes to its care-of address alone, in a tunnel: under the shield of agent and home where it is a
 /// mobility message.
 pub fn what_is_intercepted_keeps_its_shield()
     ensures { (me : Identity) (k : Known) (now number : ℕ) (shield : Option Shield) (bytes : List ℕ) (claim : Claim) (p : Packet) (careof : Address) → packet_of bytes ≡ Ok p → careof_at k now p.head.destination ≡ Some careof
-        → AllByRecursion (IsTunnelled me.own p careof bytes) (turn_of me k now (Take number shield bytes claim)).steps }
+        → AllByRecursion (IsTunnelled me.own p careof bytes) (transition_of me k now (Take number shield bytes claim)).steps }
 {}
 
 /// A packet goes on out of a tunnel only where that came from the care-of address of its home, and a mobility message only under
 /// the home's shield. An update is acknowledged, and a solicitation answered, only under the shield of the home that it is for.
 pub fn each_packet_goes_by_right()
-    ensures { (me : Identity) (k : Known) (now number : ℕ) (shield : Option Shield) (bytes : List ℕ) (claim : Claim) → AllByRecursion (SendsRightly me k now shield bytes) (turn_of me k now (Take number shield bytes claim)).steps }
+    ensures { (me : Identity) (k : Known) (now number : ℕ) (shield : Option Shield) (bytes : List ℕ) (claim : Claim) → AllByRecursion (SendsRightly me k now shield bytes) (transition_of me k now (Take number shield bytes claim)).steps }
 {}
 
 /// A tick gives up the address of each home whose registration has ended, in order of their ends, and no other; what is left
 /// ends later.
 pub fn a_tick_releases_what_ends()
-    ensures released { (me : Identity) (k : Known) (now : ℕ) → released (turn_of me k now Tick).steps ≡ map (λ e. e.home) (filter (λ e. not (nat_lt now e.end.0)) k.ends) }
-    ensures left { (me : Identity) (k : Known) (now : ℕ) → (turn_of me k now Tick).known.ends ≡ filter (λ e. nat_lt now e.end.0) k.ends }
+    ensures released { (me : Identity) (k : Known) (now : ℕ) → released (transition_of me k now Tick).steps ≡ map (λ e. e.home) (filter (λ e. not (nat_lt now e.end.0)) k.ends) }
+    ensures left { (me : Identity) (k : Known) (now : ℕ) → (transition_of me k now Tick).known.ends ≡ filter (λ e. nat_lt now e.end.0) k.ends }
 {}

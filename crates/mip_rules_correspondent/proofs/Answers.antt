@@ -9,7 +9,7 @@ use Rattle.mip_rules_correspondent.specs.Calls.{Call}
 use Rattle.mip_rules_correspondent.specs.Steps.{Step, Called, Sends, Accepts, Denies, Drops, HandsUp, Idles, answer_of, answers_of}
 use Rattle.mip_rules_correspondent.specs.Questions.{after}
 use Rattle.mip_rules_correspondent.specs.Transitions.{Transition, begun, noted}
-use Rattle.mip_rules_correspondent.specs.Doing.{turn_of}
+use Rattle.mip_rules_correspondent.specs.Doing.{transition_of}
 use Rattle.mip_rules_correspondent.specs.Sendings.{SendsOwn}
 use Rattle.mip_rules_correspondent.specs.Wholes.{IsWhole}
 use Rattle.mip_rules_correspondent.proofs.Wholes.{sending-long}
@@ -39,6 +39,6 @@ whole-noted : (me : Identity) (c : Call) (step : Step) (t : Transition) → Send
 whole-noted me c step t own whole =
     subst AreWhole (sym (answers-noted answer_of after step t)) (whole-append (answers_of t.steps) (answer_of step) whole (whole-step me c t.now step own))
 
-pub call-whole : (me : Identity) (k : Known) (now : ℕ) (c : Call) → GivesWhole (turn_of me k now c)
+pub call-whole : (me : Identity) (k : Known) (now : ℕ) (c : Call) → GivesWhole (transition_of me k now c)
 call-whole me k now c =
     every-call me c GivesWhole (λ step t silent own whole. whole-noted me c step t own whole) (λ t whole. whole-noted me c (Called c) t tt whole) (begun now k) tt

@@ -11,7 +11,7 @@ use Rattle.mip_mobhdr.specs.Said.{Said}
 use Rattle.mip_mobhdr.specs.Said.Said.{Refresh, HomeInit, CareofInit, HomeTest, CareofTest, Update, Acknowledgement, Error}
 use Rattle.mip_mobhdr.specs.Reading.{message_of}
 use Rattle.mip_inspection.specs.Says.{message_in}
-use Rattle.mip_transitions.proofs.TurnLaws.{noted_all, noted_all-is}
+use Rattle.mip_transitions.proofs.TransitionLaws.{noted_all, noted_all-is}
 use Rattle.mip_updates.specs.declared.registration.Registration.{Registration}
 use Rattle.mip_updates.specs.Registrations.{registration, registration_said, registration_in}
 use Rattle.mip_updates.specs.Acks.{ack_packet}
@@ -25,7 +25,7 @@ use Rattle.mip_rules_correspondent.specs.Questions.{after}
 use Rattle.mip_rules_correspondent.specs.Transitions.{Transition, begun, noted}
 use Rattle.mip_rules_correspondent.specs.Verdicts.{verdict}
 use Rattle.mip_rules_correspondent.specs.Rules.{answers_home_init, answers_careof_init, bench, denies, accepts, judged, takes_update, hands_up, by_message}
-use Rattle.mip_rules_correspondent.specs.Doing.{parts, does, turn_of}
+use Rattle.mip_rules_correspondent.specs.Doing.{parts, does, transition_of}
 use Rattle.mip_rules_correspondent.specs.Refusing.{is_refusal}
 use Rattle.mip_rules_correspondent.specs.Taken.{IsUpdateParted}
 use Rattle.mip_rules_correspondent.proofs.Taken.{update_read, AcceptsNone, none_called, none_more}
@@ -117,6 +117,6 @@ module _ (me : Identity) (k : Known) (now number : ℕ) (p : Packet) where
       (update_read p.body s a h l key t o (source_of p.head) (destination_of p.head) (parted_read p (Update s a h l key t o) is)))
   of_message (Some _) is = still
 
-  pub parted_is : Is (turn_of me k now (calls.Part number p))
+  pub parted_is : Is (transition_of me k now (calls.Part number p))
   unfolding does parts
   parted_is = of_message (message_in p) refl

@@ -1,4 +1,4 @@
--- A turn in which no update is accepted leaves the binding cache as it was.
+-- A transition in which no update is accepted leaves the binding cache as it was.
 use Rattle.std.proofs.Common.{◌≡◌, ℕ, List, [], ◌∷◌, ◌⊎◌, inl, inr, true, refl, sym, ap, ◌∙◌, subst}
 use Rattle.std.specs.Prelude.{Bool, false, Option, ◌||◌, if◌then◌else◌}
 use Rattle.std.specs.List.{list_any}
@@ -7,21 +7,21 @@ use Rattle.mip_words.specs.declared.shield.Shield.{Shield}
 use Rattle.mip_ipv6.specs.Packet.{Packet}
 use Rattle.mip_reception.specs.Refusing.{refuses}
 use Rattle.mip_bcache.specs.Seen.{CacheSeen, expired}
-use Rattle.mip_transitions.proofs.TurnLaws.{noted-known, none-parts}
+use Rattle.mip_transitions.proofs.TransitionLaws.{noted-known, none-parts}
 use Rattle.mip_rules_correspondent.specs.declared.identity.Identity.{Identity}
 use Rattle.mip_rules_correspondent.specs.declared.known.Known.{Known}
 use Rattle.mip_rules_correspondent.specs.Calls.{Call, Take, Part, is_tick}
 use Rattle.mip_rules_correspondent.specs.Steps.{Step, Called, Sends, Accepts, Denies, Drops, HandsUp, Idles, answer_of, answers_of, is_acceptance, is_call}
 use Rattle.mip_rules_correspondent.specs.Questions.{cache_after, after}
 use Rattle.mip_rules_correspondent.specs.Transitions.{Transition, begun, noted}
-use Rattle.mip_rules_correspondent.specs.Doing.{does, turn_of}
+use Rattle.mip_rules_correspondent.specs.Doing.{does, transition_of}
 use Rattle.mip_rules_correspondent.specs.Refusing.{is_refusal, hands_over}
 use Rattle.mip_rules_correspondent.specs.Taken.{IsUpdateTaken, IsUpdateParted}
 use Rattle.mip_rules_correspondent.proofs.Taken.{taken_is}
 use Rattle.mip_rules_correspondent.proofs.Parted.{parted_is}
 use Rattle.mip_rules_correspondent.proofs.Walks.{every-handles}
 
--- unless an update is accepted on the way from one turn to another, the cache is the same
+-- unless an update is accepted on the way from one transition to another, the cache is the same
 abbrev pub Keeps : Transition → Transition → Type 0
 Keeps t u = list_any is_acceptance u.steps ≡ false → u.known.cache ≡ t.known.cache
 
@@ -67,28 +67,28 @@ none-accepted : (steps rest : List Step) (call : Call) (accepts : Step) → is_r
 none-accepted steps rest call accepts silent is kept some =
     absurd (let none : list_any is_refusal steps ≡ false = ap (list_any is_refusal) is ∙ ap (λ (c : Bool). c || list_any is_refusal rest) silent ∙ kept in let both : true ≡ false = sym some ∙ none in cc)
 
-refused-take : (me : Identity) (k : Known) (now number : ℕ) (shield : Option Shield) (bytes : List ℕ) → list_any is_refusal (turn_of me k now (Take number shield bytes)).steps ≡ true
-    → list_any is_acceptance (turn_of me k now (Take number shield bytes)).steps ≡ false
+refused-take : (me : Identity) (k : Known) (now number : ℕ) (shield : Option Shield) (bytes : List ℕ) → list_any is_refusal (transition_of me k now (Take number shield bytes)).steps ≡ true
+    → list_any is_acceptance (transition_of me k now (Take number shield bytes)).steps ≡ false
 refused-take me k now number shield bytes some =
-    elim (taken_is me k now number shield bytes).1 as (λ _. list_any is_acceptance (turn_of me k now (Take number shield bytes)).steps ≡ false) [
+    elim (taken_is me k now number shield bytes).1 as (λ _. list_any is_acceptance (transition_of me k now (Take number shield bytes)).steps ≡ false) [
       | inl none ↦ none
-      | inr is ↦ none-accepted (turn_of me k now (Take number shield bytes)).steps is.rest _ _ refl is.steps_are is.kept some
+      | inr is ↦ none-accepted (transition_of me k now (Take number shield bytes)).steps is.rest _ _ refl is.steps_are is.kept some
     ]
 
-refused-part : (me : Identity) (k : Known) (now number : ℕ) (p : Packet) → list_any is_refusal (turn_of me k now (Part number p)).steps ≡ true
-    → list_any is_acceptance (turn_of me k now (Part number p)).steps ≡ false
+refused-part : (me : Identity) (k : Known) (now number : ℕ) (p : Packet) → list_any is_refusal (transition_of me k now (Part number p)).steps ≡ true
+    → list_any is_acceptance (transition_of me k now (Part number p)).steps ≡ false
 refused-part me k now number p some =
-    elim (parted_is me k now number p).1 as (λ _. list_any is_acceptance (turn_of me k now (Part number p)).steps ≡ false) [
+    elim (parted_is me k now number p).1 as (λ _. list_any is_acceptance (transition_of me k now (Part number p)).steps ≡ false) [
       | inl none ↦ none
-      | inr is ↦ none-accepted (turn_of me k now (Part number p)).steps is.rest _ _ refl is.steps_are is.kept some
+      | inr is ↦ none-accepted (transition_of me k now (Part number p)).steps is.rest _ _ refl is.steps_are is.kept some
     ]
 
 -- a packet that is dropped, and one whose update is denied, leaves the cache as it was
-pub refused-keeps : (me : Identity) (k : Known) (now : ℕ) (c : Call) → hands_over c ≡ true → list_any is_refusal (turn_of me k now c).steps ≡ true → (turn_of me k now c).known.cache ≡ k.cache
+pub refused-keeps : (me : Identity) (k : Known) (now : ℕ) (c : Call) → hands_over c ≡ true → list_any is_refusal (transition_of me k now c).steps ≡ true → (transition_of me k now c).known.cache ≡ k.cache
 refused-keeps me k now (Take number shield bytes) over some = keeps-call me (Take number shield bytes) (begun now k) refl (refused-take me k now number shield bytes some)
 refused-keeps me k now (Part number p) over some = keeps-call me (Part number p) (begun now k) refl (refused-part me k now number p some)
 refused-keeps me k now other over some = absurd cc
 
 -- so does a call whose answers tell of a refusal
-pub refused-call : (me : Identity) (k : Known) (now : ℕ) (c : Call) → hands_over c ≡ true → list_any refuses (answers_of (turn_of me k now c).steps) ≡ true → (turn_of me k now c).known.cache ≡ k.cache
-refused-call me k now c over some = refused-keeps me k now c over (sym (steps-refuse (turn_of me k now c).steps) ∙ some)
+pub refused-call : (me : Identity) (k : Known) (now : ℕ) (c : Call) → hands_over c ≡ true → list_any refuses (answers_of (transition_of me k now c).steps) ≡ true → (transition_of me k now c).known.cache ≡ k.cache
+refused-call me k now c over some = refused-keeps me k now c over (sym (steps-refuse (transition_of me k now c).steps) ∙ some)

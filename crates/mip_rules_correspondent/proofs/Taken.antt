@@ -23,7 +23,7 @@ use Rattle.mip_nonce.specs.Window.{number_named}
 use Rattle.mip_tokens.specs.Token.{is_authentic}
 use Rattle.mip_tokens.specs.declared.kbm.Kbm.{Kbm}
 use Rattle.mip_bcache.specs.declared.accepted.Accepted.{Accepted}
-use Rattle.mip_transitions.proofs.TurnLaws.{noted-now, noted_all, noted_all-is, none-noted}
+use Rattle.mip_transitions.proofs.TransitionLaws.{noted-now, noted_all, noted_all-is, none-noted}
 use Rattle.mip_reception.specs.declared.refusal.Refusal.{Refusal}
 use Rattle.mip_reception.specs.declared.address_match.AddressMatch.{AddressMatch}
 use Rattle.mip_reception.specs.Checks.{message_or_refusal, message_at, then_home, is_probe, is_update, checked}
@@ -42,7 +42,7 @@ use Rattle.mip_updates.specs.Registrations.{registration, registration_said, reg
 use Rattle.mip_rules_correspondent.specs.Verdicts.{Bench, by_room, by_sequence, by_key, kbm_of, by_numbers, careof_number, by_indices, verdict}
 use Rattle.mip_updates.specs.Acks.{ack_packet}
 use Rattle.mip_rules_correspondent.specs.Rules.{answers_home_init, answers_careof_init, bench, denies, accepts, judged, takes_update, hands_up, by_message, is_for_part, other_why, by_role, replies, refuses, standing_of, after_checks, place_in, receives}
-use Rattle.mip_rules_correspondent.specs.Doing.{takes, request_refresh, refreshes, transmits, does, turn_of}
+use Rattle.mip_rules_correspondent.specs.Doing.{takes, request_refresh, refreshes, transmits, does, transition_of}
 use Rattle.mip_rules_correspondent.specs.Refusing.{is_refusal}
 use Rattle.mip_rules_correspondent.specs.Taken.{IsUpdateTaken}
 
@@ -245,11 +245,11 @@ module _ (me : Identity) (k : Known) (now number : ℕ) (shield : Option Shield)
       let place = place_in bytes p in
       of_checks p place (checked standing place p) read (checked_message standing place p)
 
-  pub taken_is : Is (turn_of me k now (calls.Take number shield bytes))
+  pub taken_is : Is (transition_of me k now (calls.Take number shield bytes))
   unfolding does takes
   taken_is = of_packet (packet_of bytes) refl
 
-pub refreshed_none : (me : Identity) (k : Known) (now : ℕ) (home : Address) → AcceptsNone now (turn_of me k now (calls.Refresh home))
+pub refreshed_none : (me : Identity) (k : Known) (now : ℕ) (home : Address) → AcceptsNone now (transition_of me k now (calls.Refresh home))
 unfolding does refreshes
 refreshed_none me k now home = by (held_of first.known first.now home)
   where
@@ -260,10 +260,10 @@ refreshed_none me k now home = by (held_of first.known first.now home)
     by None = none_more now _ first refl (none_called k now (calls.Refresh home))
     by (Some careof) = none_more now _ first refl (none_called k now (calls.Refresh home))
 
-pub sent_none : (me : Identity) (k : Known) (now : ℕ) (to : Address) (proto : ℕ) (payload : List ℕ) → AcceptsNone now (turn_of me k now (calls.Send to proto payload))
+pub sent_none : (me : Identity) (k : Known) (now : ℕ) (to : Address) (proto : ℕ) (payload : List ℕ) → AcceptsNone now (transition_of me k now (calls.Send to proto payload))
 unfolding does transmits
 sent_none me k now to proto payload = none_more now _ _ refl (none_called k now (calls.Send to proto payload))
 
-pub ticked_none : (me : Identity) (k : Known) (now : ℕ) → AcceptsNone now (turn_of me k now calls.Tick)
+pub ticked_none : (me : Identity) (k : Known) (now : ℕ) → AcceptsNone now (transition_of me k now calls.Tick)
 unfolding does
 ticked_none me k now = none_called k now calls.Tick

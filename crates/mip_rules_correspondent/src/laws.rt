@@ -25,9 +25,9 @@ ghost use Rattle.mip_transitions.specs.Pasts.{RisesFrom};
 ghost use Rattle.mip_rules_correspondent.specs.Calls.{Call, Take, Part, Refresh, Send, Tick, is_tick};
 ghost use Rattle.mip_rules_correspondent.specs.Steps.{Step, answers_of, is_call, is_acceptance};
 ghost use Rattle.mip_rules_correspondent.specs.Questions.{known, held_of, holds_for, floor_of, is_full_for};
-ghost use Rattle.mip_rules_correspondent.specs.Transitions.{Transition, Stands, with_turn};
+ghost use Rattle.mip_rules_correspondent.specs.Transitions.{Transition, Stands, with_transition};
 ghost use Rattle.mip_rules_correspondent.specs.Pasts.{accepted_in};
-ghost use Rattle.mip_rules_correspondent.specs.Doing.{does, turn_of};
+ghost use Rattle.mip_rules_correspondent.specs.Doing.{does, transition_of};
 ghost use Rattle.mip_rules_correspondent.specs.Sendings.{SendsOwn};
 ghost use Rattle.mip_rules_correspondent.specs.Refusing.{is_refusal, hands_over};
 ghost use Rattle.mip_rules_correspondent.specs.Taken.{IsUpdateTaken, IsUpdateParted};
@@ -40,7 +40,7 @@ pub fn last_is_of_the_last_call()
 
 /// The last moment that a call leaves known is its own.
 pub fn each_call_is_the_last()
-    ensures { (me : Identity) (k : Known) (now : ℕ) (c : Call) → (turn_of me k now c).known.last.0 ≡ now }
+    ensures { (me : Identity) (k : Known) (now : ℕ) (c : Call) → (transition_of me k now c).known.last.0 ≡ now }
 {}
 
 /// After a past whose moments do not fall, the bindings are those of the updates that were accepted in
@@ -59,38 +59,38 @@ pub fn stands_for_what_is_known()
     ensures { (room numbers : ℕ) (past : List (Stamped Step)) (k : Known) → Stands room numbers past k → k ≡ known room numbers past }
 {}
 
-/// Whoever stands for a past stands, after any call, for the past with the call's turn.
+/// Whoever stands for a past stands, after any call, for the past with the call's transition.
 pub fn stands_after_each_call()
-    ensures { (room numbers : ℕ) (past : List (Stamped Step)) (k : Known) (now : ℕ) (me : Identity) (c : Call) → Stands room numbers past k → Stands room numbers (with_turn past (turn_of me k now c)) (turn_of me k now c).known }
+    ensures { (room numbers : ℕ) (past : List (Stamped Step)) (k : Known) (now : ℕ) (me : Identity) (c : Call) → Stands room numbers past k → Stands room numbers (with_transition past (transition_of me k now c)) (transition_of me k now c).known }
 {}
 
 /// Whatever a call gives out is whole.
 pub fn answers_are_whole()
-    ensures { (me : Identity) (k : Known) (now : ℕ) (c : Call) → AllByRecursion IsWhole (answers_of (turn_of me k now c).steps) }
+    ensures { (me : Identity) (k : Known) (now : ℕ) (c : Call) → AllByRecursion IsWhole (answers_of (transition_of me k now c).steps) }
 {}
 
 /// Whatever a call sends is a packet that a correspondent sends at its moment: a test of its own, an acknowledgement, what
 /// goes back to the source of a refused packet, a refresh request, or the data that the call asks for.
 pub fn each_packet_is_its_own()
-    ensures { (me : Identity) (k : Known) (now : ℕ) (c : Call) → AllByRecursion (SendsOwn me c now) (turn_of me k now c).steps }
+    ensures { (me : Identity) (k : Known) (now : ℕ) (c : Call) → AllByRecursion (SendsOwn me c now) (transition_of me k now c).steps }
 {}
 
 /// A packet that is handed over leads to no acceptance, or at once to that of the update in it, with the verdict Accept on
 /// its bytes by what is kept of its home; so does one that is handed to the part of a mobile, and nothing else does.
 pub fn what_is_accepted_was_taken()
-    ensures taken { (me : Identity) (k : Known) (now number : ℕ) (shield : Option Shield) (bytes : List ℕ) → list_any is_acceptance (turn_of me k now (Take number shield bytes)).steps ≡ true
-        → IsUpdateTaken me k now number shield bytes (turn_of me k now (Take number shield bytes)).steps }
-    ensures parted { (me : Identity) (k : Known) (now number : ℕ) (packet : Packet) → list_any is_acceptance (turn_of me k now (Part number packet)).steps ≡ true
-        → IsUpdateParted me k now number packet (turn_of me k now (Part number packet)).steps }
-    ensures refreshed { (me : Identity) (k : Known) (now : ℕ) (home : Address) → list_any is_acceptance (turn_of me k now (Refresh home)).steps ≡ false }
-    ensures sent { (me : Identity) (k : Known) (now : ℕ) (to : Address) (proto : ℕ) (payload : List ℕ) → list_any is_acceptance (turn_of me k now (Send to proto payload)).steps ≡ false }
-    ensures ticked { (me : Identity) (k : Known) (now : ℕ) → list_any is_acceptance (turn_of me k now Tick).steps ≡ false }
+    ensures taken { (me : Identity) (k : Known) (now number : ℕ) (shield : Option Shield) (bytes : List ℕ) → list_any is_acceptance (transition_of me k now (Take number shield bytes)).steps ≡ true
+        → IsUpdateTaken me k now number shield bytes (transition_of me k now (Take number shield bytes)).steps }
+    ensures parted { (me : Identity) (k : Known) (now number : ℕ) (packet : Packet) → list_any is_acceptance (transition_of me k now (Part number packet)).steps ≡ true
+        → IsUpdateParted me k now number packet (transition_of me k now (Part number packet)).steps }
+    ensures refreshed { (me : Identity) (k : Known) (now : ℕ) (home : Address) → list_any is_acceptance (transition_of me k now (Refresh home)).steps ≡ false }
+    ensures sent { (me : Identity) (k : Known) (now : ℕ) (to : Address) (proto : ℕ) (payload : List ℕ) → list_any is_acceptance (transition_of me k now (Send to proto payload)).steps ≡ false }
+    ensures ticked { (me : Identity) (k : Known) (now : ℕ) → list_any is_acceptance (transition_of me k now Tick).steps ≡ false }
 {}
 
 /// A packet that is dropped, and one whose update is denied, changes no row. Neither does any other call that leads to no
 /// acceptance, unless it is for the passing of time.
 pub fn refused_changes_no_row()
-    ensures refused { (me : Identity) (k : Known) (now : ℕ) (c : Call) → hands_over c ≡ true → list_any is_refusal (turn_of me k now c).steps ≡ true → (turn_of me k now c).known.cache ≡ k.cache }
+    ensures refused { (me : Identity) (k : Known) (now : ℕ) (c : Call) → hands_over c ≡ true → list_any is_refusal (transition_of me k now c).steps ≡ true → (transition_of me k now c).known.cache ≡ k.cache }
     ensures silent { (me : Identity) (c : Call) (t : Transition) → is_tick c ≡ false → list_any is_acceptance (does me c t).steps ≡ false → (does me c t).known.cache ≡ t.known.cache }
 {}
 

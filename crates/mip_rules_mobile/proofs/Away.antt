@@ -6,7 +6,7 @@ use Rattle.mip_words.specs.declared.address.Address.{Address}
 use Rattle.mip_nonce.specs.Secrets.{Life}
 use Rattle.mip_entries.specs.declared.answer.Answer.{Answer}
 use Rattle.mip_entries.specs.declared.answer.Answer.TheVariants.{Send, Note}
-use Rattle.mip_transitions.proofs.TurnLaws.{noted-steps}
+use Rattle.mip_transitions.proofs.TransitionLaws.{noted-steps}
 use Rattle.mip_entries.specs.Stamped.{Stamped}
 use Rattle.mip_rules_mobile.specs.declared.attachment.Attachment.{Attachment}
 use Rattle.mip_rules_mobile.specs.declared.attachment.Attachment.TheVariants.{Detached, AtHome, Away}
@@ -21,7 +21,7 @@ use Rattle.mip_rules_mobile.specs.Fitting.{kind_of, OfAck, Steady}
 use Rattle.mip_rules_mobile.specs.MovingRules.{registers_if_away, restarts}
 use Rattle.mip_rules_mobile.specs.Answering.{EachAnswer, LeavesRight, LeavesFrom, IsElsewhere, AreFrom, stays_put}
 use Rattle.mip_rules_mobile.specs.Part.{is_restart}
-use Rattle.mip_rules_mobile.specs.Doing.{does, handles, turn_of}
+use Rattle.mip_rules_mobile.specs.Doing.{does, handles, transition_of}
 use Rattle.mip_rules_mobile.proofs.Told.{home-kept}
 use Rattle.mip_rules_mobile.proofs.Steady.{Goes, Askings, Notings, standing-noted}
 use Rattle.mip_rules_mobile.proofs.HomeWalks.{Acks, every-registers}
@@ -99,7 +99,7 @@ one-more : (home : Address) (steps : List Step) (step : Step) → AllStay home s
 one-more home [] step all one = (one, tt)
 one-more home (s ∷ steps) step all one = (all.0, one-more home steps step all.1 one)
 
--- the steps of a turn so far
+-- the steps of a transition so far
 abbrev Puts : Address → Transition → Type 0
 Puts home t = AllStay home t.steps
 
@@ -154,7 +154,7 @@ module _ (c : Call) (home : Address) where
       by calls.Ask is sure = staying calls.Ask is refl refl
       by (calls.Tunnel inner) is sure = staying (calls.Tunnel inner) is refl refl
 
-call-stays : (k : Known) (now : ℕ) (c : Call) → stays_put c ≡ true → AllStay (home_of k) (turn_of k now c).steps
+call-stays : (k : Known) (now : ℕ) (c : Call) → stays_put c ≡ true → AllStay (home_of k) (transition_of k now c).steps
 unfolding does
 call-stays k now c stays = every-stays c (home_of k) stays (noted (Called c) (begun now k)) (puts-noted (home_of k) (Called c) (begun now k) refl tt)
 
@@ -182,6 +182,6 @@ along now home careof k (step ∷ steps) here same stays each =
     both careof (answer_of step) (answers_of steps) (from-answers k careof here (answer_of step) each.0)
     (along now home careof (after k s) steps (stands-on k s home careof here same stays.0) (home-kept k s ∙ same) stays.1 each.1)
 
-pub away-call : (k : Known) (now : ℕ) (c : Call) (careof : Address) → k.standing ≡ Away careof → IsElsewhere k → stays_put c ≡ true → AreFrom careof (answers_of (turn_of k now c).steps)
+pub away-call : (k : Known) (now : ℕ) (c : Call) (careof : Address) → k.standing ≡ Away careof → IsElsewhere k → stays_put c ≡ true → AreFrom careof (answers_of (transition_of k now c).steps)
 away-call k now c careof here elsewhere stays =
-    along now (home_of k) careof k (turn_of k now c).steps here refl (call-stays k now c stays) (call-leaves k now c elsewhere)
+    along now (home_of k) careof k (transition_of k now c).steps here refl (call-stays k now c stays) (call-leaves k now c elsewhere)

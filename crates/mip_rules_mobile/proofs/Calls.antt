@@ -7,13 +7,13 @@ use Rattle.mip_words.specs.declared.moment.Moment.{Moment}
 use Rattle.mip_nonce.specs.Secrets.{Life}
 use Rattle.mip_entries.specs.Stamped.{Stamped}
 use Rattle.mip_transitions.specs.Transitions.{StandsBy}
-use Rattle.mip_transitions.proofs.TurnLaws.{noted-now, noted-known, stands-noted, stands-begun}
+use Rattle.mip_transitions.proofs.TransitionLaws.{noted-now, noted-known, stands-noted, stands-begun}
 use Rattle.mip_rules_mobile.specs.Calls.{Call}
 use Rattle.mip_rules_mobile.specs.Steps.{Step, Called, Parts, Notes, Drops, is_call}
 use Rattle.mip_rules_mobile.specs.Known.{Known}
 use Rattle.mip_rules_mobile.specs.Questions.{last_after, after, fresh, known}
-use Rattle.mip_rules_mobile.specs.Transitions.{Transition, begun, noted, Stands, with_turn}
-use Rattle.mip_rules_mobile.specs.Doing.{does, turn_of}
+use Rattle.mip_rules_mobile.specs.Transitions.{Transition, begun, noted, Stands, with_transition}
+use Rattle.mip_rules_mobile.specs.Doing.{does, transition_of}
 use Rattle.mip_rules_mobile.proofs.Walks.{every-handles, every-call}
 
 -- whoever stands for a past knows what it leaves known
@@ -22,10 +22,10 @@ unfolding known StandsBy
 stands-known home declared numbers secrets past k stands = stands
 
 pub call-stands : (home : Address) (declared : Option Address) (numbers : ℕ) (secrets : Life) (past : List (Stamped Step)) (k : Known) (now : ℕ) (c : Call)
-    → Stands home declared numbers secrets past k → Stands home declared numbers secrets (with_turn past (turn_of k now c)) (turn_of k now c).known
+    → Stands home declared numbers secrets past k → Stands home declared numbers secrets (with_transition past (transition_of k now c)) (transition_of k now c).known
 call-stands home declared numbers secrets past k now c stands =
     let first = fresh home declared numbers secrets in
-    every-call c (λ (t : Transition). Stands home declared numbers secrets (with_turn past t) t.known)
+    every-call c (λ (t : Transition). Stands home declared numbers secrets (with_transition past t) t.known)
     (λ step t steady fits s. stands-noted after first past step t s)
     (λ call t s. stands-noted after first past (Parts call) t s)
     (λ entry t own s. stands-noted after first past (Notes entry) t s)
@@ -39,7 +39,7 @@ last-noted : (step : Step) (t : Transition) → (noted step t).known.last ≡ la
 unfolding after
 last-noted step t = ap (λ (k : Known). k.last) (noted-known after step t)
 
--- the turn is at this moment, and so is the last that is known
+-- the transition is at this moment, and so is the last that is known
 abbrev IsAt : ℕ → Transition → Type 0
 IsAt now t = (t.now ≡ now) × (t.known.last.0 ≡ now)
 
@@ -50,8 +50,8 @@ at-noted now step t is = (noted-now after step t ∙ is.0, ap (λ (m : Moment). 
     by true = is.0
     by false = is.1
 
--- a call's turn is at this moment, and leaves it known
-call-at : (k : Known) (now : ℕ) (c : Call) → IsAt now (turn_of k now c)
+-- a call's transition is at this moment, and leaves it known
+call-at : (k : Known) (now : ℕ) (c : Call) → IsAt now (transition_of k now c)
 unfolding does
 call-at k now c =
     let first = noted (Called c) (begun now k) in
@@ -64,8 +64,8 @@ call-at k now c =
     (λ number why t right is. at-noted now (Drops number why) t is)
     first (noted-now after (Called c) (begun now k), ap (λ (m : Moment). m.0) (last-noted (Called c) (begun now k)))
 
-pub call-now : (k : Known) (now : ℕ) (c : Call) → (turn_of k now c).now ≡ now
+pub call-now : (k : Known) (now : ℕ) (c : Call) → (transition_of k now c).now ≡ now
 call-now k now c = let is = call-at k now c in is.0
 
-pub call-last : (k : Known) (now : ℕ) (c : Call) → (turn_of k now c).known.last.0 ≡ now
+pub call-last : (k : Known) (now : ℕ) (c : Call) → (transition_of k now c).known.last.0 ≡ now
 call-last k now c = let is = call-at k now c in is.1

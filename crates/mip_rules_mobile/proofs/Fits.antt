@@ -2,13 +2,13 @@
 use Rattle.std.proofs.Common.{◌≡◌, ℕ, List, [], ◌∷◌, ◌++◌, refl, sym, ap, ◌∙◌, subst}
 use Rattle.mip_entries.specs.Stamped.{stamped}
 use Rattle.mip_transitions.specs.Transitions.{known_by}
-use Rattle.mip_transitions.proofs.TurnLaws.{noted-now, noted-known, noted-steps}
+use Rattle.mip_transitions.proofs.TransitionLaws.{noted-now, noted-known, noted-steps}
 use Rattle.mip_rules_mobile.specs.Calls.{Call}
 use Rattle.mip_rules_mobile.specs.Steps.{Step, Called, Parts, Notes, Drops}
 use Rattle.mip_rules_mobile.specs.Known.{Known}
 use Rattle.mip_rules_mobile.specs.Questions.{after}
 use Rattle.mip_rules_mobile.specs.Transitions.{Transition, begun, noted}
-use Rattle.mip_rules_mobile.specs.Doing.{turn_of}
+use Rattle.mip_rules_mobile.specs.Doing.{transition_of}
 use Rattle.mip_rules_mobile.specs.Fitting.{Fits, EachFits}
 use Rattle.mip_rules_mobile.proofs.Walks.{every-call}
 
@@ -25,7 +25,7 @@ module _ (c : Call) (now : ℕ) where
   fits-push k [] step each fits = (fits, tt)
   fits-push k (s ∷ steps) step each fits = (each.0, fits-push (after k (record { at = now; step = s })) steps step each.1 fits)
 
-  -- the turn is at this moment, knows what its steps leave known, and each of them fits
+  -- the transition is at this moment, knows what its steps leave known, and each of them fits
   pub record IsAlong (k : Known) (t : Transition) : Type 0 where
     pub moment : t.now ≡ now
     pub known : t.known ≡ known_along k now t.steps
@@ -46,7 +46,7 @@ module _ (c : Call) (now : ℕ) where
         (subst (λ (l : Known). Fits c now l step) is.known (subst (λ (n : ℕ). Fits c n t.known step) is.moment fits)));
   }
 
-pub call-along : (k : Known) (now : ℕ) (c : Call) → IsAlong c now k (turn_of k now c)
+pub call-along : (k : Known) (now : ℕ) (c : Call) → IsAlong c now k (transition_of k now c)
 call-along k now c =
     every-call c (IsAlong c now k)
     (λ step t steady fits is. along-noted c now k step t fits is)
@@ -58,5 +58,5 @@ call-along k now c =
     (λ t is. along-noted c now k (Called c) t refl is)
     (begun now k) (record { moment = refl; known = refl; each = tt })
 
-pub call-fits : (k : Known) (now : ℕ) (c : Call) → EachFits c now k (turn_of k now c).steps
+pub call-fits : (k : Known) (now : ℕ) (c : Call) → EachFits c now k (transition_of k now c).steps
 call-fits k now c = let is = call-along k now c in is.each

@@ -5,7 +5,7 @@ use Rattle.std.specs.List.{AllByRecursion}
 use Rattle.mip_words.specs.declared.address.Address.{Address}
 use Rattle.mip_nonce.specs.Secrets.{Life}
 use Rattle.mip_outside.specs.declared.claim.Claim.{Claim}
-use Rattle.mip_transitions.proofs.TurnLaws.{noted-known}
+use Rattle.mip_transitions.proofs.TransitionLaws.{noted-known}
 use Rattle.mip_constants.specs.Constants.{initial_dhaad_timeout}
 use Rattle.mip_rules_mobile.specs.declared.peer.Peer.{Peer}
 use Rattle.mip_rules_mobile.specs.declared.attachment.Attachment.{Attachment}
@@ -22,7 +22,7 @@ use Rattle.mip_rules_mobile.specs.Transitions.{Transition, begun, noted}
 use Rattle.mip_rules_mobile.specs.TrialRules.{each_row}
 use Rattle.mip_rules_mobile.specs.HomeRules.{seeks, registers_with, wait_behind, registers_at, registers}
 use Rattle.mip_rules_mobile.specs.MovingRules.{releases, unbinds, leaves, registers_if_away, restarts}
-use Rattle.mip_rules_mobile.specs.Doing.{does, turn_of}
+use Rattle.mip_rules_mobile.specs.Doing.{does, transition_of}
 use Rattle.mip_rules_mobile.specs.Leaving.{IsUnbound, HasForgotten}
 
 all-unbound : (peers : List Peer) → AllByRecursion IsUnbound (map unbound peers)
@@ -35,7 +35,7 @@ unfolding after
 detached k at = record { nowhere = refl; unregistered = refl; unbound = all-unbound k.peers; idle = refl; silent = refl }
 
 -- once it was asked to leave
-pub left : (k : Known) (now : ℕ) (of_home : Claim) → HasForgotten (turn_of k now (calls.Leave of_home)).known
+pub left : (k : Known) (now : ℕ) (of_home : Claim) → HasForgotten (transition_of k now (calls.Leave of_home)).known
 unfolding does leaves
 left k now of_home =
     let first = noted (Called (calls.Leave of_home)) (begun now k) in
@@ -66,7 +66,7 @@ registers-draws careof t = by (target_of t.known)
         cookies-noted (Waits resending_home (wait_behind t.known.latest)) (noted sends t) ∙ cookies-noted sends t
 
 -- each later life
-pub restarted : (k : Known) (now : ℕ) (secrets : Life) → (turn_of k now (calls.Restart secrets)).known.cookies ≡ 0
+pub restarted : (k : Known) (now : ℕ) (secrets : Life) → (transition_of k now (calls.Restart secrets)).known.cookies ≡ 0
 unfolding does restarts
 restarted k now secrets = by first.known.standing
   where

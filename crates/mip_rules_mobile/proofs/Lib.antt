@@ -28,5 +28,5 @@ pub mod Kept
 pub mod Refusals
 pub mod Away
 pub mod PartLives
-pub mod PartTurns
+pub mod PartTransitions
 pub mod Shielding

@@ -41,7 +41,7 @@ module _ (c : Call) (P : Transition → Type 0) (more : Goes c P) where
 pub out-stays : (c : Call) (s : Attachment) (me : Identity) (now : ℕ) (inner : Inner) (t : Transition) → IsInner c t.known.part.identity t.now inner → Stays s me now t → Stays s me now (goes_out inner t)
 out-stays c s me now inner t is stays = every-goes_out c (Stays s me now) (staying c s me now) inner t is stays
 
--- a packet of the part is one at the turn too
+-- a packet of the part is one at the transition too
 pub of-part : (c : Call) (s : Attachment) (me : Identity) (now : ℕ) (packet : List ℕ) (t : Transition) → Stays s me now t → IsOfPart c me now packet → IsOfPart c t.known.part.identity t.now packet
 of-part c s me now packet t stays is =
     subst (λ (n : ℕ). IsOfPart c t.known.part.identity n packet) (sym stays.moment)

@@ -7,7 +7,7 @@ use Rattle.mip_rules_correspondent.specs.declared.identity.Identity.{Identity}
 use Rattle.mip_rules_correspondent.specs.declared.known.Known as kept
 use Rattle.mip_rules_correspondent.specs.Calls as parts
 use Rattle.mip_rules_correspondent.specs.Steps.{Step, Called, Sends, Accepts, Denies, Drops, HandsUp, Idles, answer_of, answers_of}
-use Rattle.mip_rules_correspondent.specs.Doing.{turn_of}
+use Rattle.mip_rules_correspondent.specs.Doing.{transition_of}
 use Rattle.mip_rules_correspondent.specs.Sendings.{SendsOwn}
 use Rattle.mip_rules_correspondent.specs.Wholes.{is_own}
 use Rattle.mip_rules_correspondent.proofs.Sendings.{call-own}
@@ -37,5 +37,5 @@ module _ (c : Call) (me : Identity) (now : ℕ) where
     steps-part [] all = tt
     steps-part (step ∷ steps) all = all-append (answer_of step) (answers_of steps) (step-part step all.0) (steps-part steps all.1)
 
-pub part-answers : (c : Call) (me : Identity) (k : kept.Known) (now : ℕ) (call : parts.Call) → IsAsked c call → AllByRecursion (IsPartAnswer c me now) (answers_of (turn_of me k now call).steps)
-part-answers c me k now call asked = steps-part c me now call asked (turn_of me k now call).steps (call-own me k now call)
+pub part-answers : (c : Call) (me : Identity) (k : kept.Known) (now : ℕ) (call : parts.Call) → IsAsked c call → AllByRecursion (IsPartAnswer c me now) (answers_of (transition_of me k now call).steps)
+part-answers c me k now call asked = steps-part c me now call asked (transition_of me k now call).steps (call-own me k now call)

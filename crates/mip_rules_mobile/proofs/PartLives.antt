@@ -6,9 +6,9 @@ use Rattle.mip_nonce.specs.Secrets.{Life}
 use Rattle.mip_entries.specs.Stamped.{Stamped}
 use Rattle.mip_rules_correspondent.specs.declared.known.Known as kept
 use Rattle.mip_rules_correspondent.specs.Calls as parts
-use Rattle.mip_rules_correspondent.specs.Transitions.{with_turn}
+use Rattle.mip_rules_correspondent.specs.Transitions.{with_transition}
 use Rattle.mip_rules_correspondent.specs.Questions as part_questions
-use Rattle.mip_rules_correspondent.specs.Seen.{CorrespondentSeen, turn_at}
+use Rattle.mip_rules_correspondent.specs.Seen.{CorrespondentSeen, transition_at}
 use Rattle.mip_rules_correspondent.proofs.Pasts as part_pasts
 use Rattle.mip_rules_correspondent.proofs.Calls as part_calls
 use Rattle.mip_rules_mobile.specs.Steps.{Step, Parts, Restarts}
@@ -17,12 +17,12 @@ use Rattle.mip_rules_mobile.specs.HomeQuestions.{home_of, numbers_of}
 use Rattle.mip_rules_mobile.specs.Questions.{part_room, part_after, after, fresh, known}
 use Rattle.mip_rules_mobile.specs.Part.{PartLife, part_of, part_goes_on, new_part, part_life}
 
--- a turn of the part leaves known what its past with the turn does
-turn_known : (home : Address) (numbers : ℕ) (p : PartLife) (at : ℕ) (call : parts.Call)
-    → (turn_at (part_of home numbers p) at call).known ≡ part_questions.known part_room numbers (with_turn p.past (turn_at (part_of home numbers p) at call))
-turn_known home numbers p at call =
+-- a transition of the part leaves known what its past with the transition does
+transition_known : (home : Address) (numbers : ℕ) (p : PartLife) (at : ℕ) (call : parts.Call)
+    → (transition_at (part_of home numbers p) at call).known ≡ part_questions.known part_room numbers (with_transition p.past (transition_at (part_of home numbers p) at call))
+transition_known home numbers p at call =
     let c = part_of home numbers p in
-    part_pasts.stands-known part_room numbers (with_turn p.past (turn_at c at call)) (turn_at c at call).known
+    part_pasts.stands-known part_room numbers (with_transition p.past (transition_at c at call)) (transition_at c at call).known
     (part_calls.call-stands part_room numbers p.past c.known at c.identity call (part_pasts.known-stands part_room numbers p.past c.known refl))
 
 fresh_known : (numbers : ℕ) → part_questions.fresh part_room numbers ≡ part_questions.known part_room numbers []
@@ -31,7 +31,7 @@ fresh_known numbers = refl
 
 step_is : (home : Address) (numbers : ℕ) (p : PartLife) (at : ℕ) (step : Step) → part_after (part_of home numbers p) at step ≡ part_of home numbers (part_goes_on home numbers p at step)
 step_is home numbers p at (Parts call) =
-    ap (λ (k : kept.Known). let c : CorrespondentSeen = record { identity = record { own = home; secrets = p.secrets; room = part_room }; known = k } in c) (turn_known home numbers p at call)
+    ap (λ (k : kept.Known). let c : CorrespondentSeen = record { identity = record { own = home; secrets = p.secrets; room = part_room }; known = k } in c) (transition_known home numbers p at call)
 step_is home numbers p at (Restarts secrets) =
     ap (λ (k : kept.Known). let c : CorrespondentSeen = record { identity = record { own = home; secrets = secrets; room = part_room }; known = k } in c)
     (ap (part_questions.fresh part_room) (part_pasts.known-numbers part_room numbers p.past) ∙ fresh_known numbers)

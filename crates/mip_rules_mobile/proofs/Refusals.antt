@@ -13,7 +13,7 @@ use Rattle.mip_inspection.specs.Says.{message_in}
 use Rattle.mip_entries.specs.declared.answer.Answer.{Answer}
 use Rattle.mip_entries.specs.declared.answer.Answer.TheVariants.{Send, Note}
 use Rattle.mip_entries.specs.declared.entry.Entry.{Entry}
-use Rattle.mip_transitions.proofs.TurnLaws.{noted-known, noted_all, noted_all-is, none-noted}
+use Rattle.mip_transitions.proofs.TransitionLaws.{noted-known, noted_all, noted_all-is, none-noted}
 use Rattle.mip_reception.specs.declared.reply.Reply.{Reply}
 use Rattle.mip_reception.specs.declared.refusal.Refusal.{Refusal}
 use Rattle.mip_reception.specs.Replies.{reply_packet}
@@ -29,7 +29,7 @@ use Rattle.mip_bcache.specs.Seen.{CacheSeen}
 use Rattle.mip_rules_correspondent.specs.Seen.{called}
 use Rattle.mip_rules_correspondent.specs.Steps as part_steps
 use Rattle.mip_rules_correspondent.specs.Questions as part_questions
-use Rattle.mip_rules_correspondent.specs.Transitions as part_turns
+use Rattle.mip_rules_correspondent.specs.Transitions as part_transitions
 use Rattle.mip_rules_correspondent.specs.Rules as part_rules
 use Rattle.mip_rules_correspondent.specs.Doing as part_doing
 use Rattle.mip_rules_correspondent.proofs.Refusals.{keeps-call}
@@ -47,7 +47,7 @@ use Rattle.mip_rules_mobile.specs.Questions.{after}
 use Rattle.mip_rules_mobile.specs.Transitions.{Transition, begun, noted}
 use Rattle.mip_rules_mobile.specs.OutRules.{tunnels, goes_from, goes_out, passes_all, part_answers, asks_part, goes_back, replies}
 use Rattle.mip_rules_mobile.specs.ReceivingRules.{then_meets, takes_for_part, refuses}
-use Rattle.mip_rules_mobile.specs.Doing.{does, turn_of}
+use Rattle.mip_rules_mobile.specs.Doing.{does, transition_of}
 use Rattle.mip_rules_mobile.specs.Coming.{IsOfTake}
 use Rattle.mip_rules_mobile.specs.Fitting.{OfAck, Steady, kind_of}
 use Rattle.mip_rules_mobile.specs.Refusing.{tells_of_refusal, is_refusal, tables_of}
@@ -207,22 +207,22 @@ module _ (me : Identity) (k : kept.Known) (now number : ℕ) (packet : Packet) w
   abbrev call : part_steps.Step
   call = part_steps.Called (parts.Part number packet)
 
-  abbrev given : part_turns.Transition
-  given = part_turns.noted call (part_turns.begun now k)
+  abbrev given : part_transitions.Transition
+  given = part_transitions.noted call (part_transitions.begun now k)
 
-  abbrev AnswersOf : part_turns.Transition → Type 0
+  abbrev AnswersOf : part_transitions.Transition → Type 0
   AnswersOf u = AllByRecursion AnswersQuietly (part_steps.answers_of u.steps)
 
-  abbrev Decides : part_turns.Transition → Type 0
+  abbrev Decides : part_transitions.Transition → Type 0
   Decides u = (list_any part_steps.is_acceptance u.steps ≡ false) ⊎ AnswersOf u
 
   -- steps behind the call, none of them an acceptance
   none : (steps : List part_steps.Step) → list_any part_steps.is_acceptance steps ≡ false → Decides (noted_all part_questions.after steps given)
-  none steps calm = inl (ap (λ (u : part_turns.Transition). list_any part_steps.is_acceptance u.steps) (noted_all-is part_questions.after (call ∷ steps) (part_turns.begun now k)) ∙ calm)
+  none steps calm = inl (ap (λ (u : part_transitions.Transition). list_any part_steps.is_acceptance u.steps) (noted_all-is part_questions.after (call ∷ steps) (part_transitions.begun now k)) ∙ calm)
 
   -- steps behind the call, whose answers tell of no refusal
   told : (steps : List part_steps.Step) → AllByRecursion AnswersQuietly (part_steps.answers_of steps) → AnswersOf (noted_all part_questions.after steps given)
-  told steps all = subst AnswersOf (sym (noted_all-is part_questions.after (call ∷ steps) (part_turns.begun now k))) all
+  told steps all = subst AnswersOf (sym (noted_all-is part_questions.after (call ∷ steps) (part_transitions.begun now k))) all
 
   of-verdict : (r : Registration) (v : Verdict) → Decides (part_rules.judged me number r v given)
   unfolding part_rules.denies part_rules.accepts
@@ -230,10 +230,10 @@ module _ (me : Identity) (k : kept.Known) (now number : ℕ) (packet : Packet) w
   of-verdict r (Deny status last kbm) = none (part_steps.Denies number status ∷ part_steps.Sends (ack_packet me.own r status last 0 kbm) ∷ []) refl
   of-verdict r (Accept home binding accepted granted kbm) = by r.ack
     where
-      first : part_turns.Transition
-      first = part_turns.noted (part_steps.Accepts number home binding accepted) given
+      first : part_transitions.Transition
+      first = part_transitions.noted (part_steps.Accepts number home binding accepted) given
 
-      by : (ack : Bool) → Decides (let u : part_turns.Transition = (if ack then part_turns.noted (part_steps.Sends (ack_packet me.own r 0 r.sequence granted (Some kbm))) first else first) in u)
+      by : (ack : Bool) → Decides (let u : part_transitions.Transition = (if ack then part_transitions.noted (part_steps.Sends (ack_packet me.own r 0 r.sequence granted (Some kbm))) first else first) in u)
       by true = inr (told (part_steps.Accepts number home binding accepted ∷ part_steps.Sends (ack_packet me.own r 0 r.sequence granted (Some kbm)) ∷ []) (refl, (tt, tt)))
       by false = inr (told (part_steps.Accepts number home binding accepted ∷ []) (refl, tt))
 
@@ -251,12 +251,12 @@ module _ (me : Identity) (k : kept.Known) (now number : ℕ) (packet : Packet) w
       of-verdict r (verdict (part_rules.bench me given.known given.now r) r packet.body)
   of-message (Some _) is = absurd cc
 
-  decides : (message : Option Said) → message_in packet ≡ message → is_for_part packet.head.proto message ≡ true → Decides (part_doing.turn_of me k now (parts.Part number packet))
+  decides : (message : Option Said) → message_in packet ≡ message → is_for_part packet.head.proto message ≡ true → Decides (part_doing.transition_of me k now (parts.Part number packet))
   unfolding part_doing.does part_doing.parts
   decides message read mine = subst (λ (o : Option Said). Decides (part_rules.by_message me number packet o given)) (sym read) (of-message message mine)
 
   -- where data is handed up, nothing is refused
-  data-quiet : message_in packet ≡ None → AnswersOf (part_doing.turn_of me k now (parts.Part number packet))
+  data-quiet : message_in packet ≡ None → AnswersOf (part_doing.transition_of me k now (parts.Part number packet))
   unfolding part_doing.does part_doing.parts part_rules.hands_up
   data-quiet read = subst (λ (o : Option Said). AnswersOf (part_rules.by_message me number packet o given)) (sym read) (told (up ∷ []) (refl, tt))
 
@@ -306,10 +306,10 @@ module _ (c : Call) (t : Transition) (quiet : IsQuiet t) where
           (every-meets c IsQuiet (goes-quiet c) (source_of packet.head) (passes_all (part_answers t call) first) (passes-quiet (part_answers t call) all first calm))
       met false all = quiet-keeps (passes_all (part_answers t call) first) (passes-quiet (part_answers t call) all first calm)
 
-      alone : (list_any part_steps.is_acceptance (part_doing.turn_of me t.known.part.known t.now call).steps ≡ false) ⊎ AllByRecursion AnswersQuietly (part_answers t call) → Keeps (passes_all (part_answers t call) first)
+      alone : (list_any part_steps.is_acceptance (part_doing.transition_of me t.known.part.known t.now call).steps ≡ false) ⊎ AllByRecursion AnswersQuietly (part_answers t call) → Keeps (passes_all (part_answers t call) first)
       alone (inl none) some =
           ap tables_of (passes-same (part_answers t call) first)
-          ∙ parted-tables call t (keeps-call me call (part_turns.begun t.now t.known.part.known) refl none)
+          ∙ parted-tables call t (keeps-call me call (part_transitions.begun t.now t.known.part.known) refl none)
       alone (inr all) some = quiet-keeps (passes_all (part_answers t call) first) (passes-quiet (part_answers t call) all first calm) some
 
       by : (message : Option Said) → message_in packet ≡ message → is_for_part packet.head.proto message ≡ true → (tunnelled : Bool)
@@ -323,8 +323,8 @@ called-tables : (c : Call) (k : Known) (now : ℕ) → tables_of (noted (Called 
 unfolding after
 called-tables c k now = ap tables_of (noted-known after (Called c) (begun now k))
 
-pub refused-keeps : (k : Known) (now number : ℕ) (shield : Option Shield) (bytes : List ℕ) → list_any is_refusal (turn_of k now (calls.Take number shield bytes)).steps ≡ true
-    → tables_of (turn_of k now (calls.Take number shield bytes)).known ≡ tables_of k
+pub refused-keeps : (k : Known) (now number : ℕ) (shield : Option Shield) (bytes : List ℕ) → list_any is_refusal (transition_of k now (calls.Take number shield bytes)).steps ≡ true
+    → tables_of (transition_of k now (calls.Take number shield bytes)).known ≡ tables_of k
 unfolding does
 refused-keeps k now number shield bytes some =
     let c : Call = calls.Take number shield bytes in

@@ -1,14 +1,14 @@
 -- Whose word each step of a call takes, and what stands right before it.
 use Rattle.std.proofs.Common.{◌≡◌, ℕ, List, [], ◌∷◌, ◌++◌, refl, sym, subst}
 use Rattle.std.specs.Prelude.{Option, Some, None}
-use Rattle.mip_transitions.proofs.TurnLaws.{noted-steps}
+use Rattle.mip_transitions.proofs.TransitionLaws.{noted-steps}
 use Rattle.mip_rules_mobile.specs.Calls.{Call}
 use Rattle.mip_rules_mobile.specs.Trials.{HomeTest, Acknowledge}
 use Rattle.mip_rules_mobile.specs.Steps.{Step, Called, Parts, Notes, Drops, Registers, Unregisters, IsRefused, Resequences, Tries, Binds}
 use Rattle.mip_rules_mobile.specs.Known.{Known}
 use Rattle.mip_rules_mobile.specs.Questions.{after}
 use Rattle.mip_rules_mobile.specs.Transitions.{Transition, begun, noted}
-use Rattle.mip_rules_mobile.specs.Doing.{turn_of}
+use Rattle.mip_rules_mobile.specs.Doing.{transition_of}
 use Rattle.mip_rules_mobile.specs.Resting.{EachStep, IsAgentsAnswer, IsPeersAnswer, IsTestTunnelled, IsLed, AreLed, last_step}
 use Rattle.mip_rules_mobile.specs.Fitting.{Fits, EachFits, kind_of, OfMove, Steady}
 use Rattle.mip_rules_mobile.proofs.Fits.{call-fits}
@@ -35,14 +35,14 @@ test-tunnelled : (c : Call) (now : ℕ) (k : Known) (step : Step) → Fits c now
 test-tunnelled c now k (Tries row (HomeTest peer cookie test)) fits = fits.way refl
 test-tunnelled c now k _ fits = tt
 
-pub call-agents : (k : Known) (now : ℕ) (c : Call) → EachStep (IsAgentsAnswer c) now k (turn_of k now c).steps
-call-agents k now c = each-step (IsAgentsAnswer c) c now (agents-answer c now) k (turn_of k now c).steps (call-fits k now c)
+pub call-agents : (k : Known) (now : ℕ) (c : Call) → EachStep (IsAgentsAnswer c) now k (transition_of k now c).steps
+call-agents k now c = each-step (IsAgentsAnswer c) c now (agents-answer c now) k (transition_of k now c).steps (call-fits k now c)
 
-pub call-peers : (k : Known) (now : ℕ) (c : Call) → EachStep (IsPeersAnswer c now) now k (turn_of k now c).steps
-call-peers k now c = each-step (IsPeersAnswer c now) c now (peers-answer c now) k (turn_of k now c).steps (call-fits k now c)
+pub call-peers : (k : Known) (now : ℕ) (c : Call) → EachStep (IsPeersAnswer c now) now k (transition_of k now c).steps
+call-peers k now c = each-step (IsPeersAnswer c now) c now (peers-answer c now) k (transition_of k now c).steps (call-fits k now c)
 
-pub call-tests : (k : Known) (now : ℕ) (c : Call) → EachStep (IsTestTunnelled c now) now k (turn_of k now c).steps
-call-tests k now c = each-step (IsTestTunnelled c now) c now (test-tunnelled c now) k (turn_of k now c).steps (call-fits k now c)
+pub call-tests : (k : Known) (now : ℕ) (c : Call) → EachStep (IsTestTunnelled c now) now k (transition_of k now c).steps
+call-tests k now c = each-step (IsTestTunnelled c now) c now (test-tunnelled c now) k (transition_of k now c).steps (call-fits k now c)
 
 -- one step more
 led-push : (before : Option Step) (steps : List Step) (step : Step) → IsLed (last_step before steps) step → AreLed before steps → AreLed before (steps ++ step ∷ [])
@@ -60,7 +60,7 @@ move-led : (before : Option Step) (step : Step) → kind_of step ≡ OfMove → 
 move-led before (Binds row peer end renew) is = absurd cc
 move-led before _ is = tt
 
-pub call-led : (k : Known) (now : ℕ) (c : Call) → AreLed None (turn_of k now c).steps
+pub call-led : (k : Known) (now : ℕ) (c : Call) → AreLed None (transition_of k now c).steps
 call-led k now c =
     every-call c (λ (t : Transition). AreLed None t.steps)
     (λ step t steady fits are. led-noted step t (steady-led (last_step None t.steps) step steady) are)

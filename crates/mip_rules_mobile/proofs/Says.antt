@@ -27,7 +27,7 @@ use Rattle.mip_rules_mobile.specs.Calls as calls
 use Rattle.mip_rules_mobile.specs.Calls.{Call}
 use Rattle.mip_rules_mobile.specs.Sendings.{Inner, OfPart, AsksHome, Given, Sending, FromHome, ByTunnel, AsksCareof, RegistersHome, DeregistersHome, SendsData, Discovers, Solicits, PeerUpdate, inner_packet, registration_packet, deregistration_packet, data_head, discovery_packet, solicitation_packet, packet_of_sending, update_bytes, update_packet}
 use Rattle.mip_rules_mobile.specs.Known.{Known}
-use Rattle.mip_rules_mobile.specs.Doing.{turn_of}
+use Rattle.mip_rules_mobile.specs.Doing.{transition_of}
 use Rattle.mip_rules_mobile.specs.Fitting.{IsAsked, IsInner, IsSentBy}
 use Rattle.mip_rules_mobile.specs.Answering.{EachAnswer, SendsPlainData, SaysOwn, NoTest, OwnHomeTest, OwnCareofTest, Asked, SaysRight}
 use Rattle.mip_rules_mobile.proofs.Fits.{call-fits}
@@ -124,8 +124,8 @@ module _ (c : Call) (plain : SendsPlainData c) (me : Identity) (now : ℕ) where
       by true = message_says_no_test _ _ refl refl
       by false = message_says_no_test _ _ refl refl
 
-pub call-says : (k : Known) (now : ℕ) (c : Call) → SendsPlainData c → EachAnswer (SaysRight c now) now k (turn_of k now c).steps
+pub call-says : (k : Known) (now : ℕ) (c : Call) → SendsPlainData c → EachAnswer (SaysRight c now) now k (transition_of k now c).steps
 call-says k now c plain =
     each-answer (SaysRight c now) (λ k. Unit {0}) c now (λ k step i. tt) (λ k e is. tt)
     (λ l x i is. sending-says c plain l.part.identity now l x refl is) (λ l row u i is. update-says c plain l.part.identity now u)
-    k (turn_of k now c).steps tt (call-fits k now c)
+    k (transition_of k now c).steps tt (call-fits k now c)

@@ -18,7 +18,7 @@ use Rattle.mip_rules_mobile.specs.Questions.{after, fresh, known}
 use Rattle.mip_rules_mobile.specs.Told.{last_told}
 use Rattle.mip_rules_mobile.specs.Counted.{is_search, how_many}
 use Rattle.mip_rules_mobile.proofs.Counted.{one_if, many-more}
-use Rattle.mip_rules_mobile.specs.Searching.{is_over, is_turn, is_again, search_of, again_at, search_with}
+use Rattle.mip_rules_mobile.specs.Searching.{is_over, is_transition, is_again, search_of, again_at, search_with}
 
 -- what the first step says, the others go on from
 module _ {X : Type 0} (says : Stamped Step → Option X) where
@@ -61,7 +61,7 @@ retried-of identifier retries at now = by (nat_le retries 4) refl (nat_le (retri
     by false f true m last l = absurd (let over : 4 < retries = grind (arith, nat_tests) in let le : retries + 1 ≤ 4 = grind (arith, nat_tests) in omega (arith, over, le))
 
 -- a step that neither begins nor ends a discovery
-calm-row : (k : Known) (at : ℕ) (step : Step) → is_turn step ≡ false → discovery_after k at step ≡ (if is_again step then option_and_then (retried at) k.discovery else k.discovery)
+calm-row : (k : Known) (at : ℕ) (step : Step) → is_transition step ≡ false → discovery_after k at step ≡ (if is_again step then option_and_then (retried at) k.discovery else k.discovery)
 calm-row k at Seeks calm = absurd cc
 calm-row k at GivesUp calm = absurd cc
 calm-row k at (Finds agents) calm = absurd cc
@@ -70,12 +70,12 @@ calm-row k at (Restarts secrets) calm = absurd cc
 calm-row k at SeeksAgain calm = refl
 calm-row k at _ calm = refl
 
-goes-on : (k : Known) (identifier retries at : ℕ) (later : List (Stamped Step)) → k.discovery ≡ search_of identifier retries at → list_any (λ s. is_turn s.step) later ≡ false
+goes-on : (k : Known) (identifier retries at : ℕ) (later : List (Stamped Step)) → k.discovery ≡ search_of identifier retries at → list_any (λ s. is_transition s.step) later ≡ false
     → (let l : Known = fold after k later in l.discovery) ≡ search_of identifier (retries + how_many is_again later) (again_at at later)
 unfolding after
 goes-on k identifier retries at [] is calm = is ∙ ap (λ (n : ℕ). search_of identifier n at) (omega arith)
 goes-on k identifier retries at (s ∷ later) is calm =
-    let parts = or_parts (is_turn s.step) (list_any (λ s. is_turn s.step) later) calm in
+    let parts = or_parts (is_transition s.step) (list_any (λ s. is_transition s.step) later) calm in
     by (is_again s.step) refl (calm-row k s.at s.step parts.0) parts.1 (λ i r a e calm. goes-on (after k s) i r a later e calm)
   where
     whole : (n : ℕ) (again : Bool) → is_again s.step ≡ again → n + how_many is_again later ≡ one_if again + (retries + how_many is_again later) → n + how_many is_again later ≡ retries + how_many is_again (s ∷ later)
@@ -88,8 +88,8 @@ goes-on k identifier retries at (s ∷ later) is calm =
     last again same = sym (last-cons again_said at s later ∙ ap (λ (b : Bool). last_told again_said (unwrap_or (if b then Some s.at else None) at) later) same)
 
     by : (again : Bool) → is_again s.step ≡ again → discovery_after k s.at s.step ≡ (if again then option_and_then (retried s.at) k.discovery else k.discovery)
-        → list_any (λ s. is_turn s.step) later ≡ false
-        → ((i r a : ℕ) → discovery_after k s.at s.step ≡ search_of i r a → list_any (λ s. is_turn s.step) later ≡ false → (let l : Known = fold after (after k s) later in l.discovery) ≡ search_of i (r + how_many is_again later) (again_at a later))
+        → list_any (λ s. is_transition s.step) later ≡ false
+        → ((i r a : ℕ) → discovery_after k s.at s.step ≡ search_of i r a → list_any (λ s. is_transition s.step) later ≡ false → (let l : Known = fold after (after k s) later in l.discovery) ≡ search_of i (r + how_many is_again later) (again_at a later))
         → (let l : Known = fold after (after k s) later in l.discovery) ≡ search_of identifier (retries + how_many is_again (s ∷ later)) (again_at at (s ∷ later))
     by true same row calm on =
         on identifier (retries + 1) s.at (row ∙ ap (option_and_then (retried s.at)) is ∙ retried-of identifier retries at s.at) calm
@@ -140,7 +140,7 @@ over-none k (s ∷ past) calm none = by (list_any (λ s. is_over s.step) past) r
     by false l false h calm none on = quiet-none k (s ∷ past) (none refl) calm
 
 module _ (home : Address) (declared : Option Address) (numbers : ℕ) (secrets : Life) where
-  pub search-runs : (before : List (Stamped Step)) (at : ℕ) (later : List (Stamped Step)) → list_any (λ s. is_turn s.step) later ≡ false
+  pub search-runs : (before : List (Stamped Step)) (at : ℕ) (later : List (Stamped Step)) → list_any (λ s. is_transition s.step) later ≡ false
       → (known home declared numbers secrets (before ++ record { at = at; step = Seeks } ∷ later)).discovery ≡ search_with (known home declared numbers secrets before).discoveries at later
   unfolding known after
   search-runs before at later calm =

@@ -12,7 +12,7 @@ use Rattle.mip_rules_mobile.specs.Steps.{Step, answer_of, answers_of}
 use Rattle.mip_rules_mobile.specs.Known.{Known}
 use Rattle.mip_rules_mobile.specs.HomeQuestions.{home_of}
 use Rattle.mip_rules_mobile.specs.Questions.{after, fresh, known}
-use Rattle.mip_rules_mobile.specs.Doing.{turn_of}
+use Rattle.mip_rules_mobile.specs.Doing.{transition_of}
 use Rattle.mip_rules_mobile.specs.Fitting.{IsSentBy}
 use Rattle.mip_rules_mobile.specs.Answering.{EachAnswer}
 use Rattle.mip_rules_mobile.specs.Shielding.{IsFromHome, IsShieldedFrom, AreShieldedFrom}
@@ -38,10 +38,10 @@ sent-shielded c now k (Solicits home careof agent identifier) is = is.1
 abbrev IsShielded : Known → Answer → Type 0
 IsShielded k answer = IsShieldedFrom (home_of k) answer
 
-each-shielded : (k : Known) (now : ℕ) (c : Call) → EachAnswer IsShielded now k (turn_of k now c).steps
+each-shielded : (k : Known) (now : ℕ) (c : Call) → EachAnswer IsShielded now k (transition_of k now c).steps
 each-shielded k now c =
     each-answer IsShielded (λ k. Unit {0}) c now (λ k step i. tt) (λ k e is. tt) (λ k x i is. sent-shielded c now k x is) (λ k row u i is. tt)
-    k (turn_of k now c).steps tt (call-fits k now c)
+    k (transition_of k now c).steps tt (call-fits k now c)
 
 both : (home : Address) (first second : List Answer) → AreShieldedFrom home first → AreShieldedFrom home second → AreShieldedFrom home (first ++ second)
 both home [] second one two = two
@@ -55,8 +55,8 @@ along now home k (step ∷ steps) same each =
     both home (answer_of step) (answers_of steps) (subst (λ (h : Address). AreShieldedFrom h (answer_of step)) same each.0)
     (along now home (after k s) steps (home-kept k s ∙ same) each.1)
 
-pub call-shielded : (k : Known) (now : ℕ) (c : Call) → AreShieldedFrom (home_of k) (answers_of (turn_of k now c).steps)
-call-shielded k now c = along now (home_of k) k (turn_of k now c).steps refl (each-shielded k now c)
+pub call-shielded : (k : Known) (now : ℕ) (c : Call) → AreShieldedFrom (home_of k) (answers_of (transition_of k now c).steps)
+call-shielded k now c = along now (home_of k) k (transition_of k now c).steps refl (each-shielded k now c)
 
 home-along : (k : Known) (past : List (Stamped Step)) → home_of (fold after k past) ≡ home_of k
 home-along k [] = refl

@@ -26,7 +26,7 @@ use Rattle.mip_rules_mobile.specs.Known.{Known}
 use Rattle.mip_rules_mobile.specs.HomeQuestions.{home_of, standing_at, standing_after}
 use Rattle.mip_rules_mobile.specs.Questions.{after, fresh, known}
 use Rattle.mip_rules_mobile.specs.TrialRules.{source_for}
-use Rattle.mip_rules_mobile.specs.Doing.{turn_of}
+use Rattle.mip_rules_mobile.specs.Doing.{transition_of}
 use Rattle.mip_rules_mobile.specs.Fitting.{IsSentBy, IsUpdateOf}
 use Rattle.mip_rules_mobile.specs.Answering.{EachAnswer, source_bytes, LeavesFrom, LeavesRight, IsApart, IsElsewhere}
 use Rattle.mip_rules_mobile.proofs.Fits.{call-fits}
@@ -156,8 +156,8 @@ pub past-elsewhere : (home : Address) (declared : Option Address) (numbers : ℕ
 unfolding known
 past-elsewhere home declared numbers secrets past = elsewhere-along (fresh home declared numbers secrets) past tt
 
-pub call-leaves : (k : Known) (now : ℕ) (c : Call) → IsElsewhere k → EachAnswer LeavesRight now k (turn_of k now c).steps
+pub call-leaves : (k : Known) (now : ℕ) (c : Call) → IsElsewhere k → EachAnswer LeavesRight now k (transition_of k now c).steps
 call-leaves k now c is =
     each-answer LeavesRight IsElsewhere c now (λ k step i. elsewhere-kept k (record { at = now; step = step }) i) (λ k e is. tt)
     (λ k x i is. sending-leaves k i c now x is) (λ k row u i is. update-leaves k i now row u is)
-    k (turn_of k now c).steps is (call-fits k now c)
+    k (transition_of k now c).steps is (call-fits k now c)

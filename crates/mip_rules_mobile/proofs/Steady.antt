@@ -1,9 +1,9 @@
 -- What stays the same along the steps that are steady: where the mobile stands, what its correspondent part is, and the
--- moment of the turn.
+-- moment of the transition.
 use Rattle.std.proofs.Common.{◌≡◌, ℕ, true, refl, ap, ◌∙◌, sym}
 use Rattle.mip_entries.specs.declared.entry.Entry.{Entry}
 use Rattle.mip_rules_correspondent.specs.Wholes.{is_own}
-use Rattle.mip_transitions.proofs.TurnLaws.{noted-now, noted-known}
+use Rattle.mip_transitions.proofs.TransitionLaws.{noted-now, noted-known}
 use Rattle.mip_words.specs.declared.address.Address.{Address}
 use Rattle.mip_rules_correspondent.specs.declared.identity.Identity.{Identity}
 use Rattle.mip_rules_mobile.specs.declared.attachment.Attachment.{Attachment}

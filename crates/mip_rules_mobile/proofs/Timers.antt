@@ -11,7 +11,7 @@ use Rattle.mip_bulist.specs.declared.timer.Timer.{Timer}
 use Rattle.mip_bulist.specs.Timers.{is_of, without_timer, place_of, with_timer, without_due, due_work, AreDueFrom, AreInOrder}
 use Rattle.mip_bulist.proofs.TimerLaws.{none_due, filter_order, put_order, due_order}
 use Rattle.mip_entries.specs.Stamped.{Stamped}
-use Rattle.mip_transitions.proofs.TurnLaws.{noted-now, noted-known}
+use Rattle.mip_transitions.proofs.TransitionLaws.{noted-now, noted-known}
 use Rattle.mip_rules_mobile.specs.Calls as calls
 use Rattle.mip_rules_mobile.specs.Calls.{Call}
 use Rattle.mip_rules_mobile.specs.Steps.{Step, Called, Parts, Notes, Sends, Unsends, Drops, Claims, Releases, FindsTaken, Arrives, Detaches, Restarts, Registers, Unregisters, IsRefused, Resequences, Seeks, SeeksAgain, GivesUp, Finds, Chooses, Learns, Meets, Tries, Updates, Forgets, Binds, Unbinds, Waits, Stops, Rings}
@@ -20,7 +20,7 @@ use Rattle.mip_rules_mobile.specs.TimerQuestions.{timers_after, later, moment, e
 use Rattle.mip_rules_mobile.specs.Questions.{after, fresh, known}
 use Rattle.mip_rules_mobile.specs.Transitions.{Transition, begun, noted}
 use Rattle.mip_rules_mobile.specs.RingingRules.{rings, rings_on, ticks, ticks_all}
-use Rattle.mip_rules_mobile.specs.Doing.{does, turn_of}
+use Rattle.mip_rules_mobile.specs.Doing.{does, transition_of}
 use Rattle.mip_rules_mobile.specs.Coming.{is_take}
 use Rattle.mip_rules_mobile.specs.Fitting.{Fits, Steady, kind_of}
 use Rattle.mip_rules_mobile.proofs.Steady.{Goes}
@@ -183,7 +183,7 @@ late-kept c now k (Waits work wait) ts is fits = let positive : 0 < wait = fits 
 late-kept c now k (Stops work) ts is fits = filter_late (λ t. not (is_of work t)) now ts
 late-kept c now k (Rings work) ts is fits = due_less now ts
 
--- the turn is at this moment, and so many timers at most are due
+-- the transition is at this moment, and so many timers at most are due
 record AreFew (now n : ℕ) (t : Transition) : Type 0 where
   moment : t.now ≡ now
   few : late now t.known.list.timers ≤ n
@@ -236,7 +236,7 @@ few-ticks c other now (suc n) t few = by (λ u q. few-ticks c other now n u q) (
     by again (Some work) is = again (rings work t) (few-rings c other now n work t is few)
 
 -- a tick leaves nothing that is due
-pub tick-empties : (k : Known) (now : ℕ) → AreInOrder k.list.timers → AreDueFrom (now + 1) (turn_of k now calls.Tick).known.list.timers
+pub tick-empties : (k : Known) (now : ℕ) → AreInOrder k.list.timers → AreDueFrom (now + 1) (transition_of k now calls.Tick).known.list.timers
 unfolding does ticks_all
 tick-empties k now order =
     let first = noted (Called calls.Tick) (begun now k) in

@@ -20,7 +20,7 @@ use Rattle.mip_bulist.specs.declared.state.Pending as pending
 use Rattle.mip_bulist.specs.declared.trial.Trial.{Trial}
 use Rattle.mip_bulist.specs.declared.work.Work.{Work}
 use Rattle.mip_updates.specs.Statuses.{accepts_it, sequence_out_of_window}
-use Rattle.mip_transitions.proofs.TurnLaws.{noted-now, noted-known, noted-steps}
+use Rattle.mip_transitions.proofs.TransitionLaws.{noted-now, noted-known, noted-steps}
 use Rattle.mip_rules_mobile.specs.declared.attachment.Attachment.{Attachment}
 use Rattle.mip_rules_mobile.specs.declared.attachment.Attachment.TheVariants.{Detached, AtHome, Away}
 use Rattle.mip_rules_mobile.specs.declared.home_update.HomeUpdate.{HomeUpdate}
@@ -49,7 +49,7 @@ pub latest-stopped : (work : Work) (t : Transition) → (noted (Stops work) t).k
 unfolding after
 latest-stopped work t = ap (λ (k : Known). k.latest) (noted-known after (Stops work) t)
 
--- the last step of a turn
+-- the last step of a transition
 last-push : (before : Option Step) (steps : List Step) (step : Step) → last_step before (steps ++ step ∷ []) ≡ Some step
 last-push before [] step = refl
 last-push before (s ∷ steps) step = last-push (Some s) steps step

@@ -9,7 +9,7 @@ use Rattle.mip_rules_correspondent.proofs.Wholes as parts
 use Rattle.mip_rules_mobile.specs.Calls.{Call}
 use Rattle.mip_rules_mobile.specs.Sendings.{Inner, OfPart, AsksHome, Given, Sending, FromHome, ByTunnel, AsksCareof, RegistersHome, DeregistersHome, PeerUpdate, inner_packet, registration_packet, deregistration_packet, discovery_packet, solicitation_packet, packet_of_sending, update_bytes, update_packet}
 use Rattle.mip_rules_mobile.specs.Known.{Known}
-use Rattle.mip_rules_mobile.specs.Doing.{turn_of}
+use Rattle.mip_rules_mobile.specs.Doing.{transition_of}
 use Rattle.mip_rules_mobile.specs.Fitting.{IsInner, IsSentBy}
 use Rattle.mip_rules_mobile.specs.Answering.{EachAnswer, CanBeAsked, IsWhole}
 use Rattle.mip_rules_mobile.proofs.Fits.{call-fits}
@@ -41,7 +41,7 @@ update-long u = by (is_some u.made.careof)
     by true = authenticated-long _ _ _ _ _
     by false = authenticated-long _ _ _ _ _
 
-pub call-whole : (k : Known) (now : ℕ) (c : Call) → CanBeAsked c → EachAnswer IsWhole now k (turn_of k now c).steps
+pub call-whole : (k : Known) (now : ℕ) (c : Call) → CanBeAsked c → EachAnswer IsWhole now k (transition_of k now c).steps
 call-whole k now c can =
     each-answer IsWhole (λ k. Unit {0}) c now (λ k step i. tt) (λ k e is. is) (λ k x i is. sending-long c now k x can is) (λ k row u i is. update-long u)
-    k (turn_of k now c).steps tt (call-fits k now c)
+    k (transition_of k now c).steps tt (call-fits k now c)

@@ -1,4 +1,4 @@
--- What a mobile does about each call: the turn that the call is.
+-- What a mobile does about each call: the transition that the call is.
 use Rattle.std.specs.Prelude.{ℕ, List, Option, Some, None}
 use Rattle.mip_words.specs.declared.address.Address.{Address}
 use Rattle.mip_words.specs.declared.why.Why.TheVariants as whys
@@ -55,6 +55,6 @@ handles (calls.Tunnel inner) t = goes_out (Given inner) t
 unfoldable pub does : Call → Transition → Transition
 does c t = handles c (noted (Called c) t)
 
--- the turn of a call, from what was known before it
-abbrev pub turn_of : Known → ℕ → Call → Transition
-turn_of k now c = does c (begun now k)
+-- the transition of a call, from what was known before it
+abbrev pub transition_of : Known → ℕ → Call → Transition
+transition_of k now c = does c (begun now k)

@@ -9,7 +9,7 @@ use Rattle.mip_reception.specs.declared.reply.Reply.{Reply}
 use Rattle.mip_reception.specs.Replies.{reply_packet}
 use Rattle.mip_rules_correspondent.specs.Calls as parts
 use Rattle.mip_rules_correspondent.specs.Steps as part_steps
-use Rattle.mip_rules_correspondent.specs.Seen.{turn_at}
+use Rattle.mip_rules_correspondent.specs.Seen.{transition_at}
 use Rattle.mip_rules_mobile.specs.declared.attachment.Attachment.{Attachment}
 use Rattle.mip_rules_mobile.specs.declared.attachment.Attachment.TheVariants.{Detached, AtHome, Away}
 use Rattle.mip_rules_mobile.specs.Sendings.{Inner, OfPart, FromHome, ByTunnel}
@@ -42,7 +42,7 @@ passes_all (a ∷ answers) t = passes_all answers (passes_on a t)
 
 -- what the correspondent part answers
 abbrev pub part_answers : Transition → parts.Call → List Answer
-part_answers t call = part_steps.answers_of (turn_at t.known.part t.now call).steps
+part_answers t call = part_steps.answers_of (transition_at t.known.part t.now call).steps
 
 -- the correspondent part is called
 unfoldable pub asks_part : parts.Call → Transition → Transition

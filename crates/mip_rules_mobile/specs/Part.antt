@@ -15,9 +15,9 @@ use Rattle.mip_entries.specs.declared.entry.Entry.TheVariants as entries
 use Rattle.mip_entries.specs.Stamped.{Stamped}
 use Rattle.mip_rules_correspondent.specs.Calls as parts
 use Rattle.mip_rules_correspondent.specs.Steps as part_steps
-use Rattle.mip_rules_correspondent.specs.Transitions.{with_turn}
+use Rattle.mip_rules_correspondent.specs.Transitions.{with_transition}
 use Rattle.mip_rules_correspondent.specs.Questions as part_questions
-use Rattle.mip_rules_correspondent.specs.Seen.{CorrespondentSeen, turn_at}
+use Rattle.mip_rules_correspondent.specs.Seen.{CorrespondentSeen, transition_at}
 use Rattle.mip_rules_correspondent.specs.Taken.{IsUpdateParted}
 use Rattle.mip_rules_mobile.specs.Calls.{Call, Take, Restart}
 use Rattle.mip_rules_mobile.specs.Steps.{Step, Called, Parts, Notes, Restarts, myself}
@@ -37,9 +37,9 @@ part_of home numbers p = record {
   known = part_questions.known part_room numbers p.past;
 }
 
--- a call of the part is a turn of it; a restart begins it anew
+-- a call of the part is a transition of it; a restart begins it anew
 abbrev pub part_goes_on : Address → (numbers : ℕ) → PartLife → ℕ → Step → PartLife
-part_goes_on home numbers p at (Parts call) = record { secrets = p.secrets; past = with_turn p.past (turn_at (part_of home numbers p) at call) }
+part_goes_on home numbers p at (Parts call) = record { secrets = p.secrets; past = with_transition p.past (transition_at (part_of home numbers p) at call) }
 part_goes_on home numbers p at (Restarts secrets) = record { secrets = secrets; past = [] }
 part_goes_on home numbers p at _ = p
 
@@ -81,18 +81,18 @@ pub record IsPartTaken (k : Known) (now : ℕ) (c : Call) (steps : List Step) : 
   pub packet : Packet
   pub tunnelled : Bool
   pub came : Came k now tunnelled shield bytes packet
-  pub taken : IsUpdateParted k.part.identity k.part.known now number packet (turn_at k.part now (parts.Part number packet)).steps
+  pub taken : IsUpdateParted k.part.identity k.part.known now number packet (transition_at k.part now (parts.Part number packet)).steps
   pub rest : List Step
   pub steps_are : steps ≡ Called c ∷ Parts (parts.Part number packet) ∷ Notes (accepted_note number taken.home taken.binding taken.accepted) ∷ rest
   pub none : list_any concerns_part rest ≡ false
 
 -- what a call of the mobile is to its part, unless it is a restart: nothing; a call of it, in which it accepts nothing; or one
 -- in which it accepts an update
-pub data IsPartTurn (k : Known) (now : ℕ) (c : Call) (steps : List Step) : Type 0 where
-  Silent : list_any concerns_part steps ≡ false → IsPartTurn k now c steps
+pub data IsPartTransition (k : Known) (now : ℕ) (c : Call) (steps : List Step) : Type 0 where
+  Silent : list_any concerns_part steps ≡ false → IsPartTransition k now c steps
   Asked : (call : parts.Call) (rest : List Step) → steps ≡ Called c ∷ Parts call ∷ rest → list_any concerns_part rest ≡ false
-      → list_any part_steps.is_acceptance (turn_at k.part now call).steps ≡ false → IsPartTurn k now c steps
-  Accepting : IsPartTaken k now c steps → IsPartTurn k now c steps
+      → list_any part_steps.is_acceptance (transition_at k.part now call).steps ≡ false → IsPartTransition k now c steps
+  Accepting : IsPartTaken k now c steps → IsPartTransition k now c steps
 
 abbrev pub is_restart : Call → Bool
 is_restart (Restart secrets) = true

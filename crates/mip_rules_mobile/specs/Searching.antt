@@ -16,9 +16,9 @@ is_over (Restarts secrets) = true
 is_over _ = false
 
 -- it is over, or another one begins
-abbrev pub is_turn : Step → Bool
-is_turn Seeks = true
-is_turn step = is_over step
+abbrev pub is_transition : Step → Bool
+is_transition Seeks = true
+is_transition step = is_over step
 
 abbrev pub is_again : Step → Bool
 is_again SeeksAgain = true

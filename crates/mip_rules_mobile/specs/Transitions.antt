@@ -1,34 +1,34 @@
--- The turns of a mobile.
+-- The transitions of a mobile.
 use Rattle.std.specs.Prelude.{ℕ, List, Option}
 use Rattle.mip_words.specs.declared.address.Address.{Address}
 use Rattle.mip_nonce.specs.Secrets.{Life}
 use Rattle.mip_entries.specs.declared.answer.Answer.{Answer}
 use Rattle.mip_entries.specs.Stamped.{Stamped}
-use Rattle.mip_transitions.specs.Transitions as turns
+use Rattle.mip_transitions.specs.Transitions as transitions
 use Rattle.mip_transitions.specs.Shows.{ShowsBy}
 use Rattle.mip_rules_mobile.specs.Steps.{Step, answer_of}
 use Rattle.mip_rules_mobile.specs.Known.{Known}
 use Rattle.mip_rules_mobile.specs.Questions.{after, fresh}
 
 abbrev pub Transition : Type 0
-Transition = turns.Transition Known Step
+Transition = transitions.Transition Known Step
 
 -- a call begins
 abbrev pub begun : ℕ → Known → Transition
-begun now k = turns.begun now k
+begun now k = transitions.begun now k
 
 -- the one thing that a rule does: a step is taken, and what is known goes on
 abbrev pub noted : Step → Transition → Transition
-noted step t = turns.noted_by after step t
+noted step t = transitions.noted_by after step t
 
 -- what a mobile keeps is what its past leaves known
 abbrev pub Stands : Address → Option Address → (numbers : ℕ) → Life → List (Stamped Step) → Known → Type 0
-Stands home declared numbers secrets past k = turns.StandsBy after (fresh home declared numbers secrets) past k
+Stands home declared numbers secrets past k = transitions.StandsBy after (fresh home declared numbers secrets) past k
 
--- the past with a turn behind it
-abbrev pub with_turn : List (Stamped Step) → Transition → List (Stamped Step)
-with_turn past t = turns.with_turn past t
+-- the past with a transition behind it
+abbrev pub with_transition : List (Stamped Step) → Transition → List (Stamped Step)
+with_transition past t = transitions.with_transition past t
 
--- a turn at a moment: this is known as it stands, and these are its answers so far
+-- a transition at a moment: this is known as it stands, and these are its answers so far
 abbrev pub ShowsAt : (now : ℕ) (known : Known) (answers : List Answer) → Transition → Type 0
 ShowsAt now known answers t = ShowsBy answer_of now known answers t

@@ -17,11 +17,11 @@ ghost use Rattle.mip_rules_mobile.specs.Known.{Known};
 ghost use Rattle.mip_rules_mobile.specs.HomeQuestions.{home_of, binding_number_of, standing_said, registered_said, latest_said, agent_said, owes_said, next_said, next_to};
 ghost use Rattle.mip_rules_mobile.specs.DiscoveryQuestions.{found_said, chosen_said, is_choice};
 ghost use Rattle.mip_rules_mobile.specs.Questions.{after, known};
-ghost use Rattle.mip_rules_mobile.specs.Transitions.{Stands, with_turn};
+ghost use Rattle.mip_rules_mobile.specs.Transitions.{Stands, with_transition};
 ghost use Rattle.mip_rules_mobile.specs.RowQuestions.{is_touched_row, wait_of_row};
 ghost use Rattle.mip_rules_mobile.specs.Told.{last_told, next_in};
 ghost use Rattle.mip_rules_mobile.specs.Counted.{this_life, is_search, is_solicitation, is_place, cookies_drawn, how_many};
-ghost use Rattle.mip_rules_mobile.specs.Searching.{is_over, is_turn, search_with};
+ghost use Rattle.mip_rules_mobile.specs.Searching.{is_over, is_transition, search_with};
 ghost use Rattle.mip_rules_mobile.specs.Wording.{wait_said, touched_said, bound_said, resend_said, bound_at};
 ghost use Rattle.mip_rules_mobile.specs.Fitting.{IsUpdateOf, EachFits};
 ghost use Rattle.mip_rules_mobile.specs.Kept.{RowsGiven, IsMadeFrom};
@@ -30,18 +30,18 @@ ghost use Rattle.mip_rules_mobile.specs.Answering.{EachAnswer, CanBeAsked, Sends
 ghost use Rattle.mip_rules_mobile.specs.Resting.{EachStep, IsAgentsAnswer, IsPeersAnswer, IsTestTunnelled, AreLed};
 ghost use Rattle.mip_rules_mobile.specs.Leaving.{HasForgotten};
 ghost use Rattle.mip_rules_mobile.specs.Shielding.{AreShieldedFrom};
-ghost use Rattle.mip_rules_mobile.specs.Doing.{turn_of};
-ghost use Rattle.mip_rules_mobile.specs.Part.{part_of, part_life, IsPartTurn, is_restart, IsPartReborn};
+ghost use Rattle.mip_rules_mobile.specs.Doing.{transition_of};
+ghost use Rattle.mip_rules_mobile.specs.Part.{part_of, part_life, IsPartTransition, is_restart, IsPartReborn};
 
 /// Whoever stands for a past knows what it leaves known.
 pub fn stands_for_what_is_known()
     ensures { (home : Address) (declared : Option Address) (numbers : ℕ) (secrets : Life) (past : List (Stamped Step)) (k : Known) → Stands home declared numbers secrets past k → k ≡ known home declared numbers secrets past }
 {}
 
-/// Whoever stands for a past stands, after any call, for the past with the call's turn.
+/// Whoever stands for a past stands, after any call, for the past with the call's transition.
 pub fn stands_after_each_call()
     ensures { (home : Address) (declared : Option Address) (numbers : ℕ) (secrets : Life) (past : List (Stamped Step)) (k : Known) (now : ℕ) (c : Call) → Stands home declared numbers secrets past k
-        → Stands home declared numbers secrets (with_turn past (turn_of k now c)) (turn_of k now c).known }
+        → Stands home declared numbers secrets (with_transition past (transition_of k now c)) (transition_of k now c).known }
 {}
 
 /// The correspondent part is a correspondent with the home address, the secrets of the mobile's present life and room for
@@ -54,19 +54,19 @@ pub fn the_part_is_a_correspondent()
 /// where a packet is handed to the mobile: the update in it, or in the packet within its tunnel, with the verdict Accept on
 /// its bytes; and the mobile tells so at once. No entry of a mobile tells of an acceptance otherwise.
 pub fn each_call_is_one_of_the_part_at_most()
-    ensures called { (k : Known) (now : ℕ) (c : Call) → is_restart c ≡ false → IsPartTurn k now c (turn_of k now c).steps }
-    ensures reborn { (k : Known) (now : ℕ) (secrets : Life) → IsPartReborn secrets (turn_of k now (Restart secrets)).steps }
+    ensures called { (k : Known) (now : ℕ) (c : Call) → is_restart c ≡ false → IsPartTransition k now c (transition_of k now c).steps }
+    ensures reborn { (k : Known) (now : ℕ) (secrets : Life) → IsPartReborn secrets (transition_of k now (Restart secrets)).steps }
 {}
 
 /// Each step of a call fits where it is taken: a packet leaves from the address that the mobile stands at, a packet of its
 /// correspondent part is one that a correspondent sends, an update is the one that its trial makes.
 pub fn each_step_fits()
-    ensures { (k : Known) (now : ℕ) (c : Call) → EachFits c now k (turn_of k now c).steps }
+    ensures { (k : Known) (now : ℕ) (c : Call) → EachFits c now k (transition_of k now c).steps }
 {}
 
 /// The last moment that a call leaves known is its own.
 pub fn each_call_is_the_last()
-    ensures { (k : Known) (now : ℕ) (c : Call) → (turn_of k now c).known.last.0 ≡ now }
+    ensures { (k : Known) (now : ℕ) (c : Call) → (transition_of k now c).known.last.0 ≡ now }
 {}
 
 /// What is known of a question is what the last step says that says anything of it: where the mobile stands, whether it is
@@ -92,38 +92,38 @@ pub fn timers_are_in_order()
 
 /// A tick leaves nothing that is due at its moment.
 pub fn a_tick_leaves_nothing_due()
-    ensures { (k : Known) (now : ℕ) → AreInOrder k.list.timers → AreDueFrom (now + 1) (turn_of k now Tick).known.list.timers }
+    ensures { (k : Known) (now : ℕ) → AreInOrder k.list.timers → AreDueFrom (now + 1) (transition_of k now Tick).known.list.timers }
 {}
 
 /// Whatever a call gives out is whole: a packet has its fixed header, and an entry is of a kind that a mobile leaves. What it is
 /// asked to send has a fixed header too.
 pub fn answers_are_whole()
-    ensures { (k : Known) (now : ℕ) (c : Call) → CanBeAsked c → EachAnswer IsWhole now k (turn_of k now c).steps }
+    ensures { (k : Known) (now : ℕ) (c : Call) → CanBeAsked c → EachAnswer IsWhole now k (transition_of k now c).steps }
 {}
 
 /// Away, the care-of address is another one than the home address, after every past; a packet that is handed to the wire then
 /// leaves from the care-of address, and detached none is.
 pub fn packets_leave_from_where_it_stands()
     ensures elsewhere { (home : Address) (declared : Option Address) (numbers : ℕ) (secrets : Life) (past : List (Stamped Step)) → IsElsewhere (known home declared numbers secrets past) }
-    ensures leaves { (k : Known) (now : ℕ) (c : Call) → IsElsewhere k → EachAnswer LeavesRight now k (turn_of k now c).steps }
+    ensures leaves { (k : Known) (now : ℕ) (c : Call) → IsElsewhere k → EachAnswer LeavesRight now k (transition_of k now c).steps }
 {}
 
 /// Away, each packet of a call by which the mobile stays where it stands leaves from its care-of address.
 pub fn away_packets_leave_from_the_careof_address()
-    ensures { (k : Known) (now : ℕ) (c : Call) (careof : Address) → k.standing ≡ Away careof → IsElsewhere k → stays_put c ≡ true → AreFrom careof (answers_of (turn_of k now c).steps) }
+    ensures { (k : Known) (now : ℕ) (c : Call) (careof : Address) → k.standing ≡ Away careof → IsElsewhere k → stays_put c ≡ true → AreFrom careof (answers_of (transition_of k now c).steps) }
 {}
 
 /// Whatever a mobile sends is a test of its own correspondent part, or says no test, or says what the packet said that it was
 /// asked to send: it passes on no other test. What it is asked to send as data is no packet and no mobility message.
 pub fn each_test_is_its_own()
-    ensures { (k : Known) (now : ℕ) (c : Call) → SendsPlainData c → EachAnswer (SaysRight c now) now k (turn_of k now c).steps }
+    ensures { (k : Known) (now : ℕ) (c : Call) → SendsPlainData c → EachAnswer (SaysRight c now) now k (transition_of k now c).steps }
 {}
 
 /// A packet that is dropped, and an update that is denied, change nothing but the moments of the last calls: no binding, no
 /// registration, no trial, no timer, no list.
 pub fn refused_changes_nothing()
-    ensures { (k : Known) (now number : ℕ) (shield : Option Shield) (packet : List ℕ) → list_any is_refusal (turn_of k now (Take number shield packet)).steps ≡ true
-        → tables_of (turn_of k now (Take number shield packet)).known ≡ tables_of k }
+    ensures { (k : Known) (now number : ℕ) (shield : Option Shield) (packet : List ℕ) → list_any is_refusal (transition_of k now (Take number shield packet)).steps ≡ true
+        → tables_of (transition_of k now (Take number shield packet)).known ≡ tables_of k }
 {}
 
 /// The tests that a trial keeps were given to it since it started, after every past; and an update has the tokens of such
@@ -137,38 +137,38 @@ pub fn updates_are_of_tests_since_the_start()
 /// every past.
 pub fn shields_are_from_its_home()
     ensures home { (home : Address) (declared : Option Address) (numbers : ℕ) (secrets : Life) (past : List (Stamped Step)) → home_of (known home declared numbers secrets past) ≡ home }
-    ensures sent { (k : Known) (now : ℕ) (c : Call) → AreShieldedFrom (home_of k) (answers_of (turn_of k now c).steps) }
+    ensures sent { (k : Known) (now : ℕ) (c : Call) → AreShieldedFrom (home_of k) (answers_of (transition_of k now c).steps) }
 {}
 
 /// What an agent answers is taken only of an acknowledgement that came under a shield and in no tunnel, from the agent to
 /// which the last home registration or deregistration was sent, with its sequence: a registration, a refusal, a sequence to go
 /// on from; and the end of a registration, unless it ends by itself.
 pub fn home_answers_are_shielded()
-    ensures { (k : Known) (now : ℕ) (c : Call) → EachStep (IsAgentsAnswer c) now k (turn_of k now c).steps }
+    ensures { (k : Known) (now : ℕ) (c : Call) → EachStep (IsAgentsAnswer c) now k (transition_of k now c).steps }
 {}
 
 /// An update is acknowledged only by its peer's acknowledgement, authentic under the key of the update that was made last and
 /// with its sequence; and a binding is told right behind that, for the same row.
 pub fn bindings_are_acknowledged()
-    ensures acknowledged { (k : Known) (now : ℕ) (c : Call) → EachStep (IsPeersAnswer c now) now k (turn_of k now c).steps }
-    ensures bound { (k : Known) (now : ℕ) (c : Call) → AreLed None (turn_of k now c).steps }
+    ensures acknowledged { (k : Known) (now : ℕ) (c : Call) → EachStep (IsPeersAnswer c now) now k (transition_of k now c).steps }
+    ensures bound { (k : Known) (now : ℕ) (c : Call) → AreLed None (transition_of k now c).steps }
 {}
 
 /// Away, a Home Test is kept only of what came under a shield in a tunnel from the mobile's agent.
 pub fn home_tests_come_by_the_tunnel()
-    ensures { (k : Known) (now : ℕ) (c : Call) → EachStep (IsTestTunnelled c now) now k (turn_of k now c).steps }
+    ensures { (k : Known) (now : ℕ) (c : Call) → EachStep (IsTestTunnelled c now) now k (transition_of k now c).steps }
 {}
 
 /// A mobile that left uses no address, is not registered and bound to no peer, and has no timer and no discovery.
 pub fn leaving_forgets()
     ensures step { (k : Known) (at : ℕ) → HasForgotten (after k (record { at = at; step = Detaches })) }
-    ensures call { (k : Known) (now : ℕ) (of_home : Claim) → HasForgotten (turn_of k now (Leave of_home)).known }
+    ensures call { (k : Known) (now : ℕ) (of_home : Claim) → HasForgotten (transition_of k now (Leave of_home)).known }
 {}
 
 /// The cookies of a life are drawn from number 0 on.
 pub fn cookies_begin_at_zero()
     ensures born { (home : Address) (declared : Option Address) (numbers : ℕ) (secrets : Life) → (known home declared numbers secrets []).cookies ≡ 0 }
-    ensures restarted { (k : Known) (now : ℕ) (secrets : Life) → (turn_of k now (Restart secrets)).known.cookies ≡ 0 }
+    ensures restarted { (k : Known) (now : ℕ) (secrets : Life) → (transition_of k now (Restart secrets)).known.cookies ≡ 0 }
 {}
 
 /// What is known of a row is what the last step says that says anything of it: whether its peer was sent an update that is not
@@ -193,7 +193,7 @@ pub fn numbers_are_counted_in_each_life()
 /// A discovery runs from its beginning until it is given up or answered, or the mobile leaves or restarts: with the identifier that
 /// was next before it, with as many requests behind the first as were sent since, four at most, and the next one due after the last.
 pub fn a_discovery_runs_until_it_is_over()
-    ensures runs { (home : Address) (declared : Option Address) (numbers : ℕ) (secrets : Life) (before : List (Stamped Step)) (at : ℕ) (later : List (Stamped Step)) → list_any (λ s. is_turn s.step) later ≡ false
+    ensures runs { (home : Address) (declared : Option Address) (numbers : ℕ) (secrets : Life) (before : List (Stamped Step)) (at : ℕ) (later : List (Stamped Step)) → list_any (λ s. is_transition s.step) later ≡ false
         → (known home declared numbers secrets (before ++ record { at = at; step = Seeks } ∷ later)).discovery ≡ search_with (known home declared numbers secrets before).discoveries at later }
     ensures none { (home : Address) (declared : Option Address) (numbers : ℕ) (secrets : Life) (past : List (Stamped Step)) → list_any (λ s. is_search s.step) (since (λ s. is_over s.step) past) ≡ false → (known home declared numbers secrets past).discovery ≡ None }
 {}

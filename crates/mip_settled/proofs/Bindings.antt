@@ -25,7 +25,7 @@ use Rattle.mip_rules_mobile.specs.Questions.{after, known}
 use Rattle.mip_rules_mobile.specs.MovingRules.{uses_prefix}
 use Rattle.mip_rules_mobile.specs.Part.{is_restart}
 use Rattle.mip_rules_mobile.specs.Answering.{stays_put}
-use Rattle.mip_rules_mobile.specs.Doing.{turn_of}
+use Rattle.mip_rules_mobile.specs.Doing.{transition_of}
 use Rattle.mip_rules_mobile.specs.Fitting.{EachFits}
 use Rattle.mip_rules_mobile.proofs.Fits.{known_along, call-along}
 use Rattle.mip_links.specs.Table.{holder_outside}
@@ -44,8 +44,8 @@ use Rattle.mip_history.proofs.Keeping.{is_busy, IsCall, is_leave, is_rebirth, em
 use Rattle.mip_history.proofs.Walking.{walk_run}
 use Rattle.mip_history.specs.Told.{binding_told, late_says}
 use Rattle.mip_settled.proofs.Answered.{IsQuiet, IsMute, tells, tells_push, tells_same, answers_mute}
-use Rattle.mip_settled.proofs.Turning.{Tells, staying_tells, restart_tells, using_tells, attaching_tells}
-use Rattle.mip_settled.proofs.Roaming.{IsFound, IsRoaming, acts_mute, others_acts, turn, middle, then_, home, known_then, acts_as, no_past, roaming_injects, roaming_keeps, roaming_nothing}
+use Rattle.mip_settled.proofs.MobileTransitions.{Tells, staying_tells, restart_tells, using_tells, attaching_tells}
+use Rattle.mip_settled.proofs.Roaming.{IsFound, IsRoaming, acts_mute, others_acts, transition, middle, then_, home, known_then, acts_as, no_past, roaming_injects, roaming_keeps, roaming_nothing}
 use Rattle.mip_settled.proofs.Rows.{bound_of, HasRows, new_rows, rows_kept, bound_said}
 use Rattle.mip_settled.proofs.Leaving.{binding_quiet, binding_mute, IsListed, binding_known, binding_lost, leaving_tells, left_bound}
 
@@ -61,8 +61,8 @@ rows_along : (c : mobiles.Call) (now : ℕ) (k : Known) (steps : List Step) → 
 rows_along c now k [] each h = h
 rows_along c now k (step ∷ steps) each h = rows_along c now (after k (record { at = now; step = step })) steps each.1 (rows_after_step c now k step steps each h)
 
-rows_turn : (k : Known) (now : ℕ) (c : mobiles.Call) → HasRowsOf k → HasRowsOf (turn_of k now c).known
-rows_turn k now c h = let is = call-along k now c in subst HasRowsOf (sym is.known) (rows_along c now k (turn_of k now c).steps is.each h)
+rows_transition : (k : Known) (now : ℕ) (c : mobiles.Call) → HasRowsOf k → HasRowsOf (transition_of k now c).known
+rows_transition k now c h = let is = call-along k now c in subst HasRowsOf (sym is.known) (rows_along c now k (transition_of k now c).steps is.each h)
 
 -- whether a later moment was told
 late_quiet : (u : ℕ) → IsQuiet (late_says u)
@@ -147,21 +147,21 @@ module _ (s : Setup) (u : ℕ) (since : s.start ≤ u) (peer : Address) where
 
     abbrev TellsBound : mobiles.Call → Attachment → Type 0
     TellsBound c st = Tells s n own (IsListed own) (λ k holds. holds.0) (binding_told n peer) (bound_said peer) (λ (k : Known). bound_of k peer) (lies_ahead u) (binding_known n own peer u) None
-        (unwrap_or (stands_on s run n own) 0) (middle s n own agent host run long c) st (turn s n own agent host run long c)
+        (unwrap_or (stands_on s run n own) 0) (middle s n own agent host run long c) st (transition s n own agent host run long c)
 
-    -- a turn of its own, where the run was early before it
+    -- a transition of its own, where the run was early before it
     early_behind : (c : mobiles.Call) → Early (behind c) → Early run
     early_behind c early = sym (early_same c) ∙ early
       where
         early_same : (c : mobiles.Call) → tells s (late_says u) false (behind c) ≡ tells s (late_says u) false run
         early_same c = answers_mute s (late_says u) false (late_quiet u) n (late_mute u n) _ (middle s n own agent host run long c) _
 
-    turn_bound : (c : mobiles.Call) (st : Attachment) → (Early run → TellsBound c st) → HasRowsOf knows → IsBoundAs (behind c) n own agent
-    turn_bound c st p h =
-        let is : mobile_known_in s (behind c) n own agent ≡ (turn s n own agent host run long c).known = known_then s n own agent host run long c in
+    transition_bound : (c : mobiles.Call) (st : Attachment) → (Early run → TellsBound c st) → HasRowsOf knows → IsBoundAs (behind c) n own agent
+    transition_bound c st p h =
+        let is : mobile_known_in s (behind c) n own agent ≡ (transition s n own agent host run long c).known = known_then s n own agent host run long c in
         record {
           so = λ early. (let q = p (early_behind c early) in q.so) ∙ ap (λ (k : Known). lies_ahead u (bound_of k peer)) (sym is);
-          rows = subst HasRowsOf (sym is) (rows_turn knows (now_in s run) c h);
+          rows = subst HasRowsOf (sym is) (rows_transition knows (now_in s run) c h);
         }
 
     listed : HasRowsOf knows → IsListed own knows
@@ -170,18 +170,18 @@ module _ (s : Setup) (u : ℕ) (since : s.start ≤ u) (peer : Address) where
     module _ (b : IsBoundAs run n own agent) where
       staying_bound : (c : mobiles.Call) → stays_put c ≡ true → is_restart c ≡ false → IsBoundAs (behind c) n own agent
       staying_bound c stays lives =
-          turn_bound c knows.standing
+          transition_bound c knows.standing
           (λ early. staying_tells s n own (IsListed own) (λ k holds. holds.0) (binding_told n peer) (bound_said peer) (λ (k : Known). bound_of k peer) (lies_ahead u) (binding_known n own peer u) None _ (middle s n own agent host run long c) knows (now_in s run) c stays lives (b.so early) (listed b.rows)) b.rows
 
       using_bound : (prefix : ℕ) (of_home of_address : Claim) → uses_prefix knows.standing own prefix ≡ true → IsBoundAs (behind (mobiles.Attach prefix of_home of_address)) n own agent
       using_bound prefix of_home of_address uses =
           let yes : uses_prefix knows.standing (home_of knows) prefix ≡ true = ap (λ (a : Address). uses_prefix knows.standing a prefix) (home s n own agent host run long) ∙ uses in
-          turn_bound (mobiles.Attach prefix of_home of_address) knows.standing
+          transition_bound (mobiles.Attach prefix of_home of_address) knows.standing
           (λ early. using_tells s n own (IsListed own) (λ k holds. holds.0) (binding_told n peer) (bound_said peer) (λ (k : Known). bound_of k peer) (lies_ahead u) (binding_known n own peer u) None _ (middle s n own agent host run long (mobiles.Attach prefix of_home of_address)) knows (now_in s run) prefix of_home of_address yes (b.so early) (listed b.rows)) b.rows
 
       apart_bound : (prefix : ℕ) (of_home of_address : Claim) → knows.standing ≡ Detached → IsBoundAs (behind (mobiles.Attach prefix of_home of_address)) n own agent
       apart_bound prefix of_home of_address apart =
-          turn_bound (mobiles.Attach prefix of_home of_address) _
+          transition_bound (mobiles.Attach prefix of_home of_address) _
           (λ early. attaching_tells s n own (IsListed own) (λ k holds. holds.0) (binding_told n peer) (bound_said peer) (λ (k : Known). bound_of k peer) (lies_ahead u) (binding_known n own peer u) None _ (middle s n own agent host run long (mobiles.Attach prefix of_home of_address)) knows (now_in s run) prefix of_home of_address apart (b.so early) (listed b.rows)
           (λ x same link address holder. refl) (λ l at address holder same. ap (lies_ahead u) (binding_lost n own peer u at l address holder) ∙ same)) b.rows
 
@@ -194,13 +194,13 @@ module _ (s : Setup) (u : ℕ) (since : s.start ≤ u) (peer : Address) where
       moved_bound link =
           let of_home : Claim = claim_in (around_in run n (Some own.0)) own.0 in
           let c : mobiles.Call = mobiles.Leave of_home in
-          let is : mobile_known_in s (behind c) n own agent ≡ (turn s n own agent host run long c).known = known_then s n own agent host run long c in
+          let is : mobile_known_in s (behind c) n own agent ≡ (transition s n own agent host run long c).known = known_then s n own agent host run long c in
           let none : bound_of (mobile_known_in s (behind c) n own agent) peer ≡ None = ap (λ (k : Known). bound_of k peer) is ∙ left_bound peer knows (now_in s run) of_home in
           subst (λ (r : Run). IsBoundAs (note (entries.Moved (node_id n) link) r) n own agent) (sym (ap (by_host s n Leave run) host))
           (entry_bound n own agent (behind c) (entries.Moved (node_id n) link) refl (early_push (behind c) (entries.Moved (node_id n) link) refl)
           (record {
             so = λ early. left_tells of_home (early_behind c early) ∙ ap (lies_ahead u) (sym none);
-            rows = subst HasRowsOf (sym is) (rows_turn knows (now_in s run) c b.rows);
+            rows = subst HasRowsOf (sym is) (rows_transition knows (now_in s run) c b.rows);
           }))
         where
           left_tells : (of_home : Claim) → Early run → lies_ahead u (tells s (binding_told n peer) None (behind (mobiles.Leave of_home))) ≡ false
@@ -214,7 +214,7 @@ module _ (s : Setup) (u : ℕ) (since : s.start ≤ u) (peer : Address) where
       let next : Run = note (entries.Restarted (node_id n)) run in
       let c : mobiles.Call = mobiles.Restart secrets in
       subst (λ (r : Run). IsBoundAs r n own agent) (sym (ap (by_host s n (Restart secrets) next) host))
-      (turn_bound n own agent host next long c (mobile_known_in s run n own agent).standing
+      (transition_bound n own agent host next long c (mobile_known_in s run n own agent).standing
       (λ early. restart_tells s n own (IsListed own) (λ k holds. holds.0) (binding_told n peer) (bound_said peer) (λ (k : Known). bound_of k peer) (lies_ahead u) (binding_known n own peer u) None _ (middle s n own agent host next long c) (mobile_known_in s run n own agent) (now_in s next) secrets
       (ap (lies_ahead u) (tells_push s (binding_told n peer) None run (entries.Restarted (node_id n)) ∙ ended (tells s (binding_told n peer) None run) ∙ sym (ended (bound_of (mobile_known_in s run n own agent) peer)))) (listed n own agent host next long b.rows)) b.rows)
     where

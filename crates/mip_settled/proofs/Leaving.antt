@@ -13,7 +13,7 @@ use Rattle.mip_bulist.specs.Rows.{peer_at, all_rested}
 use Rattle.mip_entries.specs.declared.entry.Entry.{Entry}
 use Rattle.mip_entries.specs.declared.entry.Entry.TheVariants as entries
 use Rattle.mip_entries.specs.Completed.{named}
-use Rattle.mip_transitions.proofs.TurnLaws.{noted-now, noted-known}
+use Rattle.mip_transitions.proofs.TransitionLaws.{noted-now, noted-known}
 use Rattle.mip_rules_correspondent.specs.Wholes.{is_own}
 use Rattle.mip_rules_mobile.specs.declared.peer.Peer.{Peer}
 use Rattle.mip_rules_mobile.specs.declared.attachment.Attachment.{Attachment}
@@ -28,7 +28,7 @@ use Rattle.mip_rules_mobile.specs.Questions.{after}
 use Rattle.mip_rules_mobile.specs.Transitions.{Transition, begun, noted}
 use Rattle.mip_rules_mobile.specs.TrialRules.{each_from, each_row}
 use Rattle.mip_rules_mobile.specs.MovingRules.{releases, unbinds_with, unbinds, leaves}
-use Rattle.mip_rules_mobile.specs.Doing.{does, turn_of}
+use Rattle.mip_rules_mobile.specs.Doing.{does, transition_of}
 use Rattle.mip_rules_mobile.specs.Fitting.{Fits}
 use Rattle.mip_rules_mobile.proofs.Told.{home-kept}
 use Rattle.mip_history.specs.Setup.{Setup}
@@ -37,7 +37,7 @@ use Rattle.mip_history.specs.Nodes.{answered}
 use Rattle.mip_history.proofs.Keeping.{is_busy}
 use Rattle.mip_history.specs.Told.{binding_told}
 use Rattle.mip_settled.proofs.Answered.{IsQuiet, IsMute, tells}
-use Rattle.mip_settled.proofs.Turning.{is_plain, entry_of, says_of, IsRightNote, IsKnown, Tells, seen, then_noted, tells_noted, first}
+use Rattle.mip_settled.proofs.MobileTransitions.{is_plain, entry_of, says_of, IsRightNote, IsKnown, Tells, seen, then_noted, tells_noted, first}
 use Rattle.mip_settled.proofs.Rows.{look, bound_of, lasts_at, FitTogether, HasRows, rows_kept, bound_said, bound_after, look_none, peer_step}
 
 -- the binding with a peer, as a question that the entries of a mobile answer and nobody else's
@@ -256,7 +256,7 @@ module _ (s : Setup) (n : ℕ) (own peer : Address) (u : ℕ) (d : Option Moment
         later_over now u (bound_of last.known peer) late (none_lasts now peer last.known.list.rows last.known.peers (λ j less. f.freed j (let whole = h.whole in omega (arith, less, whole))))
 
     abbrev after_leave : Run
-    after_leave = answered s n from start (answers_of (turn_of k now c).steps)
+    after_leave = answered s n from start (answers_of (transition_of k now c).steps)
 
     pub leaving_tells : lies_ahead u (tells s (binding_told n peer) d after_leave) ≡ false
     unfolding does leaves answered
@@ -268,7 +268,7 @@ module _ (s : Setup) (n : ℕ) (own peer : Address) (u : ℕ) (d : Option Moment
         ∙ told.so ∙ over
 
 -- and the mobile knows of none
-pub left_bound : (peer : Address) (k : Known) (now : ℕ) (claim : Claim) → bound_of (turn_of k now (calls.Leave claim)).known peer ≡ None
+pub left_bound : (peer : Address) (k : Known) (now : ℕ) (claim : Claim) → bound_of (transition_of k now (calls.Leave claim)).known peer ≡ None
 unfolding does leaves after
 left_bound peer k now claim =
     let t : Transition = noted (Called (calls.Leave claim)) (begun now k) in

@@ -1,5 +1,5 @@
 pub mod Answered
-pub mod Turning
+pub mod MobileTransitions
 pub mod Questions
 pub mod Roaming
 pub mod Rows

@@ -12,15 +12,15 @@ use Rattle.mip_entries.specs.declared.entry.Entry.TheVariants as entries
 use Rattle.mip_entries.specs.Completed.{node_id, named}
 use Rattle.mip_transitions.specs.Shows.{answers_by}
 use Rattle.mip_rules_correspondent.specs.Steps as correspondents
-use Rattle.mip_rules_correspondent.specs.Transitions as correspondent_turns
+use Rattle.mip_rules_correspondent.specs.Transitions as correspondent_transitions
 use Rattle.mip_rules_correspondent.specs.Doing as correspondent_doing
 use Rattle.mip_rules_agent.specs.Steps as agents
-use Rattle.mip_rules_agent.specs.Transitions as agent_turns
+use Rattle.mip_rules_agent.specs.Transitions as agent_transitions
 use Rattle.mip_rules_agent.specs.Doing as agent_doing
 use Rattle.mip_rules_mobile.specs.Calls as mobile_calls
 use Rattle.mip_rules_mobile.specs.Known as mobile_known
 use Rattle.mip_rules_mobile.specs.Steps as mobiles
-use Rattle.mip_rules_mobile.specs.Transitions as mobile_turns
+use Rattle.mip_rules_mobile.specs.Transitions as mobile_transitions
 use Rattle.mip_rules_mobile.specs.Doing as mobile_doing
 use Rattle.mip_links.specs.Table.{holder_outside}
 use Rattle.mip_schedule.specs.declared.event.Event.{Event}
@@ -56,7 +56,7 @@ silent_steps show says n each (step ∷ steps) = all_append (IsSilent says n) (s
 abbrev pub IsSilentKind : {S : Type 0} → (Entry → Option S) → ℕ → Kind → Type 0
 IsSilentKind says n (Correspondent room) = (step : correspondents.Step) → AllByRecursion (IsSilent says n) (correspondents.answer_of step)
 IsSilentKind says n (Agent preference life room serves) = (step : agents.Step) → AllByRecursion (IsSilent says n) (agents.answer_of step)
-IsSilentKind says n (Mobile agent) = (k : mobile_known.Known) (now : ℕ) (c : mobile_calls.Call) → AllByRecursion (IsSilent says n) (mobiles.answers_of (mobile_doing.turn_of k now c).steps)
+IsSilentKind says n (Mobile agent) = (k : mobile_known.Known) (now : ℕ) (c : mobile_calls.Call) → AllByRecursion (IsSilent says n) (mobiles.answers_of (mobile_doing.transition_of k now c).steps)
 
 -- a question that no claim, no time and no packet answers
 pub record IsApart {S : Type 0} (says : Entry → Option S) : Type 0 where
@@ -95,17 +95,17 @@ module _ {S : Type 0} (s : Setup) (says : Entry → Option S) (d : S) (apart : I
       kinds : (own : Address) (kind : Kind) → IsSilentKind says n kind → tells s says d (by_kind s n own call run kind) ≡ tells s says d run
       kinds own (Correspondent room) silent =
           asks_silent _ (for_correspondent call) run (λ c.
-          let turn : correspondent_turns.Transition = correspondent_doing.turn_of (identity_in s run n own room) (known_in s run n room) (now_in s run) c in
-          silent_answers _ _ (correspondents.answers_of turn.steps) (silent_steps correspondents.answer_of says n silent turn.steps))
+          let transition : correspondent_transitions.Transition = correspondent_doing.transition_of (identity_in s run n own room) (known_in s run n room) (now_in s run) c in
+          silent_answers _ _ (correspondents.answers_of transition.steps) (silent_steps correspondents.answer_of says n silent transition.steps))
       kinds own (Agent preference life room serves) silent =
           asks_silent _ (for_agent (around_in run n None) call) run (λ c.
-          let turn : agent_turns.Transition = agent_doing.turn_of (agent_of own preference life room) (agent_known_in run n serves) (now_in s run) c in
-          silent_answers _ _ (agents.answers_of turn.steps) (silent_steps agents.answer_of says n silent turn.steps))
+          let transition : agent_transitions.Transition = agent_doing.transition_of (agent_of own preference life room) (agent_known_in run n serves) (now_in s run) c in
+          silent_answers _ _ (agents.answers_of transition.steps) (silent_steps agents.answer_of says n silent transition.steps))
       kinds own (Mobile agent) silent =
           asks_silent _ (for_mobile (around_in run n (Some own.0)) own call) run (λ c.
           let k : mobile_known.Known = mobile_known_in s run n own agent in
-          let turn : mobile_turns.Transition = mobile_doing.turn_of k (now_in s run) c in
-          silent_answers _ _ (mobiles.answers_of turn.steps) (silent k (now_in s run) c))
+          let transition : mobile_transitions.Transition = mobile_doing.transition_of k (now_in s run) c in
+          silent_answers _ _ (mobiles.answers_of transition.steps) (silent k (now_in s run) c))
 
       by_node : (o : Option Host) → ((host : Host) → o ≡ Some host → IsSilentKind says n host.kind) → tells s says d (by_host s n call run o) ≡ tells s says d run
       by_node None silent = tells_same s says d run entries.Idle (let q = apart.quiet in q.idle entries.Idle refl)

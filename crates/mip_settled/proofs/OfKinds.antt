@@ -21,7 +21,7 @@ use Rattle.mip_rules_mobile.specs.Known.{Known}
 use Rattle.mip_rules_mobile.specs.Steps as mobiles
 use Rattle.mip_rules_mobile.specs.Questions.{after}
 use Rattle.mip_rules_mobile.specs.RowQuestions.{lies_ahead}
-use Rattle.mip_rules_mobile.specs.Doing.{turn_of}
+use Rattle.mip_rules_mobile.specs.Doing.{transition_of}
 use Rattle.mip_rules_mobile.specs.Fitting.{Fits, EachFits}
 use Rattle.mip_rules_mobile.proofs.Fits.{call-fits}
 use Rattle.mip_schedule.specs.declared.event.Event.{Event}
@@ -223,7 +223,7 @@ module _ (n : ℕ) (home : Address) where
   registration_kind : (kind : Kind) → is_agent_kind kind ≡ false → IsSilentKind (registration_says n home) n kind
   registration_kind (Agent preference life room serves) none = absurd cc
   registration_kind (Correspondent room) none = registration_correspondent n home
-  registration_kind (Mobile agent) none = λ k now c. registration_steps c now k (turn_of k now c).steps (call-fits k now c)
+  registration_kind (Mobile agent) none = λ k now c. registration_steps c now k (transition_of k now c).steps (call-fits k now c)
 
 registration_quiet : (n : ℕ) (home : Address) → IsQuiet (registration_says n home)
 registration_quiet n home = record { idle = idle; sent = λ number m shielded packet. refl }

@@ -20,7 +20,7 @@ use Rattle.mip_history.proofs.Keeping.{is_busy}
 use Rattle.mip_history.specs.Told.{present_says, registration_told}
 use Rattle.mip_history.specs.Found.{address_of}
 use Rattle.mip_settled.proofs.Answered.{IsQuiet, IsMute}
-use Rattle.mip_settled.proofs.Turning.{is_plain, entry_of, says_of, IsRightNote, plain_standing, IsKnown}
+use Rattle.mip_settled.proofs.MobileTransitions.{is_plain, entry_of, says_of, IsRightNote, plain_standing, IsKnown}
 
 -- the link on which a mobile stands is told by no node
 pub moved_quiet : (n : ℕ) → IsQuiet (moved_says n)

@@ -26,19 +26,19 @@ use Rattle.mip_rules_mobile.specs.Steps.{Step, Called, FindsTaken, Arrives, Deta
 use Rattle.mip_rules_mobile.specs.Known.{Known}
 use Rattle.mip_rules_mobile.specs.HomeQuestions.{home_of, registered_said}
 use Rattle.mip_rules_mobile.specs.Questions.{after, known}
-use Rattle.mip_rules_mobile.specs.Transitions.{Transition, begun, noted, with_turn}
+use Rattle.mip_rules_mobile.specs.Transitions.{Transition, begun, noted, with_transition}
 use Rattle.mip_rules_mobile.specs.TrialRules.{each_row}
 use Rattle.mip_rules_mobile.specs.MovingRules.{address_under, uses_prefix, releases, unbinds, leaves}
 use Rattle.mip_rules_mobile.specs.Part.{is_restart}
 use Rattle.mip_rules_mobile.specs.Answering.{stays_put}
-use Rattle.mip_rules_mobile.specs.Doing.{does, turn_of}
+use Rattle.mip_rules_mobile.specs.Doing.{does, transition_of}
 use Rattle.mip_rules_mobile.specs.Fitting.{Fits, EachFits, is_detached}
 use Rattle.mip_rules_mobile.proofs.Steady.{standing-noted}
 use Rattle.mip_rules_mobile.proofs.Fits.{known_along, call-along}
 use Rattle.mip_rules_mobile.proofs.Calls.{stands-known, call-stands}
 use Rattle.mip_rules_mobile.proofs.Shielding.{past-home}
 use Rattle.mip_transitions.specs.Transitions.{StandsBy}
-use Rattle.mip_transitions.proofs.TurnLaws.{noted-known}
+use Rattle.mip_transitions.proofs.TransitionLaws.{noted-known}
 use Rattle.mip_links.specs.Table.{link_from, link_of, holder_outside}
 use Rattle.mip_schedule.specs.declared.event.Event.{Event}
 use Rattle.mip_history.specs.Setup.{Setup, Host, Kind, is_mobile_host}
@@ -49,7 +49,7 @@ use Rattle.mip_history.specs.Calls.{Call, Take, Send as Sending, Refresh, Tick, 
 use Rattle.mip_history.specs.Knowing.{now_in, secrets_in, mobile_known_in, stands_on, around_in}
 use Rattle.mip_history.specs.Advertising.{is_link, roams_by_host}
 use Rattle.mip_history.specs.Claims.{link_id}
-use Rattle.mip_history.specs.Nodes.{left_by, answered_one, answered, mobile_turned, asks, by_kind, by_host, acts}
+use Rattle.mip_history.specs.Nodes.{left_by, answered_one, answered, after_mobile_transition, asks, by_kind, by_host, acts}
 use Rattle.mip_history.specs.Permitted.{moves, run_of}
 use Rattle.mip_history.proofs.Opening.{nothing}
 use Rattle.mip_history.proofs.Keeping.{is_busy, IsThere, IsCall, is_leave, is_rebirth, emptied_by_kind, emptied_by_host, emptied, Keeps, keeps_overheard, keeps_claims, keeps_gives_up}
@@ -57,7 +57,7 @@ use Rattle.mip_history.proofs.Walking.{walk_run}
 use Rattle.mip_history.specs.Told.{present_says, present_in, registration_told}
 use Rattle.mip_history.specs.Found.{address_of}
 use Rattle.mip_settled.proofs.Answered.{IsQuiet, IsMute, tells, tells_push, tells_same, answers_mute}
-use Rattle.mip_settled.proofs.Turning.{Tells, arrived_at, staying_tells, restart_tells, using_tells, attaching_tells}
+use Rattle.mip_settled.proofs.MobileTransitions.{Tells, arrived_at, staying_tells, restart_tells, using_tells, attaching_tells}
 use Rattle.mip_settled.proofs.Questions.{moved_quiet, moved_mute, present_quiet, present_mute, IsHome, present_known, registration_quiet, registration_mute, registration_known}
 
 -- where a mobile uses an address, it uses the prefix of its link
@@ -131,8 +131,8 @@ bare_along : (c : mobiles.Call) (now : ℕ) (k : Known) (steps : List Step) → 
 bare_along c now k [] each bare = bare
 bare_along c now k (step ∷ steps) each bare = bare_along c now (after k (record { at = now; step = step })) steps each.1 (bare_after c now k step each.0 bare)
 
-bare_turn : (k : Known) (now : ℕ) (c : mobiles.Call) → IsBare k → IsBare (turn_of k now c).known
-bare_turn k now c bare = let is = call-along k now c in subst IsBare (sym is.known) (bare_along c now k (turn_of k now c).steps is.each bare)
+bare_transition : (k : Known) (now : ℕ) (c : mobiles.Call) → IsBare k → IsBare (transition_of k now c).known
+bare_transition k now c bare = let is = call-along k now c in subst IsBare (sym is.known) (bare_along c now k (transition_of k now c).steps is.each bare)
 
 -- an address that is found taken
 apart_standing : (own : Address) (k : Known) (at : ℕ) (address : Address) (holder : ℕ) → address_of own (let x : Known = after k (record { at = at; step = FindsTaken address holder }) in x.standing) ≡ None
@@ -261,51 +261,51 @@ module _ (s : Setup) where
     abbrev pub now : ℕ
     now = now_in s run
 
-    abbrev pub turn : mobiles.Call → Transition
-    turn c = turn_of k now c
+    abbrev pub transition : mobiles.Call → Transition
+    transition c = transition_of k now c
 
     abbrev pub middle : mobiles.Call → Run
-    middle c = with_mobile_past n (with_turn (mobile_past_at run n) (turn c)) run
+    middle c = with_mobile_past n (with_transition (mobile_past_at run n) (transition c)) run
 
     abbrev pub then_ : mobiles.Call → Run
-    then_ c = mobile_turned s n own (turn c) run
+    then_ c = after_mobile_transition s n own (transition c) run
 
     pub home : home_of k ≡ own
     home = past-home own agent s.numbers (secrets_in s n 0) (mobile_past_at run n)
 
-    pub known_then : (c : mobiles.Call) → mobile_known_in s (then_ c) n own agent ≡ (turn c).known
+    pub known_then : (c : mobiles.Call) → mobile_known_in s (then_ c) n own agent ≡ (transition c).known
     unfolding known StandsBy
     known_then c =
-        let past : List (Stamped Step) = with_turn (mobile_past_at run n) (turn c) in
+        let past : List (Stamped Step) = with_transition (mobile_past_at run n) (transition c) in
         let inside : n < length s.hosts = slice_get_within s.hosts n (record { address = own; kind = Mobile agent }) host in
-        ap (λ (l : List (List (Stamped Step))). known own agent s.numbers (secrets_in s n 0) (slice_index_or l n [])) (pasts_answers (slice_set run.mobile_pasts n past) n _ (middle c) (answers_of (turn c).steps) refl)
+        ap (λ (l : List (List (Stamped Step))). known own agent s.numbers (secrets_in s n 0) (slice_index_or l n [])) (pasts_answers (slice_set run.mobile_pasts n past) n _ (middle c) (answers_of (transition c).steps) refl)
         ∙ ap (known own agent s.numbers (secrets_in s n 0)) (get_or-set_same run.mobile_pasts n past [] (omega (arith, long, inside)))
-        ∙ sym (stands-known own agent s.numbers (secrets_in s n 0) past (turn c).known (call-stands own agent s.numbers (secrets_in s n 0) (mobile_past_at run n) k now c refl))
+        ∙ sym (stands-known own agent s.numbers (secrets_in s n 0) past (transition c).known (call-stands own agent s.numbers (secrets_in s n 0) (mobile_past_at run n) k now c refl))
 
     spot_then : (c : mobiles.Call) → stands_on s (then_ c) n own ≡ stands_on s run n own
-    spot_then c = answers_mute s (moved_says n) (link_of s.links own.0) (moved_quiet n) n (moved_mute n n) _ (middle c) (answers_of (turn c).steps)
+    spot_then c = answers_mute s (moved_says n) (link_of s.links own.0) (moved_quiet n) n (moved_mute n n) _ (middle c) (answers_of (transition c).steps)
 
     abbrev TellsPresent : mobiles.Call → Attachment → Type 0
     TellsPresent c st = Tells s n own (IsHome n own) (λ l is. is) (present_says n) (λ (step : Step). None) (λ (l : Known). address_of own l.standing) (λ (o : Option Address). o) (present_known n own) (Some own)
-        (unwrap_or (stands_on s run n own) 0) (middle c) st (turn c)
+        (unwrap_or (stands_on s run n own) 0) (middle c) st (transition c)
 
     abbrev TellsRegistered : mobiles.Call → Attachment → Type 0
     TellsRegistered c st = Tells s n own (IsHome n own) (λ l is. is) (registration_told n) registered_said (λ (l : Known). l.registered) (λ (o : Option Registered). o) (registration_known n own) None
-        (unwrap_or (stands_on s run n own) 0) (middle c) st (turn c)
+        (unwrap_or (stands_on s run n own) 0) (middle c) st (transition c)
 
-    turn_found : (c : mobiles.Call) (st : Attachment) → TellsPresent c st → (IsNode n → TellsRegistered c st) → ((l : ℕ) → stands_on s run n own ≡ Some l → IsUsing own st (slice_index_or s.links l 0)) → IsBare k
+    transition_found : (c : mobiles.Call) (st : Attachment) → TellsPresent c st → (IsNode n → TellsRegistered c st) → ((l : ℕ) → stands_on s run n own ≡ Some l → IsUsing own st (slice_index_or s.links l 0)) → IsBare k
         → IsFound s (then_ c) n own agent
-    turn_found c st p q there bare = record {
+    transition_found c st p q there bare = record {
       present = p.so ∙ ap (λ (l : Known). address_of own l.standing) (sym (known_then c));
       registered = λ node. (let r = q node in r.so) ∙ ap (λ (l : Known). l.registered) (sym (known_then c));
-      none = subst IsBare (sym (known_then c)) (bare_turn k now c bare);
+      none = subst IsBare (sym (known_then c)) (bare_transition k now c bare);
       there = λ l is. subst (λ (x : Attachment). IsUsing own x (slice_index_or s.links l 0)) (sym (ap (λ (x : Known). x.standing) (known_then c) ∙ p.stands)) (there l (sym (spot_then c) ∙ is));
     }
 
     module _ (f : IsFound s run n own agent) where
       staying_found : (c : mobiles.Call) → stays_put c ≡ true → is_restart c ≡ false → IsFound s (then_ c) n own agent
       staying_found c stays lives =
-          turn_found c k.standing
+          transition_found c k.standing
           (staying_tells s n own (IsHome n own) (λ l is. is) (present_says n) (λ (step : Step). None) (λ (l : Known). address_of own l.standing) (λ (o : Option Address). o) (present_known n own) (Some own) _ (middle c) k now c stays lives f.present home)
           (λ node. staying_tells s n own (IsHome n own) (λ l is. is) (registration_told n) registered_said (λ (l : Known). l.registered) (λ (o : Option Registered). o) (registration_known n own) None _ (middle c) k now c stays lives (f.registered node) home)
           f.there f.none
@@ -333,7 +333,7 @@ module _ (s : Setup) where
         same_found : uses_prefix k.standing own prefix ≡ true → IsFound s (then_ c) n own agent
         same_found uses =
             let yes : uses_prefix k.standing (home_of k) prefix ≡ true = ap (λ (a : Address). uses_prefix k.standing a prefix) home ∙ uses in
-            turn_found c k.standing
+            transition_found c k.standing
             (using_tells s n own (IsHome n own) (λ l is. is) (present_says n) (λ (step : Step). None) (λ (l : Known). address_of own l.standing) (λ (o : Option Address). o) (present_known n own) (Some own) _ (middle c) k now prefix of_home of_address yes f.present home)
             (λ node. using_tells s n own (IsHome n own) (λ l is. is) (registration_told n) registered_said (λ (l : Known). l.registered) (λ (o : Option Registered). o) (registration_known n own) None _ (middle c) k now prefix of_home of_address yes (f.registered node) home)
             f.there f.none
@@ -342,7 +342,7 @@ module _ (s : Setup) where
         apart_found apart =
             let bare : k.registered ≡ None = f.none (ap is_detached apart) in
             let nowhere : address_of own k.standing ≡ None = ap (address_of own) apart in
-            turn_found c (arrived_at of_address own prefix)
+            transition_found c (arrived_at of_address own prefix)
             (attaching_tells s n own (IsHome n own) (λ l is. is) (present_says n) (λ (step : Step). None) (λ (l : Known). address_of own l.standing) (λ (o : Option Address). o) (present_known n own) (Some own) _ (middle c) k now prefix of_home of_address apart f.present home
             (λ x same link address holder. refl) (λ l at address holder same. apart_standing own l at address holder ∙ sym nowhere))
             (λ node. attaching_tells s n own (IsHome n own) (λ l is. is) (registration_told n) registered_said (λ (l : Known). l.registered) (λ (o : Option Registered). o) (registration_known n own) None _ (middle c) k now prefix of_home of_address apart (f.registered node) home
@@ -352,7 +352,7 @@ module _ (s : Setup) where
             ended : {x : Option Registered} → x ≡ None → unwrap_or (if n == n then Some None else None) x ≡ x
             ended {x = x} is = ap (λ (b : Bool). unwrap_or (if b then Some None else None) x) (eq-eqb n n refl) ∙ sym is
 
-      -- what a call makes of the run: nothing, a turn of a call by which the mobile stays where it stands, or one by which it hears of a prefix, where it uses this prefix or no address
+      -- what a call makes of the run: nothing, a transition of a call by which the mobile stays where it stands, or one by which it hears of a prefix, where it uses this prefix or no address
       module _ (Q : Run → Type 0) (idle : Q (note entries.Idle run)) (staying : (c : mobiles.Call) → stays_put c ≡ true → is_restart c ≡ false → Q (then_ c))
           (uses : (prefix : ℕ) → IsThere s run n prefix → (of_home of_address : Claim) → uses_prefix k.standing own prefix ≡ true → Q (then_ (mobiles.Attach prefix of_home of_address)))
           (apart : (prefix : ℕ) → IsThere s run n prefix → (of_home of_address : Claim) → k.standing ≡ Detached → Q (then_ (mobiles.Attach prefix of_home of_address))) where
@@ -385,13 +385,13 @@ module _ (s : Setup) where
           (λ prefix there of_home of_address uses. same_found prefix there of_home of_address uses) (λ prefix there of_home of_address is. apart_found prefix there of_home of_address is)
 
     -- it leaves its link
-    left_standing : (of_home : Claim) → (turn (mobiles.Leave of_home)).known.standing ≡ Detached
+    left_standing : (of_home : Claim) → (transition (mobiles.Leave of_home)).known.standing ≡ Detached
     unfolding does leaves
     left_standing of_home =
         let t : Transition = noted (Called (mobiles.Leave of_home)) (begun now k) in
         standing-noted Detaches (each_row unbinds (releases t.known.standing of_home t))
 
-    left_registered : (of_home : Claim) → (turn (mobiles.Leave of_home)).known.registered ≡ None
+    left_registered : (of_home : Claim) → (transition (mobiles.Leave of_home)).known.registered ≡ None
     unfolding does leaves after
     left_registered of_home =
         let t : Transition = noted (Called (mobiles.Leave of_home)) (begun now k) in
@@ -423,7 +423,7 @@ module _ (s : Setup) where
         let c : mobiles.Call = mobiles.Restart secrets in
         let spot : stands_on s next n own ≡ stands_on s run n own = tells_same s (moved_says n) (link_of s.links own.0) run (entries.Restarted (node_id n)) refl in
         subst (λ (r : Run). IsFound s r n own agent) (sym (ap (by_host s n (Restart secrets) next) host))
-        (turn_found n own agent host next long c (mobile_known_in s run n own agent).standing
+        (transition_found n own agent host next long c (mobile_known_in s run n own agent).standing
         (restart_tells s n own (IsHome n own) (λ l is. is) (present_says n) (λ (step : Step). None) (λ (l : Known). address_of own l.standing) (λ (o : Option Address). o) (present_known n own) (Some own) _ (middle n own agent host next long c) (mobile_known_in s run n own agent) (now_in s next) secrets
         (tells_push s (present_says n) (Some own) run (entries.Restarted (node_id n)) ∙ f.present) (home n own agent host run long))
         (λ node. restart_tells s n own (IsHome n own) (λ l is. is) (registration_told n) registered_said (λ (l : Known). l.registered) (λ (o : Option Registered). o) (registration_known n own) None _ (middle n own agent host next long c) (mobile_known_in s run n own agent) (now_in s next) secrets

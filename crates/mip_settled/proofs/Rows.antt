@@ -22,7 +22,7 @@ use Rattle.mip_rules_mobile.specs.Known.{Known}
 use Rattle.mip_rules_mobile.specs.RowQuestions.{rows_after, peers_after, fresh_peer, fresh_peers, touched, forgotten, bound_until, unbound, waiting, set_peer, with_peer, lies_ahead, is_bound_row, if_bound, row_of, bound_row_of}
 use Rattle.mip_rules_mobile.specs.Fitting.{IsTrialOf, Fits}
 use Rattle.mip_rules_mobile.proofs.Peers.{changed-own}
-use Rattle.mip_settled.proofs.Turning.{is_plain}
+use Rattle.mip_settled.proofs.MobileTransitions.{is_plain}
 
 -- the end of a peer's binding: what is kept beside its row
 abbrev pub look : Address → List Row → List Peer → Option Moment

@@ -1,3 +1,3 @@
-pub mod TurnLaws
+pub mod TransitionLaws
 pub mod ShowLaws
 pub mod PastLaws

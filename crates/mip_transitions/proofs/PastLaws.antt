@@ -23,7 +23,7 @@ module _ {S : Type 0} where
   rises-front from [] more rises = tt
   rises-front from (s ∷ past) more rises = (rises.0, rises-front s.at past more rises.1)
 
-  -- a turn at a moment that no step of the past is behind
-  pub rises_turn : (from at : ℕ) (past : List (Stamped S)) (steps : List S) → from ≤ at → AllByRecursion (λ s. s.at ≤ at) past → RisesFrom from past → RisesFrom from (past ++ stamped at steps)
-  rises_turn from at past steps early all rises =
+  -- a transition at a moment that no step of the past is behind
+  pub rises_transition : (from at : ℕ) (past : List (Stamped S)) (steps : List S) → from ≤ at → AllByRecursion (λ s. s.at ≤ at) past → RisesFrom from past → RisesFrom from (past ++ stamped at steps)
+  rises_transition from at past steps early all rises =
       rises-append from past (stamped at steps) rises (stamped-rises (last_at from past) at steps (last_early at from past early all))

@@ -1,4 +1,4 @@
--- A turn of a role: one call, with what is known as it goes on and what was done in it so far.
+-- A transition of a role: one call, with what is known as it goes on and what was done in it so far.
 use Rattle.std.specs.Prelude.{◌≡◌, ◌++◌, ℕ, List, [], ◌∷◌, fold}
 use Rattle.mip_entries.specs.Stamped.{Stamped, stamped}
 
@@ -23,6 +23,6 @@ known_by after fresh past = fold after fresh past
 unfoldable pub StandsBy : {K S : Type 0} → (K → Stamped S → K) → K → List (Stamped S) → K → Type 0
 StandsBy after fresh past k = k ≡ known_by after fresh past
 
--- the past with a turn behind it
-abbrev pub with_turn : {K S : Type 0} → List (Stamped S) → Transition K S → List (Stamped S)
-with_turn past t = past ++ stamped t.now t.steps
+-- the past with a transition behind it
+abbrev pub with_transition : {K S : Type 0} → List (Stamped S) → Transition K S → List (Stamped S)
+with_transition past t = past ++ stamped t.now t.steps

@@ -38,8 +38,8 @@ on-err (Err e) p = p
 -- the answers so far are the first of all, and stay so with the next one
 pub first-more : (all : List Answer) (xs : List Answer) (a : Answer) → take (length xs) all ≡ xs → (length xs < length all) × (a ≡ get_or all (length xs) a)
     → take (length (xs ++ a ∷ [])) all ≡ xs ++ a ∷ []
-first-more all xs a first turn =
-    ap (λ (n : ℕ). take n all) (length_push xs a) ∙ take_more all (length xs) a turn.0 ∙ ap (λ (l : List Answer). l ++ get_or all (length xs) a ∷ []) first ∙ ap (λ (b : Answer). xs ++ b ∷ []) (sym turn.1)
+first-more all xs a first yielded =
+    ap (λ (n : ℕ). take n all) (length_push xs a) ∙ take_more all (length xs) a yielded.0 ∙ ap (λ (l : List Answer). l ++ get_or all (length xs) a ∷ []) first ∙ ap (λ (b : Answer). xs ++ b ∷ []) (sym yielded.1)
 
 -- the calls for the answers so far, and for one more
 puts_of-more : (gives : Put → Bool) (asked bs : List Answer) (a b : Answer) → PutsAll gives asked bs → puts_of (asked ++ a ∷ []) (bs ++ b ∷ []) ≡ puts_of asked bs ++ puts_for a b

@@ -1,7 +1,7 @@
 //! Histories that no run gives. The packets are those that another program wrote for one correspondent.
 
 use mip_entries::{Entry, History};
-use mip_provenance::{AcceptedUpdate, Mark, Watch};
+use mip_provenance::{AcceptedUpdate, Mark, WholeHistory};
 use mip_words::{Address, Bytes, LinkId, Memory, Moment, NodeId};
 use std::alloc::Global;
 
@@ -96,7 +96,7 @@ fn mark_of(alloc: Global, steps: &[Step]) -> Option<Mark> {
         return None;
     };
     match AcceptedUpdate::of(last) {
-        Some(_) => Some(Watch::judge(&history, place)),
+        Some(_) => Some(WholeHistory::judge(&history, place)),
         None => None,
     }
 }

@@ -22,11 +22,11 @@ returns-clause-shows c = λ claim held is t shows.
     let b = c.args.binding in
     let r = c.args.registration.now in
     let old = c.args.answers.now in
-    let turned : Transition = claims_if held (deletes r) home (noted (Registers d.number home b) t) in
+    let claimed : Transition = claims_if held (deletes r) home (noted (Registers d.number home b) t) in
     let first = registers d.number home b now k old c.note_change.new.answers t held (deletes r)
     (c.in_ok-note_change.ensures ∙ ap (λ (h : Option Bool). old ++ answers_change home b h) is) shows in
-    let second = c.in_ok-answer_if.ensures now (registered d.number home b now k old c.note_change.new.answers t (holding_of held (deletes r))) (claims_held (holding_of held (deletes r)) home) turned first in
+    let second = c.in_ok-answer_if.ensures now (registered d.number home b now k old c.note_change.new.answers t (holding_of held (deletes r))) (claims_held (holding_of held (deletes r)) home) claimed first in
     let leaves : Option Bool → List Ending → Known = λ h es. record { last = k.last; homes = with_holding h home (with_served (bound_to b) home k.homes); ends = es; agents = k.agents; plan = k.plan } in
-    let answered : Transition = answers_if r.ack d.identity.now r c.args.granted turned in
+    let answered : Transition = answers_if r.ack d.identity.now r c.args.granted claimed in
     subst (λ (h : Option Bool). Shows now (leaves h c.in_ok-ends.ends.items) (claims_held h home) c.answer_if.new.answers answered) (sym is)
     (subst (λ (es : List Ending). Shows now (leaves (holding_of held (deletes r)) es) (claims_held (holding_of held (deletes r)) home) c.answer_if.new.answers answered) (sym c.in_ok-ends.ensures) second)

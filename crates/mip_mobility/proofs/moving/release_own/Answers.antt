@@ -1,6 +1,6 @@
 use Rattle.std.proofs.Common.{subst, OnOk}
 use Rattle.mip_words.specs.declared.address.Address.{Address}
-use Rattle.mip_mobility.proofs.Contexts.{turn_at, from-context}
+use Rattle.mip_mobility.proofs.Contexts.{transition_at, from-context}
 use Rattle.mip_call_context.specs.Seen.{Shows}
 use Rattle.mip_rules_mobile.specs.Transitions.{noted}
 use Rattle.mip_rules_mobile.specs.HomeQuestions.{home_of}
@@ -11,4 +11,4 @@ pub returns : goal.returns
 returns c =
     let d = c.args.context.now in
     from-context d (λ t. OnOk c.release.result (Shows c.release.new.self (noted (Releases (home_of t.known)) t)))
-    (λ steps shows. subst (λ (h : Address). OnOk c.release.result (Shows c.release.new.self (noted (Releases h) (turn_at d steps)))) c.home-home.ensures.value (c.release.ensures (turn_at d steps) shows))
+    (λ steps shows. subst (λ (h : Address). OnOk c.release.result (Shows c.release.new.self (noted (Releases h) (transition_at d steps)))) c.home-home.ensures.value (c.release.ensures (transition_at d steps) shows))

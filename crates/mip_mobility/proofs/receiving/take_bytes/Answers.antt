@@ -5,7 +5,7 @@ use Rattle.mip_ipv6.specs.declared.not_packet.NotPacket.{NotPacket}
 use Rattle.mip_ipv6.specs.Packet.{Packet}
 use Rattle.mip_rules_mobile.specs.Steps.{Drops}
 use Rattle.mip_rules_mobile.specs.ReceivingRules.{receives, takes}
-use Rattle.mip_mobility.proofs.Contexts.{turn_at, from-context}
+use Rattle.mip_mobility.proofs.Contexts.{transition_at, from-context}
 use Rattle.mip_call_context.specs.Seen.{Shows}
 use Rattle.mip_rules_mobile.specs.Transitions.{noted}
 use Rattle.mip_mobility.proofs.receiving.take_bytes.Goals as goal
@@ -25,5 +25,5 @@ returns-in-Ok c =
     let h = c.args.handed.now in
     let bytes = c.args.bytes.now in
     from-context d (λ t. OnOk c.take_packet.result (Shows c.take_packet.new.context (takes h.number h.shield bytes t)))
-    (λ steps shows. subst (λ (r : Result Packet NotPacket). OnOk c.take_packet.result (Shows c.take_packet.new.context (receives h.number h.shield bytes r (turn_at d steps))))
-    (sym c.in-Ok.ensures.exact) (c.take_packet.ensures (turn_at d steps) shows))
+    (λ steps shows. subst (λ (r : Result Packet NotPacket). OnOk c.take_packet.result (Shows c.take_packet.new.context (receives h.number h.shield bytes r (transition_at d steps))))
+    (sym c.in-Ok.ensures.exact) (c.take_packet.ensures (transition_at d steps) shows))

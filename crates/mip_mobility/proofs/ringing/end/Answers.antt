@@ -1,7 +1,7 @@
 use Rattle.std.proofs.Common.{subst, OnOk}
 use Rattle.std.specs.Prelude.{Option}
 use Rattle.mip_rules_mobile.specs.declared.registered.Registered.{Registered}
-use Rattle.mip_mobility.proofs.Contexts.{turn_at, from-context}
+use Rattle.mip_mobility.proofs.Contexts.{transition_at, from-context}
 use Rattle.mip_call_context.specs.Seen.{Shows}
 use Rattle.mip_rules_mobile.specs.RingingRules.{ends_home}
 use Rattle.mip_mobility.proofs.ringing.end.Goals as goal
@@ -10,4 +10,4 @@ pub returns : goal.returns
 returns c =
     let d = c.args.context.now in
     from-context d (λ t. OnOk c.end_home.result (Shows c.end_home.new.context (ends_home t.known.registered t)))
-    (λ steps shows. subst (λ (r : Option Registered). OnOk c.end_home.result (Shows c.end_home.new.context (ends_home r (turn_at d steps)))) c.registered-registered.ensures (c.end_home.ensures (turn_at d steps) shows))
+    (λ steps shows. subst (λ (r : Option Registered). OnOk c.end_home.result (Shows c.end_home.new.context (ends_home r (transition_at d steps)))) c.registered-registered.ensures (c.end_home.ensures (transition_at d steps) shows))

@@ -1,6 +1,6 @@
 use Rattle.std.proofs.Common.{subst, OnOk}
 use Rattle.mip_rules_mobile.specs.declared.attachment.Attachment.{Attachment}
-use Rattle.mip_mobility.proofs.Contexts.{turn_at, from-context}
+use Rattle.mip_mobility.proofs.Contexts.{transition_at, from-context}
 use Rattle.mip_call_context.specs.Seen.{Shows}
 use Rattle.mip_rules_mobile.specs.RingingRules.{renews_home}
 use Rattle.mip_mobility.proofs.ringing.renew.Goals as goal
@@ -9,4 +9,4 @@ pub returns : goal.returns
 returns c =
     let d = c.args.context.now in
     from-context d (λ t. OnOk c.renew_home.result (Shows c.renew_home.new.context (renews_home t.known.standing t)))
-    (λ steps shows. subst (λ (s : Attachment). OnOk c.renew_home.result (Shows c.renew_home.new.context (renews_home s (turn_at d steps)))) c.standing-standing.ensures (c.renew_home.ensures (turn_at d steps) shows))
+    (λ steps shows. subst (λ (s : Attachment). OnOk c.renew_home.result (Shows c.renew_home.new.context (renews_home s (transition_at d steps)))) c.standing-standing.ensures (c.renew_home.ensures (transition_at d steps) shows))

@@ -1,6 +1,6 @@
 use Rattle.std.proofs.Common.{subst}
 use Rattle.std.specs.Prelude.{Bool, if◌then◌else◌}
-use Rattle.mip_mobility.proofs.Contexts.{turn_at, from-context}
+use Rattle.mip_mobility.proofs.Contexts.{transition_at, from-context}
 use Rattle.mip_call_context.specs.Seen.{Shows}
 use Rattle.mip_rules_mobile.specs.Transitions.{Transition, noted}
 use Rattle.mip_rules_mobile.specs.Steps.{Tries}
@@ -13,5 +13,5 @@ returns c =
     let d = c.args.context.now in
     let row = c.args.row in
     from-context d (λ t. Shows c.rest_where.new.context (rests_if_bound row t))
-    (λ steps shows. subst (λ (b : Bool). Shows c.rest_where.new.context (let u : Transition = (if b then noted (Tries row Rest) (turn_at d steps) else turn_at d steps) in u)) c.is_bound-bound.ensures
-    (c.rest_where.ensures (turn_at d steps) shows))
+    (λ steps shows. subst (λ (b : Bool). Shows c.rest_where.new.context (let u : Transition = (if b then noted (Tries row Rest) (transition_at d steps) else transition_at d steps) in u)) c.is_bound-bound.ensures
+    (c.rest_where.ensures (transition_at d steps) shows))

@@ -5,7 +5,7 @@ use Rattle.mip_ipv6.specs.declared.head.Head.{Head}
 use Rattle.mip_packet_builders.specs.Packets.{data_packet}
 use Rattle.mip_rules_correspondent.specs.Questions.{held_of}
 use Rattle.mip_rules_mobile.specs.declared.attachment.Attachment.TheVariants.{Away}
-use Rattle.mip_mobility.proofs.Contexts.{turn_at, from-context}
+use Rattle.mip_mobility.proofs.Contexts.{transition_at, from-context}
 use Rattle.mip_call_context.specs.Seen.{Shows}
 use Rattle.mip_rules_mobile.specs.HomeQuestions.{home_of}
 use Rattle.mip_rules_mobile.specs.Sendings.{SendsData, data_head}
@@ -21,7 +21,7 @@ returns c =
     let proto = c.args.proto in
     let held = held_of d.known.part.known d.moment to in
     from-context d (λ t. OnOk c.put.result (Shows c.put.new.self (transmits_from (Away careof) (Some c.args.row) to proto c.args.payload.now t)))
-    (λ steps shows. c.put.ensures (SendsData home careof to held proto c.args.payload.now) (turn_at d steps) tt refl
+    (λ steps shows. c.put.ensures (SendsData home careof to held proto c.args.payload.now) (transition_at d steps) tt refl
     (c.in_ok-packet.ensures.bytes
     ∙ ap (λ (h : Head). data_packet h c.args.payload.now)
     (c.data_head-head.ensures.head ∙ ap (λ (a : Address). data_head a careof to proto c.held_of-held.result) c.home.ensures.value ∙ ap (λ (o : Option Address). data_head home careof to proto o) c.held_of-held.ensures.value))

@@ -3,7 +3,7 @@ use Rattle.std.specs.Prelude.{Option}
 use Rattle.mip_words.specs.declared.address.Address.{Address}
 use Rattle.mip_ipv6.specs.Packet.{packet as tree}
 use Rattle.mip_rules_mobile.specs.ReceivingRules.{opens_from, opens}
-use Rattle.mip_mobility.proofs.Contexts.{turn_at, from-context}
+use Rattle.mip_mobility.proofs.Contexts.{transition_at, from-context}
 use Rattle.mip_call_context.specs.Seen.{Shows}
 use Rattle.mip_mobility.proofs.tunnelled.open.Goals as goal
 
@@ -14,8 +14,8 @@ returns-in-Some c =
     let h = c.args.handed.now in
     let p = tree c.args.packet.now in
     from-context d (λ t. OnOk c.open_from.result (Shows c.open_from.new.context (opens h.number h.shield p t)))
-    (λ steps shows. subst (λ (o : Option Address). OnOk c.open_from.result (Shows c.open_from.new.context (opens_from o h.number h.shield p (turn_at d steps))))
-    (sym c.in-Some.is ∙ c.agent.ensures) (c.open_from.ensures (turn_at d steps) shows))
+    (λ steps shows. subst (λ (o : Option Address). OnOk c.open_from.result (Shows c.open_from.new.context (opens_from o h.number h.shield p (transition_at d steps))))
+    (sym c.in-Some.is ∙ c.agent.ensures) (c.open_from.ensures (transition_at d steps) shows))
 
 pub returns-in-None : goal.returns-in-None
 unfolding opens
@@ -24,5 +24,5 @@ returns-in-None c =
     let h = c.args.handed.now in
     let p = tree c.args.packet.now in
     from-context d (λ t. OnOk c.drop_packet.result (Shows c.drop_packet.new.self (opens h.number h.shield p t)))
-    (λ steps shows. subst (λ (o : Option Address). OnOk c.drop_packet.result (Shows c.drop_packet.new.self (opens_from o h.number h.shield p (turn_at d steps))))
-    (sym c.in-None.is ∙ c.agent.ensures) (c.drop_packet.ensures (turn_at d steps) shows))
+    (λ steps shows. subst (λ (o : Option Address). OnOk c.drop_packet.result (Shows c.drop_packet.new.self (opens_from o h.number h.shield p (transition_at d steps))))
+    (sym c.in-None.is ∙ c.agent.ensures) (c.drop_packet.ensures (transition_at d steps) shows))

@@ -4,7 +4,7 @@ use Rattle.mip_ipv6.specs.Packet.{packet as tree}
 use Rattle.mip_rules_mobile.specs.ReceivingRules.{takes_inner}
 use Rattle.mip_mobility.specs.Inners.{inner_why}
 use Rattle.mip_mobility.proofs.Inner.{inner-dropped, inner-checked}
-use Rattle.mip_mobility.proofs.Contexts.{turn_at, from-context}
+use Rattle.mip_mobility.proofs.Contexts.{transition_at, from-context}
 use Rattle.mip_call_context.specs.Seen.{Shows}
 use Rattle.mip_rules_mobile.specs.Transitions.{Transition}
 use Rattle.mip_mobility.proofs.tunnelled.take_inner.Goals as goal
@@ -17,9 +17,9 @@ returns-in-Some c =
     let bytes = c.args.bytes.now in
     from-context d (λ t. OnOk c.drop_packet.result (Shows c.drop_packet.new.self (takes_inner h.number h.shield bytes p t)))
     (λ steps shows. subst (λ (u : Transition). OnOk c.drop_packet.result (Shows c.drop_packet.new.self u))
-    (inner-dropped h.number h.shield bytes p (turn_at d steps) c.in-Some.why
+    (inner-dropped h.number h.shield bytes p (transition_at d steps) c.in-Some.why
     (sym (c.inner_why.ensures ∙ ap (λ (a : Address). inner_why a h.shield p.head) c.home.ensures.value) ∙ c.in-Some.is))
-    (c.drop_packet.ensures (turn_at d steps) shows))
+    (c.drop_packet.ensures (transition_at d steps) shows))
 
 pub returns-in-None : goal.returns-in-None
 returns-in-None c =
@@ -29,6 +29,6 @@ returns-in-None c =
     let bytes = c.args.bytes.now in
     from-context d (λ t. OnOk c.take_checked.result (Shows c.take_checked.new.context (takes_inner h.number h.shield bytes p t)))
     (λ steps shows. subst (λ (u : Transition). OnOk c.take_checked.result (Shows c.take_checked.new.context u))
-    (inner-checked h.number h.shield bytes p (turn_at d steps)
+    (inner-checked h.number h.shield bytes p (transition_at d steps)
     (sym (c.inner_why.ensures ∙ ap (λ (a : Address). inner_why a h.shield p.head) c.home.ensures.value) ∙ c.in-None.is))
-    (c.take_checked.ensures (turn_at d steps) shows))
+    (c.take_checked.ensures (transition_at d steps) shows))

@@ -26,7 +26,7 @@ loop-done-preserved g c =
     let old : Stand = stand (g.C.Clock.ahead c.loop-done.clock) (g.L.Link.coming c.loop-done.link) c.loop-done.node (g.L.Link.sent c.loop-done.link) (g.K.Sink.held c.loop-done.sink) in
     let new : Stand = stand (g.C.Clock.ahead c.turn_told.new.clock) (g.L.Link.coming c.turn_told.new.link) c.turn_told.new.node (g.L.Link.sent c.turn_told.new.link) (g.K.Sink.held c.turn_told.new.sink) in
     let inv = c.loop-done.invariant in
-    let grew = c.turn_told.ensures.no_fewer in
+    let grew = c.turn_told.ensures.faults.no_fewer in
     record {
       ran = one_more first c.loop-done.done old new inv.ran c.in_ok-turn_told.ensures.ok;
       timely = c.turn_told.ensures.kept.0;

@@ -5,4 +5,4 @@ use Rattle.mip_proxynd.specs.Text.{holds_of}
 use Rattle.mip_proxynd.proofs.holding.put_link.Given as goal
 
 abbrev pub invariant-loop-row : goal.invariant-loop-row
-invariant-loop-row l = l.out ++ flat_map (holds_of l.ds l.link) l.row-iterator ≡ l.fn.out ++ flat_map (holds_of l.ds l.link) (values_of l.standing)
+invariant-loop-row l = l.out ++ flat_map (holds_of l.ds l.link) l.row-iterator ≡ l.fn.out ++ flat_map (holds_of l.ds l.link) (values_of l.claims)

@@ -12,7 +12,7 @@ pub loop-run-init : goal.loop-run-init
 loop-run-init g c = record {
   stands = c.in_ok-run.ensures.stands;
   written = rw c.in_ok-run.ensures.none (append_none _ _ refl);
-  standing = rw c.in_ok-run.ensures.none c.requires;
+  claims = rw c.in_ok-run.ensures.none c.requires;
   faults = omega arith;
 }
 
@@ -29,7 +29,7 @@ loop-run-preserved g c =
       written = adverts_on _ _ _ ds next told items c.as_slice-in-Some-2.result.now more c.loop-run.invariant.written
           (piece_text ds c.as_slice.result.now items _ _ _ c.as_slice.ensures c.clear.ensures c.in_ok-tell_entries.ensures.adverts c.as_slice-in-Some-2.ensures)
           c.in_ok-write_text.ensures.ok;
-      standing = rows_on c.loop-run.standing c.tell_entries.new.standing next told items more c.loop-run.invariant.standing c.in_ok-tell_entries.ensures.stands;
+      claims = rows_on c.loop-run.claims c.tell_entries.new.claims next told items more c.loop-run.invariant.claims c.in_ok-tell_entries.ensures.stands;
       faults = omega (arith, c.loop-run.invariant.faults, c.write_text.ensures.no_fewer);
     }
 

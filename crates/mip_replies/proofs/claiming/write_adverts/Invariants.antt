@@ -11,7 +11,7 @@ abbrev pub invariant-loop-run : goal.invariant-loop-run
 invariant-loop-run g l = record {
   stands : IsRunOf l.run (content l.schedule);
   written : g.K.Sink.held l.sink ≡ append_known (g.K.Sink.held l.initial.sink) (adverts l.schedule.declarations l.run.told);
-  standing : l.standing ≡ rows_in [] l.run.told;
+  claims : l.claims ≡ rows_in [] l.run.told;
   faults : g.K.Sink.faults l.initial.sink ≤ g.K.Sink.faults l.sink;
 }
 

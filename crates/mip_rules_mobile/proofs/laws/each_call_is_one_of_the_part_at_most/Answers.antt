@@ -1,4 +1,4 @@
-use Rattle.mip_rules_mobile.proofs.PartTurns.{call-part, restart-part}
+use Rattle.mip_rules_mobile.proofs.PartTransitions.{call-part, restart-part}
 use Rattle.mip_rules_mobile.proofs.laws.each_call_is_one_of_the_part_at_most.Goals as goal
 
 pub returns-clause-called : goal.returns-clause-called

@@ -1,4 +1,4 @@
-use Rattle.mip_transitions.proofs.TurnLaws.{stands-fresh}
+use Rattle.mip_transitions.proofs.TransitionLaws.{stands-fresh}
 use Rattle.mip_transitions.proofs.laws.stands_for_nothing.Goals as goal
 
 pub returns : goal.returns

@@ -1,4 +1,4 @@
-use Rattle.mip_transitions.proofs.TurnLaws.{stands-noted}
+use Rattle.mip_transitions.proofs.TransitionLaws.{stands-noted}
 use Rattle.mip_transitions.proofs.laws.stands_for_one_step_more.Goals as goal
 
 pub returns : goal.returns

@@ -15,10 +15,10 @@ loop-answer-preserved g c =
     let a : Answer = c.in-Some.answer in
     let b : Answer = c.in_ok-send_one.field-0 in
     let inv = c.loop-answer.invariant in
-    let turn = YieldsList-turn (YieldsList-from_vec {s = c.into_iter-answer-iterator.result} c.args.asked (search rules) (search rules))
+    let yielded = YieldsList-turn (YieldsList-from_vec {s = c.into_iter-answer-iterator.result} c.args.asked (search rules) (search rules))
     asked c.loop-answer.answer-iterator c.loop-answer.yielded_by c.next.result c.next.new.self a c.in-Some.is c.next.ensures.steps in
     let pushed : c.push.new.self ≡ before ++ b ∷ [] = c.in_ok-push.ensures.ok in (
-      first-more c.args.asked asked a inv.0 turn,
+      first-more c.args.asked asked a inv.0 yielded,
       subst (λ (bs : List Answer). PutsAll gives (asked ++ a ∷ []) bs) (sym pushed) (puts-more gives asked before a b inv.1 c.in_ok-send_one.ensures.puts),
       subst (λ (bs : List Answer). g.W.Wire.out c.send_one.new.wire ≡ option_map (λ items. items ++ sends_of bs) (g.W.Wire.out c.args.wire.now)) (sym pushed)
           (out-more (g.W.Wire.out c.args.wire.now) (g.W.Wire.out c.loop-answer.wire) (g.W.Wire.out c.send_one.new.wire) before b inv.2 c.in_ok-send_one.ensures.out),
@@ -49,11 +49,11 @@ returns-in_err-push-clause-front g c =
     let a : Answer = c.in-Some.answer in
     let b : Answer = c.in_ok-send_one.field-0 in
     let inv = c.loop-answer.invariant in
-    let turn = YieldsList-turn (YieldsList-from_vec {s = c.into_iter-answer-iterator.result} c.args.asked (search rules) (search rules))
+    let yielded = YieldsList-turn (YieldsList-from_vec {s = c.into_iter-answer-iterator.result} c.args.asked (search rules) (search rules))
     asked c.loop-answer.answer-iterator c.loop-answer.yielded_by c.next.result c.next.new.self a c.in-Some.is c.next.ensures.steps in
     on-err c.from_residual-in_err-push.result
     (front-puts gives c.args.asked (asked ++ a ∷ []) (before ++ b ∷ []) (out c.args.wire.now) (out c.send_one.new.wire) (puts c.args.wire.now) (puts c.send_one.new.wire)
-    (first-more c.args.asked asked a inv.0 turn) (puts-more gives asked before a b inv.1 c.in_ok-send_one.ensures.puts)
+    (first-more c.args.asked asked a inv.0 yielded) (puts-more gives asked before a b inv.1 c.in_ok-send_one.ensures.puts)
     (out-more (out c.args.wire.now) (out c.loop-answer.wire) (out c.send_one.new.wire) before b inv.2 c.in_ok-send_one.ensures.out)
     (answered-more gives (puts c.args.wire.now) (puts c.loop-answer.wire) (puts c.send_one.new.wire) asked before a b inv.1 inv.5 c.in_ok-send_one.ensures.answered))
 

@@ -6,12 +6,12 @@ use Rattle.mip_rules_correspondent.specs.Questions.{held_of}
 use Rattle.mip_rules_correspondent.specs.Doing.{request_refresh}
 use Rattle.mip_rules_correspondent.specs.Calls as calls
 use Rattle.mip_rules_correspondent.specs.declared.known.Known.{Known}
-use Rattle.mip_rules_correspondent.specs.Transitions.{Stands, with_turn}
-use Rattle.mip_rules_correspondent.specs.Seen.{CorrespondentSeen, turn_at}
+use Rattle.mip_rules_correspondent.specs.Transitions.{Stands, with_transition}
+use Rattle.mip_rules_correspondent.specs.Seen.{CorrespondentSeen, transition_at}
 use Rattle.mip_rules_correspondent.proofs.Calls.{call-stands}
 use Rattle.mip_correspondent.specs.Showing.{Shows}
-use Rattle.mip_correspondent.proofs.Turning.{refreshes-shown}
-use Rattle.mip_correspondent.proofs.Turning.{Ends, ends}
+use Rattle.mip_correspondent.proofs.CallTransitions.{refreshes-shown}
+use Rattle.mip_correspondent.proofs.CallTransitions.{Ends, ends}
 use Rattle.mip_correspondent.proofs.correspondent.Correspondent.refresh.Goals as goal
 
 ended : (c : goal.After-commit_call) → Ends c.args.self.now c.commit_call.new.self c.ask_refresh.new.answers c.args.now.0 (calls.Refresh c.args.home)
@@ -35,5 +35,5 @@ pub returns-clause-stands : goal.returns-clause-stands
 returns-clause-stands c = λ room numbers past stands.
     let s = c.args.self.now in
     let call = calls.Refresh c.args.home in
-    subst (λ (k : Known). Stands room numbers (with_turn past (turn_at s c.args.now.0 call)) k) (sym (ap (λ (s : CorrespondentSeen). s.known) (ended c).after))
+    subst (λ (k : Known). Stands room numbers (with_transition past (transition_at s c.args.now.0 call)) k) (sym (ap (λ (s : CorrespondentSeen). s.known) (ended c).after))
     (call-stands room numbers past s.known c.args.now.0 s.identity call stands)

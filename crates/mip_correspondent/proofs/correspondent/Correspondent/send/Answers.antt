@@ -8,12 +8,12 @@ use Rattle.mip_rules_correspondent.specs.Questions.{held_of}
 use Rattle.mip_rules_correspondent.specs.Doing.{data_sent}
 use Rattle.mip_rules_correspondent.specs.Calls as calls
 use Rattle.mip_rules_correspondent.specs.declared.known.Known.{Known}
-use Rattle.mip_rules_correspondent.specs.Transitions.{Stands, with_turn}
-use Rattle.mip_rules_correspondent.specs.Seen.{CorrespondentSeen, turn_at}
+use Rattle.mip_rules_correspondent.specs.Transitions.{Stands, with_transition}
+use Rattle.mip_rules_correspondent.specs.Seen.{CorrespondentSeen, transition_at}
 use Rattle.mip_rules_correspondent.proofs.Calls.{call-stands}
 use Rattle.mip_correspondent.specs.Showing.{Shows}
-use Rattle.mip_correspondent.proofs.Turning.{transmits-shown}
-use Rattle.mip_correspondent.proofs.Turning.{Ends, ends}
+use Rattle.mip_correspondent.proofs.CallTransitions.{transmits-shown}
+use Rattle.mip_correspondent.proofs.CallTransitions.{Ends, ends}
 use Rattle.mip_correspondent.proofs.correspondent.Correspondent.send.Goals as goal
 
 ended : (c : goal.After-commit_call) → Ends c.args.self.now c.commit_call.new.self c.send_data.new.answers c.args.now.0 (calls.Send c.args.to c.args.proto c.args.payload.now)
@@ -38,5 +38,5 @@ pub returns-clause-stands : goal.returns-clause-stands
 returns-clause-stands c = λ room numbers past stands.
     let s = c.args.self.now in
     let call = calls.Send c.args.to c.args.proto c.args.payload.now in
-    subst (λ (k : Known). Stands room numbers (with_turn past (turn_at s c.args.now.0 call)) k) (sym (ap (λ (s : CorrespondentSeen). s.known) (ended c).after))
+    subst (λ (k : Known). Stands room numbers (with_transition past (transition_at s c.args.now.0 call)) k) (sym (ap (λ (s : CorrespondentSeen). s.known) (ended c).after))
     (call-stands room numbers past s.known c.args.now.0 s.identity call stands)

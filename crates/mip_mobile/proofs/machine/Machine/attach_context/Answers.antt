@@ -8,7 +8,7 @@ use Rattle.mip_rules_mobile.specs.Transitions.{Transition, begun, noted}
 use Rattle.mip_mobility.specs.Seen.{Shows}
 use Rattle.mip_mobile.specs.Placing.{attach_at}
 use Rattle.mip_mobile.specs.Handling.{moment_of}
-use Rattle.mip_mobile.proofs.Placed.{attach-turn}
+use Rattle.mip_mobile.proofs.Placed.{attach-transition}
 use Rattle.mip_mobile.proofs.machine.Machine.attach_context.Goals as goal
 
 pub returns-clause-shows : goal.returns-clause-shows
@@ -16,5 +16,5 @@ returns-clause-shows g c = λ around answered.
     let k : Known = c.args.self.now.context.known in
     let now : ℕ = moment_of (g.C.Clock.last c.begin.new.self.clock) c.args.self.now.context.moment in
     let call : calls.Call = attach_at around (home_of k) c.args.prefix.0 in
-    subst (λ (u : Transition). OnOk c.attach.result (Shows c.attach.new.context u)) (attach-turn around k now c.args.prefix.0 c.args.of_home c.args.of_address answered)
+    subst (λ (u : Transition). OnOk c.attach.result (Shows c.attach.new.context u)) (attach-transition around k now c.args.prefix.0 c.args.of_home c.args.of_address answered)
     (c.attach.ensures (noted (Called call) (begun now k)) (c.in_ok-begin.ensures.shows call))

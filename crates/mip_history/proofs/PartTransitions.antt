@@ -1,4 +1,4 @@
--- A turn of a mobile keeps a run: its correspondent part goes on as the history does, whether it accepts an update or not.
+-- A transition of a mobile keeps a run: its correspondent part goes on as the history does, whether it accepts an update or not.
 use Rattle.std.proofs.Common.{◌≡◌, ◌≢◌, ℕ, ◌<◌, List, [], ◌∷◌, ◌++◌, false, length, inl, inr, refl, sym, ap, ◌∙◌, subst, arith, length-set}
 use Rattle.std.specs.Prelude.{fold, Option, Some, None, unwrap_or, slice_get, slice_set, slice_index_or}
 use Rattle.std.specs.List.{list_any}
@@ -12,22 +12,22 @@ use Rattle.mip_entries.specs.declared.entry.Entry.{Entry}
 use Rattle.mip_entries.specs.Stamped.{Stamped, stamped}
 use Rattle.mip_rules_correspondent.specs.Calls as parts
 use Rattle.mip_rules_correspondent.specs.Steps as part_steps
-use Rattle.mip_rules_correspondent.specs.Seen.{CorrespondentSeen, turn_at}
+use Rattle.mip_rules_correspondent.specs.Seen.{CorrespondentSeen, transition_at}
 use Rattle.mip_rules_correspondent.proofs.Moments as part_moments
 use Rattle.mip_rules_mobile.specs.Calls.{Call, Restart}
 use Rattle.mip_rules_mobile.specs.Steps.{Step, Called, Parts, Notes, Restarts, answers_of}
 use Rattle.mip_rules_mobile.specs.Known.{Known}
-use Rattle.mip_rules_mobile.specs.Doing.{turn_of}
-use Rattle.mip_rules_mobile.specs.Part.{PartLife, part_of, part_goes_on, new_part, part_life, concerns_part, accepted_note, IsPartTaken, IsPartTurn, Silent, Asked, Accepting, is_restart, IsPartReborn}
+use Rattle.mip_rules_mobile.specs.Doing.{transition_of}
+use Rattle.mip_rules_mobile.specs.Part.{PartLife, part_of, part_goes_on, new_part, part_life, concerns_part, accepted_note, IsPartTaken, IsPartTransition, Silent, Asked, Accepting, is_restart, IsPartReborn}
 use Rattle.mip_rules_mobile.proofs.Calls.{call-now}
 use Rattle.mip_rules_mobile.proofs.PartLives.{part_is}
-use Rattle.mip_rules_mobile.proofs.PartTurns.{call-part}
+use Rattle.mip_rules_mobile.proofs.PartTransitions.{call-part}
 use Rattle.mip_history.specs.Setup.{Setup, Host, is_correspondent_host, is_mobile_host}
 use Rattle.mip_history.specs.Setup.Kind.{Mobile}
 use Rattle.mip_history.specs.Runs.{Run, mobile_past_at, with_mobile_past}
 use Rattle.mip_history.specs.Questions.{moment_in, life_in}
 use Rattle.mip_history.specs.Knowing.{now_in, secrets_in, mobile_known_in, part_in, stands_on}
-use Rattle.mip_history.specs.Nodes.{answered, mobile_turned}
+use Rattle.mip_history.specs.Nodes.{answered, after_mobile_transition}
 use Rattle.mip_history.specs.Bound.{accepted_by, accepted_entry, IsAccepted}
 use Rattle.mip_history.proofs.Runs.{IsKept, IsPart, past_stays, part_stays, IsRun, IsQuiet, Goes, goes_quietly, goes_then, quiet_then}
 use Rattle.mip_history.proofs.Answering.{clash, differs, quiet_answers, mobile_silence}
@@ -54,7 +54,7 @@ silent_steps home numbers now p (step ∷ steps) none =
     let both = or_parts (concerns_part step) (list_any concerns_part steps) none in
     ap (λ (q : PartLife). goes_along home numbers now q steps) (silent_step home numbers now p step both.0) ∙ silent_steps home numbers now p steps both.1
 
--- the part behind a turn
+-- the part behind a transition
 pub life_along : (home : Address) (numbers : ℕ) (secrets : Life) (old : List (Stamped Step)) (now : ℕ) (steps : List Step)
     → part_life home numbers secrets (old ++ stamped now steps) ≡ goes_along home numbers now (part_life home numbers secrets old) steps
 unfolding part_life
@@ -126,7 +126,7 @@ module _ (s : Setup) (n : ℕ) (home : Address) (agent : Option Address) (run : 
   known_part : k.part ≡ part_of home s.numbers p
   known_part = part_is home agent s.numbers (secrets_in s n 0) old
 
-  -- a turn at a moment and with these steps, from a history on
+  -- a transition at a moment and with these steps, from a history on
   module _ (from : ℕ) (steps : List Step) where
     abbrev next : List (Stamped Step)
     next = old ++ stamped now steps
@@ -135,48 +135,48 @@ module _ (s : Setup) (n : ℕ) (home : Address) (agent : Option Address) (run : 
     next_life = life_along home s.numbers (secrets_in s n 0) old now steps
 
     -- the part goes on, and the history stands
-    calm_turn : IsPart s run.past (part_life home s.numbers (secrets_in s n 0) (mobile_past_at run n ++ stamped now steps)) n → IsQuiet s (with_mobile_past n next run) (mobile_done s n from now steps run)
+    calm_transition : IsPart s run.past (part_life home s.numbers (secrets_in s n 0) (mobile_past_at run n ++ stamped now steps)) n → IsQuiet s (with_mobile_past n next run) (mobile_done s n from now steps run)
         → Goes s run (mobile_done s n from now steps run)
-    calm_turn mine quiet =
+    calm_transition mine quiet =
         let middle = with_mobile_past n next run in
         let there : IsRun s middle = part_goes s n home agent run is host_is run.past next mine (λ m other. refl) refl (λ m other. refl) is.kept in
         goes_then s run middle _ (record { run = there; moment = refl; life = λ m. refl }) (goes_quietly s middle _ there quiet)
 
-    silent_turn : list_any concerns_part steps ≡ false → Goes s run (mobile_done s n from now steps run)
-    silent_turn none =
-        calm_turn (subst (λ (q : PartLife). IsPart s run.past q n) (sym (next_life ∙ silent_steps home s.numbers now p steps none)) p_is)
+    silent_transition : list_any concerns_part steps ≡ false → Goes s run (mobile_done s n from now steps run)
+    silent_transition none =
+        calm_transition (subst (λ (q : PartLife). IsPart s run.past q n) (sym (next_life ∙ silent_steps home s.numbers now p steps none)) p_is)
         (quiet_answers s n from (with_mobile_past n next run) (answers_of steps) (mobile_silence steps none))
 
-  -- the turn of the part
-  abbrev part_turn : parts.Call → List part_steps.Step
-  part_turn call = (turn_at (part_of home s.numbers p) now call).steps
+  -- the transition of the part
+  abbrev part_transition : parts.Call → List part_steps.Step
+  part_transition call = (transition_at (part_of home s.numbers p) now call).steps
 
-  asked_life : (call : parts.Call) → (let q : PartLife = part_goes_on home s.numbers p now (Parts call) in q) ≡ record { secrets = p.secrets; past = p.past ++ stamped now (part_turn call) }
+  asked_life : (call : parts.Call) → (let q : PartLife = part_goes_on home s.numbers p now (Parts call) in q) ≡ record { secrets = p.secrets; past = p.past ++ stamped now (part_transition call) }
   asked_life call =
       let c = part_of home s.numbers p in
-      ap (λ (at : ℕ). let q : PartLife = record { secrets = p.secrets; past = p.past ++ stamped at (part_turn call) } in q) (part_moments.call-now c.identity c.known now call)
+      ap (λ (at : ℕ). let q : PartLife = record { secrets = p.secrets; past = p.past ++ stamped at (part_transition call) } in q) (part_moments.call-now c.identity c.known now call)
 
-  asked_turn : (from : ℕ) (c : Call) (call : parts.Call) (rest : List Step) → list_any concerns_part rest ≡ false → list_any part_steps.is_acceptance (turn_at k.part now call).steps ≡ false
+  asked_transition : (from : ℕ) (c : Call) (call : parts.Call) (rest : List Step) → list_any concerns_part rest ≡ false → list_any part_steps.is_acceptance (transition_at k.part now call).steps ≡ false
       → Goes s run (mobile_done s n from now (Called c ∷ Parts call ∷ rest) run)
-  asked_turn from c call rest none calm =
-      calm_turn from steps (subst (λ (q : PartLife). IsPart s run.past q n) (sym life) gone)
+  asked_transition from c call rest none calm =
+      calm_transition from steps (subst (λ (q : PartLife). IsPart s run.past q n) (sym life) gone)
       (quiet_answers s n from (with_mobile_past n (old ++ stamped now steps) run) (answers_of rest) (mobile_silence rest none))
     where
       steps : List Step
       steps = Called c ∷ Parts call ∷ rest
 
-      life : part_life home s.numbers (secrets_in s n 0) (mobile_past_at run n ++ stamped now (Called c ∷ Parts call ∷ rest)) ≡ record { secrets = p.secrets; past = p.past ++ stamped now (part_turn call) }
+      life : part_life home s.numbers (secrets_in s n 0) (mobile_past_at run n ++ stamped now (Called c ∷ Parts call ∷ rest)) ≡ record { secrets = p.secrets; past = p.past ++ stamped now (part_transition call) }
       life = next_life from steps ∙ silent_steps home s.numbers now (part_goes_on home s.numbers p now (Parts call)) rest none ∙ asked_life call
 
-      gone : IsPart s run.past (record { secrets = p.secrets; past = p.past ++ stamped now (part_turn call) }) n
+      gone : IsPart s run.past (record { secrets = p.secrets; past = p.past ++ stamped now (part_transition call) }) n
       gone = record {
         secrets = p_is.secrets;
-        past = quiet_past s run.past p.past n (part_turn call)
-            (subst (λ (x : CorrespondentSeen). list_any part_steps.is_acceptance (turn_at x now call).steps ≡ false) known_part calm) p_is.past;
+        past = quiet_past s run.past p.past n (part_transition call)
+            (subst (λ (x : CorrespondentSeen). list_any part_steps.is_acceptance (transition_at x now call).steps ≡ false) known_part calm) p_is.past;
       }
 
   -- it accepts an update
-  module _ (c : Call) (x : IsPartTaken k now c (turn_of k now c).steps) (stands : IsAccepted s run.past n x.number x.taken.home x.taken.binding x.taken.accepted) (from : ℕ) where
+  module _ (c : Call) (x : IsPartTaken k now c (transition_of k now c).steps) (stands : IsAccepted s run.past n x.number x.taken.home x.taken.binding x.taken.accepted) (from : ℕ) where
     abbrev call : parts.Call
     call = parts.Part x.number x.packet
 
@@ -189,8 +189,8 @@ module _ (s : Setup) (n : ℕ) (home : Address) (agent : Option Address) (run : 
     abbrev part_taken : List part_steps.Step
     part_taken = part_steps.Called call ∷ part_steps.Accepts x.number x.taken.home x.taken.binding x.taken.accepted ∷ x.taken.rest
 
-    part_taken_is : part_turn call ≡ part_taken
-    part_taken_is = ap (λ (y : CorrespondentSeen). (turn_at y now call).steps) (sym known_part) ∙ x.taken.steps_are
+    part_taken_is : part_transition call ≡ part_taken
+    part_taken_is = ap (λ (y : CorrespondentSeen). (transition_at y now call).steps) (sym known_part) ∙ x.taken.steps_are
 
     taken_life : part_life home s.numbers (secrets_in s n 0) (mobile_past_at run n ++ stamped now taken) ≡ record { secrets = p.secrets; past = p.past ++ stamped now part_taken }
     taken_life =
@@ -215,9 +215,9 @@ module _ (s : Setup) (n : ℕ) (home : Address) (agent : Option Address) (run : 
         (accepted_moment s.start n x.number run.past x.taken.home x.taken.binding x.taken.accepted) (λ m other. accepted_lives n x.number run.past x.taken.home x.taken.binding x.taken.accepted m)
         (accepted_kept s run.past run.posts n x.number x.taken.home x.taken.binding x.taken.accepted stands is.kept)
 
-    taken_turn : Goes s run (mobile_done s n from now taken run)
+    taken_transition : Goes s run (mobile_done s n from now taken run)
     unfolding answered
-    taken_turn =
+    taken_transition =
         let left = marked_with n x.number x.taken.home x.taken.binding x.taken.accepted middle run.past in
         goes_then s run middle _
         (record {
@@ -231,19 +231,19 @@ module _ (s : Setup) (n : ℕ) (home : Address) (agent : Option Address) (run : 
         (quiet_answers s n from left (answers_of x.rest) (mobile_silence x.rest x.none))))
 
   -- a call that is no restart
-  pub mobile_turn : (c : Call) → is_restart c ≡ false
-      → ((x : IsPartTaken k now c (turn_of k now c).steps) → IsAccepted s run.past n x.number x.taken.home x.taken.binding x.taken.accepted)
-      → Goes s run (mobile_turned s n home (turn_of k now c) run)
-  mobile_turn c other stands =
-      subst (λ (at : ℕ). Goes s run (mobile_done s n from at (turn_of k now c).steps run)) (sym (call-now k now c)) (by (call-part k now c other))
+  pub mobile_transition : (c : Call) → is_restart c ≡ false
+      → ((x : IsPartTaken k now c (transition_of k now c).steps) → IsAccepted s run.past n x.number x.taken.home x.taken.binding x.taken.accepted)
+      → Goes s run (after_mobile_transition s n home (transition_of k now c) run)
+  mobile_transition c other stands =
+      subst (λ (at : ℕ). Goes s run (mobile_done s n from at (transition_of k now c).steps run)) (sym (call-now k now c)) (by (call-part k now c other))
     where
       from : ℕ
       from = unwrap_or (stands_on s run n home) 0
 
-      by : IsPartTurn k now c (turn_of k now c).steps → Goes s run (mobile_done s n from now (turn_of k now c).steps run)
-      by (Silent none) = silent_turn from (turn_of k now c).steps none
-      by (Asked call rest steps none calm) = subst (λ (l : List Step). Goes s run (mobile_done s n from now l run)) (sym steps) (asked_turn from c call rest none calm)
-      by (Accepting x) = subst (λ (l : List Step). Goes s run (mobile_done s n from now l run)) (sym x.steps_are) (taken_turn c x (stands x) from)
+      by : IsPartTransition k now c (transition_of k now c).steps → Goes s run (mobile_done s n from now (transition_of k now c).steps run)
+      by (Silent none) = silent_transition from (transition_of k now c).steps none
+      by (Asked call rest steps none calm) = subst (λ (l : List Step). Goes s run (mobile_done s n from now l run)) (sym steps) (asked_transition from c call rest none calm)
+      by (Accepting x) = subst (λ (l : List Step). Goes s run (mobile_done s n from now l run)) (sym x.steps_are) (taken_transition c x (stands x) from)
 
 -- a restart begins the part anew, and no update is accepted in it
 pub reborn_life : (home : Address) (numbers : ℕ) (first : Life) (old : List (Stamped Step)) (now : ℕ) (secrets : Life) (steps : List Step) → IsPartReborn secrets steps

@@ -20,8 +20,8 @@ use mip_entries::{Entry, History};
 use mip_inspection::UpdateIdentity;
 use mip_words::{Address, NodeId};
 
-/// Whoever looks at a whole history.
-pub struct Watch;
+/// The judgement of an acceptance by a whole history.
+pub struct WholeHistory;
 
 /// The address that somebody claims.
 fn claimed_by(entry: &Entry, by: NodeId) -> Option<Address>
@@ -102,7 +102,7 @@ pub fn mark(past: &[Entry], accepted: &AcceptedUpdate) -> Mark
     mark_with(past, accepted, own, &key)
 }
 
-impl Watch {
+impl WholeHistory {
     /// The mark of the update that is accepted at a place, by what stands before it.
     pub fn judge(history: &History, accepted: usize) -> Mark
         requires { IsSome (accepted_at history.now accepted) }

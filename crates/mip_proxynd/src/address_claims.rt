@@ -13,11 +13,11 @@ use std::marker::Model;
 
 /// The claims that stand behind some entries of a history, by their addresses.
 #[derive(Drop)]
-pub struct Standing {
+pub struct AddressClaims {
     pub(crate) rows: BTreeMap<u128, Option<Claim>>,
 }
 
-impl Model for Standing {
+impl Model for AddressClaims {
     ghost use Rattle.mip_proxynd.specs.Claims.{Rows};
 
     ghost Value = { Rows };
@@ -25,12 +25,12 @@ impl Model for Standing {
     ghost view = { λ s. s.rows.entries };
 }
 
-impl Standing {
+impl AddressClaims {
     /// No claim stands.
-    pub fn new(alloc: Global) -> Standing
+    pub fn new(alloc: Global) -> AddressClaims
         ensures { result ≡ [] }
     {
-        Standing {
+        AddressClaims {
             rows: BTreeMap::new(alloc),
         }
     }

@@ -1,4 +1,4 @@
--- How a turn goes on by a step, and a past by a turn. Only here a step is looked into.
+-- How a transition goes on by a step, and a past by a transition. Only here a step is looked into.
 use Rattle.std.proofs.Common.{◌≡◌, ℕ, List, [], ◌∷◌, ◌++◌, refl, sym, ap, ◌∙◌, subst}
 use Rattle.std.specs.Prelude.{Bool, false, ◌||◌}
 use Rattle.std.specs.List.{list_any}
@@ -7,7 +7,7 @@ use Rattle.std.proofs.lemmas.List.{append_assoc, append-nil, map_push}
 use Rattle.std.proofs.lemmas.List.Folds.{list_any-append}
 use Rattle.std.proofs.lemmas.List.Sums.{fold-append}
 use Rattle.mip_entries.specs.Stamped.{Stamped, stamped}
-use Rattle.mip_transitions.specs.Transitions.{Transition, begun, noted_by, known_by, StandsBy, with_turn}
+use Rattle.mip_transitions.specs.Transitions.{Transition, begun, noted_by, known_by, StandsBy, with_transition}
 
 module _ {K S : Type 0} (after : K → Stamped S → K) where
   pub noted-now : (step : S) (t : Transition K S) → (noted_by after step t).now ≡ t.now
@@ -27,7 +27,7 @@ module _ {K S : Type 0} (after : K → Stamped S → K) where
   noted_all [] t = t
   noted_all (step ∷ steps) t = noted_all steps (noted_by after step t)
 
-  -- a turn that went on by steps is at its moment, knows what they leave known, and has them behind its own
+  -- a transition that went on by steps is at its moment, knows what they leave known, and has them behind its own
   pub noted_all-is : (steps : List S) (t : Transition K S) → noted_all steps t ≡ record { now = t.now; known = known_by after t.known (stamped t.now steps); steps = t.steps ++ steps }
   unfolding noted_by
   noted_all-is [] t = ap (λ (l : List S). record { now = t.now; known = t.known; steps = l }) (sym (append-nil t.steps))
@@ -52,22 +52,22 @@ module _ {K S : Type 0} (after : K → Stamped S → K) where
   pub known-push : (fresh : K) (past : List (Stamped S)) (s : Stamped S) → known_by after fresh (past ++ s ∷ []) ≡ after (known_by after fresh past) s
   known-push fresh past s = fold-append after fresh past (s ∷ [])
 
-  -- a turn with one step more is the past with one step more
-  pub with_turn-noted : (past : List (Stamped S)) (step : S) (t : Transition K S) → with_turn past (noted_by after step t) ≡ with_turn past t ++ record { at = t.now; step = step } ∷ []
+  -- a transition with one step more is the past with one step more
+  pub with_transition-noted : (past : List (Stamped S)) (step : S) (t : Transition K S) → with_transition past (noted_by after step t) ≡ with_transition past t ++ record { at = t.now; step = step } ∷ []
   unfolding noted_by
-  with_turn-noted past step t =
+  with_transition-noted past step t =
       ap (λ (l : List (Stamped S)). past ++ l) (map_push (λ (s : S). record { at = t.now; step = s }) t.steps step)
       ∙ sym (append_assoc past (stamped t.now t.steps) (record { at = t.now; step = step } ∷ []))
 
-  -- whoever stands for a past with the turn so far stands for it with one step more
-  pub stands-noted : (fresh : K) (past : List (Stamped S)) (step : S) (t : Transition K S) → StandsBy after fresh (with_turn past t) t.known → StandsBy after fresh (with_turn past (noted_by after step t)) (noted_by after step t).known
+  -- whoever stands for a past with the transition so far stands for it with one step more
+  pub stands-noted : (fresh : K) (past : List (Stamped S)) (step : S) (t : Transition K S) → StandsBy after fresh (with_transition past t) t.known → StandsBy after fresh (with_transition past (noted_by after step t)) (noted_by after step t).known
   unfolding StandsBy noted_by
   stands-noted fresh past step t stands =
       ap (λ (k : K). after k (record { at = t.now; step = step })) stands
-      ∙ sym (known-push fresh (with_turn past t) (record { at = t.now; step = step }))
-      ∙ ap (known_by after fresh) (sym (with_turn-noted past step t))
+      ∙ sym (known-push fresh (with_transition past t) (record { at = t.now; step = step }))
+      ∙ ap (known_by after fresh) (sym (with_transition-noted past step t))
 
-  pub stands-begun : (fresh : K) (past : List (Stamped S)) (now : ℕ) (k : K) → StandsBy after fresh past k → StandsBy after fresh (with_turn past (begun {K = K} {S = S} now k)) k
+  pub stands-begun : (fresh : K) (past : List (Stamped S)) (now : ℕ) (k : K) → StandsBy after fresh past k → StandsBy after fresh (with_transition past (begun {K = K} {S = S} now k)) k
   stands-begun fresh past now k stands = subst (λ (l : List (Stamped S)). StandsBy after fresh l k) (sym (append-nil past)) stands
 
   pub stands-fresh : (fresh : K) → StandsBy after fresh [] fresh

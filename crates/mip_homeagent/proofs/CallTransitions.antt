@@ -1,4 +1,4 @@
--- A call as a turn: what it shows, and what it leaves.
+-- A call as a transition: what it shows, and what it leaves.
 use Rattle.std.proofs.Common.{◌≡◌, ℕ, List, [], ◌∷◌, ◌++◌, refl, sym, ap, ◌∙◌, subst}
 use Rattle.std.specs.Prelude.{Bool, false, Option}
 use Rattle.std.proofs.lemmas.List.{append_assoc, append-nil}
@@ -14,7 +14,7 @@ use Rattle.mip_words.specs.declared.shield.Shield.{Shield}
 use Rattle.mip_ipv6.specs.Reading.{packet_of}
 use Rattle.mip_outside.specs.declared.claim.Claim.{Claim}
 use Rattle.mip_entries.specs.declared.answer.Answer.{Answer}
-use Rattle.mip_transitions.proofs.TurnLaws.{noted_all-is}
+use Rattle.mip_transitions.proofs.TransitionLaws.{noted_all-is}
 use Rattle.mip_rules_agent.specs.Known.{Known}
 use Rattle.mip_rules_agent.specs.Calls as calls
 use Rattle.mip_rules_agent.specs.Calls.{Call}
@@ -24,7 +24,7 @@ use Rattle.mip_rules_agent.specs.Claims.{claims_by}
 use Rattle.mip_rules_agent.specs.Transitions.{Transition, begun, noted}
 use Rattle.mip_rules_agent.specs.Rules.{advertises, receives}
 use Rattle.mip_rules_agent.specs.Doing.{takes, releases_all, ticks, advertises_all, plans, handing, does}
-use Rattle.mip_rules_agent.specs.Seen.{AgentSeen, turn_at, called}
+use Rattle.mip_rules_agent.specs.Seen.{AgentSeen, transition_at, called}
 use Rattle.mip_homeagent.specs.declared.change.Change.{Change}
 use Rattle.mip_homeagent.specs.Changes.{Claiming, unclaimed, with_change, claims_with}
 use Rattle.mip_homeagent.specs.Showing.{Shows, Leads, opened}
@@ -32,23 +32,23 @@ use Rattle.mip_homeagent.proofs.ShowingLaws.{shown, sent, shows_begun, shows-ans
 
 -- what a call ends with
 pub record Ends (old new : AgentSeen) (answers : List Answer) (now : ℕ) (c : Call) (claiming : Claiming) : Type 0 where
-  pub answered : answers ≡ answers_of (turn_at old now c).steps
+  pub answered : answers ≡ answers_of (transition_at old now c).steps
   pub after : new ≡ called old now c
-  pub claimed : (claims : ℕ → Bool) → claims_by (turn_at old now c).steps claims ≡ claiming claims
+  pub claimed : (claims : ℕ → Bool) → claims_by (transition_at old now c).steps claims ≡ claiming claims
 
--- a call ends with what its turn shows
-pub ends_shown : (old new : AgentSeen) (now : ℕ) (c : Call) (k : Known) (claiming : Claiming) (answers : List Answer) → Shows now k claiming answers (turn_at old now c)
+-- a call ends with what its transition shows
+pub ends_shown : (old new : AgentSeen) (now : ℕ) (c : Call) (k : Known) (claiming : Claiming) (answers : List Answer) → Shows now k claiming answers (transition_at old now c)
     → new ≡ record { identity = old.identity; known = k } → Ends old new answers now c claiming
 ends_shown old new now c k claiming answers shows is = record {
-  answered = sym (shows-answers now k claiming answers (turn_at old now c) shows);
-  after = is ∙ ap (λ (k : Known). record { identity = old.identity; known = k }) (sym (shows-known now k claiming answers (turn_at old now c) shows));
+  answered = sym (shows-answers now k claiming answers (transition_at old now c) shows);
+  after = is ∙ ap (λ (k : Known). record { identity = old.identity; known = k }) (sym (shows-known now k claiming answers (transition_at old now c) shows));
   claimed = shows.1;
 }
 
 -- a packet that is handed over
 pub take_shown : (s : AgentSeen) (now number : ℕ) (shield : Option Shield) (bytes : List ℕ) (claim : Claim) (change : Option Change) (answers : List Answer)
     → Leads (receives (handing s.identity now (opened now s.known) number shield bytes claim) (packet_of bytes)) now (opened now s.known) [] answers change
-    → Shows now (with_change change (opened now s.known)) (claims_with change) answers (turn_at s now (calls.Take number shield bytes claim))
+    → Shows now (with_change change (opened now s.known)) (claims_with change) answers (transition_at s now (calls.Take number shield bytes claim))
 unfolding does takes after
 take_shown s now number shield bytes claim change answers leads =
     let c : Call = calls.Take number shield bytes claim in
@@ -72,7 +72,7 @@ told own k now (r ∷ rows) known claiming old t s =
 -- a plan
 pub plan_shown : (s : AgentSeen) (now valid preferred : ℕ)
     → Shows now (planned_at now (record { valid = valid; preferred = preferred; since = record { 0 = now } }) s.known) unclaimed
-    (answers_told s.identity.own (left_of valid now now) (left_of preferred now now) (rows_at now s.known.homes)) (turn_at s now (calls.Plan valid preferred))
+    (answers_told s.identity.own (left_of valid now now) (left_of preferred now now) (rows_at now s.known.homes)) (transition_at s now (calls.Plan valid preferred))
 unfolding does plans after
 plan_shown s now valid preferred =
     let c : Call = calls.Plan valid preferred in
@@ -83,7 +83,7 @@ plan_shown s now valid preferred =
     (told s.identity.own k now (rows_at now s.known.homes) k unclaimed [] t (shows_begun c now s.known))
 
 -- an advertisement of another agent
-pub hear_shown : (s : AgentSeen) (now : ℕ) (agent : Address) (preference life : ℕ) → Shows now (heard_at now (calls.Hear agent preference life) s.known) unclaimed [] (turn_at s now (calls.Hear agent preference life))
+pub hear_shown : (s : AgentSeen) (now : ℕ) (agent : Address) (preference life : ℕ) → Shows now (heard_at now (calls.Hear agent preference life) s.known) unclaimed [] (transition_at s now (calls.Hear agent preference life))
 unfolding does after
 hear_shown s now agent preference life = shows_begun (calls.Hear agent preference life) now s.known
 
@@ -101,7 +101,7 @@ released (e ∷ es) now known claiming old t s =
     (released es now next (λ claims. without_claim e.home.0 (claiming claims)) (old ++ answer_of (Releases e.home)) u (shown (Releases e.home) now known claiming old (old ++ answer_of (Releases e.home)) t refl s))
 
 pub tick_shown : (s : AgentSeen) (now : ℕ)
-    → Shows now (given_up now (due_ends now s.known.ends) s.known) (claims_released (due_ends now s.known.ends)) (answers_released (due_ends now s.known.ends)) (turn_at s now calls.Tick)
+    → Shows now (given_up now (due_ends now s.known.ends) s.known) (claims_released (due_ends now s.known.ends)) (answers_released (due_ends now s.known.ends)) (transition_at s now calls.Tick)
 unfolding does ticks after
 tick_shown s now =
     let t : Transition = noted (Called calls.Tick) (begun now s.known) in

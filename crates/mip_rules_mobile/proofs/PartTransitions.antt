@@ -13,12 +13,12 @@ use Rattle.mip_ipv6.specs.Packet.{Packet, source_of}
 use Rattle.mip_mobhdr.specs.Said.{Said}
 use Rattle.mip_entries.specs.declared.answer.Answer.{Answer}
 use Rattle.mip_entries.specs.declared.answer.Answer.TheVariants.{Send, Note}
-use Rattle.mip_transitions.proofs.TurnLaws.{noted-now, noted-known, noted-steps}
+use Rattle.mip_transitions.proofs.TransitionLaws.{noted-now, noted-known, noted-steps}
 use Rattle.mip_reception.specs.declared.refusal.Refusal.{Refusal}
 use Rattle.mip_rules_correspondent.specs.Calls as parts
 use Rattle.mip_rules_correspondent.specs.Steps as part_steps
 use Rattle.mip_rules_correspondent.specs.Questions.{held_of}
-use Rattle.mip_rules_correspondent.specs.Seen.{CorrespondentSeen, turn_at}
+use Rattle.mip_rules_correspondent.specs.Seen.{CorrespondentSeen, transition_at}
 use Rattle.mip_rules_correspondent.specs.Taken.{IsUpdateParted}
 use Rattle.mip_rules_correspondent.proofs.Taken.{refreshed_none, sent_none}
 use Rattle.mip_rules_correspondent.proofs.Parted.{parted_is}
@@ -37,10 +37,10 @@ use Rattle.mip_rules_mobile.specs.OutRules.{tunnels, goes_from, goes_out, passes
 use Rattle.mip_rules_mobile.specs.MovingRules.{leaves, attaches, registers_if_away, restarts}
 use Rattle.mip_rules_mobile.specs.ReceivingRules.{then_meets, takes_for_part, refuses}
 use Rattle.mip_rules_mobile.specs.RingingRules.{ticks_all}
-use Rattle.mip_rules_mobile.specs.Doing.{transmits_from, transmits, solicits_from, solicits, handles, does, turn_of}
+use Rattle.mip_rules_mobile.specs.Doing.{transmits_from, transmits, solicits_from, solicits, handles, does, transition_of}
 use Rattle.mip_rules_mobile.specs.Coming.{Came, IsOfTake, is_take}
 use Rattle.mip_rules_mobile.specs.Fitting.{Fits, OfAck, OfMove, Steady, kind_of}
-use Rattle.mip_rules_mobile.specs.Part.{tells_of_acceptance, concerns_part, accepted_note, IsPartTurn, Silent, Asked, Accepting, is_restart, IsPartReborn}
+use Rattle.mip_rules_mobile.specs.Part.{tells_of_acceptance, concerns_part, accepted_note, IsPartTransition, Silent, Asked, Accepting, is_restart, IsPartReborn}
 use Rattle.mip_rules_mobile.proofs.Steady.{Goes, standing-noted}
 use Rattle.mip_rules_mobile.proofs.OutWalks.{every-replies}
 use Rattle.mip_rules_mobile.proofs.HomeWalks.{Acks, every-registers}
@@ -136,12 +136,12 @@ none-told (part_steps.HandsUp number source destination proto payload ∷ steps)
 none-told (part_steps.Idles ∷ steps) none = (refl, none-told steps none)
 
 abbrev answers_at : CorrespondentSeen → ℕ → parts.Call → List Answer
-answers_at part now call = part_steps.answers_of (turn_at part now call).steps
+answers_at part now call = part_steps.answers_of (transition_at part now call).steps
 
--- a turn in which the mobile was called, and no more
+-- a transition in which the mobile was called, and no more
 module _ (k : Known) (now : ℕ) (c : Call) (t : Transition) (called : t.steps ≡ Called c ∷ []) (part : t.known.part ≡ k.part) (moment : t.now ≡ now) (entry : agent_of t.known t.now ≡ agent_of k now) where
   abbrev Is : Transition → Type 0
-  Is u = IsPartTurn k now c u.steps
+  Is u = IsPartTransition k now c u.steps
 
   abbrev Calm : Transition → Type 0
   Calm u = IsBehind (Called c ∷ []) u
@@ -165,13 +165,13 @@ module _ (k : Known) (now : ℕ) (c : Call) (t : Transition) (called : t.steps �
       ap (λ (p : CorrespondentSeen). passes_all (answers_at p t.now call) (asked call)) part
       ∙ ap (λ (n : ℕ). passes_all (answers_at k.part n call) (asked call)) moment
 
-  asks-none : (call : parts.Call) → list_any part_steps.is_acceptance (turn_at k.part now call).steps ≡ false → IsBehind (Called c ∷ Parts call ∷ []) (asks_part call t)
+  asks-none : (call : parts.Call) → list_any part_steps.is_acceptance (transition_at k.part now call).steps ≡ false → IsBehind (Called c ∷ Parts call ∷ []) (asks_part call t)
   asks-none call none =
       subst (IsBehind (Called c ∷ Parts call ∷ [])) (sym (asks-as call))
-      (passes-behind c (Called c ∷ Parts call ∷ []) (answers_at k.part now call) (none-told (turn_at k.part now call).steps none) (asked call)
+      (passes-behind c (Called c ∷ Parts call ∷ []) (answers_at k.part now call) (none-told (transition_at k.part now call).steps none) (asked call)
       (begins (Called c ∷ Parts call ∷ []) (asked call) (asked-steps call)))
 
-  of-none : (call : parts.Call) → list_any part_steps.is_acceptance (turn_at k.part now call).steps ≡ false → (u : Transition) → IsBehind (Called c ∷ Parts call ∷ []) u → Is u
+  of-none : (call : parts.Call) → list_any part_steps.is_acceptance (transition_at k.part now call).steps ≡ false → (u : Transition) → IsBehind (Called c ∷ Parts call ∷ []) u → Is u
   of-none call none u b = Asked call b.more b.steps b.silent none
 
   refreshes : (home : Address) → Is (asks_part (parts.Refresh home) t)
@@ -212,7 +212,7 @@ module _ (k : Known) (now : ℕ) (c : Call) (t : Transition) (called : t.steps �
     met first false u b = b
 
     -- it accepts the update in it
-    module _ (x : IsUpdateParted k.part.identity k.part.known now number packet (turn_at k.part now call).steps) where
+    module _ (x : IsUpdateParted k.part.identity k.part.known now number packet (transition_at k.part now call).steps) where
       abbrev note : Step
       note = Notes (accepted_note number x.home x.binding x.accepted)
 
@@ -245,10 +245,10 @@ module _ (k : Known) (now : ℕ) (c : Call) (t : Transition) (called : t.steps �
     unfolding takes_for_part
     parting = by (tunnelled && is_none message) found.1
       where
-        found : ((turn_at k.part now call).now ≡ now) × ((list_any part_steps.is_acceptance (turn_at k.part now call).steps ≡ false) ⊎ IsUpdateParted k.part.identity k.part.known now number packet (turn_at k.part now call).steps)
+        found : ((transition_at k.part now call).now ≡ now) × ((list_any part_steps.is_acceptance (transition_at k.part now call).steps ≡ false) ⊎ IsUpdateParted k.part.identity k.part.known now number packet (transition_at k.part now call).steps)
         found = parted_is k.part.identity k.part.known now number packet
 
-        by : (m : Bool) → (list_any part_steps.is_acceptance (turn_at k.part now call).steps ≡ false) ⊎ IsUpdateParted k.part.identity k.part.known now number packet (turn_at k.part now call).steps
+        by : (m : Bool) → (list_any part_steps.is_acceptance (transition_at k.part now call).steps ≡ false) ⊎ IsUpdateParted k.part.identity k.part.known now number packet (transition_at k.part now call).steps
             → Is (then_meets m packet (asks_part call t))
         by m (inl none) = of-none call none (then_meets m packet (asks_part call t)) (met (Called c ∷ Parts call ∷ []) m (asks_part call t) (asks-none call none))
         by m (inr x) = of-accepting x (then_meets m packet (asks_part call t)) (met (first x) m (asks_part call t) (accepting x))
@@ -336,12 +336,12 @@ called-agent c k now =
     ap (λ (l : Known). agent_of l (noted (Called c) (begun now k)).now) (noted-known after (Called c) (begun now k))
     ∙ ap (agent_of k) (noted-now after (Called c) (begun now k))
 
-pub call-part : (k : Known) (now : ℕ) (c : Call) → is_restart c ≡ false → IsPartTurn k now c (turn_of k now c).steps
+pub call-part : (k : Known) (now : ℕ) (c : Call) → is_restart c ≡ false → IsPartTransition k now c (transition_of k now c).steps
 unfolding does
 call-part k now c other =
     handled k now c (noted (Called c) (begun now k)) (noted-steps after (Called c) (begun now k)) (called-part c k now) (noted-now after (Called c) (begun now k)) (called-agent c k now) other
 
-pub restart-part : (k : Known) (now : ℕ) (secrets : Life) → IsPartReborn secrets (turn_of k now (calls.Restart secrets)).steps
+pub restart-part : (k : Known) (now : ℕ) (secrets : Life) → IsPartReborn secrets (transition_of k now (calls.Restart secrets)).steps
 unfolding does
 restart-part k now secrets =
     let c : Call = calls.Restart secrets in

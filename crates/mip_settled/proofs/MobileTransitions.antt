@@ -1,4 +1,4 @@
--- What a turn of a mobile adds to what a history says of it: step by step, the history says what the mobile knows.
+-- What a transition of a mobile adds to what a history says of it: step by step, the history says what the mobile knows.
 use Rattle.std.proofs.Common.{◌≡◌, ℕ, List, ◌++◌, Bool, true, false, length, refl, sym, ap, ◌∙◌, subst}
 use Rattle.std.specs.Prelude.{Option, Some, None, unwrap_or, if◌then◌else◌}
 use Rattle.std.proofs.lemmas.List.Sums.{fold-append}
@@ -11,7 +11,7 @@ use Rattle.mip_entries.specs.declared.answer.Answer.{Answer}
 use Rattle.mip_entries.specs.declared.entry.Entry.{Entry}
 use Rattle.mip_entries.specs.declared.entry.Entry.TheVariants as entries
 use Rattle.mip_entries.specs.Completed.{node_id, named}
-use Rattle.mip_transitions.proofs.TurnLaws.{noted-now, noted-known}
+use Rattle.mip_transitions.proofs.TransitionLaws.{noted-now, noted-known}
 use Rattle.mip_transitions.proofs.ShowLaws.{answers-noted}
 use Rattle.mip_rules_correspondent.specs.Wholes.{is_own}
 use Rattle.mip_rules_mobile.specs.declared.attachment.Attachment.{Attachment}
@@ -27,7 +27,7 @@ use Rattle.mip_rules_mobile.specs.Transitions.{Transition, begun, noted}
 use Rattle.mip_rules_mobile.specs.MovingRules.{arrives_by, address_under, arrives, settles, uses_prefix, leaves_first, attaches, registers_if_away, restarts}
 use Rattle.mip_rules_mobile.specs.Part.{is_restart}
 use Rattle.mip_rules_mobile.specs.Answering.{stays_put}
-use Rattle.mip_rules_mobile.specs.Doing.{does, turn_of}
+use Rattle.mip_rules_mobile.specs.Doing.{does, transition_of}
 use Rattle.mip_rules_mobile.specs.Fitting.{Fits, kind_of, OfAck, Steady}
 use Rattle.mip_rules_mobile.proofs.Steady.{Goes, Askings, Notings, standing-noted}
 use Rattle.mip_rules_mobile.proofs.HomeWalks.{Acks, every-registers}
@@ -165,7 +165,7 @@ module _ {S V : Type 0} (s : Setup) (n : ℕ) (own : Address) (I : Known → Typ
   plain_step from x (Unbinds row peer) is right = entered_own x (entries.Unbound myself peer)
   plain_step from x _ is right = refl
 
-  -- in a turn from a run on: the history says what the mobile knows, and it stands there
+  -- in a transition from a run on: the history says what the mobile knows, and it stands there
   module _ (from : ℕ) (start : Run) where
     abbrev pub then_ : Transition → Run
     then_ t = answered s n from start (answers_of t.steps)
@@ -215,76 +215,76 @@ module _ {S V : Type 0} (s : Setup) (n : ℕ) (own : Address) (I : Known → Typ
       drops : Dropping (Tells st)
       drops number why t right p = tells_noted c st (Drops number why) t refl right p
 
-    -- before the turn
+    -- before the transition
     pub first : (c : Call) (now : ℕ) (k : Known) → seen start ≡ view (knows k) → I k → Tells k.standing (noted (Called c) (begun now k))
     unfolding answered
     first c now k is holds = tells_noted c k.standing (Called c) (begun now k) refl refl (record { so = is; stands = refl; holds = holds })
 
     -- a call by which the mobile stays where it stands, and goes on living
-    pub staying_tells : (k : Known) (now : ℕ) (c : Call) → stays_put c ≡ true → is_restart c ≡ false → seen start ≡ view (knows k) → I k → Tells k.standing (turn_of k now c)
+    pub staying_tells : (k : Known) (now : ℕ) (c : Call) → stays_put c ≡ true → is_restart c ≡ false → seen start ≡ view (knows k) → I k → Tells k.standing (transition_of k now c)
     unfolding does
     staying_tells k now c stays lives is holds =
         every-staying c (Tells k.standing) (more c k.standing) (asks c k.standing) (notes c k.standing) (acks c k.standing) (drops c k.standing)
         (noted (Called c) (begun now k)) (first c now k is holds) c refl stays lives
 
-    -- it restarts, and its entry stood before the turn
-    pub restart_tells : (k : Known) (now : ℕ) (secrets : Life) → seen start ≡ view (unwrap_or (says (entries.Restarted (node_id n))) (knows k)) → I k → Tells k.standing (turn_of k now (calls.Restart secrets))
+    -- it restarts, and its entry stood before the transition
+    pub restart_tells : (k : Known) (now : ℕ) (secrets : Life) → seen start ≡ view (unwrap_or (says (entries.Restarted (node_id n))) (knows k)) → I k → Tells k.standing (transition_of k now (calls.Restart secrets))
     unfolding does restarts answered
-    restart_tells k now secrets is holds = by first_turn.known.standing refl
+    restart_tells k now secrets is holds = by first_transition.known.standing refl
       where
         c : Call
         c = calls.Restart secrets
 
-        first_turn : Transition
-        first_turn = noted (Called c) (begun now k)
+        first_transition : Transition
+        first_transition = noted (Called c) (begun now k)
 
         next : Transition
-        next = noted (Restarts secrets) first_turn
+        next = noted (Restarts secrets) first_transition
 
-        first_known : first_turn.known ≡ after k (record { at = now; step = Called c })
+        first_known : first_transition.known ≡ after k (record { at = now; step = Called c })
         first_known = noted-known after (Called c) (begun now k)
 
-        first_now : first_turn.now ≡ now
+        first_now : first_transition.now ≡ now
         first_now = noted-now after (Called c) (begun now k)
 
-        first_holds : I first_turn.known
+        first_holds : I first_transition.known
         first_holds = subst I (sym first_known) (q.kept c now k (Called c) holds refl)
 
         -- a call alone says nothing
-        first_knows : view (knows first_turn.known) ≡ view (unwrap_or (said (Called c)) (knows k))
+        first_knows : view (knows first_transition.known) ≡ view (unwrap_or (said (Called c)) (knows k))
         first_knows = ap (λ (l : Known). view (knows l)) first_known ∙ q.row c now k (Called c) refl holds refl
 
         none_said : said (Called c) ≡ None
         none_said = sym (q.own 0 (Called c) refl tt)
 
-        first_same : view (knows first_turn.known) ≡ view (knows k)
+        first_same : view (knows first_transition.known) ≡ view (knows k)
         first_same = first_knows ∙ ap (λ (o : Option S). view (unwrap_or o (knows k))) none_said
 
-        first_then : then_ first_turn ≡ start
+        first_then : then_ first_transition ≡ start
         first_then = then_noted (Called c) (begun now k)
 
         next_then : then_ next ≡ start
-        next_then = then_noted (Restarts secrets) first_turn ∙ first_then
+        next_then = then_noted (Restarts secrets) first_transition ∙ first_then
 
         told : Tells k.standing next
         told = record {
           so =
               ap seen next_then ∙ is
-              ∙ merged (says (entries.Restarted (node_id n))) (knows k) (knows first_turn.known) (sym first_same)
-              ∙ sym (q.reborn first_turn.now first_turn.known secrets)
-              ∙ ap (λ (l : Known). view (knows l)) (sym (noted-known after (Restarts secrets) first_turn));
-          stands = standing-noted (Restarts secrets) first_turn ∙ standing-noted (Called c) (begun now k);
-          holds = subst I (sym (noted-known after (Restarts secrets) first_turn)) (q.kept c first_turn.now first_turn.known (Restarts secrets) first_holds refl);
+              ∙ merged (says (entries.Restarted (node_id n))) (knows k) (knows first_transition.known) (sym first_same)
+              ∙ sym (q.reborn first_transition.now first_transition.known secrets)
+              ∙ ap (λ (l : Known). view (knows l)) (sym (noted-known after (Restarts secrets) first_transition));
+          stands = standing-noted (Restarts secrets) first_transition ∙ standing-noted (Called c) (begun now k);
+          holds = subst I (sym (noted-known after (Restarts secrets) first_transition)) (q.kept c first_transition.now first_transition.known (Restarts secrets) first_holds refl);
         }
 
-        by : (st : Attachment) → first_turn.known.standing ≡ st → Tells k.standing (registers_if_away st next)
+        by : (st : Attachment) → first_transition.known.standing ≡ st → Tells k.standing (registers_if_away st next)
         by Detached here = told
         by AtHome here = told
-        by (Away careof) here = every-registers c (Tells k.standing) (more c k.standing) careof next (standing-noted (Restarts secrets) first_turn ∙ here) told
+        by (Away careof) here = every-registers c (Tells k.standing) (more c k.standing) careof next (standing-noted (Restarts secrets) first_transition ∙ here) told
 
     -- a router advertises the prefix that it uses
     pub using_tells : (k : Known) (now prefix : ℕ) (of_home of_address : Claim) → uses_prefix k.standing (home_of k) prefix ≡ true → seen start ≡ view (knows k) → I k
-        → Tells k.standing (turn_of k now (calls.Attach prefix of_home of_address))
+        → Tells k.standing (transition_of k now (calls.Attach prefix of_home of_address))
     unfolding does attaches
     using_tells k now prefix of_home of_address uses is holds =
         let c : Call = calls.Attach prefix of_home of_address in
@@ -368,7 +368,7 @@ module _ {S V : Type 0} (s : Setup) (n : ℕ) (own : Address) (I : Known → Typ
       unfolding arrives
       arriving = by_claim of_address (address_under (home_of ta.known) prefix) under
 
-      pub attaching_tells : Tells (arrived_at of_address own prefix) (turn_of k now ca)
+      pub attaching_tells : Tells (arrived_at of_address own prefix) (transition_of k now ca)
       unfolding does attaches
       attaching_tells =
           subst (λ (st : Attachment). Tells (arrived_at of_address own prefix) (if uses_prefix st (home_of ta.known) prefix then ta else arrives prefix of_address (leaves_first st of_home ta))) (sym (pa.stands ∙ apart)) arriving
