@@ -9,6 +9,6 @@ mod state;
 mod station;
 
 pub use mip_transmission::StationFault;
-pub use mobile::{Mobile, Turned};
+pub use mobile::{Mobile, Outcome};
 pub use state::{AtHome, Away, Detached, State};
 pub use station::Station;

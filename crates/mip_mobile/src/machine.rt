@@ -14,7 +14,7 @@ ghost use Rattle.mip_rules_mobile.specs.Steps.{Called};
 ghost use Rattle.mip_rules_mobile.specs.Questions.{fresh};
 ghost use Rattle.mip_rules_mobile.specs.Transitions.{begun, noted};
 ghost use Rattle.mip_mobility.specs.Seen.{Shows};
-ghost use Rattle.mip_mobile.specs.Performing.{Performs, Finishes, moment_in, turn_in};
+ghost use Rattle.mip_mobile.specs.Performing.{Performs, Finishes, moment_in, transition_in};
 ghost use Rattle.mip_mobile.specs.Stations.{with_clock, with_wire};
 ghost use Rattle.mip_mobile.specs.contracts.machine.Machine.{the_row};
 ghost use Rattle.std.specs.Borrow.{Lends, sem};
@@ -170,7 +170,7 @@ impl<C: Clock + Drop, W: Wire + Drop> Machine<C, W> {
         shield: Option<Shield>,
         packet: &[u8],
     ) -> Result<(), Memory>
-        ensures shows { OnOk result (Shows self.new.context (turn_in C.Clock self.old self.new (calls.Take number shield packet.now))) }
+        ensures shows { OnOk result (Shows self.new.context (transition_in C.Clock self.old self.new (calls.Take number shield packet.now))) }
         ensures rest { (self.new.wire ≡ self.old.wire) × (self.new.fault ≡ self.old.fault) }
         ensures read { C.ahead self.new.clock ≡ option_map moments_after (C.ahead self.old.clock) }
     {
@@ -191,7 +191,7 @@ impl<C: Clock + Drop, W: Wire + Drop> Machine<C, W> {
 
     #[tactic(auto, unfolding(mip_rules_mobile::specs::Doing::does))]
     fn tick_context(&mut self, alloc: Global) -> Result<(), Memory>
-        ensures shows { OnOk result (Shows self.new.context (turn_in C.Clock self.old self.new calls.Tick)) }
+        ensures shows { OnOk result (Shows self.new.context (transition_in C.Clock self.old self.new calls.Tick)) }
         ensures rest { (self.new.wire ≡ self.old.wire) × (self.new.fault ≡ self.old.fault) }
         ensures read { C.ahead self.new.clock ≡ option_map moments_after (C.ahead self.old.clock) }
     {
@@ -230,7 +230,7 @@ impl<C: Clock + Drop, W: Wire + Drop> Machine<C, W> {
         requires data { IsTrue (is_data proto) }
         requires proto { IsFalse (names_no_body proto) }
         requires short { length payload.now ≤ 512 }
-        ensures shows { OnOk result (Shows self.new.context (turn_in C.Clock self.old self.new (calls.Send to proto payload.now))) }
+        ensures shows { OnOk result (Shows self.new.context (transition_in C.Clock self.old self.new (calls.Send to proto payload.now))) }
         ensures rest { (self.new.wire ≡ self.old.wire) × (self.new.fault ≡ self.old.fault) }
         ensures read { C.ahead self.new.clock ≡ option_map moments_after (C.ahead self.old.clock) }
     {
@@ -251,7 +251,7 @@ impl<C: Clock + Drop, W: Wire + Drop> Machine<C, W> {
 
     #[tactic(auto, unfolding(mip_rules_mobile::specs::Doing::does))]
     fn refresh_context(&mut self, alloc: Global, home: Address) -> Result<(), Memory>
-        ensures shows { OnOk result (Shows self.new.context (turn_in C.Clock self.old self.new (calls.Refresh home))) }
+        ensures shows { OnOk result (Shows self.new.context (transition_in C.Clock self.old self.new (calls.Refresh home))) }
         ensures rest { (self.new.wire ≡ self.old.wire) × (self.new.fault ≡ self.old.fault) }
         ensures read { C.ahead self.new.clock ≡ option_map moments_after (C.ahead self.old.clock) }
     {
@@ -272,7 +272,7 @@ impl<C: Clock + Drop, W: Wire + Drop> Machine<C, W> {
 
     #[tactic(auto, unfolding(mip_rules_mobile::specs::Doing::does))]
     fn ask_context(&mut self, alloc: Global) -> Result<(), Memory>
-        ensures shows { OnOk result (Shows self.new.context (turn_in C.Clock self.old self.new calls.Ask)) }
+        ensures shows { OnOk result (Shows self.new.context (transition_in C.Clock self.old self.new calls.Ask)) }
         ensures rest { (self.new.wire ≡ self.old.wire) × (self.new.fault ≡ self.old.fault) }
         ensures read { C.ahead self.new.clock ≡ option_map moments_after (C.ahead self.old.clock) }
     {
@@ -293,7 +293,7 @@ impl<C: Clock + Drop, W: Wire + Drop> Machine<C, W> {
 
     #[tactic(auto, unfolding(mip_rules_mobile::specs::Doing::does))]
     fn restart_context(&mut self, alloc: Global, secrets: Secrets) -> Result<(), Memory>
-        ensures shows { OnOk result (Shows self.new.context (turn_in C.Clock self.old self.new (calls.Restart secrets))) }
+        ensures shows { OnOk result (Shows self.new.context (transition_in C.Clock self.old self.new (calls.Restart secrets))) }
         ensures rest { (self.new.wire ≡ self.old.wire) × (self.new.fault ≡ self.old.fault) }
         ensures read { C.ahead self.new.clock ≡ option_map moments_after (C.ahead self.old.clock) }
     {
@@ -320,7 +320,7 @@ impl<C: Clock + Drop, W: Wire + Drop> Machine<C, W> {
         requires long { 40 ≤ length inner.now }
         requires hop { 2 ≤ hop_of inner.now }
         requires fits { length inner.now ≤ 65535 }
-        ensures shows { OnOk result (Shows self.new.context (turn_in C.Clock self.old self.new (calls.Tunnel inner.now))) }
+        ensures shows { OnOk result (Shows self.new.context (transition_in C.Clock self.old self.new (calls.Tunnel inner.now))) }
         ensures rest { (self.new.wire ≡ self.old.wire) × (self.new.fault ≡ self.old.fault) }
         ensures read { C.ahead self.new.clock ≡ option_map moments_after (C.ahead self.old.clock) }
     {

@@ -38,7 +38,7 @@ pub enum Mobile<C: Clock, W: Wire> {
 
 /// What a call leaves: the mobile, and its answers. A call reads the clock once, unless there was a fault before. After a fault
 /// the mobile answers that fault from then on, and puts nothing on its wire.
-pub type Turned<C, W> = (Mobile<C, W>, Result<Answers, StationFault>);
+pub type Outcome<C, W> = (Mobile<C, W>, Result<Answers, StationFault>);
 
 impl<C: Clock + Drop, W: Wire + Drop> Mobile<C, W> {
     /// A new mobile, at home: its home address, the agent that it is declared with, the secrets of its first life, and how many
@@ -142,7 +142,7 @@ impl<C: Clock + Drop, W: Wire + Drop> Mobile<C, W> {
     }
 
     /// A router advertises a prefix (RFC 6275 section 11.5.1).
-    pub fn attach<P: Place>(self, alloc: Global, place: &mut P, prefix: Prefix) -> Turned<C, W>
+    pub fn attach<P: Place>(self, alloc: Global, place: &mut P, prefix: Prefix) -> Outcome<C, W>
         requires home { (P.around place.old).room (home_of (machine_of self).context.known).0 ≡ true }
         requires address { (P.around place.old).room (address_under (home_of (machine_of self).context.known) prefix.0).0 ≡ true }
         ensures performs { Performs C.Clock W.Wire (machine_of self) (machine_of result.0)
@@ -159,7 +159,7 @@ impl<C: Clock + Drop, W: Wire + Drop> Mobile<C, W> {
     }
 
     /// The mobile leaves its link.
-    pub fn leave<P: Place>(self, alloc: Global, place: &mut P) -> Turned<C, W>
+    pub fn leave<P: Place>(self, alloc: Global, place: &mut P) -> Outcome<C, W>
         requires home { (P.around place.old).room (home_of (machine_of self).context.known).0 ≡ true }
         ensures performs { Performs C.Clock W.Wire (machine_of self) (machine_of result.0)
             (leave_at (P.around place.old) (home_of (machine_of self).context.known)) result.1 }
@@ -181,7 +181,7 @@ impl<C: Clock + Drop, W: Wire + Drop> Mobile<C, W> {
         number: u64,
         shield: Option<Shield>,
         packet: &[u8],
-    ) -> Turned<C, W>
+    ) -> Outcome<C, W>
         ensures performs { Performs C.Clock W.Wire (machine_of self) (machine_of result.0) (calls.Take number shield packet.now) result.1 }
         ensures typed { IsTyped result.0 }
     {
@@ -191,7 +191,7 @@ impl<C: Clock + Drop, W: Wire + Drop> Mobile<C, W> {
     }
 
     /// Time goes on, and due work is done.
-    pub fn tick(self, alloc: Global) -> Turned<C, W>
+    pub fn tick(self, alloc: Global) -> Outcome<C, W>
         ensures performs { Performs C.Clock W.Wire (machine_of self) (machine_of result.0) calls.Tick result.1 }
         ensures typed { IsTyped result.0 }
     {
@@ -202,7 +202,7 @@ impl<C: Clock + Drop, W: Wire + Drop> Mobile<C, W> {
 
     /// Sends data of a protocol that is neither a tunnel, nor ICMPv6, nor nothing, nor a mobility message, nor a header of its own;
     /// 512 bytes at most.
-    pub fn send(self, alloc: Global, to: Address, proto: u8, payload: &[u8]) -> Turned<C, W>
+    pub fn send(self, alloc: Global, to: Address, proto: u8, payload: &[u8]) -> Outcome<C, W>
         requires data { IsTrue (is_data proto) }
         requires proto { IsFalse (names_no_body proto) }
         requires short { length payload.now ≤ 512 }
@@ -215,7 +215,7 @@ impl<C: Clock + Drop, W: Wire + Drop> Mobile<C, W> {
     }
 
     /// Asks the care-of address that is held for a home for a Binding Update; `idle` where none is held.
-    pub fn refresh(self, alloc: Global, home: Address) -> Turned<C, W>
+    pub fn refresh(self, alloc: Global, home: Address) -> Outcome<C, W>
         ensures performs { Performs C.Clock W.Wire (machine_of self) (machine_of result.0) (calls.Refresh home) result.1 }
         ensures typed { IsTyped result.0 }
     {
@@ -225,7 +225,7 @@ impl<C: Clock + Drop, W: Wire + Drop> Mobile<C, W> {
     }
 
     /// Solicits the prefixes of its home link (RFC 6275 section 11.4.2).
-    pub fn ask(self, alloc: Global) -> Turned<C, W>
+    pub fn ask(self, alloc: Global) -> Outcome<C, W>
         ensures performs { Performs C.Clock W.Wire (machine_of self) (machine_of result.0) calls.Ask result.1 }
         ensures typed { IsTyped result.0 }
     {
@@ -235,7 +235,7 @@ impl<C: Clock + Drop, W: Wire + Drop> Mobile<C, W> {
     }
 
     /// Loses all that it keeps, and goes on with these secrets.
-    pub fn restart(self, alloc: Global, secrets: Secrets) -> Turned<C, W>
+    pub fn restart(self, alloc: Global, secrets: Secrets) -> Outcome<C, W>
         ensures performs { Performs C.Clock W.Wire (machine_of self) (machine_of result.0) (calls.Restart secrets) result.1 }
         ensures typed { IsTyped result.0 }
     {

@@ -9,7 +9,7 @@ ghost use Rattle.mip_rules_mobile.specs.HomeQuestions.{home_of};
 ghost use Rattle.mip_rules_mobile.specs.MovingRules.{address_under};
 ghost use Rattle.mip_mobility.specs.Seen.{Shows};
 ghost use Rattle.mip_mobile.specs.Placing.{attach_at, leave_at, claims_attached, claims_after_leaving, AreAnswered};
-ghost use Rattle.mip_mobile.specs.Performing.{Performs, turn_in};
+ghost use Rattle.mip_mobile.specs.Performing.{Performs, transition_in};
 
 use crate::machine::Machine;
 use crate::placing::{come, release_held};
@@ -68,7 +68,7 @@ impl<C: Clock + Drop, W: Wire + Drop> Machine<C, W> {
         of_address: Claim,
     ) -> Result<(), Memory>
         ensures shows { (around : Around) → AreAnswered around self.old.context.known prefix.0 of_home of_address
-            → OnOk result (Shows self.new.context (turn_in C.Clock self.old self.new (attach_at around (home_of self.old.context.known) prefix.0))) }
+            → OnOk result (Shows self.new.context (transition_in C.Clock self.old self.new (attach_at around (home_of self.old.context.known) prefix.0))) }
         ensures rest { (self.new.wire ≡ self.old.wire) × (self.new.fault ≡ self.old.fault) }
         ensures read { C.ahead self.new.clock ≡ option_map moments_after (C.ahead self.old.clock) }
     {
@@ -95,7 +95,7 @@ impl<C: Clock + Drop, W: Wire + Drop> Machine<C, W> {
 
     fn leave_context(&mut self, alloc: Global, of_home: Claim) -> Result<(), Memory>
         ensures shows { (around : Around) → (self.old.context.known.standing ≡ AtHome → of_home ≡ claim_in around (home_of self.old.context.known).0)
-            → OnOk result (Shows self.new.context (turn_in C.Clock self.old self.new (leave_at around (home_of self.old.context.known)))) }
+            → OnOk result (Shows self.new.context (transition_in C.Clock self.old self.new (leave_at around (home_of self.old.context.known)))) }
         ensures rest { (self.new.wire ≡ self.old.wire) × (self.new.fault ≡ self.old.fault) }
         ensures read { C.ahead self.new.clock ≡ option_map moments_after (C.ahead self.old.clock) }
     {

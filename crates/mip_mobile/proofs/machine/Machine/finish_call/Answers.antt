@@ -1,6 +1,6 @@
 use Rattle.std.proofs.Common.{◌≡◌, ◌++◌, subst, ap, rules}
 use Rattle.std.specs.Prelude.{OnOk, option_map}
-use Rattle.mip_rules_mobile.specs.Doing.{turn_of}
+use Rattle.mip_rules_mobile.specs.Doing.{transition_of}
 use Rattle.mip_mobility.specs.Seen.{ContextSeen, Shows}
 use Rattle.mip_transmission.specs.Putting.{PutsAll, PutsFront, puts_of, sends_of}
 use Rattle.mip_mobile.specs.Handling.{Handles, BreaksOff}
@@ -19,7 +19,7 @@ returns-clause-finishes g c =
     let asked = c.in_ok-asked.asked in
     record {
       handles = λ k now call shown.
-          let shows : Shows context (turn_of k now call) = subst (λ r. OnOk r (Shows context (turn_of k now call))) c.in_ok-done.was shown in
+          let shows : Shows context (transition_of k now call) = subst (λ r. OnOk r (Shows context (transition_of k now call))) c.in_ok-done.was shown in
           if-both (λ answers. PutsAll gives asked answers × (told ≡ option_map (λ items. items ++ sends_of answers) out)) (λ answers. puts_after ≡ puts ++ puts_of asked answers)
           (λ answers. Handles gives k now call out puts answers c.take_answers.new.self.known told puts_after) c.send_all.result
           (λ answers took answered.
@@ -30,11 +30,11 @@ returns-clause-finishes g c =
           c.send_all.ensures.puts c.send_all.ensures.out)
           c.send_all.ensures.answered;
       front = λ k now call shown.
-          let shows : Shows context (turn_of k now call) = subst (λ r. OnOk r (Shows context (turn_of k now call))) c.in_ok-done.was shown in
+          let shows : Shows context (transition_of k now call) = subst (λ r. OnOk r (Shows context (transition_of k now call))) c.in_ok-done.was shown in
           on-errs {P = PutsFront gives asked out told puts puts_after} {Q = BreaksOff gives k now call out puts told puts_after} c.send_all.result
           (λ front. breaks-off gives k now call context asked out told puts puts_after shows c.in_ok-asked.ensures.answers front) c.send_all.ensures.front;
       left = λ k now call shown remembers.
-          is-left k now call context c.take_answers.new.self (subst (λ r. OnOk r (Shows context (turn_of k now call))) c.in_ok-done.was shown) c.in_ok-asked.ensures.context;
+          is-left k now call context c.take_answers.new.self (subst (λ r. OnOk r (Shows context (transition_of k now call))) c.in_ok-done.was shown) c.in_ok-asked.ensures.context;
       failed = c.send_all.ensures.failed;
       wire = (c.send_all.ensures.no_fewer, c.send_all.ensures.same);
     }
