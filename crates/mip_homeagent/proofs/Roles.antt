@@ -6,7 +6,7 @@ use Rattle.mip_words.specs.declared.address.Address.{Address}
 use Rattle.mip_words.specs.declared.why.Why.TheVariants as whys
 use Rattle.mip_ipv6.specs.Packet.{Packet}
 use Rattle.mip_mobhdr.specs.Said.{Said}
-use Rattle.mip_mobhdr.specs.Said.Said.{Refresh, HomeInit, CareofInit, HomeTest, CareofTest, Update, Acknowledgement, Error}
+use Rattle.mip_mobhdr.specs.Said.Said.{Refresh, Update}
 use Rattle.mip_outside.specs.Places.{Around, free}
 use Rattle.mip_binding.proofs.RowLaws.{all-find}
 use Rattle.mip_updates.specs.declared.registration.Registration.{Registration}

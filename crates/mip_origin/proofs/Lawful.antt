@@ -26,7 +26,7 @@ use Rattle.mip_provenance.proofs.ListLaws.{each_before, fold_first}
 use Rattle.mip_provenance.proofs.Tokens.{bytes_same}
 use Rattle.mip_provenance.proofs.Plain.{packet_first}
 use Rattle.mip_history.specs.Setup.{Setup, Kind}
-use Rattle.mip_history.specs.Setup.Kind.{Correspondent, Agent, Mobile}
+use Rattle.mip_history.specs.Setup.Kind.{Agent}
 use Rattle.mip_history.specs.Bound as bound
 use Rattle.mip_history.specs.Bound.{packets_of}
 use Rattle.mip_history.proofs.Runs.{Meets}

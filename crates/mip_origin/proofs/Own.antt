@@ -26,7 +26,7 @@ use Rattle.mip_rules_correspondent.specs.declared.identity.Identity.{Identity}
 use Rattle.mip_rules_correspondent.specs.declared.known.Known.{Known}
 use Rattle.mip_rules_correspondent.specs.Calls as calls
 use Rattle.mip_rules_correspondent.specs.Calls.{Call}
-use Rattle.mip_rules_correspondent.specs.Steps.{Step, Called, Sends, Accepts, Denies, Drops, HandsUp, Idles}
+use Rattle.mip_rules_correspondent.specs.Steps.{Step, Sends}
 use Rattle.mip_rules_correspondent.specs.Rules.{home_test, careof_test}
 use Rattle.mip_rules_correspondent.specs.Doing.{transition_of, data_head}
 use Rattle.mip_rules_correspondent.specs.Sendings.{Sending, SendsHomeTest, SendsCareofTest, SendsAck, SendsReply, SendsRefresh, SendsData, IsPacketOf, SendsOwn}

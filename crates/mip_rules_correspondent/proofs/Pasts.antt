@@ -8,7 +8,7 @@ use Rattle.mip_transitions.specs.Transitions.{StandsBy}
 use Rattle.mip_transitions.proofs.TransitionLaws.{known-push}
 use Rattle.mip_rules_correspondent.specs.declared.known.Known.{Known}
 use Rattle.mip_rules_correspondent.specs.Calls.{is_tick}
-use Rattle.mip_rules_correspondent.specs.Steps.{Step, Called, Sends, Accepts, Denies, Drops, HandsUp, Idles, is_call}
+use Rattle.mip_rules_correspondent.specs.Steps.{Step, Called, Accepts, is_call}
 use Rattle.mip_rules_correspondent.specs.Questions.{last_after, cache_after, after, fresh, known}
 use Rattle.mip_rules_correspondent.specs.Transitions.{Stands}
 

@@ -1,5 +1,5 @@
 -- A transition in which no update is accepted leaves the binding cache as it was.
-use Rattle.std.proofs.Common.{◌≡◌, ℕ, List, [], ◌∷◌, ◌⊎◌, inl, inr, true, refl, sym, ap, ◌∙◌, subst}
+use Rattle.std.proofs.Common.{◌≡◌, ℕ, List, [], ◌∷◌, ◌⊎◌, inl, inr, true, refl, sym, ap, ◌∙◌}
 use Rattle.std.specs.Prelude.{Bool, false, Option, ◌||◌, if◌then◌else◌}
 use Rattle.std.specs.List.{list_any}
 use Rattle.std.proofs.lemmas.List.Folds.{list_any-append}
@@ -11,12 +11,11 @@ use Rattle.mip_transitions.proofs.TransitionLaws.{noted-known, none-parts}
 use Rattle.mip_rules_correspondent.specs.declared.identity.Identity.{Identity}
 use Rattle.mip_rules_correspondent.specs.declared.known.Known.{Known}
 use Rattle.mip_rules_correspondent.specs.Calls.{Call, Take, Part, is_tick}
-use Rattle.mip_rules_correspondent.specs.Steps.{Step, Called, Sends, Accepts, Denies, Drops, HandsUp, Idles, answer_of, answers_of, is_acceptance, is_call}
+use Rattle.mip_rules_correspondent.specs.Steps.{Step, Called, Sends, Accepts, answer_of, answers_of, is_acceptance, is_call}
 use Rattle.mip_rules_correspondent.specs.Questions.{cache_after, after}
 use Rattle.mip_rules_correspondent.specs.Transitions.{Transition, begun, noted}
 use Rattle.mip_rules_correspondent.specs.Doing.{does, transition_of}
 use Rattle.mip_rules_correspondent.specs.Refusing.{is_refusal, hands_over}
-use Rattle.mip_rules_correspondent.specs.Taken.{IsUpdateTaken, IsUpdateParted}
 use Rattle.mip_rules_correspondent.proofs.Taken.{taken_is}
 use Rattle.mip_rules_correspondent.proofs.Parted.{parted_is}
 use Rattle.mip_rules_correspondent.proofs.Walks.{every-handles}

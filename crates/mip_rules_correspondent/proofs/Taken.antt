@@ -17,7 +17,7 @@ use Rattle.mip_options.specs.Values.{Values}
 use Rattle.mip_options.specs.declared.indices.Indices.{Indices}
 use Rattle.mip_mobhdr.specs.declared.fault.Fault.{Fault}
 use Rattle.mip_mobhdr.specs.Said.{Said}
-use Rattle.mip_mobhdr.specs.Said.Said.{Refresh, HomeInit, CareofInit, HomeTest, CareofTest, Update, Acknowledgement, Error}
+use Rattle.mip_mobhdr.specs.Said.Said.{Refresh, HomeInit, CareofInit, Update}
 use Rattle.mip_mobhdr.specs.Reading.{type_in, options_in, refresh_of, home_init_of, careof_init_of, home_test_of, careof_test_of, update_of, acknowledgement_of, error_of, fields_of, message_of}
 use Rattle.mip_nonce.specs.Window.{number_named}
 use Rattle.mip_tokens.specs.Token.{is_authentic}
