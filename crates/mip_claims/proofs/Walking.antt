@@ -12,10 +12,9 @@ use Rattle.mip_rules_agent.specs.declared.home_row.HomeRow.{HomeRow}
 use Rattle.mip_rules_agent.specs.Questions.{rows_at}
 use Rattle.mip_schedule.specs.declared.event.Event.{Event}
 use Rattle.mip_schedule.specs.declared.event.Event.TheVariants.{Wait, Move, Advertise, Payload, Inject, Probe, Bind, Tell, Listen, Deaf, Squat, Yield, Deliver, Repeat, Lose, Carry, Restart, Refresh, Plan, Ask, Show, Settle}
-use Rattle.mip_links.specs.Table.{Post, delivery, in_pool, outsider_of, holder_outside}
+use Rattle.mip_links.specs.Table.{Fate, Post, delivery, in_pool, outsider_of, holder_outside}
 use Rattle.mip_links.specs.Nets.{lowest_of}
-use Rattle.mip_links.specs.declared.delivery.Delivery.{Delivery}
-use Rattle.mip_links.specs.declared.delivery.Delivery.TheVariants.{Idle, Gone, Outsider, Node}
+use Rattle.mip_links.specs.Table.Fate.{Idle, Gone, Outsider, Node}
 use Rattle.mip_history.specs.Setup.{Setup, Host, Kind, is_mobile_host}
 use Rattle.mip_history.specs.Setup.Kind.{Correspondent, Agent, Mobile}
 use Rattle.mip_history.specs.Runs.{Run, note, entered, without, with_past, with_agent_past}
@@ -81,7 +80,7 @@ module _ (s : Setup) (P : Run → Type 0) (keeps : KeepsClaims s P) where
   walk_handed k n post link run p =
       keeps.acted (note (entries.Handed k (node_id n)) run) n (Take k post.shield (handed_over post.packet link)) (one run (entries.Handed k (node_id n)) refl p)
 
-  walk_became : (k : ℕ) (post : Post) (link : Option ℕ) (run : Run) (d : Delivery) → P run → P (became s k post link run d)
+  walk_became : (k : ℕ) (post : Post) (link : Option ℕ) (run : Run) (d : Fate) → P run → P (became s k post link run d)
   walk_became k post link run Idle p = one run entries.Idle refl p
   walk_became k post link run (Gone why) p = by (is_no_holder why)
     where

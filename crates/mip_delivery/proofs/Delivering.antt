@@ -21,7 +21,7 @@ use Rattle.mip_entries.specs.Stamped.{Stamped}
 use Rattle.mip_tunnel.specs.Tunnel.{hop_of}
 use Rattle.mip_outside.specs.declared.claim.Claim.{Claim}
 use Rattle.mip_links.specs.Table.{Post, Asked, link_of, destination_in, at_holder, at_link, in_pool}
-use Rattle.mip_links.specs.declared.delivery.Delivery.TheVariants.{Node}
+use Rattle.mip_links.specs.Table.Fate.{Node}
 use Rattle.mip_rules_correspondent.specs.Steps as part_steps
 use Rattle.mip_rules_correspondent.specs.declared.identity.Identity.{Identity}
 use Rattle.mip_rules_correspondent.specs.declared.known.Known as parts

@@ -33,10 +33,9 @@ use Rattle.mip_rules_correspondent.specs.Calls as correspondent_calls
 use Rattle.mip_rules_correspondent.specs.Doing.{transition_of as correspondent_transition}
 use Rattle.mip_rules_mobile.specs.Calls as mobile_calls
 use Rattle.mip_rules_mobile.specs.Doing.{transition_of as mobile_transition}
-use Rattle.mip_links.specs.Table.{Post, link_of, delivery, in_pool, outsider_of, holder_outside}
+use Rattle.mip_links.specs.Table.{Fate, Post, link_of, delivery, in_pool, outsider_of, holder_outside}
 use Rattle.mip_links.specs.Nets.{lowest_of, is_held_by}
-use Rattle.mip_links.specs.declared.delivery.Delivery.{Delivery}
-use Rattle.mip_links.specs.declared.delivery.Delivery.TheVariants.{Idle, Gone, Outsider, Node}
+use Rattle.mip_links.specs.Table.Fate.{Idle, Gone, Outsider, Node}
 use Rattle.mip_schedule.specs.declared.event.Event.{Event}
 use Rattle.mip_schedule.specs.declared.event.Event.TheVariants.{Wait, Move, Advertise, Payload, Inject, Probe, Bind, Tell, Listen, Deaf, Squat, Yield, Deliver, Repeat, Lose, Carry, Restart, Refresh, Plan, Ask, Show, Settle}
 use Rattle.mip_history.specs.Setup.{Setup, Host, Kind, is_mobile_at}
@@ -295,7 +294,7 @@ module _ (s : Setup) (bad : Entry → Bool) (may : ℕ → Address → Type 0) (
   handed_calm number n post link run other c =
       acts_calm (note (entries.Handed number (node_id n)) run) n (Take number post.shield (handed_over post.packet link)) (single run (entries.Handed number (node_id n)) (other.handed n) c)
 
-  became_calm : (number : ℕ) (post : Post) (link : Option ℕ) (run : Run) → IsMildOf bad number → (d : Delivery) → Calm run → Calm (became s number post link run d)
+  became_calm : (number : ℕ) (post : Post) (link : Option ℕ) (run : Run) → IsMildOf bad number → (d : Fate) → Calm run → Calm (became s number post link run d)
   became_calm number post link run other Idle c = one run entries.Idle refl c
   became_calm number post link run other (Gone why) c = by (is_no_holder why)
     where

@@ -8,6 +8,9 @@ use Rattle.mip_lists.specs.Last.{or_else}
 use Rattle.mip_entries.specs.declared.entry.Entry.{Entry}
 use Rattle.mip_entries.specs.declared.entry.Entry.TheVariants.{Claimed, Released, Taken, Listening, Deafened, Idle}
 use Rattle.mip_links.specs.Table.{Asked, link_of}
+use Rattle.mip_words.specs.Holders.{holder_at, holder_number}
+use Rattle.mip_words.specs.declared.holder.Holder.{Holder}
+use Rattle.mip_words.proofs.HolderLaws.{number-holder}
 use Rattle.mip_links.specs.Nets.{NetSeen, hears_of, holder_of, declared_of, with_first, put, with_rows, with_hearing, spot, claimed, is_held_by, taken_by, refusal}
 use Rattle.mip_links.specs.declared.claim_fault.ClaimFault.TheVariants.{Taken as TakenBy, NoLink}
 use Rattle.mip_links.proofs.NetLaws.{holder-put, hears-set, first-set}
@@ -74,13 +77,13 @@ pub never_unlinked : (net : NetSeen) (who a l : ℕ) → link_of net.links a ≡
 never_unlinked net who a l on refused =
     by (holder_of net.rows a) (subst (λ (o : Option ℕ). (if is_some o then taken_by (holder_of net.rows a) who else Some NoLink) ≡ Some NoLink) on refused)
   where
-    split : (t : Bool) (other : ℕ) → (if t then None else Some (TakenBy other)) ≢ Some NoLink
+    split : (t : Bool) (other : Holder) → (if t then None else Some (TakenBy other)) ≢ Some NoLink
     split true other e = cc
     split false other e = cc
 
     by : (o : Option ℕ) → taken_by o who ≢ Some NoLink
     by None e = cc
-    by (Some other) e = split (other == who) other e
+    by (Some other) e = split (other == who) (holder_at other) e
 
 -- an address has a holder from here on
 pub at_claimed : (e : EngineSeen) (s : Setup) (run : Run) (who l : ℕ) (a : Address) → who < 40 → IsAt e s run
@@ -220,21 +223,23 @@ claimed_entry net who l a free = by (is_some (link_of net.links a.0)) (holder_of
     by true None e = refl
     by true (Some other) e = split (other == who) e
       where
-        split : (b : Bool) → (if b then None else Some (TakenBy other)) ≡ None → Claimed who (link_id l) a ≡ (if b then Claimed who (link_id l) a else Taken who (link_id l) a other)
+        split : (b : Bool) → (if b then None else Some (TakenBy (holder_at other))) ≡ None → Claimed who (link_id l) a ≡ (if b then Claimed who (link_id l) a else Taken who (link_id l) a other)
         split true e = refl
         split false e = absurd cc
     by false o e = absurd cc
 
-pub taken_entry : (net : NetSeen) (who l by : ℕ) (a : Address) → refusal net who a.0 ≡ Some (TakenBy by) → Taken who (link_id l) a by ≡ claim_entry who a l (holder_of net.rows a.0)
+pub taken_entry : (net : NetSeen) (who l : ℕ) (by : Holder) (a : Address) → refusal net who a.0 ≡ Some (TakenBy by) → Taken who (link_id l) a (holder_number by) ≡ claim_entry who a l (holder_of net.rows a.0)
 taken_entry net who l by a taken = parts (is_some (link_of net.links a.0)) (holder_of net.rows a.0) taken
   where
-    parts : (t : Bool) (o : Option ℕ) → (if t then taken_by o who else Some NoLink) ≡ Some (TakenBy by) → Taken who (link_id l) a by ≡ claim_entry who a l o
+    parts : (t : Bool) (o : Option ℕ) → (if t then taken_by o who else Some NoLink) ≡ Some (TakenBy by) → Taken who (link_id l) a (holder_number by) ≡ claim_entry who a l o
     parts true None e = absurd cc
     parts true (Some other) e = split (other == who) e
       where
-        split : (b : Bool) → (if b then None else Some (TakenBy other)) ≡ Some (TakenBy by) → Taken who (link_id l) a by ≡ (if b then Claimed who (link_id l) a else Taken who (link_id l) a other)
+        split : (b : Bool) → (if b then None else Some (TakenBy (holder_at other))) ≡ Some (TakenBy by) → Taken who (link_id l) a (holder_number by) ≡ (if b then Claimed who (link_id l) a else Taken who (link_id l) a other)
         split true e = absurd cc
-        split false e = let same : other ≡ by = cc in ap (λ (n : ℕ). Taken who (link_id l) a n) (sym same)
+        split false e =
+            let same : holder_at other ≡ by = cc in
+            ap (λ (n : ℕ). Taken who (link_id l) a n) (ap holder_number (sym same) ∙ number-holder other)
     parts false o e = absurd cc
 
 -- an outsider tries to take an address
@@ -249,7 +254,7 @@ at_squatted e s run who l a small is_link at =
     by None = at_claimed e s run who l a small at
     by (Some other) = split (other == who)
       where
-        split : (b : Bool) → IsAt (with_entry (if b then Claimed who (link_id l) a else Taken who (link_id l) a other) (with_net (tried e.net who a (if b then None else Some (TakenBy other))) e)) s (note (if b then Claimed who (link_id l) a else Taken who (link_id l) a other) run)
+        split : (b : Bool) → IsAt (with_entry (if b then Claimed who (link_id l) a else Taken who (link_id l) a other) (with_net (tried e.net who a (if b then None else Some (TakenBy (holder_at other)))) e)) s (note (if b then Claimed who (link_id l) a else Taken who (link_id l) a other) run)
         split true = at_claimed e s run who l a small at
         split false = at_note e s run (Taken who (link_id l) a other) (quiet_taken who l a other) at
 

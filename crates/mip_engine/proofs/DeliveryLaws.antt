@@ -2,10 +2,9 @@
 use Rattle.std.proofs.Common.{◌≡◌, ◌≢◌, ℕ, ◌<◌, List, length, Bool, true, false, refl, sym, ap, ◌∙◌}
 use Rattle.std.specs.Prelude.{Option, Some, None, option_map, slice_get, slice_index_or, if◌then◌else◌}
 use Rattle.std.proofs.lemmas.Option.{slice_get_within}
-use Rattle.mip_links.specs.Table.{Post, Asked, link_of, destination_in, delivery, in_pool}
+use Rattle.mip_links.specs.Table.{Fate, fate_of, Post, Asked, link_of, destination_in, delivery, in_pool}
 use Rattle.mip_links.specs.Nets.{left}
-use Rattle.mip_links.specs.declared.delivery.Delivery.{Delivery}
-use Rattle.mip_links.specs.declared.delivery.Delivery.TheVariants.{Idle}
+use Rattle.mip_links.specs.Table.Fate.{Idle}
 use Rattle.mip_entries.specs.declared.entry.Entry.TheVariants.{Idle as Stays}
 use Rattle.mip_history.specs.Setup.{Setup}
 use Rattle.mip_history.specs.Runs.{Run, note, without}
@@ -47,7 +46,7 @@ module _ (e : EngineSeen) (s : Setup) (run : Run) (k : ℕ) (keep : Bool) (at : 
     pub post : Post
     pub posted : slice_get (lifted k keep run).posts k ≡ Some post
     pub shield : a.shield ≡ post.shield
-    pub became_is : became s k post (option_map (λ l. l.0) a.link) (lifted k keep run) a.delivery ≡ delivered s run k keep
+    pub became_is : became s k post (option_map (λ l. l.0) a.link) (lifted k keep run) (fate_of a.delivery) ≡ delivered s run k keep
 
   pub comes : (a : Arrival) → Some (arrival_seen a) ≡ option_map (arrival_of e.net) (in_pool e.net.flying e.net.posts k) → IsCome a
   unfolding delivered
@@ -61,9 +60,9 @@ module _ (e : EngineSeen) (s : Setup) (run : Run) (k : ℕ) (keep : Bool) (at : 
         posted = posts keep ∙ in_pool_posted (slice_index_or run.flying k false) (slice_get run.posts k) post pooled;
         shield = ap (λ (x : ArrivalSeen). x.shield) (sym is);
         became_is =
-            ap (λ (l : Option ℕ). became s k post l (lifted k keep run) a.delivery)
+            ap (λ (l : Option ℕ). became s k post l (lifted k keep run) (fate_of a.delivery))
             (ap (λ (x : ArrivalSeen). x.link) (sym is) ∙ ap (λ (q : Asked). other_link (link_of q.links (destination_in post.packet)) post.from) at.asked)
-            ∙ ap (λ (d : Delivery). became s k post (arrival_link s post) (lifted k keep run) d)
+            ∙ ap (λ (d : Fate). became s k post (arrival_link s post) (lifted k keep run) d)
             (ap (λ (x : ArrivalSeen). x.delivery) (sym is) ∙ ap (λ (q : Asked). delivery q (Some post)) at.asked ∙ asked keep post)
             ∙ ap (arrived s k (lifted k keep run)) (sym pooled);
       }

@@ -11,7 +11,7 @@ ghost use Rattle.mip_engine.specs.Standing.{IsAt};
 
 use crate::engine::Engine;
 use mip_entries::{Answer, Answers, Entry};
-use mip_words::{LinkId, Memory, NodeId};
+use mip_words::{Holder, LinkId, Memory, NodeId};
 
 impl Engine {
     /// An entry of a node is left with the node's number.
@@ -33,9 +33,9 @@ impl Engine {
         ensures kept { OnOk result (self.new.told ≡ self.old.told) }
     {
         match entry {
-            Entry::Claimed { address, .. } => self.claim(node.0, address),
-            Entry::Taken { address, .. } => self.claim(node.0, address),
-            Entry::Released { address, .. } => self.give_up(node.0, address),
+            Entry::Claimed { address, .. } => self.claim(Holder::Node(node), address),
+            Entry::Taken { address, .. } => self.claim(Holder::Node(node), address),
+            Entry::Released { address, .. } => self.give_up(Holder::Node(node), address),
             Entry::Restarted { .. } => Ok(()),
             entry => self.note_named(node, entry),
         }

@@ -1,5 +1,5 @@
 ghost use Rattle.std.specs.Prelude.{◌≡◌, ◌<◌, length, option_map, slice_get, Some};
-ghost use Rattle.mip_links.specs.Table.{Post, link_of, destination_in};
+ghost use Rattle.mip_links.specs.Table.{Post, fate_of, link_of, destination_in};
 ghost use Rattle.mip_history.specs.Delivery.{other_link};
 ghost use Rattle.mip_engine.specs.Arrivals.{arrival_seen};
 
@@ -19,7 +19,7 @@ pub struct Arrival {
 /// Where a packet comes to that is delivered.
 pub(crate) fn arrival_of(net: &Net, number: u64, delivery: Delivery) -> Arrival
     requires { number < length net.now.posts }
-    ensures { (post : Post) → slice_get net.now.posts number ≡ Some post → arrival_seen result ≡ record { delivery = delivery; link = other_link (link_of net.now.links (destination_in post.packet)) post.from; shield = post.shield } }
+    ensures { (post : Post) → slice_get net.now.posts number ≡ Some post → arrival_seen result ≡ record { delivery = fate_of delivery; link = other_link (link_of net.now.links (destination_in post.packet)) post.from; shield = post.shield } }
 {
     let Some(flight) = net.flight(number) else {
         unreachable!();

@@ -1,7 +1,8 @@
 //! Addresses are claimed and given up, by nodes and by outsiders.
 
-ghost use Rattle.std.specs.Prelude.{◌≡◌, ◌<◌, IfSome, None, Some, OnOk, option_map};
+ghost use Rattle.std.specs.Prelude.{◌≡◌, ◌==◌, ◌<◌, IfSome, None, Some, OnOk, option_map};
 ghost use Rattle.mip_entries.specs.declared.entry.Entry.TheVariants.{Claimed};
+ghost use Rattle.mip_words.specs.Holders.{holder_number};
 ghost use Rattle.mip_links.specs.Nets.{refusal};
 ghost use Rattle.mip_links.specs.Table.{link_of};
 ghost use Rattle.mip_history.specs.Setup.{Setup};
@@ -14,13 +15,24 @@ ghost use Rattle.mip_engine.specs.Standing.{IsAt};
 
 use crate::engine::Engine;
 use mip_entries::Entry;
-use mip_words::{Address, LinkId, Memory, NodeId};
+use mip_words::{Address, Holder, LinkId, Memory, NodeId};
+
+/// The holder is this node.
+fn is_node(who: Holder, node: NodeId) -> bool
+    requires { node.0 < 32 }
+    ensures { result ≡ (node.0 == holder_number who) }
+{
+    match who {
+        Holder::Node(by) => node.0 == by.0,
+        Holder::Outsider(_) => false,
+    }
+}
 
 impl Engine {
-    fn claim_on(&mut self, who: u8, link: LinkId, address: Address) -> Result<(), Memory>
-        requires who { who < 40 }
+    fn claim_on(&mut self, who: Holder, link: LinkId, address: Address) -> Result<(), Memory>
+        requires who { holder_number who < 40 }
         requires link { link_of self.old.net.links address.0 ≡ Some link.0 }
-        ensures stands { (s : Setup) (run : Run) → IsAt self.old s run → link_of self.old.net.links address.0 ≡ Some link.0 → OnOk result (IsAt self.new s (note (claim_entry who address link.0 (holder_in run.past address.0)) run)) }
+        ensures stands { (s : Setup) (run : Run) → IsAt self.old s run → link_of self.old.net.links address.0 ≡ Some link.0 → OnOk result (IsAt self.new s (note (claim_entry (holder_number who) address link.0 (holder_in run.past address.0)) run)) }
         ensures kept { OnOk result (self.new.told ≡ self.old.told) }
     {
         let entry = self.take_claim(who, link, address)?;
@@ -28,9 +40,9 @@ impl Engine {
     }
 
     /// Somebody claims an address, and has it unless somebody else does.
-    pub fn claim(&mut self, who: u8, address: Address) -> Result<(), Memory>
-        requires { who < 40 }
-        ensures stands { (s : Setup) (run : Run) → IsAt self.old s run → OnOk result (IsAt self.new s (claims s who address run)) }
+    pub fn claim(&mut self, who: Holder, address: Address) -> Result<(), Memory>
+        requires { holder_number who < 40 }
+        ensures stands { (s : Setup) (run : Run) → IsAt self.old s run → OnOk result (IsAt self.new s (claims s (holder_number who) address run)) }
         ensures kept { OnOk result (self.new.told ≡ self.old.told) }
     {
         match self.link_of(address) {
@@ -54,46 +66,51 @@ impl Engine {
     }
 
     /// Somebody has an address that nobody had.
-    pub(crate) fn hold(&mut self, who: u8, link: LinkId, address: Address) -> Result<(), Memory>
-        requires who { who < 40 }
-        requires free { refusal self.old.net who address.0 ≡ None }
-        ensures stands { (s : Setup) (run : Run) → IsAt self.old s run → OnOk result (IsAt self.new s (note (Claimed who link address) run)) }
+    pub(crate) fn hold(&mut self, who: Holder, link: LinkId, address: Address) -> Result<(), Memory>
+        requires who { holder_number who < 40 }
+        requires free { refusal self.old.net (holder_number who) address.0 ≡ None }
+        ensures stands { (s : Setup) (run : Run) → IsAt self.old s run → OnOk result (IsAt self.new s (note (Claimed (holder_number who) link address) run)) }
         ensures kept { OnOk result (self.new.told ≡ self.old.told) }
     {
         self.take_free(who, address)?;
+        let who = who.number();
         self.note(Entry::Claimed { who, link, address })
     }
 
     /// A home address that was given up is its mobile's from here on, where that is at home.
-    fn pass_on(&mut self, who: u8, link: LinkId, address: Address) -> Result<(), Memory>
+    fn pass_on(&mut self, who: Holder, link: LinkId, address: Address) -> Result<(), Memory>
         requires free { IsFree self.old.net address.0 }
-        ensures stands { (s : Setup) (run : Run) → IsAt self.old s run → OnOk result (IsAt self.new s (passes_to who address link.0 run (resident_of self.old.nodes address.0))) }
+        ensures stands { (s : Setup) (run : Run) → IsAt self.old s run → OnOk result (IsAt self.new s (passes_to (holder_number who) address link.0 run (resident_of self.old.nodes address.0))) }
         ensures kept { OnOk result (self.new.told ≡ self.old.told) }
     {
         let Some(node) = self.resident(address) else {
             return Ok(());
         };
-        if node.0 == who {
+        if is_node(who, node) {
             return Ok(());
         }
-        self.hold(node.0, link, address)
+        self.hold(Holder::Node(node), link, address)
     }
 
-    fn give_up_on(&mut self, who: u8, link: LinkId, address: Address) -> Result<(), Memory>
+    fn give_up_on(&mut self, who: Holder, link: LinkId, address: Address) -> Result<(), Memory>
         requires { link_of self.old.net.links address.0 ≡ Some link.0 }
-        ensures stands { (s : Setup) (run : Run) → IsAt self.old s run → OnOk result (IsAt self.new s (given_up_on s who address run (Some link.0))) }
+        ensures stands { (s : Setup) (run : Run) → IsAt self.old s run → OnOk result (IsAt self.new s (given_up_on s (holder_number who) address run (Some link.0))) }
         ensures kept { OnOk result (self.new.told ≡ self.old.told) }
     {
         if self.release(who, address) {
-            self.note(Entry::Released { who, link, address })?;
+            self.note(Entry::Released {
+                who: who.number(),
+                link,
+                address,
+            })?;
             return self.pass_on(who, link, address);
         }
         self.note(Entry::Idle)
     }
 
     /// Somebody gives an address up, if it holds it. A home address passes to its mobile, where that is at home.
-    pub fn give_up(&mut self, who: u8, address: Address) -> Result<(), Memory>
-        ensures stands { (s : Setup) (run : Run) → IsAt self.old s run → OnOk result (IsAt self.new s (gives_up s who address run)) }
+    pub fn give_up(&mut self, who: Holder, address: Address) -> Result<(), Memory>
+        ensures stands { (s : Setup) (run : Run) → IsAt self.old s run → OnOk result (IsAt self.new s (gives_up s (holder_number who) address run)) }
         ensures kept { OnOk result (self.new.told ≡ self.old.told) }
     {
         match self.link_of(address) {

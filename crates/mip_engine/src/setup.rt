@@ -21,7 +21,7 @@ use crate::engine::Engine;
 use crate::hosts::hosts_in;
 use mip_nodes::{Host, Node};
 use mip_schedule::{Declaration, Schedule};
-use mip_words::{Address, LinkId, Memory, Prefix};
+use mip_words::{Address, Holder, LinkId, Memory, NodeId, Prefix};
 use std::alloc::Global;
 
 fn add_link(links: &mut Vec<Prefix>, d: &Declaration) -> Result<(), Memory>
@@ -115,16 +115,16 @@ impl Engine {
     }
 
     /// A node has an address besides its own.
-    fn share(&mut self, who: u8, address: Address) -> Result<(), Memory>
-        requires who { who < 40 }
+    fn share(&mut self, node: NodeId, address: Address) -> Result<(), Memory>
+        requires node { node.0 < 40 }
         requires free { IsFree self.old.net address.0 }
-        ensures stands { (s : Setup) (run : Run) → IsAt self.old s run → OnOk result (IsAt self.new s (note (claimed_entry s.links who address) run)) }
+        ensures stands { (s : Setup) (run : Run) → IsAt self.old s run → OnOk result (IsAt self.new s (note (claimed_entry s.links node.0 address) run)) }
         ensures kept { OnOk result (self.new.told ≡ self.old.told) }
     {
         let Some(link) = self.link_of(address) else {
             unreachable!()
         };
-        self.hold(who, link, address)
+        self.hold(Holder::Node(node), link, address)
     }
 
     /// A node more, with its address; the first agent of a link has the home-agents anycast address there, too.
@@ -141,7 +141,7 @@ impl Engine {
         let number = self.count();
         self.join(alloc, host)?;
         match anycast {
-            Some(address) => self.share(number, address),
+            Some(address) => self.share(NodeId(number), address),
             None => Ok(()),
         }
     }

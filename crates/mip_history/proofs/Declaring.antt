@@ -35,10 +35,9 @@ use Rattle.mip_schedule.specs.Lawful.{IsLink, IsNode}
 use Rattle.mip_symbols.specs.Places.{members}
 use Rattle.mip_symbols.specs.declared.declaration.Declaration.{Declaration}
 use Rattle.mip_symbols.specs.declared.places.Sort.TheVariants as sorts
-use Rattle.mip_links.specs.Table.{Post, Asked, link_from, link_of, is_node, is_address, held_by, at_holder, at_link, delivery, outsider_of, destination_in}
+use Rattle.mip_links.specs.Table.{Fate, Post, Asked, link_from, link_of, is_node, is_address, held_by, at_holder, at_link, delivery, outsider_of, destination_in}
 use Rattle.mip_links.specs.Nets.{is_held_by}
-use Rattle.mip_links.specs.declared.delivery.Delivery.{Delivery}
-use Rattle.mip_links.specs.declared.delivery.Delivery.TheVariants.{Idle, Gone, Outsider, Node}
+use Rattle.mip_links.specs.Table.Fate.{Idle, Gone, Outsider, Node}
 use Rattle.mip_tunnel.specs.Tunnel.{hop_of}
 use Rattle.mip_history.specs.Setup.{Setup, Host, Kind}
 use Rattle.mip_history.specs.Setup.Kind.{Correspondent, Agent, Mobile}
@@ -262,7 +261,7 @@ module _ (ds : List Declaration) (s : Setup) (of : IsOf ds s) where
       by (Some host) e = d-by_kind n host.address call run (slice_get_within s.hosts n host e) p host.kind
 
   -- where a packet goes
-  abbrev pub IsRight : Delivery → Type 0
+  abbrev pub IsRight : Fate → Type 0
   IsRight Idle = Unit {0}
   IsRight (Gone why) = is_gone_why why ≡ true
   IsRight (Outsider by) = outsider_of by < s.outsiders

@@ -17,10 +17,9 @@ use Rattle.mip_schedule.specs.Lawful.{IsLink, IsNode, IsOutsider, IsLinkIfAny}
 use Rattle.mip_symbols.specs.declared.declaration.Declaration.{Declaration}
 use Rattle.mip_schedule.specs.declared.event.Event.{Event}
 use Rattle.mip_schedule.specs.declared.event.Event.TheVariants.{Wait, Move, Advertise, Payload, Inject, Probe, Bind, Tell, Listen, Deaf, Squat, Yield, Deliver, Repeat, Lose, Carry, Restart, Refresh, Plan, Ask, Show, Settle}
-use Rattle.mip_links.specs.Table.{Post, link_of, delivery, in_pool, outsider_of, holder_outside}
+use Rattle.mip_links.specs.Table.{Fate, Post, link_of, delivery, in_pool, outsider_of, holder_outside}
 use Rattle.mip_links.specs.Nets.{lowest_of}
-use Rattle.mip_links.specs.declared.delivery.Delivery.{Delivery}
-use Rattle.mip_links.specs.declared.delivery.Delivery.TheVariants.{Idle, Gone, Outsider, Node}
+use Rattle.mip_links.specs.Table.Fate.{Idle, Gone, Outsider, Node}
 use Rattle.mip_history.specs.Setup.{Setup, Host, Kind, is_mobile_at}
 use Rattle.mip_history.specs.Setup.Kind.{Correspondent, Agent, Mobile}
 use Rattle.mip_history.specs.Runs.{Run, note, without, with_past, with_agent_past}
@@ -96,7 +95,7 @@ module _ (ds : List Declaration) (s : Setup) (of : IsOf ds s) where
   overheard_there post k None run q = q
   overheard_there post k (Some link) run q = d-overheard ds s of link post.shield None k run q
 
-  r-became : (k : ℕ) (post : Post) (link : Option ℕ) (run : Run) (d : Delivery) → IsRight ds s of d → Q run → Q (became s k post link run d)
+  r-became : (k : ℕ) (post : Post) (link : Option ℕ) (run : Run) (d : Fate) → IsRight ds s of d → Q run → Q (became s k post link run d)
   unfolding handed
   r-became k post link run Idle right q = d-idle ds s of run q
   r-became k post link run (Gone why) right q = by (is_no_holder why)

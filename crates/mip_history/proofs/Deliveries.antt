@@ -4,10 +4,9 @@ use Rattle.std.specs.Prelude.{Option, Some, None, if◌then◌else◌, slice_get
 use Rattle.std.proofs.lemmas.Option.{slice_get_within}
 use Rattle.mip_entries.specs.declared.entry.Entry.TheVariants as entries
 use Rattle.mip_entries.specs.Completed.{node_id}
-use Rattle.mip_links.specs.Table.{Post, delivery, in_pool, outsider_of}
+use Rattle.mip_links.specs.Table.{Fate, Post, delivery, in_pool, outsider_of}
 use Rattle.mip_links.specs.Nets.{lowest_of}
-use Rattle.mip_links.specs.declared.delivery.Delivery.{Delivery}
-use Rattle.mip_links.specs.declared.delivery.Delivery.TheVariants.{Idle, Gone, Outsider, Node}
+use Rattle.mip_links.specs.Table.Fate.{Idle, Gone, Outsider, Node}
 use Rattle.mip_history.specs.Setup.{Setup}
 use Rattle.mip_history.specs.Runs.{Run, note, without}
 use Rattle.mip_history.specs.Questions.{asked_in}
@@ -41,7 +40,7 @@ module _ (s : Setup) (k : ℕ) (post : Post) (link : Option ℕ) (run : Run) (is
   inside : k < length run.posts
   inside = slice_get_within run.posts k post posted
 
-  became_goes : (d : Delivery) → Goes s run (became s k post link run d)
+  became_goes : (d : Fate) → Goes s run (became s k post link run d)
   became_goes Idle = goes_quietly s run _ is (quiet_notes s (entries.Idle ∷ []) run refl)
   became_goes (Gone why) = by (is_no_holder why)
     where

@@ -16,10 +16,9 @@ use Rattle.mip_rules_agent.specs.declared.home_row.HomeRow.{HomeRow}
 use Rattle.mip_rules_agent.specs.Questions.{rows_at}
 use Rattle.mip_schedule.specs.declared.event.Event.{Event}
 use Rattle.mip_schedule.specs.declared.event.Event.TheVariants.{Wait, Move, Advertise, Payload, Inject, Probe, Bind, Tell, Listen, Deaf, Squat, Yield, Deliver, Repeat, Lose, Carry, Restart, Refresh, Plan, Ask, Show, Settle}
-use Rattle.mip_links.specs.Table.{Post, link_of, delivery, in_pool, outsider_of, holder_outside}
+use Rattle.mip_links.specs.Table.{Fate, Post, link_of, delivery, in_pool, outsider_of, holder_outside}
 use Rattle.mip_links.specs.Nets.{lowest_of}
-use Rattle.mip_links.specs.declared.delivery.Delivery.{Delivery}
-use Rattle.mip_links.specs.declared.delivery.Delivery.TheVariants.{Idle, Gone, Outsider, Node}
+use Rattle.mip_links.specs.Table.Fate.{Idle, Gone, Outsider, Node}
 use Rattle.mip_history.specs.Setup.{Setup, Host, Kind, is_mobile_host}
 use Rattle.mip_history.specs.Setup.Kind.{Correspondent, Agent, Mobile}
 use Rattle.mip_history.specs.Runs.{Run, note, without}
@@ -107,7 +106,7 @@ module _ (s : Setup) (P : Run → Type 0) (keeps : Keeps s P) where
       (record { earlier = run.past; told = refl; post = post; link = link; posted = posted; under = refl; as_posted = refl }) refl refl
       (one run (entries.Handed k (node_id n)) refl p)
 
-  walk_became : (k : ℕ) (post : Post) (link : Option ℕ) (run : Run) → slice_get run.posts k ≡ Some post → (d : Delivery) → P run → P (became s k post link run d)
+  walk_became : (k : ℕ) (post : Post) (link : Option ℕ) (run : Run) → slice_get run.posts k ≡ Some post → (d : Fate) → P run → P (became s k post link run d)
   walk_became k post link run posted Idle p = one run entries.Idle refl p
   walk_became k post link run posted (Gone why) p = by (is_no_holder why)
     where

@@ -5,10 +5,9 @@ use Rattle.mip_words.specs.declared.why.Why.TheVariants as whys
 use Rattle.mip_entries.specs.declared.entry.Entry.TheVariants.{Handed, Heard, Gone as Goes, Idle as Stays}
 use Rattle.mip_entries.specs.Completed.{node_id}
 use Rattle.mip_tunnel.specs.Tunnel.{lowered}
-use Rattle.mip_links.specs.Table.{Post, link_of, destination_in, delivery, in_pool, outsider_of}
+use Rattle.mip_links.specs.Table.{Fate, Post, link_of, destination_in, delivery, in_pool, outsider_of}
 use Rattle.mip_links.specs.Nets.{lowest_of}
-use Rattle.mip_links.specs.declared.delivery.Delivery.{Delivery}
-use Rattle.mip_links.specs.declared.delivery.Delivery.TheVariants.{Idle, Gone, Outsider, Node}
+use Rattle.mip_links.specs.Table.Fate.{Idle, Gone, Outsider, Node}
 use Rattle.mip_history.specs.Calls.{Take}
 use Rattle.mip_history.specs.Setup.{Setup}
 use Rattle.mip_history.specs.Runs.{Run, note, without}
@@ -51,7 +50,7 @@ abbrev pub is_no_holder : Why → Bool
 is_no_holder whys.NoHolder = not false
 is_no_holder _ = false
 
-abbrev pub became : Setup → ℕ → Post → Option ℕ → Run → Delivery → Run
+abbrev pub became : Setup → ℕ → Post → Option ℕ → Run → Fate → Run
 became s k post link run Idle = note Stays run
 became s k post link run (Gone why) = note (Goes k why) (if is_no_holder why then overheard_at s post k link run else run)
 became s k post link run (Outsider by) = held_by_outsider (overheard_at s post k link run) k (outsider_of by) link

@@ -5,6 +5,7 @@ use Rattle.indexmap.specs.IndexMap.{insert_entry}
 use Rattle.mip_words.specs.declared.address.Address.{Address}
 use Rattle.mip_links.specs.declared.claim_fault.ClaimFault.{ClaimFault}
 use Rattle.mip_links.specs.declared.claim_fault.ClaimFault.TheVariants.{Taken, NoLink}
+use Rattle.mip_words.specs.Holders.{holder_at}
 use Rattle.mip_links.specs.Table.{Post, Asked, link_of}
 
 pub record NetSeen : Type 0 where
@@ -109,7 +110,7 @@ claimed net by address =
 -- somebody else has the address
 abbrev pub taken_by : Option ℕ → ℕ → Option ClaimFault
 taken_by None by = None
-taken_by (Some other) by = if other == by then None else Some (Taken other)
+taken_by (Some other) by = if other == by then None else Some (Taken (holder_at other))
 
 -- why a claim is refused
 abbrev pub refusal : NetSeen → ℕ → ℕ → Option ClaimFault

@@ -4,10 +4,12 @@ use Rattle.mip_words.specs.Addresses.{prefix_of}
 use Rattle.mip_words.specs.Numbers.{number_at}
 use Rattle.mip_words.specs.declared.address.Address.{Address}
 use Rattle.mip_words.specs.declared.shield.Shield.{Shield}
+use Rattle.mip_words.specs.declared.why.Why.{Why}
 use Rattle.mip_words.specs.declared.why.Why.TheVariants.{NoLink, Hop, NoHolder, Shield as NotForIt}
+use Rattle.mip_words.specs.Holders.{first_outsider}
 use Rattle.mip_tunnel.specs.Tunnel.{hop_of}
 use Rattle.mip_links.specs.declared.delivery.Delivery.{Delivery}
-use Rattle.mip_links.specs.declared.delivery.Delivery.TheVariants.{Idle, Gone, Outsider, Node}
+use Rattle.mip_links.specs.declared.delivery.Delivery.TheVariants as deliveries
 
 -- a packet as it was posted, and the link that it was sent from
 pub record Post : Type 0 where
@@ -34,10 +36,20 @@ link_from n (p ∷ ps) prefix = if p == prefix then Some n else link_from (suc n
 abbrev pub link_of : List ℕ → ℕ → Option ℕ
 link_of links address = link_from 0 links (prefix_of address)
 
--- who holds an address: a node by its number, or an outsider, which are counted from here on
-abbrev pub first_outsider : ℕ
-first_outsider = 32
+-- what becomes of a packet: it is not in the pool, it comes to nobody, or a holder with this number has its destination
+pub data Fate : Type 0 where
+  Idle : Fate
+  Gone : (why : Why) → Fate
+  Outsider : (by : ℕ) → Fate
+  Node : (by : ℕ) → Fate
 
+abbrev pub fate_of : Delivery → Fate
+fate_of deliveries.Idle = Idle
+fate_of (deliveries.Gone why) = Gone why
+fate_of (deliveries.Outsider outsider) = Outsider (outsider + first_outsider)
+fate_of (deliveries.Node node) = Node node.0
+
+-- nodes have the numbers below that of the first outsider
 abbrev pub is_node : ℕ → Bool
 is_node by = nat_lt by first_outsider
 
@@ -53,22 +65,22 @@ is_address None address = false
 is_address (Some a) address = a.0 == address.0
 
 -- a shielded packet goes to the node that its shield names by its first address, and to nobody else
-abbrev pub held_by : Option Shield → ℕ → Option Address → Delivery
+abbrev pub held_by : Option Shield → ℕ → Option Address → Fate
 held_by None by declared = if is_node by then Node by else Outsider by
 held_by (Some shield) by declared = if is_node by && is_address declared shield.to then Node by else Gone NotForIt
 
-abbrev pub at_holder : Asked → Option Shield → Option ℕ → Delivery
+abbrev pub at_holder : Asked → Option Shield → Option ℕ → Fate
 at_holder q shield None = Gone NoHolder
 at_holder q shield (Some by) = held_by shield by (q.declared by)
 
 -- a packet that comes to another link has a hop limit of 2 at least
-abbrev pub at_link : Asked → Post → Option ℕ → Delivery
+abbrev pub at_link : Asked → Post → Option ℕ → Fate
 at_link q post None = Gone NoLink
 at_link q post (Some link) =
     if not (link == post.from) && nat_lt (hop_of post.packet) 2 then Gone Hop
     else at_holder q post.shield (q.holder (destination_in post.packet))
 
-abbrev pub delivery : Asked → Option Post → Delivery
+abbrev pub delivery : Asked → Option Post → Fate
 delivery q None = Idle
 delivery q (Some post) = at_link q post (link_of q.links (destination_in post.packet))
 

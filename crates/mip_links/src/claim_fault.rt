@@ -1,12 +1,12 @@
 ghost use Rattle.std.specs.Prelude.{◌≡◌};
 
-use mip_words::Memory;
+use mip_words::{Holder, Memory};
 
 /// Why an address was not claimed.
 #[derive(Clone, Copy, Debug, PartialEq, Eq)]
 pub enum ClaimFault {
     /// Somebody else holds it.
-    Taken { by: u8 },
+    Taken { by: Holder },
     /// No link has its prefix.
     NoLink,
     Memory,

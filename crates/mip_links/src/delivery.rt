@@ -1,4 +1,4 @@
-use mip_words::Why;
+use mip_words::{NodeId, Why};
 
 /// What becomes of a packet that is delivered.
 #[derive(Clone, Copy, Debug, PartialEq, Eq)]
@@ -7,8 +7,8 @@ pub enum Delivery {
     Idle,
     /// The packet comes to nobody: `NoLink`, `Hop`, `NoHolder` or `Shield`.
     Gone(Why),
-    /// An outsider holds its destination. Outsiders are counted from 32 on.
-    Outsider { by: u8 },
+    /// An outsider holds its destination.
+    Outsider(u8),
     /// A node holds its destination.
-    Node { by: u8 },
+    Node(NodeId),
 }

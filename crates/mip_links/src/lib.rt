@@ -16,4 +16,4 @@ mod rows;
 pub use claim_fault::ClaimFault;
 pub use delivery::Delivery;
 pub use flight::Flight;
-pub use net::{FIRST_OUTSIDER, Net};
+pub use net::Net;

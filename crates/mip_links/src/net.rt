@@ -1,6 +1,8 @@
 ghost use Rattle.std.specs.Prelude.{◌≡◌, ◌≢◌, ◌==◌, ◌&&◌, ℕ, ◌<◌, ◌≤◌, length, map, replicate, false, true, not, if◌then◌else◌, None, Some, Ok, Err, is_some, IfOk, IfSome, OnOk, OnErr, option_map, slice_get, slice_index_or};
 ghost use Rattle.mip_links.specs.Kept.{post_of};
-ghost use Rattle.mip_links.specs.Table.{delivery, held_by, in_pool, is_address, link_of};
+ghost use Rattle.mip_words.specs.Holders.{holder_at, holder_number};
+ghost use Rattle.mip_links.specs.declared.claim_fault.ClaimFault.TheVariants.{Taken};
+ghost use Rattle.mip_links.specs.Table.{delivery, fate_of, held_by, in_pool, is_address, link_of};
 ghost use Rattle.mip_links.specs.Nets.{new_net, holder_of, has_room, put, declared_of, asked_of, hears_of, lowest_of, spot, with_rows, with_hearing, posted, left, claimed, refusal, is_held_by};
 
 use crate::claim_fault::ClaimFault;
@@ -11,21 +13,15 @@ use crate::posted::Posted;
 use crate::posts::Posts;
 use crate::rows;
 use indexmap::IndexMap;
-use mip_words::{Address, LinkId, Memory, Prefix, Shield, Why};
+use mip_words::{Address, HOLDERS, Holder, LinkId, Memory, Prefix, Shield, Why};
 use std::alloc::Global;
 use std::marker::Model;
-
-/// Who holds an address is a node by its number, or an outsider, which are counted from here on.
-pub const FIRST_OUTSIDER: u8 = 32;
-
-/// How many holders there may be: 32 nodes, then 8 outsiders.
-const HOLDERS: usize = 40;
 
 const LINKS: usize = 32;
 
 const EARS: usize = 256;
 
-/// A network. A holder is a node by its number, or an outsider by `FIRST_OUTSIDER` and its number.
+/// A network. Its table of claims has the numbers of the holders.
 #[derive(Drop)]
 pub struct Net {
     links: Vec<Prefix>,
@@ -97,10 +93,10 @@ impl Net {
     }
 
     /// The address that a holder claimed first.
-    pub fn declared(&self, by: u8) -> Option<Address>
-        ensures { result ≡ declared_of self.now.firsts by }
+    pub fn declared(&self, by: Holder) -> Option<Address>
+        ensures { result ≡ declared_of self.now.firsts (holder_number by) }
     {
-        match self.firsts.get(usize::from(by)) {
+        match self.firsts.get(by.place()) {
             Some(first) => *first,
             None => None,
         }
@@ -137,7 +133,7 @@ impl Net {
     /// What becomes of a packet of the pool, which leaves the pool unless it is kept. Its hop limit is one less
     /// where it comes to another link: whoever hands it over lowers it.
     pub fn deliver(&mut self, number: u64, keep: bool) -> Delivery
-        ensures answers { result ≡ delivery (asked_of self.old) (in_pool self.old.flying self.old.posts number) }
+        ensures answers { fate_of result ≡ delivery (asked_of self.old) (in_pool self.old.flying self.old.posts number) }
         ensures after { self.new ≡ (if keep then self.old else left self.old number) }
     {
         let delivery = self.arrival(number);
@@ -148,7 +144,7 @@ impl Net {
     }
 
     fn arrival(&self, number: u64) -> Delivery
-        ensures { result ≡ delivery (asked_of self.now) (in_pool self.now.flying self.now.posts number) }
+        ensures { fate_of result ≡ delivery (asked_of self.now) (in_pool self.now.flying self.now.posts number) }
     {
         if !stands(&self.flying, number as usize) {
             return Delivery::Idle;
@@ -161,7 +157,7 @@ impl Net {
 
     fn arrival_of(&self, post: &Posted<'_>) -> Delivery
         requires { 40 ≤ length post.now.packet.now }
-        ensures { result ≡ delivery (asked_of self.now) (Some (post_of post.now)) }
+        ensures { fate_of result ≡ delivery (asked_of self.now) (Some (post_of post.now)) }
     {
         let to = post.destination();
         let flight = post.flight;
@@ -171,8 +167,8 @@ impl Net {
         if link.0 != flight.from.0 && post.hop() < 2 {
             return Delivery::Gone(Why::Hop);
         }
-        match self.holder(to) {
-            Some(by) => held(flight.shield, by, self.declared(by)),
+        match rows::holder(&self.claims, to) {
+            Some(by) => held(flight.shield, by, self.declared(Holder::of(by))),
             None => Delivery::Gone(Why::NoHolder),
         }
     }
@@ -259,10 +255,13 @@ impl Net {
     }
 
     /// Who holds an address.
-    pub fn holder(&self, address: Address) -> Option<u8>
-        ensures { result ≡ holder_of self.now.rows address.0 }
+    pub fn holder(&self, address: Address) -> Option<Holder>
+        ensures exact { result ≡ option_map holder_at (holder_of self.now.rows address.0) }
+        ensures is { option_map holder_number result ≡ holder_of self.now.rows address.0 }
+        ensures small { IfSome result (λ h. holder_number h < 256) }
     {
-        rows::holder(&self.claims, address)
+        let number = rows::holder(&self.claims, address)?;
+        Some(Holder::of(number))
     }
 
     /// Makes room for an address, so that memory is not wanting for a claim of it.
@@ -273,46 +272,51 @@ impl Net {
         ensures holders { (a : ℕ) → holder_of self.new.rows a ≡ holder_of self.old.rows a }
         ensures room { OnOk result (has_room self.new address.0 ≡ true) }
     {
-        let holder = self.holder(address);
+        let holder = rows::holder(&self.claims, address);
         rows::put_holder(&mut self.claims, address, holder)
     }
 
     /// Gives an address to a holder.
-    pub fn claim(&mut self, by: u8, address: Address) -> Result<(), ClaimFault>
-        requires { by < 40 }
-        ensures ok { OnOk result (refusal self.old by address.0 ≡ None) }
-        ensures after { OnOk result (self.new ≡ claimed self.old by address) }
+    pub fn claim(&mut self, by: Holder, address: Address) -> Result<(), ClaimFault>
+        requires { holder_number by < 40 }
+        ensures ok { OnOk result (refusal self.old (holder_number by) address.0 ≡ None) }
+        ensures after { OnOk result (self.new ≡ claimed self.old (holder_number by) address) }
         ensures err { OnErr result (self.new ≡ self.old) }
-        ensures refused { (fault : ClaimFault) → refusal self.old by address.0 ≡ Some fault → result ≡ Err fault }
-        ensures only { (fault : ClaimFault) → result ≡ Err fault → fault ≢ ClaimFault.Memory → refusal self.old by address.0 ≡ Some fault }
+        ensures refused { (fault : ClaimFault) → refusal self.old (holder_number by) address.0 ≡ Some fault → result ≡ Err fault }
+        ensures only { (fault : ClaimFault) → result ≡ Err fault → fault ≢ ClaimFault.Memory → refusal self.old (holder_number by) address.0 ≡ Some fault }
         ensures room { has_room self.old address.0 ≡ true → result ≢ Err ClaimFault.Memory }
-        ensures holders { OnOk result ((a : ℕ) → holder_of self.new.rows a ≡ (if a == address.0 then Some by else holder_of self.old.rows a)) }
+        ensures holders { OnOk result ((a : ℕ) → holder_of self.new.rows a ≡ (if a == address.0 then Some (holder_number by) else holder_of self.old.rows a)) }
+        ensures small { (other : Holder) → result ≡ Err (Taken other) → holder_number other < 256 }
     {
+        let number = by.number();
         if self.link_of(address).is_none() {
             return Err(ClaimFault::NoLink);
         }
-        if let Some(other) = self.holder(address) {
-            if other != by {
-                return Err(ClaimFault::Taken { by: other });
+        if let Some(other) = rows::holder(&self.claims, address) {
+            if other != number {
+                return Err(ClaimFault::Taken {
+                    by: Holder::of(other),
+                });
             }
         }
-        rows::put_holder(&mut self.claims, address, Some(by))?;
-        if self.firsts[usize::from(by)].is_none() {
-            self.firsts[usize::from(by)] = Some(address);
+        rows::put_holder(&mut self.claims, address, Some(number))?;
+        if self.firsts[by.place()].is_none() {
+            self.firsts[by.place()] = Some(address);
         }
         Ok(())
     }
 
     /// Takes an address from its holder, and says whether this was it.
-    pub fn release(&mut self, by: u8, address: Address) -> bool
-        ensures was { result ≡ is_held_by (holder_of self.old.rows address.0) by }
+    pub fn release(&mut self, by: Holder, address: Address) -> bool
+        ensures was { result ≡ is_held_by (holder_of self.old.rows address.0) (holder_number by) }
+        ensures small { result ≡ true → holder_number by < 256 }
         ensures after { self.new ≡ (if result then with_rows self.old (put self.old.rows address.0 None) else self.old) }
         ensures holders { (a : ℕ) → holder_of self.new.rows a ≡ (if result && a == address.0 then None else holder_of self.old.rows a) }
     {
-        let Some(holder) = self.holder(address) else {
+        let Some(holder) = rows::holder(&self.claims, address) else {
             return false;
         };
-        if holder != by {
+        if usize::from(holder) != by.place() {
             return false;
         }
         match rows::put_holder(&mut self.claims, address, None) {
@@ -336,25 +340,15 @@ fn no_ears(alloc: Global) -> Result<Vec<bool>, Memory>
     Ok(ears)
 }
 
-/// Whether the holder of a packet's destination is handed it.
+/// Whether the holder of a packet's destination, by its number, is handed it.
 fn held(shield: Option<Shield>, by: u8, first: Option<Address>) -> Delivery
-    ensures { result ≡ held_by shield by first }
+    ensures { fate_of result ≡ held_by shield by first }
 {
-    match shield {
-        Some(shield) => {
-            if by < FIRST_OUTSIDER && is_address(first, shield.to) {
-                Delivery::Node { by }
-            } else {
-                Delivery::Gone(Why::Shield)
-            }
-        }
-        None => {
-            if by < FIRST_OUTSIDER {
-                Delivery::Node { by }
-            } else {
-                Delivery::Outsider { by }
-            }
-        }
+    match (Holder::of(by), shield) {
+        (Holder::Node(node), None) => Delivery::Node(node),
+        (Holder::Outsider(outsider), None) => Delivery::Outsider(outsider),
+        (Holder::Node(node), Some(shield)) if is_address(first, shield.to) => Delivery::Node(node),
+        (_, Some(_)) => Delivery::Gone(Why::Shield),
     }
 }
 

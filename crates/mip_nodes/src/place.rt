@@ -1,13 +1,14 @@
 //! What a node of a network finds as it claims addresses.
 
-ghost use Rattle.std.specs.Prelude.{◌≡◌, None, option_map};
+ghost use Rattle.std.specs.Prelude.{◌≡◌, ◌<◌, IfSome, None, option_map};
+ghost use Rattle.mip_words.specs.Holders.{holder_number};
 ghost use Rattle.mip_outside.specs.Places.{claim_in, is_home, claim_of};
 ghost use Rattle.mip_history.specs.Knowing.{other_than};
 ghost use Rattle.mip_nodes.specs.Places.{around_of, around_seen};
 
 use mip_links::Net;
 use mip_outside::{Claim, Place};
-use mip_words::Address;
+use mip_words::{Address, Holder};
 
 /// A place that answers as the table of claims of a network stands. It only reads: the run writes a claim where its entry is
 /// left.
@@ -19,14 +20,13 @@ pub struct NetPlace<'a> {
     home: Option<Address>,
 }
 
-/// Who holds an address besides this node.
-fn other_than(node: u8, holder: Option<u8>) -> Option<u8>
-    ensures { result ≡ other_than node holder }
+/// The number of the holder of an address, where that is not this node.
+fn other_than(node: u8, holder: Option<Holder>) -> Option<u8>
+    requires { IfSome holder (λ h. holder_number h < 256) }
+    ensures { result ≡ other_than node (option_map holder_number holder) }
 {
-    match holder {
-        Some(by) if by != node => Some(by),
-        _ => None,
-    }
+    let by = holder?.number();
+    if by == node { None } else { Some(by) }
 }
 
 impl<'a> NetPlace<'a> {

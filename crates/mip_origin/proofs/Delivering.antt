@@ -6,10 +6,9 @@ use Rattle.mip_inspection.specs.Says.{carried}
 use Rattle.mip_inspection.proofs.Sayings.{carried_lowered}
 use Rattle.mip_entries.specs.declared.entry.Entry.TheVariants as entries
 use Rattle.mip_entries.specs.Completed.{node_id}
-use Rattle.mip_links.specs.Table.{Post, delivery, in_pool, outsider_of}
+use Rattle.mip_links.specs.Table.{Fate, Post, delivery, in_pool, outsider_of}
 use Rattle.mip_links.specs.Nets.{lowest_of}
-use Rattle.mip_links.specs.declared.delivery.Delivery.{Delivery}
-use Rattle.mip_links.specs.declared.delivery.Delivery.TheVariants.{Idle, Gone, Outsider, Node}
+use Rattle.mip_links.specs.Table.Fate.{Idle, Gone, Outsider, Node}
 use Rattle.mip_provenance.specs.Sights.{token_in}
 use Rattle.mip_history.specs.Setup.{Setup}
 use Rattle.mip_history.specs.Runs.{Run, note, without}
@@ -58,7 +57,7 @@ module _ (s : Setup) (Q : Type 0) where
       adds_then s Q run next _ one
       (adds_acts s Q n next one.good (Take k post.shield (handed_over post.packet link)) refl (λ q. tt) (told k n post link run one.good posted))
 
-  adds_became : (k : ℕ) (post : Post) (link : Option ℕ) (run : Run) (d : Delivery) → IsGood run → slice_get run.posts k ≡ Some post → Adds s Q run (became s k post link run d)
+  adds_became : (k : ℕ) (post : Post) (link : Option ℕ) (run : Run) (d : Fate) → IsGood run → slice_get run.posts k ≡ Some post → Adds s Q run (became s k post link run d)
   adds_became k post link run Idle good posted = adds_one s Q entries.Idle run refl good
   adds_became k post link run (Gone why) good posted = by (is_no_holder why)
     where

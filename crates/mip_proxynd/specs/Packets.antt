@@ -1,5 +1,6 @@
 -- The packets of neighbour messages.
 use Rattle.std.specs.Prelude.{ℕ, ◌+◌, ◌*◌, ◌%◌, ◌^◌, List, [], ◌∷◌, false, true, Option, Some, None, nat_lt, if◌then◌else◌, slice_get, unwrap_or}
+use Rattle.mip_words.specs.Holders.{first_outsider}
 use Rattle.mip_words.specs.declared.address.Address.{Address}
 use Rattle.mip_ipv6.specs.declared.head.Head.{Head}
 use Rattle.mip_ipv6.specs.Packet.{Packet}
@@ -52,7 +53,7 @@ address_or None target = target
 
 -- the source of what a holder sends: the address of a node's declaration, or the address that an outsider holds
 unfoldable pub source_of : List Declaration → ℕ → Address → Address
-source_of ds who held = if nat_lt who 32 then address_or (slice_get (members sorts.Node ds) who) held else held
+source_of ds who held = if nat_lt who first_outsider then address_or (slice_get (members sorts.Node ds) who) held else held
 
 -- the advertisement of a claim
 abbrev pub advert_packet : List Declaration → ℕ → Address → List ℕ

@@ -2,6 +2,7 @@
 use Rattle.std.specs.Prelude.{ℕ, zero, suc, ◌-◌, List, [], ◌∷◌, ◌++◌, length, ◌==◌, nat_lt, if◌then◌else◌, Option, Some, None, codes}
 use Rattle.std.specs.List.{flat_map}
 use Rattle.std.specs.Map.{values_of}
+use Rattle.mip_words.specs.Holders.{first_outsider}
 use Rattle.mip_words.specs.declared.address.Address.{Address}
 use Rattle.mip_lines.specs.HexFields.{address_hex, hex_text}
 use Rattle.mip_lines.specs.Lines.{line_text}
@@ -17,9 +18,9 @@ use Rattle.mip_proxynd.specs.Claims.{Rows, row_of, rows_in}
 use Rattle.mip_proxynd.specs.Fields.{is_group}
 use Rattle.mip_proxynd.specs.Packets.{advert_packet, solicit_packet, answer_packet}
 
--- the name of a node by its number, or of an outsider by 32 more than its number
+-- the name of the holder with this number
 unfoldable pub who_text : List Declaration → ℕ → List ℕ
-who_text ds who = if nat_lt who 32 then node_text ds (record { 0 = who }) else outsider_text ds (who - 32)
+who_text ds who = if nat_lt who first_outsider then node_text ds (record { 0 = who }) else outsider_text ds (who - first_outsider)
 
 -- `advert LINK WHO PACKET`
 abbrev pub advert_line : List Declaration → Claim → List ℕ

@@ -5,6 +5,6 @@ use mip_words::{Address, LinkId};
 pub struct Claim {
     pub link: LinkId,
     pub address: Address,
-    /// A node by its number, or an outsider by 32 more than its number.
+    /// The number of the holder.
     pub who: u8,
 }

@@ -1,11 +1,13 @@
 //! Neighbour messages in packets.
 
-ghost use Rattle.std.specs.Prelude.{◌≡◌, length, false, true, Some, Ok, IfOk};
+ghost use Rattle.std.specs.Prelude.{◌≡◌, length, false, true, Some, Ok, IfOk, slice_get};
 ghost use Rattle.mip_ipv6.specs.Reading.{packet_of};
+ghost use Rattle.mip_symbols.specs.Places.{members};
+ghost use Rattle.mip_symbols.specs.declared.places.Sort.TheVariants as sorts;
 ghost use Rattle.mip_proxynd.specs.declared.neighbour.Neighbour.TheVariants.{Solicit, Advert};
 ghost use Rattle.mip_proxynd.specs.Adverts.{layer_of, advert};
 ghost use Rattle.mip_proxynd.specs.Fields.{is_group, target_of};
-ghost use Rattle.mip_proxynd.specs.Packets.{near_head, near_packet, message_packet, all_nodes, solicited_node, asker, asker_layer, declared_address, source_of};
+ghost use Rattle.mip_proxynd.specs.Packets.{near_head, near_packet, message_packet, all_nodes, solicited_node, asker, address_or, asker_layer, declared_address, source_of};
 ghost use Rattle.mip_proxynd.specs.Reading.{neighbour_of};
 ghost use Rattle.mip_proxynd.specs.Spelling.{neighbour_bytes};
 
@@ -15,7 +17,7 @@ use crate::writing::write_neighbour;
 use mip_ipv6::constants::protocol::ICMPV6;
 use mip_ipv6::{Head, WriteFault, write_packet};
 use mip_symbols::{Declaration, Sort, member};
-use mip_words::{Address, Bytes, Memory};
+use mip_words::{Address, Bytes, Holder, Memory, NodeId};
 use std::alloc::Global;
 
 /// All nodes of a link (RFC 4291 section 2.7.1).
@@ -30,10 +32,7 @@ const ASKER: Address = Address(0xfe80_0000_0000_0000_0000_0000_0000_0002);
 /// The link-layer address of whoever asks.
 const ASKER_LAYER: [u8; 6] = [2, 0, 0, 0, 0, 0xff];
 
-/// From this number on somebody is an outsider.
-pub(crate) const OUTSIDER: u8 = 32;
-
-/// The link-layer address of a holder: that of a node by its number, or of an outsider by 32 more than its number.
+/// The link-layer address of the holder with this number.
 pub fn layer_of(who: u8) -> [u8; 6]
     ensures { result ≡ layer_of who }
 {
@@ -89,17 +88,24 @@ fn declared_address(d: &Declaration) -> Option<Address>
     }
 }
 
+/// The address with which a node was declared, or the one that it holds where none was.
+fn node_source(ds: &[Declaration], node: NodeId, held: Address) -> Address
+    ensures { result ≡ address_or (slice_get (members sorts.Node ds.now) node.0) held }
+{
+    match member(ds, Sort::Node, usize::from(node.0)) {
+        Some(d) => declared_address(d).unwrap_or(held),
+        None => held,
+    }
+}
+
 /// The source of what a holder sends: the address with which a node was declared, or the one that an outsider holds.
 #[tactic(auto, unfolding(crate::specs::Packets::source_of))]
 fn source_of(ds: &[Declaration], who: u8, held: Address) -> Address
     ensures { result ≡ source_of ds.now who held }
 {
-    if who >= OUTSIDER {
-        return held;
-    }
-    match member(ds, Sort::Node, who as usize) {
-        Some(d) => declared_address(d).unwrap_or(held),
-        None => held,
+    match Holder::of(who) {
+        Holder::Node(node) => node_source(ds, node, held),
+        Holder::Outsider(_) => held,
     }
 }
 

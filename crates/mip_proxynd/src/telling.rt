@@ -9,22 +9,21 @@ use crate::address_claims::AddressClaims;
 use crate::claim::Claim;
 use crate::fields::is_group;
 use crate::holding::put_holds;
-use crate::packets::{OUTSIDER, advert_packet, answer_packet, solicit_packet};
+use crate::packets::{advert_packet, answer_packet, solicit_packet};
 use mip_entries::Entry;
 use mip_lines::{put_line, put_line_hex};
 use mip_symbols::{Declaration, link_name, node_name, outsider_name};
-use mip_words::{Address, Bytes, Memory, NodeId};
+use mip_words::{Address, Bytes, Holder, Memory};
 use std::alloc::Global;
 
-/// The name of a node by its number, or of an outsider by 32 more than its number.
+/// The name of the holder with this number.
 #[tactic(auto, unfolding(crate::specs::Text::who_text))]
 fn who_name(ds: &[Declaration], who: u8) -> &[u8]
     ensures { result.now ≡ who_text ds.now who }
 {
-    if who < OUTSIDER {
-        node_name(ds, NodeId(who))
-    } else {
-        outsider_name(ds, who - OUTSIDER)
+    match Holder::of(who) {
+        Holder::Node(node) => node_name(ds, node),
+        Holder::Outsider(outsider) => outsider_name(ds, outsider),
     }
 }
 

@@ -1,8 +1,8 @@
 //! Packets are delivered.
 
-ghost use Rattle.std.specs.Prelude.{◌≡◌, ◌-◌, ◌<◌, ◌≤◌, length, Option, Some, OnOk, option_map, slice_get};
-ghost use Rattle.mip_links.specs.Table.{Post};
-ghost use Rattle.mip_links.specs.declared.delivery.Delivery.TheVariants.{Gone, Outsider, Node};
+ghost use Rattle.std.specs.Prelude.{◌≡◌, ◌<◌, ◌≤◌, length, Option, Some, OnOk, option_map, slice_get};
+ghost use Rattle.mip_links.specs.Table.{Post, fate_of, holder_outside};
+ghost use Rattle.mip_links.specs.Table.Fate.{Gone, Outsider, Node};
 ghost use Rattle.mip_history.specs.Setup.{Setup};
 ghost use Rattle.mip_history.specs.Runs.{Run};
 ghost use Rattle.mip_history.specs.Delivery.{became, hears_there, carried, carried_one, delivered, handed, held_by_outsider, is_no_holder, overheard_at};
@@ -12,7 +12,7 @@ ghost use Rattle.mip_engine.specs.Standing.{IsAt};
 
 use mip_engine::{Arrival, Call, Engine};
 use mip_entries::Entry;
-use mip_links::{Delivery, FIRST_OUTSIDER};
+use mip_links::Delivery;
 use mip_words::{LinkId, Memory, NodeId, Shield, Why};
 use std::alloc::Global;
 
@@ -62,12 +62,16 @@ fn hears_at(engine: &Engine, outsider: u8, link: Option<LinkId>) -> bool
 }
 
 /// A packet comes to an outsider, which hears it once.
-fn reach_outsider(engine: &mut Engine, number: u64, by: u8, arrival: Arrival) -> Result<(), Memory>
+fn reach_outsider(
+    engine: &mut Engine,
+    number: u64,
+    outsider: u8,
+    arrival: Arrival,
+) -> Result<(), Memory>
     requires { number < length engine.old.net.posts }
-    ensures stands { (s : Setup) (run : Run) (post : Post) → IsAt engine.old s run → arrival.shield ≡ post.shield → OnOk result (IsAt engine.new s (became s number post (option_map (λ l. l.0) arrival.link) run (Outsider by))) }
+    ensures stands { (s : Setup) (run : Run) (post : Post) → IsAt engine.old s run → arrival.shield ≡ post.shield → OnOk result (IsAt engine.new s (became s number post (option_map (λ l. l.0) arrival.link) run (Outsider (holder_outside outsider)))) }
     ensures kept { OnOk result (engine.new.told ≡ engine.old.told) }
 {
-    let outsider = by.saturating_sub(FIRST_OUTSIDER);
     overhear_at(engine, number, arrival.shield, arrival.link)?;
     if hears_at(engine, outsider, arrival.link) {
         return Ok(());
@@ -80,14 +84,13 @@ fn reach_node(
     alloc: Global,
     engine: &mut Engine,
     number: u64,
-    by: u8,
+    node: NodeId,
     arrival: Arrival,
 ) -> Result<(), Memory>
     requires { number < length engine.old.net.posts }
-    ensures stands { (s : Setup) (run : Run) (post : Post) → IsAt engine.old s run → slice_get run.posts number ≡ Some post → arrival.shield ≡ post.shield → OnOk result (IsAt engine.new s (became s number post (option_map (λ l. l.0) arrival.link) run (Node by))) }
+    ensures stands { (s : Setup) (run : Run) (post : Post) → IsAt engine.old s run → slice_get run.posts number ≡ Some post → arrival.shield ≡ post.shield → OnOk result (IsAt engine.new s (became s number post (option_map (λ l. l.0) arrival.link) run (Node node.0))) }
     ensures kept { OnOk result (engine.new.told ≡ engine.old.told) }
 {
-    let node = NodeId(by);
     let packet = engine.handed_packet(alloc, number, arrival.link)?;
     overhear_at(engine, number, arrival.shield, arrival.link)?;
     engine.note(Entry::Handed { number, node })?;
@@ -101,14 +104,14 @@ fn reach_node(
 
 fn reach(alloc: Global, engine: &mut Engine, number: u64, arrival: Arrival) -> Result<(), Memory>
     requires { number < length engine.old.net.posts }
-    ensures stands { (s : Setup) (run : Run) (post : Post) → IsAt engine.old s run → slice_get run.posts number ≡ Some post → arrival.shield ≡ post.shield → OnOk result (IsAt engine.new s (became s number post (option_map (λ l. l.0) arrival.link) run arrival.delivery)) }
+    ensures stands { (s : Setup) (run : Run) (post : Post) → IsAt engine.old s run → slice_get run.posts number ≡ Some post → arrival.shield ≡ post.shield → OnOk result (IsAt engine.new s (became s number post (option_map (λ l. l.0) arrival.link) run (fate_of arrival.delivery))) }
     ensures kept { OnOk result (engine.new.told ≡ engine.old.told) }
 {
     match arrival.delivery {
         Delivery::Idle => engine.note(Entry::Idle),
         Delivery::Gone(why) => vanish(engine, number, why, arrival),
-        Delivery::Outsider { by } => reach_outsider(engine, number, by, arrival),
-        Delivery::Node { by } => reach_node(alloc, engine, number, by, arrival),
+        Delivery::Outsider(outsider) => reach_outsider(engine, number, outsider, arrival),
+        Delivery::Node(node) => reach_node(alloc, engine, number, node, arrival),
     }
 }
 

@@ -1,7 +1,6 @@
 //! Outsiders listen, and take addresses.
 
 ghost use Rattle.std.specs.Prelude.{◌≡◌, ◌<◌, length, OnOk};
-ghost use Rattle.mip_links.specs.Table.{holder_outside};
 ghost use Rattle.mip_history.specs.Setup.{Setup};
 ghost use Rattle.mip_history.specs.Runs.{Run};
 ghost use Rattle.mip_history.specs.Outsiders.{deafens, listens, squats, yields};
@@ -9,17 +8,7 @@ ghost use Rattle.mip_engine.specs.Standing.{IsAt};
 
 use mip_engine::Engine;
 use mip_entries::Entry;
-use mip_links::FIRST_OUTSIDER;
-use mip_words::{Address, LinkId, Memory};
-
-/// An outsider among those that hold addresses.
-fn holder(outsider: u8) -> u8
-    requires { outsider < 8 }
-    ensures is { result ≡ holder_outside outsider }
-    ensures small { result < 40 }
-{
-    outsider + FIRST_OUTSIDER
-}
+use mip_words::{Address, Holder, LinkId, Memory};
 
 /// An outsider listens on a link from now on.
 pub(crate) fn listen(engine: &mut Engine, outsider: u8, link: LinkId) -> Result<(), Memory>
@@ -55,7 +44,7 @@ pub(crate) fn squat(engine: &mut Engine, outsider: u8, address: Address) -> Resu
     ensures stands { (s : Setup) (run : Run) → IsAt engine.old s run → OnOk result (IsAt engine.new s (squats s run outsider address)) }
     ensures kept { OnOk result (engine.new.told ≡ engine.old.told) }
 {
-    engine.claim(holder(outsider), address)
+    engine.claim(Holder::Outsider(outsider), address)
 }
 
 /// An outsider gives an address up, if it has it.
@@ -64,5 +53,5 @@ pub(crate) fn yield_up(engine: &mut Engine, outsider: u8, address: Address) -> R
     ensures stands { (s : Setup) (run : Run) → IsAt engine.old s run → OnOk result (IsAt engine.new s (yields s run outsider address)) }
     ensures kept { OnOk result (engine.new.told ≡ engine.old.told) }
 {
-    engine.give_up(holder(outsider), address)
+    engine.give_up(Holder::Outsider(outsider), address)
 }

@@ -12,7 +12,7 @@ ghost use Rattle.mip_engine.specs.Standing.{IsAt};
 
 use mip_engine::{Call, Engine, HomeRow};
 use mip_entries::Entry;
-use mip_words::{Memory, NodeId};
+use mip_words::{Holder, Memory, NodeId};
 use std::alloc::Global;
 
 /// The homes that an agent has registered, in order of address; none of another node.
@@ -33,7 +33,7 @@ fn leave_home(engine: &mut Engine, node: NodeId, row: &HomeRow) -> Result<(), Me
     ensures stands { (s : Setup) (run : Run) → IsAt engine.old s run → OnOk result (IsAt engine.new s (gives_up s node.0 row.now.home run)) }
     ensures kept { OnOk result (engine.new.told ≡ engine.old.told) }
 {
-    engine.give_up(node.0, row.home)
+    engine.give_up(Holder::Node(node), row.home)
 }
 
 /// An agent gives up the homes that it had registered.

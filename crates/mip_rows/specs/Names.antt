@@ -2,6 +2,7 @@
 -- that a single node writes, each node is `self` and each link `-`.
 use Rattle.std.specs.Prelude.{ℕ, ◌-◌, List, [], nat_lt, if◌then◌else◌, Option, Some, None, codes}
 use Rattle.std.specs.Borrow.{Bor}
+use Rattle.mip_words.specs.Holders.{first_outsider}
 use Rattle.mip_words.specs.declared.ids.LinkId.{LinkId}
 use Rattle.mip_words.specs.declared.ids.NodeId.{NodeId}
 use Rattle.mip_symbols.specs.Spelled.{link_text, node_text, outsider_text}
@@ -29,6 +30,6 @@ unfoldable pub outsider_name : Names → ℕ → List ℕ
 outsider_name (Some ds) outsider = outsider_text ds outsider
 outsider_name None outsider = []
 
--- somebody: a node by its number, or an outsider by 32 more than its number
+-- the holder with this number
 unfoldable pub who_name : Names → ℕ → List ℕ
-who_name names who = if nat_lt who 32 then node_name names (record { 0 = who }) else outsider_name names (who - 32)
+who_name names who = if nat_lt who first_outsider then node_name names (record { 0 = who }) else outsider_name names (who - first_outsider)

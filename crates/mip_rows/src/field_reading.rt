@@ -10,7 +10,7 @@ use crate::fault::RowFault;
 use crate::why_words::why_among;
 use mip_lines::{hex_address, hex_bytes};
 use mip_symbols::{Declaration, Reason, Sort, place_of};
-use mip_words::{Address, Bytes, LinkId, Moment, NodeId, Token, Why, hex_exact};
+use mip_words::{Address, Bytes, Holder, LinkId, Moment, NodeId, Token, Why, hex_exact};
 use std::alloc::Global;
 
 /// A number from `low` to `high`.
@@ -138,15 +138,15 @@ pub fn outsider(ds: &[Declaration], field: &[u8]) -> Result<u8, Reason>
     place(Sort::Outsider, ds, field)
 }
 
-/// A node by its number, or an outsider by 32 more than its number.
+/// The number of a holder: a node has this name, or an outsider.
 #[tactic(auto, unfolding(crate::specs::Fields::who))]
 pub fn who(ds: &[Declaration], field: &[u8]) -> Result<u8, Reason>
     requires { AreFew ds.now }
     ensures { result ≡ fields.who ds.now field.now }
 {
     match place(Sort::Node, ds, field) {
-        Ok(node) => Ok(node),
-        Err(_) => Ok(32 + outsider(ds, field)?),
+        Ok(node) => Ok(Holder::Node(NodeId(node)).number()),
+        Err(_) => Ok(Holder::Outsider(outsider(ds, field)?).number()),
     }
 }
 

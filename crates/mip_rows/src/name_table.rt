@@ -3,7 +3,7 @@ ghost use Rattle.mip_rows.specs.Names.{names_of, node_name, link_name, outsider_
 
 use crate::numbered;
 use mip_schedule::Schedule;
-use mip_words::{LinkId, Memory, NodeId};
+use mip_words::{Holder, LinkId, Memory, NodeId};
 use std::alloc::Global;
 use std::marker::Model;
 
@@ -74,15 +74,14 @@ impl<'a> NameTable<'a> {
         numbered::outsider_in(self.schedule, &self.outsiders, outsider)
     }
 
-    /// The name of a node by its number, or of an outsider by 32 more than its number.
+    /// The name of the holder with this number.
     #[tactic(auto, unfolding(crate::specs::Names::who_name))]
     pub fn who_name(&self, who: u8) -> &[u8]
         ensures { result.now ≡ who_name self.now who }
     {
-        if who < 32 {
-            self.node_name(NodeId(who))
-        } else {
-            self.outsider_name(who - 32)
+        match Holder::of(who) {
+            Holder::Node(node) => self.node_name(node),
+            Holder::Outsider(outsider) => self.outsider_name(outsider),
         }
     }
 }

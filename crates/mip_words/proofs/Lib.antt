@@ -2,3 +2,4 @@ pub mod Fields
 pub mod HexLaws
 pub mod StepLaws
 pub mod AddressLaws
+pub mod HolderLaws

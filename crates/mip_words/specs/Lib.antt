@@ -3,3 +3,4 @@ pub mod Addresses
 pub mod Hex
 pub mod Sequence
 pub mod Steps
+pub mod Holders

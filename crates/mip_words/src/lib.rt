@@ -5,6 +5,7 @@
 mod address;
 mod bytes;
 mod hex;
+mod holder;
 mod ids;
 mod memory;
 mod moment;
@@ -18,6 +19,7 @@ mod why;
 pub use address::{Address, NotAddress};
 pub use bytes::Bytes;
 pub use hex::{hex_exact, hex_into, put_hex};
+pub use holder::{HOLDERS, Holder};
 pub use ids::{LinkId, NodeId};
 pub use memory::Memory;
 pub use moment::Moment;

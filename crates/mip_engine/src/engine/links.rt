@@ -2,6 +2,7 @@
 
 ghost use Rattle.std.specs.Prelude.{◌≡◌, ◌<◌, ◌≤◌, not, true, false, if◌then◌else◌, length, IfOk, IfSome, OnOk, Option, None, Some, option_map, slice_get, slice_index_or};
 ghost use Rattle.mip_links.specs.Table.{Post, link_of, in_pool};
+ghost use Rattle.mip_words.specs.Holders.{holder_number};
 ghost use Rattle.mip_links.specs.Nets.{claimed, hears_of, holder_of, is_held_by, left, lowest_of, posted, refusal, with_hearing};
 ghost use Rattle.mip_history.specs.Delivery.{handed_over};
 ghost use Rattle.mip_history.specs.Claims.{claim_entry};
@@ -14,7 +15,7 @@ use crate::engine::Engine;
 use mip_entries::Entry;
 use mip_links::Delivery;
 use mip_tunnel::lower;
-use mip_words::{Address, Bytes, LinkId, Memory, Prefix, Shield};
+use mip_words::{Address, Bytes, Holder, LinkId, Memory, Prefix, Shield};
 use std::alloc::Global;
 
 impl Engine {
@@ -120,31 +121,32 @@ impl Engine {
     /// Somebody takes an address on a link, unless somebody else has it. Says what is to be noted.
     pub(crate) fn take_claim(
         &mut self,
-        who: u8,
+        who: Holder,
         link: LinkId,
         address: Address,
     ) -> Result<Entry, Memory>
-        requires who { who < 40 }
+        requires who { holder_number who < 40 }
         requires link { link_of self.old.net.links address.0 ≡ Some link.0 }
-        ensures entry { IfOk result (λ x. x ≡ claim_entry who address link.0 (holder_of self.old.net.rows address.0)) }
-        ensures after { OnOk result (self.new ≡ with_net (claim_tried self.old.net who address) self.old) }
+        ensures entry { IfOk result (λ x. x ≡ claim_entry (holder_number who) address link.0 (holder_of self.old.net.rows address.0)) }
+        ensures after { OnOk result (self.new ≡ with_net (claim_tried self.old.net (holder_number who) address) self.old) }
     {
         try_claim(&mut self.net, who, link, address)
     }
 
     /// Somebody takes an address on a link, which nobody has.
-    pub(crate) fn take_free(&mut self, who: u8, address: Address) -> Result<(), Memory>
-        requires who { who < 40 }
-        requires free { refusal self.old.net who address.0 ≡ None }
-        ensures { OnOk result (self.new ≡ with_net (claimed self.old.net who address) self.old) }
+    pub(crate) fn take_free(&mut self, who: Holder, address: Address) -> Result<(), Memory>
+        requires who { holder_number who < 40 }
+        requires free { refusal self.old.net (holder_number who) address.0 ≡ None }
+        ensures { OnOk result (self.new ≡ with_net (claimed self.old.net (holder_number who) address) self.old) }
     {
         claim_own(&mut self.net, who, address)
     }
 
     /// Somebody gives an address up, and says whether it had it.
-    pub(crate) fn release(&mut self, who: u8, address: Address) -> bool
-        ensures was { result ≡ is_held_by (holder_of self.old.net.rows address.0) who }
-        ensures after { self.new ≡ with_net (released self.old.net who address) self.old }
+    pub(crate) fn release(&mut self, who: Holder, address: Address) -> bool
+        ensures was { result ≡ is_held_by (holder_of self.old.net.rows address.0) (holder_number who) }
+        ensures small { result ≡ true → holder_number who < 256 }
+        ensures after { self.new ≡ with_net (released self.old.net (holder_number who) address) self.old }
     {
         self.net.release(who, address)
     }

@@ -16,7 +16,7 @@ use mip_entries::{Answers, Entry};
 use mip_nodes::{Call, HomeRow, Host, Node, Router};
 use mip_nonce::Secrets;
 use mip_schedule::numbers_of;
-use mip_words::{Address, LinkId, Memory, Moment, NodeId};
+use mip_words::{Address, Holder, LinkId, Memory, Moment, NodeId};
 use std::alloc::Global;
 
 impl Engine {
@@ -193,6 +193,6 @@ impl Engine {
             link,
             address,
         })?;
-        claim_own(&mut self.net, number, address)
+        claim_own(&mut self.net, Holder::Node(NodeId(number)), address)
     }
 }

@@ -3,6 +3,7 @@
 ghost use Rattle.std.specs.Prelude.{◌≡◌, ◌<◌, ◌≤◌, List, length, option_map, Some, OnOk};
 ghost use Rattle.std.specs.List.{list_any};
 ghost use Rattle.mip_links.specs.Table.{is_address};
+ghost use Rattle.mip_words.specs.Holders.{holder_number};
 ghost use Rattle.mip_links.specs.Nets.{is_held_by};
 ghost use Rattle.mip_entries.specs.declared.entry.Entry.TheVariants.{Settled};
 ghost use Rattle.mip_schedule.specs.declared.event.Event.{Event};
@@ -17,7 +18,7 @@ ghost use Rattle.mip_engine.specs.Standing.{IsAt};
 use crate::engine::Engine;
 use mip_entries::Entry;
 use mip_nodes::Node;
-use mip_words::{Address, Memory, Moment, NodeId};
+use mip_words::{Address, Holder, Memory, Moment, NodeId};
 
 /// There is an address, and it is this one.
 fn is_address(found: Option<Address>, address: Address) -> bool
@@ -30,11 +31,11 @@ fn is_address(found: Option<Address>, address: Address) -> bool
 }
 
 /// There is a holder, and it is this node.
-fn is_held_by(holder: Option<u8>, node: NodeId) -> bool
-    ensures { result ≡ is_held_by holder node.0 }
+fn is_held_by(holder: Option<Holder>, node: NodeId) -> bool
+    ensures { result ≡ is_held_by (option_map holder_number holder) node.0 }
 {
     match holder {
-        Some(holder) => holder == node.0,
+        Some(holder) => holder.place() == usize::from(node.0),
         None => false,
     }
 }
@@ -91,9 +92,9 @@ impl Engine {
         own: Address,
         present: Address,
         agent: Option<Address>,
-        holder: Option<u8>,
+        holder: Option<Holder>,
     ) -> bool
-        ensures { result ≡ is_with_agent self.now own present agent holder }
+        ensures { result ≡ is_with_agent self.now own present agent (option_map holder_number holder) }
     {
         let Some(agent) = agent else {
             return false;
@@ -101,7 +102,7 @@ impl Engine {
         let Some(holder) = holder else {
             return false;
         };
-        match self.nodes.get(usize::from(holder)) {
+        match self.nodes.get(holder.place()) {
             Some(node) => has_home_there(node, self.moment, own, present, agent),
             None => false,
         }

@@ -2,6 +2,7 @@ use Rattle.std.proofs.Common.{sym}
 use Rattle.std.specs.Prelude.{option_map}
 use Rattle.mip_words.specs.declared.ids.LinkId.{LinkId}
 use Rattle.mip_entries.specs.declared.entry.Entry.TheVariants.{Idle}
+use Rattle.mip_links.specs.Table.{fate_of}
 use Rattle.mip_history.specs.Runs.{note}
 use Rattle.mip_history.specs.Delivery.{became, delivered}
 use Rattle.mip_engine.specs.Engines.{with_entry}
@@ -17,7 +18,7 @@ returns-in-Some-clause-stands c = λ s run at.
     let keep = c.args.keep in
     let a = c.in-Some.arrival in
     let come = comes e s run k keep at a c.in-Some.ensures.found in
-    at_ok_run c.reach.result c.reach.new.engine s (became s k come.post (option_map (λ (l : LinkId). l.0) a.link) (lifted k keep run) a.delivery) (delivered s run k keep)
+    at_ok_run c.reach.result c.reach.new.engine s (became s k come.post (option_map (λ (l : LinkId). l.0) a.link) (lifted k keep run) (fate_of a.delivery)) (delivered s run k keep)
     (c.reach.ensures.stands s (lifted k keep run) come.post (at_is c.in-Some.ensures.after (at_lifted e s run k keep at)) come.posted come.shield)
     come.became_is
 

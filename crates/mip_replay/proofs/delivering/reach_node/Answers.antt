@@ -18,7 +18,7 @@ pub returns-clause-stands : goal.returns-clause-stands
 unfolding handed
 returns-clause-stands c = λ s run post at there same.
     let k = c.args.number in
-    let n = c.args.by in
+    let n = c.args.node.0 in
     let link = option_map (λ (l : LinkId). l.0) c.args.arrival.link in
     let heard = overheard_at s post k link run in
     let here = note (Handed k (node_id n)) heard in

@@ -1,4 +1,5 @@
 use Rattle.std.proofs.Common.{◌≡◌, ap, ◌∙◌}
+use Rattle.mip_words.specs.Holders.{holder_number}
 use Rattle.mip_entries.specs.declared.entry.Entry.{Entry}
 use Rattle.mip_links.specs.Nets.{holder_of}
 use Rattle.mip_history.specs.Runs.{note}
@@ -12,7 +13,7 @@ use Rattle.mip_engine.proofs.engine.Engine.claim_on.Goals as goal
 pub returns-clause-stands : goal.returns-clause-stands
 returns-clause-stands c = λ s run at link.
     let e = c.args.self.now in
-    let who = c.args.who in
+    let who = holder_number c.args.who in
     let a = c.args.address in
     let l = c.args.link.0 in
     let x = c.in_ok-entry.entry in

@@ -1,5 +1,6 @@
 use Rattle.std.proofs.Common.{◌≡◌, ℕ, sym, ap, ◌∙◌}
 use Rattle.std.specs.Prelude.{Option, Some, None}
+use Rattle.mip_words.specs.Holders.{holder_number}
 use Rattle.mip_entries.specs.declared.entry.Entry.TheVariants.{Idle}
 use Rattle.mip_links.specs.Table.{Asked, link_of}
 use Rattle.mip_history.specs.Runs.{note}
@@ -14,15 +15,15 @@ returns-in-None-clause-stands c = λ s run at.
     let e = c.args.self.now in
     let a = c.args.address in
     let none : link_of s.links a.0 ≡ None = ap (λ (q : Asked). link_of q.links a.0) (sym at.asked) ∙ sym c.in-None.ensures in
-    at_ok_run c.note.result c.note.new.self s (note Idle run) (gives_up s c.args.who a run)
+    at_ok_run c.note.result c.note.new.self s (note Idle run) (gives_up s (holder_number c.args.who) a run)
     (at_ok c.note.result c.note.new.self (with_entry Idle e) s (note Idle run) c.note.ensures (at_note e s run Idle quiet_idle at))
-    (ap (λ (o : Option ℕ). given_up_on s c.args.who a run o) (sym none))
+    (ap (λ (o : Option ℕ). given_up_on s (holder_number c.args.who) a run o) (sym none))
 
 pub returns-in-Some-clause-stands : goal.returns-in-Some-clause-stands
 returns-in-Some-clause-stands c = λ s run at.
     let a = c.args.address in
     let l = c.in-Some.link.0 in
     let some : link_of s.links a.0 ≡ Some l = ap (λ (q : Asked). link_of q.links a.0) (sym at.asked) ∙ sym c.in-Some.ensures in
-    at_ok_run c.give_up_on.result c.give_up_on.new.self s (given_up_on s c.args.who a run (Some l)) (gives_up s c.args.who a run)
+    at_ok_run c.give_up_on.result c.give_up_on.new.self s (given_up_on s (holder_number c.args.who) a run (Some l)) (gives_up s (holder_number c.args.who) a run)
     (c.give_up_on.ensures.stands s run at)
-    (ap (λ (o : Option ℕ). given_up_on s c.args.who a run o) (sym some))
+    (ap (λ (o : Option ℕ). given_up_on s (holder_number c.args.who) a run o) (sym some))
