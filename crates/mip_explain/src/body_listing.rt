@@ -8,7 +8,7 @@ use crate::rows::{put_body_line, put_number_line, put_word_line};
 use crate::words::fault_word;
 use mip_icmp::read_icmp;
 use mip_ipv6::Head;
-use mip_ipv6::constants::protocol::{ICMPV6, MOBILITY_HEADER};
+use mip_constants::protocol::{ICMPV6, MOBILITY_HEADER};
 use mip_mobhdr::read_message;
 use mip_words::{Address, Bytes, Memory};
 

@@ -12,8 +12,10 @@ use crate::message::Icmp;
 use crate::parameter::parameter_of;
 use crate::prefixes::prefixes_of;
 use mip_ipv6::checksum_holds;
-use mip_ipv6::constants::protocol::ICMPV6;
 use mip_words::{Address, u16_at};
+
+/// The protocol number of ICMPv6.
+pub(crate) const PROTO: u8 = 58;
 
 /// The type of a message, after all tests that come before its fields.
 #[tactic(auto, unfolding(crate::specs::Reading::kind_of))]
@@ -25,7 +27,7 @@ fn checked(source: Address, destination: Address, body: &[u8]) -> Result<u8, Icm
     if body.len() < 8 || (body[0] == 134 && body.len() < 16) {
         return Err(IcmpFault::Short);
     }
-    if !checksum_holds(source, destination, ICMPV6, body) {
+    if !checksum_holds(source, destination, PROTO, body) {
         return Err(IcmpFault::Checksum);
     }
     let kind = body[0];

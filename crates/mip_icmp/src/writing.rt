@@ -9,8 +9,8 @@ use crate::discovery::{put_discover_ask, put_discover_reply};
 use crate::parameter::put_parameter;
 use crate::plain::PlainIcmp;
 use crate::prefixes::{put_prefix_ask, put_prefix_reply};
+use crate::reading::PROTO;
 use mip_ipv6::checksum;
-use mip_ipv6::constants::protocol::ICMPV6;
 use mip_words::{Address, Bytes, Memory};
 use std::alloc::Global;
 
@@ -67,7 +67,7 @@ fn summed(
     ensures fits { OnOk result (Fits (said_plain message.now)) }
 {
     let mut bytes = unsummed_of(alloc, message)?;
-    let sum = checksum(source, destination, ICMPV6, bytes.as_slice(), 2);
+    let sum = checksum(source, destination, PROTO, bytes.as_slice(), 2);
     bytes.set_u16(2, sum);
     Ok(bytes)
 }

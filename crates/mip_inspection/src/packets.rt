@@ -6,7 +6,7 @@ ghost use Rattle.mip_mobhdr.specs.Said.{said};
 ghost use Rattle.mip_inspection.specs.Says.{innermost as innermost_of, message_in as message_of_packet};
 ghost use Rattle.mip_inspection.specs.Updates.{IsReadUpdate};
 
-use mip_ipv6::constants::protocol::{IPV6, MOBILITY_HEADER};
+use mip_constants::protocol::{IPV6, MOBILITY_HEADER};
 use mip_ipv6::{PacketRef, read_packet};
 use mip_mobhdr::{Message, read_message};
 

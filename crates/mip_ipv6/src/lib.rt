@@ -13,7 +13,6 @@ mod write_fault;
 mod writing;
 
 pub use head::Head;
-pub use mip_constants as constants;
 pub use not_packet::NotPacket;
 pub use packet_ref::PacketRef;
 pub use reading::read_packet;

@@ -16,7 +16,6 @@ use crate::refresh::refresh;
 use crate::test_init::{careof_init, home_init};
 use crate::update::read_update;
 use mip_ipv6::checksum_holds;
-use mip_ipv6::constants::protocol::{MOBILITY_HEADER, NO_NEXT_HEADER};
 use mip_words::Address;
 
 /// The message in the body of a packet from `source` to `destination`: the home addresses where a Home
@@ -54,14 +53,14 @@ fn kind_of(source: Address, destination: Address, body: &[u8]) -> Result<u8, Fau
     if body.len() < 8 || body.len() != 8 + 8 * body[1] as usize {
         return Err(Fault::Size);
     }
-    if !checksum_holds(source, destination, MOBILITY_HEADER, body) {
+    if !checksum_holds(source, destination, 135, body) {
         return Err(Fault::Checksum);
     }
     let kind = body[2];
     if kind > 7 {
         return Err(Fault::Unknown(kind));
     }
-    if body[0] != NO_NEXT_HEADER {
+    if body[0] != 59 {
         return Err(Fault::Proto);
     }
     if body[1] < least_len(kind) {

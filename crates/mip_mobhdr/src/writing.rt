@@ -15,7 +15,6 @@ use crate::refresh::put_refresh;
 use crate::test_init::put_init;
 use crate::update::{put_update, update_flags};
 use mip_ipv6::checksum;
-use mip_ipv6::constants::protocol::{MOBILITY_HEADER, NO_NEXT_HEADER};
 use mip_options::{OptionSet, write_options};
 use mip_words::{Address, Bytes, Memory};
 use std::alloc::Global;
@@ -63,7 +62,7 @@ fn front_of(alloc: Global, message: &Plain) -> Result<Bytes, Memory>
     ensures fits { OnOk result (HasWidths (said_plain message.now)) }
 {
     let mut out = Bytes::with_capacity(alloc, LONGEST)?;
-    out.extend(&[NO_NEXT_HEADER, 0, kind_of(message), 0, 0, 0])?;
+    out.extend(&[59, 0, kind_of(message), 0, 0, 0])?;
     put_fields(&mut out, message)?;
     Ok(out)
 }
@@ -160,6 +159,6 @@ fn put_sum(message: &mut Bytes, source: Address, destination: Address)
     requires short { length message.old ≤ 96 }
     ensures { message.new ≡ with_number_at 4 (checksum_of source destination 135 message.old 4) message.old }
 {
-    let sum = checksum(source, destination, MOBILITY_HEADER, message.as_slice(), 4);
+    let sum = checksum(source, destination, 135, message.as_slice(), 4);
     message.set_u16(4, sum);
 }

@@ -10,7 +10,7 @@ ghost use Rattle.mip_node.specs.Adverts.{prefix_said, prefix_told, is_to_all, pr
 
 use mip_frames::Frame;
 use mip_icmp::{Icmp, PrefixInfo, read_icmp};
-use mip_ipv6::constants::protocol::ICMPV6;
+use mip_constants::protocol::ICMPV6;
 use mip_ipv6::{Head, PacketRef, read_packet};
 use mip_words::{Address, Prefix};
 

@@ -14,7 +14,7 @@ ghost use Rattle.mip_proxynd.specs.Spelling.{neighbour_bytes};
 use crate::neighbour::Neighbour;
 use crate::reading::NEAR;
 use crate::writing::write_neighbour;
-use mip_ipv6::constants::protocol::ICMPV6;
+use mip_constants::protocol::ICMPV6;
 use mip_ipv6::{Head, WriteFault, write_packet};
 use mip_symbols::{Declaration, Sort, member};
 use mip_words::{Address, Bytes, Holder, Memory, NodeId};

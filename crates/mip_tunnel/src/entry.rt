@@ -5,10 +5,11 @@ ghost use Rattle.mip_tunnel.specs.Tunnel.{hop_of, lowered, lowered_packet, outer
 
 use crate::entry_fault::EntryFault;
 use crate::lowering::lower;
-use mip_ipv6::constants::protocol::IPV6;
 use mip_ipv6::{Head, WriteFault, write_packet};
 use mip_words::{Address, Bytes, Memory};
 use std::alloc::Global;
+
+const TUNNEL: u8 = 41;
 
 const HOP_LIMIT: u8 = 64;
 
@@ -23,7 +24,7 @@ fn head_of_tunnel(entry: Address, exit: Address) -> Head
         flow: 0,
         route: None,
         home: None,
-        proto: IPV6,
+        proto: TUNNEL,
     }
 }
 

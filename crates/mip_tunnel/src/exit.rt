@@ -4,9 +4,10 @@ ghost use Rattle.mip_ipv6.specs.Packet.{packet as tree, IsAt};
 ghost use Rattle.mip_tunnel.specs.Tunnel.{opened};
 
 use crate::exit_fault::ExitFault;
-use mip_ipv6::constants::protocol::IPV6;
 use mip_ipv6::{PacketRef, read_packet};
 use mip_words::Address;
+
+const TUNNEL: u8 = 41;
 
 /// Takes a packet out of a tunnel that begins at `entry`.
 #[tactic(auto, unfolding(crate::specs::Tunnel::opened))]
@@ -14,7 +15,7 @@ pub fn decapsulate<'a>(packet: &PacketRef<'a>, entry: Address) -> Result<PacketR
     ensures exact { Gives tree result (opened entry (tree packet.now)) }
     ensures place { IfOk result (λ q. IsAt q packet.now.body.now) }
 {
-    if packet.head.proto != IPV6 {
+    if packet.head.proto != TUNNEL {
         return Err(ExitFault::NotTunnel);
     }
     let seen = packet.head.source;
