@@ -13,6 +13,6 @@ mod trials;
 mod updating;
 
 pub use call_context::{CallContext, ENDING, RENEWING, RESENDING, SEEKING};
-pub use mip_mobile_state::{Agents, Heard, doubled};
+pub use mip_mobile_state::{Agents, Heard, correspondent, doubled};
 pub use outgoing::{ask_home, go_out};
 pub use part::{ask_data, ask_part, ask_refresh, is_mobility, reply};

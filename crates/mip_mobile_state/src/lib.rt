@@ -12,5 +12,6 @@ pub mod trial;
 pub use agents::Agents;
 pub use doubling::doubled;
 pub use heard::Heard;
+pub use mip_correspondent as correspondent;
 pub use mobile_state::MobileState;
 pub use numberings::Numberings;

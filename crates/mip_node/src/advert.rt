@@ -8,9 +8,9 @@ ghost use Rattle.mip_icmp.specs.Reading.{icmp_of};
 ghost use Rattle.mip_frames.specs.Framing.{framed};
 ghost use Rattle.mip_node.specs.Adverts.{prefix_said, prefix_told, is_to_all, prefix_in, prefix_of_frame};
 
+use mip_constants::protocol::ICMPV6;
 use mip_frames::Frame;
 use mip_icmp::{Icmp, PrefixInfo, read_icmp};
-use mip_constants::protocol::ICMPV6;
 use mip_ipv6::{Head, PacketRef, read_packet};
 use mip_words::{Address, Prefix};
 

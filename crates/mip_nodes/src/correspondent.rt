@@ -9,8 +9,8 @@ ghost use Rattle.mip_nodes.specs.Roles.{or_idle, or_same};
 
 use crate::call::Call;
 use crate::idle::idle;
-use mip_correspondent::Correspondent;
 use mip_entries::Answers;
+use mip_mobility::correspondent::Correspondent;
 use mip_words::{Memory, Moment};
 use std::alloc::Global;
 

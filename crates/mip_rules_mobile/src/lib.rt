@@ -21,6 +21,7 @@ pub use laws::{
     stands_after_each_call, stands_for_what_is_known, the_part_is_a_correspondent,
     timers_are_in_order, updates_are_of_tests_since_the_start,
 };
+pub use mip_discovery as discovery;
 pub use numbering::Numbering;
 pub use peer::Peer;
 pub use registered::Registered;
