@@ -1,4 +1,4 @@
-use mip_options::Indices;
+use mip_mobhdr::Indices;
 use mip_tokens::Kbm;
 use mip_words::Token;
 

@@ -4,7 +4,7 @@ ghost use Rattle.mip_bulist.specs.Trials.{is_old, has_old, made_of, needed};
 use crate::aim::Aim;
 use crate::made::Made;
 use mip_constants::MAX_TOKEN_LIFETIME;
-use mip_options::Indices;
+use mip_mobhdr::Indices;
 use mip_tokens::Kbm;
 use mip_words::{Address, Moment, Token};
 

@@ -13,22 +13,22 @@ use Rattle.mip_ipv6.proofs.Canonical.{length_fixed}
 use Rattle.mip_mobhdr.specs.Said.{Said}
 use Rattle.mip_mobhdr.specs.Said.Said.{Refresh, HomeInit, HomeTest, CareofTest, Acknowledgement, Error}
 use Rattle.mip_mobhdr.specs.Spelling.{field_bytes, options_said, message_bytes}
-use Rattle.mip_options.specs.Values.{nothing}
+use Rattle.mip_mobhdr.specs.OptionValues.{nothing}
 use Rattle.mip_icmp.specs.Said as icmp
 use Rattle.mip_icmp.specs.Spelling.{icmp_bytes}
 use Rattle.mip_constants.specs.Protocols.{icmpv6}
-use Rattle.mip_tunnel.specs.Tunnel.{hop_of}
+use Rattle.mip_ipv6.specs.Tunnel.{hop_of}
 use Rattle.mip_tokens.specs.Token.{home_token_of, careof_token_of, authenticator_of}
 use Rattle.mip_tokens.specs.declared.kbm.Kbm.{Kbm}
-use Rattle.mip_packet_builders.specs.Packets.{straight, data_packet, message_packet, problem_packet}
-use Rattle.mip_packet_builders.specs.Authenticated.{authenticated_packet, authorized, unsealed}
-use Rattle.mip_packet_builders.specs.Messages.{home_init_packet, home_test_packet, careof_test_packet, refresh_packet, error_packet}
+use Rattle.mip_packets.specs.Packets.{straight, data_packet, message_packet, problem_packet}
+use Rattle.mip_packets.specs.Authenticated.{authenticated_packet, authorized, unsealed}
+use Rattle.mip_packets.specs.Messages.{home_init_packet, home_test_packet, careof_test_packet, refresh_packet, error_packet}
 use Rattle.mip_reception.specs.declared.reply.Reply.{Reply}
 use Rattle.mip_reception.specs.declared.reply.Reply.TheVariants.{Nothing, BindingError, ParameterProblem}
 use Rattle.mip_reception.specs.Replies.{reply_packet}
-use Rattle.mip_updates.specs.declared.registration.Registration.{Registration}
-use Rattle.mip_updates.specs.Registrations.{registered_of}
-use Rattle.mip_updates.specs.Acks.{ack_head, acknowledgement, ack_packet}
+use Rattle.mip_reception.specs.declared.registration.Registration.{Registration}
+use Rattle.mip_reception.specs.Registrations.{registered_of}
+use Rattle.mip_reception.specs.Acks.{ack_head, acknowledgement, ack_packet}
 use Rattle.mip_entries.specs.declared.answer.Answer.{Answer}
 use Rattle.mip_rules_correspondent.specs.declared.identity.Identity.{Identity}
 use Rattle.mip_rules_correspondent.specs.declared.known.Known.{Known}

@@ -9,16 +9,16 @@ use Rattle.mip_ipv6.specs.Sum.{checksum_of}
 use Rattle.mip_ipv6.specs.Spelling.{behind_bytes, routing_bytes, options_bytes, second_number}
 use Rattle.mip_ipv6.proofs.Canonical.{length_routing, length_options, length_behind}
 use Rattle.mip_ipv6.proofs.Sums.{length-with_number_at}
-use Rattle.mip_options.specs.Values.{Values, nothing}
-use Rattle.mip_options.specs.Spelling.{item_bytes}
-use Rattle.mip_options.specs.Spelling.Item.{Authorization}
-use Rattle.mip_options.specs.Writing.{gap, padding, aligned, with_advice, with_nonces, with_number, with_alternate, with_authorization, closed, canonical}
-use Rattle.mip_options.proofs.PaddingLaws.{length_padding}
+use Rattle.mip_mobhdr.specs.OptionValues.{Values, nothing}
+use Rattle.mip_mobhdr.specs.OptionSpelling.{item_bytes}
+use Rattle.mip_mobhdr.specs.OptionSpelling.Item.{Authorization}
+use Rattle.mip_mobhdr.specs.OptionWriting.{gap, padding, aligned, with_advice, with_nonces, with_number, with_alternate, with_authorization, closed, canonical}
+use Rattle.mip_mobhdr.proofs.PaddingLaws.{length_padding}
 use Rattle.mip_mobhdr.specs.Said.{Said}
 use Rattle.mip_mobhdr.specs.Spelling.{field_bytes, options_said, rest_bytes, unsummed, message_bytes}
 use Rattle.mip_icmp.specs.Said as icmp
 use Rattle.mip_icmp.specs.Spelling.{icmp_bytes, unsummed as icmp_unsummed}
-use Rattle.mip_packet_builders.specs.Authenticated.{with_authenticator}
+use Rattle.mip_packets.specs.Authenticated.{with_authenticator}
 
 -- the extension headers take 48 bytes at most
 routing-small : (route : Option Address) (next : ℕ) → length (routing_bytes route next) ≤ 24

@@ -2,7 +2,7 @@
 use Rattle.std.specs.Prelude.{ℕ, ◌≤◌, List, length}
 use Rattle.mip_entries.specs.declared.answer.Answer.{Answer}
 use Rattle.mip_entries.specs.declared.answer.Answer.TheVariants.{Send, Note}
-use Rattle.mip_tunnel.specs.Tunnel.{hop_of}
+use Rattle.mip_ipv6.specs.Tunnel.{hop_of}
 
 -- a packet that a tunnel takes: it has its fixed header, its hop limit can be lowered, and it fits into a body. RFC 2473
 -- section 3.1

@@ -1,7 +1,7 @@
 //! What goes out from the home address (RFC 6275 sections 11.3.1 and 11.3.2).
 
 ghost use Rattle.std.specs.Prelude.{◌≡◌, ◌≤◌, length, OnOk, IfOk, if◌then◌else◌, None};
-ghost use Rattle.mip_tunnel.specs.Tunnel.{hop_of, encapsulated};
+ghost use Rattle.mip_ipv6.specs.Tunnel.{hop_of, encapsulated};
 ghost use Rattle.mip_rules_mobile.specs.HomeQuestions.{home_of, registered_agent};
 ghost use Rattle.mip_rules_mobile.specs.Sendings.{Inner, AsksHome, ByTunnel, inner_packet, is_signal, shield_to};
 ghost use Rattle.mip_rules_mobile.specs.Steps.{Sends};
@@ -10,9 +10,9 @@ ghost use Rattle.mip_rules_mobile.specs.Transitions.{Transition, noted};
 ghost use Rattle.mip_call_context.specs.Seen.{Shows};
 
 use crate::call_context::CallContext;
-use mip_packet_builders::write_home_init;
+use mip_packets::write_home_init;
 use mip_rules_mobile::Attachment;
-use mip_tunnel::{EntryFault, encapsulate};
+use mip_ipv6::{EntryFault, encapsulate};
 use mip_words::{Address, Bytes, Cookie, Memory, Shield, Why};
 use std::alloc::Global;
 

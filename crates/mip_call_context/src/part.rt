@@ -2,10 +2,10 @@
 
 ghost use Rattle.std.specs.Prelude.{◌≡◌, ◌≤◌, length, OnOk, IsTrue, IsFalse};
 ghost use Rattle.std.specs.List.{AllByRecursion};
-ghost use Rattle.mip_tunnel.specs.Tunnel.{hop_of};
+ghost use Rattle.mip_ipv6.specs.Tunnel.{hop_of};
 ghost use Rattle.mip_ipv6.specs.Packet.{packet as tree, is_routable_if_any, names_no_body};
 ghost use Rattle.mip_ipv6.specs.Reading.{packet_of};
-ghost use Rattle.mip_inspection.specs.Says.{message_in};
+ghost use Rattle.mip_packets.specs.Says.{message_in};
 ghost use Rattle.mip_rules_correspondent.specs.Calls as parts;
 ghost use Rattle.mip_rules_correspondent.specs.Rules.{is_data, is_for_part};
 ghost use Rattle.mip_rules_mobile.specs.Sendings.{OfPart, is_mobility};

@@ -17,10 +17,10 @@ use Rattle.mip_entries.specs.declared.entry.Entry.{Entry}
 use Rattle.mip_entries.specs.declared.entry.Entry.TheVariants as entries
 use Rattle.mip_entries.specs.Completed.{node_id}
 use Rattle.mip_entries.specs.Stamped.{Stamped, stamped}
-use Rattle.mip_transitions.specs.Transitions.{known_by, noted_by, StandsBy}
-use Rattle.mip_transitions.proofs.TransitionLaws.{none-noted}
-use Rattle.mip_updates.specs.declared.registration.Registration.{Registration}
-use Rattle.mip_updates.specs.Registrations.{home_of, deletes, careof_of}
+use Rattle.mip_entries.specs.Transitions.{known_by, noted_by, StandsBy}
+use Rattle.mip_entries.proofs.TransitionLaws.{none-noted}
+use Rattle.mip_reception.specs.declared.registration.Registration.{Registration}
+use Rattle.mip_reception.specs.Registrations.{home_of, deletes, careof_of}
 use Rattle.mip_rules_agent.specs.declared.home_binding.HomeBinding.{HomeBinding}
 use Rattle.mip_rules_agent.specs.declared.home_row.HomeRow.{HomeRow}
 use Rattle.mip_rules_agent.specs.declared.identity.Identity.{Identity}

@@ -11,7 +11,7 @@ use Rattle.mip_entries.specs.declared.answer.Answer.TheVariants.{Send}
 use Rattle.mip_entries.specs.declared.entry.Entry.{Entry}
 use Rattle.mip_entries.specs.declared.entry.Entry.TheVariants as entries
 use Rattle.mip_entries.specs.Stamped.{stamped}
-use Rattle.mip_transitions.specs.Transitions.{known_by}
+use Rattle.mip_entries.specs.Transitions.{known_by}
 use Rattle.mip_rules_agent.specs.Known.{Known}
 use Rattle.mip_rules_agent.specs.Steps.{Step, Called, Sends, Registers, Claims, Releases, Denies, Drops, Rang, myself, answers_of}
 use Rattle.mip_rules_agent.specs.Questions.{after, is_served, holds}

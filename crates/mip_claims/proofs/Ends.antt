@@ -7,8 +7,8 @@ use Rattle.std.proofs.lemmas.Bool.{eqb-true, eq-eqb}
 use Rattle.mip_words.specs.declared.address.Address.{Address}
 use Rattle.mip_discovery.proofs.ListLaws.{all-filter, all-more}
 use Rattle.mip_entries.specs.Stamped.{stamped}
-use Rattle.mip_transitions.specs.Transitions.{known_by, noted_by}
-use Rattle.mip_transitions.proofs.TransitionLaws.{noted_all, noted_all-is}
+use Rattle.mip_entries.specs.Transitions.{known_by, noted_by}
+use Rattle.mip_entries.proofs.TransitionLaws.{noted_all, noted_all-is}
 use Rattle.mip_rules_agent.specs.declared.ending.Ending.{Ending}
 use Rattle.mip_rules_agent.specs.declared.home_binding.HomeBinding.{HomeBinding}
 use Rattle.mip_rules_agent.specs.declared.identity.Identity.{Identity}

@@ -12,7 +12,7 @@ use Rattle.mip_outside.specs.declared.claim.Claim.TheVariants as claim
 use Rattle.mip_outside.specs.Places.{is_held}
 use Rattle.mip_entries.specs.declared.entry.Entry.{Entry}
 use Rattle.mip_entries.specs.declared.entry.Entry.TheVariants as entries
-use Rattle.mip_transitions.proofs.TransitionLaws.{noted-known, noted-steps}
+use Rattle.mip_entries.proofs.TransitionLaws.{noted-known, noted-steps}
 use Rattle.mip_rules_mobile.specs.declared.attachment.Attachment.{Attachment}
 use Rattle.mip_rules_mobile.specs.declared.attachment.Attachment.TheVariants.{Detached, AtHome, Away}
 use Rattle.mip_rules_mobile.specs.Calls as calls

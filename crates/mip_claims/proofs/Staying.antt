@@ -9,7 +9,7 @@ use Rattle.mip_words.specs.declared.why.Why.TheVariants as whys
 use Rattle.mip_ipv6.specs.declared.not_packet.NotPacket.{NotPacket}
 use Rattle.mip_ipv6.specs.Packet.{Packet, source_of, destination_of}
 use Rattle.mip_ipv6.specs.Reading.{packet_of}
-use Rattle.mip_options.specs.Values.{Values}
+use Rattle.mip_mobhdr.specs.OptionValues.{Values}
 use Rattle.mip_mobhdr.specs.Said.{Said}
 use Rattle.mip_mobhdr.specs.Said.Said.{Refresh, HomeInit, CareofInit, HomeTest, CareofTest, Update, Acknowledgement, Error}
 use Rattle.mip_icmp.specs.declared.fault.IcmpFault.{IcmpFault}
@@ -17,12 +17,12 @@ use Rattle.mip_icmp.specs.declared.options.IcmpSet.{IcmpSet}
 use Rattle.mip_icmp.specs.declared.prefix_info.PrefixInfo.{PrefixInfo}
 use Rattle.mip_icmp.specs.Said as icmp
 use Rattle.mip_icmp.specs.Reading.{icmp_of}
-use Rattle.mip_tunnel.specs.declared.exit_fault.ExitFault.{ExitFault}
-use Rattle.mip_tunnel.specs.declared.exit_fault.ExitFault.TheVariants.{NotTunnel, WrongEntry, Inner as InnerFault}
-use Rattle.mip_tunnel.specs.Tunnel.{opened}
+use Rattle.mip_ipv6.specs.declared.exit_fault.ExitFault.{ExitFault}
+use Rattle.mip_ipv6.specs.declared.exit_fault.ExitFault.TheVariants.{NotTunnel, WrongEntry, Inner as InnerFault}
+use Rattle.mip_ipv6.specs.Tunnel.{opened}
 use Rattle.mip_reception.specs.declared.refusal.Refusal.{Refusal}
 use Rattle.mip_reception.specs.Checks.{checked}
-use Rattle.mip_updates.specs.Statuses.{accepts_it, sequence_out_of_window}
+use Rattle.mip_reception.specs.Statuses.{accepts_it, sequence_out_of_window}
 use Rattle.mip_bulist.specs.declared.any.Any.{Any}
 use Rattle.mip_bulist.specs.declared.any.Any.TheVariants.{Idle, Probing, Proved, Pending, Bound}
 use Rattle.mip_bulist.specs.declared.list_full.ListFull.{ListFull}

@@ -8,7 +8,7 @@ use Rattle.mip_words.specs.declared.token.Cookie.{Cookie}
 use Rattle.mip_reception.specs.declared.reply.Reply.{Reply}
 use Rattle.mip_reception.specs.Replies.{reply_packet}
 use Rattle.mip_discovery.specs.Retries.{DiscoverySeen, retried}
-use Rattle.mip_updates.specs.Statuses.{accepts_it, sequence_out_of_window}
+use Rattle.mip_reception.specs.Statuses.{accepts_it, sequence_out_of_window}
 use Rattle.mip_bulist.specs.declared.aim.Aim.TheVariants.{Bind, Delete}
 use Rattle.mip_bulist.specs.declared.any.Any.{Any}
 use Rattle.mip_bulist.specs.declared.any.Any.TheVariants.{Idle, Probing, Proved, Pending, Bound}

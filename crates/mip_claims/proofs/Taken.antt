@@ -19,9 +19,9 @@ use Rattle.mip_provenance.specs.declared.mark.Mark.{Mark}
 use Rattle.mip_provenance.specs.declared.mark.Mark.TheVariants.{Origin, Forged}
 use Rattle.mip_provenance.specs.Entries.{update_accepted, mark_entry}
 use Rattle.mip_provenance.specs.Marks.{mark_in}
-use Rattle.mip_transitions.proofs.TransitionLaws.{none-noted}
-use Rattle.mip_updates.specs.declared.registration.Registration.{Registration}
-use Rattle.mip_updates.specs.Registrations.{home_of, deletes}
+use Rattle.mip_entries.proofs.TransitionLaws.{none-noted}
+use Rattle.mip_reception.specs.declared.registration.Registration.{Registration}
+use Rattle.mip_reception.specs.Registrations.{home_of, deletes}
 use Rattle.mip_rules_correspondent.specs.Steps as correspondents
 use Rattle.mip_rules_correspondent.specs.Transitions as correspondent_transitions
 use Rattle.mip_rules_correspondent.specs.Calls as correspondent_calls

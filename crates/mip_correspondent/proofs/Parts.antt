@@ -5,11 +5,11 @@ use Rattle.mip_words.specs.declared.address.Address.{Address}
 use Rattle.mip_ipv6.specs.Packet.{Packet}
 use Rattle.mip_mobhdr.specs.Said.{Said}
 use Rattle.mip_mobhdr.specs.Said.Said.{Refresh, HomeInit, CareofInit, HomeTest, CareofTest, Update, Acknowledgement, Error}
-use Rattle.mip_inspection.specs.Updates.{IsReadUpdate}
+use Rattle.mip_packets.specs.Updates.{IsReadUpdate}
 use Rattle.mip_reception.specs.Checks.{is_probe}
 use Rattle.mip_rules_correspondent.specs.declared.identity.Identity.{Identity}
-use Rattle.mip_updates.specs.declared.registration.Registration.{Registration}
-use Rattle.mip_updates.specs.Registrations.{registration, registration_said, registration_in}
+use Rattle.mip_reception.specs.declared.registration.Registration.{Registration}
+use Rattle.mip_reception.specs.Registrations.{registration, registration_said, registration_in}
 use Rattle.mip_rules_correspondent.specs.Rules.{takes_update, by_message}
 use Rattle.mip_rules_correspondent.specs.Transitions.{Transition}
 

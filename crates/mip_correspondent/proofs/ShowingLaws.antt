@@ -3,7 +3,7 @@ use Rattle.std.proofs.Common.{◌≡◌, ℕ, List, [], ◌++◌, Bool, false, s
 use Rattle.std.specs.Prelude.{if◌then◌else◌}
 use Rattle.mip_entries.specs.declared.answer.Answer.{Answer}
 use Rattle.mip_bcache.specs.Seen.{CacheSeen, expired}
-use Rattle.mip_transitions.proofs.ShowLaws as laws
+use Rattle.mip_entries.proofs.ShowLaws as laws
 use Rattle.mip_rules_correspondent.specs.declared.known.Known.{Known}
 use Rattle.mip_rules_correspondent.specs.Calls.{Call, is_tick}
 use Rattle.mip_rules_correspondent.specs.Steps.{Step, Called, answer_of, answers_of, is_call}

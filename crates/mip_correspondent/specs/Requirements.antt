@@ -2,7 +2,7 @@
 use Rattle.std.specs.Prelude.{◌≤◌, ◌<◌, ◌^◌, ℕ, List, length, IsTrue, IsFalse}
 use Rattle.mip_ipv6.specs.declared.packet_ref.PacketRef.{PacketRef}
 use Rattle.mip_ipv6.specs.Packet.{packet as tree, is_routable_if_any, names_no_body}
-use Rattle.mip_inspection.specs.Says.{message_in}
+use Rattle.mip_packets.specs.Says.{message_in}
 use Rattle.mip_rules_correspondent.specs.Rules.{is_data, is_for_part}
 
 -- its moment is no earlier than the last, and small

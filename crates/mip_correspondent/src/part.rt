@@ -3,7 +3,7 @@
 ghost use Rattle.std.specs.Prelude.{◌≡◌, ◌≤◌, ◌<◌, ◌^◌, IfOk, OnOk, IsTrue, IsFalse, Some, option_map};
 ghost use Rattle.mip_ipv6.specs.Packet.{packet as tree, is_routable_if_any};
 ghost use Rattle.mip_mobhdr.specs.Said.{said};
-ghost use Rattle.mip_inspection.specs.Updates.{IsReadUpdate};
+ghost use Rattle.mip_packets.specs.Updates.{IsReadUpdate};
 ghost use Rattle.mip_bcache.specs.Seen.{CacheSeen};
 ghost use Rattle.mip_reception.specs.Checks.{is_probe};
 ghost use Rattle.mip_rules_correspondent.specs.Transitions.{Transition};
@@ -19,7 +19,7 @@ use mip_constants::protocol::{ICMPV6, IPV6, MOBILITY_HEADER, NO_NEXT_HEADER};
 use mip_entries::Answers;
 use mip_ipv6::PacketRef;
 use mip_mobhdr::Message;
-use mip_updates::registration_of;
+use mip_reception::registration_of;
 use mip_words::Memory;
 use std::alloc::Global;
 

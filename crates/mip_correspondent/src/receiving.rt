@@ -5,7 +5,7 @@ ghost use Rattle.mip_words.specs.Numbers.{number_at};
 ghost use Rattle.mip_ipv6.specs.Packet.{packet as tree, is_routable_if_any};
 ghost use Rattle.mip_ipv6.specs.Reading.{packet_of};
 ghost use Rattle.mip_mobhdr.specs.Said.{said};
-ghost use Rattle.mip_inspection.specs.Updates.{IsReadUpdate};
+ghost use Rattle.mip_packets.specs.Updates.{IsReadUpdate};
 ghost use Rattle.mip_bcache.specs.Seen.{CacheSeen};
 ghost use Rattle.mip_rules_correspondent.specs.Transitions.{Transition};
 ghost use Rattle.mip_rules_correspondent.specs.Rules.{holds_option, standing_of, refuses, other_why, by_role, place_in, receives};

@@ -12,7 +12,7 @@ ghost use Rattle.mip_correspondent.specs.Showing.{Shows};
 use crate::answering::{idle, send};
 use mip_entries::Answers;
 use mip_ipv6::Head;
-use mip_packet_builders::{node_head, straight, write_data_packet, write_refresh};
+use mip_packets::{node_head, straight, write_data_packet, write_refresh};
 use mip_rules_correspondent::Identity;
 use mip_words::{Address, Memory};
 use std::alloc::Global;

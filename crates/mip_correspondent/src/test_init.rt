@@ -10,7 +10,7 @@ use crate::answering::{index_of, send};
 use crate::packet_context::PacketContext;
 use mip_entries::Answers;
 use mip_nonce::current;
-use mip_packet_builders::{write_careof_test, write_home_test};
+use mip_packets::{write_careof_test, write_home_test};
 use mip_rules_correspondent::Identity;
 use mip_tokens::{careof_token, home_token};
 use mip_words::{Address, Bytes, Cookie, Memory, Moment};

@@ -4,7 +4,7 @@ ghost use Rattle.std.specs.Prelude.{◌≡◌, ◌≤◌, ◌<◌, ◌^◌, Some
 ghost use Rattle.mip_ipv6.specs.Packet.{is_routable_if_any};
 ghost use Rattle.mip_bcache.specs.Seen.{CacheSeen, with_acceptance};
 ghost use Rattle.mip_rules_correspondent.specs.Transitions.{Transition};
-ghost use Rattle.mip_updates.specs.Registrations.{registration_in};
+ghost use Rattle.mip_reception.specs.Registrations.{registration_in};
 ghost use Rattle.mip_rules_correspondent.specs.Rules.{denies, acknowledges, accepts, judged, takes_update};
 ghost use Rattle.mip_verdict.specs.Judging.{key_in};
 ghost use Rattle.mip_correspondent.specs.Showing.{Shows, with_kept, kept_of, Fits};
@@ -15,7 +15,7 @@ use crate::packet_context::PacketContext;
 use mip_entries::Answers;
 use mip_rules_correspondent::Verdict;
 use mip_tokens::PreparedKbm;
-use mip_updates::{Registration, status, write_ack};
+use mip_reception::{Registration, status, write_ack};
 use mip_verdict::verdict;
 use mip_words::Memory;
 use std::alloc::Global;

@@ -16,14 +16,14 @@ use Rattle.mip_icmp.specs.Said as icmp
 use Rattle.mip_icmp.specs.Reading.{icmp_of}
 use Rattle.mip_mobhdr.specs.Said.{Said}
 use Rattle.mip_mobhdr.specs.Said.Said.{Refresh, HomeInit, CareofInit, HomeTest, CareofTest, Update, Acknowledgement, Error}
-use Rattle.mip_tunnel.specs.Tunnel.{hop_of, encapsulated}
+use Rattle.mip_ipv6.specs.Tunnel.{hop_of, encapsulated}
 use Rattle.mip_reception.specs.declared.refusal.Refusal.{Refusal}
 use Rattle.mip_reception.specs.Checks.{checked}
 use Rattle.mip_reception.specs.Replies.{reply_packet}
-use Rattle.mip_transitions.proofs.ShowLaws.{answers-noted}
-use Rattle.mip_transitions.proofs.TransitionLaws.{noted-known}
-use Rattle.mip_updates.specs.declared.registration.Registration.{Registration}
-use Rattle.mip_updates.specs.Registrations.{registration, home_of, deletes}
+use Rattle.mip_entries.proofs.ShowLaws.{answers-noted}
+use Rattle.mip_entries.proofs.TransitionLaws.{noted-known}
+use Rattle.mip_reception.specs.declared.registration.Registration.{Registration}
+use Rattle.mip_reception.specs.Registrations.{registration, home_of, deletes}
 use Rattle.mip_rules_agent.specs.declared.identity.Identity.{Identity}
 use Rattle.mip_rules_agent.specs.declared.home_binding.HomeBinding.{HomeBinding}
 use Rattle.mip_rules_agent.specs.declared.home_row.HomeRow.{HomeRow}

@@ -9,11 +9,11 @@ use Rattle.mip_ipv6.specs.Reading.{packet_of}
 use Rattle.mip_ipv6.specs.Spelling.{routing_bytes, options_bytes, first_number, second_number, behind_bytes, fixed_bytes, packet_bytes}
 use Rattle.mip_ipv6.proofs.Canonical.{packet_back, length_fixed, length_behind, length_routing, length_options}
 use Rattle.mip_entries.specs.declared.entry.Entry.{Entry}
-use Rattle.mip_inspection.specs.Says.{innermost}
-use Rattle.mip_inspection.proofs.Nesting.{within_if_read, innermost_is}
-use Rattle.mip_packet_builders.specs.Packets.{data_packet}
-use Rattle.mip_tunnel.specs.Tunnel.{lowered, lowered_if_read, encapsulated}
-use Rattle.mip_tunnel.proofs.Tunnels.{packet_of_lowered, packet_of_encapsulated, length_lowered}
+use Rattle.mip_packets.specs.Says.{innermost}
+use Rattle.mip_packets.proofs.Nesting.{within_if_read, innermost_is}
+use Rattle.mip_packets.specs.Packets.{data_packet}
+use Rattle.mip_ipv6.specs.Tunnel.{lowered, lowered_if_read, encapsulated}
+use Rattle.mip_ipv6.proofs.Tunnels.{packet_of_lowered, packet_of_encapsulated, length_lowered}
 use Rattle.mip_provenance.specs.Entries.{packet_in}
 use Rattle.mip_history.specs.Delivery.{handed_over}
 use Rattle.mip_delivery.specs.Legs.{CanBeSent}

@@ -18,7 +18,7 @@ use Rattle.mip_entries.specs.declared.entry.Entry.{Entry}
 use Rattle.mip_entries.specs.declared.entry.Entry.TheVariants as entries
 use Rattle.mip_entries.specs.Completed.{node_id}
 use Rattle.mip_entries.specs.Stamped.{Stamped}
-use Rattle.mip_tunnel.specs.Tunnel.{hop_of}
+use Rattle.mip_ipv6.specs.Tunnel.{hop_of}
 use Rattle.mip_outside.specs.declared.claim.Claim.{Claim}
 use Rattle.mip_links.specs.Table.{Post, Asked, link_of, destination_in, at_holder, at_link, in_pool}
 use Rattle.mip_links.specs.Table.Fate.{Node}

@@ -6,7 +6,7 @@ use Rattle.mip_words.specs.declared.address.Address.{Address}
 use Rattle.mip_words.specs.declared.shield.Shield.{Shield}
 use Rattle.mip_ipv6.specs.Packet.{Packet}
 use Rattle.mip_entries.specs.declared.answer.Answer.TheVariants.{Send}
-use Rattle.mip_tunnel.specs.Tunnel.{inner, opened, encapsulated}
+use Rattle.mip_ipv6.specs.Tunnel.{inner, opened, encapsulated}
 use Rattle.mip_rules_correspondent.specs.Rules as correspondents
 use Rattle.mip_rules_correspondent.specs.Rules.{is_data, place_in, holds_option}
 use Rattle.mip_rules_agent.specs.Rules as agents

@@ -7,7 +7,7 @@ use Rattle.mip_ipv6.specs.Packet.{Packet}
 use Rattle.mip_entries.specs.declared.entry.Entry.{Entry}
 use Rattle.mip_entries.specs.declared.entry.Entry.TheVariants as entries
 use Rattle.mip_entries.specs.Completed.{node_id}
-use Rattle.mip_tunnel.specs.Tunnel.{encapsulated}
+use Rattle.mip_ipv6.specs.Tunnel.{encapsulated}
 use Rattle.mip_links.specs.Table.{Post}
 use Rattle.mip_schedule.specs.declared.event.Event.{Event}
 use Rattle.mip_history.specs.Setup.{Setup}

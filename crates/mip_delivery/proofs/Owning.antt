@@ -11,7 +11,7 @@ use Rattle.mip_lists.specs.EachAfter.{EachAfter}
 use Rattle.mip_entries.specs.declared.entry.Entry.{Entry}
 use Rattle.mip_entries.specs.declared.entry.Entry.TheVariants as entries
 use Rattle.mip_entries.specs.Stamped.{Stamped}
-use Rattle.mip_transitions.specs.Transitions.{StandsBy}
+use Rattle.mip_entries.specs.Transitions.{StandsBy}
 use Rattle.mip_links.specs.Table.{holder_outside}
 use Rattle.mip_rules_agent.specs.Steps as agents
 use Rattle.mip_rules_agent.specs.Known.{Known}

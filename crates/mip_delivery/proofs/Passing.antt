@@ -6,8 +6,8 @@ use Rattle.mip_words.specs.declared.address.Address.{Address}
 use Rattle.mip_words.specs.declared.shield.Shield.{Shield}
 use Rattle.mip_ipv6.specs.Packet.{Packet}
 use Rattle.mip_entries.specs.declared.answer.Answer.TheVariants.{Send}
-use Rattle.mip_tunnel.specs.Tunnel.{hop_of, encapsulated}
-use Rattle.mip_transitions.specs.Transitions.{noted_by}
+use Rattle.mip_ipv6.specs.Tunnel.{hop_of, encapsulated}
+use Rattle.mip_entries.specs.Transitions.{noted_by}
 use Rattle.mip_outside.specs.declared.claim.Claim.{Claim}
 use Rattle.mip_reception.specs.declared.address_match.AddressMatch.{AddressMatch}
 use Rattle.mip_reception.specs.Checks.{message_at, with_home, then_home, checked}

@@ -3,8 +3,8 @@ use Rattle.std.proofs.Common.{◌≡◌, ◌≢◌, ℕ, List, [], ◌∷◌, �
 use Rattle.std.specs.Prelude.{Option, Some, None, unwrap_or, slice_get}
 use Rattle.mip_words.specs.declared.address.Address.{Address}
 use Rattle.mip_entries.specs.declared.answer.Answer.TheVariants.{Send}
-use Rattle.mip_packet_builders.specs.Packets.{data_packet}
-use Rattle.mip_tunnel.specs.Tunnel.{encapsulated}
+use Rattle.mip_packets.specs.Packets.{data_packet}
+use Rattle.mip_ipv6.specs.Tunnel.{encapsulated}
 use Rattle.mip_links.specs.Table.{Post}
 use Rattle.mip_rules_correspondent.specs.Calls as part_calls
 use Rattle.mip_rules_correspondent.specs.Steps as part_steps

@@ -7,9 +7,9 @@ use Rattle.mip_ipv6.specs.declared.head.Head.{Head}
 use Rattle.mip_ipv6.specs.Reading.{packet_of}
 use Rattle.mip_ipv6.proofs.Canonical.{packet_back}
 use Rattle.mip_entries.specs.declared.answer.Answer.TheVariants.{Send}
-use Rattle.mip_packet_builders.specs.Packets.{data_packet}
-use Rattle.mip_tunnel.specs.Tunnel.{encapsulated}
-use Rattle.mip_transitions.specs.Transitions.{noted_by}
+use Rattle.mip_packets.specs.Packets.{data_packet}
+use Rattle.mip_ipv6.specs.Tunnel.{encapsulated}
+use Rattle.mip_entries.specs.Transitions.{noted_by}
 use Rattle.mip_rules_correspondent.specs.declared.identity.Identity.{Identity}
 use Rattle.mip_rules_correspondent.specs.declared.known.Known as parts
 use Rattle.mip_rules_correspondent.specs.Calls as part_calls

@@ -8,7 +8,7 @@ use Rattle.mip_words.specs.declared.address.Address.{Address}
 use Rattle.mip_ipv6.specs.declared.head.Head.{Head}
 use Rattle.mip_ipv6.specs.Packet.{names_no_body, is_routable_if_any, IsAddressIfAny}
 use Rattle.mip_binding.specs.Held.{held}
-use Rattle.mip_packet_builders.specs.Packets.{data_packet}
+use Rattle.mip_packets.specs.Packets.{data_packet}
 use Rattle.mip_links.specs.Table.{holder_outside}
 use Rattle.mip_rules_correspondent.specs.Questions.{held_of}
 use Rattle.mip_rules_correspondent.specs.Doing as part_doing

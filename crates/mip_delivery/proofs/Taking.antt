@@ -5,8 +5,8 @@ use Rattle.std.proofs.lemmas.Bool.{eq-eqb}
 use Rattle.mip_words.specs.declared.shield.Shield.{Shield}
 use Rattle.mip_ipv6.specs.Packet.{Packet, source_of}
 use Rattle.mip_entries.specs.declared.answer.Answer.{Answer}
-use Rattle.mip_transitions.specs.Transitions.{noted_by}
-use Rattle.mip_transitions.proofs.ShowLaws.{answers-noted}
+use Rattle.mip_entries.specs.Transitions.{noted_by}
+use Rattle.mip_entries.proofs.ShowLaws.{answers-noted}
 use Rattle.mip_rules_correspondent.specs.declared.identity.Identity.{Identity}
 use Rattle.mip_rules_correspondent.specs.declared.known.Known as parts
 use Rattle.mip_rules_correspondent.specs.Calls as part_calls

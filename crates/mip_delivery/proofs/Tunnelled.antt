@@ -14,8 +14,8 @@ use Rattle.mip_lists.specs.EachAfter.{EachAfter}
 use Rattle.mip_binding.specs.Held.{held as held_by}
 use Rattle.mip_entries.specs.declared.entry.Entry.{Entry}
 use Rattle.mip_entries.specs.declared.entry.Entry.TheVariants as entries
-use Rattle.mip_packet_builders.specs.Packets.{data_packet}
-use Rattle.mip_tunnel.specs.Tunnel.{encapsulated}
+use Rattle.mip_packets.specs.Packets.{data_packet}
+use Rattle.mip_ipv6.specs.Tunnel.{encapsulated}
 use Rattle.mip_links.specs.Table.{holder_outside}
 use Rattle.mip_rules_correspondent.specs.Questions.{held_of}
 use Rattle.mip_rules_correspondent.specs.Rules.{is_data}

@@ -5,7 +5,7 @@ use Rattle.mip_words.specs.declared.why.Why.{Why}
 use Rattle.mip_ipv6.specs.Packet.{Packet}
 use Rattle.mip_entries.specs.declared.entry.Entry.{Entry}
 use Rattle.mip_entries.specs.declared.entry.Entry.TheVariants.{Sent, Handed, Gone}
-use Rattle.mip_inspection.specs.Says.{innermost}
+use Rattle.mip_packets.specs.Says.{innermost}
 use Rattle.mip_schedule.specs.declared.event.Event.{Event}
 use Rattle.mip_provenance.specs.Entries.{packet_in}
 use Rattle.mip_history.specs.Setup.{Setup}

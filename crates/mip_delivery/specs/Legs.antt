@@ -9,7 +9,7 @@ use Rattle.mip_ipv6.specs.Spelling.{behind_bytes}
 use Rattle.mip_entries.specs.declared.answer.Answer.{Answer}
 use Rattle.mip_entries.specs.declared.answer.Answer.TheVariants.{Note}
 use Rattle.mip_entries.specs.declared.entry.Entry.TheVariants.{Up}
-use Rattle.mip_tunnel.specs.Tunnel.{hop_of, opened}
+use Rattle.mip_ipv6.specs.Tunnel.{hop_of, opened}
 use Rattle.mip_reception.specs.Checks.{checked}
 use Rattle.mip_rules_correspondent.specs.Steps.{myself}
 use Rattle.mip_rules_correspondent.specs.Rules as correspondents

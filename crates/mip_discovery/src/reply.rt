@@ -11,7 +11,7 @@ ghost use Rattle.mip_discovery.specs.Reply.{is_above, is_behind, named, discover
 use crate::agent::Agent;
 use mip_constants::protocol::ICMPV6;
 use mip_icmp::{PlainIcmp, write_icmp};
-use mip_packet_builders::{straight, write_data_packet};
+use mip_packets::{straight, write_data_packet};
 use mip_words::{Address, Bytes, Memory, Moment};
 use std::alloc::Global;
 

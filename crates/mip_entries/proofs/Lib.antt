@@ -1,0 +1,3 @@
+pub mod TransitionLaws
+pub mod ShowLaws
+pub mod PastLaws

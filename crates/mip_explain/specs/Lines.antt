@@ -4,7 +4,7 @@ use Rattle.mip_words.specs.Hex.{hex_of}
 use Rattle.mip_words.specs.declared.address.Address.{Address}
 use Rattle.mip_lines.specs.Lines.{line_text}
 use Rattle.mip_lines.specs.HexFields.{number_hex, address_hex, hex_text}
-use Rattle.mip_options.specs.declared.indices.Indices.{Indices}
+use Rattle.mip_mobhdr.specs.declared.indices.Indices.{Indices}
 
 -- a line of two fields
 abbrev pub pair_line : List ℕ → List ℕ → List ℕ

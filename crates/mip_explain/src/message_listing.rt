@@ -1,5 +1,5 @@
 ghost use Rattle.std.specs.Prelude.{◌≡◌, ◌++◌, OnOk, false};
-ghost use Rattle.mip_options.specs.Values.{values};
+ghost use Rattle.mip_mobhdr.specs.OptionValues.{values};
 ghost use Rattle.mip_mobhdr.specs.Said.{said};
 ghost use Rattle.mip_explain.specs.Lines.{cookie_line, flags_line, index_line, lifetime_line, sequence_line, status_line, token_line};
 ghost use Rattle.mip_explain.specs.Listing.{field_lines, options_in, message_lines};
@@ -9,8 +9,7 @@ use crate::rows::{
     put_address_line, put_digits_line, put_flags_line, put_number_line, put_word_line,
 };
 use crate::words::message_word;
-use mip_mobhdr::Message;
-use mip_options::Options;
+use mip_mobhdr::{Message, Options};
 use mip_words::{Bytes, Cookie, Memory, Token, u64_bytes};
 
 fn put_cookie(out: &mut Bytes, cookie: Cookie) -> Result<(), Memory>

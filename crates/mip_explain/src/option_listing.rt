@@ -1,11 +1,11 @@
 ghost use Rattle.std.specs.Prelude.{◌≡◌, ◌++◌, OnOk};
-ghost use Rattle.mip_options.specs.Values.{values};
+ghost use Rattle.mip_mobhdr.specs.OptionValues.{values};
 ghost use Rattle.mip_explain.specs.Lines.{advice_line, indices_line, nonces_line, binding_number_line, alternate_line, authorization_line};
 ghost use Rattle.mip_explain.specs.Listing.{option_lines};
 
 use crate::rows::{put_address_line, put_digits_line, put_number_line};
 use mip_lines::put_number;
-use mip_options::{Indices, Options};
+use mip_mobhdr::{Indices, Options};
 use mip_words::{Address, Bytes, Memory};
 
 fn put_advice(out: &mut Bytes, advice: Option<u16>) -> Result<(), Memory>

@@ -38,7 +38,7 @@ use Rattle.mip_symbols.specs.declared.places.Sort.TheVariants as sorts
 use Rattle.mip_links.specs.Table.{Fate, Post, Asked, link_from, link_of, is_node, is_address, held_by, at_holder, at_link, delivery, outsider_of, destination_in}
 use Rattle.mip_links.specs.Nets.{is_held_by}
 use Rattle.mip_links.specs.Table.Fate.{Idle, Gone, Outsider, Node}
-use Rattle.mip_tunnel.specs.Tunnel.{hop_of}
+use Rattle.mip_ipv6.specs.Tunnel.{hop_of}
 use Rattle.mip_history.specs.Setup.{Setup, Host, Kind}
 use Rattle.mip_history.specs.Setup.Kind.{Correspondent, Agent, Mobile}
 use Rattle.mip_history.specs.Runs.{Run, note, notes, entered}

@@ -7,8 +7,8 @@ use Rattle.mip_words.specs.declared.address.Address.{Address}
 use Rattle.mip_ipv6.specs.declared.not_packet.NotPacket.{NotPacket}
 use Rattle.mip_ipv6.specs.Packet.{Packet}
 use Rattle.mip_ipv6.specs.Reading.{packet_of}
-use Rattle.mip_tunnel.specs.Tunnel.{lowered_packet, lowered_if_read}
-use Rattle.mip_tunnel.proofs.Tunnels.{packet_of_lowered}
+use Rattle.mip_ipv6.specs.Tunnel.{lowered_packet, lowered_if_read}
+use Rattle.mip_ipv6.proofs.Tunnels.{packet_of_lowered}
 use Rattle.mip_binding.specs.Acceptance.{Acceptance}
 use Rattle.mip_binding.specs.Held.{floor, is_full}
 use Rattle.mip_entries.specs.declared.entry.Entry.{Entry}
@@ -17,11 +17,11 @@ use Rattle.mip_entries.specs.Completed.{node_id}
 use Rattle.mip_entries.specs.Stamped.{Stamped}
 use Rattle.mip_nonce.specs.Secrets.{Life}
 use Rattle.mip_rules_correspondent.specs.declared.identity.Identity.{Identity}
-use Rattle.mip_updates.specs.declared.registration.Registration.{Registration}
+use Rattle.mip_reception.specs.declared.registration.Registration.{Registration}
 use Rattle.mip_rules_correspondent.specs.Steps.{Step, is_acceptance}
 use Rattle.mip_rules_correspondent.specs.Questions.{known}
 use Rattle.mip_rules_correspondent.specs.Transitions.{Transition}
-use Rattle.mip_updates.specs.Registrations.{registration_in, home_of}
+use Rattle.mip_reception.specs.Registrations.{registration_in, home_of}
 use Rattle.mip_rules_correspondent.specs.declared.verdict.Verdict.TheVariants.{Accept}
 use Rattle.mip_rules_correspondent.specs.Verdicts.{Bench, verdict}
 use Rattle.mip_rules_correspondent.specs.Rules.{bench}

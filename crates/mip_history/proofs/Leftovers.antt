@@ -14,7 +14,7 @@ use Rattle.mip_entries.specs.declared.answer.Answer.TheVariants.{Send, Note}
 use Rattle.mip_entries.specs.declared.entry.Entry.{Entry}
 use Rattle.mip_entries.specs.declared.entry.Entry.TheVariants as entries
 use Rattle.mip_entries.specs.Stamped.{Stamped}
-use Rattle.mip_transitions.specs.Transitions.{StandsBy}
+use Rattle.mip_entries.specs.Transitions.{StandsBy}
 use Rattle.mip_rules_agent.specs.declared.ending.Ending.{Ending}
 use Rattle.mip_rules_agent.specs.declared.identity.Identity.{Identity}
 use Rattle.mip_rules_agent.specs.Known as agent_known

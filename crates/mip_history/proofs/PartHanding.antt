@@ -5,12 +5,12 @@ use Rattle.std.specs.Prelude.{Option, Some, Result, Ok, Err, not, ◌==◌, if�
 use Rattle.mip_words.specs.declared.address.Address.{Address}
 use Rattle.mip_ipv6.specs.Packet.{Packet}
 use Rattle.mip_ipv6.specs.Reading.{packet_of}
-use Rattle.mip_tunnel.specs.declared.exit_fault.ExitFault.{ExitFault}
-use Rattle.mip_tunnel.specs.declared.exit_fault.ExitFault.TheVariants.{NotTunnel, WrongEntry}
-use Rattle.mip_tunnel.specs.Tunnel.{inner, opened}
+use Rattle.mip_ipv6.specs.declared.exit_fault.ExitFault.{ExitFault}
+use Rattle.mip_ipv6.specs.declared.exit_fault.ExitFault.TheVariants.{NotTunnel, WrongEntry}
+use Rattle.mip_ipv6.specs.Tunnel.{inner, opened}
 use Rattle.mip_entries.specs.declared.entry.Entry.TheVariants as entries
 use Rattle.mip_entries.specs.Completed.{node_id}
-use Rattle.mip_updates.specs.Registrations.{registration_in}
+use Rattle.mip_reception.specs.Registrations.{registration_in}
 use Rattle.mip_rules_correspondent.specs.declared.verdict.Verdict.TheVariants.{Accept}
 use Rattle.mip_rules_correspondent.specs.Verdicts.{Bench, verdict}
 use Rattle.mip_rules_correspondent.specs.Rules.{bench}

@@ -12,18 +12,18 @@ use Rattle.mip_words.specs.Steps.{◌>>=◌}
 use Rattle.mip_words.proofs.Fields.{number_at-drop}
 use Rattle.mip_words.proofs.StepLaws.{bind_ok, ok_is}
 use Rattle.mip_ipv6.specs.Packet.{Packet, source_of, destination_of}
-use Rattle.mip_options.specs.declared.indices.Indices.{Indices}
-use Rattle.mip_options.specs.Values.{Values, nothing}
-use Rattle.mip_options.specs.Reading.{is_length_of, is_seen, is_first_number, with_value, option_at, options_after, options_of}
+use Rattle.mip_mobhdr.specs.declared.indices.Indices.{Indices}
+use Rattle.mip_mobhdr.specs.OptionValues.{Values, nothing}
+use Rattle.mip_mobhdr.specs.OptionReading.{is_length_of, is_seen, is_first_number, with_value, option_at, options_after, options_of}
 use Rattle.mip_mobhdr.specs.declared.fault.Fault.{Fault}
 use Rattle.mip_mobhdr.specs.Said.{Said}
 use Rattle.mip_mobhdr.specs.Said.Said.{Refresh, HomeInit, CareofInit, HomeTest, CareofTest, Update as BindingUpdate, Acknowledgement, Error}
 use Rattle.mip_mobhdr.specs.Reading.{has_bit, or_fault, update_of, message_of}
 use Rattle.mip_tokens.specs.Token.{authenticated}
-use Rattle.mip_inspection.specs.Says.{UpdateIdentity, update_said, said_by, says}
-use Rattle.mip_inspection.specs.Says.Carried.{Update, Other}
-use Rattle.mip_updates.specs.declared.registration.Registration.{Registration}
-use Rattle.mip_updates.specs.Registrations.{registration, registration_said, registration_in}
+use Rattle.mip_packets.specs.Says.{UpdateIdentity, update_said, said_by, says}
+use Rattle.mip_packets.specs.Says.Carried.{Update, Other}
+use Rattle.mip_reception.specs.declared.registration.Registration.{Registration}
+use Rattle.mip_reception.specs.Registrations.{registration, registration_said, registration_in}
 use Rattle.mip_rules_correspondent.proofs.Taken.{update_read}
 
 -- bytes end with the 12 of an authenticator

@@ -16,7 +16,7 @@ use Rattle.mip_entries.specs.declared.entry.Entry.{Entry}
 use Rattle.mip_entries.specs.declared.entry.Entry.TheVariants as entries
 use Rattle.mip_entries.specs.Stamped.{Stamped, stamped}
 use Rattle.mip_links.specs.Table.{Post}
-use Rattle.mip_transitions.proofs.PastLaws.{rises_transition}
+use Rattle.mip_entries.proofs.PastLaws.{rises_transition}
 use Rattle.mip_rules_correspondent.specs.Calls.{Call}
 use Rattle.mip_rules_correspondent.specs.Steps.{Step, Called, Accepts, answers_of, is_acceptance}
 use Rattle.mip_rules_correspondent.specs.Pasts.{acceptance_in, accepted_in}

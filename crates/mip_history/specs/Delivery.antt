@@ -4,7 +4,7 @@ use Rattle.mip_words.specs.declared.why.Why.{Why}
 use Rattle.mip_words.specs.declared.why.Why.TheVariants as whys
 use Rattle.mip_entries.specs.declared.entry.Entry.TheVariants.{Handed, Heard, Gone as Goes, Idle as Stays}
 use Rattle.mip_entries.specs.Completed.{node_id}
-use Rattle.mip_tunnel.specs.Tunnel.{lowered}
+use Rattle.mip_ipv6.specs.Tunnel.{lowered}
 use Rattle.mip_links.specs.Table.{Fate, Post, link_of, destination_in, delivery, in_pool, outsider_of}
 use Rattle.mip_links.specs.Nets.{lowest_of}
 use Rattle.mip_links.specs.Table.Fate.{Idle, Gone, Outsider, Node}

@@ -14,7 +14,7 @@ use Rattle.mip_words.specs.declared.shield.Shield.{Shield}
 use Rattle.mip_ipv6.specs.Reading.{packet_of}
 use Rattle.mip_outside.specs.declared.claim.Claim.{Claim}
 use Rattle.mip_entries.specs.declared.answer.Answer.{Answer}
-use Rattle.mip_transitions.proofs.TransitionLaws.{noted_all-is}
+use Rattle.mip_entries.proofs.TransitionLaws.{noted_all-is}
 use Rattle.mip_rules_agent.specs.Known.{Known}
 use Rattle.mip_rules_agent.specs.Calls as calls
 use Rattle.mip_rules_agent.specs.Calls.{Call}

@@ -9,8 +9,8 @@ use Rattle.mip_mobhdr.specs.Said.{Said}
 use Rattle.mip_mobhdr.specs.Said.Said.{Refresh, Update}
 use Rattle.mip_outside.specs.Places.{Around, free}
 use Rattle.mip_binding.proofs.RowLaws.{all-find}
-use Rattle.mip_updates.specs.declared.registration.Registration.{Registration}
-use Rattle.mip_updates.specs.Registrations.{registration, registration_said, home_of}
+use Rattle.mip_reception.specs.declared.registration.Registration.{Registration}
+use Rattle.mip_reception.specs.Registrations.{registration, registration_said, home_of}
 use Rattle.mip_rules_agent.specs.declared.served.Served.{Served}
 use Rattle.mip_rules_agent.specs.Known.{Known}
 use Rattle.mip_rules_agent.specs.Questions.{key_of, served_at, is_served}

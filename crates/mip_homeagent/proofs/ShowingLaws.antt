@@ -7,9 +7,9 @@ use Rattle.mip_words.specs.declared.address.Address.{Address}
 use Rattle.mip_words.specs.declared.shield.Shield.{Shield}
 use Rattle.mip_words.specs.declared.why.Why.{Why}
 use Rattle.mip_entries.specs.declared.answer.Answer.{Answer}
-use Rattle.mip_transitions.proofs.TransitionLaws.{noted-steps}
-use Rattle.mip_transitions.specs.Shows.{ShowsBy}
-use Rattle.mip_transitions.proofs.ShowLaws as laws
+use Rattle.mip_entries.proofs.TransitionLaws.{noted-steps}
+use Rattle.mip_entries.specs.Shows.{ShowsBy}
+use Rattle.mip_entries.proofs.ShowLaws as laws
 use Rattle.mip_rules_agent.specs.declared.home_binding.HomeBinding.{HomeBinding}
 use Rattle.mip_rules_agent.specs.Rules.{claims_if}
 use Rattle.mip_rules_agent.specs.Known.{Known}

@@ -4,7 +4,7 @@ ghost use Rattle.std.specs.Option.{option_map};
 ghost use Rattle.mip_words.specs.Addresses.{is_routable};
 ghost use Rattle.mip_words.specs.declared.address.Address.{Address};
 ghost use Rattle.mip_entries.specs.Stamped.{Stamped};
-ghost use Rattle.mip_updates.specs.Registrations.{IsUpdate, registration_in};
+ghost use Rattle.mip_reception.specs.Registrations.{IsUpdate, registration_in};
 ghost use Rattle.mip_rules_agent.specs.Calls as calls;
 ghost use Rattle.mip_rules_agent.specs.Calls.{claim_for};
 ghost use Rattle.mip_rules_agent.specs.Steps.{Step, answers_of};
@@ -29,7 +29,7 @@ use mip_entries::{Answers, UpdateSeen};
 use mip_home_verdict::verdict;
 use mip_outside::{Claim, Place};
 use mip_rules_agent::{HomeRow, HomeVerdict, Identity};
-use mip_updates::registration_in;
+use mip_reception::registration_in;
 use mip_words::{Address, Memory, Moment, Shield};
 use std::alloc::Global;
 use std::marker::Model;
@@ -51,7 +51,7 @@ impl Model for HomeAgent {
 
 impl HomeAgent {
     /// A home agent with this address, preference and life, and room for so many of the homes that it serves.
-    #[tactic(auto, unfolding(mip_transitions::specs::Transitions::StandsBy))]
+    #[tactic(auto, unfolding(mip_entries::specs::Transitions::StandsBy))]
     pub fn new(
         alloc: Global,
         own: Address,

@@ -17,7 +17,7 @@ use crate::{ends, homes, prefixes};
 use mip_discovery::{Agents, PrefixPlan};
 use mip_entries::Answers;
 use mip_rules_agent::{Bench, Ending, HomeBinding, HomeRow, Identity, Served};
-use mip_updates::{Registration, home_of};
+use mip_reception::{Registration, home_of};
 use mip_words::{Address, Bytes, Memory, Moment};
 use std::alloc::Global;
 use std::marker::Model;

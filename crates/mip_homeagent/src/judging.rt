@@ -1,11 +1,11 @@
 //! What a verdict makes of who holds the home address.
 
 ghost use Rattle.std.specs.Prelude.{◌≡◌};
-ghost use Rattle.mip_updates.specs.Registrations.{deletes};
+ghost use Rattle.mip_reception.specs.Registrations.{deletes};
 ghost use Rattle.mip_homeagent.specs.Changes.{holding_of, holding_by};
 
 use mip_rules_agent::HomeVerdict;
-use mip_updates::{Registration, deletes};
+use mip_reception::{Registration, deletes};
 
 /// Whether an address is held from here on, with a verdict; `None` where that stays.
 pub fn holding_by(held: bool, registration: &Registration, verdict: &HomeVerdict) -> Option<bool>

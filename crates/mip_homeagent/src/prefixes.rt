@@ -28,7 +28,7 @@ use mip_entries::{Answer, Answers};
 use mip_home_verdict::is_from;
 use mip_icmp::{Icmp, IcmpSet, PlainIcmp, PrefixInfo, read_icmp, write_icmp};
 use mip_ipv6::PacketRef;
-use mip_packet_builders::{node_head, write_data_packet};
+use mip_packets::{node_head, write_data_packet};
 use mip_rules_agent::{HomeRow, Served};
 use mip_words::{Address, Bytes, Memory, Moment, Why};
 use std::alloc::Global;

@@ -26,8 +26,7 @@ use mip_entries::Answers;
 use mip_ipv6::{Head, PacketRef, read_packet};
 use mip_mobhdr::Message;
 use mip_outside::Place;
-use mip_reception::{AddressMatch, Refusal, check, packet_why, write_reply};
-use mip_updates::registration_of;
+use mip_reception::{AddressMatch, Refusal, check, packet_why, registration_of, write_reply};
 use mip_words::{Address, Memory, Why, u16_at};
 use std::alloc::Global;
 

@@ -14,9 +14,8 @@ use crate::packet_context::PacketContext;
 use mip_constants::protocol::MOBILITY_HEADER;
 use mip_entries::Answers;
 use mip_home_verdict::is_from;
-use mip_ipv6::{PacketRef, read_packet};
+use mip_ipv6::{EntryFault, PacketRef, encapsulate, read_packet};
 use mip_reception::packet_why;
-use mip_tunnel::{EntryFault, encapsulate};
 use mip_words::{Address, Bytes, Memory, Moment, Shield, Why};
 use std::alloc::Global;
 

@@ -5,7 +5,7 @@ ghost use Rattle.std.specs.Option.{option_map};
 ghost use Rattle.mip_ipv6.specs.Packet.{is_routable_if_any};
 ghost use Rattle.mip_outside.specs.Places.{claim_in, is_held};
 ghost use Rattle.mip_outside.specs.declared.claim.Claim.{Claim};
-ghost use Rattle.mip_updates.specs.Registrations.{home_of, deletes};
+ghost use Rattle.mip_reception.specs.Registrations.{home_of, deletes};
 ghost use Rattle.mip_rules_agent.specs.Questions.{is_served};
 ghost use Rattle.mip_rules_agent.specs.Verdicts.{binding_for, by_claim};
 ghost use Rattle.mip_rules_agent.specs.Rules.{acknowledges, denies, answers_if, accepts, claim_with, judged, takes_update};
@@ -25,7 +25,7 @@ use mip_entries::Answers;
 use mip_home_verdict::{before_claim, by_claim};
 use mip_outside::{Claim, Place};
 use mip_rules_agent::{Bench, HomeBinding, HomeVerdict, Identity};
-use mip_updates::{Registration, home_of, status, write_ack};
+use mip_reception::{Registration, home_of, status, write_ack};
 use mip_words::{Address, Memory, Moment};
 use std::alloc::Global;
 

@@ -7,7 +7,7 @@ use Rattle.mip_ipv6.specs.declared.head.Head.{Head}
 use Rattle.mip_icmp.specs.Said.{Said, Advertisement}
 use Rattle.mip_icmp.specs.Spelling.{icmp_bytes}
 use Rattle.mip_icmp.specs.declared.prefix_info.PrefixInfo.{PrefixInfo}
-use Rattle.mip_packet_builders.specs.Packets.{data_packet}
+use Rattle.mip_packets.specs.Packets.{data_packet}
 
 -- the router, fe80::1
 abbrev pub router : Address

@@ -7,7 +7,7 @@ ghost use Rattle.mip_hub.specs.Adverts.{router, all_nodes, router_head, prefix_i
 use mip_constants::protocol::ICMPV6;
 use mip_icmp::{IcmpSet, PlainIcmp, PrefixInfo, write_icmp};
 use mip_ipv6::Head;
-use mip_packet_builders::write_data_packet;
+use mip_packets::write_data_packet;
 use mip_words::{Address, Bytes, Memory, Prefix};
 use std::alloc::Global;
 

@@ -5,3 +5,4 @@ pub mod Packets
 pub mod Placed
 pub mod Sums
 pub mod Walking
+pub mod Tunnels

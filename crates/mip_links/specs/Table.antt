@@ -7,7 +7,7 @@ use Rattle.mip_words.specs.declared.shield.Shield.{Shield}
 use Rattle.mip_words.specs.declared.why.Why.{Why}
 use Rattle.mip_words.specs.declared.why.Why.TheVariants.{NoLink, Hop, NoHolder, Shield as NotForIt}
 use Rattle.mip_words.specs.Holders.{first_outsider}
-use Rattle.mip_tunnel.specs.Tunnel.{hop_of}
+use Rattle.mip_ipv6.specs.Tunnel.{hop_of}
 use Rattle.mip_links.specs.declared.delivery.Delivery.{Delivery}
 use Rattle.mip_links.specs.declared.delivery.Delivery.TheVariants as deliveries
 

@@ -1,5 +1,5 @@
 ghost use Rattle.std.specs.Prelude.{◌≡◌, ◌≤◌, length};
-ghost use Rattle.mip_tunnel.specs.Tunnel.{hop_of};
+ghost use Rattle.mip_ipv6.specs.Tunnel.{hop_of};
 ghost use Rattle.mip_links.specs.Table.{destination_in};
 
 use crate::flight::Flight;

@@ -6,10 +6,10 @@ use Rattle.mip_words.specs.declared.address.Address.{Address}
 use Rattle.mip_words.proofs.Fields.{length-number_bytes, number_at-number_bytes}
 use Rattle.mip_ipv6.specs.Sum.{checksum_of}
 use Rattle.mip_ipv6.proofs.Sums.{checksum_whole}
-use Rattle.mip_options.specs.Values.{Values}
-use Rattle.mip_options.specs.Spelling.{IsSpelled}
-use Rattle.mip_options.specs.Writing.{canonical}
-use Rattle.mip_options.proofs.Canonical.{canonical_whole}
+use Rattle.mip_mobhdr.specs.OptionValues.{Values}
+use Rattle.mip_mobhdr.specs.OptionSpelling.{IsSpelled}
+use Rattle.mip_mobhdr.specs.OptionWriting.{canonical}
+use Rattle.mip_mobhdr.proofs.OptionsCanonical.{canonical_whole}
 use Rattle.mip_mobhdr.specs.Said.{Said}
 use Rattle.mip_mobhdr.specs.Said.Said.{Refresh, HomeInit, CareofInit, HomeTest, CareofTest, Update, Acknowledgement, Error}
 use Rattle.mip_mobhdr.specs.Reading.{least_of, has_bit}

@@ -4,9 +4,9 @@ use Rattle.std.proofs.lemmas.List.{append_cancel_left}
 use Rattle.std.specs.Prelude.{Ok}
 use Rattle.mip_words.specs.declared.address.Address.{Address}
 use Rattle.mip_ipv6.specs.Sum.{with_number_at, checksum_of}
-use Rattle.mip_options.specs.Values.{Values}
-use Rattle.mip_options.specs.Spelling.{IsSpelled}
-use Rattle.mip_options.specs.Writing.{canonical, AppendsOptions}
+use Rattle.mip_mobhdr.specs.OptionValues.{Values}
+use Rattle.mip_mobhdr.specs.OptionSpelling.{IsSpelled}
+use Rattle.mip_mobhdr.specs.OptionWriting.{canonical, AppendsOptions}
 use Rattle.mip_mobhdr.specs.Said.{Said}
 use Rattle.mip_mobhdr.specs.Reading.{message_of}
 use Rattle.mip_mobhdr.specs.Spelling.{IsMessage, type_of, options_said, field_bytes, front_bytes, rest_bytes, unsummed, message_bytes, HasWidths, WritesOptions}

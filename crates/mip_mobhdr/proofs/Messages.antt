@@ -7,11 +7,11 @@ use Rattle.mip_words.specs.Addresses.{address_at}
 use Rattle.mip_words.specs.declared.address.Address.{Address}
 use Rattle.mip_words.proofs.StepLaws.{bind_ok, ok_is, done}
 use Rattle.mip_ipv6.specs.Sum.{is_right_sum}
-use Rattle.mip_options.specs.Values.{Values}
-use Rattle.mip_options.specs.Reading.{options_of}
-use Rattle.mip_options.specs.Spelling.{IsSpelled}
-use Rattle.mip_options.proofs.Taking.{options_spelled}
-use Rattle.mip_options.proofs.Again.{options_read}
+use Rattle.mip_mobhdr.specs.OptionValues.{Values}
+use Rattle.mip_mobhdr.specs.OptionReading.{options_of}
+use Rattle.mip_mobhdr.specs.OptionSpelling.{IsSpelled}
+use Rattle.mip_mobhdr.proofs.OptionTaking.{options_spelled}
+use Rattle.mip_mobhdr.proofs.OptionsAgain.{options_read}
 use Rattle.mip_mobhdr.specs.declared.fault.Fault.{Fault}
 use Rattle.mip_mobhdr.specs.Said.{Said}
 use Rattle.mip_mobhdr.specs.Said.Said.{Refresh, HomeInit, CareofInit, HomeTest, CareofTest, Update, Acknowledgement, Error}

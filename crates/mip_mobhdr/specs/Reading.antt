@@ -5,8 +5,8 @@ use Rattle.mip_words.specs.Addresses.{address_at}
 use Rattle.mip_words.specs.Steps.{◌>>=◌}
 use Rattle.mip_words.specs.declared.address.Address.{Address}
 use Rattle.mip_ipv6.specs.Sum.{is_right_sum}
-use Rattle.mip_options.specs.Values.{Values}
-use Rattle.mip_options.specs.Reading.{options_of}
+use Rattle.mip_mobhdr.specs.OptionValues.{Values}
+use Rattle.mip_mobhdr.specs.OptionReading.{options_of}
 use Rattle.mip_mobhdr.specs.declared.fault.Fault.{Fault}
 use Rattle.mip_mobhdr.specs.declared.fault.Fault.TheVariants as faults
 use Rattle.mip_mobhdr.specs.Said.{Said}

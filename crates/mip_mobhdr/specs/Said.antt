@@ -2,7 +2,7 @@
 -- lifetimes are in units of 4 s. RFC 6275 sections 6.1.2 to 6.1.9
 use Rattle.std.specs.Prelude.{◌≡◌, ℕ, List, drop, Bool}
 use Rattle.mip_words.specs.declared.address.Address.{Address}
-use Rattle.mip_options.specs.Values.{Values, values, set_values}
+use Rattle.mip_mobhdr.specs.OptionValues.{Values, values, set_values}
 use Rattle.mip_mobhdr.specs.declared.message.Message.{Message}
 use Rattle.mip_mobhdr.specs.declared.message.Message.TheVariants as read
 use Rattle.mip_mobhdr.specs.declared.plain.Plain.{Plain}

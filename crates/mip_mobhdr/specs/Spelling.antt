@@ -9,9 +9,9 @@ use Rattle.mip_words.specs.Numbers.{number_at, number_bytes}
 use Rattle.mip_words.specs.Addresses.{address_at, address_bytes}
 use Rattle.mip_words.specs.declared.address.Address.{Address}
 use Rattle.mip_ipv6.specs.Sum.{is_right_sum, with_number_at, checksum_of}
-use Rattle.mip_options.specs.Values.{Values}
-use Rattle.mip_options.specs.Spelling.{IsSpelled}
-use Rattle.mip_options.specs.Writing.{canonical}
+use Rattle.mip_mobhdr.specs.OptionValues.{Values}
+use Rattle.mip_mobhdr.specs.OptionSpelling.{IsSpelled}
+use Rattle.mip_mobhdr.specs.OptionWriting.{canonical}
 use Rattle.mip_mobhdr.specs.Said.{Said}
 use Rattle.mip_mobhdr.specs.Said.Said.{Refresh, HomeInit, CareofInit, HomeTest, CareofTest, Update, Acknowledgement, Error}
 use Rattle.mip_mobhdr.specs.Reading.{least_of, has_bit}

@@ -6,7 +6,7 @@ ghost use Rattle.mip_mobhdr.specs.Reading.{home_test_of, careof_test_of};
 
 use crate::fault::Fault;
 use crate::message::Message;
-use mip_options::read_options;
+use crate::option_reading::read_options;
 use mip_words::{Bytes, Cookie, Memory, Token, u16_at, u16_bytes, u64_at, u64_bytes};
 
 /// The fields of a Home Test.

@@ -6,7 +6,7 @@ ghost use Rattle.mip_mobhdr.specs.Reading.{error_of};
 
 use crate::fault::Fault;
 use crate::message::Message;
-use mip_options::read_options;
+use crate::option_reading::read_options;
 use mip_words::{Address, Bytes, Memory};
 
 /// The fields of a Binding Error.

@@ -1,6 +1,6 @@
 ghost use Rattle.std.specs.Prelude.{◌≡◌};
 
-use mip_options::BadOption;
+use crate::bad_option::BadOption;
 
 /// Why a message is refused: the first of these that applies.
 #[derive(Clone, Copy, Debug, PartialEq, Eq)]

@@ -1,12 +1,20 @@
 //! The messages of the Mobility Header (RFC 6275 section 6.1), one module for each kind.
+//! The mobility options: what the messages of RFC 6275 section 6.1 carry behind their fixed fields.
 #![tactic(auto)]
 
 mod acknowledgement;
 mod address_test;
+mod bad_option;
 mod binding_error;
 mod fault;
+mod indices;
 mod least;
 mod message;
+mod option_reading;
+mod option_set;
+mod option_writing;
+mod options;
+mod padding;
 mod plain;
 mod reading;
 mod refresh;
@@ -14,8 +22,14 @@ mod test_init;
 mod update;
 mod writing;
 
+pub use bad_option::BadOption;
 pub use fault::Fault;
+pub use indices::Indices;
 pub use message::Message;
+pub use option_reading::read_options;
+pub use option_set::OptionSet;
+pub use option_writing::write_options;
+pub use options::Options;
 pub use plain::Plain;
 pub use reading::read_message;
 pub use update::read_update;

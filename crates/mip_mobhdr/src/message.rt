@@ -1,4 +1,4 @@
-use mip_options::Options;
+use crate::options::Options;
 use mip_words::{Address, Cookie, Token};
 
 /// A message that was read. Lifetimes are in units of 4 s.

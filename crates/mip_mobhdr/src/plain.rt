@@ -1,4 +1,4 @@
-use mip_options::OptionSet;
+use crate::option_set::OptionSet;
 use mip_words::{Address, Cookie, Token};
 
 /// A message to be written: the fields of a `Message`, with the options to put in.

@@ -6,7 +6,7 @@ ghost use Rattle.mip_mobhdr.specs.Reading.{home_init_of, careof_init_of};
 
 use crate::fault::Fault;
 use crate::message::Message;
-use mip_options::read_options;
+use crate::option_reading::read_options;
 use mip_words::{Bytes, Cookie, Memory, u64_at, u64_bytes};
 
 /// The fields of a Home Test Init.

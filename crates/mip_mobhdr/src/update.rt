@@ -7,7 +7,7 @@ ghost use Rattle.mip_mobhdr.specs.Spelling.{flag};
 
 use crate::fault::Fault;
 use crate::message::Message;
-use mip_options::read_options;
+use crate::option_reading::read_options;
 use mip_words::{Bytes, Memory, u16_at, u16_bytes};
 
 /// The fields of a Binding Update, whatever stands before them.

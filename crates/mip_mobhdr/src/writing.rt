@@ -2,7 +2,7 @@
 
 ghost use Rattle.std.specs.Prelude.{◌≡◌, ℕ, ◌+◌, ◌-◌, ◌/◌, ◌≤◌, ◌++◌, length, slice_set, Ok, IfOk, OnOk};
 ghost use Rattle.mip_ipv6.specs.Sum.{with_number_at, checksum_of};
-ghost use Rattle.mip_options.specs.Values.{set_values};
+ghost use Rattle.mip_mobhdr.specs.OptionValues.{set_values};
 ghost use Rattle.mip_mobhdr.specs.Said.{said_plain};
 ghost use Rattle.mip_mobhdr.specs.Reading.{message_of};
 ghost use Rattle.mip_mobhdr.specs.Spelling.{IsMessage, type_of, options_said, field_bytes, front_bytes, unsummed, message_bytes, HasNumber, HasWidths, WritesOptions};
@@ -15,7 +15,8 @@ use crate::refresh::put_refresh;
 use crate::test_init::put_init;
 use crate::update::{put_update, update_flags};
 use mip_ipv6::checksum;
-use mip_options::{OptionSet, write_options};
+use crate::option_set::OptionSet;
+use crate::option_writing::write_options;
 use mip_words::{Address, Bytes, Memory};
 use std::alloc::Global;
 

@@ -8,7 +8,7 @@ use Rattle.mip_words.specs.declared.address.Address.{Address}
 use Rattle.mip_words.specs.declared.shield.Shield.{Shield}
 use Rattle.mip_entries.specs.declared.answer.Answer.{Answer}
 use Rattle.mip_entries.specs.declared.answer.Answer.TheVariants.{Send, Note}
-use Rattle.mip_transitions.proofs.ShowLaws.{shows-answers}
+use Rattle.mip_entries.proofs.ShowLaws.{shows-answers}
 use Rattle.mip_rules_mobile.specs.Calls.{Call}
 use Rattle.mip_rules_mobile.specs.Steps.{answer_of, answers_of}
 use Rattle.mip_rules_mobile.specs.Known.{Known}

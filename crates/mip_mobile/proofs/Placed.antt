@@ -15,7 +15,7 @@ use Rattle.mip_rules_mobile.specs.Transitions.{Transition, begun, noted}
 use Rattle.mip_rules_mobile.specs.TrialRules.{each_row}
 use Rattle.mip_rules_mobile.specs.MovingRules.{releases, unbinds, leaves, leaves_first, arrives, attaches, uses_prefix, address_under}
 use Rattle.mip_rules_mobile.specs.Doing.{handles, does, transition_of}
-use Rattle.mip_transitions.proofs.TransitionLaws.{noted-known}
+use Rattle.mip_entries.proofs.TransitionLaws.{noted-known}
 use Rattle.mip_mobile.specs.Placing.{attach_at, leave_at, AreAnswered}
 
 leaves-fit : (h other : Claim) (t : Transition) → (t.known.standing ≡ AtHome → h ≡ other) → leaves h t ≡ leaves other t

@@ -1,5 +1,5 @@
 ghost use Rattle.std.specs.Prelude.{◌≡◌, ◌≤◌, length};
-ghost use Rattle.mip_tunnel.specs.Tunnel.{hop_of};
+ghost use Rattle.mip_ipv6.specs.Tunnel.{hop_of};
 ghost use Rattle.mip_rules_mobile.specs.Calls as calls;
 ghost use Rattle.mip_mobile.specs.Performing.{Performs};
 

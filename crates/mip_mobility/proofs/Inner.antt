@@ -9,9 +9,9 @@ use Rattle.mip_words.specs.declared.why.Why.{Why}
 use Rattle.mip_words.specs.declared.why.Why.TheVariants as whys
 use Rattle.mip_ipv6.specs.Packet.{Packet, is_routable_if_any}
 use Rattle.mip_ipv6.proofs.Packets.{packet_takes}
-use Rattle.mip_tunnel.specs.declared.exit_fault.ExitFault.{ExitFault}
-use Rattle.mip_tunnel.specs.declared.exit_fault.ExitFault.TheVariants.{NotTunnel, WrongEntry, Inner}
-use Rattle.mip_tunnel.specs.Tunnel.{opened}
+use Rattle.mip_ipv6.specs.declared.exit_fault.ExitFault.{ExitFault}
+use Rattle.mip_ipv6.specs.declared.exit_fault.ExitFault.TheVariants.{NotTunnel, WrongEntry, Inner}
+use Rattle.mip_ipv6.specs.Tunnel.{opened}
 use Rattle.std.specs.Prelude.{Ok}
 use Rattle.mip_reception.specs.Checks.{checked}
 use Rattle.mip_ipv6.proofs.Placed.{home_routable}

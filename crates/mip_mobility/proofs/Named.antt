@@ -5,7 +5,7 @@ use Rattle.std.proofs.lemmas.List.{drop-drop}
 use Rattle.mip_words.specs.Numbers.{number_at}
 use Rattle.mip_words.specs.Addresses.{address_at}
 use Rattle.mip_words.specs.declared.address.Address.{Address}
-use Rattle.mip_transitions.proofs.TransitionLaws.{noted_all-is}
+use Rattle.mip_entries.proofs.TransitionLaws.{noted_all-is}
 use Rattle.mip_rules_mobile.specs.DiscoveryQuestions.{next_found}
 use Rattle.mip_rules_mobile.specs.Known.{Known}
 use Rattle.mip_rules_mobile.specs.Questions.{after}

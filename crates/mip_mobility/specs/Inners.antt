@@ -6,8 +6,8 @@ use Rattle.mip_words.specs.declared.shield.Shield.{Shield}
 use Rattle.mip_words.specs.declared.why.Why.{Why}
 use Rattle.mip_words.specs.declared.why.Why.TheVariants as whys
 use Rattle.mip_ipv6.specs.declared.head.Head.{Head}
-use Rattle.mip_tunnel.specs.declared.exit_fault.ExitFault.{ExitFault}
-use Rattle.mip_tunnel.specs.declared.exit_fault.ExitFault.TheVariants.{NotTunnel, WrongEntry, Inner}
+use Rattle.mip_ipv6.specs.declared.exit_fault.ExitFault.{ExitFault}
+use Rattle.mip_ipv6.specs.declared.exit_fault.ExitFault.TheVariants.{NotTunnel, WrongEntry, Inner}
 use Rattle.mip_reception.specs.Words.{packet_why}
 
 -- it is a tunnel packet itself, for another address, routed, or unprotected though it carries a mobility message

@@ -1,7 +1,7 @@
 //! What a mobile does about an acknowledgement of its agent (RFC 6275 sections 11.7.3 and 11.5.5).
 
 ghost use Rattle.std.specs.Prelude.{◌≡◌, ◌<◌, ◌^◌, IfSome, OnOk};
-ghost use Rattle.mip_updates.specs.Statuses.{accepts_it};
+ghost use Rattle.mip_reception.specs.Statuses.{accepts_it};
 ghost use Rattle.mip_rules_mobile.specs.HomeRules.{is_answered_at, is_answer_to, answered_by, home_answered, is_registered, is_unregistered, is_accepted, takes_home_ack};
 ghost use Rattle.mip_rules_mobile.specs.Transitions.{Transition};
 ghost use Rattle.mip_call_context.specs.Seen.{Shows};
@@ -14,7 +14,7 @@ use mip_constants::LIFETIME_UNIT;
 use mip_registration::{catch_up, turn_away};
 use mip_routability::{REFRESH_UNIT, start_deletions, start_unbound};
 use mip_rules_mobile::{Attachment, HomeUpdate};
-use mip_updates::status::SEQUENCE_OUT_OF_WINDOW;
+use mip_reception::status::SEQUENCE_OUT_OF_WINDOW;
 use mip_words::{Address, Memory, Moment};
 use std::alloc::Global;
 

@@ -4,7 +4,7 @@ ghost use Rattle.std.specs.Prelude.{◌≡◌, ◌≤◌, OnOk, IsTrue, IsFalse,
 ghost use Rattle.mip_ipv6.specs.Packet.{names_no_body};
 ghost use Rattle.mip_rules_correspondent.specs.Rules.{is_data};
 ghost use Rattle.mip_rules_mobile.specs.Calls as calls;
-ghost use Rattle.mip_tunnel.specs.Tunnel.{hop_of};
+ghost use Rattle.mip_ipv6.specs.Tunnel.{hop_of};
 ghost use Rattle.mip_rules_mobile.specs.Doing.{handles};
 ghost use Rattle.mip_rules_mobile.specs.Transitions.{Transition};
 ghost use Rattle.mip_call_context.specs.Seen.{Shows};

@@ -3,8 +3,8 @@
 ghost use Rattle.std.specs.Prelude.{◌≡◌, ◌≤◌, length, OnOk, IsTrue, Some, option_map};
 ghost use Rattle.mip_ipv6.specs.Packet.{packet as tree, is_routable_if_any};
 ghost use Rattle.mip_mobhdr.specs.Said.{said};
-ghost use Rattle.mip_options.specs.Values.{values};
-ghost use Rattle.mip_inspection.specs.Says.{message_in};
+ghost use Rattle.mip_mobhdr.specs.OptionValues.{values};
+ghost use Rattle.mip_packets.specs.Says.{message_in};
 ghost use Rattle.mip_rules_correspondent.specs.Rules.{is_for_part};
 ghost use Rattle.mip_rules_mobile.specs.ReceivingRules.{then_meets, takes_for_part, takes_ack, by_proto, by_message, by_role};
 ghost use Rattle.mip_rules_mobile.specs.Transitions.{Transition};
@@ -18,8 +18,7 @@ use mip_call_context::correspondent::is_for_part;
 use mip_call_context::{CallContext, Heard, ask_part};
 use mip_constants::protocol::{ICMPV6, NO_NEXT_HEADER};
 use mip_ipv6::PacketRef;
-use mip_mobhdr::Message;
-use mip_options::Options;
+use mip_mobhdr::{Message, Options};
 use mip_routability::{
     PeerAck, meet, take_ack_of, take_careof_test, take_error, take_home_test, take_refresh,
 };

@@ -12,7 +12,7 @@ ghost use Rattle.mip_call_context.specs.Seen.{Shows};
 
 use mip_call_context::{CallContext, ask_data};
 use mip_ipv6::Head;
-use mip_packet_builders::{node_head, write_data_packet};
+use mip_packets::{node_head, write_data_packet};
 use mip_rules_mobile::Attachment;
 use mip_words::{Address, Memory};
 use std::alloc::Global;

@@ -13,9 +13,8 @@ use crate::handed::Handed;
 use crate::roles::take_role;
 use mip_call_context::{CallContext, reply};
 use mip_constants::protocol::{IPV6, MOBILITY_HEADER};
-use mip_ipv6::{Head, PacketRef};
+use mip_ipv6::{ExitFault, Head, PacketRef, decapsulate};
 use mip_reception::{AddressMatch, Refusal, check, packet_why};
-use mip_tunnel::{ExitFault, decapsulate};
 use mip_words::{Address, Memory, Shield, Why};
 use std::alloc::Global;
 

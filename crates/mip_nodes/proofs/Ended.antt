@@ -3,8 +3,8 @@ use Rattle.std.proofs.Common.{◌≡◌, ℕ, List, [], refl, sym, ap, ◌∙◌
 use Rattle.std.specs.Prelude.{Result, Ok, Err, IfOk, OnOk}
 use Rattle.mip_words.specs.declared.memory.Memory.{Memory}
 use Rattle.mip_entries.specs.declared.answer.Answer.{Answer}
-use Rattle.mip_transitions.proofs.TransitionLaws.{noted-now}
-use Rattle.mip_transitions.proofs.ShowLaws.{shows-answers}
+use Rattle.mip_entries.proofs.TransitionLaws.{noted-now}
+use Rattle.mip_entries.proofs.ShowLaws.{shows-answers}
 use Rattle.mip_rules_mobile.specs.Calls.{Call}
 use Rattle.mip_rules_mobile.specs.Steps.{Called, Parts, Notes, Drops, answer_of, answers_of}
 use Rattle.mip_rules_mobile.specs.Known.{Known}

@@ -1,7 +1,7 @@
 -- An advertisement that a home agent hears leaves no answer.
 use Rattle.std.proofs.Common.{◌≡◌, ℕ, [], List, ap}
 use Rattle.mip_words.specs.declared.address.Address.{Address}
-use Rattle.mip_transitions.proofs.TransitionLaws.{noted-steps}
+use Rattle.mip_entries.proofs.TransitionLaws.{noted-steps}
 use Rattle.mip_rules_agent.specs.declared.identity.Identity.{Identity}
 use Rattle.mip_rules_agent.specs.Known.{Known}
 use Rattle.mip_rules_agent.specs.Calls as calls

@@ -4,7 +4,7 @@ use Rattle.std.specs.Prelude.{Option}
 use Rattle.mip_words.specs.declared.address.Address.{Address}
 use Rattle.mip_nonce.specs.Secrets.{Life}
 use Rattle.mip_entries.specs.Stamped.{Stamped}
-use Rattle.mip_transitions.specs.Transitions.{StandsBy, known_by}
+use Rattle.mip_entries.specs.Transitions.{StandsBy, known_by}
 use Rattle.mip_rules_correspondent.specs.declared.identity.Identity.{Identity}
 use Rattle.mip_rules_correspondent.specs.Calls as correspondents
 use Rattle.mip_rules_correspondent.specs.Steps.{Step}

@@ -3,7 +3,7 @@ ghost use Rattle.mip_nonce.specs.Secrets.{kcn_of, nonce_of, cookie_of};
 
 use crate::source::Source;
 use crate::window::current;
-use mip_hmac::PreparedKey;
+use mip_tokens::PreparedKey;
 use mip_words::{Cookie, Moment, NodeId};
 use std::marker::Model;
 

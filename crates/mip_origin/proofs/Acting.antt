@@ -10,7 +10,7 @@ use Rattle.mip_words.specs.declared.address.Address.{Address}
 use Rattle.mip_nonce.specs.Secrets.{Life}
 use Rattle.mip_ipv6.specs.Packet.{names_no_body}
 use Rattle.mip_outside.specs.Places.{Around, claim_in}
-use Rattle.mip_inspection.specs.Says.{innermost_after, innermost, carried}
+use Rattle.mip_packets.specs.Says.{innermost_after, innermost, carried}
 use Rattle.mip_entries.specs.declared.entry.Entry.{Entry}
 use Rattle.mip_entries.specs.declared.entry.Entry.TheVariants as entries
 use Rattle.mip_entries.specs.Completed.{node_id}

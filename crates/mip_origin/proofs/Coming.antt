@@ -20,7 +20,7 @@ use Rattle.mip_rules_mobile.specs.Known.{Known}
 use Rattle.mip_rules_mobile.specs.Questions.{after}
 use Rattle.mip_rules_mobile.specs.Fitting.{Fits, EachFits}
 use Rattle.mip_rules_mobile.specs.Kept.{WasGiven, GivesHome, GivesCareof, HomeGiven, CareofGiven, CareofFrom, IsMadeFrom}
-use Rattle.mip_inspection.specs.Says.{carried}
+use Rattle.mip_packets.specs.Says.{carried}
 use Rattle.mip_history.specs.Bound.{packet_posted, packets_of}
 use Rattle.mip_origin.specs.OwnHistories.{HasCome}
 

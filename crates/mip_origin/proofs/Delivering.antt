@@ -2,8 +2,8 @@
 use Rattle.std.proofs.Common.{◌≡◌, ℕ, zero, suc, List, [], Bool, true, false, refl, sym, ap, ◌∙◌}
 use Rattle.std.specs.Prelude.{Option, Some, None, option_map, slice_get, slice_index_or, if◌then◌else◌}
 use Rattle.std.proofs.lemmas.Option.{slice_get-map}
-use Rattle.mip_inspection.specs.Says.{carried}
-use Rattle.mip_inspection.proofs.Sayings.{carried_lowered}
+use Rattle.mip_packets.specs.Says.{carried}
+use Rattle.mip_packets.proofs.Sayings.{carried_lowered}
 use Rattle.mip_entries.specs.declared.entry.Entry.TheVariants as entries
 use Rattle.mip_entries.specs.Completed.{node_id}
 use Rattle.mip_links.specs.Table.{Fate, Post, delivery, in_pool, outsider_of}

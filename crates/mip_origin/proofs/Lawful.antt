@@ -10,7 +10,7 @@ use Rattle.std.proofs.lemmas.Option.{slice_get-get_or, slice_get_past}
 use Rattle.mip_lists.specs.EachAfter.{EachAfter}
 use Rattle.mip_words.specs.declared.token.Token.{Token}
 use Rattle.mip_lists.proofs.EachLaws.{each_at}
-use Rattle.mip_inspection.specs.Says.{Carried, Test, Update, Other, carried}
+use Rattle.mip_packets.specs.Says.{Carried, Test, Update, Other, carried}
 use Rattle.mip_entries.specs.declared.entry.Entry.{Entry}
 use Rattle.mip_entries.specs.declared.entry.Entry.TheVariants as entries
 use Rattle.mip_entries.specs.Completed.{node_id}

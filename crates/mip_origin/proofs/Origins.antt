@@ -6,13 +6,13 @@ use Rattle.mip_words.specs.declared.address.Address.{Address}
 use Rattle.mip_words.specs.declared.ids.NodeId.{NodeId}
 use Rattle.mip_lists.specs.EachAfter.{EachAfter}
 use Rattle.mip_lists.proofs.EachLaws.{each_at}
-use Rattle.mip_options.specs.declared.indices.Indices.{Indices}
-use Rattle.mip_updates.specs.declared.registration.Registration.{Registration}
+use Rattle.mip_mobhdr.specs.declared.indices.Indices.{Indices}
+use Rattle.mip_reception.specs.declared.registration.Registration.{Registration}
 use Rattle.mip_rules_correspondent.specs.Soundness.{IsCareofNonce}
 use Rattle.mip_nonce.specs.Secrets.{Life, kcn_of, nonce_of}
 use Rattle.mip_nonce.specs.Window.{current_of, index_of, IsValidAt}
 use Rattle.mip_tokens.specs.Token.{token_of}
-use Rattle.mip_inspection.specs.Says.{Test, carried}
+use Rattle.mip_packets.specs.Says.{Test, carried}
 use Rattle.mip_bcache.specs.declared.accepted.Accepted.{Accepted}
 use Rattle.mip_entries.specs.declared.entry.Entry.{Entry}
 use Rattle.mip_entries.specs.declared.entry.Entry.TheVariants as entries

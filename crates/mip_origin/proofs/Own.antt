@@ -4,24 +4,24 @@ use Rattle.std.specs.Prelude.{Option, Some, None}
 use Rattle.std.specs.List.{AllByRecursion}
 use Rattle.mip_words.specs.Addresses.{address_bytes}
 use Rattle.mip_words.specs.declared.address.Address.{Address}
-use Rattle.mip_options.specs.Values.{nothing}
+use Rattle.mip_mobhdr.specs.OptionValues.{nothing}
 use Rattle.mip_mobhdr.specs.Said.Said.{Refresh, HomeTest, CareofTest, Error}
 use Rattle.sha1.specs.Sha1.{sha1, digest_bytes}
-use Rattle.mip_hmac.specs.Hmac.{hmac_sha1}
+use Rattle.mip_tokens.specs.Hmac.{hmac_sha1}
 use Rattle.mip_nonce.specs.Secrets.{Life, kcn_of, nonce_of}
 use Rattle.mip_nonce.specs.Window.{current_of, index_of}
 use Rattle.mip_tokens.specs.Token.{token_of, home_token_of, careof_token_of}
 use Rattle.mip_tokens.specs.declared.kbm.Kbm.{Kbm}
-use Rattle.mip_inspection.specs.Says.{Carried, Other, Test, Update, carried}
-use Rattle.mip_packet_builders.specs.Packets.{straight, data_packet}
-use Rattle.mip_packet_builders.specs.Authenticated.{authenticated_packet}
-use Rattle.mip_packet_round_trip.specs.Written.{TestsOf, SaysNoTest}
-use Rattle.mip_packet_round_trip.proofs.Sayings.{message_says, message_says_no_test, data_says_no_test, problem_says_no_test}
+use Rattle.mip_packets.specs.Says.{Carried, Other, Test, Update, carried}
+use Rattle.mip_packets.specs.Packets.{straight, data_packet}
+use Rattle.mip_packets.specs.Authenticated.{authenticated_packet}
+use Rattle.mip_packets.specs.Written.{TestsOf, SaysNoTest}
+use Rattle.mip_packets.proofs.WrittenSayings.{message_says, message_says_no_test, data_says_no_test, problem_says_no_test}
 use Rattle.mip_reception.specs.declared.reply.Reply.{Reply}
 use Rattle.mip_reception.specs.declared.reply.Reply.TheVariants.{Nothing, BindingError, ParameterProblem}
 use Rattle.mip_reception.specs.Replies.{reply_packet}
-use Rattle.mip_updates.specs.declared.registration.Registration.{Registration}
-use Rattle.mip_updates.specs.Acks.{ack_packet}
+use Rattle.mip_reception.specs.declared.registration.Registration.{Registration}
+use Rattle.mip_reception.specs.Acks.{ack_packet}
 use Rattle.mip_rules_correspondent.specs.declared.identity.Identity.{Identity}
 use Rattle.mip_rules_correspondent.specs.declared.known.Known.{Known}
 use Rattle.mip_rules_correspondent.specs.Calls as calls

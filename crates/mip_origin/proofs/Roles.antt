@@ -6,8 +6,8 @@ use Rattle.std.proofs.lemmas.Bool.{or_parts}
 use Rattle.std.proofs.lemmas.List.Sums.{fold-append}
 use Rattle.mip_words.specs.declared.address.Address.{Address}
 use Rattle.mip_nonce.specs.Secrets.{Life}
-use Rattle.mip_inspection.specs.Says.{Carried, Test, Update, Other, carried}
-use Rattle.mip_packet_round_trip.specs.Written.{SaysNoTest}
+use Rattle.mip_packets.specs.Says.{Carried, Test, Update, Other, carried}
+use Rattle.mip_packets.specs.Written.{SaysNoTest}
 use Rattle.mip_entries.specs.declared.answer.Answer.{Answer}
 use Rattle.mip_entries.specs.declared.entry.Entry.{Entry}
 use Rattle.mip_entries.specs.declared.entry.Entry.TheVariants as entries

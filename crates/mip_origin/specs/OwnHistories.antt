@@ -5,7 +5,7 @@ use Rattle.std.specs.List.{AllByRecursion}
 use Rattle.mip_words.specs.declared.token.Token.{Token}
 use Rattle.mip_nonce.specs.Secrets.{Life}
 use Rattle.mip_ipv6.specs.Packet.{names_no_body}
-use Rattle.mip_inspection.specs.Says.{carried}
+use Rattle.mip_packets.specs.Says.{carried}
 use Rattle.mip_entries.specs.declared.entry.Entry.{Entry}
 use Rattle.mip_entries.specs.declared.entry.Entry.TheVariants as entries
 use Rattle.mip_entries.specs.Completed.{node_id}

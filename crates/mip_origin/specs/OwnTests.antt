@@ -4,8 +4,8 @@ use Rattle.mip_nonce.specs.Secrets.{Life, kcn_of, nonce_of}
 use Rattle.mip_nonce.specs.Window.{current_of, index_of}
 use Rattle.mip_tokens.specs.Token.{token_of}
 use Rattle.mip_ipv6.specs.Packet.{names_no_body}
-use Rattle.mip_inspection.specs.Says.{Carried, carried}
-use Rattle.mip_inspection.specs.Says.Carried.{Test}
+use Rattle.mip_packets.specs.Says.{Carried, carried}
+use Rattle.mip_packets.specs.Says.Carried.{Test}
 use Rattle.mip_rules_correspondent.specs.declared.identity.Identity.{Identity}
 use Rattle.mip_rules_correspondent.specs.Calls as calls
 use Rattle.mip_rules_correspondent.specs.Calls.{Call}

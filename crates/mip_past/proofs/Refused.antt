@@ -11,7 +11,7 @@ use Rattle.mip_entries.specs.declared.answer.Answer.TheVariants.{Send, Note}
 use Rattle.mip_entries.specs.declared.entry.Entry.{Entry}
 use Rattle.mip_entries.specs.declared.entry.Entry.TheVariants as entries
 use Rattle.mip_entries.specs.Stamped.{Stamped}
-use Rattle.mip_transitions.specs.Transitions.{StandsBy}
+use Rattle.mip_entries.specs.Transitions.{StandsBy}
 use Rattle.mip_rules_correspondent.specs.declared.known.Known.{Known}
 use Rattle.mip_rules_correspondent.specs.declared.identity.Identity.{Identity}
 use Rattle.mip_rules_correspondent.specs.Calls as correspondent_calls

@@ -6,8 +6,8 @@ use Rattle.std.specs.Option.{option_or, option_and_then}
 use Rattle.std.specs.Str.{bytes_eq}
 use Rattle.std.proofs.lemmas.Bool.{and_parts, and_from, or_left, or_right, eq-eqb, eqb-true, false≢true}
 use Rattle.mip_words.specs.declared.address.Address.{Address}
-use Rattle.mip_inspection.specs.Says.{Carried, UpdateIdentity, carried}
-use Rattle.mip_inspection.specs.Says.Carried.{Test, Update, Other}
+use Rattle.mip_packets.specs.Says.{Carried, UpdateIdentity, carried}
+use Rattle.mip_packets.specs.Says.Carried.{Test, Update, Other}
 use Rattle.mip_entries.specs.declared.entry.Entry.{Entry}
 use Rattle.mip_entries.specs.declared.entry.Entry.TheVariants as entries
 use Rattle.mip_provenance.specs.declared.maker.Maker.{Maker}

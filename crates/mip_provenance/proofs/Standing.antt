@@ -10,8 +10,8 @@ use Rattle.std.proofs.lemmas.List.{map-append}
 use Rattle.mip_words.specs.declared.address.Address.{Address}
 use Rattle.mip_words.specs.declared.ids.NodeId.{NodeId}
 use Rattle.mip_lists.proofs.LastLaws.{first_of_any}
-use Rattle.mip_inspection.specs.Says.{Carried, UpdateIdentity, carried}
-use Rattle.mip_inspection.specs.Says.Carried.{Test, Update, Other}
+use Rattle.mip_packets.specs.Says.{Carried, UpdateIdentity, carried}
+use Rattle.mip_packets.specs.Says.Carried.{Test, Update, Other}
 use Rattle.mip_entries.specs.declared.entry.Entry.{Entry}
 use Rattle.mip_entries.specs.declared.entry.Entry.TheVariants as entries
 use Rattle.mip_provenance.specs.declared.maker.Maker.{Maker}

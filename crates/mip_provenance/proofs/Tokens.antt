@@ -10,7 +10,7 @@ use Rattle.mip_words.specs.declared.address.Address.{Address}
 use Rattle.mip_lists.specs.EachAfter.{EachAfter}
 use Rattle.mip_lists.proofs.EachLaws.{each_at}
 use Rattle.mip_lists.proofs.LastLaws.{first_of_any}
-use Rattle.mip_inspection.specs.Says.Carried.{Test}
+use Rattle.mip_packets.specs.Says.Carried.{Test}
 use Rattle.mip_provenance.specs.declared.maker.Maker.{Maker}
 use Rattle.mip_provenance.specs.declared.maker.Maker.TheVariants.{Node, Outsider}
 use Rattle.mip_provenance.specs.Lists.{along}

@@ -5,7 +5,7 @@ use Rattle.std.specs.List.{list_any}
 use Rattle.std.specs.Option.{option_map_or}
 use Rattle.std.proofs.lemmas.Bool.{or_parts}
 use Rattle.mip_words.specs.declared.address.Address.{Address}
-use Rattle.mip_inspection.specs.Says.{UpdateIdentity}
+use Rattle.mip_packets.specs.Says.{UpdateIdentity}
 use Rattle.mip_provenance.specs.declared.maker.Maker.{Maker}
 use Rattle.mip_provenance.specs.declared.accepted_update.AcceptedUpdate.{AcceptedUpdate}
 use Rattle.mip_provenance.specs.declared.mark.Mark.TheVariants.{Origin, Forged}

@@ -4,8 +4,8 @@ use Rattle.std.specs.Prelude.{ℕ, List, Bool, false, ◌&&◌, ◌==◌, if◌t
 use Rattle.std.specs.List.{filter_map}
 use Rattle.std.specs.Option.{option_and_then, option_map_or}
 use Rattle.std.specs.Str.{bytes_eq}
-use Rattle.mip_inspection.specs.Says.{Carried, UpdateIdentity}
-use Rattle.mip_inspection.specs.Says.Carried.{Update}
+use Rattle.mip_packets.specs.Says.{Carried, UpdateIdentity}
+use Rattle.mip_packets.specs.Says.Carried.{Update}
 use Rattle.mip_provenance.specs.declared.maker.Maker.{Maker}
 use Rattle.mip_provenance.specs.declared.maker.Maker.TheVariants.{Node, Outsider}
 use Rattle.mip_provenance.specs.Lists.{first_some, least}

@@ -2,7 +2,7 @@
 use Rattle.std.specs.Prelude.{◌≡◌, ℕ, List, [], true, false, Option, IfSome}
 use Rattle.std.specs.List.{list_any}
 use Rattle.mip_lists.specs.EachAfter.{EachAfter}
-use Rattle.mip_inspection.specs.Says.Carried.{Test}
+use Rattle.mip_packets.specs.Says.Carried.{Test}
 use Rattle.mip_provenance.specs.Sights.{Sight}
 use Rattle.mip_provenance.specs.Sights.Sight.{Sent, Heard, Handed, Made}
 use Rattle.mip_provenance.specs.Reached.{carries, is_handed}

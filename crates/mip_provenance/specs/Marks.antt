@@ -1,7 +1,7 @@
 -- The mark of an acceptance: forged with the lowest cause that holds, or its origin. RFC 6275 section 5.2
 use Rattle.std.specs.Prelude.{ℕ, List, if◌then◌else◌, Option, Some, None, option_map}
 use Rattle.mip_words.specs.declared.address.Address.{Address}
-use Rattle.mip_inspection.specs.Says.{UpdateIdentity}
+use Rattle.mip_packets.specs.Says.{UpdateIdentity}
 use Rattle.mip_entries.specs.declared.entry.Entry.{Entry}
 use Rattle.mip_provenance.specs.declared.accepted_update.AcceptedUpdate.{AcceptedUpdate}
 use Rattle.mip_provenance.specs.declared.mark.Mark.{Mark}

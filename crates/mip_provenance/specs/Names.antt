@@ -4,7 +4,7 @@ use Rattle.std.specs.Prelude.{ℕ, suc, List, [], fold, Bool, false, not, ◌&&�
 use Rattle.std.specs.List.{list_any, find}
 use Rattle.std.specs.Str.{bytes_eq}
 use Rattle.mip_words.specs.declared.address.Address.{Address}
-use Rattle.mip_inspection.specs.Says.Carried.{Test}
+use Rattle.mip_packets.specs.Says.Carried.{Test}
 use Rattle.mip_provenance.specs.Lists.{along}
 use Rattle.mip_provenance.specs.Sights.{Sight}
 use Rattle.mip_provenance.specs.Sights.Sight.{Sent, Agent, Restarted}

@@ -3,8 +3,8 @@ use Rattle.std.specs.Prelude.{◌≡◌, ℕ, ◌≤◌, List, ◌∷◌, ◌++�
 use Rattle.mip_words.specs.declared.address.Address.{Address}
 use Rattle.mip_words.specs.declared.ids.NodeId.{NodeId}
 use Rattle.mip_tokens.specs.Token.{authenticator_over}
-use Rattle.mip_inspection.specs.Says.{UpdateIdentity, carried}
-use Rattle.mip_inspection.specs.Says.Carried.{Test, Update}
+use Rattle.mip_packets.specs.Says.{UpdateIdentity, carried}
+use Rattle.mip_packets.specs.Says.Carried.{Test, Update}
 use Rattle.mip_entries.specs.declared.entry.Entry.{Entry}
 use Rattle.mip_entries.specs.declared.entry.Entry.TheVariants as entries
 use Rattle.mip_provenance.specs.declared.maker.Maker.{Maker}

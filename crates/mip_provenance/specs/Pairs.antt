@@ -6,7 +6,7 @@ use Rattle.std.specs.Str.{bytes_eq}
 use Rattle.mip_words.specs.declared.address.Address.{Address}
 use Rattle.mip_words.specs.declared.ids.NodeId.{NodeId}
 use Rattle.mip_tokens.specs.Token.{authenticator_over}
-use Rattle.mip_inspection.specs.Says.{UpdateIdentity}
+use Rattle.mip_packets.specs.Says.{UpdateIdentity}
 use Rattle.mip_provenance.specs.declared.maker.Maker.{Maker}
 use Rattle.mip_provenance.specs.declared.maker.Maker.TheVariants.{Node, Outsider}
 use Rattle.mip_provenance.specs.Lists.{first_some, until, if_passes}

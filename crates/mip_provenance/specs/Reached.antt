@@ -3,8 +3,8 @@
 use Rattle.std.specs.Prelude.{ℕ, List, Bool, false, ◌&&◌, ◌==◌, if◌then◌else◌, Option, Some, None}
 use Rattle.std.specs.List.{list_any, filter_map}
 use Rattle.std.specs.Str.{bytes_eq}
-use Rattle.mip_inspection.specs.Says.{Carried}
-use Rattle.mip_inspection.specs.Says.Carried.{Test}
+use Rattle.mip_packets.specs.Says.{Carried}
+use Rattle.mip_packets.specs.Says.Carried.{Test}
 use Rattle.mip_provenance.specs.declared.maker.Maker.{Maker}
 use Rattle.mip_provenance.specs.declared.maker.Maker.TheVariants.{Node, Outsider}
 use Rattle.mip_provenance.specs.Sights.{Sight}

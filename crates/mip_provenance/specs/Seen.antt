@@ -1,6 +1,6 @@
 -- What is found in running code, without how it lies in memory.
 use Rattle.std.specs.Prelude.{ℕ, List, map, take, Bool, option_map}
-use Rattle.mip_inspection.specs.Says.{carried, kind_of, key_of}
+use Rattle.mip_packets.specs.Says.{carried, kind_of, key_of}
 use Rattle.mip_entries.specs.declared.entry.Entry.{Entry}
 use Rattle.mip_provenance.specs.declared.post.Post.{Post as FoundPost}
 use Rattle.mip_provenance.specs.declared.name.Name.{Name as FoundName}

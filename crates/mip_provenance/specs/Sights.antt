@@ -1,8 +1,8 @@
 -- What the entries of a history tell of tokens and updates: each entry as a sight, its packet read and its number looked up.
 use Rattle.std.specs.Prelude.{ℕ, List, map, Option, Some, None, option_map}
 use Rattle.std.specs.Option.{option_and_then}
-use Rattle.mip_inspection.specs.Says.{Carried, carried}
-use Rattle.mip_inspection.specs.Says.Carried.{Test, Update, Other}
+use Rattle.mip_packets.specs.Says.{Carried, carried}
+use Rattle.mip_packets.specs.Says.Carried.{Test, Update, Other}
 use Rattle.mip_entries.specs.declared.entry.Entry.{Entry}
 use Rattle.mip_entries.specs.declared.entry.Entry.TheVariants as entries
 use Rattle.mip_provenance.specs.Entries.{packet_in}

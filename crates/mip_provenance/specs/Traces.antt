@@ -2,7 +2,7 @@
 use Rattle.std.specs.Prelude.{◌≡◌, ℕ, List, true, Option, Some, None, ⊤}
 use Rattle.std.specs.List.{find}
 use Rattle.mip_words.specs.declared.address.Address.{Address}
-use Rattle.mip_inspection.specs.Says.{UpdateIdentity}
+use Rattle.mip_packets.specs.Says.{UpdateIdentity}
 use Rattle.mip_provenance.specs.declared.maker.Maker.{Maker}
 use Rattle.mip_provenance.specs.declared.accepted_update.AcceptedUpdate.{AcceptedUpdate}
 use Rattle.mip_provenance.specs.Lists.{until}

@@ -7,7 +7,7 @@ use crate::claim::Claim;
 use crate::name::Name;
 use crate::pair::Pair;
 use mip_entries::Entry;
-use mip_inspection::TestKind;
+use mip_packets::TestKind;
 use mip_words::{Address, NodeId};
 
 /// An update as an entry `accepted` tells of it.

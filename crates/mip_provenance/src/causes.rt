@@ -3,7 +3,7 @@
 ghost use Rattle.std.specs.Prelude.{◌≡◌, ◌≤◌, length, option_map, false};
 ghost use Rattle.std.specs.Option.{option_map_or};
 ghost use Rattle.std.specs.Str.{bytes_eq};
-ghost use Rattle.mip_inspection.specs.Says.{carried};
+ghost use Rattle.mip_packets.specs.Says.{carried};
 ghost use Rattle.mip_provenance.specs.Sights.{sight, sights, token_in};
 ghost use Rattle.mip_provenance.specs.Causes.{new_to, early, is_early, is_used_early, is_named_otherwise};
 ghost use Rattle.mip_provenance.specs.Seen.{front_at, claim_of};

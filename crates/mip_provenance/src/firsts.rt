@@ -4,7 +4,7 @@ ghost use Rattle.std.specs.Prelude.{◌≡◌, ℕ, List, ◌<◌, Bool, option_
 ghost use Rattle.std.specs.Str.{bytes_eq};
 ghost use Rattle.std.specs.Option.{option_map_or};
 ghost use Rattle.mip_tokens.specs.Token.{authenticated};
-ghost use Rattle.mip_inspection.specs.Says.{key_of};
+ghost use Rattle.mip_packets.specs.Says.{key_of};
 ghost use Rattle.mip_entries.specs.declared.entry.Entry.{Entry};
 ghost use Rattle.mip_provenance.specs.Lists.{lesser};
 ghost use Rattle.mip_provenance.specs.Sights.{sight, sights};
@@ -12,7 +12,7 @@ ghost use Rattle.mip_provenance.specs.Firsts.{number_of, same_key, carries_key, 
 
 use crate::posts;
 use mip_entries::Entry;
-use mip_inspection::UpdateIdentity;
+use mip_packets::UpdateIdentity;
 use mip_tokens::covered;
 
 /// An authenticator covers the same of two messages.

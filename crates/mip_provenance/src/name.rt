@@ -1,9 +1,9 @@
 ghost use Rattle.std.specs.Prelude.{◌≡◌, ◌==◌};
-ghost use Rattle.mip_inspection.specs.Says.{kind_of};
+ghost use Rattle.mip_packets.specs.Says.{kind_of};
 ghost use Rattle.mip_provenance.specs.Names.{same_name};
 ghost use Rattle.mip_provenance.specs.Seen.{name_of};
 
-use mip_inspection::TestKind;
+use mip_packets::TestKind;
 use mip_words::{Address, NodeId};
 
 /// The name of a keygen token. Fields lie as they are declared: in this order they take 32 bytes.

@@ -6,7 +6,7 @@ ghost use Rattle.std.specs.Option.{option_map_or, option_and_then};
 ghost use Rattle.mip_provenance.specs.Lists.{if_passes};
 ghost use Rattle.mip_entries.specs.declared.entry.Entry.{Entry};
 ghost use Rattle.mip_provenance.specs.Sights.{sight, sights};
-ghost use Rattle.mip_inspection.specs.Says.{carried};
+ghost use Rattle.mip_packets.specs.Says.{carried};
 ghost use Rattle.mip_provenance.specs.Sights.Sight.{Sent};
 ghost use Rattle.mip_provenance.specs.Names.{is_agent, number_of_naming, lives, life_at, naming, is_own, is_other, is_misnamed, first_sent};
 ghost use Rattle.mip_provenance.specs.Seen.{front_at, name_of, naming_of};
@@ -15,7 +15,7 @@ use crate::claim::Claim;
 use crate::name::Name;
 use crate::naming::Naming;
 use mip_entries::Entry;
-use mip_inspection::{Carried, carried_in};
+use mip_packets::{Carried, carried_in};
 use mip_words::NodeId;
 
 /// A node registers a home.

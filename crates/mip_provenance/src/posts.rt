@@ -1,7 +1,7 @@
 //! Packets by their numbers, in a history.
 
 ghost use Rattle.std.specs.Prelude.{◌≡◌, ℕ, List, Option, option_map, option_copied};
-ghost use Rattle.mip_inspection.specs.Says.{carried, key_of};
+ghost use Rattle.mip_packets.specs.Says.{carried, key_of};
 ghost use Rattle.mip_entries.specs.declared.entry.Entry.{Entry};
 ghost use Rattle.mip_provenance.specs.Entries.{packet_told, packet_in};
 ghost use Rattle.mip_provenance.specs.Sights.{sight, sights, token_in, token_at};
@@ -11,7 +11,7 @@ ghost use Rattle.mip_provenance.specs.Seen.{post_of};
 use crate::maker::Maker;
 use crate::post::Post;
 use mip_entries::Entry;
-use mip_inspection::{Carried, UpdateIdentity, carried_in};
+use mip_packets::{Carried, UpdateIdentity, carried_in};
 use mip_words::Token;
 
 /// The packet with this number, where an entry posts it.

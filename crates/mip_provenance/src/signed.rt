@@ -5,7 +5,7 @@ ghost use Rattle.mip_provenance.specs.Keys.{kbm_of_tokens};
 ghost use Rattle.mip_provenance.specs.Seen.{pair_of, gives_it};
 
 use crate::pair::Pair;
-use mip_inspection::UpdateIdentity;
+use mip_packets::UpdateIdentity;
 use mip_tokens::{Kbm, PreparedKbm, authenticator};
 use mip_words::{Address, Token};
 

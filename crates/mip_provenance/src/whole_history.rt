@@ -1,5 +1,5 @@
 ghost use Rattle.std.specs.Prelude.{◌≡◌, ℕ, List, take, IsSome, IfSome, option_map};
-ghost use Rattle.mip_inspection.specs.Says.{key_of};
+ghost use Rattle.mip_packets.specs.Says.{key_of};
 ghost use Rattle.mip_entries.specs.declared.entry.Entry.{Entry};
 ghost use Rattle.mip_provenance.specs.Entries.{claims, declared_in, accepted_at};
 ghost use Rattle.mip_provenance.specs.Sights.{sights};
@@ -17,7 +17,7 @@ use crate::pairs::pair;
 use crate::posts::{key, post};
 use crate::signed::Signed;
 use mip_entries::{Entry, History};
-use mip_inspection::UpdateIdentity;
+use mip_packets::UpdateIdentity;
 use mip_words::{Address, NodeId};
 
 /// The judgement of an acceptance by a whole history.

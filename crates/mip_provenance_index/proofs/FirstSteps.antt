@@ -5,8 +5,8 @@ use Rattle.std.specs.List.{list_any, cons_option}
 use Rattle.std.specs.Option.{option_and_then, option_map_or}
 use Rattle.std.proofs.lemmas.List.{take-append-le}
 use Rattle.std.proofs.lemmas.Bool.{eq-eqb, le-ltb, and_right, cases_lt, false≢true}
-use Rattle.mip_inspection.specs.Says.{Carried, UpdateIdentity}
-use Rattle.mip_inspection.specs.Says.Carried.{Test, Update, Other}
+use Rattle.mip_packets.specs.Says.{Carried, UpdateIdentity}
+use Rattle.mip_packets.specs.Says.Carried.{Test, Update, Other}
 use Rattle.mip_provenance.specs.declared.maker.Maker.{Maker}
 use Rattle.mip_provenance.specs.declared.maker.Maker.TheVariants.{Node, Outsider}
 use Rattle.mip_provenance.specs.Lists.{first_some, until, lesser}

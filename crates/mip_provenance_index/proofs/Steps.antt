@@ -11,7 +11,7 @@ use Rattle.std.proofs.lemmas.List.Sums.{fold-append}
 use Rattle.std.proofs.lemmas.Slice.Eq.{bytes_eq-Decides}
 use Rattle.std.proofs.lemmas.Bool.{eqb-true}
 use Rattle.mip_words.specs.declared.token.Token.{Token}
-use Rattle.mip_inspection.specs.Says.Carried.{Test}
+use Rattle.mip_packets.specs.Says.Carried.{Test}
 use Rattle.mip_provenance.specs.Lists.{first_some, along}
 use Rattle.mip_provenance.specs.Sights.{Sight, token_in}
 use Rattle.mip_provenance.specs.Sights.Sight.{Sent, Injected, Heard}

@@ -4,7 +4,7 @@ use Rattle.std.specs.Prelude.{map, Option, Some, None}
 use Rattle.std.specs.Option.{option_or, option_and_then}
 use Rattle.std.proofs.lemmas.List.{append_assoc}
 use Rattle.mip_lists.specs.EachAfter.{EachAfter}
-use Rattle.mip_inspection.specs.Says.{carried}
+use Rattle.mip_packets.specs.Says.{carried}
 use Rattle.mip_entries.specs.declared.entry.Entry.{Entry}
 use Rattle.mip_entries.specs.declared.entry.Entry.TheVariants as entries
 use Rattle.mip_provenance.specs.Lists.{first_some, along}

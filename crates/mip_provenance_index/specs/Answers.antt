@@ -2,7 +2,7 @@
 use Rattle.std.specs.Prelude.{ℕ, List, take, Bool, ◌||◌, false, if◌then◌else◌, Option, Some, None, option_map}
 use Rattle.std.specs.Option.{option_and_then, option_map_or}
 use Rattle.mip_words.specs.declared.address.Address.{Address}
-use Rattle.mip_inspection.specs.Says.{UpdateIdentity, carried}
+use Rattle.mip_packets.specs.Says.{UpdateIdentity, carried}
 use Rattle.mip_provenance.specs.declared.accepted_update.AcceptedUpdate.{AcceptedUpdate}
 use Rattle.mip_provenance.specs.declared.maker.Maker.{Maker}
 use Rattle.mip_provenance.specs.declared.maker.Maker.TheVariants.{Node, Outsider}

@@ -6,7 +6,7 @@ use Rattle.std.specs.BTreeMap.{get}
 use Rattle.std.specs.declared.alloc.Global.{Global}
 use Rattle.std.specs.declared.vec.Vec.{Vec}
 use Rattle.std.specs.declared.cmp.Ordering.{Ordering}
-use Rattle.mip_inspection.specs.Says.{UpdateIdentity}
+use Rattle.mip_packets.specs.Says.{UpdateIdentity}
 use Rattle.mip_provenance_index.specs.declared.firsts.Firsts.{Firsts}
 use Rattle.mip_provenance_index.specs.declared.first.First.{First}
 

@@ -3,7 +3,7 @@ use Rattle.std.specs.Prelude.{ℕ, List, Bool, true, false, not, ◌||◌, if◌
 use Rattle.std.specs.Str.{bytes_eq}
 use Rattle.std.specs.Ordering.{nat_cmp}
 use Rattle.std.specs.BTreeMap.{get}
-use Rattle.mip_inspection.specs.Says.Carried.{Test}
+use Rattle.mip_packets.specs.Says.Carried.{Test}
 use Rattle.mip_provenance.specs.Sights.{Sight}
 use Rattle.mip_provenance.specs.Sights.Sight.{Sent}
 use Rattle.mip_provenance.specs.Names.{Name, Naming, same_name}

@@ -1,7 +1,7 @@
 -- The sights of a history that goes on: each entry with those before it.
 use Rattle.std.specs.Prelude.{ℕ, List, [], Bool, true, false, Option, Some, None, option_map}
 use Rattle.std.specs.Option.{option_and_then}
-use Rattle.mip_inspection.specs.Says.{carried, carried_of}
+use Rattle.mip_packets.specs.Says.{carried, carried_of}
 use Rattle.mip_entries.specs.declared.entry.Entry.{Entry}
 use Rattle.mip_entries.specs.declared.entry.Entry.TheVariants as entries
 use Rattle.mip_provenance.specs.Lists.{along}

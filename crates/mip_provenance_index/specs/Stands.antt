@@ -2,7 +2,7 @@
 use Rattle.std.specs.Prelude.{◌≡◌, ℕ, suc, ◌≤◌, List, [], ◌∷◌, length, take, Bool, false, Option, Some, None, ⊤}
 use Rattle.std.specs.List.{list_any, filter_map, find}
 use Rattle.std.specs.Str.{bytes_eq}
-use Rattle.mip_inspection.specs.Says.{UpdateIdentity}
+use Rattle.mip_packets.specs.Says.{UpdateIdentity}
 use Rattle.mip_entries.specs.declared.entry.Entry.{Entry}
 use Rattle.mip_entries.specs.declared.entry.Entry.TheVariants as entries
 use Rattle.mip_provenance.specs.Lists.{first_some, until}

@@ -2,8 +2,8 @@
 use Rattle.std.specs.Prelude.{◌≡◌, ℕ, ◌==◌, if◌then◌else◌, Option, Some, None, unwrap_or}
 use Rattle.std.specs.Ordering.{nat_cmp}
 use Rattle.std.specs.BTreeMap.{get}
-use Rattle.mip_inspection.specs.Says.{UpdateIdentity, key_of}
-use Rattle.mip_inspection.specs.Says.Carried.{Update}
+use Rattle.mip_packets.specs.Says.{UpdateIdentity, key_of}
+use Rattle.mip_packets.specs.Says.Carried.{Update}
 use Rattle.mip_provenance.specs.declared.maker.Maker.{Maker}
 use Rattle.mip_provenance.specs.declared.maker.Maker.TheVariants.{Node, Outsider}
 use Rattle.mip_provenance.specs.Sights.{Sight}

@@ -8,7 +8,7 @@ ghost use Rattle.mip_provenance_index.specs.Early.{is_used, early_known};
 use crate::heard::Heard;
 use crate::sight::Sight;
 use crate::token_number::token_number;
-use mip_inspection::Carried;
+use mip_packets::Carried;
 use mip_words::{Memory, Token};
 use std::alloc::Global;
 use std::collections::BTreeSet;

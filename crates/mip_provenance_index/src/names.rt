@@ -1,6 +1,6 @@
 ghost use Rattle.std.specs.Prelude.{◌≡◌, List, ℕ, OnOk, None, Some, option_map, if◌then◌else◌};
 ghost use Rattle.std.specs.Str.{bytes_eq};
-ghost use Rattle.mip_inspection.specs.Says.{carried_of};
+ghost use Rattle.mip_packets.specs.Says.{carried_of};
 ghost use Rattle.mip_provenance.specs.Sights.Sight.{Sent};
 ghost use Rattle.mip_provenance.specs.Seen.{name_of, naming_of};
 ghost use Rattle.mip_provenance_index.specs.Sights.{sight_of};
@@ -11,7 +11,7 @@ use crate::named::Named;
 use crate::nodes::Nodes;
 use crate::sight::Sight;
 use crate::token_number::token_number;
-use mip_inspection::Carried;
+use mip_packets::Carried;
 use mip_provenance::{Claim, Name, Naming};
 use mip_words::{Memory, NodeId, Token};
 use std::alloc::Global;

@@ -1,4 +1,4 @@
-use mip_inspection::UpdateIdentity;
+use mip_packets::UpdateIdentity;
 use mip_provenance::Maker;
 
 /// A packet with an update, and who posts it.

@@ -1,6 +1,6 @@
 ghost use Rattle.std.specs.Prelude.{◌≡◌, ◌∷◌, ◌++◌, [], List, Some, IfOk, OnOk, option_map};
 ghost use Rattle.std.specs.Option.{option_and_then};
-ghost use Rattle.mip_inspection.specs.Says.{carried, key_of};
+ghost use Rattle.mip_packets.specs.Says.{carried, key_of};
 ghost use Rattle.mip_entries.specs.declared.entry.Entry.{Entry};
 ghost use Rattle.mip_provenance.specs.Entries.{packet_in, declared_in};
 ghost use Rattle.mip_provenance.specs.Marks.{mark_of, mark_in};
@@ -22,7 +22,7 @@ use crate::nodes::Nodes;
 use crate::seeing::{is_mute, sight, token_sighted};
 use crate::updates::Updates;
 use mip_entries::Entry;
-use mip_inspection::UpdateIdentity;
+use mip_packets::UpdateIdentity;
 use mip_provenance::{AcceptedUpdate, Claim, Maker, Mark, Pair, Signed, key_said};
 use mip_words::{Address, Memory, NodeId, Token};
 use std::alloc::Global;

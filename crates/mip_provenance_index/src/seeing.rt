@@ -1,12 +1,12 @@
 ghost use Rattle.std.specs.Prelude.{◌≡◌, option_map};
-ghost use Rattle.mip_inspection.specs.Says.{carried_of};
+ghost use Rattle.mip_packets.specs.Says.{carried_of};
 ghost use Rattle.mip_provenance.specs.Sights.{token_in};
 ghost use Rattle.mip_provenance.specs.Sights.Sight.{Made};
 ghost use Rattle.mip_provenance_index.specs.Sights.{sight_of, token_sighted, glimpse, is_mute};
 
 use crate::sight::Sight;
 use mip_entries::Entry;
-use mip_inspection::{Carried, carried_in};
+use mip_packets::{Carried, carried_in};
 use mip_words::{NodeId, Token};
 
 /// The token of what a packet says, where that is a test.

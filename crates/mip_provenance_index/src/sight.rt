@@ -1,4 +1,4 @@
-use mip_inspection::Carried;
+use mip_packets::Carried;
 use mip_words::{NodeId, Token};
 
 /// What an entry tells of tokens and updates.

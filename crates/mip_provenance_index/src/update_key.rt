@@ -1,8 +1,8 @@
 ghost use Rattle.std.specs.Prelude.{◌≡◌, IfOk};
-ghost use Rattle.mip_inspection.specs.Says.{key_of};
+ghost use Rattle.mip_packets.specs.Says.{key_of};
 ghost use Rattle.mip_provenance_index.specs.Firsts.{key_named};
 
-use mip_inspection::UpdateIdentity;
+use mip_packets::UpdateIdentity;
 use mip_tokens::covered;
 use mip_words::Memory;
 use std::alloc::Global;

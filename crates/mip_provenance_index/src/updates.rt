@@ -1,5 +1,5 @@
 ghost use Rattle.std.specs.Prelude.{◌≡◌, ◌==◌, ℕ, List, Option, OnOk, IfOk, None, Some, option_map, if◌then◌else◌};
-ghost use Rattle.mip_inspection.specs.Says.{UpdateIdentity, key_of};
+ghost use Rattle.mip_packets.specs.Says.{UpdateIdentity, key_of};
 ghost use Rattle.mip_provenance.specs.Firsts.{same_key};
 ghost use Rattle.mip_provenance_index.specs.Sights.{sight_of};
 ghost use Rattle.mip_provenance_index.specs.Updates.{AreOf, update_at, update_posted, posting_of, chosen, look_step, at_step};
@@ -9,7 +9,7 @@ use crate::firsts::Firsts;
 use crate::posting::Posting;
 use crate::sight::Sight;
 use crate::update_key::update_key;
-use mip_inspection::Carried;
+use mip_packets::Carried;
 use mip_provenance::Maker;
 use mip_words::Memory;
 use std::alloc::Global;

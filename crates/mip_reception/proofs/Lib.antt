@@ -1,3 +1,4 @@
 pub mod Passings
 pub mod Pointers
 pub mod Reasons
+pub mod Updates

@@ -4,3 +4,6 @@ pub mod Replies
 pub mod Passing
 pub mod Pointer
 pub mod Refusing
+pub mod Registrations
+pub mod Statuses
+pub mod Acks

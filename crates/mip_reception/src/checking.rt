@@ -6,7 +6,7 @@ ghost use Rattle.mip_constants.specs.Protocols.{mobility_header};
 ghost use Rattle.mip_words.specs.Steps.{Gives};
 ghost use Rattle.mip_ipv6.specs.Packet.{packet as tree};
 ghost use Rattle.mip_mobhdr.specs.Said.{said};
-ghost use Rattle.mip_inspection.specs.Updates.{IsReadUpdate};
+ghost use Rattle.mip_packets.specs.Updates.{IsReadUpdate};
 ghost use Rattle.mip_reception.specs.Checks.{silent, fault_reply, message_at, is_probe, is_update, with_home, checked};
 
 use crate::address_match::AddressMatch;
@@ -44,7 +44,7 @@ fn fault_reply(place: u32, home: Option<Address>, fault: Fault) -> Reply
 }
 
 /// The mobility message of a packet, none in a packet of another kind.
-#[tactic(auto, unfolding(crate::specs::Checks::message_at), using(mip_inspection::proofs::Updates::read_update))]
+#[tactic(auto, unfolding(crate::specs::Checks::message_at), using(mip_packets::proofs::Updates::read_update))]
 fn message_at<'a>(packet: &PacketRef<'a>) -> Result<Option<Message<'a>>, Refusal>
     requires { packet.now.place < 2 ^ 32 - 1 }
     ensures exact { Gives (option_map said) result (message_at packet.now.place (tree packet.now)) }

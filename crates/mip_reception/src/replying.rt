@@ -3,7 +3,7 @@ ghost use Rattle.mip_words.specs.Numbers.{number_at};
 ghost use Rattle.mip_reception.specs.Replies.{reply_packet};
 
 use crate::reply::Reply;
-use mip_packet_builders::{write_error, write_problem_packet};
+use mip_packets::{write_error, write_problem_packet};
 use mip_words::{Address, Bytes, Memory};
 use std::alloc::Global;
 

@@ -4,9 +4,9 @@ use Rattle.std.specs.Prelude.{◌*◌, ◌^◌, Option, Some, None, option_map, 
 use Rattle.std.proofs.lemmas.List.{append-nil}
 use Rattle.mip_constants.specs.Constants.{initial_dhaad_timeout}
 use Rattle.mip_words.specs.declared.address.Address.{Address}
-use Rattle.mip_transitions.specs.Shows.{ShowsBy}
-use Rattle.mip_transitions.proofs.TransitionLaws.{noted-now, noted-known, noted_all-is}
-use Rattle.mip_transitions.proofs.ShowLaws.{answers-noted}
+use Rattle.mip_entries.specs.Shows.{ShowsBy}
+use Rattle.mip_entries.proofs.TransitionLaws.{noted-now, noted-known, noted_all-is}
+use Rattle.mip_entries.proofs.ShowLaws.{answers-noted}
 use Rattle.mip_discovery.specs.Retries.{DiscoverySeen, retried}
 use Rattle.mip_rules_mobile.specs.declared.attachment.Attachment.{Attachment}
 use Rattle.mip_rules_mobile.specs.declared.attachment.Attachment.TheVariants.{Away}

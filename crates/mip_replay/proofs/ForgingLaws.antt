@@ -4,7 +4,7 @@ use Rattle.std.specs.Prelude.{None, Some, IsTrue, if◌then◌else◌, ◌==◌}
 use Rattle.mip_words.specs.Addresses.{is_routable}
 use Rattle.mip_ipv6.specs.declared.head.Head.{Head}
 use Rattle.mip_ipv6.specs.Packet.{is_plain}
-use Rattle.mip_packet_builders.specs.Packets.{node_head}
+use Rattle.mip_packets.specs.Packets.{node_head}
 use Rattle.mip_history.specs.Outsiders.{Binding, bind_head}
 
 pub bind_plain : (head : Head) (b : Binding) → is_routable b.home.0 ≡ true → head ≡ bind_head b → IsTrue (is_plain head)

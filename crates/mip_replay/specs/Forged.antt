@@ -1,5 +1,5 @@
 -- What outsiders learn from packets, without how it lies in memory.
-use Rattle.mip_inspection.specs.Says.{kind_of}
+use Rattle.mip_packets.specs.Says.{kind_of}
 use Rattle.mip_history.specs.Outsiders as runs
 use Rattle.mip_replay.specs.declared.told.Told.{Told}
 use Rattle.mip_replay.specs.declared.asking.Asking.{Asking}

@@ -2,7 +2,7 @@ ghost use Rattle.std.specs.Prelude.{◌≡◌, option_map};
 ghost use Rattle.mip_history.specs.Outsiders.{asking_in};
 ghost use Rattle.mip_replay.specs.Forged as seen;
 
-use mip_inspection::{TestKind, innermost, message_in};
+use mip_packets::{TestKind, innermost, message_in};
 use mip_mobhdr::Message;
 use mip_words::Cookie;
 

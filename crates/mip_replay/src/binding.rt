@@ -1,19 +1,18 @@
 ghost use Rattle.std.specs.Prelude.{◌≡◌, ◌<◌, ◌≤◌, length, true, IfOk, IfSome, option_map, Some};
 ghost use Rattle.mip_words.specs.Addresses.{is_routable};
-ghost use Rattle.mip_options.specs.declared.indices.Indices.{Indices as IndicesSeen};
+ghost use Rattle.mip_mobhdr.specs.declared.indices.Indices.{Indices as IndicesSeen};
 ghost use Rattle.mip_mobhdr.specs.Said.{said_plain};
 ghost use Rattle.mip_mobhdr.specs.Spelling.{HasNumber};
 ghost use Rattle.mip_rules_mobile.specs.Sendings.{number_option};
-ghost use Rattle.mip_packet_builders.specs.Authenticated.{authenticated_packet};
+ghost use Rattle.mip_packets.specs.Authenticated.{authenticated_packet};
 ghost use Rattle.mip_history.specs.Outsiders.{bind_head, bind_message, bind_packet, unless_same};
 ghost use Rattle.mip_replay.specs.Forged as seen;
 
 use crate::told::Told;
 use mip_constants::protocol::MOBILITY_HEADER;
 use mip_ipv6::Head;
-use mip_mobhdr::Plain;
-use mip_options::{Indices, OptionSet};
-use mip_packet_builders::{node_head, write_authenticated_packet};
+use mip_mobhdr::{Indices, OptionSet, Plain};
+use mip_packets::{node_head, write_authenticated_packet};
 use mip_tokens::{Kbm, PreparedKbm};
 use mip_words::{Address, Bytes, Memory};
 use std::alloc::Global;

@@ -2,7 +2,7 @@
 
 ghost use Rattle.std.specs.Prelude.{◌≡◌, ◌<◌, ◌≤◌, length, true, IfOk, IfSome, OnOk, option_map, Option, Some, ℕ};
 ghost use Rattle.mip_words.specs.Addresses.{is_routable};
-ghost use Rattle.mip_inspection.specs.Says.{kind_of};
+ghost use Rattle.mip_packets.specs.Says.{kind_of};
 ghost use Rattle.mip_history.specs.Setup.{Setup};
 ghost use Rattle.mip_history.specs.Runs.{Run};
 ghost use Rattle.mip_history.specs.Outsiders.{asking_in, injected, injected_if, probe_packet, tell_of, tell_with, test_in, test_packet, update_packet};
@@ -15,8 +15,7 @@ use crate::told::{Told, told_in};
 use mip_engine::Engine;
 use mip_engine::header::{DESTINATION, SOURCE};
 use mip_entries::Entry;
-use mip_inspection::TestKind;
-use mip_packet_builders::{write_careof_init, write_careof_test, write_home_init, write_home_test};
+use mip_packets::{TestKind, write_careof_init, write_careof_test, write_home_init, write_home_test};
 use mip_words::{Address, Bytes, Cookie, LinkId, Memory};
 use std::alloc::Global;
 

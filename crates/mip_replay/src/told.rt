@@ -1,9 +1,9 @@
 ghost use Rattle.std.specs.Prelude.{◌≡◌, option_map};
 ghost use Rattle.mip_history.specs.Outsiders.{told_by};
-ghost use Rattle.mip_inspection.specs.Says.{carried, kind_of};
+ghost use Rattle.mip_packets.specs.Says.{carried, kind_of};
 ghost use Rattle.mip_replay.specs.Forged as seen;
 
-use mip_inspection::{Carried, TestKind, carried_in};
+use mip_packets::{Carried, TestKind, carried_in};
 use mip_words::Token;
 
 /// What a test says: its nonce index and its token.

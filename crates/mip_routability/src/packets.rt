@@ -9,9 +9,8 @@ ghost use Rattle.mip_rules_mobile.specs.Sendings.{number_option, update_bytes, u
 use mip_bulist::Made;
 use mip_constants::MAX_RR_BINDING_LIFETIME;
 use mip_constants::protocol::MOBILITY_HEADER;
-use mip_mobhdr::Plain;
-use mip_options::OptionSet;
-use mip_packet_builders::{NO_OPTIONS, node_head, straight, write_authenticated_packet};
+use mip_mobhdr::{OptionSet, Plain};
+use mip_packets::{NO_OPTIONS, node_head, straight, write_authenticated_packet};
 use mip_tokens::PreparedKbm;
 use mip_words::{Address, Bytes, Memory};
 use std::alloc::Global;

@@ -16,7 +16,7 @@ use crate::packets::write_update;
 use mip_bulist::{Aim, Any, Made, Refused};
 use mip_call_context::{CallContext, ask_home, doubled};
 use mip_constants::{INITIAL_BINDACK_TIMEOUT, MAX_BINDACK_TIMEOUT};
-use mip_packet_builders::write_careof_init;
+use mip_packets::write_careof_init;
 use mip_rules_mobile::Attachment;
 use mip_words::{Address, Cookie, Memory};
 use std::alloc::Global;

@@ -7,7 +7,7 @@ use Rattle.mip_mobhdr.specs.Said as mobility
 use Rattle.mip_icmp.specs.Reading.{icmp_of}
 use Rattle.mip_icmp.specs.Said as icmp
 use Rattle.mip_icmp.specs.declared.fault.IcmpFault.{IcmpFault}
-use Rattle.mip_inspection.specs.Says.{message_in}
+use Rattle.mip_packets.specs.Says.{message_in}
 use Rattle.mip_explain.specs.Words.{message_word}
 
 -- of a mobility message: its word, or `bad` where it is refused. RFC 6275 section 6.1

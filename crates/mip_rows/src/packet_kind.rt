@@ -3,13 +3,13 @@
 ghost use Rattle.std.specs.Prelude.{◌≡◌, ◌≤◌, length};
 ghost use Rattle.mip_ipv6.specs.Packet.{packet as tree};
 ghost use Rattle.mip_icmp.specs.Reading.{icmp_of};
-ghost use Rattle.mip_inspection.specs.Says.{message_in as message_of};
+ghost use Rattle.mip_packets.specs.Says.{message_in as message_of};
 ghost use Rattle.mip_rows.specs.PacketKinds.{mobility_kind, icmp_kind, body_kind, kind_of};
 
 use mip_constants::protocol::{ICMPV6, IPV6, MOBILITY_HEADER, NO_NEXT_HEADER};
 use mip_explain::message_word;
 use mip_icmp::read_icmp;
-use mip_inspection::message_in;
+use mip_packets::message_in;
 use mip_ipv6::{PacketRef, read_packet};
 use mip_words::Address;
 

@@ -2,7 +2,7 @@
 use Rattle.std.proofs.Common.{ℕ, List}
 use Rattle.mip_words.specs.declared.address.Address.{Address}
 use Rattle.mip_entries.specs.Stamped.{Stamped}
-use Rattle.mip_transitions.proofs.TransitionLaws.{stands-noted, stands-begun}
+use Rattle.mip_entries.proofs.TransitionLaws.{stands-noted, stands-begun}
 use Rattle.mip_rules_agent.specs.declared.identity.Identity.{Identity}
 use Rattle.mip_rules_agent.specs.Known.{Known}
 use Rattle.mip_rules_agent.specs.Calls.{Call}

@@ -9,8 +9,8 @@ use Rattle.mip_words.specs.declared.shield.Shield.{Shield}
 use Rattle.mip_lists.specs.Last.{or_else, last_where}
 use Rattle.mip_lists.proofs.LastLaws.{last_where-push, last_where-none}
 use Rattle.mip_outside.specs.declared.claim.Claim.{Claim}
-use Rattle.mip_transitions.proofs.TransitionLaws.{noted-known, noted-steps, none-noted, none-parts}
-use Rattle.mip_updates.specs.Registrations.{home_of, registered_of}
+use Rattle.mip_entries.proofs.TransitionLaws.{noted-known, noted-steps, none-noted, none-parts}
+use Rattle.mip_reception.specs.Registrations.{home_of, registered_of}
 use Rattle.mip_rules_agent.specs.declared.home_binding.HomeBinding.{HomeBinding}
 use Rattle.mip_rules_agent.specs.declared.home_row.HomeRow.{HomeRow}
 use Rattle.mip_rules_agent.specs.declared.served.Served.{Served}

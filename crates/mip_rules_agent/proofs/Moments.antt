@@ -1,7 +1,7 @@
 -- The last moment that a call leaves known is its own.
 use Rattle.std.proofs.Common.{◌≡◌, ℕ, false, ap, ◌∙◌}
 use Rattle.std.specs.Prelude.{if◌then◌else◌, Bool}
-use Rattle.mip_transitions.proofs.TransitionLaws.{noted-now, noted-known}
+use Rattle.mip_entries.proofs.TransitionLaws.{noted-now, noted-known}
 use Rattle.mip_rules_agent.specs.declared.identity.Identity.{Identity}
 use Rattle.mip_rules_agent.specs.Known.{Known}
 use Rattle.mip_rules_agent.specs.Calls.{Call}

@@ -13,7 +13,7 @@ use Rattle.mip_discovery.specs.Heard.{Heard}
 use Rattle.mip_discovery.specs.Listed.{AgentsSeen, StandsFor, listed}
 use Rattle.mip_discovery.proofs.ViewLaws.{stands_on}
 use Rattle.mip_entries.specs.Stamped.{Stamped}
-use Rattle.mip_transitions.specs.Transitions.{StandsBy}
+use Rattle.mip_entries.specs.Transitions.{StandsBy}
 use Rattle.mip_rules_agent.specs.declared.home_binding.HomeBinding.{HomeBinding}
 use Rattle.mip_rules_agent.specs.declared.served.Served.{Served}
 use Rattle.mip_rules_agent.specs.Known.{Known}

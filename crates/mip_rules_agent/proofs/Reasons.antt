@@ -7,8 +7,8 @@ use Rattle.mip_words.specs.declared.shield.Shield.{Shield}
 use Rattle.mip_outside.specs.declared.claim.Claim.{Claim}
 use Rattle.mip_outside.specs.Places.{is_held}
 use Rattle.mip_entries.specs.Reasons.{is_dropped_why}
-use Rattle.mip_updates.specs.declared.registration.Registration.{Registration}
-use Rattle.mip_updates.specs.Registrations.{home_of, deletes}
+use Rattle.mip_reception.specs.declared.registration.Registration.{Registration}
+use Rattle.mip_reception.specs.Registrations.{home_of, deletes}
 use Rattle.mip_rules_agent.specs.declared.bench.Bench.{Bench}
 use Rattle.mip_rules_agent.specs.declared.home_verdict.HomeVerdict.{HomeVerdict}
 use Rattle.mip_rules_agent.specs.declared.home_verdict.HomeVerdict.TheVariants.{Refuse, Deny, Accept}

@@ -7,7 +7,7 @@ use Rattle.mip_words.specs.declared.shield.Shield.{Shield}
 use Rattle.mip_outside.specs.declared.claim.Claim.{Claim}
 use Rattle.mip_discovery.specs.declared.plan.PrefixPlan.{PrefixPlan}
 use Rattle.mip_discovery.specs.Listed.{AgentsSeen}
-use Rattle.mip_transitions.proofs.TransitionLaws.{noted-known}
+use Rattle.mip_entries.proofs.TransitionLaws.{noted-known}
 use Rattle.mip_rules_agent.specs.declared.identity.Identity.{Identity}
 use Rattle.mip_rules_agent.specs.Known.{Known}
 use Rattle.mip_rules_agent.specs.Calls as calls

@@ -9,9 +9,9 @@ use Rattle.mip_words.specs.declared.why.Why.TheVariants as whys
 use Rattle.mip_ipv6.specs.declared.not_packet.NotPacket.{NotPacket}
 use Rattle.mip_ipv6.specs.Packet.{Packet}
 use Rattle.mip_ipv6.specs.Reading.{packet_of}
-use Rattle.mip_tunnel.specs.Tunnel.{hop_of, encapsulated}
+use Rattle.mip_ipv6.specs.Tunnel.{hop_of, encapsulated}
 use Rattle.mip_outside.specs.declared.claim.Claim.{Claim}
-use Rattle.mip_transitions.proofs.TransitionLaws.{noted-now, noted-known}
+use Rattle.mip_entries.proofs.TransitionLaws.{noted-now, noted-known}
 use Rattle.mip_rules_agent.specs.declared.identity.Identity.{Identity}
 use Rattle.mip_rules_agent.specs.Known.{Known}
 use Rattle.mip_rules_agent.specs.Calls.{Call, Take}

@@ -1,7 +1,7 @@
 -- Whatever a call sends is a packet that a home agent sends.
 use Rattle.std.proofs.Common.{ℕ, List, [], ◌∷◌, ◌++◌, sym, subst}
 use Rattle.std.specs.List.{AllByRecursion}
-use Rattle.mip_transitions.proofs.TransitionLaws.{noted-steps}
+use Rattle.mip_entries.proofs.TransitionLaws.{noted-steps}
 use Rattle.mip_rules_agent.specs.declared.identity.Identity.{Identity}
 use Rattle.mip_rules_agent.specs.Known.{Known}
 use Rattle.mip_rules_agent.specs.Calls.{Call, bytes_of}

@@ -14,25 +14,25 @@ use Rattle.mip_ipv6.specs.Reading.{packet_of}
 use Rattle.mip_icmp.specs.declared.fault.IcmpFault.{IcmpFault}
 use Rattle.mip_icmp.specs.Said as icmp
 use Rattle.mip_icmp.specs.Reading.{icmp_of}
-use Rattle.mip_options.specs.Values.{Values}
+use Rattle.mip_mobhdr.specs.OptionValues.{Values}
 use Rattle.mip_mobhdr.specs.declared.fault.Fault.{Fault}
 use Rattle.mip_mobhdr.specs.Said.{Said}
 use Rattle.mip_mobhdr.specs.Said.Said.{Update}
 use Rattle.mip_mobhdr.specs.Reading.{type_in, options_in, refresh_of, home_init_of, careof_init_of, home_test_of, careof_test_of, update_of, acknowledgement_of, error_of, fields_of, message_of}
-use Rattle.mip_packet_round_trip.proofs.Messages.{message_reads}
-use Rattle.mip_tunnel.specs.Tunnel.{hop_of}
+use Rattle.mip_packets.proofs.WrittenMessages.{message_reads}
+use Rattle.mip_ipv6.specs.Tunnel.{hop_of}
 use Rattle.mip_outside.specs.declared.claim.Claim.{Claim}
 use Rattle.mip_entries.specs.Stamped.{stamped}
-use Rattle.mip_transitions.specs.Transitions.{known_by}
-use Rattle.mip_transitions.proofs.TransitionLaws.{noted_all, noted_all-is}
+use Rattle.mip_entries.specs.Transitions.{known_by}
+use Rattle.mip_entries.proofs.TransitionLaws.{noted_all, noted_all-is}
 use Rattle.mip_reception.specs.declared.refusal.Refusal.{Refusal}
 use Rattle.mip_reception.specs.declared.address_match.AddressMatch.{AddressMatch}
 use Rattle.mip_reception.specs.Checks.{message_or_refusal, message_at, then_home, is_probe, is_update, checked}
 use Rattle.mip_reception.specs.Replies.{reply_packet}
-use Rattle.mip_updates.specs.declared.registration.Registration.{Registration}
-use Rattle.mip_updates.specs.Registrations.{registration, registration_said, home_of, deletes}
-use Rattle.mip_updates.specs.Acks.{ack_packet}
-use Rattle.mip_updates.specs.Statuses as statuses
+use Rattle.mip_reception.specs.declared.registration.Registration.{Registration}
+use Rattle.mip_reception.specs.Registrations.{registration, registration_said, home_of, deletes}
+use Rattle.mip_reception.specs.Acks.{ack_packet}
+use Rattle.mip_reception.specs.Statuses as statuses
 use Rattle.mip_rules_agent.specs.declared.identity.Identity.{Identity}
 use Rattle.mip_rules_agent.specs.declared.home_verdict.HomeVerdict.{HomeVerdict}
 use Rattle.mip_rules_agent.specs.declared.home_verdict.HomeVerdict.TheVariants.{Refuse, Deny, Accept}

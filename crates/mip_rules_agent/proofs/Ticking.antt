@@ -4,7 +4,7 @@ use Rattle.std.specs.Prelude.{not, map, filter, Option, Some, None}
 use Rattle.std.specs.List.{cons_option}
 use Rattle.std.proofs.lemmas.List.{append_assoc, append-nil}
 use Rattle.mip_words.specs.declared.address.Address.{Address}
-use Rattle.mip_transitions.proofs.TransitionLaws.{noted-now, noted-known, noted-steps}
+use Rattle.mip_entries.proofs.TransitionLaws.{noted-now, noted-known, noted-steps}
 use Rattle.mip_rules_agent.specs.declared.identity.Identity.{Identity}
 use Rattle.mip_rules_agent.specs.declared.ending.Ending.{Ending}
 use Rattle.mip_rules_agent.specs.Known.{Known}

@@ -16,15 +16,15 @@ use Rattle.mip_icmp.specs.Said as icmp
 use Rattle.mip_icmp.specs.Reading.{icmp_of}
 use Rattle.mip_mobhdr.specs.Said.{Said}
 use Rattle.mip_mobhdr.specs.Said.Said.{Update}
-use Rattle.mip_tunnel.specs.Tunnel.{hop_of}
+use Rattle.mip_ipv6.specs.Tunnel.{hop_of}
 use Rattle.mip_discovery.specs.Heard.{live}
 use Rattle.mip_reception.specs.declared.refusal.Refusal.{Refusal}
 use Rattle.mip_reception.specs.Checks.{checked}
 use Rattle.mip_reception.specs.Replies.{reply_packet}
 use Rattle.mip_reception.specs.Words.{packet_why}
 use Rattle.mip_reception.proofs.Reasons.{RefusesRight as Refuses, packet_why-dropped, checked-right}
-use Rattle.mip_updates.specs.declared.registration.Registration.{Registration}
-use Rattle.mip_updates.specs.Registrations.{registration, home_of, deletes}
+use Rattle.mip_reception.specs.declared.registration.Registration.{Registration}
+use Rattle.mip_reception.specs.Registrations.{registration, home_of, deletes}
 use Rattle.mip_rules_agent.specs.declared.identity.Identity.{Identity}
 use Rattle.mip_rules_agent.specs.declared.home_row.HomeRow.{HomeRow}
 use Rattle.mip_rules_agent.specs.declared.home_verdict.HomeVerdict.{HomeVerdict}

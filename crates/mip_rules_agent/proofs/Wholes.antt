@@ -4,15 +4,15 @@ use Rattle.std.specs.Prelude.{Option, None, IfSome}
 use Rattle.mip_words.specs.declared.address.Address.{Address}
 use Rattle.mip_words.specs.declared.shield.Shield.{Shield}
 use Rattle.mip_ipv6.proofs.Packets.{read_stands}
-use Rattle.mip_tunnel.specs.Tunnel.{encapsulated}
-use Rattle.mip_packet_builders.proofs.Longs.{IsLong, packet-long, data-long, message-long, problem-long}
+use Rattle.mip_ipv6.specs.Tunnel.{encapsulated}
+use Rattle.mip_packets.proofs.Longs.{IsLong, packet-long, data-long, message-long, problem-long}
 use Rattle.mip_discovery.specs.declared.agent.Agent.{Agent}
 use Rattle.mip_discovery.specs.Reply.{discovery_reply}
 use Rattle.mip_reception.specs.declared.reply.Reply.{Reply}
 use Rattle.mip_reception.specs.declared.reply.Reply.TheVariants.{Nothing, BindingError, ParameterProblem}
 use Rattle.mip_reception.specs.Replies.{reply_packet}
-use Rattle.mip_updates.specs.declared.registration.Registration.{Registration}
-use Rattle.mip_updates.specs.Acks.{ack_packet}
+use Rattle.mip_reception.specs.declared.registration.Registration.{Registration}
+use Rattle.mip_reception.specs.Acks.{ack_packet}
 use Rattle.mip_rules_agent.specs.declared.identity.Identity.{Identity}
 use Rattle.mip_rules_agent.specs.Messages.{prefix_packet}
 use Rattle.mip_rules_agent.specs.Sendings.{Sending, SendsInto, SendsOut, SendsAck, SendsReply, SendsAgents, SendsPrefix, IsPacketOf}

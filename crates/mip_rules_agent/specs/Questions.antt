@@ -9,7 +9,7 @@ use Rattle.mip_discovery.specs.Heard as heard
 use Rattle.mip_discovery.specs.Listed.{AgentsSeen}
 use Rattle.mip_discovery.specs.Plan.{left_of}
 use Rattle.mip_entries.specs.Stamped.{Stamped}
-use Rattle.mip_transitions.specs.Transitions.{known_by}
+use Rattle.mip_entries.specs.Transitions.{known_by}
 use Rattle.mip_rules_agent.specs.declared.home_binding.HomeBinding.{HomeBinding}
 use Rattle.mip_rules_agent.specs.declared.home_row.HomeRow.{HomeRow}
 use Rattle.mip_rules_agent.specs.declared.served.Served.{Served}

@@ -4,8 +4,8 @@ use Rattle.mip_constants.specs.Protocols.{mobility_header}
 use Rattle.mip_words.specs.declared.address.Address.{Address}
 use Rattle.mip_words.specs.declared.shield.Shield.{Shield}
 use Rattle.mip_ipv6.specs.Packet.{Packet}
-use Rattle.mip_tunnel.specs.Tunnel.{encapsulated}
-use Rattle.mip_updates.specs.Registrations.{home_of}
+use Rattle.mip_ipv6.specs.Tunnel.{encapsulated}
+use Rattle.mip_reception.specs.Registrations.{home_of}
 use Rattle.mip_entries.specs.Reasons.{is_dropped_why}
 use Rattle.mip_rules_agent.specs.declared.identity.Identity.{Identity}
 use Rattle.mip_rules_agent.specs.Known.{Known}

@@ -15,7 +15,7 @@ use Rattle.mip_icmp.specs.Said as icmp
 use Rattle.mip_icmp.specs.Reading.{icmp_of}
 use Rattle.mip_mobhdr.specs.Said.{Said}
 use Rattle.mip_mobhdr.specs.Said.Said.{Update}
-use Rattle.mip_tunnel.specs.Tunnel.{hop_of, encapsulated}
+use Rattle.mip_ipv6.specs.Tunnel.{hop_of, encapsulated}
 use Rattle.mip_outside.specs.declared.claim.Claim.{Claim}
 use Rattle.mip_outside.specs.declared.claim.Claim.TheVariants.{Held}
 use Rattle.mip_discovery.specs.Heard.{live}
@@ -25,10 +25,10 @@ use Rattle.mip_reception.specs.declared.address_match.AddressMatch.{AddressMatch
 use Rattle.mip_reception.specs.Words.{packet_why}
 use Rattle.mip_reception.specs.Checks.{checked}
 use Rattle.mip_reception.specs.Replies.{reply_packet}
-use Rattle.mip_updates.specs.declared.registration.Registration.{Registration}
-use Rattle.mip_updates.specs.Registrations.{registration, home_of, deletes}
-use Rattle.mip_updates.specs.Acks.{ack_packet}
-use Rattle.mip_updates.specs.Statuses as statuses
+use Rattle.mip_reception.specs.declared.registration.Registration.{Registration}
+use Rattle.mip_reception.specs.Registrations.{registration, home_of, deletes}
+use Rattle.mip_reception.specs.Acks.{ack_packet}
+use Rattle.mip_reception.specs.Statuses as statuses
 use Rattle.mip_rules_agent.specs.declared.bench.Bench.{Bench}
 use Rattle.mip_rules_agent.specs.declared.identity.Identity.{Identity}
 use Rattle.mip_rules_agent.specs.declared.home_binding.HomeBinding.{HomeBinding}

@@ -3,7 +3,7 @@ use Rattle.std.specs.Prelude.{ℕ, List, Some, None}
 use Rattle.std.specs.List.{AllByRecursion}
 use Rattle.mip_entries.specs.declared.answer.Answer.{Answer}
 use Rattle.mip_entries.specs.declared.answer.Answer.TheVariants.{Send, Note}
-use Rattle.mip_updates.specs.declared.registration.Registration.{Registration}
+use Rattle.mip_reception.specs.declared.registration.Registration.{Registration}
 use Rattle.mip_rules_agent.specs.Taken.{IsUpdateIn}
 
 -- a packet has no update

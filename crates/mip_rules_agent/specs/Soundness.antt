@@ -6,8 +6,8 @@ use Rattle.mip_words.specs.declared.address.Address.{Address}
 use Rattle.mip_words.specs.declared.shield.Shield.{Shield}
 use Rattle.mip_outside.specs.declared.claim.Claim.{Claim}
 use Rattle.mip_outside.specs.Places.{is_held}
-use Rattle.mip_updates.specs.declared.registration.Registration.{Registration}
-use Rattle.mip_updates.specs.Registrations.{home_of, deletes, registered_of}
+use Rattle.mip_reception.specs.declared.registration.Registration.{Registration}
+use Rattle.mip_reception.specs.Registrations.{home_of, deletes, registered_of}
 use Rattle.mip_rules_agent.specs.declared.bench.Bench.{Bench}
 use Rattle.mip_rules_agent.specs.Verdicts.{is_near, granted_of, is_away}
 

@@ -8,7 +8,7 @@ use Rattle.mip_words.specs.declared.why.Why.{Why}
 use Rattle.mip_entries.specs.declared.answer.Answer.{Answer}
 use Rattle.mip_entries.specs.declared.answer.Answer.TheVariants.{Send, Note}
 use Rattle.mip_entries.specs.declared.entry.Entry.TheVariants as entries
-use Rattle.mip_transitions.specs.Shows.{answers_by}
+use Rattle.mip_entries.specs.Shows.{answers_by}
 use Rattle.mip_rules_agent.specs.declared.home_binding.HomeBinding.{HomeBinding}
 use Rattle.mip_rules_agent.specs.Calls.{Call}
 

@@ -7,8 +7,8 @@ use Rattle.mip_words.specs.declared.shield.Shield.{Shield}
 use Rattle.mip_ipv6.specs.Packet.{Packet}
 use Rattle.mip_ipv6.specs.Reading.{packet_of}
 use Rattle.mip_outside.specs.declared.claim.Claim.{Claim}
-use Rattle.mip_updates.specs.declared.registration.Registration.{Registration}
-use Rattle.mip_updates.specs.Registrations.{registration_in, home_of, registered_of}
+use Rattle.mip_reception.specs.declared.registration.Registration.{Registration}
+use Rattle.mip_reception.specs.Registrations.{registration_in, home_of, registered_of}
 use Rattle.mip_rules_agent.specs.declared.identity.Identity.{Identity}
 use Rattle.mip_rules_agent.specs.declared.home_verdict.HomeVerdict.TheVariants.{Accept}
 use Rattle.mip_rules_agent.specs.Known.{Known}

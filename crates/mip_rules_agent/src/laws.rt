@@ -10,7 +10,7 @@ ghost use Rattle.mip_lists.specs.Last.{last_where};
 ghost use Rattle.mip_outside.specs.declared.claim.Claim.{Claim};
 ghost use Rattle.mip_discovery.specs.Listed.{StandsFor};
 ghost use Rattle.mip_entries.specs.Stamped.{Stamped};
-ghost use Rattle.mip_updates.specs.declared.registration.Registration.{Registration};
+ghost use Rattle.mip_reception.specs.declared.registration.Registration.{Registration};
 ghost use Rattle.mip_rules_agent.specs.declared.bench.Bench.{Bench};
 ghost use Rattle.mip_rules_agent.specs.declared.identity.Identity.{Identity};
 ghost use Rattle.mip_rules_agent.specs.declared.home_binding.HomeBinding.{HomeBinding};

@@ -10,8 +10,8 @@ use Rattle.mip_bcache.specs.declared.row.Row.{Row}
 use Rattle.mip_bcache.specs.Seen.{CacheSeen, StandsFor, standing_at, expired}
 use Rattle.mip_bcache.proofs.Pasts.{HaveUntils, empty_stands, look_answers, holds_answers, floor_answers, room_answers, expire_stands, accept_stands, kept_untils, accept_untils}
 use Rattle.mip_entries.specs.Stamped.{Stamped}
-use Rattle.mip_transitions.specs.Pasts.{RisesFrom, last_at}
-use Rattle.mip_transitions.proofs.PastLaws.{last_early}
+use Rattle.mip_entries.specs.Pasts.{RisesFrom, last_at}
+use Rattle.mip_entries.proofs.PastLaws.{last_early}
 use Rattle.mip_rules_correspondent.specs.declared.known.Known.{Known}
 use Rattle.mip_rules_correspondent.specs.Calls.{is_tick}
 use Rattle.mip_rules_correspondent.specs.Steps.{Step, Called, Sends, Accepts, Denies, Drops, HandsUp, Idles}

@@ -1,7 +1,7 @@
 -- Whoever stands for a past stands, after a call, for the past with it.
 use Rattle.std.proofs.Common.{ℕ, List}
 use Rattle.mip_entries.specs.Stamped.{Stamped}
-use Rattle.mip_transitions.proofs.TransitionLaws.{stands-noted, stands-begun}
+use Rattle.mip_entries.proofs.TransitionLaws.{stands-noted, stands-begun}
 use Rattle.mip_rules_correspondent.specs.declared.identity.Identity.{Identity}
 use Rattle.mip_rules_correspondent.specs.declared.known.Known.{Known}
 use Rattle.mip_rules_correspondent.specs.Calls.{Call}

@@ -2,7 +2,7 @@
 use Rattle.std.proofs.Common.{◌≡◌, ℕ, false, refl, ap, ◌∙◌}
 use Rattle.std.specs.Prelude.{if◌then◌else◌, Bool}
 use Rattle.mip_words.specs.declared.moment.Moment.{Moment}
-use Rattle.mip_transitions.proofs.TransitionLaws.{noted-now, noted-known}
+use Rattle.mip_entries.proofs.TransitionLaws.{noted-now, noted-known}
 use Rattle.mip_rules_correspondent.specs.declared.identity.Identity.{Identity}
 use Rattle.mip_rules_correspondent.specs.declared.known.Known.{Known}
 use Rattle.mip_rules_correspondent.specs.Calls.{Call}

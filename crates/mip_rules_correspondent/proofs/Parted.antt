@@ -10,11 +10,11 @@ use Rattle.mip_mobhdr.specs.declared.fault.Fault.{Fault}
 use Rattle.mip_mobhdr.specs.Said.{Said}
 use Rattle.mip_mobhdr.specs.Said.Said.{HomeInit, CareofInit, Update}
 use Rattle.mip_mobhdr.specs.Reading.{message_of}
-use Rattle.mip_inspection.specs.Says.{message_in}
-use Rattle.mip_transitions.proofs.TransitionLaws.{noted_all, noted_all-is}
-use Rattle.mip_updates.specs.declared.registration.Registration.{Registration}
-use Rattle.mip_updates.specs.Registrations.{registration, registration_said, registration_in}
-use Rattle.mip_updates.specs.Acks.{ack_packet}
+use Rattle.mip_packets.specs.Says.{message_in}
+use Rattle.mip_entries.proofs.TransitionLaws.{noted_all, noted_all-is}
+use Rattle.mip_reception.specs.declared.registration.Registration.{Registration}
+use Rattle.mip_reception.specs.Registrations.{registration, registration_said, registration_in}
+use Rattle.mip_reception.specs.Acks.{ack_packet}
 use Rattle.mip_rules_correspondent.specs.declared.identity.Identity.{Identity}
 use Rattle.mip_rules_correspondent.specs.declared.known.Known.{Known}
 use Rattle.mip_rules_correspondent.specs.declared.verdict.Verdict.{Verdict}

@@ -4,8 +4,8 @@ use Rattle.std.specs.Prelude.{Option, Some, None, unwrap_or, option_map, fold, i
 use Rattle.mip_bcache.specs.Seen.{CacheSeen, expired}
 use Rattle.mip_lists.specs.Last.{or_else, last_where}
 use Rattle.mip_entries.specs.Stamped.{Stamped}
-use Rattle.mip_transitions.specs.Transitions.{StandsBy}
-use Rattle.mip_transitions.proofs.TransitionLaws.{known-push}
+use Rattle.mip_entries.specs.Transitions.{StandsBy}
+use Rattle.mip_entries.proofs.TransitionLaws.{known-push}
 use Rattle.mip_rules_correspondent.specs.declared.known.Known.{Known}
 use Rattle.mip_rules_correspondent.specs.Calls.{is_tick}
 use Rattle.mip_rules_correspondent.specs.Steps.{Step, Called, Accepts, is_call}

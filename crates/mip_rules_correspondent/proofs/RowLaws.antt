@@ -5,11 +5,11 @@ use Rattle.std.specs.Prelude.{Option, Some, None, IsTrue, IsFalse}
 use Rattle.mip_words.specs.Addresses.{is_routable}
 use Rattle.mip_words.specs.Sequence.{is_after}
 use Rattle.mip_words.specs.declared.why.Why.TheVariants as whys
-use Rattle.mip_options.specs.declared.indices.Indices.{Indices}
+use Rattle.mip_mobhdr.specs.declared.indices.Indices.{Indices}
 use Rattle.mip_nonce.specs.Window.{number_named}
 use Rattle.mip_tokens.specs.Token.{is_authentic}
-use Rattle.mip_updates.specs.declared.registration.Registration.{Registration}
-use Rattle.mip_updates.specs.Registrations.{home_of, careof_of, registered_of}
+use Rattle.mip_reception.specs.declared.registration.Registration.{Registration}
+use Rattle.mip_reception.specs.Registrations.{home_of, careof_of, registered_of}
 use Rattle.mip_rules_correspondent.specs.declared.verdict.Verdict.TheVariants.{Refuse, Deny}
 use Rattle.mip_rules_correspondent.specs.Verdicts.{Bench, kbm_of, by_room, by_sequence, by_numbers, by_indices, careof_number, verdict}
 use Rattle.mip_rules_correspondent.specs.Rows.{HasRoutableAddresses, IsComplete, IsAuthorized, IsInSequence, JudgesInOrder}

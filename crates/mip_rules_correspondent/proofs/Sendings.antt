@@ -1,7 +1,7 @@
 -- Whatever a call sends is a packet that a correspondent sends at its moment.
 use Rattle.std.proofs.Common.{◌≡◌, ℕ, List, [], ◌∷◌, ◌++◌, refl, sym, ◌∙◌, subst}
 use Rattle.std.specs.List.{AllByRecursion}
-use Rattle.mip_transitions.proofs.TransitionLaws.{noted-now, noted-steps}
+use Rattle.mip_entries.proofs.TransitionLaws.{noted-now, noted-steps}
 use Rattle.mip_rules_correspondent.specs.declared.identity.Identity.{Identity}
 use Rattle.mip_rules_correspondent.specs.declared.known.Known.{Known}
 use Rattle.mip_rules_correspondent.specs.Calls.{Call}

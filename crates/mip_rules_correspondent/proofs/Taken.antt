@@ -13,8 +13,8 @@ use Rattle.mip_words.specs.declared.why.Why.{Why}
 use Rattle.mip_ipv6.specs.declared.not_packet.NotPacket.{NotPacket}
 use Rattle.mip_ipv6.specs.Packet.{Packet, source_of, destination_of}
 use Rattle.mip_ipv6.specs.Reading.{packet_of}
-use Rattle.mip_options.specs.Values.{Values}
-use Rattle.mip_options.specs.declared.indices.Indices.{Indices}
+use Rattle.mip_mobhdr.specs.OptionValues.{Values}
+use Rattle.mip_mobhdr.specs.declared.indices.Indices.{Indices}
 use Rattle.mip_mobhdr.specs.declared.fault.Fault.{Fault}
 use Rattle.mip_mobhdr.specs.Said.{Said}
 use Rattle.mip_mobhdr.specs.Said.Said.{Refresh, HomeInit, CareofInit, Update}
@@ -23,14 +23,14 @@ use Rattle.mip_nonce.specs.Window.{number_named}
 use Rattle.mip_tokens.specs.Token.{is_authentic}
 use Rattle.mip_tokens.specs.declared.kbm.Kbm.{Kbm}
 use Rattle.mip_bcache.specs.declared.accepted.Accepted.{Accepted}
-use Rattle.mip_transitions.proofs.TransitionLaws.{noted-now, noted_all, noted_all-is, none-noted}
+use Rattle.mip_entries.proofs.TransitionLaws.{noted-now, noted_all, noted_all-is, none-noted}
 use Rattle.mip_reception.specs.declared.refusal.Refusal.{Refusal}
 use Rattle.mip_reception.specs.declared.address_match.AddressMatch.{AddressMatch}
 use Rattle.mip_reception.specs.Checks.{message_or_refusal, message_at, then_home, is_probe, is_update, checked}
 use Rattle.mip_reception.specs.Replies.{reply_packet}
 use Rattle.mip_rules_correspondent.specs.declared.identity.Identity.{Identity}
 use Rattle.mip_rules_correspondent.specs.declared.known.Known.{Known}
-use Rattle.mip_updates.specs.declared.registration.Registration.{Registration}
+use Rattle.mip_reception.specs.declared.registration.Registration.{Registration}
 use Rattle.mip_rules_correspondent.specs.declared.verdict.Verdict.{Verdict}
 use Rattle.mip_rules_correspondent.specs.declared.verdict.Verdict.TheVariants.{Refuse, Deny, Accept}
 use Rattle.mip_rules_correspondent.specs.Calls as calls
@@ -38,9 +38,9 @@ use Rattle.mip_rules_correspondent.specs.Calls.{Call}
 use Rattle.mip_rules_correspondent.specs.Steps.{Step, Called, Sends, Accepts, Drops, is_acceptance}
 use Rattle.mip_rules_correspondent.specs.Questions.{held_of, after}
 use Rattle.mip_rules_correspondent.specs.Transitions.{Transition, begun, noted}
-use Rattle.mip_updates.specs.Registrations.{registration, registration_said, registration_in, home_of, careof_of, registered_of}
+use Rattle.mip_reception.specs.Registrations.{registration, registration_said, registration_in, home_of, careof_of, registered_of}
 use Rattle.mip_rules_correspondent.specs.Verdicts.{Bench, by_room, by_sequence, by_key, kbm_of, by_numbers, careof_number, by_indices, verdict}
-use Rattle.mip_updates.specs.Acks.{ack_packet}
+use Rattle.mip_reception.specs.Acks.{ack_packet}
 use Rattle.mip_rules_correspondent.specs.Rules.{answers_home_init, answers_careof_init, bench, denies, accepts, judged, takes_update, hands_up, by_message, is_for_part, other_why, by_role, replies, refuses, standing_of, after_checks, place_in, receives}
 use Rattle.mip_rules_correspondent.specs.Doing.{takes, request_refresh, refreshes, transmits, does, transition_of}
 use Rattle.mip_rules_correspondent.specs.Refusing.{is_refusal}

@@ -8,7 +8,7 @@ use Rattle.mip_ipv6.specs.Reading.{packet_of}
 use Rattle.mip_ipv6.specs.declared.not_packet.NotPacket.{NotPacket}
 use Rattle.mip_mobhdr.specs.Said.{Said}
 use Rattle.mip_mobhdr.specs.Said.Said.{Refresh, HomeInit, CareofInit, Update}
-use Rattle.mip_inspection.specs.Says.{message_in}
+use Rattle.mip_packets.specs.Says.{message_in}
 use Rattle.mip_reception.specs.declared.refusal.Refusal.{Refusal}
 use Rattle.mip_reception.specs.declared.reply.Reply.{Reply}
 use Rattle.mip_reception.specs.Checks.{checked}
@@ -16,7 +16,7 @@ use Rattle.mip_reception.specs.Replies.{reply_packet}
 use Rattle.mip_reception.specs.Words.{packet_why}
 use Rattle.mip_reception.proofs.Reasons.{RefusesRight as Refuses, packet_why-dropped, checked-right}
 use Rattle.mip_rules_correspondent.specs.declared.identity.Identity.{Identity}
-use Rattle.mip_updates.specs.declared.registration.Registration.{Registration}
+use Rattle.mip_reception.specs.declared.registration.Registration.{Registration}
 use Rattle.mip_rules_correspondent.specs.declared.verdict.Verdict.{Verdict}
 use Rattle.mip_rules_correspondent.specs.declared.verdict.Verdict.TheVariants.{Refuse, Deny, Accept}
 use Rattle.mip_rules_correspondent.specs.Calls as calls
@@ -24,9 +24,9 @@ use Rattle.mip_rules_correspondent.specs.Calls.{Call}
 use Rattle.mip_rules_correspondent.specs.Steps.{Step, Called, Sends, Accepts, Denies, Drops, Idles, is_call}
 use Rattle.mip_rules_correspondent.specs.Questions.{held_of}
 use Rattle.mip_rules_correspondent.specs.Transitions.{Transition, noted}
-use Rattle.mip_updates.specs.Registrations.{registration}
+use Rattle.mip_reception.specs.Registrations.{registration}
 use Rattle.mip_rules_correspondent.specs.Verdicts.{verdict}
-use Rattle.mip_updates.specs.Acks.{ack_packet}
+use Rattle.mip_reception.specs.Acks.{ack_packet}
 use Rattle.mip_rules_correspondent.specs.Rules.{answers_home_init, answers_careof_init, bench, denies, accepts, judged, takes_update, hands_up, by_message, is_for_part, other_why, by_role, replies, refuses, standing_of, after_checks, place_in, receives}
 use Rattle.mip_rules_correspondent.specs.Doing.{takes, parts, request_refresh, refreshes, transmits, handles, does}
 use Rattle.mip_rules_correspondent.proofs.Reasons.{RefusesRight, verdict-right, other_why-dropped}

@@ -3,13 +3,13 @@ use Rattle.std.proofs.Common.{ℕ, List, sym, subst}
 use Rattle.std.specs.Prelude.{Option, Some, None, IfSome}
 use Rattle.mip_words.specs.declared.address.Address.{Address}
 use Rattle.mip_tokens.specs.declared.kbm.Kbm.{Kbm}
-use Rattle.mip_packet_builders.proofs.Longs.{IsLong, data-long, message-long, authenticated-long, problem-long}
+use Rattle.mip_packets.proofs.Longs.{IsLong, data-long, message-long, authenticated-long, problem-long}
 use Rattle.mip_reception.specs.declared.reply.Reply.{Reply}
 use Rattle.mip_reception.specs.declared.reply.Reply.TheVariants.{Nothing, BindingError, ParameterProblem}
 use Rattle.mip_reception.specs.Replies.{reply_packet}
-use Rattle.mip_updates.specs.declared.registration.Registration.{Registration}
+use Rattle.mip_reception.specs.declared.registration.Registration.{Registration}
 use Rattle.mip_rules_correspondent.specs.declared.identity.Identity.{Identity}
-use Rattle.mip_updates.specs.Acks.{ack_packet}
+use Rattle.mip_reception.specs.Acks.{ack_packet}
 use Rattle.mip_rules_correspondent.specs.Calls.{Call}
 use Rattle.mip_rules_correspondent.specs.Sendings.{Sending, SendsHomeTest, SendsCareofTest, SendsAck, SendsReply, SendsRefresh, SendsData, IsPacketOf}
 

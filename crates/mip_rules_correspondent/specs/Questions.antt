@@ -4,7 +4,7 @@ use Rattle.mip_words.specs.declared.address.Address.{Address}
 use Rattle.mip_words.specs.declared.moment.Moment.{Moment}
 use Rattle.mip_bcache.specs.Seen.{CacheSeen, empty_cache, expired, with_acceptance, standing_at, holds_at, floor_at, has_no_room}
 use Rattle.mip_entries.specs.Stamped.{Stamped}
-use Rattle.mip_transitions.specs.Transitions.{known_by}
+use Rattle.mip_entries.specs.Transitions.{known_by}
 use Rattle.mip_rules_correspondent.specs.declared.known.Known.{Known}
 use Rattle.mip_rules_correspondent.specs.Calls.{is_tick}
 use Rattle.mip_rules_correspondent.specs.Steps.{Step, Called, Accepts, is_call}

@@ -3,12 +3,12 @@ use Rattle.std.specs.Prelude.{◌≡◌, ℕ, List, IsTrue, IsFalse, ◌&&◌, O
 use Rattle.mip_words.specs.Addresses.{is_routable}
 use Rattle.mip_words.specs.Sequence.{is_after}
 use Rattle.mip_words.specs.declared.why.Why.TheVariants as whys
-use Rattle.mip_options.specs.declared.indices.Indices.{Indices}
+use Rattle.mip_mobhdr.specs.declared.indices.Indices.{Indices}
 use Rattle.mip_nonce.specs.Window.{number_named}
 use Rattle.mip_tokens.specs.Token.{is_authentic}
-use Rattle.mip_updates.specs.declared.registration.Registration.{Registration}
-use Rattle.mip_updates.specs.Registrations.{home_of, careof_of, registered_of}
-use Rattle.mip_updates.specs.Statuses as statuses
+use Rattle.mip_reception.specs.declared.registration.Registration.{Registration}
+use Rattle.mip_reception.specs.Registrations.{home_of, careof_of, registered_of}
+use Rattle.mip_reception.specs.Statuses as statuses
 use Rattle.mip_rules_correspondent.specs.declared.verdict.Verdict.TheVariants.{Refuse, Deny, Accept}
 use Rattle.mip_rules_correspondent.specs.Verdicts.{Bench, granted_of, number_of, accepted_of, kbm_of, careof_number, verdict}
 

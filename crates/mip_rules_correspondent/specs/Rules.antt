@@ -14,7 +14,7 @@ use Rattle.mip_nonce.specs.Window.{current_of, index_of}
 use Rattle.mip_tokens.specs.Token.{home_token_of, careof_token_of}
 use Rattle.mip_tokens.specs.declared.kbm.Kbm.{Kbm}
 use Rattle.mip_bcache.specs.declared.accepted.Accepted.{Accepted}
-use Rattle.mip_packet_builders.specs.Messages.{home_test_packet, careof_test_packet}
+use Rattle.mip_packets.specs.Messages.{home_test_packet, careof_test_packet}
 use Rattle.mip_reception.specs.declared.refusal.Refusal.{Refusal}
 use Rattle.mip_reception.specs.declared.address_match.AddressMatch.{AddressMatch}
 use Rattle.mip_reception.specs.Words.{packet_why}
@@ -22,16 +22,16 @@ use Rattle.mip_reception.specs.Checks.{checked}
 use Rattle.mip_reception.specs.Replies.{reply_packet}
 use Rattle.mip_rules_correspondent.specs.declared.identity.Identity.{Identity}
 use Rattle.mip_rules_correspondent.specs.declared.known.Known.{Known}
-use Rattle.mip_updates.specs.declared.registration.Registration.{Registration}
+use Rattle.mip_reception.specs.declared.registration.Registration.{Registration}
 use Rattle.mip_rules_correspondent.specs.declared.verdict.Verdict.{Verdict}
 use Rattle.mip_rules_correspondent.specs.declared.verdict.Verdict.TheVariants.{Refuse, Deny, Accept}
 use Rattle.mip_rules_correspondent.specs.Steps.{Sends, Accepts, Denies, Drops, HandsUp}
 use Rattle.mip_rules_correspondent.specs.Questions.{holds_for, floor_of, is_full_for}
 use Rattle.mip_rules_correspondent.specs.Transitions.{Transition, noted}
-use Rattle.mip_updates.specs.Registrations.{registration, home_of}
+use Rattle.mip_reception.specs.Registrations.{registration, home_of}
 use Rattle.mip_rules_correspondent.specs.Verdicts.{Bench, verdict}
-use Rattle.mip_updates.specs.Acks.{ack_packet}
-use Rattle.mip_updates.specs.Statuses as statuses
+use Rattle.mip_reception.specs.Acks.{ack_packet}
+use Rattle.mip_reception.specs.Statuses as statuses
 
 -- the Home Test: the cookie comes back, with the index of the newest nonce and the home keygen token of the source under
 -- it. RFC 6275 sections 5.2.5, 6.1.5 and 9.4.3

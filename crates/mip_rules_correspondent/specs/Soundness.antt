@@ -4,14 +4,14 @@ use Rattle.std.specs.Prelude.{◌≡◌, ℕ, ◌+◌, ◌*◌, ◌≤◌, List,
 use Rattle.mip_words.specs.Addresses.{is_routable}
 use Rattle.mip_words.specs.Sequence.{is_after}
 use Rattle.mip_words.specs.declared.address.Address.{Address}
-use Rattle.mip_options.specs.declared.indices.Indices.{Indices}
+use Rattle.mip_mobhdr.specs.declared.indices.Indices.{Indices}
 use Rattle.mip_constants.specs.Constants.{lifetime_unit, max_rr_binding_lifetime}
 use Rattle.mip_nonce.specs.Window.{IsValidAt, number_named}
 use Rattle.mip_tokens.specs.Token.{IsAuthentic}
 use Rattle.mip_tokens.specs.declared.kbm.Kbm.{Kbm}
 use Rattle.mip_bcache.specs.declared.accepted.Accepted.{Accepted}
-use Rattle.mip_updates.specs.declared.registration.Registration.{Registration}
-use Rattle.mip_updates.specs.Registrations.{home_of, careof_of, deletes, registered_of}
+use Rattle.mip_reception.specs.declared.registration.Registration.{Registration}
+use Rattle.mip_reception.specs.Registrations.{home_of, careof_of, deletes, registered_of}
 use Rattle.mip_rules_correspondent.specs.Verdicts.{Bench, kbm_of, number_of}
 
 -- this is a valid nonce, and the index names it

@@ -10,12 +10,12 @@ use Rattle.mip_tokens.specs.declared.kbm.Kbm.{Kbm}
 use Rattle.mip_bcache.specs.declared.accepted.Accepted.{Accepted}
 use Rattle.mip_rules_correspondent.specs.declared.identity.Identity.{Identity}
 use Rattle.mip_rules_correspondent.specs.declared.known.Known.{Known}
-use Rattle.mip_updates.specs.declared.registration.Registration.{Registration}
+use Rattle.mip_reception.specs.declared.registration.Registration.{Registration}
 use Rattle.mip_rules_correspondent.specs.declared.verdict.Verdict.TheVariants.{Accept}
 use Rattle.mip_rules_correspondent.specs.Calls.{Take, Part}
 use Rattle.mip_rules_correspondent.specs.Steps.{Step, Called, Accepts, is_acceptance}
 use Rattle.mip_rules_correspondent.specs.Refusing.{is_refusal}
-use Rattle.mip_updates.specs.Registrations.{registration_in}
+use Rattle.mip_reception.specs.Registrations.{registration_in}
 use Rattle.mip_rules_correspondent.specs.Verdicts.{verdict}
 use Rattle.mip_rules_correspondent.specs.Rules.{bench}
 

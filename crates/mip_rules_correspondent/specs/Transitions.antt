@@ -2,8 +2,8 @@
 use Rattle.std.specs.Prelude.{ℕ, List}
 use Rattle.mip_entries.specs.declared.answer.Answer.{Answer}
 use Rattle.mip_entries.specs.Stamped.{Stamped}
-use Rattle.mip_transitions.specs.Transitions as transitions
-use Rattle.mip_transitions.specs.Shows.{ShowsBy}
+use Rattle.mip_entries.specs.Transitions as transitions
+use Rattle.mip_entries.specs.Shows.{ShowsBy}
 use Rattle.mip_rules_correspondent.specs.declared.known.Known.{Known}
 use Rattle.mip_rules_correspondent.specs.Steps.{Step, answer_of}
 use Rattle.mip_rules_correspondent.specs.Questions.{after, fresh}

@@ -6,17 +6,17 @@ use Rattle.mip_words.specs.Sequence.{is_after}
 use Rattle.mip_words.specs.declared.address.Address.{Address}
 use Rattle.mip_words.specs.declared.why.Why.TheVariants as whys
 use Rattle.mip_constants.specs.Constants.{lifetime_unit, max_rr_binding_lifetime}
-use Rattle.mip_options.specs.declared.indices.Indices.{Indices}
+use Rattle.mip_mobhdr.specs.declared.indices.Indices.{Indices}
 use Rattle.mip_nonce.specs.Secrets.{Life, kcn_of, nonce_of}
 use Rattle.mip_nonce.specs.Window.{number_named}
 use Rattle.mip_tokens.specs.Token.{home_token_of, careof_token_of, kbm_both_of, kbm_home_of, is_authentic}
 use Rattle.mip_tokens.specs.declared.kbm.Kbm.{Kbm}
 use Rattle.mip_bcache.specs.declared.accepted.Accepted.{Accepted}
-use Rattle.mip_updates.specs.declared.registration.Registration.{Registration}
+use Rattle.mip_reception.specs.declared.registration.Registration.{Registration}
 use Rattle.mip_rules_correspondent.specs.declared.verdict.Verdict.{Verdict}
 use Rattle.mip_rules_correspondent.specs.declared.verdict.Verdict.TheVariants.{Refuse, Deny, Accept}
-use Rattle.mip_updates.specs.Statuses.{insufficient_resources, home_registration_not_supported, sequence_out_of_window, expired_home_nonce, expired_careof_nonce, expired_nonces}
-use Rattle.mip_updates.specs.Registrations.{home_of, careof_of, deletes, registered_of}
+use Rattle.mip_reception.specs.Statuses.{insufficient_resources, home_registration_not_supported, sequence_out_of_window, expired_home_nonce, expired_careof_nonce, expired_nonces}
+use Rattle.mip_reception.specs.Registrations.{home_of, careof_of, deletes, registered_of}
 
 -- who judges, when, and what it keeps of the home of the update
 pub record Bench : Type 0 where

@@ -6,8 +6,8 @@ use Rattle.mip_words.specs.declared.address.Address.{Address}
 use Rattle.mip_words.specs.declared.moment.Moment.{Moment}
 use Rattle.mip_nonce.specs.Secrets.{Life}
 use Rattle.mip_entries.specs.Stamped.{Stamped}
-use Rattle.mip_transitions.specs.Transitions.{StandsBy}
-use Rattle.mip_transitions.proofs.TransitionLaws.{noted-now, noted-known, stands-noted, stands-begun}
+use Rattle.mip_entries.specs.Transitions.{StandsBy}
+use Rattle.mip_entries.proofs.TransitionLaws.{noted-now, noted-known, stands-noted, stands-begun}
 use Rattle.mip_rules_mobile.specs.Calls.{Call}
 use Rattle.mip_rules_mobile.specs.Steps.{Step, Called, Parts, Notes, Drops, is_call}
 use Rattle.mip_rules_mobile.specs.Known.{Known}

@@ -1,8 +1,8 @@
 -- Each step of a call fits where it is taken.
 use Rattle.std.proofs.Common.{◌≡◌, ℕ, List, [], ◌∷◌, ◌++◌, refl, sym, ap, ◌∙◌, subst}
 use Rattle.mip_entries.specs.Stamped.{stamped}
-use Rattle.mip_transitions.specs.Transitions.{known_by}
-use Rattle.mip_transitions.proofs.TransitionLaws.{noted-now, noted-known, noted-steps}
+use Rattle.mip_entries.specs.Transitions.{known_by}
+use Rattle.mip_entries.proofs.TransitionLaws.{noted-now, noted-known, noted-steps}
 use Rattle.mip_rules_mobile.specs.Calls.{Call}
 use Rattle.mip_rules_mobile.specs.Steps.{Step, Called, Parts, Notes, Drops}
 use Rattle.mip_rules_mobile.specs.Known.{Known}

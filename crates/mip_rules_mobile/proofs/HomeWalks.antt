@@ -6,7 +6,7 @@ use Rattle.std.specs.Prelude.{◌*◌, ◌^◌, Option, Some, None, Bool, true, 
 use Rattle.std.proofs.lemmas.Nat.{pow_pos}
 use Rattle.mip_words.specs.declared.address.Address.{Address}
 use Rattle.mip_discovery.specs.Retries.{DiscoverySeen, retried}
-use Rattle.mip_updates.specs.Statuses.{accepts_it, sequence_out_of_window}
+use Rattle.mip_reception.specs.Statuses.{accepts_it, sequence_out_of_window}
 use Rattle.mip_rules_mobile.specs.declared.attachment.Attachment.{Attachment}
 use Rattle.mip_rules_mobile.specs.declared.attachment.Attachment.TheVariants.{Detached, AtHome, Away}
 use Rattle.mip_rules_mobile.specs.declared.home_update.HomeUpdate.{HomeUpdate}

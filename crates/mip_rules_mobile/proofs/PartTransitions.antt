@@ -13,7 +13,7 @@ use Rattle.mip_ipv6.specs.Packet.{Packet, source_of}
 use Rattle.mip_mobhdr.specs.Said.{Said}
 use Rattle.mip_entries.specs.declared.answer.Answer.{Answer}
 use Rattle.mip_entries.specs.declared.answer.Answer.TheVariants.{Send, Note}
-use Rattle.mip_transitions.proofs.TransitionLaws.{noted-now, noted-known, noted-steps}
+use Rattle.mip_entries.proofs.TransitionLaws.{noted-now, noted-known, noted-steps}
 use Rattle.mip_reception.specs.declared.refusal.Refusal.{Refusal}
 use Rattle.mip_rules_correspondent.specs.Calls as parts
 use Rattle.mip_rules_correspondent.specs.Steps as part_steps

@@ -21,7 +21,7 @@ use Rattle.mip_bulist.specs.declared.work.Work.TheVariants.{Resend}
 use Rattle.mip_bulist.specs.Rows.{peer_of_any, row_place, peer_at, lifted, with_trial}
 use Rattle.mip_bulist.specs.Trials.{needed, proved_where, weighed, with_home, with_careof, is_deletion, has_old, is_too_soon, made_now, in_state, ended_with}
 use Rattle.mip_bulist.proofs.RowLaws.{with_step}
-use Rattle.mip_transitions.proofs.TransitionLaws.{noted-known}
+use Rattle.mip_entries.proofs.TransitionLaws.{noted-known}
 use Rattle.mip_rules_mobile.specs.Trials.{Change, Start, HomeTest, CareofTest, Make, Resequence, Acknowledge, Rest, after_probe, after_update, after_again, with_update, after_end, changed, changed_at, with_change}
 use Rattle.mip_rules_mobile.specs.Steps.{Tries, Stops}
 use Rattle.mip_rules_mobile.specs.Known.{Known}

@@ -1,7 +1,7 @@
 -- Whose word each step of a call takes, and what stands right before it.
 use Rattle.std.proofs.Common.{◌≡◌, ℕ, List, [], ◌∷◌, ◌++◌, refl, sym, subst}
 use Rattle.std.specs.Prelude.{Option, Some, None}
-use Rattle.mip_transitions.proofs.TransitionLaws.{noted-steps}
+use Rattle.mip_entries.proofs.TransitionLaws.{noted-steps}
 use Rattle.mip_rules_mobile.specs.Calls.{Call}
 use Rattle.mip_rules_mobile.specs.Trials.{HomeTest, Acknowledge}
 use Rattle.mip_rules_mobile.specs.Steps.{Step, Called, Parts, Notes, Drops, Registers, Unregisters, IsRefused, Resequences, Tries, Binds}

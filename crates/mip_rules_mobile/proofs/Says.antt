@@ -6,19 +6,19 @@ use Rattle.mip_ipv6.specs.declared.not_packet.NotPacket.{NotPacket}
 use Rattle.mip_ipv6.specs.Packet.{Packet, names_no_body}
 use Rattle.mip_ipv6.specs.Reading.{packet_of}
 use Rattle.mip_tokens.specs.declared.kbm.Kbm.{Kbm}
-use Rattle.mip_tunnel.specs.Tunnel.{tunnel_packet, encapsulated}
-use Rattle.mip_inspection.specs.Says.{carried}
-use Rattle.mip_inspection.proofs.Sayings.{carried_is, said_if_read, carried_outer, carried_lowered}
-use Rattle.mip_packet_builders.specs.Packets.{data_packet}
-use Rattle.mip_packet_builders.specs.Authenticated.{authenticated_packet}
-use Rattle.mip_packet_round_trip.specs.Written.{SaysNoTest}
-use Rattle.mip_packet_round_trip.proofs.Packets.{read_back}
-use Rattle.mip_packet_round_trip.proofs.Sayings.{message_says_no_test, data_says_no_test, problem_says_no_test}
+use Rattle.mip_ipv6.specs.Tunnel.{tunnel_packet, encapsulated}
+use Rattle.mip_packets.specs.Says.{carried}
+use Rattle.mip_packets.proofs.Sayings.{carried_is, said_if_read, carried_outer, carried_lowered}
+use Rattle.mip_packets.specs.Packets.{data_packet}
+use Rattle.mip_packets.specs.Authenticated.{authenticated_packet}
+use Rattle.mip_packets.specs.Written.{SaysNoTest}
+use Rattle.mip_packets.proofs.WrittenPackets.{read_back}
+use Rattle.mip_packets.proofs.WrittenSayings.{message_says_no_test, data_says_no_test, problem_says_no_test}
 use Rattle.mip_reception.specs.declared.reply.Reply.{Reply}
 use Rattle.mip_reception.specs.declared.reply.Reply.TheVariants.{Nothing, BindingError, ParameterProblem}
 use Rattle.mip_reception.specs.Replies.{reply_packet}
-use Rattle.mip_updates.specs.declared.registration.Registration.{Registration}
-use Rattle.mip_updates.specs.Acks.{ack_packet}
+use Rattle.mip_reception.specs.declared.registration.Registration.{Registration}
+use Rattle.mip_reception.specs.Acks.{ack_packet}
 use Rattle.mip_rules_correspondent.specs.declared.identity.Identity.{Identity}
 use Rattle.mip_rules_correspondent.specs.Doing as part_doing
 use Rattle.mip_rules_correspondent.specs.Calls as part_calls

@@ -3,7 +3,7 @@
 use Rattle.std.proofs.Common.{◌≡◌, ℕ, true, refl, ap, ◌∙◌, sym}
 use Rattle.mip_entries.specs.declared.entry.Entry.{Entry}
 use Rattle.mip_rules_correspondent.specs.Wholes.{is_own}
-use Rattle.mip_transitions.proofs.TransitionLaws.{noted-now, noted-known}
+use Rattle.mip_entries.proofs.TransitionLaws.{noted-now, noted-known}
 use Rattle.mip_words.specs.declared.address.Address.{Address}
 use Rattle.mip_rules_correspondent.specs.declared.identity.Identity.{Identity}
 use Rattle.mip_rules_mobile.specs.declared.attachment.Attachment.{Attachment}

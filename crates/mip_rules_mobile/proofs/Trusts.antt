@@ -8,19 +8,19 @@ use Rattle.mip_words.specs.declared.address.Address.{Address}
 use Rattle.mip_words.specs.declared.shield.Shield.{Shield}
 use Rattle.mip_ipv6.specs.Packet.{Packet, source_of}
 use Rattle.mip_ipv6.specs.Reading.{packet_of}
-use Rattle.mip_options.specs.Values.{Values}
+use Rattle.mip_mobhdr.specs.OptionValues.{Values}
 use Rattle.mip_mobhdr.specs.Said.{Said}
 use Rattle.mip_mobhdr.specs.Said.Said.{HomeTest, CareofTest, Acknowledgement}
-use Rattle.mip_tunnel.specs.declared.exit_fault.ExitFault.{ExitFault}
-use Rattle.mip_tunnel.specs.Tunnel.{opened}
-use Rattle.mip_inspection.specs.Says.{message_in, said_by, carried}
-use Rattle.mip_inspection.proofs.Sayings.{carried_message, carried_opened}
+use Rattle.mip_ipv6.specs.declared.exit_fault.ExitFault.{ExitFault}
+use Rattle.mip_ipv6.specs.Tunnel.{opened}
+use Rattle.mip_packets.specs.Says.{message_in, said_by, carried}
+use Rattle.mip_packets.proofs.Sayings.{carried_message, carried_opened}
 use Rattle.mip_bulist.specs.declared.any.Any.TheVariants.{Pending}
 use Rattle.mip_bulist.specs.declared.state.Pending as pending
 use Rattle.mip_bulist.specs.declared.trial.Trial.{Trial}
 use Rattle.mip_bulist.specs.declared.work.Work.{Work}
-use Rattle.mip_updates.specs.Statuses.{accepts_it, sequence_out_of_window}
-use Rattle.mip_transitions.proofs.TransitionLaws.{noted-now, noted-known, noted-steps}
+use Rattle.mip_reception.specs.Statuses.{accepts_it, sequence_out_of_window}
+use Rattle.mip_entries.proofs.TransitionLaws.{noted-now, noted-known, noted-steps}
 use Rattle.mip_rules_mobile.specs.declared.attachment.Attachment.{Attachment}
 use Rattle.mip_rules_mobile.specs.declared.attachment.Attachment.TheVariants.{Detached, AtHome, Away}
 use Rattle.mip_rules_mobile.specs.declared.home_update.HomeUpdate.{HomeUpdate}

@@ -13,7 +13,7 @@ use Rattle.mip_bulist.specs.declared.tested.Test.{Test}
 use Rattle.mip_bulist.specs.declared.trial.Trial.{Trial}
 use Rattle.mip_bulist.specs.declared.work.Work.TheVariants.{Resend}
 use Rattle.mip_bulist.specs.Rows.{given_row}
-use Rattle.mip_updates.specs.Statuses.{accepts_it, sequence_out_of_window, expired_home_nonce, expired_nonces}
+use Rattle.mip_reception.specs.Statuses.{accepts_it, sequence_out_of_window, expired_home_nonce, expired_nonces}
 use Rattle.mip_rules_mobile.specs.declared.attachment.Attachment.{Attachment}
 use Rattle.mip_rules_mobile.specs.declared.attachment.Attachment.TheVariants.{Detached, AtHome, Away}
 use Rattle.mip_constants.specs.Constants.{initial_bindack_timeout, lifetime_unit}

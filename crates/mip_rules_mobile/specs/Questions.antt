@@ -4,7 +4,7 @@ use Rattle.mip_words.specs.declared.address.Address.{Address}
 use Rattle.mip_words.specs.declared.moment.Moment.{Moment}
 use Rattle.mip_nonce.specs.Secrets.{Life}
 use Rattle.mip_entries.specs.Stamped.{Stamped}
-use Rattle.mip_transitions.specs.Transitions.{known_by}
+use Rattle.mip_entries.specs.Transitions.{known_by}
 use Rattle.mip_rules_correspondent.specs.Questions as parts
 use Rattle.mip_rules_correspondent.specs.Seen.{CorrespondentSeen, called}
 use Rattle.mip_rules_mobile.specs.declared.attachment.Attachment.TheVariants.{AtHome}

@@ -8,12 +8,12 @@ use Rattle.mip_ipv6.specs.declared.head.Head.{Head}
 use Rattle.mip_ipv6.specs.declared.not_packet.NotPacket.{NotPacket}
 use Rattle.mip_ipv6.specs.Packet.{Packet, source_of}
 use Rattle.mip_ipv6.specs.Reading.{packet_of}
-use Rattle.mip_options.specs.Values.{Values}
+use Rattle.mip_mobhdr.specs.OptionValues.{Values}
 use Rattle.mip_mobhdr.specs.Said.{Said}
 use Rattle.mip_mobhdr.specs.Said.Said.{Refresh, HomeTest, CareofTest, Acknowledgement, Error}
-use Rattle.mip_tunnel.specs.declared.exit_fault.ExitFault.{ExitFault}
-use Rattle.mip_tunnel.specs.declared.exit_fault.ExitFault.TheVariants.{NotTunnel, WrongEntry, Inner}
-use Rattle.mip_tunnel.specs.Tunnel.{opened}
+use Rattle.mip_ipv6.specs.declared.exit_fault.ExitFault.{ExitFault}
+use Rattle.mip_ipv6.specs.declared.exit_fault.ExitFault.TheVariants.{NotTunnel, WrongEntry, Inner}
+use Rattle.mip_ipv6.specs.Tunnel.{opened}
 use Rattle.mip_reception.specs.declared.refusal.Refusal.{Refusal}
 use Rattle.mip_reception.specs.declared.address_match.AddressMatch as checks
 use Rattle.mip_reception.specs.Words.{packet_why}

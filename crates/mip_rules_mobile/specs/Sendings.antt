@@ -8,14 +8,14 @@ use Rattle.mip_ipv6.specs.declared.head.Head.{Head}
 use Rattle.mip_ipv6.specs.declared.not_packet.NotPacket.{NotPacket}
 use Rattle.mip_ipv6.specs.Packet.{Packet, source_of, destination_of}
 use Rattle.mip_ipv6.specs.Reading.{packet_of}
-use Rattle.mip_options.specs.Values.{Values, nothing}
+use Rattle.mip_mobhdr.specs.OptionValues.{Values, nothing}
 use Rattle.mip_mobhdr.specs.Said.Said.{Update}
 use Rattle.mip_icmp.specs.Said as icmp
 use Rattle.mip_icmp.specs.Spelling.{icmp_bytes}
-use Rattle.mip_packet_builders.specs.Packets.{node_head, straight, data_packet, message_packet}
-use Rattle.mip_packet_builders.specs.Authenticated.{authenticated_packet}
-use Rattle.mip_packet_builders.specs.Messages.{home_init_packet, careof_init_packet}
-use Rattle.mip_tunnel.specs.Tunnel.{encapsulated}
+use Rattle.mip_packets.specs.Packets.{node_head, straight, data_packet, message_packet}
+use Rattle.mip_packets.specs.Authenticated.{authenticated_packet}
+use Rattle.mip_packets.specs.Messages.{home_init_packet, careof_init_packet}
+use Rattle.mip_ipv6.specs.Tunnel.{encapsulated}
 use Rattle.mip_bulist.specs.declared.made.Made.{Made}
 use Rattle.mip_constants.specs.Constants.{max_home_lifetime, max_rr_binding_lifetime}
 

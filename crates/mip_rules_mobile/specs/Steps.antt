@@ -11,7 +11,7 @@ use Rattle.mip_entries.specs.declared.answer.Answer.{Answer}
 use Rattle.mip_entries.specs.declared.answer.Answer.TheVariants.{Send, Note}
 use Rattle.mip_entries.specs.declared.entry.Entry.{Entry}
 use Rattle.mip_entries.specs.declared.entry.Entry.TheVariants as entries
-use Rattle.mip_transitions.specs.Shows.{answers_by}
+use Rattle.mip_entries.specs.Shows.{answers_by}
 use Rattle.mip_rules_correspondent.specs.Calls as parts
 use Rattle.mip_rules_mobile.specs.Calls.{Call}
 use Rattle.mip_rules_mobile.specs.Trials.{Change}

@@ -4,8 +4,8 @@ use Rattle.mip_words.specs.declared.address.Address.{Address}
 use Rattle.mip_nonce.specs.Secrets.{Life}
 use Rattle.mip_entries.specs.declared.answer.Answer.{Answer}
 use Rattle.mip_entries.specs.Stamped.{Stamped}
-use Rattle.mip_transitions.specs.Transitions as transitions
-use Rattle.mip_transitions.specs.Shows.{ShowsBy}
+use Rattle.mip_entries.specs.Transitions as transitions
+use Rattle.mip_entries.specs.Shows.{ShowsBy}
 use Rattle.mip_rules_mobile.specs.Steps.{Step, answer_of}
 use Rattle.mip_rules_mobile.specs.Known.{Known}
 use Rattle.mip_rules_mobile.specs.Questions.{after, fresh}

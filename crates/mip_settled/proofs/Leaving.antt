@@ -13,7 +13,7 @@ use Rattle.mip_bulist.specs.Rows.{peer_at, all_rested}
 use Rattle.mip_entries.specs.declared.entry.Entry.{Entry}
 use Rattle.mip_entries.specs.declared.entry.Entry.TheVariants as entries
 use Rattle.mip_entries.specs.Completed.{named}
-use Rattle.mip_transitions.proofs.TransitionLaws.{noted-now, noted-known}
+use Rattle.mip_entries.proofs.TransitionLaws.{noted-now, noted-known}
 use Rattle.mip_rules_correspondent.specs.Wholes.{is_own}
 use Rattle.mip_rules_mobile.specs.declared.peer.Peer.{Peer}
 use Rattle.mip_rules_mobile.specs.declared.attachment.Attachment.{Attachment}

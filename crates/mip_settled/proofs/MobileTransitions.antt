@@ -11,8 +11,8 @@ use Rattle.mip_entries.specs.declared.answer.Answer.{Answer}
 use Rattle.mip_entries.specs.declared.entry.Entry.{Entry}
 use Rattle.mip_entries.specs.declared.entry.Entry.TheVariants as entries
 use Rattle.mip_entries.specs.Completed.{node_id, named}
-use Rattle.mip_transitions.proofs.TransitionLaws.{noted-now, noted-known}
-use Rattle.mip_transitions.proofs.ShowLaws.{answers-noted}
+use Rattle.mip_entries.proofs.TransitionLaws.{noted-now, noted-known}
+use Rattle.mip_entries.proofs.ShowLaws.{answers-noted}
 use Rattle.mip_rules_correspondent.specs.Wholes.{is_own}
 use Rattle.mip_rules_mobile.specs.declared.attachment.Attachment.{Attachment}
 use Rattle.mip_rules_mobile.specs.declared.attachment.Attachment.TheVariants.{Detached, AtHome, Away}

@@ -10,7 +10,7 @@ use Rattle.mip_entries.specs.declared.answer.Answer.TheVariants.{Send, Note}
 use Rattle.mip_entries.specs.declared.entry.Entry.{Entry}
 use Rattle.mip_entries.specs.declared.entry.Entry.TheVariants as entries
 use Rattle.mip_entries.specs.Completed.{node_id, named}
-use Rattle.mip_transitions.specs.Shows.{answers_by}
+use Rattle.mip_entries.specs.Shows.{answers_by}
 use Rattle.mip_rules_correspondent.specs.Steps as correspondents
 use Rattle.mip_rules_correspondent.specs.Transitions as correspondent_transitions
 use Rattle.mip_rules_correspondent.specs.Doing as correspondent_doing

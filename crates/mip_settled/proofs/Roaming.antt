@@ -37,8 +37,8 @@ use Rattle.mip_rules_mobile.proofs.Steady.{standing-noted}
 use Rattle.mip_rules_mobile.proofs.Fits.{known_along, call-along}
 use Rattle.mip_rules_mobile.proofs.Calls.{stands-known, call-stands}
 use Rattle.mip_rules_mobile.proofs.Shielding.{past-home}
-use Rattle.mip_transitions.specs.Transitions.{StandsBy}
-use Rattle.mip_transitions.proofs.TransitionLaws.{noted-known}
+use Rattle.mip_entries.specs.Transitions.{StandsBy}
+use Rattle.mip_entries.proofs.TransitionLaws.{noted-known}
 use Rattle.mip_links.specs.Table.{link_from, link_of, holder_outside}
 use Rattle.mip_schedule.specs.declared.event.Event.{Event}
 use Rattle.mip_history.specs.Setup.{Setup, Host, Kind, is_mobile_host}

@@ -4,7 +4,7 @@ use Rattle.std.specs.Prelude.{◌≡◌, ℕ, ◌-◌, Bool, List, [], ◌∷◌
 use Rattle.std.specs.Str.{bytes_eq}
 use Rattle.mip_words.specs.Addresses.{address_bytes}
 use Rattle.mip_words.specs.declared.address.Address.{Address}
-use Rattle.mip_hmac.specs.Hmac.{hmac_sha1}
+use Rattle.mip_tokens.specs.Hmac.{hmac_sha1}
 use Rattle.sha1.specs.Sha1.{sha1}
 
 -- First(64, HMAC_SHA1(Kcn, (address | nonce | kind)))

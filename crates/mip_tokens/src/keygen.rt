@@ -2,7 +2,7 @@ ghost use Rattle.std.specs.Prelude.{◌≡◌, [], ◌∷◌, ◌++◌};
 ghost use Rattle.mip_words.specs.Addresses.{address_bytes};
 ghost use Rattle.mip_tokens.specs.Token.{token_of, home_token_of, careof_token_of};
 
-use mip_hmac::PreparedKey;
+use crate::prepared_key::PreparedKey;
 use mip_words::{Address, Token};
 
 /// The byte that is hashed for a home keygen token, and the one for a care-of keygen token.

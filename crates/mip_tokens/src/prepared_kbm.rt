@@ -1,8 +1,8 @@
 ghost use Rattle.std.specs.Prelude.{◌≡◌};
-ghost use Rattle.mip_hmac.specs.Hmac.{hmac_sha1, joined};
+ghost use Rattle.mip_tokens.specs.Hmac.{hmac_sha1, joined};
 
 use crate::kbm::Kbm;
-use mip_hmac::PreparedKey;
+use crate::prepared_key::PreparedKey;
 use std::marker::Model;
 
 /// Kbm whose two pads are hashed once for all messages under it: an update is checked and its acknowledgement is made under the

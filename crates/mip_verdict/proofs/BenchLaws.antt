@@ -7,8 +7,8 @@ use Rattle.mip_binding.specs.Acceptance.{Acceptance}
 use Rattle.mip_binding.specs.Held.{floor}
 use Rattle.mip_bcache.specs.Seen.{CacheSeen, StandsFor, has_no_room}
 use Rattle.mip_bcache.proofs.Pasts.{floor_answers, room_answers}
-use Rattle.mip_updates.specs.declared.registration.Registration.{Registration}
-use Rattle.mip_updates.specs.Registrations.{home_of}
+use Rattle.mip_reception.specs.declared.registration.Registration.{Registration}
+use Rattle.mip_reception.specs.Registrations.{home_of}
 use Rattle.mip_rules_correspondent.specs.Verdicts.{Bench, verdict}
 use Rattle.mip_verdict.specs.Benches.{bench_at, bench_after}
 

@@ -5,8 +5,8 @@ use Rattle.mip_nonce.specs.Secrets.{Life}
 use Rattle.mip_binding.specs.Acceptance.{Acceptance}
 use Rattle.mip_binding.specs.Held.{floor, is_full}
 use Rattle.mip_bcache.specs.Seen.{CacheSeen, floor_at, has_no_room}
-use Rattle.mip_updates.specs.declared.registration.Registration.{Registration}
-use Rattle.mip_updates.specs.Registrations.{home_of}
+use Rattle.mip_reception.specs.declared.registration.Registration.{Registration}
+use Rattle.mip_reception.specs.Registrations.{home_of}
 use Rattle.mip_rules_correspondent.specs.Verdicts.{Bench}
 use Rattle.mip_verdict.specs.declared.rows.Judge.{Judge}
 

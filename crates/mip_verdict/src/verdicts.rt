@@ -3,7 +3,7 @@
 ghost use Rattle.std.specs.Prelude.{◌≡◌, ◌≤◌, ◌<◌, ◌^◌, List, Some, IsSomeAnd};
 ghost use Rattle.mip_binding.specs.Acceptance.{Acceptance};
 ghost use Rattle.mip_bcache.specs.Seen.{StandsFor};
-ghost use Rattle.mip_updates.specs.Registrations.{IsUpdate, registration_in};
+ghost use Rattle.mip_reception.specs.Registrations.{IsUpdate, registration_in};
 ghost use Rattle.mip_rules_correspondent.specs.Verdicts.{verdict};
 ghost use Rattle.mip_verdict.specs.Benches.{bench_at, bench_of, bench_after};
 ghost use Rattle.mip_verdict.specs.Judging.{IsJudged};
@@ -14,7 +14,7 @@ use mip_bcache::Cache;
 use mip_entries::UpdateSeen;
 use mip_nonce::Secrets;
 use mip_rules_correspondent::Verdict;
-use mip_updates::{Registration, careof_of, home_of, registration_in, status};
+use mip_reception::{Registration, careof_of, home_of, registration_in, status};
 use mip_words::{Address, Moment, Why};
 
 /// What becomes of a Binding Update at a correspondent: the first row that applies (RFC 6275 sections
@@ -62,7 +62,7 @@ pub fn verdict(
 
 /// Before the nonces: 131 where it is for a home agent, silence where an address is not routable or there is
 /// no authenticator.
-#[tactic(auto, unfolding(mip_rules_correspondent::specs::Verdicts::verdict), using(mip_updates::proofs::Updates::authorized_is_long))]
+#[tactic(auto, unfolding(mip_rules_correspondent::specs::Verdicts::verdict), using(mip_reception::proofs::Updates::authorized_is_long))]
 fn from_the_first(judge: &Judge<'_>, registration: &Registration, message: &[u8]) -> Judged
     requires early { judge.now.moment.0 < 2 ^ 62 }
     requires later { judge.now.cache.now.last ≤ judge.now.moment.0 }

@@ -14,7 +14,7 @@ use crate::claims::{claim_own, try_claim};
 use crate::engine::Engine;
 use mip_entries::Entry;
 use mip_links::Delivery;
-use mip_tunnel::lower;
+use mip_ipv6::lower;
 use mip_words::{Address, Bytes, Holder, LinkId, Memory, Prefix, Shield};
 use std::alloc::Global;
 

@@ -1,4 +1,4 @@
-use mip_hmac::hmac;
+use mip_tokens::hmac;
 
 // RFC 2202 section 3, each text cut in two at every place.
 #[test]

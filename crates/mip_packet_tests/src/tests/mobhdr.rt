@@ -1,5 +1,4 @@
-use mip_mobhdr::{Message, Plain, read_message, write_message};
-use mip_options::{Indices, OptionSet};
+use mip_mobhdr::{Indices, Message, OptionSet, Plain, read_message, write_message};
 use mip_words::Address;
 use std::test::Fail;
 

@@ -1,7 +1,6 @@
 //! Where the options of each message begin, at one message of each type.
 
-use mip_mobhdr::{Message, read_message};
-use mip_options::Options;
+use mip_mobhdr::{Message, Options, read_message};
 use mip_words::Address;
 
 const HOME: Address = Address(0x20010db8000100000000000000000077);

@@ -1,6 +1,6 @@
 use Rattle.std.proofs.Common.{sym, ap, ◌∙◌, refl, subst}
 use Rattle.mip_words.specs.declared.address.Address.{Address}
-use Rattle.mip_packet_builders.specs.Messages.{home_init_packet}
+use Rattle.mip_packets.specs.Messages.{home_init_packet}
 use Rattle.mip_rules_mobile.specs.Sendings.{AsksHome}
 use Rattle.mip_call_context.specs.Outgoing.{CanEnter}
 use Rattle.mip_call_context.proofs.Entering.{init-enters}

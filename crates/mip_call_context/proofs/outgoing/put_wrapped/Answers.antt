@@ -1,7 +1,7 @@
 use Rattle.std.proofs.Common.{ap, ◌∙◌, ℕ, List, Bool}
 use Rattle.std.specs.Prelude.{None, if◌then◌else◌}
 use Rattle.mip_words.specs.declared.address.Address.{Address}
-use Rattle.mip_tunnel.specs.Tunnel.{encapsulated}
+use Rattle.mip_ipv6.specs.Tunnel.{encapsulated}
 use Rattle.mip_rules_mobile.specs.HomeQuestions.{home_of}
 use Rattle.mip_rules_mobile.specs.Sendings.{ByTunnel, is_signal, shield_to}
 use Rattle.mip_call_context.proofs.outgoing.put_wrapped.Goals as goal

@@ -5,8 +5,8 @@ use Rattle.mip_words.specs.declared.address.Address.{Address}
 use Rattle.mip_ipv6.specs.Packet.{packet as tree, is_routable_if_any}
 use Rattle.mip_mobhdr.specs.Said.{said}
 use Rattle.mip_outside.specs.Places.{claim_in}
-use Rattle.mip_updates.specs.declared.registration.Registration.{Registration}
-use Rattle.mip_updates.specs.Registrations.{home_of}
+use Rattle.mip_reception.specs.declared.registration.Registration.{Registration}
+use Rattle.mip_reception.specs.Registrations.{home_of}
 use Rattle.mip_rules_agent.specs.Transitions.{Transition}
 use Rattle.mip_rules_agent.specs.Rules.{takes_update}
 use Rattle.mip_homeagent.specs.Changes.{unclaimed, with_change, claims_with}

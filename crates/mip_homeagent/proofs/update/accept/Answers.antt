@@ -1,6 +1,6 @@
 use Rattle.std.proofs.Common.{sym, subst, ap, ◌∙◌, ◌++◌}
 use Rattle.std.specs.Prelude.{Option, Bool, List}
-use Rattle.mip_updates.specs.Registrations.{deletes}
+use Rattle.mip_reception.specs.Registrations.{deletes}
 use Rattle.mip_rules_agent.specs.declared.ending.Ending.{Ending}
 use Rattle.mip_rules_agent.specs.Questions.{bound_to, with_served}
 use Rattle.mip_rules_agent.specs.Steps.{Registers}

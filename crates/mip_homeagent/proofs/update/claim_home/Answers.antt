@@ -3,7 +3,7 @@ use Rattle.std.proofs.lemmas.Result.{IfOk-weaker}
 use Rattle.std.specs.Option.{option_map}
 use Rattle.std.specs.Result.{IfOk}
 use Rattle.mip_words.specs.declared.address.Address.{Address}
-use Rattle.mip_updates.specs.Registrations.{home_of}
+use Rattle.mip_reception.specs.Registrations.{home_of}
 use Rattle.mip_outside.specs.declared.claim.Claim.{Claim}
 use Rattle.mip_outside.specs.Places.{is_held, with_claim, claim_in}
 use Rattle.mip_entries.specs.declared.answer.Answer.{Answer}

@@ -1,7 +1,7 @@
 use Rattle.std.proofs.Common.{Bool, true, sym, subst}
 use Rattle.std.specs.Result.{IfOk}
 use Rattle.mip_outside.specs.Places.{claim_in}
-use Rattle.mip_updates.specs.Registrations.{home_of}
+use Rattle.mip_reception.specs.Registrations.{home_of}
 use Rattle.mip_rules_agent.specs.declared.home_verdict.HomeVerdict.{HomeVerdict}
 use Rattle.mip_rules_agent.specs.Verdicts.{by_claim}
 use Rattle.mip_rules_agent.specs.Rules.{claim_with, judged}

@@ -5,7 +5,7 @@ use Rattle.mip_words.specs.declared.address.Address.{Address}
 use Rattle.mip_outside.specs.Places.{claim_in}
 use Rattle.mip_rules_agent.specs.Questions.{holds}
 use Rattle.mip_rules_agent.specs.Transitions.{Transition}
-use Rattle.mip_updates.specs.Registrations.{home_of}
+use Rattle.mip_reception.specs.Registrations.{home_of}
 use Rattle.mip_rules_agent.specs.declared.bench.Bench.{Bench}
 use Rattle.mip_rules_agent.specs.declared.home_verdict.HomeVerdict.{HomeVerdict}
 use Rattle.mip_rules_agent.specs.Verdicts.{with_claim, verdict}

@@ -2,7 +2,7 @@ use Rattle.std.proofs.Common.{sym, ap, ◌∙◌, subst, OnOk}
 use Rattle.std.specs.Prelude.{Option}
 use Rattle.mip_words.specs.declared.address.Address.{Address}
 use Rattle.mip_ipv6.specs.Packet.{packet as tree, source_of}
-use Rattle.mip_options.specs.Values.{values}
+use Rattle.mip_mobhdr.specs.OptionValues.{values}
 use Rattle.mip_rules_mobile.specs.declared.home_update.HomeUpdate.{HomeUpdate}
 use Rattle.mip_rules_mobile.specs.HomeRules.{home_answered}
 use Rattle.mip_rules_mobile.specs.PeerRules.{takes_ack_of}

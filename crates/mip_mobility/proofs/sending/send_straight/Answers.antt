@@ -2,7 +2,7 @@ use Rattle.std.proofs.Common.{ap, ◌∙◌, refl, OnOk}
 use Rattle.std.specs.Prelude.{Option, Some}
 use Rattle.mip_words.specs.declared.address.Address.{Address}
 use Rattle.mip_ipv6.specs.declared.head.Head.{Head}
-use Rattle.mip_packet_builders.specs.Packets.{data_packet}
+use Rattle.mip_packets.specs.Packets.{data_packet}
 use Rattle.mip_rules_correspondent.specs.Questions.{held_of}
 use Rattle.mip_rules_mobile.specs.declared.attachment.Attachment.TheVariants.{Away}
 use Rattle.mip_mobility.proofs.Contexts.{transition_at, from-context}

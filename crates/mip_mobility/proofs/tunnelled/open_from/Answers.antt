@@ -2,7 +2,7 @@ use Rattle.std.proofs.Common.{sym, ap, ◌∙◌, subst, OnOk, arith}
 use Rattle.std.specs.Prelude.{Result}
 use Rattle.mip_words.specs.declared.why.Why.{Why}
 use Rattle.mip_ipv6.specs.Packet.{packet as tree, Packet}
-use Rattle.mip_tunnel.specs.declared.exit_fault.ExitFault.{ExitFault}
+use Rattle.mip_ipv6.specs.declared.exit_fault.ExitFault.{ExitFault}
 use Rattle.mip_ipv6.proofs.Placed.{place_is}
 use Rattle.mip_rules_mobile.specs.Steps.{Drops}
 use Rattle.mip_rules_mobile.specs.Transitions.{Transition, noted}

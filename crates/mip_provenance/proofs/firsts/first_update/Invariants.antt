@@ -1,7 +1,7 @@
 use Rattle.std.proofs.Common.{◌≡◌, drop}
 use Rattle.std.specs.Prelude.{map, fold}
 use Rattle.std.specs.List.{filter_map}
-use Rattle.mip_inspection.specs.Says.{key_of}
+use Rattle.mip_packets.specs.Says.{key_of}
 use Rattle.mip_provenance.specs.Lists.{lesser}
 use Rattle.mip_provenance.specs.Sights.{sight, sights}
 use Rattle.mip_provenance.specs.Firsts.{number_of, carries_key, first_update}

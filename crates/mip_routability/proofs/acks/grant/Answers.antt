@@ -2,7 +2,7 @@ use Rattle.std.proofs.Common.{ℕ, [], ◌∷◌, sym, ap, subst, OnOk}
 use Rattle.std.specs.Prelude.{Option}
 use Rattle.mip_words.specs.declared.address.Address.{Address}
 use Rattle.mip_bulist.specs.declared.work.Work.TheVariants.{Resend}
-use Rattle.mip_transitions.proofs.TransitionLaws.{noted_all-is}
+use Rattle.mip_entries.proofs.TransitionLaws.{noted_all-is}
 use Rattle.mip_rules_mobile.specs.Questions.{after}
 use Rattle.mip_rules_mobile.specs.Trials.{Acknowledge}
 use Rattle.mip_rules_mobile.specs.Steps.{Stops, Tries}

@@ -1,5 +1,5 @@
 use Rattle.std.proofs.Common.{ap, [], refl}
-use Rattle.mip_transitions.proofs.ShowLaws.{shows-begun}
+use Rattle.mip_entries.proofs.ShowLaws.{shows-begun}
 use Rattle.mip_rules_mobile.specs.Questions.{after}
 use Rattle.mip_rules_mobile.specs.Steps.{Called, answer_of}
 use Rattle.mip_rules_mobile.specs.Transitions.{begun}

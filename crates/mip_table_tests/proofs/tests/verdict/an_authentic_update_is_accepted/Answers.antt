@@ -1,5 +1,5 @@
 use Rattle.std.proofs.Common.{refl, lit≤}
-use Rattle.mip_options.specs.Reading.{with_value, option_at, options_after, options_of}
+use Rattle.mip_mobhdr.specs.OptionReading.{with_value, option_at, options_after, options_of}
 use Rattle.mip_mobhdr.specs.Reading.{update_of}
 use Rattle.mip_table_tests.proofs.tests.verdict.an_authentic_update_is_accepted.Goals as goal
 

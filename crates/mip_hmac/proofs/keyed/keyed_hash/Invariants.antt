@@ -1,7 +1,0 @@
-use Rattle.std.proofs.Common.{ℕ, List, ◌++◌, take}
-use Rattle.sha1.specs.Sha1.{Holds}
-use Rattle.mip_hmac.specs.Hmac.{joined}
-use Rattle.mip_hmac.proofs.keyed.keyed_hash.Given as goal
-
-abbrev pub invariant-loop-part : goal.invariant-loop-part
-invariant-loop-part l = (m : List ℕ) → Holds l.initial.inner m → Holds l.inner (m ++ joined (take l.part-index l.parts))

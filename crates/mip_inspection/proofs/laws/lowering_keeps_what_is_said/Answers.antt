@@ -1,5 +1,0 @@
-use Rattle.mip_inspection.proofs.Sayings.{carried_lowered}
-use Rattle.mip_inspection.proofs.laws.lowering_keeps_what_is_said.Goals as goal
-
-pub returns : goal.returns
-returns c = carried_lowered

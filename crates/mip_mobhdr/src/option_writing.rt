@@ -1,0 +1,134 @@
+//! Writing the options of a message.
+
+ghost use Rattle.std.specs.Prelude.{◌≡◌, ℕ, ◌+◌, ◌%◌, ◌^◌, ◌<◌, ◌≤◌, List, ◌++◌, length, IfSome, OnOk, OnErr};
+ghost use Rattle.mip_words.specs.declared.address.Address.{Address};
+ghost use Rattle.mip_mobhdr.specs.declared.indices.Indices.{Indices};
+ghost use Rattle.mip_mobhdr.specs.OptionValues.{set_values, IsInRange};
+ghost use Rattle.mip_mobhdr.specs.OptionWriting.{with_advice, with_nonces, with_number, with_alternate, with_authorization, closed, canonical, AppendsOptions};
+
+use crate::indices::Indices;
+use crate::option_set::OptionSet;
+use crate::padding::{Area, align, put};
+use mip_words::{Address, Bytes, Memory, u16_bytes};
+
+/// Appends options to the fixed fields of a message, which they bring to a multiple of 8 bytes.
+pub fn write_options(out: &mut Bytes, options: &OptionSet) -> Result<(), Memory>
+    requires start { length out.old ≤ 24 }
+    requires number { IfSome options.now.number (λ n. n < 8) }
+    ensures ok { OnOk result (out.new ≡ out.old ++ canonical (length out.old) (set_values options.now)) }
+    ensures err { OnErr result (out.new ≡ out.old) }
+    ensures spelled { OnOk result (AppendsOptions (set_values options.now) out.old out.new) }
+    ensures whole { OnOk result (length out.new % 8 ≡ 0) }
+    ensures short { OnOk result (length out.new ≤ length out.old + 72) }
+{
+    let area = area_of(out.len(), options);
+    out.extend(area.as_slice())
+}
+
+#[tactic(auto, unfolding(crate::specs::Writing::canonical))]
+fn area_of(start: usize, options: &OptionSet) -> Area
+    requires start { start ≤ 24 }
+    requires number { IfSome options.now.number (λ n. n < 8) }
+    ensures exact { result.items ≡ canonical start (set_values options.now) }
+    ensures fits { IsInRange (set_values options.now) }
+{
+    let mut area = Area::new();
+    put_advice(start, &mut area, options.advice);
+    put_nonces(start, &mut area, options.nonces);
+    put_number(start, &mut area, options.number);
+    put_alternate(start, &mut area, options.alternate);
+    put_authorization(start, &mut area, options.authorization);
+    close(start, &mut area);
+    area
+}
+
+#[tactic(auto, unfolding(crate::specs::Writing::with_advice, crate::specs::Writing::aligned))]
+fn put_advice(start: usize, area: &mut Area, advice: Option<u16>)
+    requires start { start ≤ 24 }
+    requires room { length area.old.items + 5 ≤ 72 }
+    ensures ok { area.new.items ≡ with_advice start advice area.old.items }
+    ensures fits { (units : ℕ) → advice ≡ Some units → units < 2 ^ 16 }
+    ensures grows { length area.new.items ≤ length area.old.items + 5 }
+{
+    let Some(advice) = advice else {
+        return;
+    };
+    align(start, area, 2, 0);
+    put(area, &[2, 2]);
+    put(area, &u16_bytes(advice));
+}
+
+#[tactic(auto, unfolding(crate::specs::Writing::with_nonces, crate::specs::Writing::aligned))]
+fn put_nonces(start: usize, area: &mut Area, nonces: Option<Indices>)
+    requires start { start ≤ 24 }
+    requires room { length area.old.items + 7 ≤ 72 }
+    ensures ok { area.new.items ≡ with_nonces start nonces area.old.items }
+    ensures fits { (i : Indices) → nonces ≡ Some i → (i.home < 2 ^ 16) × (i.careof < 2 ^ 16) }
+    ensures grows { length area.new.items ≤ length area.old.items + 7 }
+{
+    let Some(nonces) = nonces else {
+        return;
+    };
+    align(start, area, 2, 0);
+    put(area, &[4, 4]);
+    put(area, &u16_bytes(nonces.home));
+    put(area, &u16_bytes(nonces.careof));
+}
+
+#[tactic(auto, unfolding(crate::specs::Writing::with_number, crate::specs::Writing::aligned))]
+fn put_number(start: usize, area: &mut Area, number: Option<u8>)
+    requires start { start ≤ 24 }
+    requires room { length area.old.items + 5 ≤ 72 }
+    requires number { IfSome number (λ n. n < 8) }
+    ensures ok { area.new.items ≡ with_number start number area.old.items }
+    ensures fits { (n : ℕ) → number ≡ Some n → n < 8 }
+    ensures grows { length area.new.items ≤ length area.old.items + 5 }
+{
+    let Some(number) = number else {
+        return;
+    };
+    align(start, area, 2, 0);
+    put(area, &[200, 2]);
+    put(area, &u16_bytes(u16::from(number)));
+}
+
+#[tactic(auto, unfolding(crate::specs::Writing::with_alternate, crate::specs::Writing::aligned))]
+fn put_alternate(start: usize, area: &mut Area, alternate: Option<Address>)
+    requires start { start ≤ 24 }
+    requires room { length area.old.items + 25 ≤ 72 }
+    ensures ok { area.new.items ≡ with_alternate start alternate area.old.items }
+    ensures fits { (a : Address) → alternate ≡ Some a → a.0 < 2 ^ 128 }
+    ensures grows { length area.new.items ≤ length area.old.items + 25 }
+{
+    let Some(alternate) = alternate else {
+        return;
+    };
+    align(start, area, 8, 6);
+    put(area, &[3, 16]);
+    put(area, &alternate.bytes());
+}
+
+#[tactic(auto, unfolding(crate::specs::Writing::with_authorization, crate::specs::Writing::aligned))]
+fn put_authorization(start: usize, area: &mut Area, authorization: Option<[u8; 12]>)
+    requires start { start ≤ 24 }
+    requires room { length area.old.items + 21 ≤ 72 }
+    ensures ok { area.new.items ≡ with_authorization start authorization area.old.items }
+    ensures fits { (bytes : List ℕ) → authorization ≡ Some bytes → length bytes ≡ 12 }
+    ensures grows { length area.new.items ≤ length area.old.items + 21 }
+{
+    let Some(authorization) = authorization else {
+        return;
+    };
+    align(start, area, 8, 2);
+    put(area, &[5, 12]);
+    put(area, &authorization);
+}
+
+#[tactic(auto, unfolding(crate::specs::Writing::closed))]
+fn close(start: usize, area: &mut Area)
+    requires start { start ≤ 24 }
+    requires room { length area.old.items + 7 ≤ 72 }
+    ensures { area.new.items ≡ closed start area.old.items }
+{
+    align(start, area, 8, 0);
+}

@@ -1,5 +1,0 @@
-pub mod Walking
-pub mod Taking
-pub mod Again
-pub mod PaddingLaws
-pub mod Canonical

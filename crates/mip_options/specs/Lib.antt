@@ -1,4 +1,0 @@
-pub mod Values
-pub mod Reading
-pub mod Spelling
-pub mod Writing

@@ -1,3 +1,0 @@
-pub mod Sizes
-pub mod Seals
-pub mod Longs

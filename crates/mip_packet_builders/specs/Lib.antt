@@ -1,3 +1,0 @@
-pub mod Packets
-pub mod Messages
-pub mod Authenticated

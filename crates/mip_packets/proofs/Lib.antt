@@ -1,0 +1,9 @@
+pub mod Sizes
+pub mod Seals
+pub mod Longs
+pub mod Nesting
+pub mod Sayings
+pub mod Updates
+pub mod WrittenPackets
+pub mod WrittenMessages
+pub mod WrittenSayings

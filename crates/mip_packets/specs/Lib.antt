@@ -1,0 +1,6 @@
+pub mod Packets
+pub mod Messages
+pub mod Authenticated
+pub mod Says
+pub mod Updates
+pub mod Written

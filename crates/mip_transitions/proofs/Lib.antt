@@ -1,3 +1,0 @@
-pub mod TransitionLaws
-pub mod ShowLaws
-pub mod PastLaws

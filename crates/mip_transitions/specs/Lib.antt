@@ -1,3 +1,0 @@
-pub mod Transitions
-pub mod Shows
-pub mod Pasts

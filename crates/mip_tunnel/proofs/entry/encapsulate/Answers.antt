@@ -1,6 +1,0 @@
-use Rattle.mip_tunnel.proofs.Tunnels.{opens_is}
-use Rattle.mip_tunnel.proofs.entry.encapsulate.Goals as goal
-
-pub returns-clause-opens : goal.returns-clause-opens
-returns-clause-opens c = λ p outer read found.
-    opens_is c.args.entry c.args.exit c.args.packet.now c.in_ok-wrapped.field-0 p outer c.in_ok-wrapped.ensures.back read found

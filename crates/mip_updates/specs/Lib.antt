@@ -1,3 +1,0 @@
-pub mod Registrations
-pub mod Statuses
-pub mod Acks
