@@ -1,8 +1,9 @@
 //! What a history holds, and what a node answers: the entries of a trace, and the packets that a role
 //! sends. Roles stand on this crate and not on `mip_history`. They know neither their own number nor links nor the
 //! numbers of the packets that they send: their caller completes the entries.
-//! Transitions, by which every role is written: a call of a node takes steps, each of which lets what the node knows of its
-//! past go on; the steps that show are its answers. What runs here is the laws alone.
+//!
+//! Every role is written by transitions: a call of a node takes steps, each of which lets what the node knows of its
+//! past go on; the steps that show are its answers. Of transitions only the laws run here.
 #![tactic(auto)]
 
 mod answer;

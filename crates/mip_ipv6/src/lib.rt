@@ -1,6 +1,5 @@
 //! IPv6 packets and the checksum of what they carry (RFC 8200), with the routing header and the Home Address
-//! option of Mobile IPv6 (RFC 6275 sections 6.3 and 6.4).
-//! Packets inside packets: both ends of a tunnel (RFC 2473).
+//! option of Mobile IPv6 (RFC 6275 sections 6.3 and 6.4), and packets inside packets: both ends of a tunnel (RFC 2473).
 #![tactic(auto)]
 
 mod entry_fault;

@@ -4,8 +4,8 @@ ghost use Rattle.mip_ipv6.specs.Reading.{packet_of};
 ghost use Rattle.mip_ipv6.specs.Tunnel.{hop_of, lowered, lowered_packet, outer_head, tunnel_packet, encapsulated, opened};
 
 use crate::entry_fault::EntryFault;
-use crate::lowering::lower;
 use crate::head::Head;
+use crate::lowering::lower;
 use crate::write_fault::WriteFault;
 use crate::writing::write_packet;
 use mip_words::{Address, Bytes, Memory};

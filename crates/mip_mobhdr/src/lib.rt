@@ -1,5 +1,5 @@
-//! The messages of the Mobility Header (RFC 6275 section 6.1), one module for each kind.
-//! The mobility options: what the messages of RFC 6275 section 6.1 carry behind their fixed fields.
+//! The messages of the Mobility Header (RFC 6275 section 6.1), one module for each kind, and the mobility options that
+//! they carry behind their fixed fields (section 6.2).
 #![tactic(auto)]
 
 mod acknowledgement;

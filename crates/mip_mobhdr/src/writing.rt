@@ -10,13 +10,13 @@ ghost use Rattle.mip_mobhdr.specs.Spelling.{IsMessage, type_of, options_said, fi
 use crate::acknowledgement::put_acknowledgement;
 use crate::address_test::put_test;
 use crate::binding_error::put_error;
+use crate::option_set::OptionSet;
+use crate::option_writing::write_options;
 use crate::plain::Plain;
 use crate::refresh::put_refresh;
 use crate::test_init::put_init;
 use crate::update::{put_update, update_flags};
 use mip_ipv6::checksum;
-use crate::option_set::OptionSet;
-use crate::option_writing::write_options;
 use mip_words::{Address, Bytes, Memory};
 use std::alloc::Global;
 

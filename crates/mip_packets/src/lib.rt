@@ -1,7 +1,6 @@
-//! The packets that nodes and outsiders make (RFC 6275 sections 6.1 to 6.4): hop limit 64, traffic class 0, flow
-//! label 0.
-//! What a packet says, through any depth of tunnels: a test, an update with an authenticator, or nothing of the kind.
-//! What a packet that was written says, however great its numbers are: laws on the packets of `mip_packets`.
+//! The packets that nodes and outsiders make (RFC 6275 sections 6.1 to 6.4), with hop limit 64, traffic class 0 and flow
+//! label 0; and what a packet says, through any depth of tunnels: a test, an update with an authenticator, or nothing of
+//! the kind.
 #![tactic(auto)]
 
 mod authenticated_packet;

@@ -1,7 +1,7 @@
 //! What every node checks of a packet before its role looks at it, and what goes back to the source of
-//! a packet that is refused (RFC 6275 sections 9.2 and 9.3).
-//! What correspondents and home agents have in common about a Binding Update (RFC 6275 sections 6.1.7, 6.1.8 and 9.5): what
-//! it asks, the statuses of its acknowledgement, and the packet that acknowledges it.
+//! a packet that is refused (RFC 6275 sections 9.2 and 9.3); and what correspondents and home agents have in common about
+//! a Binding Update (sections 6.1.7, 6.1.8 and 9.5): what it asks, the statuses of its acknowledgement, and the packet that
+//! acknowledges it.
 #![tactic(auto)]
 
 mod ack;

@@ -1,6 +1,5 @@
 //! Return routability's keyed values: keygen tokens, the binding management key and the authenticator
-//! of an update (RFC 6275 sections 5.2.5, 5.2.6 and 6.2.7).
-//! The keyed hash HMAC-SHA1 (RFC 2104).
+//! of an update (RFC 6275 sections 5.2.5, 5.2.6 and 6.2.7), and HMAC-SHA1 (RFC 2104), by which they are made.
 #![tactic(auto)]
 
 mod authorization;
