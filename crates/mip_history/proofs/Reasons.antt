@@ -4,7 +4,7 @@ use Rattle.std.specs.Prelude.{Option, Some, None, ◌||◌}
 use Rattle.std.specs.List.{AllByRecursion}
 use Rattle.std.proofs.lemmas.Bool.{cond_both}
 use Rattle.mip_words.specs.declared.address.Address.{Address}
-use Rattle.mip_packets.specs.Says.{UpdateIdentity}
+use Rattle.mip_reception.specs.Says.{UpdateIdentity}
 use Rattle.mip_entries.specs.declared.answer.Answer.{Answer}
 use Rattle.mip_entries.specs.declared.answer.Answer.TheVariants.{Send, Note}
 use Rattle.mip_entries.specs.declared.entry.Entry.{Entry}

@@ -12,9 +12,9 @@ use Rattle.mip_lists.specs.EachAfter.{EachAfter}
 use Rattle.mip_lists.specs.Last.{or_else}
 use Rattle.mip_ipv6.specs.Packet.{Packet}
 use Rattle.mip_mobhdr.specs.declared.indices.Indices.{Indices}
-use Rattle.mip_packets.specs.Says.{UpdateIdentity, carried, says}
-use Rattle.mip_packets.specs.Says.Carried.{Update}
-use Rattle.mip_packets.proofs.Sayings.{carried_plain, carried_opened}
+use Rattle.mip_reception.specs.Says.{UpdateIdentity, carried, says}
+use Rattle.mip_reception.specs.Says.Carried.{Update}
+use Rattle.mip_reception.proofs.Sayings.{carried_plain, carried_opened}
 use Rattle.mip_rules_mobile.specs.Part.{Itself, Within}
 use Rattle.mip_rules_mobile.proofs.Checks.{opened-reads}
 use Rattle.mip_binding.specs.Held.{floor}

@@ -20,8 +20,8 @@ use Rattle.mip_mobhdr.specs.Said.{Said}
 use Rattle.mip_mobhdr.specs.Said.Said.{Refresh, HomeInit, CareofInit, HomeTest, CareofTest, Update as BindingUpdate, Acknowledgement, Error}
 use Rattle.mip_mobhdr.specs.Reading.{has_bit, or_fault, update_of, message_of}
 use Rattle.mip_tokens.specs.Token.{authenticated}
-use Rattle.mip_packets.specs.Says.{UpdateIdentity, update_said, said_by, says}
-use Rattle.mip_packets.specs.Says.Carried.{Update, Other}
+use Rattle.mip_reception.specs.Says.{UpdateIdentity, update_said, said_by, says}
+use Rattle.mip_reception.specs.Says.Carried.{Update, Other}
 use Rattle.mip_reception.specs.declared.registration.Registration.{Registration}
 use Rattle.mip_reception.specs.Registrations.{registration, registration_said, registration_in}
 use Rattle.mip_rules_correspondent.proofs.Taken.{update_read}

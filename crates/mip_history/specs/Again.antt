@@ -3,8 +3,8 @@ use Rattle.std.specs.Prelude.{◌≡◌, ℕ, ◌+◌, ◌*◌, ◌%◌, ◌<◌
 use Rattle.std.specs.List.{list_any}
 use Rattle.mip_words.specs.Sequence.{step_from}
 use Rattle.mip_words.specs.declared.address.Address.{Address}
-use Rattle.mip_packets.specs.Says.{UpdateIdentity, carried}
-use Rattle.mip_packets.specs.Says.Carried.{Update}
+use Rattle.mip_reception.specs.Says.{UpdateIdentity, carried}
+use Rattle.mip_reception.specs.Says.Carried.{Update}
 use Rattle.mip_bcache.specs.declared.accepted.Accepted.{Accepted}
 use Rattle.mip_entries.specs.declared.entry.Entry.{Entry}
 use Rattle.mip_entries.specs.declared.entry.Entry.TheVariants as entries

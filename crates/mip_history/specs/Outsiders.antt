@@ -7,11 +7,11 @@ use Rattle.mip_ipv6.specs.declared.head.Head.{Head}
 use Rattle.mip_mobhdr.specs.Said.{Said}
 use Rattle.mip_mobhdr.specs.Said.Said.{HomeInit, CareofInit, Update}
 use Rattle.mip_tokens.specs.Token.{kbm_both_of, kbm_home_of}
-use Rattle.mip_packets.specs.Says.{Carried, innermost, message_in, carried as says}
-use Rattle.mip_packets.specs.Says.Carried.{Test}
-use Rattle.mip_packets.specs.Packets.{node_head}
-use Rattle.mip_packets.specs.Messages.{home_init_packet, careof_init_packet, home_test_packet, careof_test_packet}
-use Rattle.mip_packets.specs.Authenticated.{authenticated_packet}
+use Rattle.mip_reception.specs.Says.{Carried, innermost, message_in, carried as says}
+use Rattle.mip_reception.specs.Says.Carried.{Test}
+use Rattle.mip_reception.specs.Packets.{node_head}
+use Rattle.mip_reception.specs.Messages.{home_init_packet, careof_init_packet, home_test_packet, careof_test_packet}
+use Rattle.mip_reception.specs.Authenticated.{authenticated_packet}
 use Rattle.mip_entries.specs.declared.entry.Entry.TheVariants.{Injected, Listening, Deafened, Idle}
 use Rattle.mip_links.specs.Table.{Post, holder_outside}
 use Rattle.mip_rules_mobile.specs.Sendings.{number_option}

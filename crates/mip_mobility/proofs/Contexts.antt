@@ -3,8 +3,8 @@ use Rattle.std.proofs.Common.{◌≡◌, ℕ, List, sym, ap, ◌∙◌, subst}
 use Rattle.mip_rules_mobile.specs.Steps.{Step}
 use Rattle.mip_rules_mobile.specs.Known.{Known}
 use Rattle.mip_rules_mobile.specs.Transitions.{Transition}
-use Rattle.mip_call_context.specs.Seen.{ContextSeen, Shows}
-use Rattle.mip_call_context.proofs.Noted.{shows-known, shows-moment}
+use Rattle.mip_registration.specs.Seen.{ContextSeen, Shows}
+use Rattle.mip_registration.proofs.Noted.{shows-known, shows-moment}
 
 -- the transition that a context shows, whose steps it doesn't show
 abbrev pub transition_at : ContextSeen → List Step → Transition

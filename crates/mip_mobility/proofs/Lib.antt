@@ -3,4 +3,4 @@ pub mod Rounds
 pub mod Named
 pub mod Inner
 pub mod Fails
-pub use Rattle.mip_call_context.proofs.Noted
+pub use Rattle.mip_registration.proofs.Noted

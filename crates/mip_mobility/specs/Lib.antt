@@ -1,3 +1,3 @@
 pub mod Inners
 pub mod Rounds
-pub use Rattle.mip_call_context.specs.Seen
+pub use Rattle.mip_registration.specs.Seen

@@ -4,12 +4,12 @@ ghost use Rattle.std.specs.Prelude.{◌≡◌, ◌<◌, ◌^◌, IfSome, OnOk};
 ghost use Rattle.mip_reception.specs.Statuses.{accepts_it};
 ghost use Rattle.mip_rules_mobile.specs.HomeRules.{is_answered_at, is_answer_to, answered_by, home_answered, is_registered, is_unregistered, is_accepted, takes_home_ack};
 ghost use Rattle.mip_rules_mobile.specs.Transitions.{Transition};
-ghost use Rattle.mip_call_context.specs.Seen.{Shows};
+ghost use Rattle.mip_registration.specs.Seen.{Shows};
 
 use crate::ack::Ack;
 use crate::handed::Handed;
 use mip_bulist::Work;
-use mip_call_context::{CallContext, RESENDING};
+use mip_registration::call_context::{CallContext, RESENDING};
 use mip_constants::LIFETIME_UNIT;
 use mip_registration::{catch_up, turn_away};
 use mip_routability::{REFRESH_UNIT, start_deletions, start_unbound};

@@ -7,14 +7,14 @@ ghost use Rattle.mip_rules_mobile.specs.Calls as calls;
 ghost use Rattle.mip_ipv6.specs.Tunnel.{hop_of};
 ghost use Rattle.mip_rules_mobile.specs.Doing.{handles};
 ghost use Rattle.mip_rules_mobile.specs.Transitions.{Transition};
-ghost use Rattle.mip_call_context.specs.Seen.{Shows};
+ghost use Rattle.mip_registration.specs.Seen.{Shows};
 
 use crate::handed::Handed;
 use crate::moving::{self, detach};
 use crate::receiving::take_bytes;
 use crate::ringing::ring_all;
 use crate::sending::transmit;
-use mip_call_context::{CallContext, ask_refresh, go_out, is_mobility};
+use mip_registration::call_context::{CallContext, ask_refresh, go_out, is_mobility};
 use mip_nonce::Secrets;
 use mip_outside::Claim;
 use mip_registration::solicit;

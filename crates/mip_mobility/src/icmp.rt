@@ -6,10 +6,10 @@ ghost use Rattle.mip_words.specs.declared.address.Address.{Address};
 ghost use Rattle.mip_rules_mobile.specs.declared.attachment.Attachment.TheVariants.{Away};
 ghost use Rattle.mip_rules_mobile.specs.IcmpRules.{agents_named, finds, takes_discovery_reply, takes_icmp};
 ghost use Rattle.mip_rules_mobile.specs.Transitions.{Transition};
-ghost use Rattle.mip_call_context.specs.Seen.{Shows};
+ghost use Rattle.mip_registration.specs.Seen.{Shows};
 
 use mip_bulist::Work;
-use mip_call_context::{Agents, CallContext, SEEKING};
+use mip_registration::call_context::{Agents, CallContext, SEEKING};
 use mip_icmp::{Icmp, read_icmp};
 use mip_ipv6::PacketRef;
 use mip_registration::{register, take_prefix_reply};

@@ -8,9 +8,9 @@ ghost use Rattle.mip_rules_mobile.specs.TrialRules.{each_row};
 ghost use Rattle.mip_rules_mobile.specs.HomeQuestions.{home_of};
 ghost use Rattle.mip_rules_mobile.specs.Steps.{Releases};
 ghost use Rattle.mip_rules_mobile.specs.Transitions.{Transition, noted};
-ghost use Rattle.mip_call_context.specs.Seen.{Shows};
+ghost use Rattle.mip_registration.specs.Seen.{Shows};
 
-use mip_call_context::CallContext;
+use mip_registration::call_context::CallContext;
 use mip_nonce::Secrets;
 use mip_outside::Claim;
 use mip_registration::{arrive, register};

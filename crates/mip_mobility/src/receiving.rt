@@ -9,12 +9,12 @@ ghost use Rattle.mip_reception.specs.Checks.{checked};
 ghost use Rattle.mip_rules_correspondent.specs.Rules.{place_in};
 ghost use Rattle.mip_rules_mobile.specs.ReceivingRules.{after_checks, is_address_of, is_routed, takes_route, standing_of, takes};
 ghost use Rattle.mip_rules_mobile.specs.Transitions.{Transition};
-ghost use Rattle.mip_call_context.specs.Seen.{Shows};
+ghost use Rattle.mip_registration.specs.Seen.{Shows};
 
 use crate::handed::Handed;
 use crate::roles::take_role;
 use crate::tunnelled::{open, refuse};
-use mip_call_context::CallContext;
+use mip_registration::call_context::CallContext;
 use mip_constants::protocol::IPV6;
 use mip_ipv6::{Head, PacketRef, read_packet};
 use mip_mobhdr::Message;

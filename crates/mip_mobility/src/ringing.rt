@@ -12,10 +12,10 @@ ghost use Rattle.mip_rules_mobile.specs.TimerQuestions.{moment};
 ghost use Rattle.mip_mobility.specs.Rounds.{rings_once};
 ghost use Rattle.mip_rules_mobile.specs.Steps.{Tries};
 ghost use Rattle.mip_rules_mobile.specs.Transitions.{Transition, noted};
-ghost use Rattle.mip_call_context.specs.Seen.{Shows};
+ghost use Rattle.mip_registration.specs.Seen.{Shows};
 
 use mip_bulist::{Any, Work};
-use mip_call_context::{CallContext, ENDING, RENEWING, RESENDING, SEEKING, doubled};
+use mip_registration::call_context::{CallContext, ENDING, RENEWING, RESENDING, SEEKING, doubled};
 use mip_registration::{end_home, renew_home, resend_home, seek_again};
 use mip_routability::{resend_row, start};
 use mip_words::{Address, Memory};

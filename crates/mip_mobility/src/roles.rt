@@ -8,14 +8,14 @@ ghost use Rattle.mip_packets.specs.Says.{message_in};
 ghost use Rattle.mip_rules_correspondent.specs.Rules.{is_for_part};
 ghost use Rattle.mip_rules_mobile.specs.ReceivingRules.{then_meets, takes_for_part, takes_ack, by_proto, by_message, by_role};
 ghost use Rattle.mip_rules_mobile.specs.Transitions.{Transition};
-ghost use Rattle.mip_call_context.specs.Seen.{Shows};
+ghost use Rattle.mip_registration.specs.Seen.{Shows};
 
 use crate::ack::Ack;
 use crate::acknowledged::{answered, take_home_ack};
 use crate::handed::Handed;
 use crate::icmp::take_icmp;
-use mip_call_context::correspondent::is_for_part;
-use mip_call_context::{CallContext, Heard, ask_part};
+use mip_registration::call_context::correspondent::is_for_part;
+use mip_registration::call_context::{CallContext, Heard, ask_part};
 use mip_constants::protocol::{ICMPV6, NO_NEXT_HEADER};
 use mip_ipv6::PacketRef;
 use mip_mobhdr::{Message, Options};

@@ -8,9 +8,9 @@ ghost use Rattle.mip_rules_mobile.specs.declared.attachment.Attachment.TheVarian
 ghost use Rattle.mip_rules_mobile.specs.Sendings.{data_head};
 ghost use Rattle.mip_rules_mobile.specs.Doing.{transmits_from, transmits};
 ghost use Rattle.mip_rules_mobile.specs.Transitions.{Transition};
-ghost use Rattle.mip_call_context.specs.Seen.{Shows};
+ghost use Rattle.mip_registration.specs.Seen.{Shows};
 
-use mip_call_context::{CallContext, ask_data};
+use mip_registration::call_context::{CallContext, ask_data};
 use mip_ipv6::Head;
 use mip_packets::{node_head, write_data_packet};
 use mip_rules_mobile::Attachment;

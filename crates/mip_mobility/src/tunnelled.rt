@@ -6,12 +6,12 @@ ghost use Rattle.mip_reception.specs.Checks.{checked};
 ghost use Rattle.mip_rules_correspondent.specs.Rules.{place_in};
 ghost use Rattle.mip_rules_mobile.specs.ReceivingRules.{refuses, after_inner_checks, inner_standing, takes_inner, opens_from, opens};
 ghost use Rattle.mip_rules_mobile.specs.Transitions.{Transition};
-ghost use Rattle.mip_call_context.specs.Seen.{Shows};
+ghost use Rattle.mip_registration.specs.Seen.{Shows};
 ghost use Rattle.mip_mobility.specs.Inners.{inner_why, entry_why};
 
 use crate::handed::Handed;
 use crate::roles::take_role;
-use mip_call_context::{CallContext, reply};
+use mip_registration::call_context::{CallContext, reply};
 use mip_constants::protocol::{IPV6, MOBILITY_HEADER};
 use mip_ipv6::{ExitFault, Head, PacketRef, decapsulate};
 use mip_reception::{AddressMatch, Refusal, check, packet_why};

@@ -4,3 +4,4 @@ pub mod Authenticated
 pub mod Says
 pub mod Updates
 pub mod Written
+pub mod Keys

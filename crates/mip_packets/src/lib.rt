@@ -28,8 +28,11 @@ pub use messages::{
     NO_OPTIONS, write_careof_init, write_careof_test, write_error, write_home_init,
     write_home_test, write_refresh,
 };
+pub use mip_tokens::PreparedKbm;
 pub use nesting::{innermost, message_in};
 pub use problem_packet::write_problem_packet;
-pub use round_trip::{messages_say_their_tests, other_packets_say_no_test, what_was_written_is_read};
+pub use round_trip::{
+    messages_say_their_tests, other_packets_say_no_test, what_was_written_is_read,
+};
 pub use test_kind::TestKind;
 pub use update_identity::UpdateIdentity;

@@ -2,3 +2,8 @@ pub mod Passings
 pub mod Pointers
 pub mod Reasons
 pub mod Updates
+pub use Rattle.mip_packets.proofs.Longs
+pub use Rattle.mip_packets.proofs.Sayings
+pub use Rattle.mip_packets.proofs.WrittenPackets
+pub use Rattle.mip_packets.proofs.WrittenMessages
+pub use Rattle.mip_packets.proofs.WrittenSayings

@@ -6,7 +6,7 @@ use Rattle.mip_ipv6.specs.declared.head.Head.{Head}
 use Rattle.mip_mobhdr.specs.OptionValues.{nothing}
 use Rattle.mip_mobhdr.specs.Said.{Said}
 use Rattle.mip_mobhdr.specs.Said.Said.{Acknowledgement}
-use Rattle.mip_tokens.specs.declared.kbm.Kbm.{Kbm}
+use Rattle.mip_packets.specs.Keys.{Kbm}
 use Rattle.mip_packets.specs.Packets.{node_head, message_packet}
 use Rattle.mip_packets.specs.Authenticated.{authenticated_packet}
 use Rattle.mip_reception.specs.declared.registration.Registration.{Registration}

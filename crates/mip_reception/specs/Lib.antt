@@ -7,3 +7,8 @@ pub mod Refusing
 pub mod Registrations
 pub mod Statuses
 pub mod Acks
+pub use Rattle.mip_packets.specs.Says
+pub use Rattle.mip_packets.specs.Packets
+pub use Rattle.mip_packets.specs.Messages
+pub use Rattle.mip_packets.specs.Authenticated
+pub use Rattle.mip_packets.specs.Written

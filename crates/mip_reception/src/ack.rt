@@ -12,9 +12,8 @@ use mip_constants::protocol::MOBILITY_HEADER;
 use mip_ipv6::Head;
 use mip_mobhdr::Plain;
 use mip_packets::{
-    NO_OPTIONS, node_head, write_authenticated_packet, write_message_packet,
+    NO_OPTIONS, PreparedKbm, node_head, write_authenticated_packet, write_message_packet,
 };
-use mip_tokens::PreparedKbm;
 use mip_words::{Address, Bytes, Memory};
 use std::alloc::Global;
 

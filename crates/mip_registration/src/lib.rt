@@ -9,5 +9,6 @@ mod ringing;
 
 pub use asking::{solicit, take_prefix_reply};
 pub use home::{catch_up, register, resend_home, seek_again, turn_away};
+pub use mip_call_context as call_context;
 pub use moving::{address_under, arrive};
 pub use ringing::{end_home, renew_home};

@@ -7,3 +7,5 @@ pub mod Renewals
 pub mod Pieces
 pub use Rattle.mip_origin.specs.Marked
 pub use Rattle.mip_delivery.specs.Reached
+pub use Rattle.mip_history.specs.Setup
+pub use Rattle.mip_history.specs.Permitted

@@ -6,8 +6,8 @@ use Rattle.std.specs.Io.KnownBytes.{append_known}
 use Rattle.mip_schedule.specs.Contents.{Content}
 use Rattle.mip_schedule.specs.Faults.{Wrong}
 use Rattle.mip_schedule.specs.Reading.{reading}
-use Rattle.mip_history.specs.Setup.{setup_of}
-use Rattle.mip_history.specs.Permitted.{permitted}
+use Rattle.mip_replay.specs.Setup.{setup_of}
+use Rattle.mip_replay.specs.Permitted.{permitted}
 use Rattle.mip_replay.specs.Marked.{EachIsMarked}
 use Rattle.mip_audit.specs.Cutting.{cut_text}
 use Rattle.mip_audit.specs.Differences.{difference, IsJudgedSo}

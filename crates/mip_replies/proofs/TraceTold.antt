@@ -9,7 +9,7 @@ use Rattle.mip_entries.specs.Widths.{HasWidths}
 use Rattle.mip_outside.proofs.Known.{append_more}
 use Rattle.mip_printing.proofs.Parts.{part_of}
 use Rattle.mip_schedule.specs.Contents.{Content}
-use Rattle.mip_history.specs.Permitted.{permitted}
+use Rattle.mip_replay.specs.Permitted.{permitted}
 use Rattle.mip_replay.specs.Pieces.{RunSeen, IsRunOf}
 use Rattle.mip_replay.proofs.RunLaws.{told_front}
 use Rattle.mip_trace.specs.Lines.{trace_text}

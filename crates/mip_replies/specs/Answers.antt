@@ -20,7 +20,7 @@ use Rattle.mip_schedule.specs.Reading.{reading}
 use Rattle.mip_schedule.specs.Spelling.{spelling}
 use Rattle.mip_symbols.specs.declared.reason.Reason.{Reason}
 use Rattle.mip_symbols.specs.declared.reason.Reason.TheVariants as reasons
-use Rattle.mip_history.specs.Permitted.{permitted}
+use Rattle.mip_replay.specs.Permitted.{permitted}
 use Rattle.mip_trace.specs.Lines.{trace_text}
 use Rattle.mip_proxynd.specs.Text.{claims_text}
 use Rattle.mip_audit.specs.Cutting.{cut_text}

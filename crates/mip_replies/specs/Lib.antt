@@ -8,3 +8,5 @@ pub use Rattle.mip_replay.specs.Bindings
 pub use Rattle.mip_replay.specs.Homes
 pub use Rattle.mip_replay.specs.Marked
 pub use Rattle.mip_replay.specs.Reached
+pub use Rattle.mip_replay.specs.Setup
+pub use Rattle.mip_replay.specs.Permitted

@@ -4,7 +4,7 @@ ghost use Rattle.std.specs.Prelude.{◌≡◌, ℕ, ◌<◌, ◌≤◌, [], leng
 ghost use Rattle.std.specs.Io.KnownBytes.{append_known};
 ghost use Rattle.mip_outside.specs.Cause.{Rose};
 ghost use Rattle.mip_schedule.specs.Schedules.{content};
-ghost use Rattle.mip_history.specs.Permitted.{permitted};
+ghost use Rattle.mip_replay.specs.Permitted.{permitted};
 ghost use Rattle.mip_proxynd.specs.Claims.{rows_in};
 ghost use Rattle.mip_proxynd.specs.Text.{adverts, end_text};
 ghost use Rattle.mip_replies.specs.Answers.{claims_of};

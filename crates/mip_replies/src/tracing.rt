@@ -4,7 +4,7 @@ ghost use Rattle.std.specs.Prelude.{◌≡◌, ℕ, ◌<◌, ◌≤◌, ◌^◌,
 ghost use Rattle.std.specs.Io.KnownBytes.{append_known};
 ghost use Rattle.mip_outside.specs.Cause.{Rose};
 ghost use Rattle.mip_schedule.specs.Schedules.{content};
-ghost use Rattle.mip_history.specs.Permitted.{permitted};
+ghost use Rattle.mip_replay.specs.Permitted.{permitted};
 ghost use Rattle.mip_trace.specs.Reading.{reading};
 ghost use Rattle.mip_replies.specs.Answers.{trace_of};
 

@@ -8,11 +8,11 @@ use Rattle.mip_ipv6.specs.declared.not_packet.NotPacket.{NotPacket}
 use Rattle.mip_ipv6.specs.Packet.{Packet}
 use Rattle.mip_ipv6.specs.Reading.{packet_of}
 use Rattle.mip_ipv6.specs.Tunnel.{tunnel_packet, encapsulated}
-use Rattle.mip_packets.specs.Says.{carried}
-use Rattle.mip_packets.proofs.Sayings.{carried_is, said_if_read, carried_outer, carried_lowered}
-use Rattle.mip_packets.specs.Written.{SaysNoTest}
-use Rattle.mip_packets.proofs.WrittenPackets.{read_back}
-use Rattle.mip_packets.proofs.WrittenSayings.{message_says_no_test, data_says_no_test, problem_says_no_test}
+use Rattle.mip_reception.specs.Says.{carried}
+use Rattle.mip_reception.proofs.Sayings.{carried_is, said_if_read, carried_outer, carried_lowered}
+use Rattle.mip_reception.specs.Written.{SaysNoTest}
+use Rattle.mip_reception.proofs.WrittenPackets.{read_back}
+use Rattle.mip_reception.proofs.WrittenSayings.{message_says_no_test, data_says_no_test, problem_says_no_test}
 use Rattle.mip_discovery.specs.declared.agent.Agent.{Agent}
 use Rattle.mip_discovery.specs.Reply.{discovery_reply}
 use Rattle.mip_reception.specs.declared.reply.Reply.{Reply}

@@ -9,9 +9,9 @@ use Rattle.mip_ipv6.specs.Packet.{source_of, destination_of, names_no_body}
 use Rattle.mip_mobhdr.specs.Said.{Said}
 use Rattle.mip_mobhdr.specs.Spelling.{type_of, message_bytes}
 use Rattle.mip_ipv6.specs.Tunnel.{tunnel_packet, encapsulated}
-use Rattle.mip_packets.specs.Packets.{data_packet, message_packet}
-use Rattle.mip_packets.proofs.WrittenPackets.{read_back}
-use Rattle.mip_packets.proofs.WrittenMessages.{type_written}
+use Rattle.mip_reception.specs.Packets.{data_packet, message_packet}
+use Rattle.mip_reception.proofs.WrittenPackets.{read_back}
+use Rattle.mip_reception.proofs.WrittenMessages.{type_written}
 use Rattle.mip_entries.specs.declared.answer.Answer.{Answer}
 use Rattle.mip_entries.specs.declared.answer.Answer.TheVariants.{Send}
 use Rattle.mip_reception.specs.declared.registration.Registration.{Registration}

@@ -19,7 +19,7 @@ use Rattle.mip_mobhdr.specs.declared.fault.Fault.{Fault}
 use Rattle.mip_mobhdr.specs.Said.{Said}
 use Rattle.mip_mobhdr.specs.Said.Said.{Update}
 use Rattle.mip_mobhdr.specs.Reading.{type_in, options_in, refresh_of, home_init_of, careof_init_of, home_test_of, careof_test_of, update_of, acknowledgement_of, error_of, fields_of, message_of}
-use Rattle.mip_packets.proofs.WrittenMessages.{message_reads}
+use Rattle.mip_reception.proofs.WrittenMessages.{message_reads}
 use Rattle.mip_ipv6.specs.Tunnel.{hop_of}
 use Rattle.mip_outside.specs.declared.claim.Claim.{Claim}
 use Rattle.mip_entries.specs.Stamped.{stamped}

@@ -5,7 +5,7 @@ use Rattle.mip_words.specs.declared.address.Address.{Address}
 use Rattle.mip_words.specs.declared.shield.Shield.{Shield}
 use Rattle.mip_ipv6.proofs.Packets.{read_stands}
 use Rattle.mip_ipv6.specs.Tunnel.{encapsulated}
-use Rattle.mip_packets.proofs.Longs.{IsLong, packet-long, data-long, message-long, problem-long}
+use Rattle.mip_reception.proofs.Longs.{IsLong, packet-long, data-long, message-long, problem-long}
 use Rattle.mip_discovery.specs.declared.agent.Agent.{Agent}
 use Rattle.mip_discovery.specs.Reply.{discovery_reply}
 use Rattle.mip_reception.specs.declared.reply.Reply.{Reply}

@@ -7,7 +7,7 @@ use Rattle.mip_ipv6.specs.declared.head.Head.{Head}
 use Rattle.mip_icmp.specs.declared.options.IcmpSet.{IcmpSet}
 use Rattle.mip_icmp.specs.Said.{Said, PrefixReply}
 use Rattle.mip_icmp.specs.Spelling.{icmp_bytes}
-use Rattle.mip_packets.specs.Packets.{node_head, data_packet}
+use Rattle.mip_reception.specs.Packets.{node_head, data_packet}
 
 -- under the shield of an agent and a home
 abbrev pub shield_to : (own home : Address) → Option Shield

@@ -1,8 +1,8 @@
 -- What the packets say that a home agent sends: what the packet says that was handed over, or no test. RFC 6275 section
 -- 5.2.5
 use Rattle.std.specs.Prelude.{◌≡◌, ◌⊎◌, ℕ, List}
-use Rattle.mip_packets.specs.Says.{carried}
-use Rattle.mip_packets.specs.Written.{SaysNoTest}
+use Rattle.mip_reception.specs.Says.{carried}
+use Rattle.mip_reception.specs.Written.{SaysNoTest}
 use Rattle.mip_entries.specs.declared.answer.Answer.{Answer}
 use Rattle.mip_entries.specs.declared.answer.Answer.TheVariants.{Send, Note}
 

@@ -4,8 +4,8 @@ use Rattle.std.specs.Prelude.{Option, Some, None, option_map, fold, Bool, true, 
 use Rattle.std.specs.List.{AllByRecursion}
 use Rattle.std.proofs.lemmas.List.{append_assoc, append-nil}
 use Rattle.mip_words.specs.declared.address.Address.{Address}
-use Rattle.mip_binding.specs.Acceptance.{Acceptance}
-use Rattle.mip_binding.specs.Held.{held, holds, floor, is_full}
+use Rattle.mip_bcache.specs.Acceptance.{Acceptance}
+use Rattle.mip_bcache.specs.Held.{held, holds, floor, is_full}
 use Rattle.mip_bcache.specs.declared.row.Row.{Row}
 use Rattle.mip_bcache.specs.Seen.{CacheSeen, StandsFor, standing_at, expired}
 use Rattle.mip_bcache.proofs.Pasts.{HaveUntils, empty_stands, look_answers, holds_answers, floor_answers, room_answers, expire_stands, accept_stands, kept_untils, accept_untils}

@@ -10,7 +10,7 @@ use Rattle.mip_mobhdr.specs.declared.fault.Fault.{Fault}
 use Rattle.mip_mobhdr.specs.Said.{Said}
 use Rattle.mip_mobhdr.specs.Said.Said.{HomeInit, CareofInit, Update}
 use Rattle.mip_mobhdr.specs.Reading.{message_of}
-use Rattle.mip_packets.specs.Says.{message_in}
+use Rattle.mip_reception.specs.Says.{message_in}
 use Rattle.mip_entries.proofs.TransitionLaws.{noted_all, noted_all-is}
 use Rattle.mip_reception.specs.declared.registration.Registration.{Registration}
 use Rattle.mip_reception.specs.Registrations.{registration, registration_said, registration_in}

@@ -14,7 +14,7 @@ use Rattle.mip_mobhdr.specs.declared.indices.Indices.{Indices}
 use Rattle.mip_nonce.specs.Window.{current_of, behind, number_named, IsValidAt}
 use Rattle.mip_tokens.specs.Token.{authenticator_of, is_authentic}
 use Rattle.mip_tokens.specs.declared.kbm.Kbm.{Kbm}
-use Rattle.mip_binding.specs.Acceptance.{Acceptance, kept_until_of}
+use Rattle.mip_bcache.specs.Acceptance.{Acceptance, kept_until_of}
 use Rattle.mip_bcache.specs.declared.accepted.Accepted.{Accepted}
 use Rattle.mip_reception.specs.Statuses.{insufficient_resources, home_registration_not_supported, sequence_out_of_window, expired_home_nonce, expired_careof_nonce, expired_nonces, is_authorized}
 use Rattle.mip_reception.specs.declared.registration.Registration.{Registration}

@@ -3,7 +3,7 @@ use Rattle.std.proofs.Common.{ℕ, List, sym, subst}
 use Rattle.std.specs.Prelude.{Option, Some, None, IfSome}
 use Rattle.mip_words.specs.declared.address.Address.{Address}
 use Rattle.mip_tokens.specs.declared.kbm.Kbm.{Kbm}
-use Rattle.mip_packets.proofs.Longs.{IsLong, data-long, message-long, authenticated-long, problem-long}
+use Rattle.mip_reception.proofs.Longs.{IsLong, data-long, message-long, authenticated-long, problem-long}
 use Rattle.mip_reception.specs.declared.reply.Reply.{Reply}
 use Rattle.mip_reception.specs.declared.reply.Reply.TheVariants.{Nothing, BindingError, ParameterProblem}
 use Rattle.mip_reception.specs.Replies.{reply_packet}

@@ -4,9 +4,9 @@ use Rattle.mip_words.specs.declared.address.Address.{Address}
 use Rattle.mip_ipv6.specs.declared.head.Head.{Head}
 use Rattle.mip_ipv6.specs.Packet.{Packet}
 use Rattle.mip_ipv6.specs.Reading.{packet_of}
-use Rattle.mip_packets.specs.Says.{message_in}
-use Rattle.mip_packets.specs.Packets.{node_head, straight, data_packet}
-use Rattle.mip_packets.specs.Messages.{refresh_packet}
+use Rattle.mip_reception.specs.Says.{message_in}
+use Rattle.mip_reception.specs.Packets.{node_head, straight, data_packet}
+use Rattle.mip_reception.specs.Messages.{refresh_packet}
 use Rattle.mip_rules_correspondent.specs.declared.identity.Identity.{Identity}
 use Rattle.mip_rules_correspondent.specs.declared.known.Known.{Known}
 use Rattle.mip_rules_correspondent.specs.Calls as calls

@@ -13,3 +13,4 @@ pub mod Refusing
 pub mod Taken
 pub mod Pasts
 pub mod Wholes
+pub mod Cache

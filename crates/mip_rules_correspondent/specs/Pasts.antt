@@ -1,7 +1,7 @@
 -- The updates that were accepted in a past: what the binding cache stands for.
 use Rattle.std.specs.Prelude.{ℕ, List, [], ◌∷◌}
 use Rattle.std.specs.List.{flat_map}
-use Rattle.mip_binding.specs.Acceptance.{Acceptance}
+use Rattle.mip_bcache.specs.Acceptance.{Acceptance}
 use Rattle.mip_bcache.specs.Seen.{acceptance}
 use Rattle.mip_entries.specs.Stamped.{Stamped}
 use Rattle.mip_rules_correspondent.specs.Steps.{Step, Accepts}

@@ -14,7 +14,7 @@ use Rattle.mip_nonce.specs.Window.{current_of, index_of}
 use Rattle.mip_tokens.specs.Token.{home_token_of, careof_token_of}
 use Rattle.mip_tokens.specs.declared.kbm.Kbm.{Kbm}
 use Rattle.mip_bcache.specs.declared.accepted.Accepted.{Accepted}
-use Rattle.mip_packets.specs.Messages.{home_test_packet, careof_test_packet}
+use Rattle.mip_reception.specs.Messages.{home_test_packet, careof_test_packet}
 use Rattle.mip_reception.specs.declared.refusal.Refusal.{Refusal}
 use Rattle.mip_reception.specs.declared.address_match.AddressMatch.{AddressMatch}
 use Rattle.mip_reception.specs.Words.{packet_why}

@@ -3,7 +3,7 @@ use Rattle.std.specs.Prelude.{◌≡◌, ℕ, List, true, Option, Some}
 use Rattle.mip_words.specs.declared.address.Address.{Address}
 use Rattle.mip_tokens.specs.declared.kbm.Kbm.{Kbm}
 use Rattle.mip_entries.specs.Reasons.{is_dropped_why}
-use Rattle.mip_packets.specs.Messages.{refresh_packet}
+use Rattle.mip_reception.specs.Messages.{refresh_packet}
 use Rattle.mip_reception.specs.declared.reply.Reply.{Reply}
 use Rattle.mip_reception.specs.Replies.{reply_packet}
 use Rattle.mip_rules_correspondent.specs.declared.identity.Identity.{Identity}

@@ -12,7 +12,7 @@ use Rattle.mip_mobhdr.specs.declared.fault.Fault.{Fault}
 use Rattle.mip_mobhdr.specs.Said.{Said}
 use Rattle.mip_mobhdr.specs.Reading.{message_of}
 use Rattle.mip_ipv6.specs.Tunnel.{inner, opened}
-use Rattle.mip_packets.specs.Says.{message_in}
+use Rattle.mip_reception.specs.Says.{message_in}
 use Rattle.mip_reception.specs.declared.refusal.Refusal.{Refusal}
 use Rattle.mip_reception.specs.declared.address_match.AddressMatch.{AddressMatch}
 use Rattle.mip_reception.specs.Checks.{message_or_refusal, message_at, then_home, is_probe, is_update, checked}

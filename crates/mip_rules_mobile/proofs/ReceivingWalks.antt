@@ -21,7 +21,7 @@ use Rattle.mip_icmp.specs.Reading.{icmp_of}
 use Rattle.mip_ipv6.specs.declared.exit_fault.ExitFault.{ExitFault}
 use Rattle.mip_ipv6.specs.declared.exit_fault.ExitFault.TheVariants.{NotTunnel, WrongEntry, Inner}
 use Rattle.mip_ipv6.specs.Tunnel.{opened}
-use Rattle.mip_packets.specs.Says.{message_in}
+use Rattle.mip_reception.specs.Says.{message_in}
 use Rattle.mip_reception.specs.declared.refusal.Refusal.{Refusal}
 use Rattle.mip_reception.specs.Words.{packet_why}
 use Rattle.mip_reception.specs.Checks.{checked}

@@ -9,7 +9,7 @@ use Rattle.mip_words.specs.declared.why.Why.TheVariants as whys
 use Rattle.mip_ipv6.specs.Packet.{Packet, source_of, destination_of}
 use Rattle.mip_mobhdr.specs.Said.{Said}
 use Rattle.mip_mobhdr.specs.Said.Said.{HomeInit, CareofInit, Update}
-use Rattle.mip_packets.specs.Says.{message_in}
+use Rattle.mip_reception.specs.Says.{message_in}
 use Rattle.mip_entries.specs.declared.answer.Answer.{Answer}
 use Rattle.mip_entries.specs.declared.answer.Answer.TheVariants.{Send, Note}
 use Rattle.mip_entries.specs.declared.entry.Entry.{Entry}
@@ -25,7 +25,7 @@ use Rattle.mip_rules_correspondent.specs.declared.known.Known as kept
 use Rattle.mip_rules_correspondent.specs.declared.verdict.Verdict.{Verdict}
 use Rattle.mip_rules_correspondent.specs.declared.verdict.Verdict.TheVariants.{Refuse, Deny, Accept}
 use Rattle.mip_rules_correspondent.specs.Verdicts.{verdict}
-use Rattle.mip_bcache.specs.Seen.{CacheSeen}
+use Rattle.mip_rules_correspondent.specs.Cache.{CacheSeen}
 use Rattle.mip_rules_correspondent.specs.Seen.{called}
 use Rattle.mip_rules_correspondent.specs.Steps as part_steps
 use Rattle.mip_rules_correspondent.specs.Questions as part_questions

@@ -7,13 +7,13 @@ use Rattle.mip_ipv6.specs.Packet.{Packet, names_no_body}
 use Rattle.mip_ipv6.specs.Reading.{packet_of}
 use Rattle.mip_tokens.specs.declared.kbm.Kbm.{Kbm}
 use Rattle.mip_ipv6.specs.Tunnel.{tunnel_packet, encapsulated}
-use Rattle.mip_packets.specs.Says.{carried}
-use Rattle.mip_packets.proofs.Sayings.{carried_is, said_if_read, carried_outer, carried_lowered}
-use Rattle.mip_packets.specs.Packets.{data_packet}
-use Rattle.mip_packets.specs.Authenticated.{authenticated_packet}
-use Rattle.mip_packets.specs.Written.{SaysNoTest}
-use Rattle.mip_packets.proofs.WrittenPackets.{read_back}
-use Rattle.mip_packets.proofs.WrittenSayings.{message_says_no_test, data_says_no_test, problem_says_no_test}
+use Rattle.mip_reception.specs.Says.{carried}
+use Rattle.mip_reception.proofs.Sayings.{carried_is, said_if_read, carried_outer, carried_lowered}
+use Rattle.mip_reception.specs.Packets.{data_packet}
+use Rattle.mip_reception.specs.Authenticated.{authenticated_packet}
+use Rattle.mip_reception.specs.Written.{SaysNoTest}
+use Rattle.mip_reception.proofs.WrittenPackets.{read_back}
+use Rattle.mip_reception.proofs.WrittenSayings.{message_says_no_test, data_says_no_test, problem_says_no_test}
 use Rattle.mip_reception.specs.declared.reply.Reply.{Reply}
 use Rattle.mip_reception.specs.declared.reply.Reply.TheVariants.{Nothing, BindingError, ParameterProblem}
 use Rattle.mip_reception.specs.Replies.{reply_packet}

@@ -12,8 +12,8 @@ use Rattle.mip_ipv6.specs.declared.head.Head.{Head}
 use Rattle.mip_ipv6.specs.Packet.{Packet}
 use Rattle.mip_ipv6.specs.Spelling.{behind_bytes, fixed_bytes, packet_bytes, first_number, second_number}
 use Rattle.mip_mobhdr.specs.Said.{Said}
-use Rattle.mip_packets.specs.Packets.{data_packet, message_packet}
-use Rattle.mip_packets.specs.Authenticated.{authenticated_packet}
+use Rattle.mip_reception.specs.Packets.{data_packet, message_packet}
+use Rattle.mip_reception.specs.Authenticated.{authenticated_packet}
 use Rattle.mip_ipv6.specs.Tunnel.{encapsulated}
 use Rattle.mip_nonce.specs.Secrets.{Life}
 use Rattle.mip_entries.specs.Stamped.{Stamped}

@@ -13,8 +13,8 @@ use Rattle.mip_mobhdr.specs.Said.{Said}
 use Rattle.mip_mobhdr.specs.Said.Said.{HomeTest, CareofTest, Acknowledgement}
 use Rattle.mip_ipv6.specs.declared.exit_fault.ExitFault.{ExitFault}
 use Rattle.mip_ipv6.specs.Tunnel.{opened}
-use Rattle.mip_packets.specs.Says.{message_in, said_by, carried}
-use Rattle.mip_packets.proofs.Sayings.{carried_message, carried_opened}
+use Rattle.mip_reception.specs.Says.{message_in, said_by, carried}
+use Rattle.mip_reception.proofs.Sayings.{carried_message, carried_opened}
 use Rattle.mip_bulist.specs.declared.any.Any.TheVariants.{Pending}
 use Rattle.mip_bulist.specs.declared.state.Pending as pending
 use Rattle.mip_bulist.specs.declared.trial.Trial.{Trial}

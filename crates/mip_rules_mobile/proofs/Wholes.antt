@@ -3,7 +3,7 @@ use Rattle.std.proofs.Common.{ℕ, List, Bool, true, false, subst}
 use Rattle.std.specs.Prelude.{is_some}
 use Rattle.mip_words.specs.declared.address.Address.{Address}
 use Rattle.mip_ipv6.specs.Tunnel.{encapsulated}
-use Rattle.mip_packets.proofs.Longs.{IsLong, packet-long, data-long, message-long, authenticated-long}
+use Rattle.mip_reception.proofs.Longs.{IsLong, packet-long, data-long, message-long, authenticated-long}
 use Rattle.mip_rules_correspondent.specs.declared.identity.Identity.{Identity}
 use Rattle.mip_rules_correspondent.proofs.Wholes as parts
 use Rattle.mip_rules_mobile.specs.Calls.{Call}

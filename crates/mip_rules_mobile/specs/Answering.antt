@@ -4,8 +4,8 @@ use Rattle.std.specs.List.{AllByRecursion}
 use Rattle.mip_words.specs.Addresses.{address_bytes}
 use Rattle.mip_words.specs.declared.address.Address.{Address}
 use Rattle.mip_ipv6.specs.Packet.{names_no_body}
-use Rattle.mip_packets.specs.Says.{carried}
-use Rattle.mip_packets.specs.Written.{SaysNoTest}
+use Rattle.mip_reception.specs.Says.{carried}
+use Rattle.mip_reception.specs.Written.{SaysNoTest}
 use Rattle.mip_entries.specs.declared.answer.Answer.{Answer}
 use Rattle.mip_entries.specs.declared.answer.Answer.TheVariants.{Send, Note}
 use Rattle.mip_entries.specs.declared.entry.Entry.{Entry}

@@ -5,7 +5,7 @@
 use Rattle.std.specs.Prelude.{◌≡◌, ℕ, ◌<◌, List, [], ◌∷◌, Bool, true, false, Option, Some, None, Ok}
 use Rattle.mip_words.specs.declared.address.Address.{Address}
 use Rattle.mip_words.specs.declared.shield.Shield.{Shield}
-use Rattle.mip_packets.specs.Says.{carried, Test as Told}
+use Rattle.mip_reception.specs.Says.{carried, Test as Told}
 use Rattle.mip_bulist.specs.declared.any.Any.{Any}
 use Rattle.mip_bulist.specs.declared.tested.Test.{Test}
 use Rattle.mip_bulist.specs.Rows.{peer_of_any}

@@ -8,7 +8,7 @@ use Rattle.mip_ipv6.specs.Packet.{Packet}
 use Rattle.mip_ipv6.specs.Reading.{packet_of}
 use Rattle.mip_nonce.specs.Secrets.{Life}
 use Rattle.mip_nonce.specs.Window.{index_of}
-use Rattle.mip_bcache.specs.declared.accepted.Accepted.{Accepted}
+use Rattle.mip_rules_correspondent.specs.Cache.{Accepted}
 use Rattle.mip_ipv6.specs.Tunnel.{opened}
 use Rattle.mip_entries.specs.declared.entry.Entry.{Entry}
 use Rattle.mip_entries.specs.declared.entry.Entry.TheVariants as entries

@@ -12,9 +12,9 @@ use Rattle.mip_mobhdr.specs.OptionValues.{Values, nothing}
 use Rattle.mip_mobhdr.specs.Said.Said.{Update}
 use Rattle.mip_icmp.specs.Said as icmp
 use Rattle.mip_icmp.specs.Spelling.{icmp_bytes}
-use Rattle.mip_packets.specs.Packets.{node_head, straight, data_packet, message_packet}
-use Rattle.mip_packets.specs.Authenticated.{authenticated_packet}
-use Rattle.mip_packets.specs.Messages.{home_init_packet, careof_init_packet}
+use Rattle.mip_reception.specs.Packets.{node_head, straight, data_packet, message_packet}
+use Rattle.mip_reception.specs.Authenticated.{authenticated_packet}
+use Rattle.mip_reception.specs.Messages.{home_init_packet, careof_init_packet}
 use Rattle.mip_ipv6.specs.Tunnel.{encapsulated}
 use Rattle.mip_bulist.specs.declared.made.Made.{Made}
 use Rattle.mip_constants.specs.Constants.{max_home_lifetime, max_rr_binding_lifetime}

@@ -7,7 +7,7 @@ use Rattle.mip_ipv6.specs.Packet.{Packet, source_of}
 use Rattle.mip_ipv6.specs.Reading.{packet_of}
 use Rattle.mip_mobhdr.specs.OptionValues.{Values}
 use Rattle.mip_mobhdr.specs.Said.Said.{Acknowledgement}
-use Rattle.mip_packets.specs.Says.{message_in}
+use Rattle.mip_reception.specs.Says.{message_in}
 use Rattle.mip_tokens.specs.Token.{is_authentic}
 use Rattle.mip_bulist.specs.declared.any.Any.TheVariants.{Pending}
 use Rattle.mip_bulist.specs.declared.state.Pending as pending

@@ -4,8 +4,8 @@ ghost use Rattle.std.specs.Prelude.{◌≡◌, ◌≢◌, ℕ, ◌≤◌, ◌⊎
 ghost use Rattle.std.specs.Io.KnownBytes.{prepend_known, IsAtEnd};
 ghost use Rattle.mip_outside.specs.Cause.{Rose};
 ghost use Rattle.mip_schedule.specs.Reading.{reading};
-ghost use Rattle.mip_history.specs.Setup.{setup_of};
-ghost use Rattle.mip_history.specs.Permitted.{permitted};
+ghost use Rattle.mip_replies.specs.Setup.{setup_of};
+ghost use Rattle.mip_replies.specs.Permitted.{permitted};
 ghost use Rattle.mip_commands.specs.Commands.{command_of, IsWithin};
 ghost use Rattle.mip_commands.specs.declared.command.Command.TheVariants.{Audit};
 ghost use Rattle.mip_replies.specs.Audits.{IsAudited};

@@ -4,8 +4,8 @@ use Rattle.mip_bulist.specs.declared.work.Work.TheVariants.{Own}
 use Rattle.mip_rules_mobile.specs.HomeRules.{registers}
 use Rattle.mip_rules_mobile.specs.Steps.{Finds, Chooses, Stops}
 use Rattle.mip_rules_mobile.specs.Transitions.{noted}
-use Rattle.mip_call_context.specs.Seen.{Shows}
-use Rattle.mip_call_context.proofs.Noted.{shows-known}
+use Rattle.mip_registration.specs.Seen.{Shows}
+use Rattle.mip_registration.proofs.Noted.{shows-known}
 use Rattle.mip_mobility.proofs.Named.{first-found, same_first, not-none}
 use Rattle.mip_mobility.proofs.icmp.find_all.Goals as goal
 

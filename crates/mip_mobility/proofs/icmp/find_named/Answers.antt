@@ -2,7 +2,7 @@ use Rattle.std.proofs.Common.{List, subst, OnOk}
 use Rattle.mip_words.specs.declared.address.Address.{Address}
 use Rattle.mip_rules_mobile.specs.declared.attachment.Attachment.{Attachment}
 use Rattle.mip_mobility.proofs.Contexts.{transition_at, from-context}
-use Rattle.mip_call_context.specs.Seen.{Shows}
+use Rattle.mip_registration.specs.Seen.{Shows}
 use Rattle.mip_rules_mobile.specs.IcmpRules.{finds, agents_named}
 use Rattle.mip_mobility.proofs.icmp.find_named.Goals as goal
 

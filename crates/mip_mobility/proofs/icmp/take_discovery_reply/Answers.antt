@@ -2,7 +2,7 @@ use Rattle.std.proofs.Common.{sym, ◌∙◌, subst, OnOk}
 use Rattle.std.specs.Prelude.{Bool, if◌then◌else◌}
 use Rattle.mip_rules_mobile.specs.IcmpRules.{drops_icmp, finds, agents_named, takes_discovery_reply}
 use Rattle.mip_rules_mobile.specs.Transitions.{Transition}
-use Rattle.mip_call_context.specs.Seen.{Shows}
+use Rattle.mip_registration.specs.Seen.{Shows}
 use Rattle.mip_mobility.proofs.Contexts.{transition_at, from-context}
 use Rattle.mip_mobility.proofs.icmp.take_discovery_reply.Goals as goal
 

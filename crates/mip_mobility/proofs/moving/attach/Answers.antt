@@ -4,7 +4,7 @@ use Rattle.mip_words.specs.declared.address.Address.{Address}
 use Rattle.mip_rules_mobile.specs.declared.attachment.Attachment.{Attachment}
 use Rattle.mip_rules_mobile.specs.MovingRules.{uses_prefix, leaves_first, arrives, attaches}
 use Rattle.mip_mobility.proofs.Contexts.{transition_at, from-context}
-use Rattle.mip_call_context.specs.Seen.{Shows}
+use Rattle.mip_registration.specs.Seen.{Shows}
 use Rattle.mip_rules_mobile.specs.Transitions.{Transition}
 use Rattle.mip_mobility.proofs.moving.attach.Goals as goal
 

@@ -1,7 +1,7 @@
 use Rattle.std.proofs.Common.{subst, OnOk}
 use Rattle.mip_rules_mobile.specs.declared.attachment.Attachment.{Attachment}
 use Rattle.mip_mobility.proofs.Contexts.{transition_at, from-context}
-use Rattle.mip_call_context.specs.Seen.{Shows}
+use Rattle.mip_registration.specs.Seen.{Shows}
 use Rattle.mip_rules_mobile.specs.Transitions.{noted}
 use Rattle.mip_rules_mobile.specs.Steps.{Restarts}
 use Rattle.mip_rules_mobile.specs.MovingRules.{registers_if_away, restarts}

@@ -2,7 +2,7 @@ use Rattle.std.proofs.Common.{sym, subst}
 use Rattle.mip_rules_mobile.specs.TrialRules.{each_from}
 use Rattle.mip_rules_mobile.specs.MovingRules.{unbinds}
 use Rattle.mip_rules_mobile.specs.Transitions.{Transition}
-use Rattle.mip_call_context.specs.Seen.{Shows}
+use Rattle.mip_registration.specs.Seen.{Shows}
 use Rattle.mip_mobility.proofs.Rounds.{each-next}
 use Rattle.mip_mobility.proofs.moving.unbind_all.Goals as goal
 

@@ -1,7 +1,7 @@
 use Rattle.mip_rules_mobile.specs.TrialRules.{each_from}
 use Rattle.mip_rules_mobile.specs.MovingRules.{unbinds}
 use Rattle.mip_rules_mobile.specs.Transitions.{Transition}
-use Rattle.mip_call_context.specs.Seen.{Shows}
+use Rattle.mip_registration.specs.Seen.{Shows}
 use Rattle.mip_mobility.proofs.moving.unbind_all.Given as goal
 
 abbrev pub invariant-loop-row : goal.invariant-loop-row

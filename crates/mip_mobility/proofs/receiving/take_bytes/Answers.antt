@@ -6,7 +6,7 @@ use Rattle.mip_ipv6.specs.Packet.{Packet}
 use Rattle.mip_rules_mobile.specs.Steps.{Drops}
 use Rattle.mip_rules_mobile.specs.ReceivingRules.{receives, takes}
 use Rattle.mip_mobility.proofs.Contexts.{transition_at, from-context}
-use Rattle.mip_call_context.specs.Seen.{Shows}
+use Rattle.mip_registration.specs.Seen.{Shows}
 use Rattle.mip_rules_mobile.specs.Transitions.{noted}
 use Rattle.mip_mobility.proofs.receiving.take_bytes.Goals as goal
 

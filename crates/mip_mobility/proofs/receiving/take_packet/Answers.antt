@@ -8,7 +8,7 @@ use Rattle.mip_reception.specs.Checks.{checked}
 use Rattle.mip_rules_correspondent.specs.Rules.{place_in}
 use Rattle.mip_rules_mobile.proofs.Checks.{checked-in}
 use Rattle.mip_rules_mobile.specs.ReceivingRules.{after_checks}
-use Rattle.mip_call_context.specs.Seen.{Shows}
+use Rattle.mip_registration.specs.Seen.{Shows}
 use Rattle.mip_mobility.proofs.receiving.take_packet.Goals as goal
 
 pub take_passed-requires-clause-read : goal.take_passed-requires-clause-read

@@ -1,7 +1,7 @@
 use Rattle.std.proofs.Common.{subst}
 use Rattle.std.specs.Prelude.{Bool, if◌then◌else◌}
 use Rattle.mip_mobility.proofs.Contexts.{transition_at, from-context}
-use Rattle.mip_call_context.specs.Seen.{Shows}
+use Rattle.mip_registration.specs.Seen.{Shows}
 use Rattle.mip_rules_mobile.specs.Transitions.{Transition, noted}
 use Rattle.mip_rules_mobile.specs.Steps.{Tries}
 use Rattle.mip_rules_mobile.specs.Trials.{Rest}

@@ -1,7 +1,7 @@
 use Rattle.std.proofs.Common.{ℕ, subst, OnOk}
 use Rattle.mip_rules_mobile.specs.RingingRules.{ticks, ticks_all}
 use Rattle.mip_mobility.proofs.Contexts.{transition_at, from-context}
-use Rattle.mip_call_context.specs.Seen.{Shows}
+use Rattle.mip_registration.specs.Seen.{Shows}
 use Rattle.mip_mobility.proofs.ringing.ring_all.Goals as goal
 
 pub returns : goal.returns

@@ -1,7 +1,7 @@
 use Rattle.std.proofs.Common.{sym, ◌∙◌, subst, OnOk}
 use Rattle.mip_bulist.specs.declared.work.Work.{Work}
 use Rattle.mip_rules_mobile.specs.RingingRules.{rings}
-use Rattle.mip_call_context.specs.Seen.{Shows}
+use Rattle.mip_registration.specs.Seen.{Shows}
 use Rattle.mip_mobility.proofs.Rounds.{same-work, not-none}
 use Rattle.mip_mobility.proofs.ringing.ring_first.Goals as goal
 

@@ -7,7 +7,7 @@ use Rattle.mip_rules_mobile.specs.RingingRules.{rings_on}
 use Rattle.mip_mobility.specs.Rounds.{rings_once}
 use Rattle.mip_mobility.proofs.Rounds.{some-work, is-none}
 use Rattle.mip_mobility.proofs.Contexts.{transition_at, from-context}
-use Rattle.mip_call_context.specs.Seen.{Shows}
+use Rattle.mip_registration.specs.Seen.{Shows}
 use Rattle.mip_mobility.proofs.ringing.ring_once.Goals as goal
 
 pub returns-then-is_due : goal.returns-then-is_due

@@ -1,7 +1,7 @@
 use Rattle.std.proofs.Common.{sym, subst}
 use Rattle.mip_rules_mobile.specs.RingingRules.{ticks}
 use Rattle.mip_rules_mobile.specs.Transitions.{Transition}
-use Rattle.mip_call_context.specs.Seen.{Shows}
+use Rattle.mip_registration.specs.Seen.{Shows}
 use Rattle.mip_mobility.proofs.Rounds.{ticks-none, tick-next}
 use Rattle.mip_mobility.proofs.ringing.ring_times.Goals as goal
 

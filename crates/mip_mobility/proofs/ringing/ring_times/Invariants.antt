@@ -1,6 +1,6 @@
 use Rattle.mip_rules_mobile.specs.RingingRules.{ticks}
 use Rattle.mip_rules_mobile.specs.Transitions.{Transition}
-use Rattle.mip_call_context.specs.Seen.{Shows}
+use Rattle.mip_registration.specs.Seen.{Shows}
 use Rattle.mip_mobility.proofs.ringing.ring_times.Given as goal
 
 abbrev pub invariant-loop-round : goal.invariant-loop-round

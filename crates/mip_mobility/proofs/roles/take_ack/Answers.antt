@@ -8,7 +8,7 @@ use Rattle.mip_rules_mobile.specs.HomeRules.{home_answered}
 use Rattle.mip_rules_mobile.specs.PeerRules.{takes_ack_of}
 use Rattle.mip_rules_mobile.specs.ReceivingRules.{acks_by, takes_ack}
 use Rattle.mip_mobility.proofs.Contexts.{transition_at, from-context}
-use Rattle.mip_call_context.specs.Seen.{Shows}
+use Rattle.mip_registration.specs.Seen.{Shows}
 use Rattle.mip_mobility.proofs.roles.take_ack.Goals as goal
 
 pub returns-in-Some : goal.returns-in-Some

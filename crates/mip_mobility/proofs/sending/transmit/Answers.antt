@@ -2,7 +2,7 @@ use Rattle.std.proofs.Common.{ℕ, subst, OnOk}
 use Rattle.std.specs.Prelude.{Option}
 use Rattle.mip_rules_mobile.specs.declared.attachment.Attachment.{Attachment}
 use Rattle.mip_mobility.proofs.Contexts.{transition_at, from-context}
-use Rattle.mip_call_context.specs.Seen.{Shows}
+use Rattle.mip_registration.specs.Seen.{Shows}
 use Rattle.mip_rules_mobile.specs.RowQuestions.{bound_row_of}
 use Rattle.mip_rules_mobile.specs.Doing.{transmits_from, transmits}
 use Rattle.mip_mobility.proofs.sending.transmit.Goals as goal

@@ -4,7 +4,7 @@ use Rattle.mip_words.specs.declared.address.Address.{Address}
 use Rattle.mip_ipv6.specs.Packet.{packet as tree}
 use Rattle.mip_rules_mobile.specs.ReceivingRules.{opens_from, opens}
 use Rattle.mip_mobility.proofs.Contexts.{transition_at, from-context}
-use Rattle.mip_call_context.specs.Seen.{Shows}
+use Rattle.mip_registration.specs.Seen.{Shows}
 use Rattle.mip_mobility.proofs.tunnelled.open.Goals as goal
 
 pub returns-in-Some : goal.returns-in-Some

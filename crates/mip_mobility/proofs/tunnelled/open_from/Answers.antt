@@ -7,7 +7,7 @@ use Rattle.mip_ipv6.proofs.Placed.{place_is}
 use Rattle.mip_rules_mobile.specs.Steps.{Drops}
 use Rattle.mip_rules_mobile.specs.Transitions.{Transition, noted}
 use Rattle.mip_rules_mobile.specs.ReceivingRules.{opens_with}
-use Rattle.mip_call_context.specs.Seen.{Shows}
+use Rattle.mip_registration.specs.Seen.{Shows}
 use Rattle.mip_mobility.proofs.Inner.{not-opened, opened-routable, inner-short}
 use Rattle.mip_mobility.proofs.tunnelled.open_from.Goals as goal
 

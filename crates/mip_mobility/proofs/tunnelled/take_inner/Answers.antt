@@ -5,7 +5,7 @@ use Rattle.mip_rules_mobile.specs.ReceivingRules.{takes_inner}
 use Rattle.mip_mobility.specs.Inners.{inner_why}
 use Rattle.mip_mobility.proofs.Inner.{inner-dropped, inner-checked}
 use Rattle.mip_mobility.proofs.Contexts.{transition_at, from-context}
-use Rattle.mip_call_context.specs.Seen.{Shows}
+use Rattle.mip_registration.specs.Seen.{Shows}
 use Rattle.mip_rules_mobile.specs.Transitions.{Transition}
 use Rattle.mip_mobility.proofs.tunnelled.take_inner.Goals as goal
 

@@ -2,7 +2,7 @@ use Rattle.std.proofs.Common.{◌≡◌, ◌++◌, ◌∙◌}
 use Rattle.std.specs.Prelude.{Some, ⊤}
 use Rattle.std.proofs.lemmas.Result.{err_from_is_err_and}
 use Rattle.mip_schedule.specs.Schedules.{content}
-use Rattle.mip_history.specs.Permitted.{permitted}
+use Rattle.mip_replay.specs.Permitted.{permitted}
 use Rattle.mip_replay.proofs.RunLaws.{told_front}
 use Rattle.mip_replies.proofs.AuditTold.{none_compared, piece_compared, piece_judged, end_compared}
 use Rattle.mip_replies.proofs.TraceTold.{told_more, told_last, less_left}

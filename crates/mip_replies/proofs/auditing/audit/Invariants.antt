@@ -1,7 +1,7 @@
 use Rattle.std.proofs.Common.{◌-◌, length}
 use Rattle.std.specs.Prelude.{Some}
 use Rattle.mip_schedule.specs.Schedules.{content}
-use Rattle.mip_history.specs.Permitted.{permitted}
+use Rattle.mip_replay.specs.Permitted.{permitted}
 use Rattle.mip_replay.specs.Pieces.{IsRunOf}
 use Rattle.mip_replies.proofs.AuditTold.{IsCompared}
 use Rattle.mip_replies.proofs.auditing.audit.Given as goal

@@ -2,7 +2,7 @@ use Rattle.std.proofs.Common.{◌≡◌, ◌++◌, refl, sym, arith}
 use Rattle.std.proofs.lemmas.Result.{err_from_is_err_and}
 use Rattle.mip_outside.proofs.Known.{append_none}
 use Rattle.mip_schedule.specs.Schedules.{content}
-use Rattle.mip_history.specs.Permitted.{permitted}
+use Rattle.mip_replay.specs.Permitted.{permitted}
 use Rattle.mip_replay.proofs.RunLaws.{told_front}
 use Rattle.mip_replies.proofs.ClaimsTold.{piece_text, adverts_on, adverts_part, adverts_front, part_front, rows_on}
 use Rattle.mip_replies.proofs.TraceTold.{told_more, told_last}

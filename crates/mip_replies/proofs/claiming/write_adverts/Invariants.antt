@@ -1,7 +1,7 @@
 use Rattle.std.proofs.Common.{◌≡◌, ◌-◌, ◌≤◌, [], length}
 use Rattle.std.specs.Io.KnownBytes.{append_known}
 use Rattle.mip_schedule.specs.Schedules.{content}
-use Rattle.mip_history.specs.Permitted.{permitted}
+use Rattle.mip_replay.specs.Permitted.{permitted}
 use Rattle.mip_proxynd.specs.Claims.{rows_in}
 use Rattle.mip_proxynd.specs.Text.{adverts}
 use Rattle.mip_replay.specs.Pieces.{IsRunOf}

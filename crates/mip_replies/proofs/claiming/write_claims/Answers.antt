@@ -1,5 +1,5 @@
 use Rattle.mip_schedule.specs.Schedules.{content}
-use Rattle.mip_history.specs.Permitted.{permitted}
+use Rattle.mip_replay.specs.Permitted.{permitted}
 use Rattle.mip_replies.proofs.ClaimsTold.{claims_front, claims_part, on_err}
 use Rattle.mip_replies.proofs.claiming.write_claims.Goals as goal
 

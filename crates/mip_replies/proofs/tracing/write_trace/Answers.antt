@@ -4,7 +4,7 @@ use Rattle.std.specs.Prelude.{Some}
 use Rattle.std.proofs.lemmas.Result.{err_from_is_err_and}
 use Rattle.mip_outside.proofs.Known.{append_none}
 use Rattle.mip_schedule.specs.Schedules.{content}
-use Rattle.mip_history.specs.Permitted.{permitted}
+use Rattle.mip_replay.specs.Permitted.{permitted}
 use Rattle.mip_trace.proofs.WrittenLaws.{text_none}
 use Rattle.mip_replay.proofs.RunLaws.{told_front}
 use Rattle.mip_replies.specs.Answers.{trace_of}

@@ -4,7 +4,7 @@ use Rattle.std.specs.Io.KnownBytes.{append_known}
 use Rattle.std.specs.List.{AllByRecursion}
 use Rattle.mip_entries.specs.Widths.{HasWidths}
 use Rattle.mip_schedule.specs.Schedules.{content}
-use Rattle.mip_history.specs.Permitted.{permitted}
+use Rattle.mip_replay.specs.Permitted.{permitted}
 use Rattle.mip_trace.specs.Lines.{trace_text}
 use Rattle.mip_replay.specs.Pieces.{IsRunOf}
 use Rattle.mip_replies.proofs.tracing.write_trace.Given as goal

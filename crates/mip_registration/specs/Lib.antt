@@ -1,0 +1,1 @@
+pub use Rattle.mip_call_context.specs.Seen
