@@ -5,7 +5,7 @@ ghost use Rattle.mip_mobhdr.specs.OptionValues.{Values, values, set_values};
 ghost use Rattle.mip_mobhdr.specs.OptionReading.{is_length_of, is_seen, is_number, is_first_number, with_value, option_at, options_of, GivesAt};
 ghost use Rattle.mip_mobhdr.specs.OptionSpelling.{IsSpelled};
 
-use crate::fault::BadOption;
+use crate::bad_option::BadOption;
 use crate::indices::Indices;
 use crate::option_set::OptionSet;
 use crate::options::Options;
@@ -67,7 +67,7 @@ fn options_from(message: &[u8], start: usize) -> Result<OptionSet, BadOption>
 }
 
 /// Puts the value of an option into those seen, and gives how many of the bytes behind its type it takes.
-#[tactic(auto, unfolding(crate::specs::Reading::option_at))]
+#[tactic(auto, unfolding(crate::specs::OptionReading::option_at))]
 fn take_option(
     place: usize,
     kind: u8,
@@ -112,7 +112,7 @@ fn is_seen(kind: u8, seen: &OptionSet) -> bool
     }
 }
 
-#[tactic(auto, unfolding(crate::specs::Reading::with_value))]
+#[tactic(auto, unfolding(crate::specs::OptionReading::with_value))]
 fn take_value(kind: u8, more: &[u8], seen: &mut OptionSet)
     requires length { IsTrue (is_length_of kind (slice_index more.now 0)) }
     requires inside { 1 + slice_index more.now 0 ≤ length more.now }

@@ -25,7 +25,7 @@ pub fn write_options(out: &mut Bytes, options: &OptionSet) -> Result<(), Memory>
     out.extend(area.as_slice())
 }
 
-#[tactic(auto, unfolding(crate::specs::Writing::canonical))]
+#[tactic(auto, unfolding(crate::specs::OptionWriting::canonical))]
 fn area_of(start: usize, options: &OptionSet) -> Area
     requires start { start ≤ 24 }
     requires number { IfSome options.now.number (λ n. n < 8) }
@@ -42,7 +42,7 @@ fn area_of(start: usize, options: &OptionSet) -> Area
     area
 }
 
-#[tactic(auto, unfolding(crate::specs::Writing::with_advice, crate::specs::Writing::aligned))]
+#[tactic(auto, unfolding(crate::specs::OptionWriting::with_advice, crate::specs::OptionWriting::aligned))]
 fn put_advice(start: usize, area: &mut Area, advice: Option<u16>)
     requires start { start ≤ 24 }
     requires room { length area.old.items + 5 ≤ 72 }
@@ -58,7 +58,7 @@ fn put_advice(start: usize, area: &mut Area, advice: Option<u16>)
     put(area, &u16_bytes(advice));
 }
 
-#[tactic(auto, unfolding(crate::specs::Writing::with_nonces, crate::specs::Writing::aligned))]
+#[tactic(auto, unfolding(crate::specs::OptionWriting::with_nonces, crate::specs::OptionWriting::aligned))]
 fn put_nonces(start: usize, area: &mut Area, nonces: Option<Indices>)
     requires start { start ≤ 24 }
     requires room { length area.old.items + 7 ≤ 72 }
@@ -75,7 +75,7 @@ fn put_nonces(start: usize, area: &mut Area, nonces: Option<Indices>)
     put(area, &u16_bytes(nonces.careof));
 }
 
-#[tactic(auto, unfolding(crate::specs::Writing::with_number, crate::specs::Writing::aligned))]
+#[tactic(auto, unfolding(crate::specs::OptionWriting::with_number, crate::specs::OptionWriting::aligned))]
 fn put_number(start: usize, area: &mut Area, number: Option<u8>)
     requires start { start ≤ 24 }
     requires room { length area.old.items + 5 ≤ 72 }
@@ -92,7 +92,7 @@ fn put_number(start: usize, area: &mut Area, number: Option<u8>)
     put(area, &u16_bytes(u16::from(number)));
 }
 
-#[tactic(auto, unfolding(crate::specs::Writing::with_alternate, crate::specs::Writing::aligned))]
+#[tactic(auto, unfolding(crate::specs::OptionWriting::with_alternate, crate::specs::OptionWriting::aligned))]
 fn put_alternate(start: usize, area: &mut Area, alternate: Option<Address>)
     requires start { start ≤ 24 }
     requires room { length area.old.items + 25 ≤ 72 }
@@ -108,7 +108,7 @@ fn put_alternate(start: usize, area: &mut Area, alternate: Option<Address>)
     put(area, &alternate.bytes());
 }
 
-#[tactic(auto, unfolding(crate::specs::Writing::with_authorization, crate::specs::Writing::aligned))]
+#[tactic(auto, unfolding(crate::specs::OptionWriting::with_authorization, crate::specs::OptionWriting::aligned))]
 fn put_authorization(start: usize, area: &mut Area, authorization: Option<[u8; 12]>)
     requires start { start ≤ 24 }
     requires room { length area.old.items + 21 ≤ 72 }
@@ -124,7 +124,7 @@ fn put_authorization(start: usize, area: &mut Area, authorization: Option<[u8; 1
     put(area, &authorization);
 }
 
-#[tactic(auto, unfolding(crate::specs::Writing::closed))]
+#[tactic(auto, unfolding(crate::specs::OptionWriting::closed))]
 fn close(start: usize, area: &mut Area)
     requires start { start ≤ 24 }
     requires room { length area.old.items + 7 ≤ 72 }

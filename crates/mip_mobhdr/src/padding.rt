@@ -17,7 +17,7 @@ pub fn put(area: &mut Area, bytes: &[u8])
 }
 
 /// Appends a gap of this many bytes (RFC 6275 sections 6.2.2 and 6.2.3).
-#[tactic(auto, using(crate::proofs::PaddingLaws::padding_long), unfolding(crate::specs::Writing::padding))]
+#[tactic(auto, using(crate::proofs::PaddingLaws::padding_long), unfolding(crate::specs::OptionWriting::padding))]
 pub fn pad(area: &mut Area, count: usize)
     requires small { count < 8 }
     requires room { length area.old.items + count ≤ 72 }
@@ -49,7 +49,7 @@ pub fn align(start: usize, area: &mut Area, multiple: usize, rest: usize)
     pad(area, count);
 }
 
-#[tactic(auto, unfolding(crate::specs::Writing::gap))]
+#[tactic(auto, unfolding(crate::specs::OptionWriting::gap))]
 fn gap_at(multiple: usize, rest: usize, place: usize) -> usize
     requires multiple { 0 < multiple }
     requires small { multiple ≤ 8 }

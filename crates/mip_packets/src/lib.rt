@@ -7,11 +7,11 @@ mod authenticated_packet;
 mod carried;
 mod data_packet;
 mod heads;
+mod inner;
 mod laws;
 mod meaning;
 mod message_packet;
 mod messages;
-mod nesting;
 mod problem_packet;
 mod round_trip;
 mod test_kind;
@@ -21,6 +21,7 @@ pub use authenticated_packet::write_authenticated_packet;
 pub use carried::Carried;
 pub use data_packet::write_data_packet;
 pub use heads::{node_head, straight};
+pub use inner::{innermost, message_in};
 pub use laws::{lowering_keeps_what_is_said, tunnels_keep_what_is_said, written_packets_say};
 pub use meaning::{carried_in, saying};
 pub use message_packet::write_message_packet;
@@ -29,7 +30,6 @@ pub use messages::{
     write_home_test, write_refresh,
 };
 pub use mip_tokens::PreparedKbm;
-pub use nesting::{innermost, message_in};
 pub use problem_packet::write_problem_packet;
 pub use round_trip::{
     messages_say_their_tests, other_packets_say_no_test, what_was_written_is_read,

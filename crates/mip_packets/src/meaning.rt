@@ -6,7 +6,7 @@ ghost use Rattle.mip_mobhdr.specs.OptionValues.{values};
 ghost use Rattle.mip_packets.specs.Says.{carried, carried_of, says, update_said};
 
 use crate::carried::Carried;
-use crate::packets::{innermost, message_in};
+use crate::inner::{innermost, message_in};
 use crate::test_kind::TestKind;
 use crate::update_identity::UpdateIdentity;
 use mip_ipv6::PacketRef;

@@ -2,7 +2,7 @@ use Rattle.std.proofs.Common.{◌≡◌, length}
 use Rattle.mip_ipv6.specs.Packet.{packet}
 use Rattle.mip_packets.specs.Says.{innermost}
 use Rattle.mip_packets.proofs.Nesting.{within}
-use Rattle.mip_packets.proofs.nesting.innermost.Given as goal
+use Rattle.mip_packets.proofs.inner.innermost.Given as goal
 
 -- the packet so far has the same innermost one
 abbrev pub invariant-loop-packet : goal.invariant-loop-packet
