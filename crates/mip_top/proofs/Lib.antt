@@ -2,3 +2,4 @@ pub mod Bound
 pub mod ObeyedLaws
 pub mod EndingLaws
 pub mod AuditedLaws
+pub mod Endings

@@ -1,12 +1,13 @@
 //! The end of a run: what the sink keeps back is put on.
 
-ghost use Rattle.std.specs.Prelude.{◌≡◌, ◌≢◌, ℕ, ◌≤◌, ◌⊎◌, List, [], true, false, map, string_bytes, IfSome};
-ghost use Rattle.std.specs.Io.KnownBytes.{prepend_known, IsAtEnd};
+ghost use Rattle.std.specs.Prelude.{◌≡◌, ℕ, ◌≤◌, ◌⊎◌, List, [], map, string_bytes, IfSome};
+ghost use Rattle.std.specs.Io.KnownBytes.{prepend_known};
 ghost use Rattle.mip_commands.specs.Commands.{command_of};
 ghost use Rattle.mip_outside.specs.Cause.{Rose};
 ghost use Rattle.mip_outside.specs.Waiting.{held_by};
 ghost use Rattle.mip_replies.specs.Told.{IsConclusive, IsStatus, Says, HasWrittenFront};
-ghost use Rattle.mip_top.specs.Answers.{answer_of, takes_nothing, serves};
+ghost use Rattle.mip_top.specs.Answers.{answer_of};
+ghost use Rattle.mip_top.specs.Endings.{Ends, objects};
 
 use crate::top::mip;
 use mip_outside::{Buffered, Clock, Link, PutFault, Sink, Source};
@@ -32,16 +33,10 @@ pub fn mip_flushed<S: Source, K: Sink + Drop, C: Clock, L: Link>(
     // Whatever the status is, what was put on and what still waits make a front of the answer.
     ensures front { (bytes : List ℕ) × (S.left source.old ≡ prepend_known bytes (S.left source.new))
         × IfSome (answer_of (map string_bytes words.now) bytes) (λ answer. HasWrittenFront answer sink.old.put_on (held_by sink.new)) }
-    ensures statuses { IsStatus result.0 }
-    ensures untouched { takes_nothing (command_of (map string_bytes words.now)) ≡ true → source.new ≡ source.old }
-    ensures at_end { takes_nothing (command_of (map string_bytes words.now)) ≡ false → result.0 ≡ 0 → IsAtEnd (S.left source.new) }
-    ensures read_fault { result.0 ≡ 3 → Rose (S.faults source.old) (S.faults source.new) }
-    ensures read_fault_text { result.0 ≡ 3 → held_by sink.new ≡ held_by sink.old }
-    ensures write_fault { result.0 ≡ 4 → Rose sink.old.faults sink.new.faults }
-    ensures link_fault { result.0 ≡ 7 → Rose (L.faults link.old) (L.faults link.new) }
-    ensures link_fault_served { serves (command_of (map string_bytes words.now)) ≡ false → result.0 ≢ 7 }
-    ensures clock { serves (command_of (map string_bytes words.now)) ≡ false → clock.new ≡ clock.old }
-    ensures link { serves (command_of (map string_bytes words.now)) ≡ false → link.new ≡ link.old }
+    // What the status tells of failed calls, what is read to its end, and what is left alone.
+    ensures ends { Ends (command_of (map string_bytes words.now)) result.0
+        (objects source.old (S.left source.old) (S.faults source.old) (held_by sink.old) sink.old.faults clock.old link.old (L.faults link.old))
+        (objects source.new (S.left source.new) (S.faults source.new) (held_by sink.new) sink.new.faults clock.new link.new (L.faults link.new)) }
 {
     let status = mip(alloc, words, source, sink, clock, link);
     finish(sink, status)
@@ -54,7 +49,7 @@ fn finish<K: Sink + Drop>(sink: &mut Buffered<K>, status: Status) -> Status
     ensures conclusive { IsConclusive result.0 → (result.0 ≡ status.0) × (sink.new.waiting ≡ []) }
     ensures statuses { (result.0 ≡ status.0) ⊎ ((result.0 ≡ 4) ⊎ (result.0 ≡ 5)) }
     ensures no_fewer { sink.old.faults ≤ sink.new.faults }
-    ensures cause { result.0 ≡ 4 → (status.0 ≡ 4) ⊎ Rose sink.old.faults sink.new.faults }
+    ensures cause { result.0 ≡ 4 → ((status.0 ≡ 4) × (sink.new.faults ≡ sink.old.faults)) ⊎ Rose sink.old.faults sink.new.faults }
 {
     if status == Status::WRITE_FAULT {
         return status;

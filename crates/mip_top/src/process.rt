@@ -1,12 +1,12 @@
 //! The process: what its words and its input come to.
 
-ghost use Rattle.std.specs.Prelude.{◌≡◌, ◌≢◌, ℕ, List, [], true, false, map, string_bytes, IfSome, IfOk, OnErr, IsErr};
-ghost use Rattle.std.specs.Io.KnownBytes.{prepend_known, IsAtEnd};
+ghost use Rattle.std.specs.Prelude.{◌≡◌, ℕ, List, [], map, string_bytes, IfSome, IfOk, OnErr, IsErr};
+ghost use Rattle.std.specs.Io.KnownBytes.{prepend_known};
 ghost use Rattle.mip_commands.specs.Commands.{command_of};
-ghost use Rattle.mip_outside.specs.Cause.{Rose};
 ghost use Rattle.mip_outside.specs.Waiting.{held_by};
-ghost use Rattle.mip_replies.specs.Told.{IsConclusive, IsStatus, Says, HasWrittenFront};
-ghost use Rattle.mip_top.specs.Answers.{answer_of, takes_nothing, serves};
+ghost use Rattle.mip_replies.specs.Told.{IsConclusive, Says, HasWrittenFront};
+ghost use Rattle.mip_top.specs.Answers.{answer_of};
+ghost use Rattle.mip_top.specs.Endings.{Ends, objects};
 ghost use Rattle.mip_top.specs.Given.{words_behind, LacksMemory};
 
 use crate::ending::mip_flushed;
@@ -39,17 +39,10 @@ pub fn run<S: Source, K: Sink + Drop, C: Clock, L: Link>(
         × IfSome (answer_of (map string_bytes (words_behind given)) bytes) (λ answer. HasWrittenFront answer sink.old.put_on (held_by sink.new)) }
     // Where there was no memory for the words the status says that, and not that they are no form.
     ensures memory { LacksMemory given → result ≡ 5 }
-    ensures statuses { IsStatus result }
-    // What is made of a seed takes nothing from the source, and no words that are no form do.
-    ensures untouched { takes_nothing (command_of (map string_bytes (words_behind given))) ≡ true → source.new ≡ source.old }
-    ensures at_end { takes_nothing (command_of (map string_bytes (words_behind given))) ≡ false → result ≡ 0 → IsAtEnd (S.left source.new) }
-    ensures read_fault { result ≡ 3 → Rose (S.faults source.old) (S.faults source.new) }
-    ensures read_fault_text { result ≡ 3 → held_by sink.new ≡ held_by sink.old }
-    ensures link_fault { result ≡ 7 → Rose (L.faults link.old) (L.faults link.new) }
-    ensures link_fault_served { serves (command_of (map string_bytes (words_behind given))) ≡ false → result ≢ 7 }
-    ensures write_fault { result ≡ 4 → Rose sink.old.faults sink.new.faults }
-    ensures clock { serves (command_of (map string_bytes (words_behind given))) ≡ false → clock.new ≡ clock.old }
-    ensures link { serves (command_of (map string_bytes (words_behind given))) ≡ false → link.new ≡ link.old }
+    // What the status tells of failed calls, what is read to its end, and what is left alone.
+    ensures ends { Ends (command_of (map string_bytes (words_behind given))) result
+        (objects source.old (S.left source.old) (S.faults source.old) (held_by sink.old) sink.old.faults clock.old link.old (L.faults link.old))
+        (objects source.new (S.left source.new) (S.faults source.new) (held_by sink.new) sink.new.faults clock.new link.new (L.faults link.new)) }
 {
     Status::of(attempt(alloc, given, source, sink, clock, link)).0
 }
@@ -74,16 +67,11 @@ fn attempt<S: Source, K: Sink + Drop, C: Clock, L: Link>(
     ensures memory { LacksMemory given → IsErr result }
     ensures unread { OnErr result (source.new ≡ source.old) }
     ensures unwritten { OnErr result (sink.new ≡ sink.old) }
-    ensures statuses { IfOk result (λ status. IsStatus status.0) }
-    ensures untouched { takes_nothing (command_of (map string_bytes (words_behind given))) ≡ true → source.new ≡ source.old }
-    ensures at_end { IfOk result (λ status. takes_nothing (command_of (map string_bytes (words_behind given))) ≡ false → status.0 ≡ 0 → IsAtEnd (S.left source.new)) }
-    ensures clock { serves (command_of (map string_bytes (words_behind given))) ≡ false → clock.new ≡ clock.old }
-    ensures link { serves (command_of (map string_bytes (words_behind given))) ≡ false → link.new ≡ link.old }
-    ensures read_fault { IfOk result (λ status. status.0 ≡ 3 → Rose (S.faults source.old) (S.faults source.new)) }
-    ensures read_fault_text { IfOk result (λ status. status.0 ≡ 3 → held_by sink.new ≡ held_by sink.old) }
-    ensures link_fault { IfOk result (λ status. status.0 ≡ 7 → Rose (L.faults link.old) (L.faults link.new)) }
-    ensures link_fault_served { IfOk result (λ status. serves (command_of (map string_bytes (words_behind given))) ≡ false → status.0 ≢ 7) }
-    ensures write_fault { IfOk result (λ status. status.0 ≡ 4 → Rose sink.old.faults sink.new.faults) }
+    ensures early { OnErr result (objects source.new (S.left source.new) (S.faults source.new) (held_by sink.new) sink.new.faults clock.new link.new (L.faults link.new)
+        ≡ objects source.old (S.left source.old) (S.faults source.old) (held_by sink.old) sink.old.faults clock.old link.old (L.faults link.old)) }
+    ensures ends { IfOk result (λ status. Ends (command_of (map string_bytes (words_behind given))) status.0
+        (objects source.old (S.left source.old) (S.faults source.old) (held_by sink.old) sink.old.faults clock.old link.old (L.faults link.old))
+        (objects source.new (S.left source.new) (S.faults source.new) (held_by sink.new) sink.new.faults clock.new link.new (L.faults link.new))) }
 {
     let words = words(alloc, given)?;
     Ok(mip_flushed(alloc, &words, source, sink, clock, link))

@@ -1,8 +1,7 @@
 //! The program, over any source, sink, clock and link.
 
-ghost use Rattle.std.specs.Prelude.{◌≡◌, ◌≢◌, ℕ, ◌≤◌, ◌⊎◌, List, length, map, string_bytes, true, false, None, Some, IfSome, IfOk};
-ghost use Rattle.std.specs.Io.KnownBytes.{prepend_known, IsAtEnd};
-ghost use Rattle.mip_outside.specs.Cause.{Rose};
+ghost use Rattle.std.specs.Prelude.{◌≡◌, ℕ, ◌≤◌, ◌⊎◌, List, length, map, string_bytes, None, Some, IfSome, IfOk};
+ghost use Rattle.std.specs.Io.KnownBytes.{prepend_known};
 ghost use Rattle.mip_schedule.specs.Reading.{reading};
 ghost use Rattle.mip_replies.specs.Setup.{setup_of};
 ghost use Rattle.mip_replies.specs.Permitted.{permitted};
@@ -13,8 +12,7 @@ ghost use Rattle.mip_replies.specs.Bindings.{EachIsBound, EachRepeatIsLate};
 ghost use Rattle.mip_replies.specs.Homes.{HomesAreSent};
 ghost use Rattle.mip_replies.specs.Marked.{EachIsMarked};
 ghost use Rattle.mip_replies.specs.Reached.{EachReaches};
-ghost use Rattle.mip_replies.specs.Told.{IsStatus};
-ghost use Rattle.mip_top.specs.Answers.{takes_nothing, serves};
+ghost use Rattle.mip_top.specs.Endings.{Ends, objects};
 ghost use Rattle.mip_top.specs.Obeyed.{IsObeyed, Obeys};
 ghost use Rattle.mip_top.specs.Serving.{outside};
 
@@ -69,24 +67,12 @@ pub fn mip<S: Source, K: Sink, C: Clock, L: Link>(
     ensures audited { IfSome (S.left source.old) (λ bytes. command_of (map string_bytes words.now) ≡ Some Audit
         → IsAudited bytes result.0 (K.held sink.old) (K.held sink.new)) }
 
-    ensures statuses { IsStatus result.0 }
     ensures usage { result.0 ≡ 1 → command_of (map string_bytes words.now) ≡ None }
     ensures no_command { command_of (map string_bytes words.now) ≡ None → (result.0 ≡ 1) ⊎ ((result.0 ≡ 4) ⊎ (result.0 ≡ 5)) }
-    // What is made of a seed takes nothing from the source, and no words that are no form do.
-    ensures untouched { takes_nothing (command_of (map string_bytes words.now)) ≡ true → source.new ≡ source.old }
-    ensures at_end { takes_nothing (command_of (map string_bytes words.now)) ≡ false → result.0 ≡ 0 → IsAtEnd (S.left source.new) }
-
-    ensures read_fault { result.0 ≡ 3 → Rose (S.faults source.old) (S.faults source.new) }
-    ensures read_fault_text { result.0 ≡ 3 → K.held sink.new ≡ K.held sink.old }
-    ensures write_fault { result.0 ≡ 4 → Rose (K.faults sink.old) (K.faults sink.new) }
-    ensures link_fault { result.0 ≡ 7 → Rose (L.faults link.old) (L.faults link.new) }
-    ensures link_fault_served { serves (command_of (map string_bytes words.now)) ≡ false → result.0 ≢ 7 }
-    ensures source_faults { S.faults source.old ≤ S.faults source.new }
-    ensures sink_faults { K.faults sink.old ≤ K.faults sink.new }
-    ensures link_faults { L.faults link.old ≤ L.faults link.new }
-    // Only a node or a hub has to do with the clock and the link.
-    ensures clock { serves (command_of (map string_bytes words.now)) ≡ false → clock.new ≡ clock.old }
-    ensures link { serves (command_of (map string_bytes words.now)) ≡ false → link.new ≡ link.old }
+    // What the status tells of failed calls, what is read to its end, and what is left alone.
+    ensures ends { Ends (command_of (map string_bytes words.now)) result.0
+        (objects source.old (S.left source.old) (S.faults source.old) (K.held sink.old) (K.faults sink.old) clock.old link.old (L.faults link.old))
+        (objects source.new (S.left source.new) (S.faults source.new) (K.held sink.new) (K.faults sink.new) clock.new link.new (L.faults link.new)) }
 {
     each_is_bound();
     each_repeat_is_late();
@@ -113,20 +99,11 @@ fn obey<S: Source, K: Sink, C: Clock, L: Link>(
     ensures obeyed { (bytes : List ℕ) × IsObeyed command bytes result.0 (S.left source.old) (S.left source.new)
         (outside (K.held sink.old) (C.ahead clock.old) (L.coming link.old) (L.sent link.old) (L.port link.old))
         (outside (K.held sink.new) (C.ahead clock.new) (L.coming link.new) (L.sent link.new) (L.port link.new)) }
-    ensures statuses { IsStatus result.0 }
     ensures usage { result.0 ≡ 1 → command ≡ None }
     ensures no_command { command ≡ None → (result.0 ≡ 1) ⊎ ((result.0 ≡ 4) ⊎ (result.0 ≡ 5)) }
-    ensures untouched { takes_nothing command ≡ true → source.new ≡ source.old }
-    ensures read_fault { result.0 ≡ 3 → Rose (S.faults source.old) (S.faults source.new) }
-    ensures read_fault_text { result.0 ≡ 3 → K.held sink.new ≡ K.held sink.old }
-    ensures write_fault { result.0 ≡ 4 → Rose (K.faults sink.old) (K.faults sink.new) }
-    ensures link_fault { result.0 ≡ 7 → Rose (L.faults link.old) (L.faults link.new) }
-    ensures link_fault_served { serves command ≡ false → result.0 ≢ 7 }
-    ensures source_faults { S.faults source.old ≤ S.faults source.new }
-    ensures sink_faults { K.faults sink.old ≤ K.faults sink.new }
-    ensures link_faults { L.faults link.old ≤ L.faults link.new }
-    ensures clock { serves command ≡ false → clock.new ≡ clock.old }
-    ensures link { serves command ≡ false → link.new ≡ link.old }
+    ensures ends { Ends command result.0
+        (objects source.old (S.left source.old) (S.faults source.old) (K.held sink.old) (K.faults sink.old) clock.old link.old (L.faults link.old))
+        (objects source.new (S.left source.new) (S.faults source.new) (K.held sink.new) (K.faults sink.new) clock.new link.new (L.faults link.new)) }
 {
     match command {
         None => tell(sink, b"usage: mip COMMAND\n", Status::USAGE),

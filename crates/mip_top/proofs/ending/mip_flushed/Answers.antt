@@ -1,6 +1,7 @@
 use Rattle.std.proofs.Common.{refl, map, string_bytes}
 use Rattle.mip_commands.specs.Commands.{command_of}
 use Rattle.mip_top.proofs.EndingLaws.{if_left, says, front}
+use Rattle.mip_top.proofs.Endings.{ends_flushed}
 use Rattle.mip_top.proofs.ending.mip_flushed.Goals as goal
 
 pub returns-clause-whole : goal.returns-clause-whole
@@ -27,3 +28,8 @@ returns-clause-front g c =
       front (command_of (map string_bytes c.args.words.now)) o.0 c.mip-status.result.0 c.finish.result.0 c.args.sink.now c.mip-status.new.sink c.finish.new.sink _ _ refl refl c.requires
           (record { held = c.finish.ensures.held; conclusive = c.finish.ensures.conclusive }) o.3,
     )
+
+pub returns-clause-ends : goal.returns-clause-ends
+returns-clause-ends g c =
+    ends_flushed (command_of (map string_bytes c.args.words.now)) c.mip-status.result.0 c.finish.result.0 _ _ _ _ _ _ _ _ _ _ _ c.mip-status.ensures.ends c.finish.ensures.held c.finish.ensures.statuses
+    c.finish.ensures.no_fewer c.finish.ensures.cause

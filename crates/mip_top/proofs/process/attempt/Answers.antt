@@ -11,3 +11,8 @@ pub returns-clause-front : goal.returns-clause-front
 returns-clause-front g c =
     let same : c.deref.result.now ≡ words_behind c.args.given = search rules in
     rw same at c.mip_flushed.ensures.front
+
+pub returns-clause-ends : goal.returns-clause-ends
+returns-clause-ends g c =
+    let same : c.deref.result.now ≡ words_behind c.args.given = search rules in
+    rw same at c.mip_flushed.ensures.ends

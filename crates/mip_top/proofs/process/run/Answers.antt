@@ -2,6 +2,7 @@ use Rattle.std.proofs.Common.{◌≡◌, ℕ, List, [], map, string_bytes, ap, �
 use Rattle.std.specs.Prelude.{Option, Result, IfSome}
 use Rattle.std.specs.Io.KnownBytes.{prepend_known, append_known}
 use Rattle.mip_words.specs.declared.memory.Memory.{Memory}
+use Rattle.mip_commands.specs.Commands.{command_of}
 use Rattle.mip_outside.specs.Waiting.{Buffer, held_by}
 use Rattle.mip_outside.proofs.Known.{prepend_none}
 use Rattle.mip_replies.specs.Answers.{Answer}
@@ -9,6 +10,7 @@ use Rattle.mip_replies.specs.Told.{HasWrittenFront, Says}
 use Rattle.mip_top.specs.Answers.{answer_of}
 use Rattle.mip_top.specs.Given.{words_behind}
 use Rattle.mip_top.proofs.EndingLaws.{if_any, sure_on, whole_on}
+use Rattle.mip_top.proofs.Endings.{ends_on}
 use Rattle.mip_top.proofs.process.run.Goals as goal
 
 abbrev Fronts : {X : Type 0} → (X → Option (List ℕ)) → (List ℕ → Option Answer) → (old new : X) → (before after : Buffer) → Type 0
@@ -42,3 +44,7 @@ returns-clause-whole_of_some g c =
     (λ n. (bytes : List ℕ) × (g.S.Source.left c.args.source.now ≡ prepend_known bytes (g.S.Source.left c.attempt.new.source))
     × IfSome (answer_of (map string_bytes (words_behind c.args.given)) bytes) (λ answer. Says answer n c.args.sink.now.put_on c.attempt.new.sink.put_on))
     c.attempt.result c.of.result c.of.ensures.ok c.of.ensures.memory c.attempt.ensures.whole_of_some
+
+pub returns-clause-ends : goal.returns-clause-ends
+returns-clause-ends g c =
+    ends_on (command_of (map string_bytes (words_behind c.args.given))) _ _ c.attempt.result c.of.result c.of.ensures.ok c.of.ensures.memory c.attempt.ensures.ends c.attempt.ensures.early

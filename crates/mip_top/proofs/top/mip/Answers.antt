@@ -4,7 +4,8 @@ use Rattle.mip_commands.specs.Commands.{command_of}
 use Rattle.mip_top.specs.Serving.{Outside, outside}
 use Rattle.mip_top.proofs.AuditedLaws.{audited}
 use Rattle.mip_top.proofs.Bound.{if_told}
-use Rattle.mip_top.proofs.ObeyedLaws.{whole, at_end, stopped, always}
+use Rattle.mip_top.proofs.Endings.{ends_early}
+use Rattle.mip_top.proofs.ObeyedLaws.{whole, stopped, always}
 use Rattle.mip_top.proofs.top.mip.Goals as goal
 
 pub returns-in-Ok-clause-obeyed : goal.returns-in-Ok-clause-obeyed
@@ -17,10 +18,11 @@ returns-in-Ok-clause-obeyed_of_some g c =
     let o = c.obey.ensures.obeyed in
     (o.0, o.1.most, o.1.taken, rw (sym c.in-Ok.ensures.command) o.1.obeys)
 
-pub returns-in-Ok-clause-at_end : goal.returns-in-Ok-clause-at_end
-returns-in-Ok-clause-at_end g c =
-    let o = c.obey.ensures.obeyed in
-    rw (sym c.in-Ok.ensures.command) (at_end c.in-Ok.command o.0 _ _ _ _ _ o.1)
+pub returns-in-Ok-clause-ends : goal.returns-in-Ok-clause-ends
+returns-in-Ok-clause-ends g c = rw (sym c.in-Ok.ensures.command) c.obey.ensures.ends
+
+pub returns-in-Err-clause-ends : goal.returns-in-Err-clause-ends
+returns-in-Err-clause-ends g c = ends_early (command_of (map string_bytes c.args.words.now)) 5 _ refl
 
 pub returns-in-Err-clause-obeyed : goal.returns-in-Err-clause-obeyed
 returns-in-Err-clause-obeyed g c = always _ _ _ _ _ (record { fault = inr refl; unwritten = refl; unsent = refl })
