@@ -2,7 +2,8 @@
 use Rattle.std.specs.Prelude.{ℕ, ◌+◌, ◌%◌, Bool, true, false, ◌==◌, nat_lt, if◌then◌else◌, Option, Some, None, unwrap_or, option_map, List, [], ◌∷◌, not, filter, ◌++◌}
 use Rattle.std.specs.Option.{option_or}
 use Rattle.mip_words.specs.declared.address.Address.{Address}
-use Rattle.mip_bulist.specs.declared.work.Work.TheVariants.{Own}
+use Rattle.mip_bulist.specs.declared.home_timer.HomeTimer.TheVariants as home_timers
+use Rattle.mip_bulist.specs.declared.work.Work.TheVariants.{Home}
 use Rattle.mip_rules_mobile.specs.declared.attachment.Attachment.{Attachment}
 use Rattle.mip_rules_mobile.specs.declared.attachment.Attachment.TheVariants.{Detached, AtHome, Away}
 use Rattle.mip_rules_mobile.specs.declared.registered.Registered.{Registered}
@@ -125,7 +126,7 @@ numberings_after k step = renumbered (next_said step) k.numberings
 
 -- how long the resending of a home registration or deregistration waits
 abbrev pub wait_after : Known → Step → ℕ
-wait_after k (Waits (Own timer) wait) = if timer == 0 then wait else k.wait
+wait_after k (Waits (Home home_timers.Resend) wait) = wait
 wait_after k (Restarts secrets) = 0
 wait_after k _ = k.wait
 
