@@ -8,8 +8,8 @@ ghost use Rattle.mip_call_context.specs.Seen.{Shows};
 
 use crate::ack::Ack;
 use crate::handed::Handed;
-use mip_bulist::Work;
-use mip_call_context::{CallContext, RESENDING};
+use mip_bulist::{HomeTimer, Work};
+use mip_call_context::CallContext;
 use mip_constants::LIFETIME_UNIT;
 use mip_registration::{catch_up, turn_away};
 use mip_routability::{REFRESH_UNIT, start_deletions, start_unbound};
@@ -88,7 +88,7 @@ fn registered(
     requires { update.now.at.0 < 2 ^ 62 }
     ensures { (t : Transition) → Shows context.old t → OnOk result (Shows context.new (is_registered update.now lifetime t)) }
 {
-    context.stop(Work::Own(RESENDING));
+    context.stop(Work::Home(HomeTimer::Resend));
     let end = Moment(update.at.0 + LIFETIME_UNIT * lifetime as u64);
     let renew = Moment(update.at.0 + REFRESH_UNIT * lifetime as u64);
     context.register(update.agent, end, renew)?;
@@ -100,7 +100,7 @@ fn registered(
 fn unregistered(alloc: Global, context: &mut CallContext, update: &HomeUpdate) -> Result<(), Memory>
     ensures { (t : Transition) → Shows context.old t → OnOk result (Shows context.new (is_unregistered update.now t)) }
 {
-    context.stop(Work::Own(RESENDING));
+    context.stop(Work::Home(HomeTimer::Resend));
     context.unregister(update.agent)?;
     start_deletions(alloc, context)
 }
