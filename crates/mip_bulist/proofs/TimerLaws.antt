@@ -7,8 +7,9 @@ use Rattle.std.proofs.lemmas.List.Sums.{prefix_len-le-length}
 use Rattle.std.proofs.lemmas.Bool.Decides.{nat_tests}
 use Rattle.std.proofs.lemmas.Map.Steps.{length-le_from_distinct_below}
 use Rattle.mip_words.specs.declared.moment.Moment.{Moment}
+use Rattle.mip_bulist.specs.declared.home_timer.HomeTimer.TheVariants as home_timers
 use Rattle.mip_bulist.specs.declared.work.Work.{Work}
-use Rattle.mip_bulist.specs.declared.work.Work.TheVariants.{Resend, Renew, End, Own}
+use Rattle.mip_bulist.specs.declared.work.Work.TheVariants.{Resend, Renew, End, Home}
 use Rattle.mip_bulist.specs.declared.timer.Timer.{Timer}
 use Rattle.mip_bulist.specs.Timers.{number_of, IsInRange, is_of, without_timer, put_timer, place_of, with_timer, without_due, due_work, IsAbsent, AreApart, AreDueFrom, AreInOrder, IsSound}
 
@@ -16,7 +17,10 @@ pub number_below : (work : Work) → IsInRange work → number_of work < 64
 number_below (Resend row) h = omega arith
 number_below (Renew row) h = omega arith
 number_below (End row) h = omega arith
-number_below (Own timer) h = omega arith
+number_below (Home home_timers.Resend) h = omega arith
+number_below (Home home_timers.Renew) h = omega arith
+number_below (Home home_timers.End) h = omega arith
+number_below (Home home_timers.Discover) h = omega arith
 
 -- what a filter leaves
 filter_absent : (p : Timer → Bool) (n : ℕ) (ts : List Timer) → IsAbsent n ts → IsAbsent n (filter p ts)

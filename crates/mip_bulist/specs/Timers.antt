@@ -2,23 +2,32 @@
 use Rattle.std.specs.Prelude.{◌≢◌, ℕ, ◌+◌, ◌*◌, ◌<◌, ◌≤◌, Bool, not, ◌==◌, nat_lt, if◌then◌else◌, Option, Some, None, unwrap_or, option_map, List, [], ◌∷◌, length, filter, insert, position, slice_get}
 use Rattle.std.specs.List.{list_any}
 use Rattle.mip_words.specs.declared.moment.Moment.{Moment}
+use Rattle.mip_bulist.specs.declared.home_timer.HomeTimer.{HomeTimer}
+use Rattle.mip_bulist.specs.declared.home_timer.HomeTimer.TheVariants as home_timers
 use Rattle.mip_bulist.specs.declared.work.Work.{Work}
-use Rattle.mip_bulist.specs.declared.work.Work.TheVariants.{Resend, Renew, End, Own}
+use Rattle.mip_bulist.specs.declared.work.Work.TheVariants.{Resend, Renew, End, Home}
 use Rattle.mip_bulist.specs.declared.timer.Timer.{Timer}
+
+-- the place of a timer among those of the home registration
+abbrev pub timer_place_of : HomeTimer → ℕ
+timer_place_of home_timers.Resend = 0
+timer_place_of home_timers.Renew = 1
+timer_place_of home_timers.End = 2
+timer_place_of home_timers.Discover = 3
 
 -- a number that no other work has
 abbrev pub number_of : Work → ℕ
 number_of (Resend row) = 4 * row
 number_of (Renew row) = 4 * row + 1
 number_of (End row) = 4 * row + 2
-number_of (Own timer) = 4 * timer + 3
+number_of (Home timer) = 4 * timer_place_of timer + 3
 
--- a row below 16, or one of the station's eight timers
+-- a row below 16, or a timer of the home registration
 abbrev pub IsInRange : Work → Type 0
 IsInRange (Resend row) = row < 16
 IsInRange (Renew row) = row < 16
 IsInRange (End row) = row < 16
-IsInRange (Own timer) = timer < 8
+IsInRange (Home timer) = Unit {0}
 
 abbrev pub is_of : Work → Timer → Bool
 is_of work t = number_of t.work == number_of work

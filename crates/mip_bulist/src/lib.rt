@@ -4,6 +4,7 @@
 
 mod aim;
 mod any;
+mod home_timer;
 mod laws;
 mod list;
 mod list_full;
@@ -23,6 +24,7 @@ mod work;
 
 pub use aim::Aim;
 pub use any::Any;
+pub use home_timer::HomeTimer;
 pub use laws::{a_later_update_is_of_its_tests, a_test_is_of_its_start, an_update_is_of_its_tests};
 pub use list::List;
 pub use list_full::ListFull;

@@ -12,7 +12,7 @@ use std::alloc::Global;
 use std::marker::{Brand, Model};
 use std::sync::ledger::{Blank, Ledger};
 
-/// How many works there are at most: three of each of 16 rows, and the station's own. Their numbers are below it.
+/// No more works than this: three of each of 16 rows, and those of the home registration. Their numbers are below it.
 const WORKS: usize = 64;
 
 /// Timers of different works. No call but `new` takes memory.

@@ -1,6 +1,8 @@
 ghost use Rattle.std.specs.Prelude.{◌≡◌};
 ghost use Rattle.mip_bulist.specs.Timers.{number_of};
 
+use crate::home_timer::HomeTimer;
+
 /// What a timer is set for.
 #[derive(Clone, Copy, Debug, PartialEq, Eq)]
 pub enum Work {
@@ -10,8 +12,8 @@ pub enum Work {
     Renew(u8),
     /// The end of this row's binding.
     End(u8),
-    /// A timer of the station itself.
-    Own(u8),
+    /// A timer of the home registration.
+    Home(HomeTimer),
 }
 
 impl Work {
@@ -23,7 +25,7 @@ impl Work {
             Work::Resend(row) => 4 * u16::from(row),
             Work::Renew(row) => 4 * u16::from(row) + 1,
             Work::End(row) => 4 * u16::from(row) + 2,
-            Work::Own(timer) => 4 * u16::from(timer) + 3,
+            Work::Home(timer) => 4 * u16::from(timer.place()) + 3,
         }
     }
 }

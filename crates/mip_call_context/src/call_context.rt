@@ -21,15 +21,6 @@ pub(crate) const MYSELF: NodeId = NodeId(0);
 
 pub(crate) const SOME_LINK: LinkId = LinkId(0);
 
-/// The station's timers: a home registration is sent again, is renewed, ends; a discovery goes on.
-pub const RESENDING: u8 = 0;
-
-pub const RENEWING: u8 = 1;
-
-pub const ENDING: u8 = 2;
-
-pub const SEEKING: u8 = 3;
-
 /// A call under way.
 #[derive(Drop)]
 pub struct CallContext {

@@ -12,7 +12,7 @@ mod telling;
 mod trials;
 mod updating;
 
-pub use call_context::{CallContext, ENDING, RENEWING, RESENDING, SEEKING};
+pub use call_context::CallContext;
 pub use mip_mobile_state::{Agents, Heard, correspondent, doubled};
 pub use outgoing::{ask_home, go_out};
 pub use part::{ask_data, ask_part, ask_refresh, is_mobility, reply};

@@ -10,9 +10,9 @@ ghost use Rattle.mip_rules_mobile.specs.Transitions.{Transition, noted};
 ghost use Rattle.mip_call_context.specs.Seen.{Shows};
 
 use crate::call_context::CallContext;
+use mip_ipv6::{EntryFault, encapsulate};
 use mip_packets::write_home_init;
 use mip_rules_mobile::Attachment;
-use mip_ipv6::{EntryFault, encapsulate};
 use mip_words::{Address, Bytes, Cookie, Memory, Shield, Why};
 use std::alloc::Global;
 

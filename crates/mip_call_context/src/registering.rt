@@ -1,16 +1,16 @@
-//! The steps of a call that send, and those of the station's own timers and of discovery.
+//! The steps of a call that send, and those of the timers of the home registration and of discovery.
 
-ghost use Rattle.std.specs.Prelude.{◌≡◌, ◌==◌, if◌then◌else◌, option_and_then, ◌+◌, ◌<◌, ◌^◌, true, OnOk};
-ghost use Rattle.mip_rules_mobile.specs.HomeQuestions.{home_of};
+ghost use Rattle.std.specs.Prelude.{◌≡◌, option_and_then, ◌+◌, ◌<◌, ◌^◌, true, OnOk};
+ghost use Rattle.mip_rules_mobile.specs.HomeQuestions.{home_of, wait_set_by};
 ghost use Rattle.mip_rules_mobile.specs.Steps.{Finds, GivesUp, Registers, Resequences, Seeks, Sends, SeeksAgain, Stops, Waits};
 ghost use Rattle.mip_discovery.specs.Retries.{retried};
-ghost use Rattle.mip_bulist.specs.declared.work.Work.TheVariants.{Own};
+ghost use Rattle.mip_bulist.specs.declared.work.Work.TheVariants.{Home};
 ghost use Rattle.mip_rules_mobile.specs.Transitions.{Transition, noted};
 ghost use Rattle.mip_rules_mobile.specs.Sendings.{Sending, RegistersHome, DeregistersHome, packet_of_sending, shield_of, shield_to, Solicits, registration_packet, deregistration_packet, solicitation_packet};
 ghost use Rattle.mip_call_context.specs.Seen.{Shows, IsNeutral};
 
-use crate::call_context::{CallContext, ENDING, MYSELF, RENEWING, RESENDING};
-use mip_bulist::Work;
+use crate::call_context::{CallContext, MYSELF};
+use mip_bulist::{HomeTimer, Work};
 use mip_discovery::Discovery;
 use mip_entries::{Answer, Entry};
 use mip_mobile_state::Agents;
@@ -59,16 +59,15 @@ impl CallContext {
         self.known.tried = 0;
     }
 
-    /// A timer of the station is set for so many milliseconds later.
-    pub fn wait_own(&mut self, timer: u8, wait: u64)
-        requires range { timer < 8 }
-        requires early { wait < 2 ^ 32 }
-        ensures { (t : Transition) → Shows self.old t → Shows self.new (noted (Waits (Own timer) wait) t) }
+    /// A timer of the home registration is set for so many milliseconds later.
+    pub fn wait_home(&mut self, timer: HomeTimer, wait: u64)
+        requires { wait < 2 ^ 32 }
+        ensures { (t : Transition) → Shows self.old t → Shows self.new (noted (Waits (Home timer) wait) t) }
     {
         self.known
             .list
-            .set(Moment(self.moment.0 + wait), Work::Own(timer));
-        self.known.wait = wait_after(timer, wait, self.known.wait);
+            .set(Moment(self.moment.0 + wait), Work::Home(timer));
+        self.known.wait = wait_set_by(timer, wait, self.known.wait);
     }
 
     /// Work is stopped.
@@ -88,8 +87,8 @@ impl CallContext {
             end,
         }))?;
         self.known.registered = Some(Registered { agent, end });
-        self.known.list.set(renew, Work::Own(RENEWING));
-        self.known.list.set(end, Work::Own(ENDING));
+        self.known.list.set(renew, Work::Home(HomeTimer::Renew));
+        self.known.list.set(end, Work::Home(HomeTimer::End));
         Ok(())
     }
 
@@ -177,11 +176,14 @@ fn again(discovery: Option<Discovery>, now: Moment) -> Option<Discovery>
     }
 }
 
-/// How long the resending of a home registration waits.
-fn wait_after(timer: u8, wait: u64, old: u64) -> u64
-    ensures { result ≡ (if timer == 0 then wait else old) }
+/// How long the resending of a home registration waits, once a timer is set.
+fn wait_set_by(timer: HomeTimer, wait: u64, old: u64) -> u64
+    ensures { result ≡ wait_set_by timer wait old }
 {
-    if timer == RESENDING { wait } else { old }
+    match timer {
+        HomeTimer::Resend => wait,
+        HomeTimer::Renew | HomeTimer::End | HomeTimer::Discover => old,
+    }
 }
 
 /// The mark of what goes to an agent under protection.

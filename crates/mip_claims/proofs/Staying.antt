@@ -28,8 +28,10 @@ use Rattle.mip_bulist.specs.declared.any.Any.TheVariants.{Idle, Probing, Proved,
 use Rattle.mip_bulist.specs.declared.list_full.ListFull.{ListFull}
 use Rattle.mip_bulist.specs.declared.state.Pending as pending
 use Rattle.mip_bulist.specs.declared.trial.Trial.{Trial}
+use Rattle.mip_bulist.specs.declared.home_timer.HomeTimer.{HomeTimer}
+use Rattle.mip_bulist.specs.declared.home_timer.HomeTimer.TheVariants as home_timers
 use Rattle.mip_bulist.specs.declared.work.Work.{Work}
-use Rattle.mip_bulist.specs.declared.work.Work.TheVariants.{Resend, Renew, End, Own}
+use Rattle.mip_bulist.specs.declared.work.Work.TheVariants.{Resend, Renew, End, Home}
 use Rattle.mip_bulist.specs.Rows.{given_row}
 use Rattle.mip_bulist.specs.Timers.{due_work}
 use Rattle.mip_rules_correspondent.specs.Calls as parts
@@ -55,7 +57,7 @@ use Rattle.mip_rules_mobile.specs.HomeRules.{seeks, seeks_again, resends_home, h
 use Rattle.mip_rules_mobile.specs.PeerRules.{tells_of_nonces, begins_at, meets, comes_right, test_at, cookie, home_row, careof_row, keeps_home, keeps_careof, takes_home_test, takes_careof_test, acknowledges, binds_from, ends_for, is_granted, rests, takes_peer_ack, acks_trial, acks_row, takes_ack_of, loses, takes_error, renews, takes_refresh}
 use Rattle.mip_rules_mobile.specs.IcmpRules.{agents_named, is_matched, drops_icmp, finds, takes_discovery_reply, is_from_agent, learns, takes_prefix_reply, by_icmp, takes_icmp}
 use Rattle.mip_rules_mobile.specs.ReceivingRules.{acks_by, takes_ack, then_meets, takes_for_part, by_message, by_role, refuses, after_inner_checks, inner_standing, takes_inner, opens_with, opens_from, opens, after_checks, standing_of, receives, takes}
-use Rattle.mip_rules_mobile.specs.RingingRules.{renews_home, ends_home, ends_at, ends_row, rings_own, does_work, rings, rings_on, ticks, ticks_all}
+use Rattle.mip_rules_mobile.specs.RingingRules.{renews_home, ends_home, ends_at, ends_row, rings_home, does_work, rings, rings_on, ticks, ticks_all}
 use Rattle.mip_rules_mobile.specs.Part.{is_restart}
 use Rattle.mip_rules_mobile.specs.Answering.{stays_put}
 use Rattle.mip_rules_mobile.specs.Doing.{transmits_from, transmits, solicits_from, solicits, handles}
@@ -350,22 +352,17 @@ module _ (P : Transition → Type 0) (one : (step : Step) (t : Transition) → i
       by None = p
       by (Some peer) = let u = noted (Unbinds row peer) t in resting (is_bound (trial_of u.known row)) u (one _ t refl p)
 
-  still_own : (timer : ℕ) (t : Transition) → P t → P (rings_own timer t)
-  still_own timer t p = by (timer == 0) (timer == 1) (timer == 2) (timer == 3)
-    where
-      by : (resends renews ends seeks : Bool)
-          → P (if resends then resends_home (doubled t.known.wait) t else if renews then renews_home t.known.standing t else if ends then ends_home t.known.registered t else if seeks then seeks_again t else t)
-      by true renews ends seeks = still_resends P one notes (doubled t.known.wait) t p
-      by false true ends seeks = still_renews t.known.standing t p
-      by false false true seeks = still_ends_home t.known.registered t p
-      by false false false true = still_search P one notes t p
-      by false false false false = p
+  still_rings_home : (timer : HomeTimer) (t : Transition) → P t → P (rings_home timer t)
+  still_rings_home home_timers.Resend t p = still_resends P one notes (doubled t.known.wait) t p
+  still_rings_home home_timers.Renew t p = still_renews t.known.standing t p
+  still_rings_home home_timers.End t p = still_ends_home t.known.registered t p
+  still_rings_home home_timers.Discover t p = still_search P one notes t p
 
   still_work : (work : Work) (t : Transition) → P t → P (does_work work t)
   still_work (Resend row) t p = still_row P one notes row t p
   still_work (Renew row) t p = still_starts P one notes row t p
   still_work (End row) t p = still_ends row t p
-  still_work (Own timer) t p = still_own timer t p
+  still_work (Home timer) t p = still_rings_home timer t p
 
   still_rings : (work : Work) (t : Transition) → P t → P (rings work t)
   unfolding rings

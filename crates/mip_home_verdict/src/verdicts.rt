@@ -5,8 +5,8 @@ ghost use Rattle.mip_rules_agent.specs.Verdicts.{is_from, is_near, granted_of, a
 
 use mip_constants::MAX_HOME_LIFETIME;
 use mip_outside::Claim;
-use mip_rules_agent::{Bench, HomeVerdict};
 use mip_reception::{Registration, careof_of, deletes, home_of, registered_of, status};
+use mip_rules_agent::{Bench, HomeVerdict};
 use mip_words::{Address, Shield, Why, after};
 
 /// The first row that applies.

@@ -4,8 +4,8 @@ ghost use Rattle.std.specs.Prelude.{◌≡◌};
 ghost use Rattle.mip_reception.specs.Registrations.{deletes};
 ghost use Rattle.mip_homeagent.specs.Changes.{holding_of, holding_by};
 
-use mip_rules_agent::HomeVerdict;
 use mip_reception::{Registration, deletes};
+use mip_rules_agent::HomeVerdict;
 
 /// Whether an address is held from here on, with a verdict; `None` where that stays.
 pub fn holding_by(held: bool, registration: &Registration, verdict: &HomeVerdict) -> Option<bool>

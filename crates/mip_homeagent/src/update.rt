@@ -24,8 +24,8 @@ use mip_constants::LIFETIME_UNIT;
 use mip_entries::Answers;
 use mip_home_verdict::{before_claim, by_claim};
 use mip_outside::{Claim, Place};
-use mip_rules_agent::{Bench, HomeBinding, HomeVerdict, Identity};
 use mip_reception::{Registration, home_of, status, write_ack};
+use mip_rules_agent::{Bench, HomeBinding, HomeVerdict, Identity};
 use mip_words::{Address, Memory, Moment};
 use std::alloc::Global;
 

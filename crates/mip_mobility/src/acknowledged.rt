@@ -8,13 +8,13 @@ ghost use Rattle.mip_registration.specs.Seen.{Shows};
 
 use crate::ack::Ack;
 use crate::handed::Handed;
-use mip_bulist::Work;
-use mip_registration::call_context::{CallContext, RESENDING};
+use mip_bulist::{HomeTimer, Work};
 use mip_constants::LIFETIME_UNIT;
+use mip_reception::status::SEQUENCE_OUT_OF_WINDOW;
+use mip_registration::call_context::CallContext;
 use mip_registration::{catch_up, turn_away};
 use mip_routability::{REFRESH_UNIT, start_deletions, start_unbound};
 use mip_rules_mobile::{Attachment, HomeUpdate};
-use mip_reception::status::SEQUENCE_OUT_OF_WINDOW;
 use mip_words::{Address, Memory, Moment};
 use std::alloc::Global;
 
@@ -88,7 +88,7 @@ fn registered(
     requires { update.now.at.0 < 2 ^ 62 }
     ensures { (t : Transition) → Shows context.old t → OnOk result (Shows context.new (is_registered update.now lifetime t)) }
 {
-    context.stop(Work::Own(RESENDING));
+    context.stop(Work::Home(HomeTimer::Resend));
     let end = Moment(update.at.0 + LIFETIME_UNIT * lifetime as u64);
     let renew = Moment(update.at.0 + REFRESH_UNIT * lifetime as u64);
     context.register(update.agent, end, renew)?;
@@ -100,7 +100,7 @@ fn registered(
 fn unregistered(alloc: Global, context: &mut CallContext, update: &HomeUpdate) -> Result<(), Memory>
     ensures { (t : Transition) → Shows context.old t → OnOk result (Shows context.new (is_unregistered update.now t)) }
 {
-    context.stop(Work::Own(RESENDING));
+    context.stop(Work::Home(HomeTimer::Resend));
     context.unregister(update.agent)?;
     start_deletions(alloc, context)
 }

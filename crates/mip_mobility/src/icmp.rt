@@ -8,10 +8,10 @@ ghost use Rattle.mip_rules_mobile.specs.IcmpRules.{agents_named, finds, takes_di
 ghost use Rattle.mip_rules_mobile.specs.Transitions.{Transition};
 ghost use Rattle.mip_registration.specs.Seen.{Shows};
 
-use mip_bulist::Work;
-use mip_registration::call_context::{Agents, CallContext, SEEKING};
+use mip_bulist::{HomeTimer, Work};
 use mip_icmp::{Icmp, read_icmp};
 use mip_ipv6::PacketRef;
+use mip_registration::call_context::{Agents, CallContext};
 use mip_registration::{register, take_prefix_reply};
 use mip_rules_mobile::Attachment;
 use mip_words::{Address, Memory, Shield, Why};
@@ -40,7 +40,7 @@ fn find_all(
         → OnOk result (Shows context.new (finds 0 (Away careof) (first ∷ others) t)) }
 {
     context.find(agents);
-    context.stop(Work::Own(SEEKING));
+    context.stop(Work::Home(HomeTimer::Discover));
     match context.next_found() {
         Some(first) => {
             context.choose(first)?;

@@ -10,9 +10,9 @@ ghost use Rattle.mip_rules_mobile.specs.Steps.{Releases};
 ghost use Rattle.mip_rules_mobile.specs.Transitions.{Transition, noted};
 ghost use Rattle.mip_registration.specs.Seen.{Shows};
 
-use mip_registration::call_context::CallContext;
 use mip_nonce::Secrets;
 use mip_outside::Claim;
+use mip_registration::call_context::CallContext;
 use mip_registration::{arrive, register};
 use mip_rules_mobile::Attachment;
 use mip_words::{Address, Memory, Prefix};

@@ -7,15 +7,15 @@ ghost use Rattle.mip_rules_mobile.specs.Timing.{doubled};
 ghost use Rattle.mip_rules_mobile.specs.Trials.{is_bound, Rest};
 ghost use Rattle.mip_rules_mobile.specs.RowQuestions.{trial_of};
 ghost use Rattle.mip_rules_mobile.specs.HomeRules.{resends_home};
-ghost use Rattle.mip_rules_mobile.specs.RingingRules.{renews_home, ends_home, rests_if_bound, ends_at, ends_row, rings_own, does_work, rings, ticks, ticks_all};
+ghost use Rattle.mip_rules_mobile.specs.RingingRules.{renews_home, ends_home, rests_if_bound, ends_at, ends_row, rings_home, does_work, rings, ticks, ticks_all};
 ghost use Rattle.mip_rules_mobile.specs.TimerQuestions.{moment};
 ghost use Rattle.mip_mobility.specs.Rounds.{rings_once};
 ghost use Rattle.mip_rules_mobile.specs.Steps.{Tries};
 ghost use Rattle.mip_rules_mobile.specs.Transitions.{Transition, noted};
 ghost use Rattle.mip_registration.specs.Seen.{Shows};
 
-use mip_bulist::{Any, Work};
-use mip_registration::call_context::{CallContext, ENDING, RENEWING, RESENDING, SEEKING, doubled};
+use mip_bulist::{Any, HomeTimer, Work};
+use mip_registration::call_context::{CallContext, doubled};
 use mip_registration::{end_home, renew_home, resend_home, seek_again};
 use mip_routability::{resend_row, start};
 use mip_words::{Address, Memory};
@@ -93,16 +93,15 @@ fn end(context: &mut CallContext) -> Result<(), Memory>
     end_home(context, registered)
 }
 
-/// A timer of the station itself.
-fn ring_own(alloc: Global, context: &mut CallContext, timer: u8) -> Result<(), Memory>
-    ensures { (t : Transition) → Shows context.old t → OnOk result (Shows context.new (rings_own timer t)) }
+/// A timer of the home registration.
+fn ring_home(alloc: Global, context: &mut CallContext, timer: HomeTimer) -> Result<(), Memory>
+    ensures { (t : Transition) → Shows context.old t → OnOk result (Shows context.new (rings_home timer t)) }
 {
     match timer {
-        RESENDING => resend(alloc, context),
-        RENEWING => renew(alloc, context),
-        ENDING => end(context),
-        SEEKING => seek_again(alloc, context),
-        _ => Ok(()),
+        HomeTimer::Resend => resend(alloc, context),
+        HomeTimer::Renew => renew(alloc, context),
+        HomeTimer::End => end(context),
+        HomeTimer::Discover => seek_again(alloc, context),
     }
 }
 
@@ -114,7 +113,7 @@ fn do_work(alloc: Global, context: &mut CallContext, work: Work) -> Result<(), M
         Work::Resend(row) => resend_row(alloc, context, row),
         Work::Renew(row) => start(alloc, context, row),
         Work::End(row) => end_row(context, row),
-        Work::Own(timer) => ring_own(alloc, context, timer),
+        Work::Home(timer) => ring_home(alloc, context, timer),
     }
 }
 

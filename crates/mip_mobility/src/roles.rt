@@ -14,11 +14,11 @@ use crate::ack::Ack;
 use crate::acknowledged::{answered, take_home_ack};
 use crate::handed::Handed;
 use crate::icmp::take_icmp;
-use mip_registration::call_context::correspondent::is_for_part;
-use mip_registration::call_context::{CallContext, Heard, ask_part};
 use mip_constants::protocol::{ICMPV6, NO_NEXT_HEADER};
 use mip_ipv6::PacketRef;
 use mip_mobhdr::{Message, Options};
+use mip_registration::call_context::correspondent::is_for_part;
+use mip_registration::call_context::{CallContext, Heard, ask_part};
 use mip_routability::{
     PeerAck, meet, take_ack_of, take_careof_test, take_error, take_home_test, take_refresh,
 };

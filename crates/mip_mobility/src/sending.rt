@@ -10,9 +10,9 @@ ghost use Rattle.mip_rules_mobile.specs.Doing.{transmits_from, transmits};
 ghost use Rattle.mip_rules_mobile.specs.Transitions.{Transition};
 ghost use Rattle.mip_registration.specs.Seen.{Shows};
 
-use mip_registration::call_context::{CallContext, ask_data};
 use mip_ipv6::Head;
 use mip_packets::{node_head, write_data_packet};
+use mip_registration::call_context::{CallContext, ask_data};
 use mip_rules_mobile::Attachment;
 use mip_words::{Address, Memory};
 use std::alloc::Global;

@@ -11,10 +11,10 @@ ghost use Rattle.mip_mobility.specs.Inners.{inner_why, entry_why};
 
 use crate::handed::Handed;
 use crate::roles::take_role;
-use mip_registration::call_context::{CallContext, reply};
 use mip_constants::protocol::{IPV6, MOBILITY_HEADER};
 use mip_ipv6::{ExitFault, Head, PacketRef, decapsulate};
 use mip_reception::{AddressMatch, Refusal, check, packet_why};
+use mip_registration::call_context::{CallContext, reply};
 use mip_words::{Address, Memory, Shield, Why};
 use std::alloc::Global;
 

@@ -10,8 +10,8 @@ ghost use Rattle.mip_call_context.specs.Seen.{Shows};
 ghost use Rattle.mip_discovery.specs.Retries.{DiscoverySeen, retried};
 
 use crate::packets::{write_deregistration, write_discovery, write_registration};
-use mip_bulist::Work;
-use mip_call_context::{CallContext, RENEWING, RESENDING, SEEKING};
+use mip_bulist::{HomeTimer, Work};
+use mip_call_context::CallContext;
 use mip_constants::{
     INITIAL_BINDACK_TIMEOUT, INITIAL_BINDACK_TIMEOUT_FIRST_REG, INITIAL_DHAAD_TIMEOUT,
 };
@@ -33,7 +33,7 @@ pub fn register_with(
     let sequence = context.next_to(agent);
     let packet = write_registration(alloc, context.home(), careof, agent, sequence)?;
     context.put_registration(careof, agent, sequence, packet)?;
-    context.wait_own(RESENDING, wait);
+    context.wait_home(HomeTimer::Resend, wait);
     Ok(())
 }
 
@@ -50,7 +50,7 @@ pub fn deregister_with(
     let sequence = context.next_to(agent);
     let packet = write_deregistration(alloc, context.home(), agent, sequence)?;
     context.put_deregistration(agent, sequence, packet)?;
-    context.wait_own(RESENDING, wait);
+    context.wait_home(HomeTimer::Resend, wait);
     Ok(())
 }
 
@@ -87,7 +87,7 @@ pub fn seek(alloc: Global, context: &mut CallContext, careof: Address) -> Result
     let packet = write_discovery(alloc, context.home(), careof, identifier)?;
     context.seek();
     context.put(None, packet)?;
-    context.wait_own(SEEKING, INITIAL_DHAAD_TIMEOUT);
+    context.wait_home(HomeTimer::Discover, INITIAL_DHAAD_TIMEOUT);
     Ok(())
 }
 
@@ -201,8 +201,8 @@ fn turn_to(
             register_with(alloc, context, careof, agent, INITIAL_BINDACK_TIMEOUT)
         }
         _ => {
-            context.stop(Work::Own(RESENDING));
-            context.stop(Work::Own(RENEWING));
+            context.stop(Work::Home(HomeTimer::Resend));
+            context.stop(Work::Home(HomeTimer::Renew));
             Ok(())
         }
     }
@@ -266,7 +266,7 @@ fn seek_once_more(
     match context.discovery_wait() {
         Some(wait) => {
             context.put(None, packet)?;
-            context.wait_own(SEEKING, wait);
+            context.wait_home(HomeTimer::Discover, wait);
         }
         None => context.give_up(),
     }

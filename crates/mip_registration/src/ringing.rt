@@ -1,4 +1,4 @@
-//! The station's own timers (RFC 6275 sections 11.7.1 and 11.8).
+//! The timers of the home registration (RFC 6275 sections 11.7.1 and 11.8).
 
 ghost use Rattle.std.specs.Prelude.{◌≡◌, OnOk};
 ghost use Rattle.mip_rules_mobile.specs.Transitions.{Transition};

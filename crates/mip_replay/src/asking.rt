@@ -2,8 +2,8 @@ ghost use Rattle.std.specs.Prelude.{◌≡◌, option_map};
 ghost use Rattle.mip_history.specs.Outsiders.{asking_in};
 ghost use Rattle.mip_replay.specs.Forged as seen;
 
-use mip_packets::{TestKind, innermost, message_in};
 use mip_mobhdr::Message;
+use mip_packets::{TestKind, innermost, message_in};
 use mip_words::Cookie;
 
 /// What the init of a test asks for: a test of this kind, with this cookie.

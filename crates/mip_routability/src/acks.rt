@@ -18,8 +18,8 @@ use crate::waiting::Waiting;
 use mip_bulist::{Any, Pending, Trial, Work};
 use mip_call_context::CallContext;
 use mip_constants::{INITIAL_BINDACK_TIMEOUT, LIFETIME_UNIT};
-use mip_tokens::{PreparedKbm, authenticator};
 use mip_reception::status;
+use mip_tokens::{PreparedKbm, authenticator};
 use mip_words::{Address, Memory, Moment, Why};
 use std::alloc::Global;
 

@@ -9,8 +9,8 @@ ghost use Rattle.mip_rows.specs.PacketKinds.{mobility_kind, icmp_kind, body_kind
 use mip_constants::protocol::{ICMPV6, IPV6, MOBILITY_HEADER, NO_NEXT_HEADER};
 use mip_explain::message_word;
 use mip_icmp::read_icmp;
-use mip_packets::message_in;
 use mip_ipv6::{PacketRef, read_packet};
+use mip_packets::message_in;
 use mip_words::Address;
 
 fn mobility_kind(packet: &PacketRef) -> &'static [u8]

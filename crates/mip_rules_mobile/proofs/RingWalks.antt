@@ -1,14 +1,15 @@
 -- What steady steps keep, due work keeps, in a call that hands over no packet.
 use Rattle.std.proofs.Common.{◌≡◌, ℕ, zero, suc, length, refl, sym, ◌∙◌}
-use Rattle.std.specs.Prelude.{Option, Some, None, Bool, true, false, ◌==◌, if◌then◌else◌}
+use Rattle.std.specs.Prelude.{Option, Some, None, Bool, true, false, if◌then◌else◌}
 use Rattle.mip_words.specs.declared.address.Address.{Address}
+use Rattle.mip_bulist.specs.declared.home_timer.HomeTimer.{HomeTimer}
+use Rattle.mip_bulist.specs.declared.home_timer.HomeTimer.TheVariants as home_timers
 use Rattle.mip_bulist.specs.declared.work.Work.{Work}
-use Rattle.mip_bulist.specs.declared.work.Work.TheVariants.{Resend, Renew, End, Own}
+use Rattle.mip_bulist.specs.declared.work.Work.TheVariants.{Resend, Renew, End, Home}
 use Rattle.mip_bulist.specs.Timers.{due_work}
 use Rattle.mip_rules_mobile.specs.declared.attachment.Attachment.{Attachment}
 use Rattle.mip_rules_mobile.specs.declared.attachment.Attachment.TheVariants.{Detached, AtHome, Away}
 use Rattle.mip_rules_mobile.specs.declared.registered.Registered.{Registered}
-use Rattle.mip_rules_mobile.specs.Timing.{doubled}
 use Rattle.mip_rules_mobile.specs.Calls.{Call}
 use Rattle.mip_rules_mobile.specs.Coming.{is_take}
 use Rattle.mip_rules_mobile.specs.Trials.{Rest, is_bound}
@@ -16,8 +17,7 @@ use Rattle.mip_rules_mobile.specs.Steps.{Unregisters, Tries, Unbinds, Rings}
 use Rattle.mip_rules_mobile.specs.RowQuestions.{peer_of_row, trial_of}
 use Rattle.mip_rules_mobile.specs.TimerQuestions.{moment}
 use Rattle.mip_rules_mobile.specs.Transitions.{Transition, noted}
-use Rattle.mip_rules_mobile.specs.HomeRules.{seeks_again, resends_home}
-use Rattle.mip_rules_mobile.specs.RingingRules.{renews_home, ends_home, ends_at, ends_row, rings_own, does_work, rings, rings_on, ticks, ticks_all}
+use Rattle.mip_rules_mobile.specs.RingingRules.{renews_home, ends_home, ends_at, ends_row, rings_home, does_work, rings, rings_on, ticks, ticks_all}
 use Rattle.mip_rules_mobile.proofs.Steady.{Goes}
 use Rattle.mip_rules_mobile.proofs.TrialWalks.{every-starts, every-resends_row, doubled-positive}
 use Rattle.mip_rules_mobile.proofs.HomeWalks.{every-registers, every-resends_home, every-seeks_again}
@@ -49,22 +49,17 @@ module _ (c : Call) (P : Transition → Type 0) (more : Goes c P) (other : is_ta
           let u = noted (Unbinds row peer) t in
           resting (is_bound (trial_of u.known row)) u (more (Unbinds row peer) t refl of p)
 
-  every-own : (timer : ℕ) (t : Transition) → P t → P (rings_own timer t)
-  every-own timer t p = by (timer == 0) (timer == 1) (timer == 2) (timer == 3)
-    where
-      by : (resends renews ends seeks : Bool)
-          → P (if resends then resends_home (doubled t.known.wait) t else if renews then renews_home t.known.standing t else if ends then ends_home t.known.registered t else if seeks then seeks_again t else t)
-      by true renews ends seeks = every-resends_home c P more (doubled t.known.wait) t (doubled-positive t.known.wait) p
-      by false true ends seeks = every-renews_home t p
-      by false false true seeks = every-ends_home t.known.registered t p
-      by false false false true = every-seeks_again c P more t p
-      by false false false false = p
+  every-rings_home : (timer : HomeTimer) (t : Transition) → P t → P (rings_home timer t)
+  every-rings_home home_timers.Resend t p = every-resends_home c P more _ t (doubled-positive t.known.wait) p
+  every-rings_home home_timers.Renew t p = every-renews_home t p
+  every-rings_home home_timers.End t p = every-ends_home t.known.registered t p
+  every-rings_home home_timers.Discover t p = every-seeks_again c P more t p
 
   pub every-work : (work : Work) (t : Transition) → P t → P (does_work work t)
   every-work (Resend row) t p = every-resends_row c P more row t p
   every-work (Renew row) t p = every-starts c P more row t p
   every-work (End row) t p = every-ends_row row t p
-  every-work (Own timer) t p = every-own timer t p
+  every-work (Home timer) t p = every-rings_home timer t p
 
   pub every-rings : (work : Work) (t : Transition) → P t → P (rings work t)
   unfolding rings

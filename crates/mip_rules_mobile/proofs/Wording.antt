@@ -9,7 +9,8 @@ use Rattle.mip_words.specs.declared.address.Address.{Address}
 use Rattle.mip_words.specs.declared.moment.Moment.{Moment}
 use Rattle.mip_nonce.specs.Secrets.{Life}
 use Rattle.mip_entries.specs.Stamped.{Stamped}
-use Rattle.mip_bulist.specs.declared.work.Work.TheVariants.{Resend, Own}
+use Rattle.mip_bulist.specs.declared.home_timer.HomeTimer.TheVariants as home_timers
+use Rattle.mip_bulist.specs.declared.work.Work.TheVariants.{Resend, Home}
 use Rattle.mip_rules_mobile.specs.declared.peer.Peer.{Peer}
 use Rattle.mip_rules_mobile.specs.Steps.{Step, Detaches, Restarts, Updates, Forgets, Binds, Unbinds, Waits}
 use Rattle.mip_rules_mobile.specs.Known.{Known}
@@ -21,11 +22,7 @@ use Rattle.mip_rules_mobile.specs.Wording.{wait_said, of_row, touched_said, boun
 use Rattle.mip_rules_mobile.proofs.Told.{told, told_under}
 
 wait-row : (k : Known) (step : Step) → wait_after k step ≡ unwrap_or (wait_said step) k.wait
-wait-row k (Waits (Own timer) wait) = by (timer == 0)
-  where
-    by : (b : Bool) → (if b then wait else k.wait) ≡ unwrap_or (if b then Some wait else None) k.wait
-    by true = refl
-    by false = refl
+wait-row k (Waits (Home home_timers.Resend) wait) = refl
 wait-row k _ = refl
 
 length-with : (at : ℕ) (f : Peer → Peer) (peers : List Peer) → length (with_peer at f peers) ≡ length peers

@@ -2,7 +2,9 @@
 use Rattle.std.specs.Prelude.{ℕ, ◌+◌, ◌%◌, Bool, true, false, ◌==◌, nat_lt, if◌then◌else◌, Option, Some, None, unwrap_or, option_map, List, [], ◌∷◌, not, filter, ◌++◌}
 use Rattle.std.specs.Option.{option_or}
 use Rattle.mip_words.specs.declared.address.Address.{Address}
-use Rattle.mip_bulist.specs.declared.work.Work.TheVariants.{Own}
+use Rattle.mip_bulist.specs.declared.home_timer.HomeTimer.{HomeTimer}
+use Rattle.mip_bulist.specs.declared.home_timer.HomeTimer.TheVariants as home_timers
+use Rattle.mip_bulist.specs.declared.work.Work.TheVariants.{Home}
 use Rattle.mip_rules_mobile.specs.declared.attachment.Attachment.{Attachment}
 use Rattle.mip_rules_mobile.specs.declared.attachment.Attachment.TheVariants.{Detached, AtHome, Away}
 use Rattle.mip_rules_mobile.specs.declared.registered.Registered.{Registered}
@@ -123,9 +125,16 @@ renumbered None ns = ns
 abbrev pub numberings_after : Known → Step → List Numbering
 numberings_after k step = renumbered (next_said step) k.numberings
 
+-- how long the resending waits once a timer is set: its own timer alone changes that
+abbrev pub wait_set_by : HomeTimer → (wait old : ℕ) → ℕ
+wait_set_by home_timers.Resend wait old = wait
+wait_set_by home_timers.Renew wait old = old
+wait_set_by home_timers.End wait old = old
+wait_set_by home_timers.Discover wait old = old
+
 -- how long the resending of a home registration or deregistration waits
 abbrev pub wait_after : Known → Step → ℕ
-wait_after k (Waits (Own timer) wait) = if timer == 0 then wait else k.wait
+wait_after k (Waits (Home timer) wait) = wait_set_by timer wait k.wait
 wait_after k (Restarts secrets) = 0
 wait_after k _ = k.wait
 

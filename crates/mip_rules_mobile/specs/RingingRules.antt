@@ -1,8 +1,10 @@
 -- Due work. RFC 6275 sections 11.4.1, 11.7.1, 11.7.2 and 11.8
-use Rattle.std.specs.Prelude.{ℕ, zero, suc, ◌==◌, if◌then◌else◌, length, Option, Some, None}
+use Rattle.std.specs.Prelude.{ℕ, zero, suc, if◌then◌else◌, length, Option, Some, None}
 use Rattle.mip_words.specs.declared.address.Address.{Address}
+use Rattle.mip_bulist.specs.declared.home_timer.HomeTimer.{HomeTimer}
+use Rattle.mip_bulist.specs.declared.home_timer.HomeTimer.TheVariants as home_timers
 use Rattle.mip_bulist.specs.declared.work.Work.{Work}
-use Rattle.mip_bulist.specs.declared.work.Work.TheVariants.{Resend, Renew, End, Own}
+use Rattle.mip_bulist.specs.declared.work.Work.TheVariants.{Resend, Renew, End, Home}
 use Rattle.mip_bulist.specs.Timers.{due_work}
 use Rattle.mip_rules_mobile.specs.declared.attachment.Attachment.{Attachment}
 use Rattle.mip_rules_mobile.specs.declared.attachment.Attachment.TheVariants.{Detached, AtHome, Away}
@@ -38,20 +40,18 @@ ends_at (Some peer) row t = rests_if_bound row (noted (Unbinds row peer) t)
 unfoldable pub ends_row : ℕ → Transition → Transition
 ends_row row t = ends_at (peer_of_row t.known row) row t
 
--- the timers of the station itself
-abbrev pub rings_own : ℕ → Transition → Transition
-rings_own timer t =
-    if timer == 0 then resends_home (doubled t.known.wait) t
-    else if timer == 1 then renews_home t.known.standing t
-    else if timer == 2 then ends_home t.known.registered t
-    else if timer == 3 then seeks_again t
-    else t
+-- the timers of the home registration
+abbrev pub rings_home : HomeTimer → Transition → Transition
+rings_home home_timers.Resend t = resends_home (doubled t.known.wait) t
+rings_home home_timers.Renew t = renews_home t.known.standing t
+rings_home home_timers.End t = ends_home t.known.registered t
+rings_home home_timers.Discover t = seeks_again t
 
 abbrev pub does_work : Work → Transition → Transition
 does_work (Resend row) t = resends_row row t
 does_work (Renew row) t = starts row t
 does_work (End row) t = ends_row row t
-does_work (Own timer) t = rings_own timer t
+does_work (Home timer) t = rings_home timer t
 
 unfoldable pub rings : Work → Transition → Transition
 rings work t = does_work work (noted (Rings work) t)

@@ -2,26 +2,27 @@
 use Rattle.std.specs.Prelude.{ℕ, ◌+◌, List, []}
 use Rattle.mip_words.specs.declared.moment.Moment.{Moment}
 use Rattle.mip_bulist.specs.declared.timer.Timer.{Timer}
+use Rattle.mip_bulist.specs.declared.home_timer.HomeTimer.TheVariants as home_timers
 use Rattle.mip_bulist.specs.declared.work.Work.{Work}
-use Rattle.mip_bulist.specs.declared.work.Work.TheVariants.{Renew, End, Own}
+use Rattle.mip_bulist.specs.declared.work.Work.TheVariants.{Renew, End, Home}
 use Rattle.mip_bulist.specs.Timers.{with_timer, without_timer, without_due}
 use Rattle.mip_rules_mobile.specs.Steps.{Step, Detaches, Restarts, Registers, Binds, Unbinds, Waits, Stops, Rings}
 
 -- a home registration or deregistration is sent again
 abbrev pub resending_home : Work
-resending_home = Own 0
+resending_home = Home home_timers.Resend
 
 -- the registration is renewed, before it ends
 abbrev pub renewing_home : Work
-renewing_home = Own 1
+renewing_home = Home home_timers.Renew
 
 -- the registration ends
 abbrev pub ending_home : Work
-ending_home = Own 2
+ending_home = Home home_timers.End
 
 -- a discovery is tried again, or given up
 abbrev pub seeking : Work
-seeking = Own 3
+seeking = Home home_timers.Discover
 
 -- so many milliseconds later
 abbrev pub later : ℕ → ℕ → Moment

@@ -3,13 +3,14 @@
 use Rattle.std.specs.Prelude.{ℕ, Bool, true, false, ◌==◌, if◌then◌else◌, Option, Some, None, slice_get}
 use Rattle.std.specs.Option.{option_map_or}
 use Rattle.mip_words.specs.declared.moment.Moment.{Moment}
-use Rattle.mip_bulist.specs.declared.work.Work.TheVariants.{Resend, Own}
+use Rattle.mip_bulist.specs.declared.home_timer.HomeTimer.TheVariants as home_timers
+use Rattle.mip_bulist.specs.declared.work.Work.TheVariants.{Resend, Home}
 use Rattle.mip_rules_mobile.specs.Steps.{Step, Detaches, Restarts, Updates, Forgets, Binds, Unbinds, Waits}
 use Rattle.mip_rules_mobile.specs.Known.{Known}
 
 -- the wait of the last resending of a home registration or deregistration that was set
 abbrev pub wait_said : Step → Option ℕ
-wait_said (Waits (Own timer) wait) = if timer == 0 then Some wait else None
+wait_said (Waits (Home home_timers.Resend) wait) = Some wait
 wait_said (Restarts secrets) = Some 0
 wait_said _ = None
 

@@ -13,8 +13,8 @@ use crate::rows::{Judge, by_indices, deny};
 use mip_bcache::Cache;
 use mip_entries::UpdateSeen;
 use mip_nonce::Secrets;
-use mip_rules_correspondent::Verdict;
 use mip_reception::{Registration, careof_of, home_of, registration_in, status};
+use mip_rules_correspondent::Verdict;
 use mip_words::{Address, Moment, Why};
 
 /// What becomes of a Binding Update at a correspondent: the first row that applies (RFC 6275 sections

@@ -13,8 +13,8 @@ use crate::arrival::{Arrival, arrival_of};
 use crate::claims::{claim_own, try_claim};
 use crate::engine::Engine;
 use mip_entries::Entry;
-use mip_links::Delivery;
 use mip_ipv6::lower;
+use mip_links::Delivery;
 use mip_words::{Address, Bytes, Holder, LinkId, Memory, Prefix, Shield};
 use std::alloc::Global;
 

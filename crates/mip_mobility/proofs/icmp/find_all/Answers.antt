@@ -1,6 +1,7 @@
 use Rattle.std.proofs.Common.{sym, ◌∙◌, List, subst, OnOk}
 use Rattle.mip_words.specs.declared.address.Address.{Address}
-use Rattle.mip_bulist.specs.declared.work.Work.TheVariants.{Own}
+use Rattle.mip_bulist.specs.declared.home_timer.HomeTimer.TheVariants as home_timers
+use Rattle.mip_bulist.specs.declared.work.Work.TheVariants.{Home}
 use Rattle.mip_rules_mobile.specs.HomeRules.{registers}
 use Rattle.mip_rules_mobile.specs.Steps.{Finds, Chooses, Stops}
 use Rattle.mip_rules_mobile.specs.Transitions.{noted}
@@ -14,8 +15,8 @@ returns-in_ok-choose-in-Some c = λ first others t is shows.
     let careof = c.args.careof in
     let stopped = c.stop.ensures (noted (Finds c.args.agents) t) (c.find.ensures t shows) in
     let next = first-found first others c.args.agents t c.stop.new.self.known c.next_found.result is (shows-known c.stop.new.self _ stopped) c.next_found.ensures.found in
-    subst (λ (l : List Address). OnOk c.register.result (Shows c.register.new.context (registers careof (noted (Chooses first) (noted (Stops (Own 3)) (noted (Finds l) t)))))) is
-    (subst (λ (a : Address). OnOk c.register.result (Shows c.register.new.context (registers careof (noted (Chooses a) (noted (Stops (Own 3)) (noted (Finds c.args.agents) t))))))
+    subst (λ (l : List Address). OnOk c.register.result (Shows c.register.new.context (registers careof (noted (Chooses first) (noted (Stops (Home home_timers.Discover)) (noted (Finds l) t)))))) is
+    (subst (λ (a : Address). OnOk c.register.result (Shows c.register.new.context (registers careof (noted (Chooses a) (noted (Stops (Home home_timers.Discover)) (noted (Finds c.args.agents) t))))))
     (same_first c.in-Some.first first (sym c.in-Some.is ∙ next))
     (c.register.ensures _ (c.in_ok-choose-in-Some.ensures _ stopped)))
 

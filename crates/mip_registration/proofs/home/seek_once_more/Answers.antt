@@ -14,8 +14,8 @@ returns-in_ok-put-in-Some c = λ d t under shows.
     let told = c.in_ok-packet.ensures ∙ ap (λ (h : Address). discovery_packet h c.args.careof c.args.identifier) c.home.ensures.value in
     let again = c.seek_again.ensures t shows in
     let sent = c.in_ok-put-in-Some.ensures (Discovers (home_of c.args.context.now.known) c.args.careof c.args.identifier) (noted SeeksAgain t) tt refl told again in
-    let waits = c.wait_own.ensures _ sent in
-    subst (λ (u : Transition). Shows c.wait_own.new.self u)
+    let waits = c.wait_home.ensures _ sent in
+    subst (λ (u : Transition). Shows c.wait_home.new.self u)
     (again-some c.args.careof c.args.identifier c.in-Some.wait c.args.context.now.moment t c.args.context.now.known c.seek_again.new.self.known d
     (shows-known c.args.context.now t shows) (shows-moment c.args.context.now t shows) under (shows-known c.seek_again.new.self (noted SeeksAgain t) again)
     (sym c.in-Some.is ∙ c.discovery_wait.ensures.value)) waits
