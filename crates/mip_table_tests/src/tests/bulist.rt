@@ -1,6 +1,6 @@
 mod timers;
 
-use mip_bulist::{Aim, Any, Ended, List, Probe, Work};
+use mip_bulist::{Aim, Any, Ended, HomeTimer, List, Probe, Work};
 use mip_words::{Address, Cookie, Moment, Token};
 
 // Both tests come, an update is made, an acknowledgement of another sequence is refused, the peer's
@@ -60,11 +60,11 @@ fn timers_come_by_moment_and_in_order_of_setting(rt: HostRuntime) {
     let mut list = List::new(rt.alloc()).expect(&rt, "memory");
     list.set(Moment(10), Work::Resend(0));
     list.set(Moment(10), Work::Renew(0));
-    list.set(Moment(5), Work::Own(7));
+    list.set(Moment(5), Work::Home(HomeTimer::Renew));
     list.set(Moment(10), Work::Resend(0));
     assert_eq!(rt; list.due(), Some(Moment(5)));
     assert_eq!(rt; list.pop(Moment(4)), None);
-    assert_eq!(rt; list.pop(Moment(10)), Some(Work::Own(7)));
+    assert_eq!(rt; list.pop(Moment(10)), Some(Work::Home(HomeTimer::Renew)));
     assert_eq!(rt; list.pop(Moment(10)), Some(Work::Renew(0)));
     assert_eq!(rt; list.pop(Moment(10)), Some(Work::Resend(0)));
     assert!(rt; !list.stop(Work::Resend(0)));

@@ -1,18 +1,19 @@
-use mip_bulist::{List, Work};
+use mip_bulist::{HomeTimer, List, Work};
 use mip_words::Moment;
 
 const ROWS: u8 = 16;
 
-// Every timer that there can be: three of each row, and the station's eight.
+// Every timer that there can be: three of each row, and the four of the home registration.
 fn set_all(list: &mut List, due: Moment) {
     for row in 0..ROWS {
         list.set(due, Work::Resend(row));
         list.set(due, Work::Renew(row));
         list.set(due, Work::End(row));
     }
-    for own in 0..8 {
-        list.set(due, Work::Own(own));
-    }
+    list.set(due, Work::Home(HomeTimer::Resend));
+    list.set(due, Work::Home(HomeTimer::Renew));
+    list.set(due, Work::Home(HomeTimer::End));
+    list.set(due, Work::Home(HomeTimer::Discover));
 }
 
 // How many timers are set where each is set twice, and how many are left when those that are due by then have rung.
@@ -39,7 +40,7 @@ fn reused(list: &mut List) -> (Option<Work>, bool, Option<Work>, Option<Work>) {
 #[test]
 fn every_timer_that_there_can_be_is_set_once(rt: HostRuntime) {
     let mut list = List::new(rt.alloc()).expect(&rt, "memory");
-    assert_eq!(rt; set_and_left(&mut list), (56, 0));
+    assert_eq!(rt; set_and_left(&mut list), (52, 0));
 }
 
 #[test]
