@@ -12,9 +12,9 @@ use Rattle.mip_top.specs.Endings.{Objects, objects, Ends}
 
 -- the status of a text that was told whole is small; else the sink failed, or memory ran out
 told_small : (n status : ℕ) → n ≤ 1 → (status ≡ n) ⊎ ((status ≡ 4) ⊎ (status ≡ 5)) → (status ≤ 5) × ((status ≡ 3 → ⊥) × (status ≡ 7 → ⊥))
-told_small n status small (inl is) = (omega arith, (λ three. omega arith), (λ seven. omega arith))
-told_small n status small (inr (inl is)) = (omega arith, (λ three. omega arith), (λ seven. omega arith))
-told_small n status small (inr (inr is)) = (omega arith, (λ three. omega arith), (λ seven. omega arith))
+told_small n status small (inl is) = (omega arith, ((λ three. omega arith), (λ seven. omega arith)))
+told_small n status small (inr (inl is)) = (omega arith, ((λ three. omega arith), (λ seven. omega arith)))
+told_small n status small (inr (inr is)) = (omega arith, ((λ three. omega arith), (λ seven. omega arith)))
 
 module _ {S C L : Type 0} (command : Option Command) (status : ℕ) (old : Objects S C L) where
   -- memory ran out before anything was done
