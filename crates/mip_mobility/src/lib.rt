@@ -14,6 +14,6 @@ mod sending;
 mod tunnelled;
 
 pub use calls::{ask, attach, leave, refresh, restart, send, take, tick, tunnel};
-pub use mip_registration::call_context::{CallContext, correspondent};
 pub use mip_registration::address_under;
+pub use mip_registration::call_context::{CallContext, correspondent};
 pub use moving::uses_prefix;

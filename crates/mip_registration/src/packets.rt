@@ -8,9 +8,7 @@ use mip_constants::MAX_HOME_LIFETIME;
 use mip_constants::protocol::{ICMPV6, MOBILITY_HEADER};
 use mip_icmp::{PlainIcmp, write_icmp};
 use mip_mobhdr::{OptionSet, Plain};
-use mip_packets::{
-    NO_OPTIONS, node_head, straight, write_data_packet, write_message_packet,
-};
+use mip_packets::{NO_OPTIONS, node_head, straight, write_data_packet, write_message_packet};
 use mip_words::{Address, Bytes, Memory};
 use std::alloc::Global;
 

@@ -15,7 +15,9 @@ use crate::told::{Told, told_in};
 use mip_engine::Engine;
 use mip_engine::header::{DESTINATION, SOURCE};
 use mip_entries::Entry;
-use mip_packets::{TestKind, write_careof_init, write_careof_test, write_home_init, write_home_test};
+use mip_packets::{
+    TestKind, write_careof_init, write_careof_test, write_home_init, write_home_test,
+};
 use mip_words::{Address, Bytes, Cookie, LinkId, Memory};
 use std::alloc::Global;
 

@@ -1,4 +1,6 @@
-use mip_tokens::{Kbm, PreparedKbm, PreparedKey, authentic, authenticator, careof_token, home_token};
+use mip_tokens::{
+    Kbm, PreparedKbm, PreparedKey, authentic, authenticator, careof_token, home_token,
+};
 use mip_words::Address;
 
 // The values of another implementation (Python's `hmac` and `hashlib`), for Kcn and nonce 0 of node 0 in
