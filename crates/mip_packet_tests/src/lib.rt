@@ -1,4 +1,4 @@
-//! Tests of what stands on bytes alone: words, keyed hash, secrets, tokens, packets, messages and listings.
+//! Tests of what stands on bytes alone: words, keyed hash, secrets, tokens, packets, messages, listings, schedules and traces.
 #![tactic(auto)]
 
 #[cfg(test)]

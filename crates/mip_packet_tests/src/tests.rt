@@ -4,6 +4,8 @@ mod icmp;
 mod ipv6;
 mod mobhdr;
 mod nonce;
+mod schedule;
 mod spans;
 mod tokens;
+mod trace;
 mod words;

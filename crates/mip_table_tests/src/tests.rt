@@ -1,6 +1,8 @@
 mod bcache;
 mod bulist;
+mod chain;
 mod discovery;
+mod frames;
 mod marks;
 mod outside;
 mod verdict;

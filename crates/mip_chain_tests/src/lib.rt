@@ -1,5 +1,0 @@
-//! Tests of the chain of slots.
-#![tactic(auto)]
-
-#[cfg(test)]
-mod tests;

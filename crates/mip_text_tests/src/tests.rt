@@ -1,2 +1,0 @@
-mod schedule;
-mod trace;
