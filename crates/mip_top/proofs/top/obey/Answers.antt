@@ -1,9 +1,10 @@
-use Rattle.std.proofs.Common.{rules, ◌≡◌, refl}
-use Rattle.std.specs.Prelude.{Some, None}
+use Rattle.std.proofs.Common.{rules, ◌≡◌, refl, arith}
+use Rattle.std.specs.Prelude.{Some, None, false}
 use Rattle.mip_commands.specs.declared.command.Command.TheVariants.{Replay, Decode, Claims, Audit, Make, Sum, Node, Hub}
 use Rattle.mip_replies.specs.Answers.{form_answer}
 use Rattle.mip_replies.specs.declared.input_form.InputForm.TheVariants as forms
 use Rattle.mip_replies.specs.declared.told_run.ToldRun.TheVariants as runs
+use Rattle.mip_top.specs.Answers.{takes_nothing}
 use Rattle.mip_top.proofs.Endings.{ends_told, ends_answered, ends_served}
 use Rattle.mip_top.proofs.ObeyedLaws.{untaken, answered, at_end}
 use Rattle.mip_top.proofs.top.obey.Goals as goal
@@ -64,34 +65,38 @@ returns-in-None-clause-ends g c =
 pub returns-in-Some-Replay-clause-ends : goal.returns-in-Some-Replay-clause-ends
 returns-in-Some-Replay-clause-ends g c =
     let is : c.args.command ≡ Some Replay = search rules in
-    let o = answered (Some Replay) (form_answer (forms.Schedule runs.Trace)) _ _ _ _ _ (λ bytes. refl) (λ bytes. tt) refl c.answer_input.ensures.answered in
+    let o = returns-in-Some-Replay-clause-obeyed g c in
+    let takes : takes_nothing c.args.command ≡ false = rw is refl in
     rw is
-    (ends_answered (Some Replay) _ _ _ _ _ _ _ refl c.answer_input.ensures.statuses (at_end _ o.0 _ _ _ _ _ o.1 refl) c.answer_input.ensures.read_fault c.answer_input.ensures.read_fault_text
+    (ends_answered (Some Replay) _ _ _ _ _ _ _ refl c.answer_input.ensures.statuses (at_end c.args.command o.0 _ _ _ _ _ o.1 takes) c.answer_input.ensures.read_fault c.answer_input.ensures.read_fault_text
     c.answer_input.ensures.write_fault c.answer_input.ensures.source_faults c.answer_input.ensures.sink_faults)
 
 pub returns-in-Some-Decode-clause-ends : goal.returns-in-Some-Decode-clause-ends
 returns-in-Some-Decode-clause-ends g c =
     let is : c.args.command ≡ Some Decode = search rules in
-    let o = answered (Some Decode) (form_answer forms.Packet) _ _ _ _ _ (λ bytes. refl) (λ bytes. tt) refl c.answer_input-in-Some-Decode.ensures.answered in
+    let o = returns-in-Some-Decode-clause-obeyed g c in
+    let takes : takes_nothing c.args.command ≡ false = rw is refl in
     rw is
-    (ends_answered (Some Decode) _ _ _ _ _ _ _ refl c.answer_input-in-Some-Decode.ensures.statuses (at_end _ o.0 _ _ _ _ _ o.1 refl) c.answer_input-in-Some-Decode.ensures.read_fault c.answer_input-in-Some-Decode.ensures.read_fault_text
+    (ends_answered (Some Decode) _ _ _ _ _ _ _ refl c.answer_input-in-Some-Decode.ensures.statuses (at_end c.args.command o.0 _ _ _ _ _ o.1 takes) c.answer_input-in-Some-Decode.ensures.read_fault c.answer_input-in-Some-Decode.ensures.read_fault_text
     c.answer_input-in-Some-Decode.ensures.write_fault c.answer_input-in-Some-Decode.ensures.source_faults c.answer_input-in-Some-Decode.ensures.sink_faults)
 
 pub returns-in-Some-Claims-clause-ends : goal.returns-in-Some-Claims-clause-ends
 returns-in-Some-Claims-clause-ends g c =
     let ask = c.in-Some-Claims.ask in
     let is : c.args.command ≡ Some (Claims ask) = search rules in
-    let o = answered (Some (Claims ask)) (form_answer (forms.Schedule (runs.Claims ask))) _ _ _ _ _ (λ bytes. refl) (λ bytes. tt) refl c.answer_input-in-Some-Claims.ensures.answered in
+    let o = returns-in-Some-Claims-clause-obeyed g c in
+    let takes : takes_nothing c.args.command ≡ false = rw is refl in
     rw is
-    (ends_answered (Some (Claims ask)) _ _ _ _ _ _ _ refl c.answer_input-in-Some-Claims.ensures.statuses (at_end _ o.0 _ _ _ _ _ o.1 refl) c.answer_input-in-Some-Claims.ensures.read_fault c.answer_input-in-Some-Claims.ensures.read_fault_text
+    (ends_answered (Some (Claims ask)) _ _ _ _ _ _ _ refl c.answer_input-in-Some-Claims.ensures.statuses (at_end c.args.command o.0 _ _ _ _ _ o.1 takes) c.answer_input-in-Some-Claims.ensures.read_fault c.answer_input-in-Some-Claims.ensures.read_fault_text
     c.answer_input-in-Some-Claims.ensures.write_fault c.answer_input-in-Some-Claims.ensures.source_faults c.answer_input-in-Some-Claims.ensures.sink_faults)
 
 pub returns-in-Some-Audit-clause-ends : goal.returns-in-Some-Audit-clause-ends
 returns-in-Some-Audit-clause-ends g c =
     let is : c.args.command ≡ Some Audit = search rules in
-    let o = answered (Some Audit) (form_answer forms.Audit) _ _ _ _ _ (λ bytes. refl) (λ bytes. tt) refl c.answer_input-in-Some-Audit.ensures.answered in
+    let o = returns-in-Some-Audit-clause-obeyed g c in
+    let takes : takes_nothing c.args.command ≡ false = rw is refl in
     rw is
-    (ends_answered (Some Audit) _ _ _ _ _ _ _ refl c.answer_input-in-Some-Audit.ensures.statuses (at_end _ o.0 _ _ _ _ _ o.1 refl) c.answer_input-in-Some-Audit.ensures.read_fault c.answer_input-in-Some-Audit.ensures.read_fault_text
+    (ends_answered (Some Audit) _ _ _ _ _ _ _ refl c.answer_input-in-Some-Audit.ensures.statuses (at_end c.args.command o.0 _ _ _ _ _ o.1 takes) c.answer_input-in-Some-Audit.ensures.read_fault c.answer_input-in-Some-Audit.ensures.read_fault_text
     c.answer_input-in-Some-Audit.ensures.write_fault c.answer_input-in-Some-Audit.ensures.source_faults c.answer_input-in-Some-Audit.ensures.sink_faults)
 
 pub returns-in-Some-Make-clause-ends : goal.returns-in-Some-Make-clause-ends
