@@ -1,6 +1,6 @@
 -- How runs end, by kinds of command.
-use Rattle.std.proofs.Common.{◌≡◌, ℕ, ◌<◌, ◌≤◌, ◌⊎◌, inl, inr, true, false, true≢false, refl, sym, ap, ◌∙◌, subst, arith, List}
-use Rattle.std.specs.Prelude.{◌≢◌, Option, Some, None, Result, Ok, Err, IfOk, OnErr}
+use Rattle.std.proofs.Common.{◌≡◌, ℕ, ◌≤◌, ◌⊎◌, inl, inr, true, false, true≢false, refl, sym, ◌∙◌, subst, arith, List}
+use Rattle.std.specs.Prelude.{◌≢◌, Option, Result, Ok, Err, IfOk, OnErr}
 use Rattle.std.specs.Io.KnownBytes.{IsAtEnd}
 use Rattle.mip_words.specs.declared.memory.Memory.{Memory}
 use Rattle.mip_outside.specs.Cause.{Rose}
