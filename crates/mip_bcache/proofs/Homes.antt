@@ -3,8 +3,8 @@ use Rattle.std.proofs.Common.{◌≡◌, ◌≢◌, ℕ, zero, suc, ◌+◌, ◌
 use Rattle.std.specs.Prelude.{Option, Some, None, not, ◌==◌, if◌then◌else◌}
 use Rattle.std.specs.List.{AllByRecursion}
 use Rattle.std.proofs.lemmas.Bool.Decides.{nat_tests}
-use Rattle.mip_lists.specs.Last.{or_else, last_where}
-use Rattle.mip_lists.proofs.LastLaws.{last_where-push}
+use Rattle.mip_words.specs.Last.{or_else, last_where}
+use Rattle.mip_words.proofs.LastLaws.{last_where-push}
 use Rattle.mip_binding.specs.Rows.{ApartBy, others_by}
 use Rattle.mip_binding.proofs.RowLaws.{apart-others}
 use Rattle.mip_bcache.specs.declared.row.Row.{Row}

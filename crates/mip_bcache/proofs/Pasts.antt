@@ -5,8 +5,8 @@ use Rattle.std.specs.List.{AllByRecursion, flat_map}
 use Rattle.std.proofs.lemmas.Option.{slice_get-map}
 use Rattle.std.proofs.lemmas.List.{length-map}
 use Rattle.std.proofs.lemmas.Bool.Decides.{nat_tests}
-use Rattle.mip_constants.specs.Constants.{max_nonce_lifetime}
-use Rattle.mip_lists.specs.Last.{last_where}
+use Rattle.mip_words.specs.Constants.{max_nonce_lifetime}
+use Rattle.mip_words.specs.Last.{last_where}
 use Rattle.mip_binding.specs.Acceptance.{Acceptance, Binding, binding_of}
 use Rattle.mip_binding.specs.Rows.{BindingRow, find_by, put_by, kept_by, others_by, found_by, add_found, all_numbers}
 use Rattle.mip_binding.specs.Homes.{HomeKept, home_key, until_key, number_key, latest as latest_of, kept_of, kept_with, homes, kept_homes, shown_in, shown_home, shown_rows}

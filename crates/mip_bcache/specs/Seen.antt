@@ -1,8 +1,8 @@
 -- What a contract sees of a cache, and for which past it stands.
 use Rattle.std.specs.Prelude.{◌≡◌, ℕ, List, [], ◌∷◌, ◌++◌, Option, Some, None, Bool, false, not, ◌&&◌, ◌==◌, length, map, option_map, is_some, nat_lt, max, ◌+◌, if◌then◌else◌}
 use Rattle.std.specs.List.{flat_map, list_any}
-use Rattle.mip_constants.specs.Constants.{max_nonce_lifetime}
-use Rattle.mip_lists.specs.Last.{last_where}
+use Rattle.mip_words.specs.Constants.{max_nonce_lifetime}
+use Rattle.mip_words.specs.Last.{last_where}
 use Rattle.mip_binding.specs.Acceptance.{Acceptance, Binding}
 use Rattle.mip_binding.specs.Rows.{BindingRow, find_by, put_by, kept_by, others_by, found_by, all_numbers}
 use Rattle.mip_binding.specs.Homes.{HomeKept, kept_homes, homes}

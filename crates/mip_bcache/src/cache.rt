@@ -72,7 +72,8 @@ impl Cache {
     pub fn look_at(&self, now: Moment, home: Address, number: u8) -> Option<&Row>
         requires { self.now.last ≤ now.0 }
         ensures found { option_copied result ≡ standing_under self.now home.0 number now.0 }
-        ensures answers { (past : List Acceptance) → StandsFor self.now past → option_map (λ r. r.careof.0) (option_copied result) ≡ held_under past home.0 number now.0 }
+        ensures answers { (past : List Acceptance) → StandsFor self.now past
+            → option_map (λ r. r.careof.0) (option_copied result) ≡ held_under past home.0 number now.0 }
     {
         self.table.standing_under(now, home, number)
     }
@@ -121,8 +122,10 @@ impl Cache {
         ensures ok { OnOk result (self.new ≡ with_acceptance now.0 home number accepted self.old) }
         ensures err { OnErr result (self.new ≡ self.old) }
         ensures full { result ≡ Err AcceptFault.Full ↔ IsTrue (has_no_room self.old home.0 now.0) }
-        ensures exact { (past : List Acceptance) → StandsFor self.old past → (result ≡ Err AcceptFault.Full ↔ IsTrue (is_full self.old.limit past home.0 now.0)) }
-        ensures stands { (past : List Acceptance) → StandsFor self.old past → OnOk result (StandsFor self.new (past ++ acceptance now.0 home number accepted ∷ [])) }
+        ensures exact { (past : List Acceptance) → StandsFor self.old past
+            → (result ≡ Err AcceptFault.Full ↔ IsTrue (is_full self.old.limit past home.0 now.0)) }
+        ensures stands { (past : List Acceptance) → StandsFor self.old past
+            → OnOk result (StandsFor self.new (past ++ acceptance now.0 home number accepted ∷ [])) }
     {
         if !self.has_room(now, home) {
             return Err(AcceptFault::Full);
@@ -173,7 +176,8 @@ impl Cache {
     pub fn row(&self, now: Moment, place: u32) -> Option<&Row>
         requires { self.now.last ≤ now.0 }
         ensures found { option_copied result ≡ slice_get (rows_at self.now now.0) place }
-        ensures answers { (past : List Acceptance) → StandsFor self.now past → option_map seen_row (option_copied result) ≡ slice_get (shown_rows past now.0) place }
+        ensures answers { (past : List Acceptance) → StandsFor self.now past
+            → option_map seen_row (option_copied result) ≡ slice_get (shown_rows past now.0) place }
         ensures few { length (rows_at self.now now.0) < 2 ^ 32 }
     {
         self.table.row(now, place)

@@ -2,14 +2,14 @@
 
 ghost use Rattle.std.specs.Prelude.{◌≡◌, ◌≤◌, ◌<◌, ◌+◌, ◌^◌, [], ◌∷◌, ◌++◌, Some, map, length, option_copied, IsNone, slice_get, vec_capacity};
 ghost use Rattle.std.specs.List.{list_any, AllByRecursion};
-ghost use Rattle.mip_lists.specs.Last.{last_where};
+ghost use Rattle.mip_words.specs.Last.{last_where};
 ghost use Rattle.mip_binding.specs.Rows.{find_by, others_by};
 ghost use Rattle.mip_bcache.specs.Seen.{stands, stands_under, stands_at, number_of, until_set, latest, row_for, rows_made, rows_left, rows_of_home};
 ghost use Rattle.mip_bcache.specs.Table.{live_in, rows_seen};
 
 use crate::accepted::Accepted;
 use crate::row::Row;
-use mip_constants::MAX_NONCE_LIFETIME;
+use mip_words::constants::MAX_NONCE_LIFETIME;
 use mip_words::{Address, Moment};
 
 /// The rows of a home: the one accepted last, and those of other numbers before it, oldest first.

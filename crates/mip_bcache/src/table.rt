@@ -1,11 +1,11 @@
 //! Homes in slots.
 
-ghost use Rattle.std.specs.Prelude.{◌≡◌, ◌+◌, ◌*◌, ◌^◌, ◌<◌, ◌≤◌, ◌==◌, false, length, map, filter, is_some, None, option_copied, option_map, IfOk, [], IfErr, slice_get, vec_capacity};
+ghost use Rattle.std.specs.Prelude.{◌≡◌, ◌+◌, ◌*◌, ◌^◌, ◌<◌, ◌≤◌, ◌==◌, false, length, map, is_some, None, option_copied, option_map, IfOk, [], IfErr, slice_get, vec_capacity};
 ghost use Rattle.std.specs.List.{AllByRecursion, flat_map};
 ghost use Rattle.mip_binding.specs.Rows.{find_by, kept_by};
 ghost use Rattle.mip_chain.specs.Chain.{find as find_slot, put};
 ghost use Rattle.mip_bcache.specs.Seen.{stands, stands_under, stands_at, last_row, any_row, no_room, homes_with, rows_of_home};
-ghost use Rattle.mip_bcache.specs.Table.{seen, key_of, due_of, rows_seen, key_at, kept_in, homes_in, homes_seen, kept_home, count_of, count_in, item_for, later, IsHome, IsSpare, IsShelved, IsStocked, IsPlace, IsGap, IsTable};
+ghost use Rattle.mip_bcache.specs.Table.{seen, key_of, due_of, rows_seen, key_at, kept_in, homes_in, homes_seen, kept_home, count_of, count_in, item_for, later, IsSpare, IsShelved, IsStocked, IsPlace, IsGap, IsTable};
 
 use crate::accepted::Accepted;
 use crate::home::Home;

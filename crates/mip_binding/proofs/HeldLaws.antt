@@ -3,8 +3,8 @@ use Rattle.std.proofs.Common.{◌≡◌, ◌≢◌, ℕ, ◌<◌, ◌≤◌, Lis
 use Rattle.std.specs.Prelude.{Option, Some, None, option_map, is_some, ◌||◌, nat_lt, ◌==◌, if◌then◌else◌}
 use Rattle.std.specs.List.{list_any, AllByRecursion}
 use Rattle.std.proofs.lemmas.Bool.Decides.{nat_tests}
-use Rattle.mip_lists.specs.Last.{or_else, last_where, StandsLast}
-use Rattle.mip_lists.proofs.LastLaws.{last_where-push, last_where-none, last_where-found, all-last}
+use Rattle.mip_words.specs.Last.{or_else, last_where, StandsLast}
+use Rattle.mip_words.proofs.LastLaws.{last_where-push, last_where-none, last_where-found, all-last}
 use Rattle.mip_binding.specs.Acceptance.{Acceptance, Binding, binding_of, is_deletion, kept_until_of}
 use Rattle.mip_binding.specs.Rows.{RisesBy, ApartBy, find_by}
 use Rattle.mip_binding.specs.Homes.{HomeKept, home_key, until_key, number_key, kept_with, home_after, homes, kept_homes}

@@ -4,8 +4,8 @@ use Rattle.std.specs.Prelude.{Option, Some, None, is_some, ◌||◌, not, nat_lt
 use Rattle.std.specs.List.{AllByRecursion, list_any}
 use Rattle.std.proofs.lemmas.Bool.{or_parts}
 use Rattle.std.proofs.lemmas.Bool.Decides.{nat_tests}
-use Rattle.mip_lists.specs.Last.{or_else, last_where}
-use Rattle.mip_lists.proofs.LastLaws.{last_where-push, last_where-none, none-last_where}
+use Rattle.mip_words.specs.Last.{or_else, last_where}
+use Rattle.mip_words.proofs.LastLaws.{last_where-push, last_where-none, none-last_where}
 use Rattle.mip_binding.specs.Acceptance.{Acceptance, Binding, binding_of, is_deletion}
 use Rattle.mip_binding.specs.Rows.{others_by}
 use Rattle.mip_binding.specs.Homes.{HomeKept, number_key, joins, kept_with, home_step, home_after}

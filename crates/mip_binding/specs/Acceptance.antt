@@ -1,6 +1,6 @@
 -- What an accepted Binding Update said. RFC 6275 section 9.5.1
 use Rattle.std.specs.Prelude.{ℕ, Bool, ◌+◌, ◌==◌, max}
-use Rattle.mip_constants.specs.Constants.{max_nonce_lifetime}
+use Rattle.mip_words.specs.Constants.{max_nonce_lifetime}
 
 -- at a moment, for a home address: a care-of address under a number of this home, the update's sequence
 -- number, and the moment at which the binding ends. Addresses are numbers, moments milliseconds

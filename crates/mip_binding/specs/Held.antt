@@ -3,7 +3,7 @@
 -- 9.5.1 and 9.6
 use Rattle.std.specs.Prelude.{◌≡◌, ◌≢◌, ◌<◌, ◌++◌, map, true, false, ℕ, List, [], ◌∷◌, Option, Some, None, option_map, is_some, length, Bool, not, ◌&&◌, nat_lt, ◌==◌, if◌then◌else◌}
 use Rattle.std.specs.List.{list_any}
-use Rattle.mip_lists.specs.Last.{last_where}
+use Rattle.mip_words.specs.Last.{last_where}
 use Rattle.mip_binding.specs.Acceptance.{Acceptance, Binding, binding_of, is_deletion}
 use Rattle.mip_binding.specs.Homes.{HomeKept, home_after, homes, kept_homes}
 

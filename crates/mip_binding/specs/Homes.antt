@@ -2,7 +2,7 @@
 -- is kept, and the bindings that live. RFC 6275 section 9.5.1, with several bindings for one home
 use Rattle.std.specs.Prelude.{ℕ, ◌+◌, List, [], ◌∷◌, ◌++◌, Option, Some, None, fold, Bool, not, ◌&&◌, nat_lt, ◌==◌, max, map, if◌then◌else◌}
 use Rattle.std.specs.List.{flat_map}
-use Rattle.mip_constants.specs.Constants.{max_nonce_lifetime}
+use Rattle.mip_words.specs.Constants.{max_nonce_lifetime}
 use Rattle.mip_binding.specs.Acceptance.{Acceptance, Binding, binding_of, is_deletion}
 use Rattle.mip_binding.specs.Rows.{BindingRow, find_by, put_by, kept_by, others_by, found_by, all_numbers}
 

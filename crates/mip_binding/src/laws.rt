@@ -17,12 +17,15 @@ pub fn kept_was_accepted()
 
 /// A binding that lives is held under its number until its end.
 pub fn living_is_held()
-    ensures { (xs : List Acceptance) (home now : ℕ) (b : Binding) → LivesIn xs home b → b.careof ≢ home → now < b.end → held_under xs home b.number now ≡ Some b.careof }
+    ensures { (xs : List Acceptance) (home now : ℕ) (b : Binding) → LivesIn xs home b → b.careof ≢ home
+        → now < b.end
+        → held_under xs home b.number now ≡ Some b.careof }
 {}
 
 /// A care-of address is one of those that are held exactly where it is held under some number.
 pub fn held_under_a_number()
-    ensures some { (xs : List Acceptance) (home now careof : ℕ) → holds xs home now careof ≡ true → (number : ℕ) × (held_under xs home number now ≡ Some careof) }
+    ensures some { (xs : List Acceptance) (home now careof : ℕ) → holds xs home now careof ≡ true
+        → (number : ℕ) × (held_under xs home number now ≡ Some careof) }
     ensures each { (xs : List Acceptance) (home number now careof : ℕ) → held_under xs home number now ≡ Some careof → holds xs home now careof ≡ true }
     ensures last { (xs : List Acceptance) (home now careof : ℕ) → held xs home now ≡ Some careof → holds xs home now careof ≡ true }
     ensures floor { (xs : List Acceptance) (home now careof : ℕ) → holds xs home now careof ≡ true → is_some (floor xs home now) ≡ true }
@@ -40,8 +43,10 @@ pub fn acceptance_stands()
 /// An acceptance changes nothing for other homes.
 pub fn others_unchanged()
     ensures held { (xs : List Acceptance) (x : Acceptance) (home now : ℕ) → x.home ≢ home → held (xs ++ x ∷ []) home now ≡ held xs home now }
-    ensures under { (xs : List Acceptance) (x : Acceptance) (home number now : ℕ) → x.home ≢ home → held_under (xs ++ x ∷ []) home number now ≡ held_under xs home number now }
-    ensures holds { (xs : List Acceptance) (x : Acceptance) (home now careof : ℕ) → x.home ≢ home → holds (xs ++ x ∷ []) home now careof ≡ holds xs home now careof }
+    ensures under { (xs : List Acceptance) (x : Acceptance) (home number now : ℕ) → x.home ≢ home
+        → held_under (xs ++ x ∷ []) home number now ≡ held_under xs home number now }
+    ensures holds { (xs : List Acceptance) (x : Acceptance) (home now careof : ℕ) → x.home ≢ home
+        → holds (xs ++ x ∷ []) home now careof ≡ holds xs home now careof }
     ensures floor { (xs : List Acceptance) (x : Acceptance) (home now : ℕ) → x.home ≢ home → floor (xs ++ x ∷ []) home now ≡ floor xs home now }
 {}
 

@@ -12,11 +12,16 @@ ghost use Rattle.mip_bulist.specs.Trials.{has_old, is_deletion, is_too_soon, mad
 /// A test is kept only from this peer and with this start's cookie of its kind. A start to delete keeps
 /// no care-of test.
 pub fn a_test_is_of_its_start()
-    ensures home_peer { (peer : Address) (cookie : Cookie) (test : Test) (t : Trial Probing) → IfOk (home_tested peer cookie test t) (λ p. (peer.0 == t.peer.0) ≡ true) }
-    ensures home_cookie { (peer : Address) (cookie : Cookie) (test : Test) (t : Trial Probing) → IfOk (home_tested peer cookie test t) (λ p. (cookie.0 == t.state.home_cookie.0) ≡ true) }
-    ensures careof_peer { (peer : Address) (cookie : Cookie) (test : Test) (t : Trial Probing) → IfOk (careof_tested peer cookie test t) (λ p. (peer.0 == t.peer.0) ≡ true) }
-    ensures careof_cookie { (peer : Address) (cookie : Cookie) (test : Test) (t : Trial Probing) → IfOk (careof_tested peer cookie test t) (λ p. (cookie.0 == t.state.careof_cookie.0) ≡ true) }
-    ensures careof_aim { (peer : Address) (cookie : Cookie) (test : Test) (t : Trial Probing) → IfOk (careof_tested peer cookie test t) (λ p. is_deletion t.state.aim ≡ false) }
+    ensures home_peer { (peer : Address) (cookie : Cookie) (test : Test) (t : Trial Probing)
+        → IfOk (home_tested peer cookie test t) (λ p. (peer.0 == t.peer.0) ≡ true) }
+    ensures home_cookie { (peer : Address) (cookie : Cookie) (test : Test) (t : Trial Probing)
+        → IfOk (home_tested peer cookie test t) (λ p. (cookie.0 == t.state.home_cookie.0) ≡ true) }
+    ensures careof_peer { (peer : Address) (cookie : Cookie) (test : Test) (t : Trial Probing)
+        → IfOk (careof_tested peer cookie test t) (λ p. (peer.0 == t.peer.0) ≡ true) }
+    ensures careof_cookie { (peer : Address) (cookie : Cookie) (test : Test) (t : Trial Probing)
+        → IfOk (careof_tested peer cookie test t) (λ p. (cookie.0 == t.state.careof_cookie.0) ≡ true) }
+    ensures careof_aim { (peer : Address) (cookie : Cookie) (test : Test) (t : Trial Probing)
+        → IfOk (careof_tested peer cookie test t) (λ p. is_deletion t.state.aim ≡ false) }
 {}
 
 /// A first update is made of the tests that the trial keeps, with tokens that still serve, and no fourth
@@ -34,5 +39,6 @@ pub fn a_later_update_is_of_its_tests()
     ensures rate { (now : Moment) (t : Trial Pending) → IfOk (made_again now t) (λ r. is_too_soon now t.recent ≡ false) }
     ensures made { (now : Moment) (t : Trial Pending) → IfOk (made_again now t) (λ r. r.1 ≡ made_of t.next t.state.tested) }
     ensures grows { (now : Moment) (t : Trial Pending) → IfOk (made_again now t) (λ r. r.0.next ≡ (t.next + 1) % 65536) }
-    ensures resequenced { (now : Moment) (last : ℕ) (t : Trial Pending) → IfOk (made_again now (resequenced last t)) (λ r. r.1 ≡ made_of ((last + 1) % 65536) t.state.tested) }
+    ensures resequenced { (now : Moment) (last : ℕ) (t : Trial Pending)
+        → IfOk (made_again now (resequenced last t)) (λ r. r.1 ≡ made_of ((last + 1) % 65536) t.state.tested) }
 {}

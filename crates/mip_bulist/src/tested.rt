@@ -3,9 +3,9 @@ ghost use Rattle.mip_bulist.specs.Trials.{is_old, has_old, made_of, needed};
 
 use crate::aim::Aim;
 use crate::made::Made;
-use mip_constants::MAX_TOKEN_LIFETIME;
 use mip_mobhdr::Indices;
 use mip_tokens::Kbm;
+use mip_words::constants::MAX_TOKEN_LIFETIME;
 use mip_words::{Address, Moment, Token};
 
 /// A Home Test or a Care-of Test that was kept (RFC 6275 sections 6.1.5 and 6.1.6).

@@ -1,7 +1,7 @@
 //! Timers in order of due moment, ties in order of setting, in the slots of a chain.
 
 ghost use Rattle.std.specs.Prelude.{◌≡◌, ◌<◌, [], IfOk, None, Some, length, option_map, slice_get};
-ghost use Rattle.mip_chain.specs.Chain.{put, due_value, without_due as items_without_due};
+ghost use Rattle.mip_chain.specs.Chain.{due_value, without_due as items_without_due};
 ghost use Rattle.mip_bulist.specs.Timers.{AreInOrder, IsInRange, number_of, is_set, without_timer, with_timer, due_work, without_due, first_due};
 ghost use Rattle.mip_bulist.specs.Slots.{timers_of, slot_of, AreListed, AreOfDifferentSlots, IsKept};
 

@@ -16,7 +16,7 @@ use Rattle.mip_mobhdr.specs.Spelling.{field_bytes, options_said, message_bytes}
 use Rattle.mip_mobhdr.specs.OptionValues.{nothing}
 use Rattle.mip_icmp.specs.Said as icmp
 use Rattle.mip_icmp.specs.Spelling.{icmp_bytes}
-use Rattle.mip_constants.specs.Protocols.{icmpv6}
+use Rattle.mip_words.specs.Protocols.{icmpv6}
 use Rattle.mip_ipv6.specs.Tunnel.{hop_of}
 use Rattle.mip_tokens.specs.Token.{home_token_of, careof_token_of, authenticator_of}
 use Rattle.mip_tokens.specs.declared.kbm.Kbm.{Kbm}
@@ -34,7 +34,7 @@ use Rattle.mip_rules_correspondent.specs.declared.identity.Identity.{Identity}
 use Rattle.mip_rules_correspondent.specs.declared.known.Known.{Known}
 use Rattle.mip_rules_correspondent.specs.Calls as calls
 use Rattle.mip_rules_correspondent.specs.Calls.{Call}
-use Rattle.mip_rules_correspondent.specs.Steps.{Step, Called, Sends, Accepts, Denies, Drops, HandsUp, Idles, answer_of, answers_of}
+use Rattle.mip_rules_correspondent.specs.Steps.{Step, Called, Sends, answer_of, answers_of}
 use Rattle.mip_rules_correspondent.specs.Doing.{transition_of, data_head, data_sent}
 use Rattle.mip_rules_correspondent.specs.Sendings.{Sending, SendsHomeTest, SendsCareofTest, SendsAck, SendsReply, SendsRefresh, SendsData, IsPacketOf, SendsOwn}
 use Rattle.mip_rules_correspondent.proofs.Sendings.{call-own}

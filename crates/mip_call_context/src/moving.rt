@@ -1,6 +1,6 @@
 //! The steps of a call that leave a link, and that begin a new life.
 
-ghost use Rattle.std.specs.Prelude.{◌≡◌, OnOk};
+ghost use Rattle.std.specs.Prelude.{OnOk};
 ghost use Rattle.mip_rules_mobile.specs.Steps.{Detaches, Restarts};
 ghost use Rattle.mip_rules_mobile.specs.Transitions.{Transition, noted};
 ghost use Rattle.mip_call_context.specs.Seen.{Shows};

@@ -16,10 +16,10 @@ ghost use Rattle.mip_call_context.specs.Outgoing.{CanPass};
 
 use crate::call_context::CallContext;
 use crate::outgoing::go_out;
-use mip_constants::protocol::MOBILITY_HEADER;
 use mip_entries::{Answer, Answers};
 use mip_ipv6::{PacketRef, read_packet};
 use mip_reception::{Reply, write_reply};
+use mip_words::protocol::MOBILITY_HEADER;
 use mip_words::{Address, Bytes, Memory};
 use std::alloc::Global;
 

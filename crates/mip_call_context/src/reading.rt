@@ -2,7 +2,7 @@
 
 ghost use Rattle.std.specs.Prelude.{◌≡◌, Some, length, is_some, option_map, option_copied, IfSome, ◌+◌, ◌*◌, ◌<◌, ◌≤◌, ◌^◌, IsTrue, slice_get};
 ghost use Rattle.mip_bcache.specs.Seen.{rows_at};
-ghost use Rattle.mip_constants.specs.Constants.{initial_dhaad_timeout};
+ghost use Rattle.mip_words.specs.Constants.{initial_dhaad_timeout};
 ghost use Rattle.mip_bulist.specs.declared.any.Any.TheVariants.{Pending};
 ghost use Rattle.mip_bulist.specs.declared.state.Pending as pending;
 ghost use Rattle.mip_bulist.specs.declared.tested.Test.{Test};
@@ -74,7 +74,8 @@ impl CallContext {
 
     /// When the last update of a row was made, where its trial waits for an acknowledgement; else this moment.
     pub fn sent_at(&self, row: u8) -> Moment
-        ensures value { (u : Trial pending.Pending) → trial_of self.now.known row ≡ Some (Pending u) → result.0 ≡ option_map_or (λ m. m.0) (sent_at u) self.now.moment }
+        ensures value { (u : Trial pending.Pending) → trial_of self.now.known row ≡ Some (Pending u)
+            → result.0 ≡ option_map_or (λ m. m.0) (sent_at u) self.now.moment }
         ensures other { ((u : Trial pending.Pending) → trial_of self.now.known row ≡ Some (Pending u) → ⊥) → result.0 ≡ self.now.moment }
         ensures early { result.0 < 2 ^ 62 }
     {

@@ -94,7 +94,9 @@ impl CallContext {
 
     /// The mobile hands a packet to the wire, which changes nothing of what is known.
     pub fn put(&mut self, shield: Option<Shield>, packet: Bytes) -> Result<(), Memory>
-        ensures { (x : Sending) (t : Transition) → IsNeutral x → shield ≡ shield_of x → packet ≡ packet_of_sending x → Shows self.old t → OnOk result (Shows self.new (noted (Sends x) t)) }
+        ensures { (x : Sending) (t : Transition) → IsNeutral x → shield ≡ shield_of x
+            → packet ≡ packet_of_sending x → Shows self.old t
+            → OnOk result (Shows self.new (noted (Sends x) t)) }
     {
         self.answers.push(Answer::Send { shield, packet })?;
         Ok(())

@@ -1,6 +1,6 @@
 //! The steps of a call that leave an entry.
 
-ghost use Rattle.std.specs.Prelude.{◌≡◌, ◌==◌, if◌then◌else◌, ◌+◌, ◌%◌, ◌<◌, ◌≤◌, ◌^◌, OnOk};
+ghost use Rattle.std.specs.Prelude.{◌≡◌, ◌==◌, ◌+◌, ◌%◌, ◌<◌, ◌≤◌, ◌^◌, OnOk};
 ghost use Rattle.mip_rules_mobile.specs.HomeQuestions.{places_after, standing_at};
 ghost use Rattle.mip_rules_mobile.specs.Steps.{Arrives, Chooses, Claims, Drops, FindsTaken, IsRefused, Learns, Notes, Releases, Unregisters, Unsends};
 ghost use Rattle.mip_rules_mobile.specs.Transitions.{Transition, noted};

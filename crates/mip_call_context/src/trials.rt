@@ -1,8 +1,9 @@
 //! The steps of a call that change a row: its trial, and what else is kept of its peer.
 
-ghost use Rattle.std.specs.Prelude.{◌≡◌, ◌+◌, ◌%◌, ◌<◌, ◌^◌, OnOk, None, Some};
+ghost use Rattle.std.specs.Prelude.{◌≡◌, ◌+◌, ◌<◌, ◌^◌, OnOk, None, Some};
 ghost use Rattle.mip_bulist.specs.declared.work.Work.{Work};
 ghost use Rattle.mip_bulist.specs.declared.work.Work.TheVariants.{Resend};
+ghost use Rattle.mip_rules_mobile.specs.PeerRules.{test_at};
 ghost use Rattle.mip_rules_mobile.specs.Trials.{Start, HomeTest, CareofTest, Resequence, Acknowledge, Rest};
 ghost use Rattle.mip_bulist.specs.Timers.{due_work};
 ghost use Rattle.mip_rules_mobile.specs.TimerQuestions.{moment};
@@ -52,14 +53,16 @@ impl CallContext {
 
     /// The trial of a row is given a Home Test.
     pub fn keep_home(&mut self, row: u8, test: &Heard)
-        ensures { (t : Transition) → Shows self.old t → Shows self.new (noted (Tries row (HomeTest test.now.peer test.now.cookie (record { index = test.now.index; token = test.now.token; at = record { 0 = self.old.moment } }))) t) }
+        ensures { (t : Transition) → Shows self.old t
+            → Shows self.new (noted (Tries row (HomeTest test.now.peer test.now.cookie (test_at self.old.moment test.now.index test.now.token.0))) t) }
     {
         trial::keep_home_test(&mut self.known.list, row, self.moment, test);
     }
 
     /// The trial of a row is given a Care-of Test.
     pub fn keep_careof(&mut self, row: u8, test: &Heard)
-        ensures { (t : Transition) → Shows self.old t → Shows self.new (noted (Tries row (CareofTest test.now.peer test.now.cookie (record { index = test.now.index; token = test.now.token; at = record { 0 = self.old.moment } }))) t) }
+        ensures { (t : Transition) → Shows self.old t
+            → Shows self.new (noted (Tries row (CareofTest test.now.peer test.now.cookie (test_at self.old.moment test.now.index test.now.token.0))) t) }
     {
         trial::keep_careof_test(&mut self.known.list, row, self.moment, test);
     }

@@ -24,7 +24,9 @@ impl CallContext {
         made: &Made,
         packet: Bytes,
     ) -> Result<(), Memory>
-        ensures { (t : Transition) → packet ≡ update_packet (record { home = home_of self.old.known; source = source; peer = peer; number = binding_number_of self.old.known; made = made.now }) → Shows self.old t
+        ensures { (t : Transition)
+            → packet ≡ update_packet (record { home = home_of self.old.known; source = source; peer = peer; number = binding_number_of self.old.known; made = made.now })
+            → Shows self.old t
             → OnOk result (Shows self.new (noted (Updates row (record { home = home_of self.old.known; source = source; peer = peer; number = binding_number_of self.old.known; made = made.now })) t)) }
     {
         self.answers.push(Answer::Note(made_entry(peer, made)))?;

@@ -1,4 +1,4 @@
-ghost use Rattle.std.specs.Prelude.{◌≡◌, ◌<◌, ◌≤◌, ◌+◌, ◌↔◌, List, [], None, Some, IfOk, IfErr, OnErr, IsErr, IsTrue, IsSome, option_map, option_copied, is_some, length};
+ghost use Rattle.std.specs.Prelude.{◌≡◌, ◌<◌, ◌≤◌, ◌+◌, ◌↔◌, [], None, Some, IfOk, IfErr, OnErr, IsErr, option_map, option_copied, is_some, length};
 ghost use Rattle.mip_chain.specs.Chain.{AreInOrder, find, put, without, retimed, due_value, without_due, first_due};
 
 use crate::entry::Entry;
@@ -54,7 +54,8 @@ impl<T: Drop> Chain<T> {
         ensures err { OnErr result (self.new ≡ self.old) }
         ensures within { IfOk result (λ slot. slot.0 < self.old.room) }
         ensures empty { IfOk result (λ slot. find slot.0 self.old.items ≡ None) }
-        ensures ok { IfOk result (λ slot. self.new ≡ record { room = self.old.room; items = put (record { slot = slot.0; due = due.0; value = value }) self.old.items }) }
+        ensures ok { IfOk result (λ slot. self.new ≡
+            record { room = self.old.room; items = put (record { slot = slot.0; due = due.0; value = value }) self.old.items }) }
     {
         if self.ring.len == self.ring.room {
             return Err(Full { value });

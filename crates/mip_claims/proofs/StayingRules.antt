@@ -2,7 +2,7 @@
 use Rattle.std.proofs.Common.{◌≡◌, ℕ, List, [], ◌∷◌, refl}
 use Rattle.std.specs.Prelude.{Option, Some, None, Bool, true, false, not, ◌==◌, ◌&&◌, if◌then◌else◌, Result, Ok, Err}
 use Rattle.std.specs.List.{AllByRecursion}
-use Rattle.mip_constants.specs.Constants.{initial_bindack_timeout, max_bindack_timeout}
+use Rattle.mip_words.specs.Constants.{initial_bindack_timeout, max_bindack_timeout}
 use Rattle.mip_words.specs.declared.address.Address.{Address}
 use Rattle.mip_words.specs.declared.token.Cookie.{Cookie}
 use Rattle.mip_reception.specs.declared.reply.Reply.{Reply}

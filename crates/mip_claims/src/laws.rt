@@ -43,14 +43,16 @@ pub fn agents_hold_what_they_claimed()
 /// the same holder. The home address is left out, since it passes to its mobile at home without a step. About an address that is on no
 /// link nothing is done. RFC 6275 section 11.5.1
 pub fn mobiles_claim_as_told()
-    ensures { (s : Setup) (events : List Event) (n : ℕ) (own : Address) (agent : Option Address) → slice_get s.hosts n ≡ Some (record { address = own; kind = Mobile agent })
+    ensures { (s : Setup) (events : List Event) (n : ℕ) (own : Address) (agent : Option Address)
+        → slice_get s.hosts n ≡ Some (record { address = own; kind = Mobile agent })
         → ((o : ℕ) → n ≢ holder_outside o) → searches_told own n (run_of s events).past ≡ mobile_searches s.links own (mobile_past_at (run_of s events) n) }
 {}
 
 /// A mobile holds the care-of address that it uses, where the address is on a link: since it claimed the address nobody else could, and
 /// by no call but a move does it give one up. RFC 6275 section 11.5.1
 pub fn mobiles_hold_what_they_use()
-    ensures { (s : Setup) (events : List Event) (n : ℕ) (own : Address) (agent : Option Address) → slice_get s.hosts n ≡ Some (record { address = own; kind = Mobile agent })
+    ensures { (s : Setup) (events : List Event) (n : ℕ) (own : Address) (agent : Option Address)
+        → slice_get s.hosts n ≡ Some (record { address = own; kind = Mobile agent })
         → ((o : ℕ) → n ≢ holder_outside o) → HoldsWhatItUses s (run_of s events) n own agent }
 {}
 
@@ -59,6 +61,7 @@ pub fn mobiles_hold_what_they_use()
 /// left out, since a mobile gives it up where its place answers that it may have it. About an address that is on no link nothing is
 /// done. RFC 6275 section 11.5.1
 pub fn mobiles_give_up_as_told()
-    ensures { (s : Setup) (events : List Event) (n : ℕ) (own : Address) (agent : Option Address) → slice_get s.hosts n ≡ Some (record { address = own; kind = Mobile agent })
+    ensures { (s : Setup) (events : List Event) (n : ℕ) (own : Address) (agent : Option Address)
+        → slice_get s.hosts n ≡ Some (record { address = own; kind = Mobile agent })
         → ((o : ℕ) → n ≢ holder_outside o) → releases_told own n (run_of s events).past ≡ mobile_releases s.links own (mobile_past_at (run_of s events) n) }
 {}

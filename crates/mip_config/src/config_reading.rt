@@ -1,6 +1,6 @@
 //! A configuration read from its text.
 
-ghost use Rattle.std.specs.Prelude.{◌≡◌, ◌+◌, ◌<◌, ◌^◌, length};
+ghost use Rattle.std.specs.Prelude.{◌+◌, ◌<◌, ◌^◌, length};
 ghost use Rattle.mip_schedule.specs.Faults.{GivesText};
 ghost use Rattle.mip_config.specs.Configs.{content, parts_content};
 ghost use Rattle.mip_config.specs.Reading.{reading};

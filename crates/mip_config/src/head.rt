@@ -1,6 +1,6 @@
 //! The first four lines: the version, the seed, the number of the node and its port.
 
-ghost use Rattle.std.specs.Prelude.{◌≡◌, ◌≢◌, Err, ◌+◌, ◌<◌, ◌≤◌, length, IfOk};
+ghost use Rattle.std.specs.Prelude.{Err, ◌+◌, ◌<◌, ◌≤◌, length, IfOk};
 ghost use Rattle.mip_lines.specs.Cutting.{rows_of};
 ghost use Rattle.mip_schedule.specs.Faults.{GivesText};
 ghost use Rattle.mip_config.specs.Heads.{head_seen};

@@ -1,6 +1,6 @@
 //! The lines of a configuration as they are written.
 
-ghost use Rattle.std.specs.Prelude.{◌≡◌, [], ◌∷◌, ◌++◌, codes, decimal, map, OnOk};
+ghost use Rattle.std.specs.Prelude.{◌≡◌, [], ◌∷◌, ◌++◌, decimal, map, OnOk};
 ghost use Rattle.mip_lines.specs.Lines.{line_text, lines_text};
 ghost use Rattle.mip_config_writing.specs.Spelling.{default_rows, head_rows, payload_text, role_text, route_text, serve_text};
 

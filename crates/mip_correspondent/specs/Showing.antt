@@ -1,5 +1,5 @@
 -- What a transition shows, and what it leaves in the binding cache.
-use Rattle.std.specs.Prelude.{◌≡◌, ◌≢◌, ◌<◌, ℕ, List, true, false, Option, Some, None, IfSome}
+use Rattle.std.specs.Prelude.{◌≡◌, ◌≢◌, ◌<◌, ℕ, List, true, false, Option, Some, None, IfSome, Result, IfOk, OnOk}
 use Rattle.mip_words.specs.Addresses.{is_routable}
 use Rattle.mip_entries.specs.declared.answer.Answer.{Answer}
 use Rattle.mip_bcache.specs.Seen.{CacheSeen, with_acceptance, has_no_room}
@@ -21,6 +21,21 @@ Shows now cache answers t = ShowsAt now (left now cache) answers t
 abbrev pub with_kept : ℕ → Option AcceptedBinding → CacheSeen → CacheSeen
 with_kept now None cache = cache
 with_kept now (Some k) cache = with_acceptance now k.home k.number k.accepted cache
+
+-- a rule that changes nothing but the answers
+abbrev pub Goes : {R E : Type 0} → (now : ℕ) → Result R E → (Transition → Transition) → (old new : List Answer) → Type 0
+Goes now result rule old new =
+    (cache : CacheSeen) (t : Transition) → Shows now cache old t → OnOk result (Shows now cache new (rule t))
+
+-- a rule that keeps an accepted update besides
+abbrev pub Keeps : {R E : Type 0} → (now : ℕ) → AcceptedBinding → Result R E → (Transition → Transition) → (old new : List Answer) → Type 0
+Keeps now k result rule old new =
+    (cache : CacheSeen) (t : Transition) → Shows now cache old t → OnOk result (Shows now (with_acceptance now k.home k.number k.accepted cache) new (rule t))
+
+-- a rule that may accept an update, which it gives
+abbrev pub Leads : {E : Type 0} → (now : ℕ) → CacheSeen → Result (Option AcceptedBinding) E → (Transition → Transition) → (old new : List Answer) → Type 0
+Leads now cache result rule old new =
+    (t : Transition) → Shows now cache old t → IfOk result (λ kept. Shows now (with_kept now kept cache) new (rule t))
 
 -- what a verdict accepts
 abbrev pub kept_of : Verdict → Option AcceptedBinding

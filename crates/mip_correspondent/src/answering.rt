@@ -1,11 +1,10 @@
 //! The steps that show: each leaves one answer.
 
-ghost use Rattle.std.specs.Prelude.{◌≡◌, ℕ, ◌∷◌, [], OnOk, option_map};
+ghost use Rattle.std.specs.Prelude.{◌≡◌, ℕ, ◌∷◌, [], option_map};
 ghost use Rattle.mip_nonce.specs.Window.{index_of};
-ghost use Rattle.mip_bcache.specs.Seen.{CacheSeen, with_acceptance};
 ghost use Rattle.mip_rules_correspondent.specs.Steps.{answer_of, Sends, Accepts, Denies, Drops, HandsUp, Idles};
-ghost use Rattle.mip_rules_correspondent.specs.Transitions.{Transition, noted};
-ghost use Rattle.mip_correspondent.specs.Showing.{Shows};
+ghost use Rattle.mip_rules_correspondent.specs.Transitions.{noted};
+ghost use Rattle.mip_correspondent.specs.Showing.{Goes, Keeps};
 
 use crate::accepted_binding::AcceptedBinding;
 use mip_entries::{Answer, Answers, Entry};
@@ -33,7 +32,7 @@ fn careof_index(number: Option<u64>) -> Option<u16>
 
 /// The correspondent sends a packet, unshielded.
 pub fn send(answers: &mut Answers, packet: Bytes) -> Result<(), Memory>
-    ensures { (now : ℕ) (cache : CacheSeen) (t : Transition) → Shows now cache answers.old t → OnOk result (Shows now cache answers.new (noted (Sends packet) t)) }
+    ensures { (now : ℕ) → Goes now result (noted (Sends packet)) answers.old answers.new }
 {
     answers.push(Answer::Send {
         shield: None,
@@ -44,7 +43,7 @@ pub fn send(answers: &mut Answers, packet: Bytes) -> Result<(), Memory>
 
 /// The correspondent drops a packet.
 pub fn drop_packet(answers: &mut Answers, number: u64, why: Why) -> Result<(), Memory>
-    ensures { (now : ℕ) (cache : CacheSeen) (t : Transition) → Shows now cache answers.old t → OnOk result (Shows now cache answers.new (noted (Drops number why) t)) }
+    ensures { (now : ℕ) → Goes now result (noted (Drops number why)) answers.old answers.new }
 {
     answers.push(Answer::Note(Entry::Dropped {
         node: MYSELF,
@@ -56,7 +55,7 @@ pub fn drop_packet(answers: &mut Answers, number: u64, why: Why) -> Result<(), M
 
 /// The correspondent denies the update in a packet.
 pub fn note_denial(answers: &mut Answers, number: u64, status: u8) -> Result<(), Memory>
-    ensures { (now : ℕ) (cache : CacheSeen) (t : Transition) → Shows now cache answers.old t → OnOk result (Shows now cache answers.new (noted (Denies number status) t)) }
+    ensures { (now : ℕ) → Goes now result (noted (Denies number status)) answers.old answers.new }
 {
     answers.push(Answer::Note(Entry::Denied {
         node: MYSELF,
@@ -90,7 +89,7 @@ pub fn note_acceptance(
     number: u64,
     kept: &AcceptedBinding,
 ) -> Result<(), Memory>
-    ensures { (now : ℕ) (cache : CacheSeen) (t : Transition) → Shows now cache answers.old t → OnOk result (Shows now (with_acceptance now kept.now.home kept.now.number kept.now.accepted cache) answers.new (noted (Accepts number kept.now.home kept.now.number kept.now.accepted) t)) }
+    ensures { (now : ℕ) → Keeps now kept.now result (noted (Accepts number kept.now.home kept.now.number kept.now.accepted)) answers.old answers.new }
 {
     answers.push(Answer::Note(accepted_entry(number, kept)))?;
     Ok(())
@@ -106,7 +105,7 @@ pub fn hand_up(
     proto: u8,
     payload: &[u8],
 ) -> Result<(), Memory>
-    ensures { (now : ℕ) (cache : CacheSeen) (t : Transition) → Shows now cache answers.old t → OnOk result (Shows now cache answers.new (noted (HandsUp number source destination proto payload.now) t)) }
+    ensures { (now : ℕ) → Goes now result (noted (HandsUp number source destination proto payload.now)) answers.old answers.new }
 {
     let payload = Bytes::copy(alloc, payload)?;
     answers.push(Answer::Note(Entry::Up {
@@ -122,7 +121,7 @@ pub fn hand_up(
 
 /// The correspondent was asked for something that can't be.
 pub fn idle(answers: &mut Answers) -> Result<(), Memory>
-    ensures { (now : ℕ) (cache : CacheSeen) (t : Transition) → Shows now cache answers.old t → OnOk result (Shows now cache answers.new (noted Idles t)) }
+    ensures { (now : ℕ) → Goes now result (noted Idles) answers.old answers.new }
 {
     answers.push(Answer::Note(Entry::Idle))?;
     Ok(())

@@ -1,7 +1,7 @@
-ghost use Rattle.std.specs.Prelude.{◌≡◌, ◌*◌, ℕ, ◌<◌, ◌≤◌, ◌^◌, List, true, IfOk, OnOk, OnErr, IfSome, IsTrue, IsFalse, length, option_copied, option_map, slice_get};
+ghost use Rattle.std.specs.Prelude.{◌≡◌, ◌*◌, ℕ, ◌<◌, ◌≤◌, ◌^◌, List, true, IfOk, OnOk, OnErr, IfSome, IsTrue, length, option_copied, option_map, slice_get};
 ghost use Rattle.std.specs.List.{list_any};
 ghost use Rattle.mip_words.specs.Addresses.{is_routable};
-ghost use Rattle.mip_ipv6.specs.Packet.{packet as tree, is_routable_if_any, names_no_body};
+ghost use Rattle.mip_ipv6.specs.Packet.{packet as tree};
 ghost use Rattle.mip_nonce.specs.Secrets.{cookie_of};
 ghost use Rattle.mip_packets.specs.Says.{message_in};
 ghost use Rattle.mip_binding.specs.Acceptance.{Acceptance};
@@ -13,7 +13,6 @@ ghost use Rattle.mip_reception.specs.Refusing.{refuses};
 ghost use Rattle.mip_rules_correspondent.specs.Steps.{Step, answers_of};
 ghost use Rattle.mip_rules_correspondent.specs.Questions.{fresh, held_of, holds_for};
 ghost use Rattle.mip_rules_correspondent.specs.Transitions.{Stands, with_transition};
-ghost use Rattle.mip_rules_correspondent.specs.Rules.{is_data, is_for_part};
 ghost use Rattle.mip_rules_correspondent.specs.Calls as calls;
 ghost use Rattle.mip_rules_correspondent.specs.Seen.{transition_at, called};
 ghost use Rattle.mip_correspondent.specs.Requirements.{IsTimely, IsOfPart, IsSendable};
@@ -119,7 +118,8 @@ impl Correspondent {
     pub fn row(&self, now: Moment, place: u32) -> Option<&Row>
         requires { self.now.known.last.0 ≤ now.0 }
         ensures found { option_copied result ≡ slice_get (rows_at self.now.known.cache now.0) place }
-        ensures answers { (past : List Acceptance) → StandsFor self.now.known.cache past → option_map seen_row (option_copied result) ≡ slice_get (shown_rows past now.0) place }
+        ensures answers { (past : List Acceptance) → StandsFor self.now.known.cache past
+            → option_map seen_row (option_copied result) ≡ slice_get (shown_rows past now.0) place }
         ensures few { length (rows_at self.now.known.cache now.0) < 2 ^ 32 }
     {
         self.known.cache.row(now, place)
@@ -206,7 +206,9 @@ impl Correspondent {
     pub fn tick(&mut self, now: Moment)
         requires { self.old.known.last.0 ≤ now.0 }
         ensures after { self.new ≡ called self.old now.0 calls.Tick }
-        ensures stands { (room numbers : ℕ) (past : List (Stamped Step)) → Stands room numbers past self.old.known → Stands room numbers (with_transition past (transition_at self.old now.0 calls.Tick)) self.new.known }
+        ensures stands { (room numbers : ℕ) (past : List (Stamped Step))
+            → Stands room numbers past self.old.known
+            → Stands room numbers (with_transition past (transition_at self.old now.0 calls.Tick)) self.new.known }
         ensures last { self.new.known.last ≡ now }
     {
         let _given_up = self.known.cache.give_up(now);

@@ -1,26 +1,24 @@
 //! The correspondent part of a node: test inits, updates and data (RFC 6275 sections 9.3.1, 9.4 and 9.5).
 
-ghost use Rattle.std.specs.Prelude.{◌≡◌, ◌≤◌, ◌<◌, ◌^◌, IfOk, OnOk, IsTrue, IsFalse, Some, option_map};
+ghost use Rattle.std.specs.Prelude.{◌≡◌, ◌≤◌, ◌<◌, ◌^◌, IfOk, IsTrue, IsFalse, Some, option_map};
 ghost use Rattle.mip_ipv6.specs.Packet.{packet as tree, is_routable_if_any};
 ghost use Rattle.mip_mobhdr.specs.Said.{said};
 ghost use Rattle.mip_packets.specs.Updates.{IsReadUpdate};
-ghost use Rattle.mip_bcache.specs.Seen.{CacheSeen};
 ghost use Rattle.mip_reception.specs.Checks.{is_probe};
-ghost use Rattle.mip_rules_correspondent.specs.Transitions.{Transition};
 ghost use Rattle.mip_rules_correspondent.specs.Rules.{hands_up, is_data, is_for_part, by_message};
-ghost use Rattle.mip_correspondent.specs.Showing.{Shows, with_kept, Fits};
+ghost use Rattle.mip_correspondent.specs.Showing.{Fits, Goes, Leads};
 
 use crate::accepted_binding::AcceptedBinding;
 use crate::answering::hand_up;
 use crate::packet_context::PacketContext;
 use crate::test_init::{answer_careof_init, answer_home_init};
 use crate::update::take_update;
-use mip_constants::protocol::{ICMPV6, IPV6, MOBILITY_HEADER, NO_NEXT_HEADER};
 use mip_entries::Answers;
 use mip_ipv6::PacketRef;
 use mip_mobhdr::Message;
 use mip_reception::registration_of;
 use mip_words::Memory;
+use mip_words::protocol::{ICMPV6, IPV6, MOBILITY_HEADER, NO_NEXT_HEADER};
 use std::alloc::Global;
 
 /// Data is what is neither a tunnel, nor ICMPv6, nor nothing, nor a mobility message.
@@ -50,7 +48,7 @@ fn hand_up_data(
     context: &PacketContext<'_>,
     packet: &PacketRef<'_>,
 ) -> Result<(), Memory>
-    ensures { (cache : CacheSeen) (t : Transition) → Shows context.now.moment.0 cache answers.old t → OnOk result (Shows context.now.moment.0 cache answers.new (hands_up context.now.number (tree packet.now) t)) }
+    ensures { Goes context.now.moment.0 result (hands_up context.now.number (tree packet.now)) answers.old answers.new }
 {
     let head = packet.head;
     hand_up(
@@ -79,7 +77,8 @@ fn answer_update(
     requires read { IsReadUpdate (Some (said message.now)) packet.now.body.now }
     requires other { IsFalse (is_probe (Some (said message.now))) }
     ensures fits { IfOk result (Fits context.now.moment.0 context.now.cache.now) }
-    ensures shows { (t : Transition) → Shows context.now.moment.0 context.now.cache.now answers.old t → IfOk result (λ kept. Shows context.now.moment.0 (with_kept context.now.moment.0 kept context.now.cache.now) answers.new (by_message context.now.identity.now context.now.number (tree packet.now) (Some (said message.now)) t)) }
+    ensures shows { Leads context.now.moment.0 context.now.cache.now result
+        (by_message context.now.identity.now context.now.number (tree packet.now) (Some (said message.now))) answers.old answers.new }
 {
     match registration_of(packet.head.source, packet.head.home, message) {
         Some(registration) => take_update(alloc, answers, context, &registration, packet.body),
@@ -100,7 +99,8 @@ pub fn answer_message(
     requires plain { IsTrue (is_routable_if_any packet.now.head.home) }
     requires read { IsReadUpdate (option_map said message.now) packet.now.body.now }
     ensures fits { IfOk result (Fits context.now.moment.0 context.now.cache.now) }
-    ensures shows { (t : Transition) → Shows context.now.moment.0 context.now.cache.now answers.old t → IfOk result (λ kept. Shows context.now.moment.0 (with_kept context.now.moment.0 kept context.now.cache.now) answers.new (by_message context.now.identity.now context.now.number (tree packet.now) (option_map said message.now) t)) }
+    ensures shows { Leads context.now.moment.0 context.now.cache.now result
+        (by_message context.now.identity.now context.now.number (tree packet.now) (option_map said message.now)) answers.old answers.new }
 {
     let source = packet.head.source;
     match message {

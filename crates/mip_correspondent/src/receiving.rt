@@ -1,25 +1,22 @@
 //! What a correspondent does about a packet (RFC 6275 sections 9.2 to 9.5).
 
-ghost use Rattle.std.specs.Prelude.{◌≡◌, ◌≤◌, ◌<◌, ◌^◌, ◌-◌, IfOk, OnOk, IsTrue, option_map, Ok, length};
-ghost use Rattle.mip_words.specs.Numbers.{number_at};
+ghost use Rattle.std.specs.Prelude.{◌≡◌, ◌≤◌, ◌<◌, ◌^◌, ◌-◌, IfOk, IsTrue, option_map, Ok};
 ghost use Rattle.mip_ipv6.specs.Packet.{packet as tree, is_routable_if_any};
 ghost use Rattle.mip_ipv6.specs.Reading.{packet_of};
 ghost use Rattle.mip_mobhdr.specs.Said.{said};
 ghost use Rattle.mip_packets.specs.Updates.{IsReadUpdate};
-ghost use Rattle.mip_bcache.specs.Seen.{CacheSeen};
-ghost use Rattle.mip_rules_correspondent.specs.Transitions.{Transition};
 ghost use Rattle.mip_rules_correspondent.specs.Rules.{holds_option, standing_of, refuses, other_why, by_role, place_in, receives};
-ghost use Rattle.mip_correspondent.specs.Showing.{left, Shows, with_kept, Fits};
+ghost use Rattle.mip_correspondent.specs.Showing.{left, Fits, Goes, Leads};
 
 use crate::accepted_binding::AcceptedBinding;
 use crate::answering::{drop_packet, send};
 use crate::packet_context::PacketContext;
 use crate::part::{answer_message, is_for_part};
-use mip_constants::protocol::{ICMPV6, NO_NEXT_HEADER};
 use mip_entries::Answers;
 use mip_ipv6::{Head, PacketRef, read_packet};
 use mip_mobhdr::Message;
 use mip_reception::{AddressMatch, Refusal, check, packet_why, write_reply};
+use mip_words::protocol::{ICMPV6, NO_NEXT_HEADER};
 use mip_words::{Address, Memory, Why, u16_at};
 use std::alloc::Global;
 
@@ -56,7 +53,7 @@ fn refuse(
     source: Address,
     refusal: Refusal,
 ) -> Result<(), Memory>
-    ensures { (cache : CacheSeen) (t : Transition) → Shows context.now.moment.0 cache answers.old t → OnOk result (Shows context.now.moment.0 cache answers.new (refuses context.now.identity.now context.now.number bytes.now source refusal t)) }
+    ensures { Goes context.now.moment.0 result (refuses context.now.identity.now context.now.number bytes.now source refusal) answers.old answers.new }
 {
     drop_packet(answers, context.number, refusal.why)?;
     match write_reply(alloc, context.identity.own, source, bytes, refusal.reply)? {
@@ -90,7 +87,8 @@ fn answer_role(
     requires plain { IsTrue (is_routable_if_any packet.now.head.home) }
     requires read { IsReadUpdate (option_map said message.now) packet.now.body.now }
     ensures fits { IfOk result (Fits context.now.moment.0 context.now.cache.now) }
-    ensures shows { (t : Transition) → Shows context.now.moment.0 context.now.cache.now answers.old t → IfOk result (λ kept. Shows context.now.moment.0 (with_kept context.now.moment.0 kept context.now.cache.now) answers.new (by_role context.now.identity.now context.now.number (tree packet.now) (option_map said message.now) t)) }
+    ensures shows { Leads context.now.moment.0 context.now.cache.now result
+        (by_role context.now.identity.now context.now.number (tree packet.now) (option_map said message.now)) answers.old answers.new }
 {
     if is_for_part(packet.head.proto, message) {
         return answer_message(alloc, answers, context, packet, message);
@@ -114,7 +112,8 @@ fn take_packet(
     requires near { packet.now.place < 2 ^ 32 - 1 }
     requires read { packet_of bytes.now ≡ Ok (tree packet.now) }
     ensures fits { IfOk result (Fits context.now.moment.0 context.now.cache.now) }
-    ensures shows { (t : Transition) → Shows context.now.moment.0 context.now.cache.now answers.old t → IfOk result (λ kept. Shows context.now.moment.0 (with_kept context.now.moment.0 kept context.now.cache.now) answers.new (receives context.now.identity.now context.now.number bytes.now (packet_of bytes.now) t)) }
+    ensures shows { Leads context.now.moment.0 context.now.cache.now result
+        (receives context.now.identity.now context.now.number bytes.now (packet_of bytes.now)) answers.old answers.new }
 {
     match check(packet, standing(context, &packet.head)) {
         Err(refusal) => {
@@ -135,7 +134,8 @@ pub fn receive(
     requires early { context.now.moment.0 < 2 ^ 62 }
     requires later { context.now.cache.now.last ≤ context.now.moment.0 }
     ensures fits { IfOk result (Fits context.now.moment.0 context.now.cache.now) }
-    ensures shows { (t : Transition) → Shows context.now.moment.0 context.now.cache.now answers.old t → IfOk result (λ kept. Shows context.now.moment.0 (with_kept context.now.moment.0 kept context.now.cache.now) answers.new (receives context.now.identity.now context.now.number bytes.now (packet_of bytes.now) t)) }
+    ensures shows { Leads context.now.moment.0 context.now.cache.now result
+        (receives context.now.identity.now context.now.number bytes.now (packet_of bytes.now)) answers.old answers.new }
 {
     match read_packet(bytes) {
         Err(fault) => {

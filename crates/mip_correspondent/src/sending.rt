@@ -1,13 +1,12 @@
 //! Binding Refresh Requests, and data on the direct way (RFC 6275 sections 9.3.2 and 9.5.5).
 
-ghost use Rattle.std.specs.Prelude.{◌≡◌, ◌≤◌, ℕ, Some, None, IfOk, OnOk, IfSome, IsTrue, IsFalse, length};
+ghost use Rattle.std.specs.Prelude.{◌≡◌, ◌≤◌, ℕ, Some, None, IfSome, IsTrue, IsFalse, length};
 ghost use Rattle.mip_ipv6.specs.Packet.{is_plain, names_no_body};
 ghost use Rattle.mip_words.specs.Addresses.{is_routable};
-ghost use Rattle.mip_bcache.specs.Seen.{CacheSeen};
 ghost use Rattle.mip_rules_correspondent.specs.Steps.{Sends};
-ghost use Rattle.mip_rules_correspondent.specs.Transitions.{Transition, noted};
+ghost use Rattle.mip_rules_correspondent.specs.Transitions.{noted};
 ghost use Rattle.mip_rules_correspondent.specs.Doing.{request_refresh, data_sent, data_head};
-ghost use Rattle.mip_correspondent.specs.Showing.{Shows};
+ghost use Rattle.mip_correspondent.specs.Showing.{Goes};
 
 use crate::answering::{idle, send};
 use mip_entries::Answers;
@@ -26,7 +25,7 @@ pub fn ask_refresh(
     held: Option<Address>,
 ) -> Result<(), Memory>
     requires { IfSome held (λ _. IsTrue (is_routable home.0)) }
-    ensures { (now : ℕ) (cache : CacheSeen) (t : Transition) → Shows now cache answers.old t → OnOk result (Shows now cache answers.new (request_refresh identity.now home held t)) }
+    ensures { (now : ℕ) → Goes now result (request_refresh identity.now home held) answers.old answers.new }
 {
     match held {
         None => idle(answers),
@@ -64,7 +63,7 @@ pub fn send_data(
     requires routable { IfSome held (λ _. IsTrue (is_routable to.0)) }
     requires proto { IsFalse (names_no_body proto) }
     requires short { length payload.now ≤ 512 }
-    ensures { (now : ℕ) (cache : CacheSeen) (t : Transition) → Shows now cache answers.old t → OnOk result (Shows now cache answers.new (noted (Sends (data_sent identity.now to proto payload.now held)) t)) }
+    ensures { (now : ℕ) → Goes now result (noted (Sends (data_sent identity.now to proto payload.now held))) answers.old answers.new }
 {
     let head = data_head(identity.own, to, proto, held);
     let packet = write_data_packet(alloc, &head, payload)?;

@@ -1,10 +1,8 @@
 //! The answers to test inits (RFC 6275 sections 9.4.1 to 9.4.4).
 
-ghost use Rattle.std.specs.Prelude.{◌≡◌, IfOk, OnOk};
-ghost use Rattle.mip_bcache.specs.Seen.{CacheSeen};
-ghost use Rattle.mip_rules_correspondent.specs.Transitions.{Transition};
+ghost use Rattle.std.specs.Prelude.{◌≡◌, IfOk};
 ghost use Rattle.mip_rules_correspondent.specs.Rules.{home_test, careof_test, answers_home_init, answers_careof_init};
-ghost use Rattle.mip_correspondent.specs.Showing.{Shows};
+ghost use Rattle.mip_correspondent.specs.Showing.{Goes};
 
 use crate::answering::{index_of, send};
 use crate::packet_context::PacketContext;
@@ -56,7 +54,7 @@ pub fn answer_home_init(
     source: Address,
     cookie: Cookie,
 ) -> Result<(), Memory>
-    ensures { (cache : CacheSeen) (t : Transition) → Shows context.now.moment.0 cache answers.old t → OnOk result (Shows context.now.moment.0 cache answers.new (answers_home_init context.now.identity.now source cookie.0 t)) }
+    ensures { Goes context.now.moment.0 result (answers_home_init context.now.identity.now source cookie.0) answers.old answers.new }
 {
     let test = home_test(alloc, context.identity, context.moment, source, cookie)?;
     send(answers, test)
@@ -71,7 +69,7 @@ pub fn answer_careof_init(
     source: Address,
     cookie: Cookie,
 ) -> Result<(), Memory>
-    ensures { (cache : CacheSeen) (t : Transition) → Shows context.now.moment.0 cache answers.old t → OnOk result (Shows context.now.moment.0 cache answers.new (answers_careof_init context.now.identity.now source cookie.0 t)) }
+    ensures { Goes context.now.moment.0 result (answers_careof_init context.now.identity.now source cookie.0) answers.old answers.new }
 {
     let test = careof_test(alloc, context.identity, context.moment, source, cookie)?;
     send(answers, test)

@@ -1,13 +1,12 @@
 //! What a correspondent does about a Binding Update (RFC 6275 sections 9.5.1 and 9.5.4).
 
-ghost use Rattle.std.specs.Prelude.{◌≡◌, ◌≤◌, ◌<◌, ◌^◌, Some, IfOk, OnOk, IsTrue, option_copied};
+ghost use Rattle.std.specs.Prelude.{◌≡◌, ◌≤◌, ◌<◌, ◌^◌, Some, IfOk, IsTrue, option_copied};
 ghost use Rattle.mip_ipv6.specs.Packet.{is_routable_if_any};
-ghost use Rattle.mip_bcache.specs.Seen.{CacheSeen, with_acceptance};
-ghost use Rattle.mip_rules_correspondent.specs.Transitions.{Transition};
+ghost use Rattle.mip_bcache.specs.Seen.{CacheSeen};
 ghost use Rattle.mip_reception.specs.Registrations.{registration_in};
 ghost use Rattle.mip_rules_correspondent.specs.Rules.{denies, acknowledges, accepts, judged, takes_update};
 ghost use Rattle.mip_verdict.specs.Judging.{key_in};
-ghost use Rattle.mip_correspondent.specs.Showing.{Shows, with_kept, kept_of, Fits};
+ghost use Rattle.mip_correspondent.specs.Showing.{kept_of, Fits, Goes, Keeps, Leads};
 
 use crate::accepted_binding::AcceptedBinding;
 use crate::answering::{drop_packet, note_acceptance, note_denial, send};
@@ -32,7 +31,8 @@ fn deny(
     kbm: Option<&PreparedKbm>,
 ) -> Result<(), Memory>
     requires { IsTrue (is_routable_if_any registration.now.home_option) }
-    ensures { (cache : CacheSeen) (t : Transition) → Shows context.now.moment.0 cache answers.old t → OnOk result (Shows context.now.moment.0 cache answers.new (denies context.now.identity.now context.now.number registration.now status last (option_copied kbm.entry) t)) }
+    ensures { Goes context.now.moment.0 result
+        (denies context.now.identity.now context.now.number registration.now status last (option_copied kbm.entry)) answers.old answers.new }
 {
     let own = context.identity.own;
     note_denial(answers, context.number, status)?;
@@ -50,7 +50,7 @@ fn acknowledge(
     kbm: &PreparedKbm,
 ) -> Result<(), Memory>
     requires { IsTrue (is_routable_if_any registration.now.home_option) }
-    ensures { (cache : CacheSeen) (t : Transition) → Shows context.now.moment.0 cache answers.old t → OnOk result (Shows context.now.moment.0 cache answers.new (acknowledges context.now.identity.now registration.now granted kbm.now t)) }
+    ensures { Goes context.now.moment.0 result (acknowledges context.now.identity.now registration.now granted kbm.now) answers.old answers.new }
 {
     if !registration.ack {
         return Ok(());
@@ -80,7 +80,8 @@ fn accept(
     kbm: &PreparedKbm,
 ) -> Result<(), Memory>
     requires { IsTrue (is_routable_if_any registration.now.home_option) }
-    ensures { (cache : CacheSeen) (t : Transition) → Shows context.now.moment.0 cache answers.old t → OnOk result (Shows context.now.moment.0 (with_acceptance context.now.moment.0 kept.now.home kept.now.number kept.now.accepted cache) answers.new (accepts context.now.identity.now context.now.number registration.now kept.now.home kept.now.number kept.now.accepted granted kbm.now t)) }
+    ensures { Keeps context.now.moment.0 kept.now result
+        (accepts context.now.identity.now context.now.number registration.now kept.now.home kept.now.number kept.now.accepted granted kbm.now) answers.old answers.new }
 {
     note_acceptance(answers, context.number, kept)?;
     acknowledge(alloc, answers, context, registration, granted, kbm)
@@ -98,7 +99,8 @@ fn carry_out(
     requires plain { IsTrue (is_routable_if_any registration.now.home_option) }
     requires key { option_copied kbm ≡ key_in verdict }
     ensures kept { IfOk result (λ kept. kept ≡ kept_of verdict) }
-    ensures shows { (cache : CacheSeen) (t : Transition) → Shows context.now.moment.0 cache answers.old t → IfOk result (λ kept. Shows context.now.moment.0 (with_kept context.now.moment.0 kept cache) answers.new (judged context.now.identity.now context.now.number registration.now verdict t)) }
+    ensures shows { (cache : CacheSeen)
+        → Leads context.now.moment.0 cache result (judged context.now.identity.now context.now.number registration.now verdict) answers.old answers.new }
 {
     match verdict {
         Verdict::Refuse(why) => {
@@ -144,7 +146,8 @@ pub fn take_update(
     requires plain { IsTrue (is_routable_if_any registration.now.home_option) }
     requires read { registration_in registration.now.source registration.now.home_option message.now ≡ Some registration.now }
     ensures fits { IfOk result (Fits context.now.moment.0 context.now.cache.now) }
-    ensures shows { (t : Transition) → Shows context.now.moment.0 context.now.cache.now answers.old t → IfOk result (λ kept. Shows context.now.moment.0 (with_kept context.now.moment.0 kept context.now.cache.now) answers.new (takes_update context.now.identity.now context.now.number registration.now message.now t)) }
+    ensures shows { Leads context.now.moment.0 context.now.cache.now result
+        (takes_update context.now.identity.now context.now.number registration.now message.now) answers.old answers.new }
 {
     let identity = context.identity;
     let judged = verdict(

@@ -8,8 +8,8 @@ use Rattle.std.proofs.lemmas.List.Folds.{list_any-append}
 use Rattle.std.proofs.lemmas.Bool.{and_parts, or_parts}
 use Rattle.std.proofs.lemmas.Bool.Decides.{nat_tests}
 use Rattle.mip_words.specs.declared.address.Address.{Address}
-use Rattle.mip_lists.specs.Asked.{asked}
-use Rattle.mip_lists.specs.Last.{or_else, last_where}
+use Rattle.mip_words.specs.Asked.{asked}
+use Rattle.mip_words.specs.Last.{or_else, last_where}
 use Rattle.mip_binding.specs.Acceptance.{Acceptance, Binding, binding_of}
 use Rattle.mip_binding.specs.Rows.{others_by}
 use Rattle.mip_binding.specs.Homes.{HomeKept, number_key, joins, kept_with, home_step, home_after}

@@ -6,7 +6,7 @@ use Rattle.std.proofs.lemmas.Bool.{cases_eq, eq-eqb, ne_eqb, or_parts}
 use Rattle.std.proofs.lemmas.List.Sums.{fold-append}
 use Rattle.mip_words.specs.declared.address.Address.{Address}
 use Rattle.mip_words.specs.declared.ids.LinkId.{LinkId}
-use Rattle.mip_lists.specs.Asked.{asked}
+use Rattle.mip_words.specs.Asked.{asked}
 use Rattle.mip_nonce.specs.Secrets.{Life}
 use Rattle.mip_outside.specs.declared.claim.Claim.{Claim}
 use Rattle.mip_outside.specs.Places.{claim_in}

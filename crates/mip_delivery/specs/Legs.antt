@@ -1,6 +1,6 @@
 -- One leg of the way of data: what a node was handed, and what it knows of it. RFC 6275 sections 9.3, 10.4 and 11.3
 use Rattle.std.specs.Prelude.{◌≡◌, ◌≢◌, ℕ, ◌<◌, ◌≤◌, List, ◌∷◌, length, Bool, true, false, Option, Some, None, is_some, Ok}
-use Rattle.mip_constants.specs.Protocols.{ipv6, mobility_header}
+use Rattle.mip_words.specs.Protocols.{ipv6, mobility_header}
 use Rattle.mip_words.specs.declared.address.Address.{Address}
 use Rattle.mip_ipv6.specs.declared.head.Head.{Head}
 use Rattle.mip_ipv6.specs.Packet.{Packet, is_plain, IsInRange, source_of, destination_of}

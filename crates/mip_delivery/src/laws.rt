@@ -1,7 +1,7 @@
 //! The laws, each the contract of a function that does nothing.
 
 ghost use Rattle.std.specs.Prelude.{◌≡◌, ◌≢◌, ℕ, ◌<◌, ◌≤◌, List, [], ◌∷◌, ◌++◌, length, Bool, true, Option, Some, None, is_some, Ok, if◌then◌else◌, slice_get};
-ghost use Rattle.mip_constants.specs.Protocols.{mobility_header};
+ghost use Rattle.mip_words.specs.Protocols.{mobility_header};
 ghost use Rattle.mip_words.specs.declared.address.Address.{Address};
 ghost use Rattle.mip_words.specs.declared.ids.NodeId.{NodeId};
 ghost use Rattle.mip_words.specs.declared.shield.Shield.{Shield};
@@ -167,12 +167,16 @@ pub fn only_its_delivery_reaches_a_packet()
 
 /// A packet stays as it was posted.
 pub fn packets_stay_as_posted()
-    ensures { (s : Setup) (run : Run) (events : List Event) (k : ℕ) (post : Post) → slice_get run.posts k ≡ Some post → slice_get (run_on s run events).posts k ≡ Some post }
+    ensures { (s : Setup) (run : Run) (events : List Event) (k : ℕ) (post : Post)
+        → slice_get run.posts k ≡ Some post
+        → slice_get (run_on s run events).posts k ≡ Some post }
 {}
 
 /// A packet of the pool that is not shielded and has a hop limit of two at least is handed to the node that holds its destination.
 pub fn holder_is_handed_the_packet()
-    ensures { (s : Setup) (run : Run) (k : ℕ) (keep : Bool) (post : Post) (p : Packet) (l n : ℕ) → in_pool run.flying run.posts k ≡ Some post → post.shield ≡ None → packet_of post.packet ≡ Ok p
+    ensures { (s : Setup) (run : Run) (k : ℕ) (keep : Bool) (post : Post) (p : Packet) (l n : ℕ)
+        → in_pool run.flying run.posts k ≡ Some post → post.shield ≡ None
+        → packet_of post.packet ≡ Ok p
         → link_of s.links p.head.destination.0 ≡ Some l → holder_in run.past p.head.destination.0 ≡ Some n → n < 32 → 2 ≤ p.head.hop
         → delivered s run k keep ≡ handed s k post n (arrival_link s post) (overheard_at s post k (arrival_link s post) (if keep then run else without k run)) }
 {}
@@ -180,19 +184,30 @@ pub fn holder_is_handed_the_packet()
 /// A stretch that is quiet for two ends keeps, at each of its events, what is asked of a node or an address of their circle: where
 /// an end is present, who holds an address, what a node holds for a home, and what an agent has registered.
 pub fn quiet_stretch_keeps_the_circle()
-    ensures present { (s : Setup) (before first rest : List Event) (x y n : ℕ) (own : Address) → IsQuiet s (run_of s before) (first ++ rest) x y → has_node (circle_of (run_of s before).past x y) n ≡ true
+    ensures present { (s : Setup) (before first rest : List Event) (x y n : ℕ) (own : Address)
+        → IsQuiet s (run_of s before) (first ++ rest) x y
+        → has_node (circle_of (run_of s before).past x y) n ≡ true
         → present_in (run_on s (run_of s before) first).past n own ≡ present_in (run_of s before).past n own }
-    ensures holder { (s : Setup) (before first rest : List Event) (x y : ℕ) (a : Address) → IsQuiet s (run_of s before) (first ++ rest) x y → has_address (circle_of (run_of s before).past x y) a ≡ true
+    ensures holder { (s : Setup) (before first rest : List Event) (x y : ℕ) (a : Address)
+        → IsQuiet s (run_of s before) (first ++ rest) x y
+        → has_address (circle_of (run_of s before).past x y) a ≡ true
         → holder_in (run_on s (run_of s before) first).past a.0 ≡ holder_in (run_of s before).past a.0 }
-    ensures held { (s : Setup) (before first rest : List Event) (x y n home : ℕ) → IsQuiet s (run_of s before) (first ++ rest) x y → has_node (circle_of (run_of s before).past x y) n ≡ true
+    ensures held { (s : Setup) (before first rest : List Event) (x y n home : ℕ)
+        → IsQuiet s (run_of s before) (first ++ rest) x y
+        → has_node (circle_of (run_of s before).past x y) n ≡ true
         → held_in s (run_on s (run_of s before) first).past n home ≡ held_in s (run_of s before).past n home }
-    ensures careof { (s : Setup) (before first rest : List Event) (x y n : ℕ) (home : Address) → IsQuiet s (run_of s before) (first ++ rest) x y → has_node (circle_of (run_of s before).past x y) n ≡ true
-        → careof_in (now_in s (run_on s (run_of s before) first)) (run_on s (run_of s before) first).past n home ≡ careof_in (now_in s (run_of s before)) (run_of s before).past n home }
+    ensures careof { (s : Setup) (before first rest : List Event) (x y n : ℕ) (home : Address)
+        → IsQuiet s (run_of s before) (first ++ rest) x y
+        → has_node (circle_of (run_of s before).past x y) n ≡ true
+        → careof_in (now_in s (run_on s (run_of s before) first)) (run_on s (run_of s before) first).past n home
+        ≡ careof_in (now_in s (run_of s before)) (run_of s before).past n home }
 {}
 
 /// In a setup that a schedule gives, an address that somebody holds is on a link.
 pub fn held_addresses_are_on_links()
-    ensures { (s : Setup) → IsOrderly s → (address : ℕ) (events : List Event) (n : ℕ) → holder_in (run_of s events).past address ≡ Some n → is_some (link_of s.links address) ≡ true }
+    ensures { (s : Setup) → IsOrderly s → (address : ℕ) (events : List Event) (n : ℕ)
+        → holder_in (run_of s events).past address ≡ Some n
+        → is_some (link_of s.links address) ≡ true }
 {}
 
 /// In a setup that a schedule gives, a home agent holds its own address, whatever happens.

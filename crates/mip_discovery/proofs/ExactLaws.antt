@@ -4,7 +4,7 @@ use Rattle.std.specs.Prelude.{Option, Some, None, fold, nat_lt, not, ◌==◌, �
 use Rattle.std.specs.List.{filter, list_any, AllByRecursion}
 use Rattle.std.proofs.lemmas.Bool.Decides.{nat_tests}
 use Rattle.std.proofs.lemmas.Bool.{or_parts}
-use Rattle.mip_lists.specs.Last.{or_else}
+use Rattle.mip_words.specs.Last.{or_else}
 use Rattle.mip_discovery.specs.declared.agent.Agent.{Agent}
 use Rattle.mip_discovery.specs.Heard.{Heard, agent_of, is_live, is_of, is_again, renewed, stays, placed_by, entered_by}
 use Rattle.mip_discovery.specs.Listed.{Listed, Ledger, heard_by, ledger, listed, live_listed, live_as, last_heard}

@@ -5,7 +5,7 @@ use Rattle.mip_words.specs.Addresses.{address_bytes}
 use Rattle.mip_words.specs.declared.address.Address.{Address}
 use Rattle.mip_icmp.specs.Said.{DiscoverReply}
 use Rattle.mip_icmp.specs.Spelling.{icmp_bytes}
-use Rattle.mip_constants.specs.Protocols.{icmpv6}
+use Rattle.mip_words.specs.Protocols.{icmpv6}
 use Rattle.mip_packets.specs.Packets.{data_packet, straight}
 use Rattle.mip_discovery.specs.declared.agent.Agent.{Agent}
 use Rattle.mip_discovery.specs.Heard.{is_of}

@@ -1,6 +1,6 @@
 -- A mobile's discovery of home agents. RFC 6275 section 11.4.1
 use Rattle.std.specs.Prelude.{ℕ, ◌+◌, ◌*◌, ◌^◌, ◌==◌, Option, Some, None, if◌then◌else◌}
-use Rattle.mip_constants.specs.Constants.{initial_dhaad_timeout, dhaad_retries}
+use Rattle.mip_words.specs.Constants.{initial_dhaad_timeout, dhaad_retries}
 
 -- the request's identifier, how many retries were sent, and when the next one is due
 pub record DiscoverySeen : Type 0 where

@@ -53,9 +53,11 @@ impl Agents {
     ) -> Result<(), Memory>
         requires later { self.old.last ≤ now.0 }
         requires early { now.0 < 2 ^ 62 }
-        ensures ok { let h : Heard = record { at = now.0; agent = agent; preference = preference; life = life } in OnOk result (self.new ≡ record { last = now.0; agents = after now.0 (agent_of h) self.old.agents }) }
+        ensures ok { let h : Heard = record { at = now.0; agent = agent; preference = preference; life = life } in OnOk result (self.new ≡
+            record { last = now.0; agents = after now.0 (agent_of h) self.old.agents }) }
         ensures err { OnErr result (self.new ≡ self.old) }
-        ensures stands { (past : List Heard) → StandsFor self.old past → OnOk result (StandsFor self.new (past ++ (record { at = now.0; agent = agent; preference = preference; life = life }) ∷ [])) }
+        ensures stands { (past : List Heard) → StandsFor self.old past
+            → OnOk result (StandsFor self.new (past ++ (record { at = now.0; agent = agent; preference = preference; life = life }) ∷ [])) }
     {
         let heard = Agent {
             address: agent,
@@ -72,7 +74,8 @@ impl Agents {
     pub fn live(&self, now: Moment, place: u32) -> Option<Address>
         requires { self.now.last ≤ now.0 }
         ensures found { result ≡ option_map (λ x. x.address) (slice_get (live now.0 self.now.agents) place) }
-        ensures answers { (past : List Heard) → StandsFor self.now past → result ≡ option_map (λ x. x.agent.address) (slice_get (live_listed now.0 past) place) }
+        ensures answers { (past : List Heard) → StandsFor self.now past
+            → result ≡ option_map (λ x. x.agent.address) (slice_get (live_listed now.0 past) place) }
     {
         ranks::live_at(&self.agents, now, place)
     }

@@ -1,9 +1,9 @@
 ghost use Rattle.std.specs.Prelude.{◌≡◌, ◌<◌, ◌≤◌, ◌*◌, ◌^◌, ◌==◌, ◌↔◌, None};
-ghost use Rattle.mip_constants.specs.Constants.{initial_dhaad_timeout};
+ghost use Rattle.mip_words.specs.Constants.{initial_dhaad_timeout};
 ghost use Rattle.mip_discovery.specs.Retries.{started, retried};
 
-use mip_constants::{DHAAD_RETRIES, INITIAL_DHAAD_TIMEOUT};
 use mip_words::Moment;
+use mip_words::constants::{DHAAD_RETRIES, INITIAL_DHAAD_TIMEOUT};
 use std::marker::Model;
 
 /// A discovery of home agents that is under way (RFC 6275 section 11.4.1): one request, and at most four retries, which
@@ -17,7 +17,7 @@ pub struct Discovery {
 
 impl Model for Discovery {
     ghost use Rattle.std.specs.Prelude.{◌≤◌};
-    ghost use Rattle.mip_constants.specs.Constants.{initial_dhaad_timeout};
+    ghost use Rattle.mip_words.specs.Constants.{initial_dhaad_timeout};
     ghost use Rattle.mip_discovery.specs.Retries.{DiscoverySeen};
 
     ghost Value = { DiscoverySeen };

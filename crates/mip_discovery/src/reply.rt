@@ -1,6 +1,6 @@
 //! The answer to a discovery request.
 
-ghost use Rattle.std.specs.Prelude.{◌≡◌, ◌≤◌, ◌++◌, ◌∷◌, length, map, IfOk};
+ghost use Rattle.std.specs.Prelude.{◌≡◌, ◌≤◌, length, map, IfOk};
 ghost use Rattle.std.specs.List.{filter, flat_map};
 ghost use Rattle.mip_words.specs.Addresses.{address_bytes};
 ghost use Rattle.mip_icmp.specs.Said.{DiscoverReply};
@@ -9,9 +9,9 @@ ghost use Rattle.mip_discovery.specs.Heard.{live};
 ghost use Rattle.mip_discovery.specs.Reply.{is_above, is_behind, named, discovery_reply};
 
 use crate::agent::Agent;
-use mip_constants::protocol::ICMPV6;
 use mip_icmp::{PlainIcmp, write_icmp};
 use mip_packets::{straight, write_data_packet};
+use mip_words::protocol::ICMPV6;
 use mip_words::{Address, Bytes, Memory, Moment};
 use std::alloc::Global;
 

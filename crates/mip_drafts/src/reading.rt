@@ -18,7 +18,8 @@ fn next_row<'a>(
     at: Cursor<'a>,
 ) -> Result<Option<(Vec<&'a [u8]>, Cursor<'a>)>, Memory>
     requires { at.line + length at.rest.now < 2 ^ 32 }
-    ensures { IfOk result (λ next. MatchOption next (rows_of at.entry.rest.now ≡ fields_of at.entry.rest.now ∷ []) (λ p. IsNext at.entry (texts p.0.items) p.1)) }
+    ensures { IfOk result (λ next. MatchOption next (rows_of at.entry.rest.now ≡ fields_of at.entry.rest.now ∷ [])
+        (λ p. IsNext at.entry (texts p.0.items) p.1)) }
 {
     let Some((row, rest)) = cut_at(b'\n', at.rest) else {
         return Ok(None);

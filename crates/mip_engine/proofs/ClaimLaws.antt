@@ -4,7 +4,7 @@ use Rattle.std.proofs.Math.Path.{fun_ext}
 use Rattle.std.proofs.lemmas.Bool.Decides.{nat_tests}
 use Rattle.std.specs.Prelude.{Option, Some, None, is_some, unwrap_or, slice_set, if◌then◌else◌, ◌&&◌, ◌==◌, not}
 use Rattle.mip_words.specs.declared.address.Address.{Address}
-use Rattle.mip_lists.specs.Last.{or_else}
+use Rattle.mip_words.specs.Last.{or_else}
 use Rattle.mip_entries.specs.declared.entry.Entry.{Entry}
 use Rattle.mip_entries.specs.declared.entry.Entry.TheVariants.{Claimed, Released, Taken, Listening, Deafened, Idle}
 use Rattle.mip_links.specs.Table.{Asked, link_of}

@@ -1,5 +1,5 @@
 -- What nodes and network know of two ends is what the entries of the run tell.
-use Rattle.std.proofs.Common.{◌≡◌, ◌≢◌, ℕ, zero, suc, ◌<◌, ◌≤◌, List, [], ◌∷◌, Bool, true, false, length, refl, sym, ap, ◌∙◌, subst, arith}
+use Rattle.std.proofs.Common.{◌≡◌, ◌≢◌, ℕ, zero, suc, ◌<◌, ◌≤◌, List, [], ◌∷◌, Bool, true, false, length, refl, sym, ap, ◌∙◌, arith}
 use Rattle.std.specs.Prelude.{Option, Some, None, is_some, option_map, not, ◌&&◌, ◌||◌, ◌==◌, if◌then◌else◌, slice_get, take}
 use Rattle.std.specs.List.{list_any}
 use Rattle.std.specs.Option.{option_map_or}
@@ -16,7 +16,6 @@ use Rattle.mip_history.specs.Setup.Kind.{Correspondent as OfCorrespondent, Agent
 use Rattle.mip_history.specs.Runs.{Run}
 use Rattle.mip_history.specs.Questions.{moment_in, holder_in, declared_in}
 use Rattle.mip_history.specs.Bound.{held_in}
-use Rattle.mip_history.specs.Knowing.{now_in}
 use Rattle.mip_history.specs.Permitted.{run_of}
 use Rattle.mip_history.specs.Registered.{is_agent_host}
 use Rattle.mip_history.specs.Told.{present_in, agent_in, is_bound_in, careof_in}

@@ -7,7 +7,7 @@ use Rattle.std.specs.Prelude.{Option, Some, None, is_some, unwrap_or, not, ◌||
 use Rattle.std.specs.List.{list_any}
 use Rattle.mip_words.specs.Addresses.{prefix_of}
 use Rattle.mip_words.specs.declared.address.Address.{Address}
-use Rattle.mip_lists.specs.Asked.{asked}
+use Rattle.mip_words.specs.Asked.{asked}
 use Rattle.mip_links.specs.Table.{link_from, link_of}
 use Rattle.mip_schedule.specs.DeclarationTimes.{interface_of}
 use Rattle.mip_entries.specs.declared.entry.Entry.{Entry}

@@ -1,6 +1,6 @@
 //! Nodes act: they do what they are asked, move, and show what they keep.
 
-ghost use Rattle.std.specs.Prelude.{◌≡◌, [], ◌∷◌, Some, None, OnOk, option_map, slice_get};
+ghost use Rattle.std.specs.Prelude.{◌≡◌, Some, None, OnOk, slice_get};
 ghost use Rattle.mip_history.specs.Setup.{Setup};
 ghost use Rattle.mip_history.specs.Runs.{Run};
 ghost use Rattle.mip_history.specs.Nodes.{acts, shown};
@@ -65,7 +65,8 @@ impl Engine {
     }
 
     fn show_rows(&mut self, node: NodeId) -> Result<(), Memory>
-        ensures shown { (c : NodeSeen) → slice_get self.old.nodes node.0 ≡ Some c → OnOk result (self.new ≡ with_entries (rows_of node.0 c.role self.old.moment) self.old) }
+        ensures shown { (c : NodeSeen) → slice_get self.old.nodes node.0 ≡ Some c
+            → OnOk result (self.new ≡ with_entries (rows_of node.0 c.role self.old.moment) self.old) }
         ensures kept { OnOk result (self.new.told ≡ self.old.told) }
     {
         for place in 0..u32::MAX {

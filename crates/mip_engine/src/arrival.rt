@@ -19,7 +19,9 @@ pub struct Arrival {
 /// Where a packet comes to that is delivered.
 pub(crate) fn arrival_of(net: &Net, number: u64, delivery: Delivery) -> Arrival
     requires { number < length net.now.posts }
-    ensures { (post : Post) → slice_get net.now.posts number ≡ Some post → arrival_seen result ≡ record { delivery = fate_of delivery; link = other_link (link_of net.now.links (destination_in post.packet)) post.from; shield = post.shield } }
+    ensures { (post : Post) → slice_get net.now.posts number ≡ Some post
+        → arrival_seen result
+        ≡ record { delivery = fate_of delivery; link = other_link (link_of net.now.links (destination_in post.packet)) post.from; shield = post.shield } }
 {
     let Some(flight) = net.flight(number) else {
         unreachable!();
@@ -35,7 +37,8 @@ pub(crate) fn arrival_of(net: &Net, number: u64, delivery: Delivery) -> Arrival
 /// The link that a packet comes to, where that is another one than it was sent from.
 fn arrival_link(net: &Net, number: u64, from: LinkId) -> Option<LinkId>
     requires { number < length net.now.posts }
-    ensures { (post : Post) → slice_get net.now.posts number ≡ Some post → option_map (λ l. l.0) result ≡ other_link (link_of net.now.links (destination_in post.packet)) from.0 }
+    ensures { (post : Post) → slice_get net.now.posts number ≡ Some post
+        → option_map (λ l. l.0) result ≡ other_link (link_of net.now.links (destination_in post.packet)) from.0 }
 {
     let Some(packet) = net.packet(number) else {
         unreachable!();

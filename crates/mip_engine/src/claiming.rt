@@ -32,7 +32,9 @@ impl Engine {
     fn claim_on(&mut self, who: Holder, link: LinkId, address: Address) -> Result<(), Memory>
         requires who { holder_number who < 40 }
         requires link { link_of self.old.net.links address.0 ≡ Some link.0 }
-        ensures stands { (s : Setup) (run : Run) → IsAt self.old s run → link_of self.old.net.links address.0 ≡ Some link.0 → OnOk result (IsAt self.new s (note (claim_entry (holder_number who) address link.0 (holder_in run.past address.0)) run)) }
+        ensures stands { (s : Setup) (run : Run) → IsAt self.old s run
+            → link_of self.old.net.links address.0 ≡ Some link.0
+            → OnOk result (IsAt self.new s (note (claim_entry (holder_number who) address link.0 (holder_in run.past address.0)) run)) }
         ensures kept { OnOk result (self.new.told ≡ self.old.told) }
     {
         let entry = self.take_claim(who, link, address)?;
@@ -80,7 +82,8 @@ impl Engine {
     /// A home address that was given up is its mobile's from here on, where that is at home.
     fn pass_on(&mut self, who: Holder, link: LinkId, address: Address) -> Result<(), Memory>
         requires free { IsFree self.old.net address.0 }
-        ensures stands { (s : Setup) (run : Run) → IsAt self.old s run → OnOk result (IsAt self.new s (passes_to (holder_number who) address link.0 run (resident_of self.old.nodes address.0))) }
+        ensures stands { (s : Setup) (run : Run) → IsAt self.old s run
+            → OnOk result (IsAt self.new s (passes_to (holder_number who) address link.0 run (resident_of self.old.nodes address.0))) }
         ensures kept { OnOk result (self.new.told ≡ self.old.told) }
     {
         let Some(node) = self.resident(address) else {
@@ -94,7 +97,8 @@ impl Engine {
 
     fn give_up_on(&mut self, who: Holder, link: LinkId, address: Address) -> Result<(), Memory>
         requires { link_of self.old.net.links address.0 ≡ Some link.0 }
-        ensures stands { (s : Setup) (run : Run) → IsAt self.old s run → OnOk result (IsAt self.new s (given_up_on s (holder_number who) address run (Some link.0))) }
+        ensures stands { (s : Setup) (run : Run) → IsAt self.old s run
+            → OnOk result (IsAt self.new s (given_up_on s (holder_number who) address run (Some link.0))) }
         ensures kept { OnOk result (self.new.told ≡ self.old.told) }
     {
         if self.release(who, address) {

@@ -1,6 +1,6 @@
 //! The run of a schedule, as it goes on.
 
-ghost use Rattle.std.specs.Prelude.{◌≡◌, ◌+◌, ◌<◌, ◌≤◌, ◌^◌, ◌∷◌, ◌++◌, if◌then◌else◌, length, map, IfOk, OnOk, Option, None, Some, option_map};
+ghost use Rattle.std.specs.Prelude.{◌≡◌, ◌+◌, ◌<◌, ◌≤◌, ◌^◌, ◌∷◌, ◌++◌, length, map, IfOk, OnOk, Option, None, Some, option_map};
 ghost use Rattle.mip_entries.specs.declared.entry.Entry.TheVariants.{At};
 ghost use Rattle.mip_history.specs.Nodes.{marks_of};
 ghost use Rattle.mip_provenance.specs.Entries.{update_accepted};
@@ -131,7 +131,8 @@ impl Engine {
     /// An entry is left, and behind an `accepted` the mark of its origin.
     #[tactic(auto, using(crate::proofs::MarkLaws::marks_none, crate::proofs::MarkLaws::marks_one))]
     pub(crate) fn note_marked(&mut self, entry: Entry) -> Result<(), Memory>
-        ensures marked { IsNumbered self.old.net.posts self.old.past → OnOk result (self.new ≡ with_entries (entry ∷ marks_of self.old.past (update_accepted entry)) self.old) }
+        ensures marked { IsNumbered self.old.net.posts self.old.past
+            → OnOk result (self.new ≡ with_entries (entry ∷ marks_of self.old.past (update_accepted entry)) self.old) }
         ensures kept { OnOk result (self.new.told ≡ self.old.told) }
     {
         let mark = self.mark_of(&entry)?;

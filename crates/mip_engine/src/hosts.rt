@@ -1,10 +1,9 @@
 //! The nodes that a schedule declares, as its run needs them.
 
-ghost use Rattle.std.specs.Prelude.{◌≡◌, ◌++◌, [], ◌∷◌, List, IfOk, OnOk, option_map};
-ghost use Rattle.std.specs.Option.{option_and_then};
+ghost use Rattle.std.specs.Prelude.{◌≡◌, ◌++◌, [], ◌∷◌, IfOk, OnOk};
 ghost use Rattle.mip_words.specs.declared.address.Address.{Address};
 ghost use Rattle.mip_symbols.specs.declared.declaration.Declaration.{Declaration};
-ghost use Rattle.mip_history.specs.Setup.{addresses_in, served_by, with_any, hosts_from, hosts_in};
+ghost use Rattle.mip_history.specs.Setup.{addresses_in, served_by, hosts_from, hosts_in};
 ghost use Rattle.std.specs.Prelude.{slice_get, length};
 
 use mip_nodes::{Host, Kind};

@@ -6,7 +6,7 @@ ghost use Rattle.mip_history.specs.Setup.{Setup};
 ghost use Rattle.mip_history.specs.Runs.{Run};
 ghost use Rattle.mip_history.specs.Posting.{heards, is_other, overheard, posted};
 ghost use Rattle.mip_history.specs.Outsiders.{injected};
-ghost use Rattle.mip_engine.specs.Engines.{with_entries, ears_of, heard_by};
+ghost use Rattle.mip_engine.specs.Engines.{with_entries, ears_of};
 ghost use Rattle.mip_engine.specs.Standing.{IsAt};
 
 use crate::engine::Engine;
@@ -79,7 +79,8 @@ impl Engine {
         packet: Bytes,
     ) -> Result<(), Memory>
         requires { 40 ≤ length packet }
-        ensures stands { (s : Setup) (run : Run) → IsAt self.old s run → OnOk result (IsAt self.new s (posted s (record { from = from.0; shield = shield; packet = packet }) None (Sent (length run.posts) node (is_some shield) packet) run)) }
+        ensures stands { (s : Setup) (run : Run) → IsAt self.old s run
+            → OnOk result (IsAt self.new s (posted s (record { from = from.0; shield = shield; packet = packet }) None (Sent (length run.posts) node (is_some shield) packet) run)) }
         ensures kept { OnOk result (self.new.told ≡ self.old.told) }
     {
         let number = self.post(from, shield, packet.as_slice())?;

@@ -1,10 +1,9 @@
 //! What a schedule declares, as its run needs it.
 
-ghost use Rattle.std.specs.Prelude.{◌≡◌, ℕ, ◌+◌, ◌<◌, ◌^◌, ◌++◌, [], ◌∷◌, List, map, Option, Some, None, is_some, length, IfOk, OnOk, option_map};
+ghost use Rattle.std.specs.Prelude.{◌≡◌, ◌+◌, ◌<◌, ◌^◌, ◌++◌, [], ◌∷◌, List, map, Option, Some, None, is_some, length, IfOk, OnOk, option_map};
 ghost use Rattle.std.specs.List.{list_any};
 ghost use Rattle.mip_words.specs.declared.address.Address.{Address};
 ghost use Rattle.mip_links.specs.Table.{link_of};
-ghost use Rattle.mip_links.specs.Nets.{holder_of};
 ghost use Rattle.mip_history.specs.Setup.{Setup, Host, links_in, outsiders_in, setup_of};
 ghost use Rattle.mip_history.specs.Runs.{Run, note};
 ghost use Rattle.mip_history.specs.Permitted.{opened, claimed_entry, is_same_link, is_agent_on};
@@ -150,7 +149,9 @@ impl Engine {
     fn join_all(&mut self, alloc: Global, hosts: Vec<Host>) -> Result<(), Memory>
         requires placed { ArePlaced self.old.net.links hosts.items }
         requires new { self.old ≡ new_engine self.old.seed self.old.moment self.old.net.links self.old.outsiders self.old.numbers }
-        ensures stands { (s : Setup) → s.hosts ≡ hosts.items → self.old ≡ new_engine s.seed s.start s.links s.outsiders s.numbers → OnOk result (IsAt self.new s (opened s)) }
+        ensures stands { (s : Setup) → s.hosts ≡ hosts.items
+            → self.old ≡ new_engine s.seed s.start s.links s.outsiders s.numbers
+            → OnOk result (IsAt self.new s (opened s)) }
         ensures kept { OnOk result (self.new.told ≡ self.old.told) }
     {
         for host in hosts {

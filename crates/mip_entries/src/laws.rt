@@ -9,5 +9,7 @@ pub fn stands_for_nothing<K, S>()
 
 /// Whoever stands for a past with the transition so far stands for it with one step more.
 pub fn stands_for_one_step_more<K, S>()
-    ensures { (after : K → Stamped S → K) (fresh : K) (past : List (Stamped S)) (step : S) (t : Transition K S) → StandsBy after fresh (with_transition past t) t.known → StandsBy after fresh (with_transition past (noted_by after step t)) (noted_by after step t).known }
+    ensures { (after : K → Stamped S → K) (fresh : K) (past : List (Stamped S)) (step : S) (t : Transition K S)
+        → StandsBy after fresh (with_transition past t) t.known
+        → StandsBy after fresh (with_transition past (noted_by after step t)) (noted_by after step t).known }
 {}

@@ -6,10 +6,10 @@ ghost use Rattle.mip_explain.specs.Listing.{mobility_lines, icmp_lines, body_lin
 use crate::message_listing::put_message;
 use crate::rows::{put_body_line, put_number_line, put_word_line};
 use crate::words::fault_word;
-use mip_constants::protocol::{ICMPV6, MOBILITY_HEADER};
 use mip_icmp::read_icmp;
 use mip_ipv6::Head;
 use mip_mobhdr::read_message;
+use mip_words::protocol::{ICMPV6, MOBILITY_HEADER};
 use mip_words::{Address, Bytes, Memory};
 
 fn put_mobility(

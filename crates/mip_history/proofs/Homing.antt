@@ -7,7 +7,7 @@ use Rattle.std.proofs.lemmas.Option.{slice_get_within}
 use Rattle.std.proofs.lemmas.Bool.{cases_eq, eq-eqb, ne_eqb}
 use Rattle.mip_words.specs.declared.address.Address.{Address}
 use Rattle.mip_words.specs.declared.shield.Shield.{Shield}
-use Rattle.mip_lists.proofs.EachLaws.{each-append}
+use Rattle.mip_words.proofs.EachLaws.{each-append}
 use Rattle.mip_ipv6.specs.declared.not_packet.NotPacket.{NotPacket}
 use Rattle.mip_ipv6.specs.Packet.{Packet}
 use Rattle.mip_ipv6.specs.Reading.{packet_of}

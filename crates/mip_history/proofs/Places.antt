@@ -9,7 +9,7 @@ use Rattle.mip_words.specs.declared.address.Address.{Address}
 use Rattle.mip_words.specs.declared.ids.NodeId.{NodeId}
 use Rattle.mip_words.specs.declared.moment.Moment.{Moment}
 use Rattle.mip_binding.specs.Acceptance.{Acceptance}
-use Rattle.mip_lists.specs.EachAfter.{EachAfter}
+use Rattle.mip_words.specs.EachAfter.{EachAfter}
 use Rattle.mip_binding.specs.Held.{floor, Lives}
 use Rattle.mip_binding.proofs.LifeLaws.{IsOutlived}
 use Rattle.mip_entries.specs.declared.entry.Entry.{Entry}

@@ -8,8 +8,8 @@ use Rattle.std.proofs.lemmas.List.Folds.{fold_stays}
 use Rattle.mip_words.specs.Sequence.{is_after}
 use Rattle.mip_words.specs.declared.address.Address.{Address}
 use Rattle.mip_words.specs.declared.ids.NodeId.{NodeId}
-use Rattle.mip_lists.specs.EachAfter.{EachAfter}
-use Rattle.mip_lists.specs.Last.{or_else}
+use Rattle.mip_words.specs.EachAfter.{EachAfter}
+use Rattle.mip_words.specs.Last.{or_else}
 use Rattle.mip_ipv6.specs.Packet.{Packet}
 use Rattle.mip_mobhdr.specs.declared.indices.Indices.{Indices}
 use Rattle.mip_reception.specs.Says.{UpdateIdentity, carried, says}

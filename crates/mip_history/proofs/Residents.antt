@@ -6,7 +6,7 @@ use Rattle.std.proofs.lemmas.Bool.{cases_eq, eq-eqb, ne_eqb}
 use Rattle.std.proofs.lemmas.Option.{slice_get_within}
 use Rattle.mip_words.specs.declared.address.Address.{Address}
 use Rattle.mip_words.specs.declared.ids.LinkId.{LinkId}
-use Rattle.mip_lists.specs.Last.{or_else}
+use Rattle.mip_words.specs.Last.{or_else}
 use Rattle.mip_entries.specs.declared.entry.Entry.{Entry}
 use Rattle.mip_entries.specs.declared.entry.Entry.TheVariants as entries
 use Rattle.mip_links.specs.Table.{link_of}

@@ -17,7 +17,7 @@ use Rattle.mip_mobhdr.specs.OptionValues.{Values, nothing}
 use Rattle.mip_mobhdr.specs.OptionReading.{is_length_of, is_seen, is_first_number, with_value, option_at, options_after, options_of}
 use Rattle.mip_mobhdr.specs.declared.fault.Fault.{Fault}
 use Rattle.mip_mobhdr.specs.Said.{Said}
-use Rattle.mip_mobhdr.specs.Said.Said.{Refresh, HomeInit, CareofInit, HomeTest, CareofTest, Update as BindingUpdate, Acknowledgement, Error}
+use Rattle.mip_mobhdr.specs.Said.Said.{Update as BindingUpdate}
 use Rattle.mip_mobhdr.specs.Reading.{has_bit, or_fault, update_of, message_of}
 use Rattle.mip_tokens.specs.Token.{authenticated}
 use Rattle.mip_reception.specs.Says.{UpdateIdentity, update_said, said_by, says}

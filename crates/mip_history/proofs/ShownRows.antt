@@ -7,8 +7,8 @@ use Rattle.std.proofs.lemmas.Bool.Decides.{nat_tests}
 use Rattle.mip_words.specs.declared.address.Address.{Address}
 use Rattle.mip_words.specs.declared.ids.NodeId.{NodeId}
 use Rattle.mip_words.specs.declared.moment.Moment.{Moment}
-use Rattle.mip_lists.specs.EachAfter.{EachAfter}
-use Rattle.mip_lists.proofs.EachLaws.{each_at}
+use Rattle.mip_words.specs.EachAfter.{EachAfter}
+use Rattle.mip_words.proofs.EachLaws.{each_at}
 use Rattle.mip_binding.specs.Acceptance.{Acceptance, Binding}
 use Rattle.mip_binding.specs.Rows.{BindingRow, RisesBy, find_by, kept_by, add_found, found_by, all_numbers}
 use Rattle.mip_binding.specs.Homes.{HomeKept, home_key, until_key, number_key, home_after, homes, kept_homes, shown_in, shown_home, shown_rows as rows_of}

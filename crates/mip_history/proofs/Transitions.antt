@@ -8,7 +8,7 @@ use Rattle.std.proofs.lemmas.List.Sums.{fold-append}
 use Rattle.std.proofs.lemmas.List.Elements.{filter_map-append}
 use Rattle.std.proofs.lemmas.Bool.{or_parts, cases_eq, eq-eqb, ne_eqb}
 use Rattle.mip_words.specs.declared.address.Address.{Address}
-use Rattle.mip_lists.proofs.EachLaws.{each-append}
+use Rattle.mip_words.proofs.EachLaws.{each-append}
 use Rattle.mip_binding.specs.Acceptance.{Acceptance}
 use Rattle.mip_bcache.specs.declared.accepted.Accepted.{Accepted}
 use Rattle.mip_bcache.specs.Seen.{acceptance}

@@ -2,8 +2,8 @@
 -- RFC 6275 sections 9.5.1 and 5.2
 use Rattle.std.specs.Prelude.{◌≡◌, ◌≢◌, ℕ, ◌<◌, List, [], ◌∷◌, ◌++◌, fold, Bool, false, true, ◌&&◌, ◌==◌, if◌then◌else◌, Option, Some, None, Ok, option_map, is_some, slice_get}
 use Rattle.std.specs.List.{list_any, filter_map}
-use Rattle.mip_lists.specs.Last.{or_else}
-use Rattle.mip_lists.specs.EachAfter.{EachAfter}
+use Rattle.mip_words.specs.Last.{or_else}
+use Rattle.mip_words.specs.EachAfter.{EachAfter}
 use Rattle.mip_words.specs.declared.address.Address.{Address}
 use Rattle.mip_ipv6.specs.Packet.{Packet}
 use Rattle.mip_ipv6.specs.Reading.{packet_of}

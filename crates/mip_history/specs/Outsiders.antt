@@ -1,6 +1,6 @@
 -- What outsiders do: they post packets, listen, and take addresses.
 use Rattle.std.specs.Prelude.{ℕ, List, length, Bool, true, false, ◌==◌, if◌then◌else◌, Option, Some, None, option_and_then, slice_get}
-use Rattle.mip_constants.specs.Protocols.{mobility_header}
+use Rattle.mip_words.specs.Protocols.{mobility_header}
 use Rattle.mip_words.specs.Addresses.{address_at}
 use Rattle.mip_words.specs.declared.address.Address.{Address}
 use Rattle.mip_ipv6.specs.declared.head.Head.{Head}

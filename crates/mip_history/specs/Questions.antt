@@ -1,8 +1,8 @@
 -- Questions that are asked of a history.
 use Rattle.std.specs.Prelude.{ℕ, suc, List, fold, Bool, true, false, ◌&&◌, ◌==◌, if◌then◌else◌, Option, Some, None, option_map}
 use Rattle.mip_words.specs.declared.address.Address.{Address}
-use Rattle.mip_lists.specs.Asked.{asked}
-use Rattle.mip_lists.specs.Last.{or_else}
+use Rattle.mip_words.specs.Asked.{asked}
+use Rattle.mip_words.specs.Last.{or_else}
 use Rattle.mip_entries.specs.declared.entry.Entry.{Entry}
 use Rattle.mip_entries.specs.declared.entry.Entry.TheVariants.{At, Moved, Claimed, Released, Listening, Deafened, Restarted}
 use Rattle.mip_links.specs.Table.{Asked}

@@ -2,7 +2,7 @@
 -- under its number, which no later one ended. RFC 6275 sections 9.1 and 9.5.1
 use Rattle.std.specs.Prelude.{◌≡◌, ℕ, ◌<◌, List, [], ◌∷◌, ◌++◌, false, Option, Some, None}
 use Rattle.std.specs.List.{list_any}
-use Rattle.mip_lists.specs.EachAfter.{EachAfter}
+use Rattle.mip_words.specs.EachAfter.{EachAfter}
 use Rattle.mip_words.specs.declared.address.Address.{Address}
 use Rattle.mip_binding.specs.Homes.{HomeKept, home_after}
 use Rattle.mip_bcache.specs.declared.accepted.Accepted.{Accepted}

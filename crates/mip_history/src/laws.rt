@@ -49,13 +49,19 @@ pub fn event_after_event()
 /// life, at that moment, with what was kept of the home just before. RFC 6275 section 9.5.1. One that is held under a number
 /// was accepted under it.
 pub fn held_was_accepted()
-    ensures held { (c : Content) (before after : List Entry) (n home careof : ℕ) → permitted c ≡ before ++ after → held_in (setup_of c) before n home ≡ Some careof → IsBound (setup_of c) before n home careof }
-    ensures under { (c : Content) (before after : List Entry) (n home number careof : ℕ) → permitted c ≡ before ++ after → held_under_in (setup_of c) before n home number ≡ Some careof → IsBoundUnder (setup_of c) before n home number careof }
+    ensures held { (c : Content) (before after : List Entry) (n home careof : ℕ)
+        → permitted c ≡ before ++ after → held_in (setup_of c) before n home ≡ Some careof
+        → IsBound (setup_of c) before n home careof }
+    ensures under { (c : Content) (before after : List Entry) (n home number careof : ℕ)
+        → permitted c ≡ before ++ after → held_under_in (setup_of c) before n home number ≡ Some careof
+        → IsBoundUnder (setup_of c) before n home number careof }
 {}
 
 /// Every update that a correspondent or a mobile ever accepted had just been handed over, with that verdict; no other node accepts one.
 pub fn accepted_was_handed()
-    ensures { (c : Content) (before : List Entry) (e : Entry) (after : List Entry) → permitted c ≡ before ++ e ∷ after → is_accepted e ≡ true → HasAccepted (setup_of c) before e }
+    ensures { (c : Content) (before : List Entry) (e : Entry) (after : List Entry)
+        → permitted c ≡ before ++ e ∷ after → is_accepted e ≡ true
+        → HasAccepted (setup_of c) before e }
 {}
 
 /// In any history, the last update of a home that a node accepted in its present life is the one that counts: to its end
@@ -64,7 +70,8 @@ pub fn accepted_was_handed()
 pub fn last_acceptance_counts()
     ensures binds { (s : Setup) (before : List Entry) (n k : ℕ) (home : Address) (binding : ℕ) (a : Accepted) (after : List Entry)
         → list_any (is_restart_of n) after ≡ false → list_any (is_accepted_for n home.0) after ≡ false → a.careof.0 ≢ home.0
-        → moment_in s.start (before ++ accepted_entry n k home binding a ∷ after) < a.end.0 → held_in s (before ++ accepted_entry n k home binding a ∷ after) n home.0 ≡ Some a.careof.0 }
+        → moment_in s.start (before ++ accepted_entry n k home binding a ∷ after) < a.end.0
+        → held_in s (before ++ accepted_entry n k home binding a ∷ after) n home.0 ≡ Some a.careof.0 }
     ensures deletes { (s : Setup) (before : List Entry) (n k : ℕ) (home : Address) (binding : ℕ) (a : Accepted) (after : List Entry)
         → list_any (is_restart_of n) after ≡ false → list_any (is_accepted_for n home.0) after ≡ false → a.careof.0 ≡ home.0
         → held_in s (before ++ accepted_entry n k home binding a ∷ after) n home.0 ≡ None }
@@ -75,42 +82,66 @@ pub fn last_acceptance_counts()
 
 /// What a correspondent keeps of a home is what the history says of it, and so is what the correspondent part of a mobile keeps.
 pub fn nodes_keep_what_was_accepted()
-    ensures held { (s : Setup) (events : List Event) (n : ℕ) (own : Address) (room : ℕ) (home : Address) → slice_get s.hosts n ≡ Some (record { address = own; kind = Correspondent room })
+    ensures held { (s : Setup) (events : List Event) (n : ℕ) (own : Address) (room : ℕ) (home : Address)
+        → slice_get s.hosts n ≡ Some (record { address = own; kind = Correspondent room })
         → option_map (λ a. a.0) (held_of (known_in s (run_of s events) n room) (now_in s (run_of s events)) home) ≡ held_in s (run_of s events).past n home.0 }
-    ensures holds { (s : Setup) (events : List Event) (n : ℕ) (own : Address) (room : ℕ) (home careof : Address) → slice_get s.hosts n ≡ Some (record { address = own; kind = Correspondent room })
-        → holds_for (known_in s (run_of s events) n room) (now_in s (run_of s events)) home careof ≡ holds (accepted_by s.start (run_of s events).past n) home.0 (now_in s (run_of s events)) careof.0 }
-    ensures floor { (s : Setup) (events : List Event) (n : ℕ) (own : Address) (room : ℕ) (home : Address) → slice_get s.hosts n ≡ Some (record { address = own; kind = Correspondent room })
-        → floor_of (known_in s (run_of s events) n room) (now_in s (run_of s events)) home ≡ floor (accepted_by s.start (run_of s events).past n) home.0 (now_in s (run_of s events)) }
-    ensures full { (s : Setup) (events : List Event) (n : ℕ) (own : Address) (room : ℕ) (home : Address) → slice_get s.hosts n ≡ Some (record { address = own; kind = Correspondent room })
-        → is_full_for (known_in s (run_of s events) n room) (now_in s (run_of s events)) home ≡ is_full room (accepted_by s.start (run_of s events).past n) home.0 (now_in s (run_of s events)) }
-    ensures part_held { (s : Setup) (events : List Event) (n : ℕ) (own : Address) (agent : Option Address) (home : Address) → slice_get s.hosts n ≡ Some (record { address = own; kind = Mobile agent })
-        → option_map (λ a. a.0) (held_of (mobile_known_in s (run_of s events) n own agent).part.known (now_in s (run_of s events)) home) ≡ held_in s (run_of s events).past n home.0 }
-    ensures part_holds { (s : Setup) (events : List Event) (n : ℕ) (own : Address) (agent : Option Address) (home careof : Address) → slice_get s.hosts n ≡ Some (record { address = own; kind = Mobile agent })
-        → holds_for (mobile_known_in s (run_of s events) n own agent).part.known (now_in s (run_of s events)) home careof ≡ holds (accepted_by s.start (run_of s events).past n) home.0 (now_in s (run_of s events)) careof.0 }
-    ensures part_floor { (s : Setup) (events : List Event) (n : ℕ) (own : Address) (agent : Option Address) (home : Address) → slice_get s.hosts n ≡ Some (record { address = own; kind = Mobile agent })
-        → floor_of (mobile_known_in s (run_of s events) n own agent).part.known (now_in s (run_of s events)) home ≡ floor (accepted_by s.start (run_of s events).past n) home.0 (now_in s (run_of s events)) }
-    ensures part_full { (s : Setup) (events : List Event) (n : ℕ) (own : Address) (agent : Option Address) (home : Address) → slice_get s.hosts n ≡ Some (record { address = own; kind = Mobile agent })
-        → is_full_for (mobile_known_in s (run_of s events) n own agent).part.known (now_in s (run_of s events)) home ≡ is_full part_room (accepted_by s.start (run_of s events).past n) home.0 (now_in s (run_of s events)) }
+    ensures holds { (s : Setup) (events : List Event) (n : ℕ) (own : Address) (room : ℕ) (home careof : Address)
+        → slice_get s.hosts n ≡ Some (record { address = own; kind = Correspondent room })
+        → holds_for (known_in s (run_of s events) n room) (now_in s (run_of s events)) home careof
+        ≡ holds (accepted_by s.start (run_of s events).past n) home.0 (now_in s (run_of s events)) careof.0 }
+    ensures floor { (s : Setup) (events : List Event) (n : ℕ) (own : Address) (room : ℕ) (home : Address)
+        → slice_get s.hosts n ≡ Some (record { address = own; kind = Correspondent room })
+        → floor_of (known_in s (run_of s events) n room) (now_in s (run_of s events)) home
+        ≡ floor (accepted_by s.start (run_of s events).past n) home.0 (now_in s (run_of s events)) }
+    ensures full { (s : Setup) (events : List Event) (n : ℕ) (own : Address) (room : ℕ) (home : Address)
+        → slice_get s.hosts n ≡ Some (record { address = own; kind = Correspondent room })
+        → is_full_for (known_in s (run_of s events) n room) (now_in s (run_of s events)) home
+        ≡ is_full room (accepted_by s.start (run_of s events).past n) home.0 (now_in s (run_of s events)) }
+    ensures part_held { (s : Setup) (events : List Event) (n : ℕ) (own : Address) (agent : Option Address) (home : Address)
+        → slice_get s.hosts n ≡ Some (record { address = own; kind = Mobile agent })
+        → option_map (λ a. a.0) (held_of (mobile_known_in s (run_of s events) n own agent).part.known (now_in s (run_of s events)) home)
+        ≡ held_in s (run_of s events).past n home.0 }
+    ensures part_holds { (s : Setup) (events : List Event) (n : ℕ) (own : Address) (agent : Option Address) (home careof : Address)
+        → slice_get s.hosts n ≡ Some (record { address = own; kind = Mobile agent })
+        → holds_for (mobile_known_in s (run_of s events) n own agent).part.known (now_in s (run_of s events)) home careof
+        ≡ holds (accepted_by s.start (run_of s events).past n) home.0 (now_in s (run_of s events)) careof.0 }
+    ensures part_floor { (s : Setup) (events : List Event) (n : ℕ) (own : Address) (agent : Option Address) (home : Address)
+        → slice_get s.hosts n ≡ Some (record { address = own; kind = Mobile agent })
+        → floor_of (mobile_known_in s (run_of s events) n own agent).part.known (now_in s (run_of s events)) home
+        ≡ floor (accepted_by s.start (run_of s events).past n) home.0 (now_in s (run_of s events)) }
+    ensures part_full { (s : Setup) (events : List Event) (n : ℕ) (own : Address) (agent : Option Address) (home : Address)
+        → slice_get s.hosts n ≡ Some (record { address = own; kind = Mobile agent })
+        → is_full_for (mobile_known_in s (run_of s events) n own agent).part.known (now_in s (run_of s events)) home
+        ≡ is_full part_room (accepted_by s.start (run_of s events).past n) home.0 (now_in s (run_of s events)) }
 {}
 
 /// Each row that a correspondent shows, or a mobile of its correspondent part, is that of the last update of its home under its
 /// number which the node accepted in its present life, which no later one ended, while the sequence of the home is still kept,
 /// to the moment of the row; and the rows are all that its acceptances leave.
 pub fn rows_are_last_acceptances()
-    ensures rows { (s : Setup) (events : List Event) (n : ℕ) (own : Address) (room : ℕ) → slice_get s.hosts n ≡ Some (record { address = own; kind = Correspondent room })
+    ensures rows { (s : Setup) (events : List Event) (n : ℕ) (own : Address) (room : ℕ)
+        → slice_get s.hosts n ≡ Some (record { address = own; kind = Correspondent room })
         → AllByRecursion (IsLastAcceptance s (run_of s events).past n) (rows_by_kind s n own (run_of s events) (Correspondent room)) }
-    ensures table { (s : Setup) (events : List Event) (n : ℕ) (own : Address) (room : ℕ) → slice_get s.hosts n ≡ Some (record { address = own; kind = Correspondent room })
-        → map seen_row (rows_at (known_in s (run_of s events) n room).cache (now_in s (run_of s events))) ≡ shown_rows (accepted_by s.start (run_of s events).past n) (now_in s (run_of s events)) }
-    ensures until { (s : Setup) (past : List Entry) (n home now : ℕ) → is_some (floor (accepted_by s.start past n) home now) ≡ nat_lt now (kept_to s past n home) }
-    ensures part_rows { (s : Setup) (events : List Event) (n : ℕ) (own : Address) (agent : Option Address) → slice_get s.hosts n ≡ Some (record { address = own; kind = Mobile agent })
+    ensures table { (s : Setup) (events : List Event) (n : ℕ) (own : Address) (room : ℕ)
+        → slice_get s.hosts n ≡ Some (record { address = own; kind = Correspondent room })
+        → map seen_row (rows_at (known_in s (run_of s events) n room).cache (now_in s (run_of s events)))
+        ≡ shown_rows (accepted_by s.start (run_of s events).past n) (now_in s (run_of s events)) }
+    ensures until { (s : Setup) (past : List Entry) (n home now : ℕ)
+        → is_some (floor (accepted_by s.start past n) home now) ≡ nat_lt now (kept_to s past n home) }
+    ensures part_rows { (s : Setup) (events : List Event) (n : ℕ) (own : Address) (agent : Option Address)
+        → slice_get s.hosts n ≡ Some (record { address = own; kind = Mobile agent })
         → AllByRecursion (IsLastAcceptance s (run_of s events).past n) (rows_by_kind s n own (run_of s events) (Mobile agent)) }
-    ensures part_table { (s : Setup) (events : List Event) (n : ℕ) (own : Address) (agent : Option Address) → slice_get s.hosts n ≡ Some (record { address = own; kind = Mobile agent })
-        → map seen_row (rows_at (mobile_known_in s (run_of s events) n own agent).part.known.cache (now_in s (run_of s events))) ≡ shown_rows (accepted_by s.start (run_of s events).past n) (now_in s (run_of s events)) }
+    ensures part_table { (s : Setup) (events : List Event) (n : ℕ) (own : Address) (agent : Option Address)
+        → slice_get s.hosts n ≡ Some (record { address = own; kind = Mobile agent })
+        → map seen_row (rows_at (mobile_known_in s (run_of s events) n own agent).part.known.cache (now_in s (run_of s events)))
+        ≡ shown_rows (accepted_by s.start (run_of s events).past n) (now_in s (run_of s events)) }
 {}
 
 /// Moments do not fall, and time goes on by what the schedule waits.
 pub fn moments_rise()
-    ensures at { (c : Content) (before : List Entry) (moment : Moment) (after : List Entry) → permitted c ≡ before ++ At moment ∷ after → moment_in (setup_of c).start before ≤ moment.0 }
+    ensures at { (c : Content) (before : List Entry) (moment : Moment) (after : List Entry)
+        → permitted c ≡ before ++ At moment ∷ after
+        → moment_in (setup_of c).start before ≤ moment.0 }
     ensures waited { (c : Content) → moment_in (setup_of c).start (permitted c) ≡ c.start.0 + sum_by waited_by c.events }
 {}
 
@@ -126,8 +157,12 @@ pub fn packets_are_numbered()
         → permitted c ≡ before ++ Sent number node shielded packet ∷ after → number ≡ length (packets_of before) }
     ensures injected { (c : Content) (before : List Entry) (number outsider : ℕ) (link : LinkId) (packet : List ℕ) (after : List Entry)
         → permitted c ≡ before ++ Injected number outsider link packet ∷ after → number ≡ length (packets_of before) }
-    ensures heard { (c : Content) (before : List Entry) (number outsider : ℕ) (after : List Entry) → permitted c ≡ before ++ Heard number outsider ∷ after → number < length (packets_of before) }
-    ensures handed { (c : Content) (before : List Entry) (number : ℕ) (node : NodeId) (after : List Entry) → permitted c ≡ before ++ Handed number node ∷ after → number < length (packets_of before) }
+    ensures heard { (c : Content) (before : List Entry) (number outsider : ℕ) (after : List Entry)
+        → permitted c ≡ before ++ Heard number outsider ∷ after
+        → number < length (packets_of before) }
+    ensures handed { (c : Content) (before : List Entry) (number : ℕ) (node : NodeId) (after : List Entry)
+        → permitted c ≡ before ++ Handed number node ∷ after
+        → number < length (packets_of before) }
     ensures found { (c : Content) (k : ℕ) → packet_in (permitted c) k ≡ slice_get (packets_of (permitted c)) k }
 {}
 
@@ -139,11 +174,14 @@ pub fn lives_are_restarts()
 /// Each address has one holder: behind the opening claims nobody claims what somebody else holds, a claim in vain
 /// names the holder, and only the holder gives an address up.
 pub fn addresses_have_one_holder()
-    ensures claimed { (c : Content) (before : List Entry) (who : ℕ) (link : LinkId) (address : Address) (after : List Entry) → permitted c ≡ before ++ Claimed who link address ∷ after
+    ensures claimed { (c : Content) (before : List Entry) (who : ℕ) (link : LinkId) (address : Address) (after : List Entry)
+        → permitted c ≡ before ++ Claimed who link address ∷ after
         → length (opening_claims (setup_of c)) ≤ length before → is_free_for (holder_in before address.0) who ≡ true }
-    ensures released { (c : Content) (before : List Entry) (who : ℕ) (link : LinkId) (address : Address) (after : List Entry) → permitted c ≡ before ++ Released who link address ∷ after
+    ensures released { (c : Content) (before : List Entry) (who : ℕ) (link : LinkId) (address : Address) (after : List Entry)
+        → permitted c ≡ before ++ Released who link address ∷ after
         → holder_in before address.0 ≡ Some who }
-    ensures taken { (c : Content) (before : List Entry) (who : ℕ) (link : LinkId) (address : Address) (holder : ℕ) (after : List Entry) → permitted c ≡ before ++ Taken who link address holder ∷ after
+    ensures taken { (c : Content) (before : List Entry) (who : ℕ) (link : LinkId) (address : Address) (holder : ℕ) (after : List Entry)
+        → permitted c ≡ before ++ Taken who link address holder ∷ after
         → holder_in before address.0 ≡ Some holder }
 {}
 
@@ -175,31 +213,40 @@ pub fn repeats_come_after_rounds()
 /// agent, the last one for that home, not yet at its end. The mobile with that home had sent it under its shield, it names
 /// the care-of address, and its sequence came after the one that was kept. RFC 6275 section 10.3.1.
 pub fn registered_was_sent()
-    ensures { (c : Content) (n : ℕ) (home careof : Address) → is_agent_at (setup_of c) n ≡ true → registered_in (setup_of c) (permitted c) n home ≡ Some careof → IsRegistered (setup_of c) (permitted c) n home careof }
+    ensures { (c : Content) (n : ℕ) (home careof : Address) → is_agent_at (setup_of c) n ≡ true
+        → registered_in (setup_of c) (permitted c) n home ≡ Some careof
+        → IsRegistered (setup_of c) (permitted c) n home careof }
 {}
 
 /// The same update stands behind every registration of an agent, and behind every one that it ended. RFC 6275 sections
 /// 10.3.1 and 10.3.2.
 pub fn registrations_have_their_update()
-    ensures { (c : Content) (before : List Entry) (n : ℕ) (home : Address) (b : HomeBinding) (after : List Entry) → permitted c ≡ before ++ registration_entry n home b ∷ after → is_agent_at (setup_of c) n ≡ true
+    ensures { (c : Content) (before : List Entry) (n : ℕ) (home : Address) (b : HomeBinding) (after : List Entry)
+        → permitted c ≡ before ++ registration_entry n home b ∷ after
+        → is_agent_at (setup_of c) n ≡ true
         → IsRegistration (setup_of c) before n home b }
 {}
 
 /// Within an agent's life the registered care-of address of a home changes only by such an update, or by the end of its time.
 pub fn homes_change_by_updates_or_time()
-    ensures { (c : Content) (before : List Entry) (e : Entry) (after : List Entry) (n : ℕ) (home : Address) → permitted c ≡ before ++ e ∷ after → is_agent_at (setup_of c) n ≡ true
+    ensures { (c : Content) (before : List Entry) (e : Entry) (after : List Entry) (n : ℕ) (home : Address)
+        → permitted c ≡ before ++ e ∷ after
+        → is_agent_at (setup_of c) n ≡ true
         → HomeChange (setup_of c) before e n home }
 {}
 
 /// What an agent keeps of a home is what the history says of it: the registered care-of address, and the last sequence.
 pub fn agents_keep_what_was_registered()
-    ensures careof { (s : Setup) (events : List Event) (n : ℕ) (own : Address) (preference life room : ℕ) (serves : List Address) (home : Address) → slice_get s.hosts n ≡ Some (record { address = own; kind = Agent preference life room serves })
+    ensures careof { (s : Setup) (events : List Event) (n : ℕ) (own : Address) (preference life room : ℕ) (serves : List Address) (home : Address)
+        → slice_get s.hosts n ≡ Some (record { address = own; kind = Agent preference life room serves })
         → careof_at (agent_known_in (run_of s events) n serves) (now_in s (run_of s events)) home ≡ registered_in s (run_of s events).past n home }
-    ensures kept { (s : Setup) (events : List Event) (n : ℕ) (own : Address) (preference life room : ℕ) (serves : List Address) (home : Address) → slice_get s.hosts n ≡ Some (record { address = own; kind = Agent preference life room serves })
+    ensures kept { (s : Setup) (events : List Event) (n : ℕ) (own : Address) (preference life room : ℕ) (serves : List Address) (home : Address)
+        → slice_get s.hosts n ≡ Some (record { address = own; kind = Agent preference life room serves })
         → kept_of (agent_known_in (run_of s events) n serves) home ≡ option_map (λ b. b.sequence) (last_registration (run_of s events).past n home) }
 {}
 
 /// A wait leaves nothing that is due: at its end each node has done all its work that was due by then.
 pub fn a_wait_leaves_nothing_due()
-    ensures { (s : Setup) (events : List Event) (ms n : ℕ) → is_due (due_of s (waited s (run_of s events) ms) n) (now_in s (waited s (run_of s events) ms)) ≡ false }
+    ensures { (s : Setup) (events : List Event) (ms n : ℕ)
+        → is_due (due_of s (waited s (run_of s events) ms) n) (now_in s (waited s (run_of s events) ms)) ≡ false }
 {}

@@ -3,10 +3,10 @@
 ghost use Rattle.std.specs.Prelude.{◌≡◌, ◌≤◌, Some, None};
 ghost use Rattle.mip_rules_agent.specs.Verdicts.{is_from, is_near, granted_of, accepted, by_room, by_sequence, is_away, before_claim, by_claim, verdict};
 
-use mip_constants::MAX_HOME_LIFETIME;
 use mip_outside::Claim;
 use mip_reception::{Registration, careof_of, deletes, home_of, registered_of, status};
 use mip_rules_agent::{Bench, HomeVerdict};
+use mip_words::constants::MAX_HOME_LIFETIME;
 use mip_words::{Address, Shield, Why, after};
 
 /// The first row that applies.

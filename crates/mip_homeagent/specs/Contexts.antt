@@ -1,5 +1,5 @@
 -- A packet that is handed over, as the rules see it.
-use Rattle.std.specs.Prelude.{◌≡◌, ◌≤◌, ◌<◌, ◌^◌, ◌-◌, ℕ, List, length, IsTrue}
+use Rattle.std.specs.Prelude.{◌≡◌, ◌≤◌, ◌<◌, ◌^◌, ◌-◌, ℕ, List, length, IsTrue, Option, Result, IfOk}
 use Rattle.mip_ipv6.specs.declared.head.Head.{Head}
 use Rattle.mip_ipv6.specs.declared.packet_ref.PacketRef.{PacketRef}
 use Rattle.mip_ipv6.specs.Packet.{source_of, packet, is_routable_if_any}
@@ -7,7 +7,10 @@ use Rattle.mip_outside.specs.declared.claim.Claim.{Claim}
 use Rattle.mip_outside.specs.Places.{Around, claim_in}
 use Rattle.mip_rules_agent.specs.Rules.{Handing, place_in}
 use Rattle.mip_homeagent.specs.declared.packet_context.PacketContext.{PacketContext}
-use Rattle.mip_homeagent.specs.Showing.{opened}
+use Rattle.mip_rules_agent.specs.Transitions.{Transition}
+use Rattle.mip_entries.specs.declared.answer.Answer.{Answer}
+use Rattle.mip_homeagent.specs.declared.change.Change.{Change}
+use Rattle.mip_homeagent.specs.Showing.{Leads, opened}
 
 abbrev pub handing_at : PacketContext → Claim → Handing
 handing_at d claim = record {
@@ -30,3 +33,7 @@ pub record IsRead (bytes : List ℕ) (p : PacketRef) : Type 0 where
 -- what a place answers to a claim of the home address of a packet
 abbrev pub claim_of : Around → Head → Claim
 claim_of around head = claim_in around (source_of head).0
+
+-- a rule for a packet that is handed over, which gives the registration that it accepts, if it does
+abbrev pub Follows : {E : Type 0} → PacketContext → Result (Option Change) E → (Transition → Transition) → (old new : List Answer) → Type 0
+Follows d result rule old new = IfOk result (λ change. Leads rule d.moment.0 (opened d.moment.0 d.known.now) old new change)

@@ -1,4 +1,4 @@
-ghost use Rattle.std.specs.Prelude.{◌≡◌, ◌≤◌, ◌<◌, ◌^◌, ℕ, List, [], true, IfOk, OnOk, OnErr, IsSomeAnd, slice_get};
+ghost use Rattle.std.specs.Prelude.{◌≡◌, ◌≤◌, ◌<◌, ◌^◌, List, [], true, IfOk, OnOk, OnErr, IsSomeAnd, slice_get};
 ghost use Rattle.std.specs.List.{AllByRecursion, list_any};
 ghost use Rattle.std.specs.Option.{option_map};
 ghost use Rattle.mip_words.specs.Addresses.{is_routable};
@@ -61,7 +61,8 @@ impl HomeAgent {
         serves: &[Address],
     ) -> Result<HomeAgent, Memory>
         requires { AllByRecursion (λ a. is_routable a.0 ≡ true) serves.now }
-        ensures made { IfOk result (λ a. a ≡ record { identity = record { own = own; preference = preference; life = life; room = room }; known = fresh serves.now }) }
+        ensures made { IfOk result (λ a. a ≡
+            record { identity = record { own = own; preference = preference; life = life; room = room }; known = fresh serves.now }) }
         ensures stands { IfOk result (λ a. Stands serves.now [] a.known) }
     {
         let known = AgentState::new(alloc, serves)?;
@@ -178,7 +179,8 @@ impl HomeAgent {
     ) -> HomeVerdict
         requires later { self.now.known.last ≤ now.0 }
         requires update { IsUpdate update.now.message.now }
-        ensures { IsSomeAnd (registration_in update.now.source update.now.home update.now.message.now) (λ r. result ≡ verdict (bench self.now.identity self.now.known now.0 r) shield claim r) }
+        ensures { IsSomeAnd (registration_in update.now.source update.now.home update.now.message.now)
+            (λ r. result ≡ verdict (bench self.now.identity self.now.known now.0 r) shield claim r) }
     {
         let registration = registration_in(update);
         let bench = self.known.bench(&self.identity, now, &registration);
@@ -198,7 +200,8 @@ impl HomeAgent {
         packet: &[u8],
     ) -> Result<Answers, Memory>
         requires ready { IsReady (P.around place.old) now.0 self.old.known }
-        ensures answers { IfOk result (λ a. a ≡ answers_of (transition_at self.old now.0 (calls.Take number shield packet.now (claim_for (P.around place.old) packet.now))).steps) }
+        ensures answers { IfOk result (λ a. a ≡
+            answers_of (transition_at self.old now.0 (calls.Take number shield packet.now (claim_for (P.around place.old) packet.now))).steps) }
         ensures after { OnOk result (self.new ≡ called self.old now.0 (calls.Take number shield packet.now (claim_for (P.around place.old) packet.now))) }
         ensures stands { (serves : List Address) (past : List (Stamped Step)) → Stands serves past self.old.known →
             OnOk result (Stands serves (with_transition past (transition_at self.old now.0 (calls.Take number shield packet.now (claim_for (P.around place.old) packet.now)))) self.new.known) }

@@ -247,7 +247,8 @@ impl AgentState {
         plan: &PrefixPlan,
     ) -> Result<Answers, Memory>
         requires { plan.now.since.0 ≤ now.0 }
-        ensures { IfOk result (λ a. a ≡ answers_told own (left_of plan.now.valid plan.now.since.0 now.0) (left_of plan.now.preferred plan.now.since.0 now.0) (rows_at now.0 self.now.homes)) }
+        ensures { IfOk result (λ a. a ≡
+            answers_told own (left_of plan.now.valid plan.now.since.0 now.0) (left_of plan.now.preferred plan.now.since.0 now.0) (rows_at now.0 self.now.homes)) }
     {
         let (valid, preferred) = plan.left(now);
         prefixes::tell_all(alloc, own, &self.homes, now, valid, preferred)

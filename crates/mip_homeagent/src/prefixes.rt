@@ -23,13 +23,13 @@ use crate::answering::{drop_packet, send};
 use crate::homes::row_of;
 use crate::packet_context::PacketContext;
 use crate::tunnel::shield_to;
-use mip_constants::protocol::ICMPV6;
 use mip_entries::{Answer, Answers};
 use mip_home_verdict::is_from;
 use mip_icmp::{Icmp, IcmpSet, PlainIcmp, PrefixInfo, read_icmp, write_icmp};
 use mip_ipv6::PacketRef;
 use mip_packets::{node_head, write_data_packet};
 use mip_rules_agent::{HomeRow, Served};
+use mip_words::protocol::ICMPV6;
 use mip_words::{Address, Bytes, Memory, Moment, Why};
 use std::alloc::Global;
 
@@ -165,7 +165,8 @@ pub fn take_icmp(
 ) -> Result<(), Memory>
     requires later { context.now.known.now.last ≤ context.now.moment.0 }
     requires short { length packet.now.body.now ≤ 65535 }
-    ensures { (claim : Claim) → Goes result (takes_icmp (handing_at context.now claim) (tree packet.now) (icmp_of (source_of packet.now.head) (destination_of packet.now.head) packet.now.body.now)) answers.old answers.new }
+    ensures { (claim : Claim)
+        → Goes result (takes_icmp (handing_at context.now claim) (tree packet.now) (icmp_of (source_of packet.now.head) (destination_of packet.now.head) packet.now.body.now)) answers.old answers.new }
 {
     let home = packet.head.sender();
     match read_icmp(home, packet.head.receiver(), packet.body) {

@@ -1,18 +1,16 @@
 //! What a home agent does about a packet (RFC 6275 section 10).
 
-ghost use Rattle.std.specs.Prelude.{◌≡◌, ◌≤◌, ◌<◌, ◌^◌, ◌-◌, IfOk, OnOk, OnErr, IsTrue, true, Ok, Some, option_map, length, []};
-ghost use Rattle.std.specs.List.{AllByRecursion};
+ghost use Rattle.std.specs.Prelude.{◌≡◌, ◌≤◌, ◌<◌, ◌-◌, IsTrue, Ok, Some, option_map, length, []};
 ghost use Rattle.mip_ipv6.specs.Packet.{packet as tree, is_routable_if_any};
 ghost use Rattle.mip_ipv6.specs.Reading.{packet_of};
 ghost use Rattle.mip_mobhdr.specs.Said.{said};
 ghost use Rattle.mip_outside.specs.declared.claim.Claim.{Claim};
-ghost use Rattle.mip_words.specs.Numbers.{number_at};
 ghost use Rattle.mip_rules_agent.specs.Calls.{claim_for};
 ghost use Rattle.mip_rules_agent.specs.Questions.{careof_at};
-ghost use Rattle.mip_rules_agent.specs.Rules.{holds_option, standing_of, refuses, by_proto, by_role, after_checks, by_destination, place_in, receives};
-ghost use Rattle.mip_homeagent.specs.Showing.{Goes, Leads, opened};
+ghost use Rattle.mip_rules_agent.specs.Rules.{holds_option, standing_of, refuses, by_proto, by_role, by_destination, receives};
+ghost use Rattle.mip_homeagent.specs.Showing.{Goes, opened};
 ghost use Rattle.mip_homeagent.specs.Changes.{claims_with, ChangesClaims};
-ghost use Rattle.mip_homeagent.specs.Contexts.{handing_at, claim_of, IsRead};
+ghost use Rattle.mip_homeagent.specs.Contexts.{handing_at, claim_of, IsRead, Follows};
 ghost use Rattle.mip_homeagent.specs.Soundness.{IsReady};
 
 use crate::answering::{drop_packet, send};
@@ -21,12 +19,12 @@ use crate::packet_context::PacketContext;
 use crate::prefixes::take_icmp;
 use crate::tunnel::{intercept, is_careof, take_tunnel};
 use crate::update::take_update;
-use mip_constants::protocol::{ICMPV6, IPV6};
 use mip_entries::Answers;
 use mip_ipv6::{Head, PacketRef, read_packet};
 use mip_mobhdr::Message;
 use mip_outside::Place;
 use mip_reception::{AddressMatch, Refusal, check, packet_why, registration_of, write_reply};
+use mip_words::protocol::{ICMPV6, IPV6};
 use mip_words::{Address, Memory, Why, u16_at};
 use std::alloc::Global;
 
@@ -107,7 +105,8 @@ fn take_message<P: Place>(
     requires empty { answers.old ≡ [] }
     ensures place { ChangesClaims result claims_with
         (P.around place.old) (P.around place.new) (P.claims place.old) (P.claims place.new) (P.is_same place.old place.new) }
-    ensures shows { IfOk result (λ change. Leads (by_role (handing_at context.now (claim_of (P.around place.old) packet.now.head)) (tree packet.now) (Some (said message.now))) context.now.moment.0 (opened context.now.moment.0 context.now.known.now) answers.old answers.new change) }
+    ensures shows { Follows context.now result
+        (by_role (handing_at context.now (claim_of (P.around place.old) packet.now.head)) (tree packet.now) (Some (said message.now))) answers.old answers.new }
 {
     match registration_of(packet.head.source, packet.head.home, message) {
         Some(registration) => take_update(alloc, answers, context, place, &registration),
@@ -133,7 +132,8 @@ fn answer_role<P: Place>(
     requires empty { answers.old ≡ [] }
     ensures place { ChangesClaims result claims_with
         (P.around place.old) (P.around place.new) (P.claims place.old) (P.claims place.new) (P.is_same place.old place.new) }
-    ensures shows { IfOk result (λ change. Leads (by_role (handing_at context.now (claim_of (P.around place.old) packet.now.head)) (tree packet.now) (option_map said message.now)) context.now.moment.0 (opened context.now.moment.0 context.now.known.now) answers.old answers.new change) }
+    ensures shows { Follows context.now result
+        (by_role (handing_at context.now (claim_of (P.around place.old) packet.now.head)) (tree packet.now) (option_map said message.now)) answers.old answers.new }
 {
     match message {
         Some(message) => take_message(alloc, answers, context, place, packet, message),
@@ -157,7 +157,8 @@ fn take_own<P: Place>(
     requires empty { answers.old ≡ [] }
     ensures place { ChangesClaims result claims_with
         (P.around place.old) (P.around place.new) (P.claims place.old) (P.claims place.new) (P.is_same place.old place.new) }
-    ensures shows { IfOk result (λ change. Leads (by_destination (handing_at context.now (claim_of (P.around place.old) packet.now.head)) (tree packet.now) None) context.now.moment.0 (opened context.now.moment.0 context.now.known.now) answers.old answers.new change) }
+    ensures shows { Follows context.now result
+        (by_destination (handing_at context.now (claim_of (P.around place.old) packet.now.head)) (tree packet.now) None) answers.old answers.new }
 {
     match check(packet, standing(context, &packet.head)) {
         Err(refusal) => {
@@ -182,7 +183,8 @@ fn take_packet<P: Place>(
     requires empty { answers.old ≡ [] }
     ensures place { ChangesClaims result claims_with
         (P.around place.old) (P.around place.new) (P.claims place.old) (P.claims place.new) (P.is_same place.old place.new) }
-    ensures shows { IfOk result (λ change. Leads (by_destination (handing_at context.now (claim_of (P.around place.old) packet.now.head)) (tree packet.now) (careof_at context.now.known.now context.now.moment.0 packet.now.head.destination)) context.now.moment.0 (opened context.now.moment.0 context.now.known.now) answers.old answers.new change) }
+    ensures shows { Follows context.now result (by_destination (handing_at context.now (claim_of (P.around place.old) packet.now.head))
+        (tree packet.now) (careof_at context.now.known.now context.now.moment.0 packet.now.head.destination)) answers.old answers.new }
 {
     let head = packet.head;
     match context.known.careof(context.moment, head.destination) {
@@ -212,7 +214,8 @@ pub fn receive<P: Place>(
     requires empty { answers.old ≡ [] }
     ensures place { ChangesClaims result claims_with
         (P.around place.old) (P.around place.new) (P.claims place.old) (P.claims place.new) (P.is_same place.old place.new) }
-    ensures shows { IfOk result (λ change. Leads (receives (handing_at context.now (claim_for (P.around place.old) context.now.bytes.now)) (packet_of context.now.bytes.now)) context.now.moment.0 (opened context.now.moment.0 context.now.known.now) answers.old answers.new change) }
+    ensures shows { Follows context.now result
+        (receives (handing_at context.now (claim_for (P.around place.old) context.now.bytes.now)) (packet_of context.now.bytes.now)) answers.old answers.new }
 {
     match read_packet(context.bytes) {
         Err(fault) => {

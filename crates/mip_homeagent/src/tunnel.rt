@@ -1,6 +1,6 @@
 //! What goes into tunnels, and what comes out of them (RFC 6275 sections 10.4.1, 10.4.2 and 10.4.5).
 
-ghost use Rattle.std.specs.Prelude.{◌≡◌, ◌≤◌, length, OnOk, IfOk};
+ghost use Rattle.std.specs.Prelude.{◌≡◌, ◌≤◌, length};
 ghost use Rattle.mip_outside.specs.declared.claim.Claim.{Claim};
 ghost use Rattle.mip_ipv6.specs.Packet.{packet as tree};
 ghost use Rattle.mip_rules_agent.specs.Messages.{shield_to};
@@ -11,11 +11,11 @@ ghost use Rattle.mip_homeagent.specs.Contexts.{handing_at};
 use crate::agent_state::AgentState;
 use crate::answering::{drop_packet, send};
 use crate::packet_context::PacketContext;
-use mip_constants::protocol::MOBILITY_HEADER;
 use mip_entries::Answers;
 use mip_home_verdict::is_from;
 use mip_ipv6::{EntryFault, PacketRef, encapsulate, read_packet};
 use mip_reception::packet_why;
+use mip_words::protocol::MOBILITY_HEADER;
 use mip_words::{Address, Bytes, Memory, Moment, Shield, Why};
 use std::alloc::Global;
 

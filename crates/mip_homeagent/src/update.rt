@@ -1,6 +1,6 @@
 //! What a home agent does about a Binding Update (RFC 6275 sections 10.3.1 and 10.3.2).
 
-ghost use Rattle.std.specs.Prelude.{◌≡◌, ◌≤◌, ◌<◌, ◌^◌, ◌++◌, IfOk, OnOk, OnErr, IsTrue, Bool, true, false, [], Some, None};
+ghost use Rattle.std.specs.Prelude.{◌≡◌, ◌≤◌, ◌<◌, ◌^◌, ◌++◌, IfOk, OnOk, IsTrue, Bool, true, false, [], Some, None};
 ghost use Rattle.std.specs.Option.{option_map};
 ghost use Rattle.mip_ipv6.specs.Packet.{is_routable_if_any};
 ghost use Rattle.mip_outside.specs.Places.{claim_in, is_held};
@@ -11,7 +11,7 @@ ghost use Rattle.mip_rules_agent.specs.Verdicts.{binding_for, by_claim};
 ghost use Rattle.mip_rules_agent.specs.Rules.{acknowledges, denies, answers_if, accepts, claim_with, judged, takes_update};
 ghost use Rattle.mip_homeagent.specs.Showing.{Goes, Leads, opened};
 ghost use Rattle.mip_homeagent.specs.Changes.{claims_held, claims_with, ChangesClaims, holding_of, holding_by, claim_part, release_part, IsOfHome, answers_change};
-ghost use Rattle.mip_homeagent.specs.Contexts.{handing_at};
+ghost use Rattle.mip_homeagent.specs.Contexts.{handing_at, Follows};
 
 use crate::answering::{
     drop_packet, note_claim, note_denial, note_registration, note_release, send,
@@ -20,12 +20,12 @@ use crate::change::Change;
 use crate::judging::holding_by;
 use crate::packet_context::PacketContext;
 use crate::tunnel::shield_to;
-use mip_constants::LIFETIME_UNIT;
 use mip_entries::Answers;
 use mip_home_verdict::{before_claim, by_claim};
 use mip_outside::{Claim, Place};
 use mip_reception::{Registration, home_of, status, write_ack};
 use mip_rules_agent::{Bench, HomeBinding, HomeVerdict, Identity};
+use mip_words::constants::LIFETIME_UNIT;
 use mip_words::{Address, Memory, Moment};
 use std::alloc::Global;
 
@@ -141,7 +141,9 @@ fn accept(
 ) -> Result<Change, Memory>
     requires { IsTrue (is_routable_if_any registration.now.home_option) }
     ensures claims { IfOk result (λ change. claims_with (Some change) ≡ claims_held holding home) }
-    ensures shows { (claim : Claim) (held : Bool) → holding ≡ holding_of held (deletes registration.now) → IfOk result (λ change. Leads (accepts (handing_at context.now claim) registration.now held home binding granted) context.now.moment.0 (opened context.now.moment.0 context.now.known.now) answers.old answers.new (Some change)) }
+    ensures shows { (claim : Claim) (held : Bool) → holding ≡ holding_of held (deletes registration.now)
+        → IfOk result (λ change. Leads (accepts (handing_at context.now claim) registration.now held home binding granted)
+        context.now.moment.0 (opened context.now.moment.0 context.now.known.now) answers.old answers.new (Some change)) }
 {
     note_change(answers, home, &binding, holding)?;
     answer_if(alloc, answers, context.identity, registration, granted)?;
@@ -167,7 +169,7 @@ fn carry_out(
     requires plain { IsTrue (is_routable_if_any registration.now.home_option) }
     requires home { IsOfHome registration.now verdict }
     ensures claims { IfOk result (λ change. claims_with change ≡ claims_held (holding_by held registration.now verdict) (home_of registration.now)) }
-    ensures shows { (claim : Claim) → IfOk result (λ change. Leads (judged (handing_at context.now claim) registration.now held verdict) context.now.moment.0 (opened context.now.moment.0 context.now.known.now) answers.old answers.new change) }
+    ensures shows { (claim : Claim) → Follows context.now result (judged (handing_at context.now claim) registration.now held verdict) answers.old answers.new }
 {
     match verdict {
         HomeVerdict::Refuse(why) => {
@@ -229,7 +231,7 @@ fn conclude<P: Place>(
     requires unclaimed { claim_part (holding_by held registration.now verdict) ≡ None }
     ensures place { ChangesClaims result claims_with
         (P.around place.old) (P.around place.new) (P.claims place.old) (P.claims place.new) (P.is_same place.old place.new) }
-    ensures shows { (claim : Claim) → IfOk result (λ change. Leads (judged (handing_at context.now claim) registration.now held verdict) context.now.moment.0 (opened context.now.moment.0 context.now.known.now) answers.old answers.new change) }
+    ensures shows { (claim : Claim) → Follows context.now result (judged (handing_at context.now claim) registration.now held verdict) answers.old answers.new }
 {
     let holding = holding_by(held, registration, &verdict);
     let change = carry_out(alloc, answers, context, registration, held, verdict)?;
@@ -258,8 +260,10 @@ fn deny_claim(
 ) -> Result<Option<Change>, Memory>
     requires early { context.now.moment.0 < 2 ^ 62 }
     requires plain { IsTrue (is_routable_if_any registration.now.home_option) }
-    ensures claims { IfOk result (λ change. claims_with change ≡ claims_held (holding_by false registration.now (by_claim bench.now registration.now claim)) (home_of registration.now)) }
-    ensures shows { (asked : Claim) → IfOk result (λ change. Leads (judged (handing_at context.now asked) registration.now false (by_claim bench.now registration.now claim)) context.now.moment.0 (opened context.now.moment.0 context.now.known.now) [] answers.new change) }
+    ensures claims { IfOk result (λ change. claims_with change ≡
+        claims_held (holding_by false registration.now (by_claim bench.now registration.now claim)) (home_of registration.now)) }
+    ensures shows { (asked : Claim)
+        → Follows context.now result (judged (handing_at context.now asked) registration.now false (by_claim bench.now registration.now claim)) [] answers.new }
 {
     *answers = Answers::new(alloc)?;
     let denied = by_claim(bench, registration, claim);
@@ -283,7 +287,9 @@ fn claim_home<P: Place>(
     requires empty { answers.old ≡ [] }
     ensures place { ChangesClaims result claims_with
         (P.around place.old) (P.around place.new) (P.claims place.old) (P.claims place.new) (P.is_same place.old place.new) }
-    ensures shows { (claim : Claim) → IfOk result (λ change. Leads (judged (handing_at context.now claim) registration.now false (by_claim bench.now registration.now (claim_in (P.around place.old) (home_of registration.now).0))) context.now.moment.0 (opened context.now.moment.0 context.now.known.now) answers.old answers.new change) }
+    ensures shows { (claim : Claim)
+        → Follows context.now result
+        (judged (handing_at context.now claim) registration.now false (by_claim bench.now registration.now (claim_in (P.around place.old) (home_of registration.now).0))) answers.old answers.new }
 {
     let accepted = by_claim(bench, registration, Claim::Held);
     let change = carry_out(alloc, answers, context, registration, false, accepted)?;
@@ -313,7 +319,9 @@ fn take_claim<P: Place>(
     requires empty { answers.old ≡ [] }
     ensures place { ChangesClaims result claims_with
         (P.around place.old) (P.around place.new) (P.claims place.old) (P.claims place.new) (P.is_same place.old place.new) }
-    ensures shows { (claim : Claim) → IfOk result (λ change. Leads (judged (handing_at context.now claim) registration.now held (by_claim bench.now registration.now (claim_with held (claim_in (P.around place.old) (home_of registration.now).0)))) context.now.moment.0 (opened context.now.moment.0 context.now.known.now) answers.old answers.new change) }
+    ensures shows { (claim : Claim)
+        → Follows context.now result
+        (judged (handing_at context.now claim) registration.now held (by_claim bench.now registration.now (claim_with held (claim_in (P.around place.old) (home_of registration.now).0)))) answers.old answers.new }
 {
     if held {
         let verdict = by_claim(bench, registration, Claim::Held);
@@ -338,7 +346,8 @@ pub fn take_update<P: Place>(
     requires empty { answers.old ≡ [] }
     ensures place { ChangesClaims result claims_with
         (P.around place.old) (P.around place.new) (P.claims place.old) (P.claims place.new) (P.is_same place.old place.new) }
-    ensures shows { IfOk result (λ change. Leads (takes_update (handing_at context.now (claim_in (P.around place.old) (home_of registration.now).0)) registration.now) context.now.moment.0 (opened context.now.moment.0 context.now.known.now) answers.old answers.new change) }
+    ensures shows { Follows context.now result
+        (takes_update (handing_at context.now (claim_in (P.around place.old) (home_of registration.now).0)) registration.now) answers.old answers.new }
 {
     let held = context.known.holds(home_of(registration));
     let bench = context

@@ -4,10 +4,10 @@ ghost use Rattle.std.specs.Prelude.{◌≡◌, ◌≤◌, ◌∷◌, length, IfO
 ghost use Rattle.mip_icmp.specs.Spelling.{icmp_bytes};
 ghost use Rattle.mip_hub.specs.Adverts.{router, all_nodes, router_head, prefix_info, router_said, advert_packet};
 
-use mip_constants::protocol::ICMPV6;
 use mip_icmp::{IcmpSet, PlainIcmp, PrefixInfo, write_icmp};
 use mip_ipv6::Head;
 use mip_packets::write_data_packet;
+use mip_words::protocol::ICMPV6;
 use mip_words::{Address, Bytes, Memory, Prefix};
 use std::alloc::Global;
 

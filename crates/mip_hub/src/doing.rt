@@ -1,6 +1,6 @@
 //! The lines of a turn.
 
-ghost use Rattle.std.specs.Prelude.{◌≡◌, ◌≤◌, ◌∷◌, [], IfOk, OnOk, IsErrOf};
+ghost use Rattle.std.specs.Prelude.{◌≡◌, ◌≤◌, ◌∷◌, IfOk, OnOk, IsErrOf};
 ghost use Rattle.mip_outside.specs.Cause.{Rose};
 ghost use Rattle.mip_hub.specs.Adverts.{advert_packet};
 ghost use Rattle.mip_hub.specs.Calls.{Goes};

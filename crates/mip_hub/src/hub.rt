@@ -1,6 +1,4 @@
-ghost use Rattle.std.specs.Prelude.{◌≡◌, ◌++◌, ◌∷◌, [], codes, decimal, OnOk};
-ghost use Rattle.mip_lines.specs.HexFields.{address_hex, number_hex};
-ghost use Rattle.mip_lines.specs.Lines.{line_text};
+ghost use Rattle.std.specs.Prelude.{◌≡◌};
 ghost use Rattle.mip_hub.specs.Turns.{fresh, begun};
 
 use crate::ports::Ports;

@@ -1,12 +1,9 @@
 //! Laws of what becomes of a datagram. The function does nothing: what it ensures is the law.
 
-ghost use Rattle.std.specs.Prelude.{◌≡◌, ℕ, List, [], ◌⊎◌, replicate, Some, Ok};
+ghost use Rattle.std.specs.Prelude.{◌≡◌, ℕ, List, [], ◌⊎◌, replicate};
 ghost use Rattle.mip_ipv6.specs.Packet as packets;
-ghost use Rattle.mip_ipv6.specs.Reading.{packet_of};
 ghost use Rattle.mip_frames.specs.Framing as framing;
-ghost use Rattle.mip_frames.specs.Framing.{frame_of};
 ghost use Rattle.mip_hub.specs.Passing.{sent_for, HasPort};
-ghost use Rattle.mip_hub.specs.Ports.{port_at};
 ghost use Rattle.mip_hub.specs.declared.port_row.PortRow as rows;
 
 /// A law: a datagram that is a frame whose packet is none that is refused, and whose destination is at a port, goes to that port as

@@ -1,6 +1,6 @@
 //! A datagram is passed on.
 
-ghost use Rattle.std.specs.Prelude.{◌≡◌, ◌≤◌, ◌++◌, ◌∷◌, [], IfOk, OnOk, IsErrOf, replicate};
+ghost use Rattle.std.specs.Prelude.{◌≡◌, ◌≤◌, ◌++◌, IfOk, OnOk, IsErrOf, replicate};
 ghost use Rattle.std.specs.List.{flat_map};
 ghost use Rattle.mip_outside.specs.Cause.{Rose};
 ghost use Rattle.mip_hub.specs.Calls.{Goes};

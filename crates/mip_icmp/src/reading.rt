@@ -1,4 +1,4 @@
-ghost use Rattle.std.specs.Prelude.{◌≡◌, ◌≤◌, length, slice_index, Ok, IfOk};
+ghost use Rattle.std.specs.Prelude.{◌≡◌, ◌≤◌, length, Ok, IfOk};
 ghost use Rattle.mip_words.specs.Steps.{Gives};
 ghost use Rattle.mip_icmp.specs.Said.{Said, said, HasSpan};
 ghost use Rattle.mip_icmp.specs.Fields.{least_size, is_known};

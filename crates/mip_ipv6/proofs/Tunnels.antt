@@ -1,7 +1,7 @@
 -- What is known of lowering a hop limit, and of tunnel packets.
-use Rattle.std.proofs.Common.{◌≡◌, ℕ, ◌+◌, ◌-◌, ◌/◌, ◌%◌, ◌^◌, ◌<◌, ◌≤◌, List, [], ◌∷◌, ◌++◌, length, take, drop, set, get_or, refl, sym, ap, ◌∙◌, subst, inl, inr, arith, length-set}
+use Rattle.std.proofs.Common.{◌≡◌, ℕ, ◌+◌, ◌-◌, ◌/◌, ◌%◌, ◌^◌, ◌<◌, ◌≤◌, List, length, drop, refl, sym, ap, ◌∙◌, subst, inl, inr, arith, length-set}
 use Rattle.std.specs.Prelude.{Bool, true, false, slice_index, Option, None, Result, Ok, Err, cond, IsOk}
-use Rattle.std.proofs.lemmas.List.{append_assoc, drop-drop, drop-set-lt, take-set-le, set_split, get_or-take, get_or-drop, get_or-set_same, get_or-set_other}
+use Rattle.std.proofs.lemmas.List.{drop-set-lt, take-set-le, get_or-set_same, get_or-set_other}
 use Rattle.std.proofs.lemmas.Bool.{cases_lt, cond-true, cond-false, lt-ltb, eq-eqb, not_from_true}
 use Rattle.mip_words.specs.Numbers.{number_at}
 use Rattle.mip_words.specs.Addresses.{address_at}

@@ -1,6 +1,6 @@
 //! The Destination Options header and its Home Address option.
 
-ghost use Rattle.std.specs.Prelude.{◌≡◌, ◌≤◌, ◌<◌, ◌+◌, length, slice_index, IfOk, None};
+ghost use Rattle.std.specs.Prelude.{◌≤◌, ◌<◌, ◌+◌, length, slice_index, IfOk, None};
 ghost use Rattle.mip_words.specs.Steps.{Gives};
 ghost use Rattle.mip_ipv6.specs.Reading.{walk, home_option, option_at, options_after, options_header};
 

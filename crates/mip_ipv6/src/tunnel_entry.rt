@@ -1,7 +1,7 @@
-ghost use Rattle.std.specs.Prelude.{◌≡◌, ◌<◌, ◌≤◌, ◌↔◌, length, IsOk, IfOk, Ok, Err};
+ghost use Rattle.std.specs.Prelude.{◌≡◌, ◌<◌, ◌≤◌, ◌↔◌, length, IfOk, Ok, Err};
 ghost use Rattle.mip_ipv6.specs.Packet.{Packet};
 ghost use Rattle.mip_ipv6.specs.Reading.{packet_of};
-ghost use Rattle.mip_ipv6.specs.Tunnel.{hop_of, lowered, lowered_packet, outer_head, tunnel_packet, encapsulated, opened};
+ghost use Rattle.mip_ipv6.specs.Tunnel.{hop_of, lowered_packet, outer_head, tunnel_packet, encapsulated, opened};
 
 use crate::entry_fault::EntryFault;
 use crate::head::Head;

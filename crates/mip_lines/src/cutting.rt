@@ -1,6 +1,6 @@
 //! Texts cut at a byte.
 
-ghost use Rattle.std.specs.Prelude.{◌≡◌, ◌==◌, ◌+◌, ◌<◌, ◌≤◌, List, [], ◌∷◌, length, MatchOption, IfSome, IfOk};
+ghost use Rattle.std.specs.Prelude.{◌≡◌, ◌==◌, ◌+◌, ◌<◌, ◌≤◌, [], ◌∷◌, length, MatchOption, IfSome, IfOk};
 ghost use Rattle.std.specs.List.{count_by, position};
 ghost use Rattle.mip_lines.specs.Cutting.{parts, fields_of, texts};
 

@@ -1,5 +1,5 @@
 -- Bytes that are appended leave the packets that were posted before.
-use Rattle.std.proofs.Common.{◌≡◌, ℕ, suc, ◌+◌, ◌-◌, ◌≤◌, List, [], ◌∷◌, ◌++◌, length, take, drop, map, refl, sym, ap, ◌∙◌, arith, length-append, length-drop}
+use Rattle.std.proofs.Common.{◌≡◌, ℕ, suc, ◌+◌, ◌-◌, ◌≤◌, List, [], ◌∷◌, ◌++◌, length, take, drop, map, refl, ap, ◌∙◌, arith, length-append, length-drop}
 use Rattle.std.proofs.lemmas.List.{map-append, take_all}
 use lib.Seq.{take-append-le, drop-append-le, drop-append_seam}
 use Rattle.std.specs.Prelude.{slice_range, Option, Result, Ok, Err, OnErr}

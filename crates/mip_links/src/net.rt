@@ -1,4 +1,4 @@
-ghost use Rattle.std.specs.Prelude.{◌≡◌, ◌≢◌, ◌==◌, ◌&&◌, ℕ, ◌<◌, ◌≤◌, length, map, replicate, false, true, not, if◌then◌else◌, None, Some, Ok, Err, is_some, IfOk, IfSome, OnOk, OnErr, option_map, slice_get, slice_index_or};
+ghost use Rattle.std.specs.Prelude.{◌≡◌, ◌≢◌, ◌==◌, ◌&&◌, ℕ, ◌<◌, ◌≤◌, length, map, replicate, false, true, not, if◌then◌else◌, None, Some, Ok, Err, IfOk, IfSome, OnOk, OnErr, option_map, slice_get, slice_index_or};
 ghost use Rattle.mip_links.specs.Kept.{post_of};
 ghost use Rattle.mip_words.specs.Holders.{holder_at, holder_number};
 ghost use Rattle.mip_links.specs.declared.claim_fault.ClaimFault.TheVariants.{Taken};

@@ -1,6 +1,6 @@
 //! What a mobile asks of its place (RFC 6275 sections 11.5.1 to 11.5.5).
 
-ghost use Rattle.std.specs.Prelude.{◌≡◌, true, if◌then◌else◌};
+ghost use Rattle.std.specs.Prelude.{◌≡◌, true};
 ghost use Rattle.std.specs.Option.{option_map};
 ghost use Rattle.mip_outside.specs.declared.claim.Claim.{Claim};
 ghost use Rattle.mip_outside.specs.Places.{claim_in, is_held};

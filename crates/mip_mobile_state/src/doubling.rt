@@ -3,7 +3,7 @@
 ghost use Rattle.std.specs.Prelude.{◌≡◌, ◌<◌, ◌^◌};
 ghost use Rattle.mip_rules_mobile.specs.Timing.{doubled};
 
-use mip_constants::{INITIAL_BINDACK_TIMEOUT, MAX_BINDACK_TIMEOUT};
+use mip_words::constants::{INITIAL_BINDACK_TIMEOUT, MAX_BINDACK_TIMEOUT};
 
 /// The time after this one: twice as long, from the first one to the longest.
 pub fn doubled(wait: u64) -> u64

@@ -91,7 +91,8 @@ impl MobileState {
     /// What a new life of a mobile begins with: it has its home address, its declared agent, its numbers and where it stands from
     /// the last.
     pub fn again(&self, alloc: Global, secrets: Secrets) -> Result<MobileState, Memory>
-        ensures known { IfOk result (λ k. seen k ≡ record (fresh self.now.home self.now.declared self.now.part.known.cache.numbers secrets) { last = self.now.last; standing = self.now.standing }) }
+        ensures known { IfOk result (λ k. seen k ≡
+            record (fresh self.now.home self.now.declared self.now.part.known.cache.numbers secrets) { last = self.now.last; standing = self.now.standing }) }
         ensures home { IfOk result (λ k. k.home ≡ self.now.home) }
     {
         let mut kept = MobileState::new(

@@ -4,6 +4,7 @@ ghost use Rattle.std.specs.Prelude.{◌≡◌, true, Some};
 ghost use Rattle.mip_bulist.specs.Rows.{lifted, with_trial, takes_at, peer_of_any};
 ghost use Rattle.mip_bulist.specs.Trials.{updated, made_again, making_of};
 ghost use Rattle.mip_words.specs.declared.moment.Moment.{Moment};
+ghost use Rattle.mip_rules_mobile.specs.PeerRules.{test_at};
 ghost use Rattle.mip_rules_mobile.specs.Trials.{Start, HomeTest, CareofTest, Make, Resequence, Acknowledge, Rest, changed, with_change, after_probe, after_update, after_again, after_end, makes};
 ghost use Rattle.mip_mobile_state.specs.Mine.{IsMine};
 
@@ -104,7 +105,7 @@ fn after_probe(probe: Result<Probe, (Trial<Probing>, Refused)>) -> Any
 /// The trial is given a Home Test.
 #[tactic(auto, unfolding(mip_rules_mobile::specs::Trials::changed))]
 fn home_tested(any: Any, now: Moment, test: &Heard) -> Any
-    ensures { result ≡ changed now (HomeTest test.now.peer test.now.cookie (record { index = test.now.index; token = test.now.token; at = now })) any }
+    ensures { result ≡ changed now (HomeTest test.now.peer test.now.cookie (test_at now.0 test.now.index test.now.token.0)) any }
 {
     match any {
         Any::Probing(trial) => after_probe(trial.home_test(
@@ -121,7 +122,7 @@ fn home_tested(any: Any, now: Moment, test: &Heard) -> Any
 /// The trial is given a Care-of Test.
 #[tactic(auto, unfolding(mip_rules_mobile::specs::Trials::changed))]
 fn careof_tested(any: Any, now: Moment, test: &Heard) -> Any
-    ensures { result ≡ changed now (CareofTest test.now.peer test.now.cookie (record { index = test.now.index; token = test.now.token; at = now })) any }
+    ensures { result ≡ changed now (CareofTest test.now.peer test.now.cookie (test_at now.0 test.now.index test.now.token.0)) any }
 {
     match any {
         Any::Probing(trial) => after_probe(trial.careof_test(
@@ -185,7 +186,8 @@ pub fn start(list: &mut List, row: u8, now: Moment, aim: Aim, home: Cookie, care
 /// The trial of a row is given a Home Test.
 pub fn keep_home_test(list: &mut List, row: u8, now: Moment, test: &Heard)
     requires { IsMine list.old.rows row }
-    ensures { list.new ≡ record list.old { rows = with_change row now (HomeTest test.now.peer test.now.cookie (record { index = test.now.index; token = test.now.token; at = now })) list.old.rows } }
+    ensures { list.new ≡
+        record list.old { rows = with_change row now (HomeTest test.now.peer test.now.cookie (test_at now.0 test.now.index test.now.token.0)) list.old.rows } }
 {
     match list.lift(row) {
         Some(any) => lay(list, row, home_tested(any, now, test)),
@@ -196,7 +198,8 @@ pub fn keep_home_test(list: &mut List, row: u8, now: Moment, test: &Heard)
 /// The trial of a row is given a Care-of Test.
 pub fn keep_careof_test(list: &mut List, row: u8, now: Moment, test: &Heard)
     requires { IsMine list.old.rows row }
-    ensures { list.new ≡ record list.old { rows = with_change row now (CareofTest test.now.peer test.now.cookie (record { index = test.now.index; token = test.now.token; at = now })) list.old.rows } }
+    ensures { list.new ≡
+        record list.old { rows = with_change row now (CareofTest test.now.peer test.now.cookie (test_at now.0 test.now.index test.now.token.0)) list.old.rows } }
 {
     match list.lift(row) {
         Some(any) => lay(list, row, careof_tested(any, now, test)),

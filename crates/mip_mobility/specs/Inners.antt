@@ -1,6 +1,6 @@
 -- Why a packet from a tunnel is dropped before the checks. RFC 6275 section 11.3.3
 use Rattle.std.specs.Prelude.{not, ◌&&◌, ◌==◌, if◌then◌else◌, Option, Some, None, is_some, is_none}
-use Rattle.mip_constants.specs.Protocols.{ipv6, mobility_header}
+use Rattle.mip_words.specs.Protocols.{ipv6, mobility_header}
 use Rattle.mip_words.specs.declared.address.Address.{Address}
 use Rattle.mip_words.specs.declared.shield.Shield.{Shield}
 use Rattle.mip_words.specs.declared.why.Why.{Why}

@@ -9,12 +9,12 @@ ghost use Rattle.mip_registration.specs.Seen.{Shows};
 use crate::ack::Ack;
 use crate::handed::Handed;
 use mip_bulist::{HomeTimer, Work};
-use mip_constants::LIFETIME_UNIT;
 use mip_reception::status::SEQUENCE_OUT_OF_WINDOW;
 use mip_registration::call_context::CallContext;
 use mip_registration::{catch_up, turn_away};
 use mip_routability::{REFRESH_UNIT, start_deletions, start_unbound};
 use mip_rules_mobile::{Attachment, HomeUpdate};
+use mip_words::constants::LIFETIME_UNIT;
 use mip_words::{Address, Memory, Moment};
 use std::alloc::Global;
 
@@ -139,7 +139,8 @@ pub fn take_home_ack(
     ack: &Ack,
 ) -> Result<(), Memory>
     requires { update.now.at.0 < 2 ^ 62 }
-    ensures { (t : Transition) → Shows context.old t → OnOk result (Shows context.new (takes_home_ack update.now ack.now.status ack.now.sequence ack.now.lifetime t)) }
+    ensures { (t : Transition) → Shows context.old t
+        → OnOk result (Shows context.new (takes_home_ack update.now ack.now.status ack.now.sequence ack.now.lifetime t)) }
 {
     if accepts(ack.status) {
         return accepted(alloc, context, update, ack.status, ack.lifetime);

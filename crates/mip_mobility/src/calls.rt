@@ -1,6 +1,6 @@
 //! One rule for each call.
 
-ghost use Rattle.std.specs.Prelude.{◌≡◌, ◌≤◌, OnOk, IsTrue, IsFalse, length};
+ghost use Rattle.std.specs.Prelude.{◌≤◌, OnOk, IsTrue, IsFalse, length};
 ghost use Rattle.mip_ipv6.specs.Packet.{names_no_body};
 ghost use Rattle.mip_rules_correspondent.specs.Rules.{is_data};
 ghost use Rattle.mip_rules_mobile.specs.Calls as calls;

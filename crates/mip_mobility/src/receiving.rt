@@ -1,7 +1,6 @@
 //! What a mobile does about a packet that it is handed (RFC 6275 sections 9.2, 9.3.1 and 11.3.3).
 
 ghost use Rattle.std.specs.Prelude.{◌≡◌, ◌≤◌, ◌<◌, ◌-◌, ◌^◌, List, ℕ, length, OnOk, IsTrue, false, Ok, option_map};
-ghost use Rattle.mip_words.specs.Numbers.{number_at};
 ghost use Rattle.mip_ipv6.specs.Packet.{packet as tree, is_routable_if_any};
 ghost use Rattle.mip_mobhdr.specs.Said.{said};
 ghost use Rattle.mip_packets.specs.Says.{message_in};
@@ -14,12 +13,12 @@ ghost use Rattle.mip_registration.specs.Seen.{Shows};
 use crate::handed::Handed;
 use crate::roles::take_role;
 use crate::tunnelled::{open, refuse};
-use mip_constants::protocol::IPV6;
 use mip_ipv6::{Head, PacketRef, read_packet};
 use mip_mobhdr::Message;
 use mip_reception::{AddressMatch, check, packet_why};
 use mip_registration::call_context::CallContext;
 use mip_rules_mobile::Attachment;
+use mip_words::protocol::IPV6;
 use mip_words::{Address, Memory, u16_at};
 use std::alloc::Global;
 
@@ -79,7 +78,8 @@ fn take_passed(
     requires short { length packet.now.body.now ≤ 65535 }
     requires read { message_in (tree packet.now) ≡ option_map said message.now }
     requires straight { handed.now.tunnelled ≡ false }
-    ensures { (bytes : List ℕ) (t : Transition) → Shows context.old t → OnOk result (Shows context.new (after_checks handed.now.number handed.now.shield bytes (tree packet.now) (Ok (option_map said message.now)) t)) }
+    ensures { (bytes : List ℕ) (t : Transition) → Shows context.old t
+        → OnOk result (Shows context.new (after_checks handed.now.number handed.now.shield bytes (tree packet.now) (Ok (option_map said message.now)) t)) }
 {
     if packet.head.proto == IPV6 {
         open(alloc, context, handed, packet)

@@ -129,7 +129,9 @@ fn is_due(context: &CallContext) -> bool
 
 /// The first work is done, which is due.
 fn ring_first(alloc: Global, context: &mut CallContext) -> Result<(), Memory>
-    ensures { (work : Work) (t : Transition) → due_work (moment context.old.moment) context.old.known.list.timers ≡ Some work → Shows context.old t → OnOk result (Shows context.new (rings work t)) }
+    ensures { (work : Work) (t : Transition)
+        → due_work (moment context.old.moment) context.old.known.list.timers ≡ Some work → Shows context.old t
+        → OnOk result (Shows context.new (rings work t)) }
 {
     match context.ring() {
         Some(work) => do_work(alloc, context, work),

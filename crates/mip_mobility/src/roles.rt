@@ -14,7 +14,6 @@ use crate::ack::Ack;
 use crate::acknowledged::{answered, take_home_ack};
 use crate::handed::Handed;
 use crate::icmp::take_icmp;
-use mip_constants::protocol::{ICMPV6, NO_NEXT_HEADER};
 use mip_ipv6::PacketRef;
 use mip_mobhdr::{Message, Options};
 use mip_registration::call_context::correspondent::is_for_part;
@@ -22,6 +21,7 @@ use mip_registration::call_context::{CallContext, Heard, ask_part};
 use mip_routability::{
     PeerAck, meet, take_ack_of, take_careof_test, take_error, take_home_test, take_refresh,
 };
+use mip_words::protocol::{ICMPV6, NO_NEXT_HEADER};
 use mip_words::{Address, Cookie, Memory, Token, Why};
 use std::alloc::Global;
 
@@ -52,7 +52,8 @@ fn take_for_part(
 ) -> Result<(), Memory>
     requires kind { IsTrue (is_for_part packet.now.head.proto (message_in (tree packet.now))) }
     requires plain { IsTrue (is_routable_if_any packet.now.head.home) }
-    ensures { (t : Transition) → Shows context.old t → OnOk result (Shows context.new (takes_for_part handed.now.number handed.now.tunnelled (tree packet.now) (option_map said message.now) t)) }
+    ensures { (t : Transition) → Shows context.old t
+        → OnOk result (Shows context.new (takes_for_part handed.now.number handed.now.tunnelled (tree packet.now) (option_map said message.now) t)) }
 {
     ask_part(alloc, context, handed.number, packet)?;
     let meets = handed.tunnelled && message.is_none();
@@ -138,7 +139,8 @@ fn take_message(
     packet: &PacketRef<'_>,
     message: &Message<'_>,
 ) -> Result<(), Memory>
-    ensures { (t : Transition) → Shows context.old t → OnOk result (Shows context.new (by_message handed.now.number handed.now.tunnelled handed.now.shield (tree packet.now) (Some (said message.now)) t)) }
+    ensures { (t : Transition) → Shows context.old t
+        → OnOk result (Shows context.new (by_message handed.now.number handed.now.tunnelled handed.now.shield (tree packet.now) (Some (said message.now)) t)) }
 {
     let number = handed.number;
     let peer = packet.head.sender();
@@ -189,7 +191,8 @@ pub fn take_role(
     requires plain { IsTrue (is_routable_if_any packet.now.head.home) }
     requires short { length packet.now.body.now ≤ 65535 }
     requires read { message_in (tree packet.now) ≡ option_map said message.now }
-    ensures { (t : Transition) → Shows context.old t → OnOk result (Shows context.new (by_role handed.now.number handed.now.tunnelled handed.now.shield (tree packet.now) (option_map said message.now) t)) }
+    ensures { (t : Transition) → Shows context.old t
+        → OnOk result (Shows context.new (by_role handed.now.number handed.now.tunnelled handed.now.shield (tree packet.now) (option_map said message.now) t)) }
 {
     if is_for_part(packet.head.proto, message) {
         return take_for_part(alloc, context, handed, packet, message);

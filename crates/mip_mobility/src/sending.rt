@@ -1,6 +1,6 @@
 //! Data that a mobile is asked to send (RFC 6275 section 11.3.1).
 
-ghost use Rattle.std.specs.Prelude.{◌≡◌, ◌≤◌, length, OnOk, IfOk, IfSome, IsTrue, IsFalse, Some};
+ghost use Rattle.std.specs.Prelude.{◌≡◌, ◌≤◌, length, OnOk, IfSome, IsTrue, IsFalse, Some};
 ghost use Rattle.mip_words.specs.Addresses.{is_routable};
 ghost use Rattle.mip_ipv6.specs.Packet.{is_plain, names_no_body};
 ghost use Rattle.mip_rules_correspondent.specs.Rules.{is_data};

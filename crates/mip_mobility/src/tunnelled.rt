@@ -11,10 +11,10 @@ ghost use Rattle.mip_mobility.specs.Inners.{inner_why, entry_why};
 
 use crate::handed::Handed;
 use crate::roles::take_role;
-use mip_constants::protocol::{IPV6, MOBILITY_HEADER};
 use mip_ipv6::{ExitFault, Head, PacketRef, decapsulate};
 use mip_reception::{AddressMatch, Refusal, check, packet_why};
 use mip_registration::call_context::{CallContext, reply};
+use mip_words::protocol::{IPV6, MOBILITY_HEADER};
 use mip_words::{Address, Memory, Shield, Why};
 use std::alloc::Global;
 
@@ -106,7 +106,8 @@ fn take_inner(
     requires placed { packet.now.place ≡ place_in bytes.now (tree packet.now) }
     requires near { packet.now.place < 2 ^ 32 - 1 }
     requires tunnelled { handed.now.tunnelled ≡ true }
-    ensures { (t : Transition) → Shows context.old t → OnOk result (Shows context.new (takes_inner handed.now.number handed.now.shield bytes.now (tree packet.now) t)) }
+    ensures { (t : Transition) → Shows context.old t
+        → OnOk result (Shows context.new (takes_inner handed.now.number handed.now.shield bytes.now (tree packet.now) t)) }
 {
     match inner_why(context.home(), handed.shield, &packet.head) {
         Some(why) => context.drop_packet(handed.number, why),
@@ -133,7 +134,8 @@ fn open_from(
     packet: &PacketRef<'_>,
 ) -> Result<(), Memory>
     requires short { length packet.now.body.now ≤ 65535 }
-    ensures { (t : Transition) → Shows context.old t → OnOk result (Shows context.new (opens_from (Some agent) handed.now.number handed.now.shield (tree packet.now) t)) }
+    ensures { (t : Transition) → Shows context.old t
+        → OnOk result (Shows context.new (opens_from (Some agent) handed.now.number handed.now.shield (tree packet.now) t)) }
 {
     match decapsulate(packet, agent) {
         Ok(inner) => {

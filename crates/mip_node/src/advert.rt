@@ -8,10 +8,10 @@ ghost use Rattle.mip_icmp.specs.Reading.{icmp_of};
 ghost use Rattle.mip_frames.specs.Framing.{framed};
 ghost use Rattle.mip_node.specs.Adverts.{prefix_said, prefix_told, is_to_all, prefix_in, prefix_of_frame};
 
-use mip_constants::protocol::ICMPV6;
 use mip_frames::Frame;
 use mip_icmp::{Icmp, PrefixInfo, read_icmp};
 use mip_ipv6::{Head, PacketRef, read_packet};
+use mip_words::protocol::ICMPV6;
 use mip_words::{Address, Prefix};
 
 /// All nodes of a link, ff02::1 (RFC 4291 section 2.7.1).

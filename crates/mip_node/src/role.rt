@@ -1,6 +1,6 @@
 //! The role of a node that is run by itself.
 
-ghost use Rattle.std.specs.Prelude.{◌≡◌, ◌<◌, ◌≤◌, ◌^◌, IfOk, OnOk};
+ghost use Rattle.std.specs.Prelude.{◌≡◌, ◌<◌, ◌^◌, IfOk, OnOk};
 ghost use Rattle.mip_nodes.specs.Calls.{asked, IsAskable};
 ghost use Rattle.mip_nodes.specs.Hosts.{kind_of};
 ghost use Rattle.mip_config.specs.Facts.{address_of};

@@ -1,6 +1,6 @@
 //! The text of a turn.
 
-ghost use Rattle.std.specs.Prelude.{◌≡◌, ℕ, ◌≤◌, None, length, take, OnOk, OnErr, IsErrOf};
+ghost use Rattle.std.specs.Prelude.{◌≡◌, ℕ, None, take, OnOk, OnErr, IsErrOf};
 ghost use Rattle.std.specs.Io.KnownBytes.{append_known};
 ghost use Rattle.mip_trace.specs.Lines.{trace_text};
 ghost use Rattle.mip_node.specs.Faults.{CountsFaults};

@@ -1,6 +1,6 @@
 //! A turn of a node: the moment, due work, payloads, and what comes over the link.
 
-ghost use Rattle.std.specs.Prelude.{◌≡◌, ◌<◌, ◌≤◌, ◌^◌, IfOk, IfSome, OnOk, IsErrOf, drop, option_map};
+ghost use Rattle.std.specs.Prelude.{◌≡◌, ◌<◌, ◌^◌, IfOk, IfSome, OnOk, IsErrOf, drop, option_map};
 ghost use Rattle.mip_outside.specs.Moments.{moments_after};
 ghost use Rattle.mip_node.specs.Faults.{CountsFaults, Between, Broke};
 ghost use Rattle.mip_node.specs.Roles.{IsBy};
@@ -54,7 +54,8 @@ fn receive<L: Link>(
     requires later { IsBy node.old.role now.0 }
     requires early { now.0 < 2 ^ 62 }
     ensures ok { OnOk result (serving node.new (L.sent link.new) ≡ received (said setting.now) now.0 datagram (serving node.old (L.sent link.old))) }
-    ensures cut { IsErrOf result PutFault.Failed → Between (L.sent link.old) (L.sent link.new) (received (said setting.now) now.0 datagram (serving node.old (L.sent link.old))).sent }
+    ensures cut { IsErrOf result PutFault.Failed
+        → Between (L.sent link.old) (L.sent link.new) (received (said setting.now) now.0 datagram (serving node.old (L.sent link.old))).sent }
     ensures timely { IsBy node.new.role now.0 }
     ensures kept { (L.coming link.new ≡ L.coming link.old) × (L.port link.new ≡ L.port link.old) }
     ensures faults { CountsFaults (IsErrOf result PutFault.Failed) (L.faults link.old) (L.faults link.new) }
@@ -77,7 +78,8 @@ pub fn turn<C: Clock, L: Link>(
     requires later { IsBy node.old.role (C.last clock.old) }
     ensures ok { OnOk result ((seen : Seen) × IsSeen (C.ahead clock.old) (L.coming link.old) seen
         × (serving node.new (L.sent link.new) ≡ turned (said setting.now) turn seen (serving node.old (L.sent link.old)))) }
-    ensures broke { IsErrOf result PutFault.Failed → Broke (said setting.now) turn (C.ahead clock.old) (L.coming link.old) (serving node.old (L.sent link.old)) (L.coming link.new) (L.sent link.new) }
+    ensures broke { IsErrOf result PutFault.Failed
+        → Broke (said setting.now) turn (C.ahead clock.old) (L.coming link.old) (serving node.old (L.sent link.old)) (L.coming link.new) (L.sent link.new) }
     ensures timely { IsBy node.new.role (C.last clock.new) }
     ensures ahead { C.ahead clock.new ≡ option_map moments_after (C.ahead clock.old) }
     ensures coming { OnOk result (L.coming link.new ≡ option_map (drop 1) (L.coming link.old)) }

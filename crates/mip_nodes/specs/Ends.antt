@@ -1,6 +1,6 @@
 -- What a node knows as an end of traffic, or as the agent of one: where it is present, what it is registered and bound with,
 -- and what it holds and has registered. RFC 6275 sections 8.5, 9.5, 10.4 and 11.3
-use Rattle.std.specs.Prelude.{ℕ, Bool, false, Option, Some, None, is_some, option_map}
+use Rattle.std.specs.Prelude.{ℕ, Bool, false, Option, Some, None, is_some}
 use Rattle.mip_words.specs.declared.address.Address.{Address}
 use Rattle.mip_rules_correspondent.specs.Questions.{held_of}
 use Rattle.mip_rules_agent.specs.Questions.{careof_at}

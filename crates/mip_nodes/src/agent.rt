@@ -1,12 +1,12 @@
 //! A home agent of a run is asked something.
 
-ghost use Rattle.std.specs.Prelude.{◌≡◌, ◌<◌, ◌≤◌, ◌^◌, IfOk, OnOk, OnErr};
+ghost use Rattle.std.specs.Prelude.{◌≡◌, ◌<◌, ◌≤◌, ◌^◌, IfOk, OnOk};
 ghost use Rattle.mip_rules_agent.specs.Calls as calls;
 ghost use Rattle.mip_rules_agent.specs.Calls.{claim_for};
 ghost use Rattle.mip_rules_agent.specs.Seen as agents;
 ghost use Rattle.mip_rules_agent.specs.Steps.{answers_of};
 ghost use Rattle.mip_history.specs.Calls.{for_agent};
-ghost use Rattle.mip_nodes.specs.Calls.{asked, IsAskable};
+ghost use Rattle.mip_nodes.specs.Calls.{asked};
 ghost use Rattle.mip_nodes.specs.Places.{around_seen};
 ghost use Rattle.mip_nodes.specs.Roles.{or_idle, or_same};
 
@@ -51,7 +51,8 @@ fn take(
 ) -> Result<Answers, Memory>
     requires later { role.old.known.last ≤ now.0 }
     requires early { now.0 < 2 ^ 62 }
-    ensures answers { IfOk result (λ a. a ≡ answers_of (agents.transition_at role.old now.0 (calls.Take number shield packet.now (claim_for (around_seen place.old) packet.now))).steps) }
+    ensures answers { IfOk result (λ a. a ≡
+        answers_of (agents.transition_at role.old now.0 (calls.Take number shield packet.now (claim_for (around_seen place.old) packet.now))).steps) }
     ensures after { OnOk result (role.new ≡ agents.called role.old now.0 (calls.Take number shield packet.now (claim_for (around_seen place.old) packet.now))) }
     ensures timely { role.new.known.last ≤ now.0 }
 {
@@ -68,7 +69,8 @@ pub fn ask(
 ) -> Result<Answers, Memory>
     requires later { role.old.known.last ≤ now.0 }
     requires early { now.0 < 2 ^ 62 }
-    ensures answers { IfOk result (λ a. a ≡ or_idle (λ x. answers_of (agents.transition_at role.old now.0 x).steps) (for_agent (around_seen place.old) (asked call.entry))) }
+    ensures answers { IfOk result (λ a. a ≡
+        or_idle (λ x. answers_of (agents.transition_at role.old now.0 x).steps) (for_agent (around_seen place.old) (asked call.entry))) }
     ensures after { OnOk result (role.new ≡ or_same role.old (agents.called role.old now.0) (for_agent (around_seen place.old) (asked call.entry))) }
     ensures timely { role.new.known.last ≤ now.0 }
 {

@@ -1,6 +1,6 @@
 //! A correspondent of a run is asked something.
 
-ghost use Rattle.std.specs.Prelude.{◌≡◌, ◌<◌, ◌≤◌, ◌^◌, IfOk, OnOk, OnErr};
+ghost use Rattle.std.specs.Prelude.{◌≡◌, ◌<◌, ◌≤◌, ◌^◌, IfOk, OnOk};
 ghost use Rattle.mip_rules_correspondent.specs.Seen as correspondents;
 ghost use Rattle.mip_rules_correspondent.specs.Steps.{answers_of};
 ghost use Rattle.mip_history.specs.Calls.{for_correspondent};

@@ -1,4 +1,4 @@
-ghost use Rattle.std.specs.Prelude.{◌≡◌, IfSome};
+ghost use Rattle.std.specs.Prelude.{◌≡◌};
 ghost use Rattle.std.specs.Option.{option_map};
 ghost use Rattle.mip_nodes.specs.Hosts.{kind_of};
 ghost use Rattle.mip_nodes.specs.Nodes.{router_of, seen_router};

@@ -57,12 +57,14 @@ pub fn roles_stand_for_their_pasts()
 pub fn new_roles_have_nothing_behind_them()
     ensures correspondent { (room numbers : ℕ) → correspondent_questions.known room numbers [] ≡ correspondent_questions.fresh room numbers }
     ensures agent { (serves : List Address) → agent_questions.known serves [] ≡ agent_questions.fresh serves }
-    ensures mobile { (home : Address) (declared : Option Address) (numbers : ℕ) (secrets : Life) → mobile_questions.known home declared numbers secrets [] ≡ mobile_questions.fresh home declared numbers secrets }
+    ensures mobile { (home : Address) (declared : Option Address) (numbers : ℕ) (secrets : Life)
+        → mobile_questions.known home declared numbers secrets [] ≡ mobile_questions.fresh home declared numbers secrets }
     ensures last { (seed : List ℕ) (numbers n life : ℕ) (own : Address) (kind : Kind) → last_of (new_role seed numbers n life own kind) ≡ 0 }
 {}
 
 /// A mobile keeps its home address through all its lives.
 #[tactic(auto, using(crate::proofs::RoleLaws::mobile_home))]
 pub fn mobiles_keep_their_home()
-    ensures { (home : Address) (declared : Option Address) (numbers : ℕ) (secrets : Life) (past : List (Stamped mobile_steps.Step)) → home_of (mobile_questions.known home declared numbers secrets past) ≡ home }
+    ensures { (home : Address) (declared : Option Address) (numbers : ℕ) (secrets : Life) (past : List (Stamped mobile_steps.Step))
+        → home_of (mobile_questions.known home declared numbers secrets past) ≡ home }
 {}

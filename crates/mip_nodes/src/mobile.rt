@@ -173,9 +173,15 @@ fn finish(
     alloc: Global,
     done: Result<(), Memory>,
 ) -> Result<Answers, Memory>
-    ensures answers { (k : Known) (now : ℕ) (call : calls.Call) → OnOk done (Shows context.old (transition_of k now call)) → IfOk result (λ a. a ≡ answers_of (transition_of k now call).steps) }
-    ensures known { (k : Known) (now : ℕ) (call : calls.Call) → OnOk done (Shows context.old (transition_of k now call)) → OnOk result (context.new.known ≡ (transition_of k now call).known) }
-    ensures calm { (k : Known) (now : ℕ) (call : calls.Call) → OnOk done (Shows context.old (transition_of k now call)) → OnOk result ((context.new.moment ≡ now) × (context.new.known.last.0 ≡ now)) }
+    ensures answers { (k : Known) (now : ℕ) (call : calls.Call)
+        → OnOk done (Shows context.old (transition_of k now call))
+        → IfOk result (λ a. a ≡ answers_of (transition_of k now call).steps) }
+    ensures known { (k : Known) (now : ℕ) (call : calls.Call)
+        → OnOk done (Shows context.old (transition_of k now call))
+        → OnOk result (context.new.known ≡ (transition_of k now call).known) }
+    ensures calm { (k : Known) (now : ℕ) (call : calls.Call)
+        → OnOk done (Shows context.old (transition_of k now call))
+        → OnOk result ((context.new.moment ≡ now) × (context.new.known.last.0 ≡ now)) }
 {
     done?;
     context.take_answers(alloc)
@@ -193,8 +199,10 @@ pub fn ask(
     requires later { context.old.known.last.0 ≤ now.0 }
     requires early { now.0 < 2 ^ 62 }
     requires askable { IsAskable call }
-    ensures answers { IfOk result (λ a. a ≡ or_idle (λ x. answers_of (transition_of context.old.known now.0 x).steps) (for_mobile (around_seen place.now) (home_of context.old.known) (asked call.entry))) }
-    ensures after { OnOk result (context.new.known ≡ or_same context.old.known (λ x. (transition_of context.old.known now.0 x).known) (for_mobile (around_seen place.now) (home_of context.old.known) (asked call.entry))) }
+    ensures answers { IfOk result (λ a. a ≡
+        or_idle (λ x. answers_of (transition_of context.old.known now.0 x).steps) (for_mobile (around_seen place.now) (home_of context.old.known) (asked call.entry))) }
+    ensures after { OnOk result (context.new.known ≡
+        or_same context.old.known (λ x. (transition_of context.old.known now.0 x).known) (for_mobile (around_seen place.now) (home_of context.old.known) (asked call.entry))) }
     ensures calm { OnOk result ((context.new.moment ≤ context.new.known.last.0) × (context.new.known.last.0 ≤ now.0)) }
 {
     match call {

@@ -1,6 +1,6 @@
 //! A mobile of a run.
 
-ghost use Rattle.std.specs.Prelude.{◌≡◌, ◌≤◌, ◌<◌, ◌^◌, ◌==◌, ◌&&◌, true, false, IfOk, OnOk, is_some, option_copied, option_map, slice_get};
+ghost use Rattle.std.specs.Prelude.{◌≡◌, ◌≤◌, ◌<◌, ◌^◌, ◌==◌, ◌&&◌, true, false, IfOk, OnOk, is_some, option_copied, slice_get};
 ghost use Rattle.mip_words.specs.Addresses.{is_routable};
 ghost use Rattle.mip_bcache.specs.Seen.{rows_at};
 ghost use Rattle.mip_bulist.specs.Timers.{first_due};
@@ -79,8 +79,10 @@ impl MobileRole {
         requires later { self.old.last.0 ≤ now.0 }
         requires early { now.0 < 2 ^ 62 }
         requires askable { IsAskable call }
-        ensures answers { IfOk result (λ a. a ≡ or_idle (λ x. answers_of (transition_of self.old now.0 x).steps) (for_mobile (around_seen place.now) (home_of self.old) (asked call.entry))) }
-        ensures after { OnOk result (self.new ≡ or_same self.old (λ x. (transition_of self.old now.0 x).known) (for_mobile (around_seen place.now) (home_of self.old) (asked call.entry))) }
+        ensures answers { IfOk result (λ a. a ≡
+            or_idle (λ x. answers_of (transition_of self.old now.0 x).steps) (for_mobile (around_seen place.now) (home_of self.old) (asked call.entry))) }
+        ensures after { OnOk result (self.new ≡
+            or_same self.old (λ x. (transition_of self.old now.0 x).known) (for_mobile (around_seen place.now) (home_of self.old) (asked call.entry))) }
         ensures timely { self.new.last.0 ≤ now.0 }
     {
         if self.failed {

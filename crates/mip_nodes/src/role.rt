@@ -1,8 +1,6 @@
-ghost use Rattle.std.specs.Prelude.{◌≡◌, ℕ, ◌<◌, ◌≤◌, ◌^◌, [], ◌∷◌, length, IfOk, OnOk, option_copied, option_map, slice_get};
+ghost use Rattle.std.specs.Prelude.{◌≡◌, ◌<◌, ◌≤◌, ◌^◌, IfOk, OnOk, option_copied, option_map, slice_get};
 ghost use Rattle.mip_history.specs.Nodes.{row_entry, home_entry};
 ghost use Rattle.mip_rules_correspondent.specs.Questions.{fresh};
-ghost use Rattle.mip_entries.specs.declared.answer.Answer.TheVariants.{Note};
-ghost use Rattle.mip_entries.specs.declared.entry.Entry.TheVariants.{Idle};
 ghost use Rattle.mip_nodes.specs.Calls.{asked, IsAskable};
 ghost use Rattle.mip_nodes.specs.Hosts.{kind_of, IsFitKind};
 ghost use Rattle.mip_nodes.specs.Ends.{present_of, agent_of, is_bound_to, held_by_role, careof_of};
@@ -70,7 +68,8 @@ fn new_correspondent(
 ) -> Result<Role, Memory>
     requires some { 1 ≤ numbers }
     requires few { numbers ≤ 8 }
-    ensures { IfOk result (λ r. r ≡ Role.Correspondent (record { identity = record { own = own; secrets = secrets; room = room }; known = fresh room numbers })) }
+    ensures { IfOk result (λ r. r ≡
+        Role.Correspondent (record { identity = record { own = own; secrets = secrets; room = room }; known = fresh room numbers })) }
 {
     match room.checked_mul(u32::from(numbers)) {
         Some(_rows) => {

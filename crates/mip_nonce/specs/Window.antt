@@ -1,6 +1,6 @@
 -- Which nonces are valid at a moment, and which of them an index names. RFC 6275 sections 5.2.2 and 5.2.5
 use Rattle.std.specs.Prelude.{◌≡◌, ℕ, ◌+◌, ◌-◌, ◌/◌, ◌%◌, ◌<◌, ◌≤◌, Option, Some, None, nat_lt, nat_le, ◌&&◌, if◌then◌else◌}
-use Rattle.mip_constants.specs.Constants.{nonce_period, valid_nonces}
+use Rattle.mip_words.specs.Constants.{nonce_period, valid_nonces}
 
 -- the number of the newest nonce at a moment in milliseconds: each serves 30 seconds
 abbrev pub current_of : ℕ → ℕ

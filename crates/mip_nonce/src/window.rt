@@ -1,8 +1,8 @@
 ghost use Rattle.std.specs.Prelude.{◌≡◌, ℕ, MatchOption};
 ghost use Rattle.mip_nonce.specs.Window.{current_of, IsNamed, number_named};
 
-use mip_constants::{NONCE_PERIOD, VALID_NONCES};
 use mip_words::Moment;
+use mip_words::constants::{NONCE_PERIOD, VALID_NONCES};
 
 /// The number of the newest nonce.
 pub fn current(now: Moment) -> u64

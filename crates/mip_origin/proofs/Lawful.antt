@@ -7,9 +7,9 @@ use Rattle.std.specs.Option.{option_or, option_and_then}
 use Rattle.std.proofs.lemmas.Bool.{or_left, or_right, and_from, eqb-true, eq-eqb}
 use Rattle.std.proofs.lemmas.List.{append_assoc, map-append}
 use Rattle.std.proofs.lemmas.Option.{slice_get-get_or, slice_get_past}
-use Rattle.mip_lists.specs.EachAfter.{EachAfter}
+use Rattle.mip_words.specs.EachAfter.{EachAfter}
 use Rattle.mip_words.specs.declared.token.Token.{Token}
-use Rattle.mip_lists.proofs.EachLaws.{each_at}
+use Rattle.mip_words.proofs.EachLaws.{each_at}
 use Rattle.mip_packets.specs.Says.{Carried, Test, Update, Other, carried}
 use Rattle.mip_entries.specs.declared.entry.Entry.{Entry}
 use Rattle.mip_entries.specs.declared.entry.Entry.TheVariants as entries

@@ -4,8 +4,8 @@ use Rattle.std.specs.Prelude.{fold, Option, Some, None, option_map, slice_get}
 use Rattle.std.specs.List.{sum_by}
 use Rattle.mip_words.specs.declared.address.Address.{Address}
 use Rattle.mip_words.specs.declared.ids.NodeId.{NodeId}
-use Rattle.mip_lists.specs.EachAfter.{EachAfter}
-use Rattle.mip_lists.proofs.EachLaws.{each_at}
+use Rattle.mip_words.specs.EachAfter.{EachAfter}
+use Rattle.mip_words.proofs.EachLaws.{each_at}
 use Rattle.mip_mobhdr.specs.declared.indices.Indices.{Indices}
 use Rattle.mip_reception.specs.declared.registration.Registration.{Registration}
 use Rattle.mip_rules_correspondent.specs.Soundness.{IsCareofNonce}

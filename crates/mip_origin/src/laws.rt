@@ -1,6 +1,6 @@
 //! The laws, each the contract of a function that does nothing.
 
-ghost use Rattle.std.specs.Prelude.{◌≡◌, ◌≤◌, ℕ, List, [], ◌∷◌, ◌++◌, true, Option, Some};
+ghost use Rattle.std.specs.Prelude.{◌≡◌, ◌≤◌, ℕ, List, [], ◌∷◌, ◌++◌, Option, Some};
 ghost use Rattle.std.specs.List.{AllByRecursion, sum_by};
 ghost use Rattle.mip_entries.specs.declared.entry.Entry.{Entry};
 ghost use Rattle.mip_schedule.specs.Contents.{Content};
@@ -14,7 +14,7 @@ ghost use Rattle.mip_provenance.specs.Entries.{update_accepted};
 ghost use Rattle.mip_provenance.specs.Marks.{mark_in};
 ghost use Rattle.mip_history.specs.Setup.{setup_of};
 ghost use Rattle.mip_provenance.specs.Origins.{HasOrigin};
-ghost use Rattle.mip_lists.specs.EachAfter.{EachAfter};
+ghost use Rattle.mip_words.specs.EachAfter.{EachAfter};
 ghost use Rattle.mip_history.specs.Passing.{waited_by};
 ghost use Rattle.mip_history.specs.Permitted.{permitted};
 ghost use Rattle.mip_origin.specs.OwnTests.{SendsOwnTests, SendsPlainData};
@@ -41,7 +41,9 @@ pub fn each_acceptance_is_followed()
 pub fn unforged_acceptances_have_their_origin()
     ensures stands { (c : Content) → ArePlain c → (before : List Entry) (e : Entry) (after : List Entry) → permitted c ≡ before ++ e ∷ after
         → (a : AcceptedUpdate) (hot : ℕ) (cot : Option ℕ) (update : ℕ) → mark_in before a ≡ Origin hot cot update → HasOrigin before a hot cot update }
-    ensures nonces { (c : Content) → ArePlain c → sum_by waited_by c.events ≤ 36000000 → (before : List Entry) (e : Entry) (after : List Entry) → permitted c ≡ before ++ e ∷ after
+    ensures nonces { (c : Content) → ArePlain c → sum_by waited_by c.events ≤ 36000000
+        → (before : List Entry) (e : Entry) (after : List Entry)
+        → permitted c ≡ before ++ e ∷ after
         → (a : AcceptedUpdate) → update_accepted e ≡ Some a → (hot : ℕ) (cot : Option ℕ) (update : ℕ) → mark_in before a ≡ Origin hot cot update
         → IsOriginOf (setup_of c) before e a hot cot update }
 {}

@@ -1,6 +1,6 @@
 -- The packets of return routability, and those that go back for what was refused. RFC 6275 sections 6.1.2 to 6.1.6 and 6.1.9
-use Rattle.std.specs.Prelude.{ℕ, List, Option, Some, None}
-use Rattle.mip_constants.specs.Protocols.{mobility_header}
+use Rattle.std.specs.Prelude.{ℕ, List, Some, None}
+use Rattle.mip_words.specs.Protocols.{mobility_header}
 use Rattle.mip_words.specs.declared.address.Address.{Address}
 use Rattle.mip_mobhdr.specs.OptionValues.{nothing}
 use Rattle.mip_mobhdr.specs.Said.Said.{Refresh, HomeInit, CareofInit, HomeTest, CareofTest, Error}

@@ -1,6 +1,6 @@
 -- The packets that nodes and outsiders make: hop limit 64, traffic class 0, flow label 0.
 use Rattle.std.specs.Prelude.{ℕ, List, take, Option, None}
-use Rattle.mip_constants.specs.Protocols.{icmpv6}
+use Rattle.mip_words.specs.Protocols.{icmpv6}
 use Rattle.mip_words.specs.declared.address.Address.{Address}
 use Rattle.mip_ipv6.specs.declared.head.Head.{Head}
 use Rattle.mip_ipv6.specs.Spelling.{packet_bytes}

@@ -6,9 +6,9 @@ ghost use Rattle.mip_mobhdr.specs.Said.{said};
 ghost use Rattle.mip_packets.specs.Says.{innermost as innermost_of, message_in as message_of_packet};
 ghost use Rattle.mip_packets.specs.Updates.{IsReadUpdate};
 
-use mip_constants::protocol::{IPV6, MOBILITY_HEADER};
 use mip_ipv6::{PacketRef, read_packet};
 use mip_mobhdr::{Message, read_message};
+use mip_words::protocol::{IPV6, MOBILITY_HEADER};
 
 /// The packet in which no further packet stands, through any depth of tunnels.
 #[tactic(auto, using(crate::proofs::Nesting::innermost_is, crate::proofs::Nesting::shorter))]

@@ -7,7 +7,7 @@ ghost use Rattle.mip_ipv6.specs.Reading.{packet_of};
 ghost use Rattle.mip_mobhdr.specs.Said.{Said};
 ghost use Rattle.mip_mobhdr.specs.Reading.{message_of};
 ghost use Rattle.mip_ipv6.specs.Tunnel.{lowered, encapsulated, opened};
-ghost use Rattle.mip_packets.specs.Says.{carried, says, said_by, Carried, Other};
+ghost use Rattle.mip_packets.specs.Says.{carried, said_by, Other};
 
 /// A packet says the same wherever it has come to.
 pub fn lowering_keeps_what_is_said()

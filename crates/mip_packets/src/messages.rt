@@ -8,8 +8,8 @@ ghost use Rattle.mip_packets.specs.Messages.{refresh_packet, home_init_packet, c
 
 use crate::heads::{node_head, straight};
 use crate::message_packet::write_message_packet;
-use mip_constants::protocol::MOBILITY_HEADER;
 use mip_mobhdr::{OptionSet, Plain};
+use mip_words::protocol::MOBILITY_HEADER;
 use mip_words::{Address, Bytes, Cookie, Memory, Token};
 use std::alloc::Global;
 

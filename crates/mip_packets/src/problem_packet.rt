@@ -6,8 +6,8 @@ ghost use Rattle.mip_packets.specs.Packets.{problem_packet};
 
 use crate::data_packet::write_data_packet;
 use crate::heads::straight;
-use mip_constants::protocol::ICMPV6;
 use mip_icmp::{PlainIcmp, write_icmp};
+use mip_words::protocol::ICMPV6;
 use mip_words::{Address, Bytes, Memory};
 use std::alloc::Global;
 

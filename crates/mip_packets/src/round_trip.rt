@@ -25,6 +25,8 @@ pub fn messages_say_their_tests()
 /// A packet with another message, with data or with a Parameter Problem says no test.
 pub fn other_packets_say_no_test()
     ensures message { (head : Head) (m : Said) → head.proto ≡ 135 → is_test m ≡ false → SaysNoTest (carried (message_packet head m)) }
-    ensures data { (head : Head) (body : List ℕ) → names_no_body head.proto ≡ false → (head.proto ≡ 135 → ⊥) → (head.proto ≡ 41 → ⊥) → SaysNoTest (carried (data_packet head body)) }
+    ensures data { (head : Head) (body : List ℕ) → names_no_body head.proto ≡ false → (head.proto ≡ 135 → ⊥)
+        → (head.proto ≡ 41 → ⊥)
+        → SaysNoTest (carried (data_packet head body)) }
     ensures problem { (source destination : Address) (pointer : ℕ) (packet : List ℕ) → SaysNoTest (carried (problem_packet source destination pointer packet)) }
 {}

@@ -5,8 +5,8 @@ use Rattle.std.proofs.lemmas.Bool.{eqb-true}
 use Rattle.std.proofs.lemmas.Bool.Decides.{nat_tests}
 use Rattle.std.proofs.lemmas.List.Sums.{fold-append}
 use Rattle.mip_words.specs.declared.address.Address.{Address}
-use Rattle.mip_lists.specs.Last.{or_else, last_where}
-use Rattle.mip_lists.proofs.LastLaws.{last_where-push}
+use Rattle.mip_words.specs.Last.{or_else, last_where}
+use Rattle.mip_words.proofs.LastLaws.{last_where-push}
 use Rattle.mip_binding.specs.Acceptance.{Acceptance, Binding}
 use Rattle.mip_binding.specs.Rows.{others_by}
 use Rattle.mip_binding.specs.Homes.{HomeKept, number_key, latest, kept_of, joins, kept_with, home_after}

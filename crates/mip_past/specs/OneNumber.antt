@@ -1,7 +1,7 @@
 -- What the last acceptance of a home leaves, where bindings have one number. RFC 6275 section 9.5.1
 use Rattle.std.specs.Prelude.{◌≡◌, ℕ, List, Option, Some, None, option_and_then, not, ◌&&◌, nat_lt, ◌==◌, if◌then◌else◌}
 use Rattle.std.specs.List.{AllByRecursion}
-use Rattle.mip_lists.specs.Last.{last_where}
+use Rattle.mip_words.specs.Last.{last_where}
 use Rattle.mip_binding.specs.Acceptance.{Acceptance, kept_until_of}
 use Rattle.mip_binding.specs.Held.{held, floor}
 

@@ -1,9 +1,9 @@
 -- What is recalled of a home along the entries of a node, so that its last sequence and the binding of one number are found: what
 -- ends when a binding comes, and for how long the sequence is kept. RFC 6275 section 9.5.1, with several bindings for one home
 use Rattle.std.specs.Prelude.{◌≡◌, ⊤, ℕ, ◌+◌, List, [], fold, Bool, false, not, ◌&&◌, ◌||◌, ◌==◌, nat_lt, if◌then◌else◌, Option, Some, None, option_map, is_some}
-use Rattle.mip_constants.specs.Constants.{max_nonce_lifetime}
+use Rattle.mip_words.specs.Constants.{max_nonce_lifetime}
 use Rattle.mip_words.specs.declared.address.Address.{Address}
-use Rattle.mip_lists.specs.Last.{last_where}
+use Rattle.mip_words.specs.Last.{last_where}
 use Rattle.mip_binding.specs.Acceptance.{Binding}
 use Rattle.mip_binding.specs.Homes.{HomeKept, latest, home_after}
 use Rattle.mip_entries.specs.declared.entry.Entry.{Entry}

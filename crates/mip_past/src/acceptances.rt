@@ -8,9 +8,9 @@ use crate::kept::Kept;
 use crate::made::Made;
 use crate::past::Past;
 use crate::recall::Recall;
-use mip_constants::MAX_NONCE_LIFETIME;
 use mip_entries::Entry;
 use mip_settled::held::held;
+use mip_words::constants::MAX_NONCE_LIFETIME;
 use mip_words::{Address, Moment, NodeId};
 
 /// The binding ends behind a moment.

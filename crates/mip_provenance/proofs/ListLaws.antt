@@ -6,8 +6,8 @@ use Rattle.std.specs.Option.{option_or}
 use Rattle.std.proofs.lemmas.List.{append_assoc, append-nil}
 use Rattle.std.proofs.lemmas.List.Folds.{list_any-append}
 use Rattle.std.proofs.lemmas.Bool.{or_left, or_right, or_parts, and_parts, and_from, and_right, eqb-true, ltb-true, ltb-false}
-use Rattle.mip_lists.specs.EachAfter.{EachAfter}
-use Rattle.mip_lists.specs.Last.{or_else}
+use Rattle.mip_words.specs.EachAfter.{EachAfter}
+use Rattle.mip_words.specs.Last.{or_else}
 use Rattle.mip_provenance.specs.Lists.{first_some, until, along, lesser}
 
 -- where the first item stands that says something

@@ -9,7 +9,7 @@ use Rattle.std.proofs.lemmas.List.Folds.{list_any-append}
 use Rattle.std.proofs.lemmas.List.{map-append}
 use Rattle.mip_words.specs.declared.address.Address.{Address}
 use Rattle.mip_words.specs.declared.ids.NodeId.{NodeId}
-use Rattle.mip_lists.proofs.LastLaws.{first_of_any}
+use Rattle.mip_words.proofs.LastLaws.{first_of_any}
 use Rattle.mip_packets.specs.Says.{Carried, UpdateIdentity, carried}
 use Rattle.mip_packets.specs.Says.Carried.{Test, Update, Other}
 use Rattle.mip_entries.specs.declared.entry.Entry.{Entry}

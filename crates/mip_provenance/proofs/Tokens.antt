@@ -7,9 +7,9 @@ use Rattle.std.specs.Str.{bytes_eq}
 use Rattle.std.proofs.lemmas.Slice.Eq.{bytes_eq-Decides}
 use Rattle.std.proofs.lemmas.Bool.{and_parts, and_from, not_from_false, false≢true}
 use Rattle.mip_words.specs.declared.address.Address.{Address}
-use Rattle.mip_lists.specs.EachAfter.{EachAfter}
-use Rattle.mip_lists.proofs.EachLaws.{each_at}
-use Rattle.mip_lists.proofs.LastLaws.{first_of_any}
+use Rattle.mip_words.specs.EachAfter.{EachAfter}
+use Rattle.mip_words.proofs.EachLaws.{each_at}
+use Rattle.mip_words.proofs.LastLaws.{first_of_any}
 use Rattle.mip_packets.specs.Says.Carried.{Test}
 use Rattle.mip_provenance.specs.declared.maker.Maker.{Maker}
 use Rattle.mip_provenance.specs.declared.maker.Maker.TheVariants.{Node, Outsider}

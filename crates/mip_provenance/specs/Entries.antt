@@ -1,7 +1,7 @@
 -- What the entries of a history say by themselves: packets, addresses, lives, acceptances.
 use Rattle.std.specs.Prelude.{ℕ, suc, List, fold, slice_get, ◌==◌, if◌then◌else◌, Option, Some, None}
 use Rattle.std.specs.Option.{option_and_then}
-use Rattle.mip_lists.specs.Last.{or_else}
+use Rattle.mip_words.specs.Last.{or_else}
 use Rattle.mip_words.specs.declared.address.Address.{Address}
 use Rattle.mip_entries.specs.declared.entry.Entry.{Entry}
 use Rattle.mip_entries.specs.declared.entry.Entry.TheVariants as entries

@@ -1,7 +1,7 @@
 -- The local laws of a history's sights: what a node passes on, hears, is handed or makes an update from was posted before.
 use Rattle.std.specs.Prelude.{◌≡◌, ℕ, List, [], true, false, Option, IfSome}
 use Rattle.std.specs.List.{list_any}
-use Rattle.mip_lists.specs.EachAfter.{EachAfter}
+use Rattle.mip_words.specs.EachAfter.{EachAfter}
 use Rattle.mip_packets.specs.Says.Carried.{Test}
 use Rattle.mip_provenance.specs.Sights.{Sight}
 use Rattle.mip_provenance.specs.Sights.Sight.{Sent, Heard, Handed, Made}

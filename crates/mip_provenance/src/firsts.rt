@@ -1,8 +1,7 @@
 //! The first packet of an update.
 
-ghost use Rattle.std.specs.Prelude.{◌≡◌, ℕ, List, ◌<◌, Bool, option_map, false};
+ghost use Rattle.std.specs.Prelude.{◌≡◌, List, ◌<◌, false};
 ghost use Rattle.std.specs.Str.{bytes_eq};
-ghost use Rattle.std.specs.Option.{option_map_or};
 ghost use Rattle.mip_tokens.specs.Token.{authenticated};
 ghost use Rattle.mip_packets.specs.Says.{key_of};
 ghost use Rattle.mip_entries.specs.declared.entry.Entry.{Entry};

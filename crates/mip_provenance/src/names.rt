@@ -1,6 +1,6 @@
 //! Who names a token, and how.
 
-ghost use Rattle.std.specs.Prelude.{◌≡◌, ℕ, List, ◌≤◌, ◌<◌, suc, if◌then◌else◌, length, fold, option_map, false};
+ghost use Rattle.std.specs.Prelude.{◌≡◌, ℕ, List, ◌≤◌, ◌<◌, suc, if◌then◌else◌, length, option_map, false};
 ghost use Rattle.std.specs.List.{list_any};
 ghost use Rattle.std.specs.Option.{option_map_or, option_and_then};
 ghost use Rattle.mip_provenance.specs.Lists.{if_passes};
@@ -122,7 +122,8 @@ fn naming(history: &[Entry], place: usize, entry: &Entry) -> Option<Naming>
 /// An entry behind a place names the token otherwise.
 fn is_other_at(history: &[Entry], place: usize, entry: &Entry, claim: &Claim) -> bool
     requires { place ≤ length history.now }
-    ensures { result ≡ option_map_or (is_other claim.now.token.0 (name_of claim.now.name)) (naming (front_at history.now place) (sight history.now entry.now)) false }
+    ensures { result ≡
+        option_map_or (is_other claim.now.token.0 (name_of claim.now.name)) (naming (front_at history.now place) (sight history.now entry.now)) false }
 {
     match naming(history, place, entry) {
         Some(naming) => claim.is_other(&naming),
@@ -146,7 +147,8 @@ pub fn is_misnamed(history: &[Entry], claim: &Claim) -> bool
 /// The number of a packet that an entry behind a place posts, where it names the token so.
 fn own_at(history: &[Entry], place: usize, entry: &Entry, claim: &Claim) -> Option<u64>
     requires { place ≤ length history.now }
-    ensures { result ≡ option_map number_of_naming (option_and_then (if_passes (is_own claim.now.token.0 (name_of claim.now.name))) (naming (front_at history.now place) (sight history.now entry.now))) }
+    ensures { result ≡
+        option_map number_of_naming (option_and_then (if_passes (is_own claim.now.token.0 (name_of claim.now.name))) (naming (front_at history.now place) (sight history.now entry.now))) }
 {
     match naming(history, place, entry) {
         Some(naming) => {

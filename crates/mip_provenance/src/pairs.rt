@@ -1,12 +1,12 @@
 //! The pair of tokens behind the first packet of an update.
 
-ghost use Rattle.std.specs.Prelude.{◌≡◌, ℕ, List, ◌≤◌, length, option_map};
+ghost use Rattle.std.specs.Prelude.{◌≡◌, List, ◌≤◌, length, option_map};
 ghost use Rattle.mip_entries.specs.declared.entry.Entry.{Entry};
 ghost use Rattle.mip_provenance.specs.Lists.{first_some, until};
 ghost use Rattle.mip_provenance.specs.Sights.{sight, sights};
 ghost use Rattle.mip_provenance.specs.Reached.{value_heard, values};
 ghost use Rattle.mip_provenance.specs.Firsts.{is_post};
-ghost use Rattle.mip_provenance.specs.Pairs.{made_with, pair_made, first_alone, first_with, first_pair, pair_by};
+ghost use Rattle.mip_provenance.specs.Pairs.{made_with, pair_made, first_alone, first_with, pair_by};
 ghost use Rattle.mip_provenance.specs.Seen.{front_at, pair_of, gives_it};
 
 use crate::maker::Maker;
@@ -151,7 +151,8 @@ fn first_with(history: &[Entry], place: usize, signed: &Signed, by: u8, home: To
 /// The first two tokens that an outsider had heard before a place and that give the authenticator.
 fn first_both(history: &[Entry], place: usize, signed: &Signed, by: u8) -> Option<Pair>
     requires { place ≤ length history.now }
-    ensures { option_map pair_of result ≡ first_some (first_with (gives_it signed.now) (values by (front_at history.now place))) (values by (front_at history.now place)) }
+    ensures { option_map pair_of result
+        ≡ first_some (first_with (gives_it signed.now) (values by (front_at history.now place))) (values by (front_at history.now place)) }
 {
     for entry in &history[..place] {
         match heard_by(history, entry, by) {

@@ -1,6 +1,6 @@
 //! Packets by their numbers, in a history.
 
-ghost use Rattle.std.specs.Prelude.{◌≡◌, ℕ, List, Option, option_map, option_copied};
+ghost use Rattle.std.specs.Prelude.{◌≡◌, List, Option, option_map};
 ghost use Rattle.mip_packets.specs.Says.{carried, key_of};
 ghost use Rattle.mip_entries.specs.declared.entry.Entry.{Entry};
 ghost use Rattle.mip_provenance.specs.Entries.{packet_told, packet_in};

@@ -1,6 +1,6 @@
 //! Whom a token has reached.
 
-ghost use Rattle.std.specs.Prelude.{◌≡◌, ◌≤◌, length, IfOk};
+ghost use Rattle.std.specs.Prelude.{◌≡◌, ◌≤◌, length};
 ghost use Rattle.std.specs.List.{list_any};
 ghost use Rattle.mip_provenance.specs.Sights.{sight};
 ghost use Rattle.mip_provenance.specs.Reached.{is_heard};

@@ -1,4 +1,4 @@
-ghost use Rattle.std.specs.Prelude.{◌≡◌, ℕ, List, take, IsSome, IfSome, option_map};
+ghost use Rattle.std.specs.Prelude.{◌≡◌, take, IsSome, IfSome, option_map};
 ghost use Rattle.mip_packets.specs.Says.{key_of};
 ghost use Rattle.mip_entries.specs.declared.entry.Entry.{Entry};
 ghost use Rattle.mip_provenance.specs.Entries.{claims, declared_in, accepted_at};

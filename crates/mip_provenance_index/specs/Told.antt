@@ -1,6 +1,6 @@
 -- Histories in which a packet is heard or handed over only once it was posted.
 use Rattle.std.specs.Prelude.{◌≢◌, List, [], None, ⊤}
-use Rattle.mip_lists.specs.EachAfter.{EachAfter}
+use Rattle.mip_words.specs.EachAfter.{EachAfter}
 use Rattle.mip_entries.specs.declared.entry.Entry.{Entry}
 use Rattle.mip_entries.specs.declared.entry.Entry.TheVariants as entries
 use Rattle.mip_provenance.specs.Entries.{packet_in}

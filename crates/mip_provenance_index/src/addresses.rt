@@ -1,5 +1,5 @@
 ghost use Rattle.std.specs.Prelude.{◌≡◌, ◌==◌, ℕ, OnOk, None, Some, if◌then◌else◌};
-ghost use Rattle.mip_lists.specs.Last.{or_else};
+ghost use Rattle.mip_words.specs.Last.{or_else};
 ghost use Rattle.mip_provenance.specs.Entries.{claims};
 ghost use Rattle.mip_provenance_index.specs.Addresses.{address_at};
 

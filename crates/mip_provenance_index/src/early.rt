@@ -47,7 +47,8 @@ impl Early {
 
     /// Takes one more sight.
     pub fn note(&mut self, heard: &Heard, sight: &Sight) -> Result<(), Memory>
-        ensures { OnOk result ((t : List ℕ) → is_used self.new t ≡ (is_used self.old t || option_map_or (bytes_eq t) (early_known (has_come heard.now) (sight_of sight.now)) false)) }
+        ensures { OnOk result ((t : List ℕ) → is_used self.new t ≡
+            (is_used self.old t || option_map_or (bytes_eq t) (early_known (has_come heard.now) (sight_of sight.now)) false)) }
     {
         match used_early(heard, sight) {
             Some(token) => self.add(token),

@@ -1,4 +1,4 @@
-ghost use Rattle.std.specs.Prelude.{◌≡◌, List, ℕ, OnOk, None, Some, if◌then◌else◌};
+ghost use Rattle.std.specs.Prelude.{◌≡◌, OnOk, None, Some, if◌then◌else◌};
 ghost use Rattle.mip_provenance.specs.Firsts.{same_key};
 ghost use Rattle.mip_provenance_index.specs.Firsts.{UpdateKey, key_named, first_at};
 

@@ -7,7 +7,7 @@ ghost use Rattle.mip_provenance.specs.Sights.Sight.{Heard as OfHeard};
 ghost use Rattle.mip_provenance_index.specs.Sights.{sight_of};
 ghost use Rattle.mip_provenance_index.specs.declared.sight.Sight.TheVariants as seen;
 ghost use Rattle.mip_provenance_index.specs.Tokens.{is_spelled};
-ghost use Rattle.mip_provenance_index.specs.Heard.{coming_of, has_come, arrival_from, heard_by, arrivals_new};
+ghost use Rattle.mip_provenance_index.specs.Heard.{coming_of, has_come, heard_by, arrivals_new};
 
 use crate::arrival::Arrival;
 use crate::sight::Sight;
@@ -62,7 +62,8 @@ impl Heard {
     /// Takes one more token.
     fn add(&mut self, outsider: u8, token: Token) -> Result<(), Memory>
         ensures known { OnOk result ((o : ℕ) (t : List ℕ) → has_come self.new o t ≡ (has_come self.old o t || is_heard o t (OfHeard outsider (Some token.0)))) }
-        ensures list { OnOk result (self.new.list.items ≡ self.old.list.items ++ (if has_come self.old outsider token.0 then [] else record { outsider = outsider; token = token } ∷ [])) }
+        ensures list { OnOk result (self.new.list.items ≡
+            self.old.list.items ++ (if has_come self.old outsider token.0 then [] else record { outsider = outsider; token = token } ∷ [])) }
     {
         let coming = coming(outsider, token);
         if self.known.insert(coming)? {
@@ -73,7 +74,8 @@ impl Heard {
 
     /// Takes what an outsider heard: a test with this token, or none.
     pub fn hear(&mut self, outsider: u8, token: Option<Token>) -> Result<(), Memory>
-        ensures known { OnOk result ((o : ℕ) (t : List ℕ) → has_come self.new o t ≡ (has_come self.old o t || is_heard o t (sight_of (seen.Heard outsider token)))) }
+        ensures known { OnOk result ((o : ℕ) (t : List ℕ) → has_come self.new o t ≡
+            (has_come self.old o t || is_heard o t (sight_of (seen.Heard outsider token)))) }
         ensures list { OnOk result (self.new.list.items ≡ self.old.list.items ++ arrivals_new (has_come self.old) (seen.Heard outsider token)) }
     {
         match token {

@@ -37,7 +37,8 @@ impl Made {
 
     /// Takes one more pair, unless there is one for this packet.
     fn add(&mut self, node: NodeId, number: u64, pair: Pair) -> Result<(), Memory>
-        ensures { OnOk result ((n k : ℕ) → made_at self.new n k ≡ option_or (made_at self.old n k) (made_with n k (OfMade node.0 number pair.home.0 (option_map (λ t. t.0) pair.careof)))) }
+        ensures { OnOk result ((n k : ℕ) → made_at self.new n k ≡
+            option_or (made_at self.old n k) (made_with n k (OfMade node.0 number pair.home.0 (option_map (λ t. t.0) pair.careof)))) }
     {
         let making = (node.0, number);
         if self.map.contains_key(&making) {

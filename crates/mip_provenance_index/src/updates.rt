@@ -1,6 +1,5 @@
-ghost use Rattle.std.specs.Prelude.{◌≡◌, ◌==◌, ℕ, List, Option, OnOk, IfOk, None, Some, option_map, if◌then◌else◌};
-ghost use Rattle.mip_packets.specs.Says.{UpdateIdentity, key_of};
-ghost use Rattle.mip_provenance.specs.Firsts.{same_key};
+ghost use Rattle.std.specs.Prelude.{◌≡◌, ◌==◌, ℕ, Option, OnOk, IfOk, None, Some, option_map, if◌then◌else◌};
+ghost use Rattle.mip_packets.specs.Says.{UpdateIdentity};
 ghost use Rattle.mip_provenance_index.specs.Sights.{sight_of};
 ghost use Rattle.mip_provenance_index.specs.Updates.{AreOf, update_at, update_posted, posting_of, chosen, look_step, at_step};
 
@@ -51,7 +50,8 @@ impl Updates {
 
     /// The first packet of an update that is posted: this one, unless there was one before.
     fn chosen(&mut self, alloc: Global, heard: usize, posting: &Posting) -> Result<First, Memory>
-        ensures keys { (look : UpdateIdentity → Option First) → AreOf self.old look → IfOk result (λ f. (f ≡ chosen heard (posting_of posting.now) look) × AreOf self.new (look_step heard (Some (posting_of posting.now)) look)) }
+        ensures keys { (look : UpdateIdentity → Option First) → AreOf self.old look
+            → IfOk result (λ f. (f ≡ chosen heard (posting_of posting.now) look) × AreOf self.new (look_step heard (Some (posting_of posting.now)) look)) }
         ensures numbers { OnOk result (self.new.by_number ≡ self.old.by_number) }
     {
         let key = update_key(alloc, &posting.key)?;
@@ -71,8 +71,10 @@ impl Updates {
 
     /// Takes one more packet with an update.
     fn add(&mut self, alloc: Global, heard: usize, posting: &Posting) -> Result<(), Memory>
-        ensures keys { (look : UpdateIdentity → Option First) → AreOf self.old look → OnOk result (AreOf self.new (look_step heard (Some (posting_of posting.now)) look)) }
-        ensures numbers { (look : UpdateIdentity → Option First) → AreOf self.old look → OnOk result ((k : ℕ) → update_at self.new k ≡ at_step heard (Some (posting_of posting.now)) look (update_at self.old) k) }
+        ensures keys { (look : UpdateIdentity → Option First) → AreOf self.old look
+            → OnOk result (AreOf self.new (look_step heard (Some (posting_of posting.now)) look)) }
+        ensures numbers { (look : UpdateIdentity → Option First) → AreOf self.old look
+            → OnOk result ((k : ℕ) → update_at self.new k ≡ at_step heard (Some (posting_of posting.now)) look (update_at self.old) k) }
     {
         let first = self.chosen(alloc, heard, posting)?;
         self.put(posting.number, first)?;
@@ -81,8 +83,10 @@ impl Updates {
 
     /// Takes one more sight, where so many tokens had come to outsiders.
     pub fn note(&mut self, alloc: Global, heard: usize, sight: &Sight) -> Result<(), Memory>
-        ensures keys { (look : UpdateIdentity → Option First) → AreOf self.old look → OnOk result (AreOf self.new (look_step heard (update_posted (sight_of sight.now)) look)) }
-        ensures numbers { (look : UpdateIdentity → Option First) → AreOf self.old look → OnOk result ((k : ℕ) → update_at self.new k ≡ at_step heard (update_posted (sight_of sight.now)) look (update_at self.old) k) }
+        ensures keys { (look : UpdateIdentity → Option First) → AreOf self.old look
+            → OnOk result (AreOf self.new (look_step heard (update_posted (sight_of sight.now)) look)) }
+        ensures numbers { (look : UpdateIdentity → Option First) → AreOf self.old look
+            → OnOk result ((k : ℕ) → update_at self.new k ≡ at_step heard (update_posted (sight_of sight.now)) look (update_at self.old) k) }
     {
         match update_in(sight) {
             Some(posting) => self.add(alloc, heard, &posting),

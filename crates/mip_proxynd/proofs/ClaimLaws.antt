@@ -7,7 +7,7 @@ use Rattle.std.specs.Ordering.{nat_cmp}
 use Rattle.std.proofs.lemmas.Bool.{cases_Bool, ne_eqb}
 use Rattle.std.proofs.lemmas.Bool.Decides.{nat_tests}
 use Rattle.mip_words.specs.declared.address.Address.{Address}
-use Rattle.mip_lists.specs.Asked.{asked}
+use Rattle.mip_words.specs.Asked.{asked}
 use Rattle.mip_entries.specs.declared.entry.Entry.{Entry}
 use Rattle.mip_entries.specs.declared.entry.Entry.TheVariants as entries
 use Rattle.mip_proxynd.specs.declared.claim.Claim.{Claim}

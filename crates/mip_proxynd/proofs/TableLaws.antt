@@ -9,8 +9,8 @@ use Rattle.std.proofs.lemmas.Bool.Decides.{nat_tests}
 use Rattle.std.proofs.lemmas.List.{append_assoc, append-nil}
 use Rattle.mip_words.specs.declared.address.Address.{Address}
 use Rattle.mip_words.specs.declared.ids.LinkId.{LinkId}
-use Rattle.mip_lists.specs.Last.{or_else, last_where}
-use Rattle.mip_lists.proofs.LastLaws.{last_where-push}
+use Rattle.mip_words.specs.Last.{or_else, last_where}
+use Rattle.mip_words.proofs.LastLaws.{last_where-push}
 use Rattle.mip_entries.specs.declared.entry.Entry.{Entry}
 use Rattle.mip_entries.specs.declared.entry.Entry.TheVariants as entries
 use Rattle.mip_proxynd.specs.declared.claim.Claim.{Claim}

@@ -6,7 +6,7 @@ use Rattle.std.specs.Map.{lookup}
 use Rattle.std.specs.Option.{option_to_list}
 use Rattle.std.specs.Ordering.{nat_cmp, ordering_then}
 use Rattle.std.specs.declared.cmp.Ordering.{Ordering}
-use Rattle.mip_lists.specs.Last.{or_else, last_where}
+use Rattle.mip_words.specs.Last.{or_else, last_where}
 use Rattle.mip_proxynd.specs.declared.neighbour_entry.NeighbourEntry.{NeighbourEntry}
 use Rattle.mip_proxynd.specs.declared.neighbour.Neighbour.{Neighbour}
 use Rattle.mip_proxynd.specs.declared.neighbour.Neighbour.TheVariants.{Solicit, Advert}

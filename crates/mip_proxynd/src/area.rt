@@ -1,6 +1,6 @@
 //! The options of a message, one after another.
 
-ghost use Rattle.std.specs.Prelude.{◌≡◌, ◌≤◌, ◌<◌, length, slice_index, IfOk};
+ghost use Rattle.std.specs.Prelude.{◌≡◌, ◌≤◌, ◌<◌, length, IfOk};
 ghost use Rattle.mip_words.specs.Steps.{Gives};
 ghost use Rattle.mip_proxynd.specs.Options.{has_units, layer_at};
 ghost use Rattle.mip_proxynd.specs.Reading.{noted, option_at, area_of};

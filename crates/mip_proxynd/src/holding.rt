@@ -1,6 +1,6 @@
 //! The lines of the claims that stand.
 
-ghost use Rattle.std.specs.Prelude.{◌≡◌, ◌++◌, length, OnOk};
+ghost use Rattle.std.specs.Prelude.{◌≡◌, ◌++◌, OnOk};
 ghost use Rattle.mip_proxynd.specs.Text.{holds_line, holds_of, holds_on, holds};
 
 use crate::address_claims::AddressClaims;

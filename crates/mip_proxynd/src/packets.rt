@@ -1,6 +1,6 @@
 //! Neighbour messages in packets.
 
-ghost use Rattle.std.specs.Prelude.{◌≡◌, length, false, true, Some, Ok, IfOk, slice_get};
+ghost use Rattle.std.specs.Prelude.{◌≡◌, false, true, Some, Ok, IfOk, slice_get};
 ghost use Rattle.mip_ipv6.specs.Reading.{packet_of};
 ghost use Rattle.mip_symbols.specs.Places.{members};
 ghost use Rattle.mip_symbols.specs.declared.places.Sort.TheVariants as sorts;
@@ -14,9 +14,9 @@ ghost use Rattle.mip_proxynd.specs.Spelling.{neighbour_bytes};
 use crate::neighbour::Neighbour;
 use crate::reading::NEAR;
 use crate::writing::write_neighbour;
-use mip_constants::protocol::ICMPV6;
 use mip_ipv6::{Head, WriteFault, write_packet};
 use mip_symbols::{Declaration, Sort, member};
+use mip_words::protocol::ICMPV6;
 use mip_words::{Address, Bytes, Holder, Memory, NodeId};
 use std::alloc::Global;
 

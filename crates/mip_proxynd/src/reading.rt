@@ -8,9 +8,9 @@ use crate::area::read_area;
 use crate::fault::NeighbourFault;
 use crate::fields::{ADVERT, SOLICIT, is_group, message_of};
 use crate::neighbour::Neighbour;
-use mip_constants::protocol::ICMPV6;
 use mip_ipv6::checksum_holds;
 use mip_words::Address;
+use mip_words::protocol::ICMPV6;
 
 /// The hop limit of a packet that passed no router.
 pub(crate) const NEAR: u8 = 255;

@@ -3,7 +3,7 @@ ghost use Rattle.mip_entries.specs.declared.entry.Entry as entries;
 ghost use Rattle.mip_proxynd.specs.Adverts.{layer_of, adverts_heard};
 ghost use Rattle.mip_proxynd.specs.Claims.{claim_in};
 ghost use Rattle.mip_proxynd.specs.Fields.{is_group};
-ghost use Rattle.mip_proxynd.specs.Tables.{Heard, IsTable, kept_at, kept_after, kept_in, holder_of};
+ghost use Rattle.mip_proxynd.specs.Tables.{Heard, IsTable, kept_at, kept_after, holder_of};
 ghost use Rattle.mip_proxynd.specs.declared.claim.Claim as claims;
 
 use crate::neighbour::Neighbour;
@@ -55,7 +55,8 @@ impl Table {
 
     /// Takes what one more advertisement says: it counts where it overrides, or is the first.
     fn keep(&mut self, link: LinkId, address: Address, kept: NeighbourEntry) -> Result<(), Memory>
-        ensures ok { OnOk result ((l a : ℕ) → kept_at self.new l a ≡ (if link.0 == l && address.0 == a then kept_after kept (kept_at self.old l a) else kept_at self.old l a)) }
+        ensures ok { OnOk result ((l a : ℕ) → kept_at self.new l a ≡
+            (if link.0 == l && address.0 == a then kept_after kept (kept_at self.old l a) else kept_at self.old l a)) }
         ensures err { OnErr result (self.new ≡ self.old) }
     {
         match self.kept(link, address) {

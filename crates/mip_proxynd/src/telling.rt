@@ -1,9 +1,9 @@
 //! The text of the claims of a history, piece by piece.
 
-ghost use Rattle.std.specs.Prelude.{◌≡◌, ◌++◌, [], length, false, IfOk, OnOk};
+ghost use Rattle.std.specs.Prelude.{◌≡◌, ◌++◌, false, IfOk, OnOk};
 ghost use Rattle.mip_proxynd.specs.Claims.{rows_in};
 ghost use Rattle.mip_proxynd.specs.Fields.{is_group};
-ghost use Rattle.mip_proxynd.specs.Text.{who_text, advert_line, advert_of, adverts, answered, answer_of, asked_text, holds, end_text, claims_text};
+ghost use Rattle.mip_proxynd.specs.Text.{who_text, advert_line, advert_of, adverts, answered, answer_of, asked_text, end_text, claims_text};
 
 use crate::address_claims::AddressClaims;
 use crate::claim::Claim;

@@ -8,8 +8,8 @@ ghost use Rattle.mip_proxynd.specs.Spelling.{flag_worth, flags_of, layer_bytes, 
 
 use crate::fields::{ADVERT, OVERRIDE, ROUTER, SOLICIT, SOLICITED};
 use crate::neighbour::Neighbour;
-use mip_constants::protocol::ICMPV6;
 use mip_ipv6::checksum;
+use mip_words::protocol::ICMPV6;
 use mip_words::{Address, Bytes, Memory};
 use std::alloc::Global;
 

@@ -1,6 +1,6 @@
 -- The acknowledgement of an update. RFC 6275 sections 6.1.8 and 9.5.4
 use Rattle.std.specs.Prelude.{ℕ, List, false, ◌==◌, if◌then◌else◌, Option, Some, None}
-use Rattle.mip_constants.specs.Protocols.{mobility_header}
+use Rattle.mip_words.specs.Protocols.{mobility_header}
 use Rattle.mip_words.specs.declared.address.Address.{Address}
 use Rattle.mip_ipv6.specs.declared.head.Head.{Head}
 use Rattle.mip_mobhdr.specs.OptionValues.{nothing}

@@ -1,6 +1,6 @@
 -- What every node checks of a packet before its role looks at it. RFC 6275 sections 6.1.3, 6.4, 9.2, 9.3.1 and 9.3.3
 use Rattle.std.specs.Prelude.{ℕ, ◌+◌, Bool, true, false, not, ◌&&◌, ◌||◌, ◌==◌, if◌then◌else◌, Option, Some, None, is_some, unwrap_or, Result, Ok, Err}
-use Rattle.mip_constants.specs.Protocols.{mobility_header}
+use Rattle.mip_words.specs.Protocols.{mobility_header}
 use Rattle.mip_words.specs.declared.address.Address.{Address}
 use Rattle.mip_words.specs.declared.why.Why.{Why}
 use Rattle.mip_words.specs.declared.why.Why.TheVariants as whys

@@ -8,12 +8,12 @@ ghost use Rattle.mip_reception.specs.Acks.{route_unless, ack_head, acknowledgeme
 
 use crate::asks::registered_of;
 use crate::registration::Registration;
-use mip_constants::protocol::MOBILITY_HEADER;
 use mip_ipv6::Head;
 use mip_mobhdr::Plain;
 use mip_packets::{
     NO_OPTIONS, PreparedKbm, node_head, write_authenticated_packet, write_message_packet,
 };
+use mip_words::protocol::MOBILITY_HEADER;
 use mip_words::{Address, Bytes, Memory};
 use std::alloc::Global;
 

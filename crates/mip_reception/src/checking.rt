@@ -2,7 +2,7 @@
 //! 9.3.3).
 
 ghost use Rattle.std.specs.Prelude.{◌≡◌, ◌<◌, ◌-◌, ◌^◌, ◌==◌, IfOk, option_map, is_some};
-ghost use Rattle.mip_constants.specs.Protocols.{mobility_header};
+ghost use Rattle.mip_words.specs.Protocols.{mobility_header};
 ghost use Rattle.mip_words.specs.Steps.{Gives};
 ghost use Rattle.mip_ipv6.specs.Packet.{packet as tree};
 ghost use Rattle.mip_mobhdr.specs.Said.{said};
@@ -13,9 +13,9 @@ use crate::address_match::AddressMatch;
 use crate::refusal::Refusal;
 use crate::reply::Reply;
 use crate::wording::message_why;
-use mip_constants::protocol::MOBILITY_HEADER;
 use mip_ipv6::PacketRef;
 use mip_mobhdr::{Fault, Message, read_message};
+use mip_words::protocol::MOBILITY_HEADER;
 use mip_words::{Address, Why};
 
 fn silent(why: Why) -> Refusal

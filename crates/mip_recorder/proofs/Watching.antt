@@ -7,10 +7,10 @@ use Rattle.std.proofs.lemmas.Bool.{and_parts, eqb-true, ltb-true, ne_eqb, eq-eqb
 use Rattle.std.proofs.lemmas.List.{append_assoc, append-nil}
 use Rattle.std.proofs.lemmas.List.Sums.{fold-append}
 use Rattle.std.proofs.lemmas.List.Elements.{filter_map-append}
-use Rattle.std.proofs.lemmas.Option.{slice_get_past, slice_get_within}
-use Rattle.mip_lists.specs.Last.{or_else}
-use Rattle.mip_lists.specs.EachAfter.{EachAfter}
-use Rattle.mip_lists.proofs.EachLaws.{each-append, each_at}
+use Rattle.std.proofs.lemmas.Option.{slice_get_past}
+use Rattle.mip_words.specs.Last.{or_else}
+use Rattle.mip_words.specs.EachAfter.{EachAfter}
+use Rattle.mip_words.proofs.EachLaws.{each-append, each_at}
 use Rattle.mip_entries.specs.declared.entry.Entry.{Entry}
 use Rattle.mip_entries.specs.declared.entry.Entry.TheVariants as entries
 use Rattle.mip_provenance.specs.Entries.{packet_told, packet_in}

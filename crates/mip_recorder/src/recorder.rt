@@ -128,7 +128,9 @@ fn follow(
     tokens: &mut Vec<Option<Token>>,
     entry: &Entry,
 ) -> Result<(), Memory>
-    ensures { (past : List Entry) → IsWatched watch.old past tokens.old.items → comes_next (length tokens.old.items) entry.now ≡ true → OnOk result (IsWatched watch.new (past ++ entry.now ∷ []) tokens.new.items) }
+    ensures { (past : List Entry) → IsWatched watch.old past tokens.old.items
+        → comes_next (length tokens.old.items) entry.now ≡ true
+        → OnOk result (IsWatched watch.new (past ++ entry.now ∷ []) tokens.new.items) }
 {
     let heard = heard(tokens.as_slice(), entry);
     let token = watch.note(alloc, entry, heard)?;

@@ -2,7 +2,7 @@
 use Rattle.std.proofs.Common.{◌≡◌, ℕ, [], ◌∷◌, refl, sym, ap, ◌∙◌}
 use Rattle.std.specs.Prelude.{◌*◌, ◌^◌, Option, Some, None, option_map, option_and_then}
 use Rattle.std.proofs.lemmas.List.{append-nil}
-use Rattle.mip_constants.specs.Constants.{initial_dhaad_timeout}
+use Rattle.mip_words.specs.Constants.{initial_dhaad_timeout}
 use Rattle.mip_words.specs.declared.address.Address.{Address}
 use Rattle.mip_entries.specs.Shows.{ShowsBy}
 use Rattle.mip_entries.proofs.TransitionLaws.{noted-now, noted-known, noted_all-is}

@@ -12,10 +12,10 @@ ghost use Rattle.mip_discovery.specs.Retries.{DiscoverySeen, retried};
 use crate::packets::{write_deregistration, write_discovery, write_registration};
 use mip_bulist::{HomeTimer, Work};
 use mip_call_context::CallContext;
-use mip_constants::{
+use mip_rules_mobile::{Attachment, HomeUpdate};
+use mip_words::constants::{
     INITIAL_BINDACK_TIMEOUT, INITIAL_BINDACK_TIMEOUT_FIRST_REG, INITIAL_DHAAD_TIMEOUT,
 };
-use mip_rules_mobile::{Attachment, HomeUpdate};
 use mip_words::{Address, Memory};
 use std::alloc::Global;
 
@@ -221,7 +221,8 @@ pub fn register_or_deregister(alloc: Global, context: &mut CallContext) -> Resul
 
 /// A registration is undone, if there was one.
 fn undo(alloc: Global, context: &mut CallContext) -> Result<(), Memory>
-    ensures { (t : Transition) → Shows context.old t → OnOk result (Shows context.new (if context.old.known.owes then deregisters_at (agent_of context.old.known context.old.moment) t else t)) }
+    ensures { (t : Transition) → Shows context.old t
+        → OnOk result (Shows context.new (if context.old.known.owes then deregisters_at (agent_of context.old.known context.old.moment) t else t)) }
 {
     if context.owes() {
         let agent = context.agent();

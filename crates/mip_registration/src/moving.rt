@@ -1,6 +1,6 @@
 //! How a mobile comes to a link (RFC 6275 sections 11.5.1 to 11.5.5).
 
-ghost use Rattle.std.specs.Prelude.{◌≡◌, ◌%◌, ◌^◌, ◌<◌, OnOk};
+ghost use Rattle.std.specs.Prelude.{◌≡◌, ◌%◌, ◌<◌, OnOk};
 ghost use Rattle.mip_rules_mobile.specs.Transitions.{Transition};
 ghost use Rattle.mip_rules_mobile.specs.MovingRules.{address_under, arrives_by, arrives};
 ghost use Rattle.mip_call_context.specs.Seen.{Shows};

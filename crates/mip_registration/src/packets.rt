@@ -4,11 +4,11 @@ ghost use Rattle.std.specs.Prelude.{◌≡◌, IsTrue, IfOk};
 ghost use Rattle.mip_words.specs.Addresses.{is_routable};
 ghost use Rattle.mip_rules_mobile.specs.Sendings.{agents_of, registration_packet, deregistration_packet, discovery_packet, solicitation_packet};
 
-use mip_constants::MAX_HOME_LIFETIME;
-use mip_constants::protocol::{ICMPV6, MOBILITY_HEADER};
 use mip_icmp::{PlainIcmp, write_icmp};
 use mip_mobhdr::{OptionSet, Plain};
 use mip_packets::{NO_OPTIONS, node_head, straight, write_data_packet, write_message_packet};
+use mip_words::constants::MAX_HOME_LIFETIME;
+use mip_words::protocol::{ICMPV6, MOBILITY_HEADER};
 use mip_words::{Address, Bytes, Memory};
 use std::alloc::Global;
 

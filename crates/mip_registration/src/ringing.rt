@@ -1,6 +1,6 @@
 //! The timers of the home registration (RFC 6275 sections 11.7.1 and 11.8).
 
-ghost use Rattle.std.specs.Prelude.{◌≡◌, OnOk};
+ghost use Rattle.std.specs.Prelude.{OnOk};
 ghost use Rattle.mip_rules_mobile.specs.Transitions.{Transition};
 ghost use Rattle.mip_rules_mobile.specs.RingingRules.{renews_home, ends_home};
 ghost use Rattle.mip_call_context.specs.Seen.{Shows};

@@ -45,7 +45,8 @@ fn hear_router(
     node: NodeId,
     router: Router,
 ) -> Result<(), Memory>
-    ensures stands { (s : Setup) (run : Run) → IsAt engine.old s run → OnOk result (IsAt engine.new s (hears_of_router s link.0 node.0 run (Some (seen_router router)))) }
+    ensures stands { (s : Setup) (run : Run) → IsAt engine.old s run
+        → OnOk result (IsAt engine.new s (hears_of_router s link.0 node.0 run (Some (seen_router router)))) }
     ensures kept { OnOk result (engine.new.told ≡ engine.old.told) }
 {
     engine.note(Entry::Advertised {
@@ -69,7 +70,8 @@ fn hear_other(
     node: NodeId,
     other: u8,
 ) -> Result<(), Memory>
-    ensures stands { (s : Setup) (run : Run) → IsAt engine.old s run → OnOk result (IsAt engine.new s (hears_of_router s link.0 node.0 run (router_at s link.0 other))) }
+    ensures stands { (s : Setup) (run : Run) → IsAt engine.old s run
+        → OnOk result (IsAt engine.new s (hears_of_router s link.0 node.0 run (router_at s link.0 other))) }
     ensures kept { OnOk result (engine.new.told ≡ engine.old.told) }
 {
     match router_on(engine, link, NodeId(other)) {
@@ -123,7 +125,8 @@ fn hear_others(alloc: Global, engine: &mut Engine, link: LinkId, node: NodeId) -
 
 /// A node that is an agent of the link hears of each other one.
 fn hear_all(alloc: Global, engine: &mut Engine, link: LinkId, node: NodeId) -> Result<(), Memory>
-    ensures stands { (s : Setup) (run : Run) → IsAt engine.old s run → OnOk result (IsAt engine.new s (hears_of_all s link.0 node.0 run (router_at s link.0 node.0))) }
+    ensures stands { (s : Setup) (run : Run) → IsAt engine.old s run
+        → OnOk result (IsAt engine.new s (hears_of_all s link.0 node.0 run (router_at s link.0 node.0))) }
     ensures kept { OnOk result (engine.new.told ≡ engine.old.told) }
 {
     match router_on(engine, link, node) {
@@ -159,7 +162,9 @@ fn attach(
     prefix: Prefix,
     node: NodeId,
 ) -> Result<(), Memory>
-    ensures stands { (s : Setup) (run : Run) → IsAt engine.old s run → prefix.0 ≡ slice_index_or s.links link.0 0 → OnOk result (IsAt engine.new s (acts s node.0 (Attach (slice_index_or s.links link.0 0)) (note (Advertised node link None) run))) }
+    ensures stands { (s : Setup) (run : Run) → IsAt engine.old s run
+        → prefix.0 ≡ slice_index_or s.links link.0 0
+        → OnOk result (IsAt engine.new s (acts s node.0 (Attach (slice_index_or s.links link.0 0)) (note (Advertised node link None) run))) }
     ensures kept { OnOk result (engine.new.told ≡ engine.old.told) }
 {
     engine.note(Entry::Advertised {
@@ -178,7 +183,9 @@ fn tell_mobile(
     prefix: Prefix,
     node: NodeId,
 ) -> Result<(), Memory>
-    ensures stands { (s : Setup) (run : Run) → IsAt engine.old s run → prefix.0 ≡ slice_index_or s.links link.0 0 → OnOk result (IsAt engine.new s (mobile_told s link.0 node.0 run)) }
+    ensures stands { (s : Setup) (run : Run) → IsAt engine.old s run
+        → prefix.0 ≡ slice_index_or s.links link.0 0
+        → OnOk result (IsAt engine.new s (mobile_told s link.0 node.0 run)) }
     ensures kept { OnOk result (engine.new.told ≡ engine.old.told) }
 {
     if roams_on(engine, link, node) {
@@ -196,7 +203,9 @@ fn tell_mobiles(
     prefix: Prefix,
     count: u8,
 ) -> Result<(), Memory>
-    ensures stands { (s : Setup) (run : Run) → IsAt engine.old s run → prefix.0 ≡ slice_index_or s.links link.0 0 → OnOk result (IsAt engine.new s (mobiles_told s link.0 count run)) }
+    ensures stands { (s : Setup) (run : Run) → IsAt engine.old s run
+        → prefix.0 ≡ slice_index_or s.links link.0 0
+        → OnOk result (IsAt engine.new s (mobiles_told s link.0 count run)) }
     ensures kept { OnOk result (engine.new.told ≡ engine.old.told) }
 {
     for node in 0..count {

@@ -1,6 +1,5 @@
 ghost use Rattle.std.specs.Prelude.{◌≡◌, ◌<◌, ◌≤◌, length, true, IfOk, IfSome, option_map, Some};
 ghost use Rattle.mip_words.specs.Addresses.{is_routable};
-ghost use Rattle.mip_mobhdr.specs.declared.indices.Indices.{Indices as IndicesSeen};
 ghost use Rattle.mip_mobhdr.specs.Said.{said_plain};
 ghost use Rattle.mip_mobhdr.specs.Spelling.{HasNumber};
 ghost use Rattle.mip_rules_mobile.specs.Sendings.{number_option};
@@ -9,11 +8,11 @@ ghost use Rattle.mip_history.specs.Outsiders.{bind_head, bind_message, bind_pack
 ghost use Rattle.mip_replay.specs.Forged as seen;
 
 use crate::told::Told;
-use mip_constants::protocol::MOBILITY_HEADER;
 use mip_ipv6::Head;
 use mip_mobhdr::{Indices, OptionSet, Plain};
 use mip_packets::{node_head, write_authenticated_packet};
 use mip_tokens::{Kbm, PreparedKbm};
+use mip_words::protocol::MOBILITY_HEADER;
 use mip_words::{Address, Bytes, Memory};
 use std::alloc::Global;
 
@@ -92,7 +91,8 @@ fn authenticated_packet(
 ) -> Result<Bytes, Memory>
     requires home { is_routable binding.home.0 ≡ true }
     requires number { binding.number < 8 }
-    ensures is { IfOk result (λ b. b ≡ authenticated_packet (bind_head (seen.binding binding)) kbm.0 careof binding.peer (bind_message (seen.binding binding) indices.home indices.careof)) }
+    ensures is { IfOk result (λ b. b ≡
+        authenticated_packet (bind_head (seen.binding binding)) kbm.0 careof binding.peer (bind_message (seen.binding binding) indices.home indices.careof)) }
     ensures long { IfOk result (λ b. 40 ≤ length b) }
 {
     let head = head(binding);

@@ -1,11 +1,11 @@
 //! Packets are delivered.
 
-ghost use Rattle.std.specs.Prelude.{◌≡◌, ◌<◌, ◌≤◌, length, Option, Some, OnOk, option_map, slice_get};
+ghost use Rattle.std.specs.Prelude.{◌≡◌, ◌<◌, length, Option, Some, OnOk, option_map, slice_get};
 ghost use Rattle.mip_links.specs.Table.{Post, fate_of, holder_outside};
 ghost use Rattle.mip_links.specs.Table.Fate.{Gone, Outsider, Node};
 ghost use Rattle.mip_history.specs.Setup.{Setup};
 ghost use Rattle.mip_history.specs.Runs.{Run};
-ghost use Rattle.mip_history.specs.Delivery.{became, hears_there, carried, carried_one, delivered, handed, held_by_outsider, is_no_holder, overheard_at};
+ghost use Rattle.mip_history.specs.Delivery.{became, hears_there, carried, carried_one, delivered, is_no_holder, overheard_at};
 ghost use Rattle.mip_history.specs.Permitted.{lost};
 ghost use Rattle.mip_links.specs.Nets.{lowest_of};
 ghost use Rattle.mip_engine.specs.Standing.{IsAt};
@@ -30,7 +30,8 @@ fn overhear_at(
     link: Option<LinkId>,
 ) -> Result<(), Memory>
     requires { number < length engine.old.net.posts }
-    ensures stands { (s : Setup) (run : Run) (post : Post) → IsAt engine.old s run → shield ≡ post.shield → OnOk result (IsAt engine.new s (overheard_at s post number (option_map (λ l. l.0) link) run)) }
+    ensures stands { (s : Setup) (run : Run) (post : Post) → IsAt engine.old s run → shield ≡ post.shield
+        → OnOk result (IsAt engine.new s (overheard_at s post number (option_map (λ l. l.0) link) run)) }
     ensures kept { OnOk result (engine.new.told ≡ engine.old.told) }
 {
     match link {
@@ -42,7 +43,9 @@ fn overhear_at(
 /// A packet comes to nobody.
 fn vanish(engine: &mut Engine, number: u64, why: Why, arrival: Arrival) -> Result<(), Memory>
     requires { number < length engine.old.net.posts }
-    ensures stands { (s : Setup) (run : Run) (post : Post) → IsAt engine.old s run → arrival.shield ≡ post.shield → OnOk result (IsAt engine.new s (became s number post (option_map (λ l. l.0) arrival.link) run (Gone why))) }
+    ensures stands { (s : Setup) (run : Run) (post : Post) → IsAt engine.old s run
+        → arrival.shield ≡ post.shield
+        → OnOk result (IsAt engine.new s (became s number post (option_map (λ l. l.0) arrival.link) run (Gone why))) }
     ensures kept { OnOk result (engine.new.told ≡ engine.old.told) }
 {
     if is_no_holder(why) {
@@ -69,7 +72,9 @@ fn reach_outsider(
     arrival: Arrival,
 ) -> Result<(), Memory>
     requires { number < length engine.old.net.posts }
-    ensures stands { (s : Setup) (run : Run) (post : Post) → IsAt engine.old s run → arrival.shield ≡ post.shield → OnOk result (IsAt engine.new s (became s number post (option_map (λ l. l.0) arrival.link) run (Outsider (holder_outside outsider)))) }
+    ensures stands { (s : Setup) (run : Run) (post : Post) → IsAt engine.old s run
+        → arrival.shield ≡ post.shield
+        → OnOk result (IsAt engine.new s (became s number post (option_map (λ l. l.0) arrival.link) run (Outsider (holder_outside outsider)))) }
     ensures kept { OnOk result (engine.new.told ≡ engine.old.told) }
 {
     overhear_at(engine, number, arrival.shield, arrival.link)?;
@@ -88,7 +93,9 @@ fn reach_node(
     arrival: Arrival,
 ) -> Result<(), Memory>
     requires { number < length engine.old.net.posts }
-    ensures stands { (s : Setup) (run : Run) (post : Post) → IsAt engine.old s run → slice_get run.posts number ≡ Some post → arrival.shield ≡ post.shield → OnOk result (IsAt engine.new s (became s number post (option_map (λ l. l.0) arrival.link) run (Node node.0))) }
+    ensures stands { (s : Setup) (run : Run) (post : Post) → IsAt engine.old s run
+        → slice_get run.posts number ≡ Some post → arrival.shield ≡ post.shield
+        → OnOk result (IsAt engine.new s (became s number post (option_map (λ l. l.0) arrival.link) run (Node node.0))) }
     ensures kept { OnOk result (engine.new.told ≡ engine.old.told) }
 {
     let packet = engine.handed_packet(alloc, number, arrival.link)?;
@@ -104,7 +111,9 @@ fn reach_node(
 
 fn reach(alloc: Global, engine: &mut Engine, number: u64, arrival: Arrival) -> Result<(), Memory>
     requires { number < length engine.old.net.posts }
-    ensures stands { (s : Setup) (run : Run) (post : Post) → IsAt engine.old s run → slice_get run.posts number ≡ Some post → arrival.shield ≡ post.shield → OnOk result (IsAt engine.new s (became s number post (option_map (λ l. l.0) arrival.link) run (fate_of arrival.delivery))) }
+    ensures stands { (s : Setup) (run : Run) (post : Post) → IsAt engine.old s run
+        → slice_get run.posts number ≡ Some post → arrival.shield ≡ post.shield
+        → OnOk result (IsAt engine.new s (became s number post (option_map (λ l. l.0) arrival.link) run (fate_of arrival.delivery))) }
     ensures kept { OnOk result (engine.new.told ≡ engine.old.told) }
 {
     match arrival.delivery {

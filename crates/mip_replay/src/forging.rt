@@ -1,6 +1,6 @@
 //! The packets of outsiders: inits of tests, tests and updates.
 
-ghost use Rattle.std.specs.Prelude.{◌≡◌, ◌<◌, ◌≤◌, length, true, IfOk, IfSome, OnOk, option_map, Option, Some, ℕ};
+ghost use Rattle.std.specs.Prelude.{◌≡◌, ◌<◌, ◌≤◌, length, true, IfOk, IfSome, OnOk, option_map, Option, Some};
 ghost use Rattle.mip_words.specs.Addresses.{is_routable};
 ghost use Rattle.mip_packets.specs.Says.{kind_of};
 ghost use Rattle.mip_history.specs.Setup.{Setup};
@@ -149,7 +149,8 @@ pub(crate) fn probe(
     peer: Address,
     cookie: Cookie,
 ) -> Result<(), Memory>
-    ensures stands { (s : Setup) (run : Run) → IsAt engine.old s run → OnOk result (IsAt engine.new s (injected s run outsider link.0 (probe_packet careof source peer cookie.0))) }
+    ensures stands { (s : Setup) (run : Run) → IsAt engine.old s run
+        → OnOk result (IsAt engine.new s (injected s run outsider link.0 (probe_packet careof source peer cookie.0))) }
     ensures kept { OnOk result (engine.new.told ≡ engine.old.told) }
 {
     let packet = probe_packet(alloc, careof, source, peer, cookie)?;
@@ -168,7 +169,8 @@ pub(crate) fn bind(
 ) -> Result<(), Memory>
     requires home { is_routable binding.home.0 ≡ true }
     requires number { binding.number < 8 }
-    ensures stands { (s : Setup) (run : Run) → IsAt engine.old s run → OnOk result (IsAt engine.new s (injected_if s run outsider link.0 (update_packet (seen.binding binding) run.posts home careof))) }
+    ensures stands { (s : Setup) (run : Run) → IsAt engine.old s run
+        → OnOk result (IsAt engine.new s (injected_if s run outsider link.0 (update_packet (seen.binding binding) run.posts home careof))) }
     ensures kept { OnOk result (engine.new.told ≡ engine.old.told) }
 {
     let packet = update_from(alloc, engine, binding, home, careof)?;
@@ -184,7 +186,8 @@ pub(crate) fn tell(
     test: u64,
     init: u64,
 ) -> Result<(), Memory>
-    ensures stands { (s : Setup) (run : Run) → IsAt engine.old s run → OnOk result (IsAt engine.new s (injected_if s run outsider link.0 (test_packet run.posts test init))) }
+    ensures stands { (s : Setup) (run : Run) → IsAt engine.old s run
+        → OnOk result (IsAt engine.new s (injected_if s run outsider link.0 (test_packet run.posts test init))) }
     ensures kept { OnOk result (engine.new.told ≡ engine.old.told) }
 {
     let packet = test_from(alloc, engine, test, init)?;

@@ -160,7 +160,8 @@ fn node_is_asked(alloc: Global, engine: &mut Engine, event: &Event) -> Result<()
 fn settle(engine: &mut Engine, a: NodeId, b: NodeId) -> Result<(), Memory>
     requires first { a.0 < length engine.old.nodes }
     requires second { b.0 < length engine.old.nodes }
-    ensures stands { (s : Setup) (events : List Event) → IsAt engine.old s (run_of s events) → OnOk result (IsAt engine.new s (happens s (run_of s events) (Settle a b))) }
+    ensures stands { (s : Setup) (events : List Event) → IsAt engine.old s (run_of s events)
+        → OnOk result (IsAt engine.new s (happens s (run_of s events) (Settle a b))) }
     ensures kept { OnOk result (engine.new.told ≡ engine.old.told) }
 {
     engine.settle(a, b)
@@ -169,7 +170,8 @@ fn settle(engine: &mut Engine, a: NodeId, b: NodeId) -> Result<(), Memory>
 /// An event happens that finds the engine ready, behind the events of a run.
 pub(crate) fn happen(alloc: Global, engine: &mut Engine, event: &Event) -> Result<(), Memory>
     requires ready { IsReady engine.old event.now }
-    ensures stands { (s : Setup) (events : List Event) → IsAt engine.old s (run_of s events) → OnOk result (IsAt engine.new s (happens s (run_of s events) event.now)) }
+    ensures stands { (s : Setup) (events : List Event) → IsAt engine.old s (run_of s events)
+        → OnOk result (IsAt engine.new s (happens s (run_of s events) event.now)) }
     ensures kept { OnOk result (engine.new.told ≡ engine.old.told) }
 {
     match event {

@@ -56,7 +56,9 @@ fn begin_anew(
     homes: &[HomeRow],
 ) -> Result<(), Memory>
     requires { node.0 < length engine.old.nodes }
-    ensures stands { (s : Setup) (run : Run) (c : NodeSeen) → IsAt engine.old s run → slice_get engine.old.nodes node.0 ≡ Some c → OnOk result (IsAt engine.new s (begun_anew s node.0 homes.now run c.host.kind)) }
+    ensures stands { (s : Setup) (run : Run) (c : NodeSeen) → IsAt engine.old s run
+        → slice_get engine.old.nodes node.0 ≡ Some c
+        → OnOk result (IsAt engine.new s (begun_anew s node.0 homes.now run c.host.kind)) }
     ensures kept { OnOk result (engine.new.told ≡ engine.old.told) }
 {
     if engine.is_roaming(node) {
@@ -70,7 +72,9 @@ fn begin_anew(
 fn begin_life(alloc: Global, engine: &mut Engine, node: NodeId) -> Result<(), Memory>
     requires node { node.0 < length engine.old.nodes }
     requires life { (c : NodeSeen) → slice_get engine.old.nodes node.0 ≡ Some c → c.life + 1 < 2 ^ 32 }
-    ensures stands { (s : Setup) (run : Run) (c : NodeSeen) → IsAt engine.old s run → slice_get engine.old.nodes node.0 ≡ Some c → OnOk result (IsAt engine.new s (restarted s run node.0)) }
+    ensures stands { (s : Setup) (run : Run) (c : NodeSeen) → IsAt engine.old s run
+        → slice_get engine.old.nodes node.0 ≡ Some c
+        → OnOk result (IsAt engine.new s (restarted s run node.0)) }
     ensures kept { OnOk result (engine.new.told ≡ engine.old.told) }
 {
     let homes = registered_homes(alloc, engine, node)?;

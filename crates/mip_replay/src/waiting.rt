@@ -1,6 +1,6 @@
 //! Time goes on, and what is due meanwhile is done at its moment.
 
-ghost use Rattle.std.specs.Prelude.{◌≡◌, ◌+◌, ◌<◌, ◌≤◌, ◌^◌, suc, max, false, length, Option, None, Some, ◌&&◌, ◌==◌, IfOk, OnOk, option_map, slice_get};
+ghost use Rattle.std.specs.Prelude.{◌≡◌, ◌+◌, ◌<◌, ◌≤◌, ◌^◌, max, false, length, Option, None, Some, ◌&&◌, ◌==◌, IfOk, OnOk, option_map, slice_get};
 ghost use Rattle.std.specs.Option.{option_map_or};
 ghost use Rattle.mip_history.specs.Setup.{Setup};
 ghost use Rattle.mip_history.specs.Runs.{Run};
@@ -54,7 +54,8 @@ fn is_told(engine: &Engine, moment: Moment, told: bool) -> bool
 fn come_to(engine: &mut Engine, moment: Moment, told: bool) -> Result<(), Memory>
     requires later { engine.old.moment ≤ moment.0 }
     requires early { moment.0 < 2 ^ 62 }
-    ensures stands { (s : Setup) (run : Run) → IsAt engine.old s run → OnOk result (IsAt engine.new s (comes_to s moment.0 (record { run = run; told = told })).run) }
+    ensures stands { (s : Setup) (run : Run) → IsAt engine.old s run
+        → OnOk result (IsAt engine.new s (comes_to s moment.0 (record { run = run; told = told })).run) }
     ensures kept { OnOk result (engine.new.told ≡ engine.old.told) }
 {
     if is_told(engine, moment, told) {
@@ -88,7 +89,8 @@ fn tick_first(alloc: Global, engine: &mut Engine, count: u8) -> Result<(), Memor
 
 /// The earliest moment at which a node has work due.
 fn first_due(engine: &Engine) -> Option<Moment>
-    ensures { option_map (λ m. m.0) result ≡ earliest (λ n. option_map_or (λ c. role_due c.role) (slice_get engine.now.nodes n) None) (length engine.now.nodes) }
+    ensures { option_map (λ m. m.0) result
+        ≡ earliest (λ n. option_map_or (λ c. role_due c.role) (slice_get engine.now.nodes n) None) (length engine.now.nodes) }
 {
     let mut first = None;
     for node in 0..engine.count() {
@@ -119,7 +121,8 @@ fn work_by(
 ) -> Result<bool, Memory>
     requires { target.0 < 2 ^ 62 }
     ensures more { IfOk result (λ more. more ≡ is_due (Some due.0) target.0) }
-    ensures after { (s : Setup) (run : Run) → IsAt engine.old s run → OnOk result (IsAt engine.new s (works_on (λ w. w) s target.0 (Some due.0) (record { run = run; told = told })).run) }
+    ensures after { (s : Setup) (run : Run) → IsAt engine.old s run
+        → OnOk result (IsAt engine.new s (works_on (λ w. w) s target.0 (Some due.0) (record { run = run; told = told })).run) }
     ensures kept { OnOk result (engine.new.told ≡ engine.old.told) }
 {
     if target.0 < due.0 {
@@ -133,7 +136,8 @@ fn work_by(
 fn work_next(alloc: Global, engine: &mut Engine, target: Moment, told: bool) -> Result<bool, Memory>
     requires { target.0 < 2 ^ 62 }
     ensures more { (s : Setup) (run : Run) → IsAt engine.old s run → IfOk result (λ more. more ≡ is_due (earliest (due_of s run) (length s.hosts)) target.0) }
-    ensures after { (s : Setup) (run : Run) → IsAt engine.old s run → OnOk result (IsAt engine.new s (works_on (λ w. w) s target.0 (earliest (due_of s run) (length s.hosts)) (record { run = run; told = told })).run) }
+    ensures after { (s : Setup) (run : Run) → IsAt engine.old s run
+        → OnOk result (IsAt engine.new s (works_on (λ w. w) s target.0 (earliest (due_of s run) (length s.hosts)) (record { run = run; told = told })).run) }
     ensures kept { OnOk result (engine.new.told ≡ engine.old.told) }
 {
     match first_due(engine) {
@@ -151,8 +155,10 @@ fn work_until(
     rounds: u64,
 ) -> Result<bool, Memory>
     requires { target.0 < 2 ^ 62 }
-    ensures told { (s : Setup) (run : Run) → IsAt engine.old s run → IfOk result (λ told. told ≡ (works_until s target.0 rounds (record { run = run; told = false })).told) }
-    ensures after { (s : Setup) (run : Run) → IsAt engine.old s run → OnOk result (IsAt engine.new s (works_until s target.0 rounds (record { run = run; told = false })).run) }
+    ensures told { (s : Setup) (run : Run) → IsAt engine.old s run
+        → IfOk result (λ told. told ≡ (works_until s target.0 rounds (record { run = run; told = false })).told) }
+    ensures after { (s : Setup) (run : Run) → IsAt engine.old s run
+        → OnOk result (IsAt engine.new s (works_until s target.0 rounds (record { run = run; told = false })).run) }
     ensures kept { OnOk result (engine.new.told ≡ engine.old.told) }
 {
     let mut told = false;

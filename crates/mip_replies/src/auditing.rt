@@ -1,9 +1,7 @@
 //! What is answered to a trace that another program wrote.
 
 ghost use Rattle.std.specs.Prelude.{◌≡◌, ◌≢◌, ◌≤◌, length, IfOk, None, Some};
-ghost use Rattle.mip_audit.specs.Cutting.{cut_text};
 ghost use Rattle.mip_audit.specs.Differences.{difference, Judges};
-ghost use Rattle.mip_schedule.specs.Reading.{reading};
 ghost use Rattle.mip_schedule.specs.Schedules.{content};
 ghost use Rattle.mip_replies.specs.Answers.{audit_answer, cut_answer, is_long_audit, trace_of, verdict_answer};
 ghost use Rattle.mip_replies.specs.Told.{IsConclusive, IsStatus};

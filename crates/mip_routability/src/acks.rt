@@ -17,9 +17,9 @@ use crate::trials::{start, update};
 use crate::waiting::Waiting;
 use mip_bulist::{Any, Pending, Trial, Work};
 use mip_call_context::CallContext;
-use mip_constants::{INITIAL_BINDACK_TIMEOUT, LIFETIME_UNIT};
 use mip_reception::status;
 use mip_tokens::{PreparedKbm, authenticator};
+use mip_words::constants::{INITIAL_BINDACK_TIMEOUT, LIFETIME_UNIT};
 use mip_words::{Address, Memory, Moment, Why};
 use std::alloc::Global;
 
@@ -54,7 +54,8 @@ fn ack_row(
 ) -> Result<(), Memory>
     requires { row < 16 }
     ensures { (t : Transition) → Shows context.old t
-        → OnOk result (Shows context.new (acks_trial number row (home_of context.old.known) ack.now.status ack.now.sequence ack.now.lifetime ack.now.authenticator ack.now.message.now (trial_of context.old.known row) t)) }
+        → OnOk result (Shows context.new (acks_trial number row (home_of context.old.known)
+        ack.now.status ack.now.sequence ack.now.lifetime ack.now.authenticator ack.now.message.now (trial_of context.old.known row) t)) }
 {
     let home = context.home();
     let sent = context.sent_at(row);
@@ -144,7 +145,8 @@ fn grant(
 ) -> Result<(), Memory>
     requires range { row < 16 }
     requires early { waiting.now.sent.0 < 2 ^ 62 }
-    ensures { (u : Trial pending.Pending) (t : Transition) → IsOf waiting.now t.now u → Shows context.old t → OnOk result (Shows context.new (is_granted row u sequence lifetime t)) }
+    ensures { (u : Trial pending.Pending) (t : Transition) → IsOf waiting.now t.now u → Shows context.old t
+        → OnOk result (Shows context.new (is_granted row u sequence lifetime t)) }
 {
     context.stop(Work::Resend(row));
     context.acknowledge_trial(row, sequence, lifetime);
@@ -154,7 +156,8 @@ fn grant(
 fn end(context: &mut CallContext, row: u8, waiting: &Waiting, lifetime: u16) -> Result<(), Memory>
     requires range { row < 16 }
     requires early { waiting.now.sent.0 < 2 ^ 62 }
-    ensures { (u : Trial pending.Pending) (t : Transition) → IsOf waiting.now t.now u → Shows context.old t → OnOk result (Shows context.new (ends_for waiting.now.binds_to u row lifetime t)) }
+    ensures { (u : Trial pending.Pending) (t : Transition) → IsOf waiting.now t.now u → Shows context.old t
+        → OnOk result (Shows context.new (ends_for waiting.now.binds_to u row lifetime t)) }
 {
     match waiting.binds_to {
         Some(_) if lifetime == 0 => Ok(()),
@@ -170,7 +173,8 @@ fn end(context: &mut CallContext, row: u8, waiting: &Waiting, lifetime: u16) -> 
 fn bind(context: &mut CallContext, row: u8, waiting: &Waiting, lifetime: u16) -> Result<(), Memory>
     requires range { row < 16 }
     requires early { waiting.now.sent.0 < 2 ^ 62 }
-    ensures { (u : Trial pending.Pending) (t : Transition) → IsOf waiting.now t.now u → Shows context.old t → OnOk result (Shows context.new (binds_from u row lifetime t)) }
+    ensures { (u : Trial pending.Pending) (t : Transition) → IsOf waiting.now t.now u → Shows context.old t
+        → OnOk result (Shows context.new (binds_from u row lifetime t)) }
 {
     let units = lifetime as u64;
     let end = Moment(waiting.sent.0 + LIFETIME_UNIT * units);

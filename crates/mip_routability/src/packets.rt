@@ -7,11 +7,11 @@ ghost use Rattle.mip_mobhdr.specs.Said.Said.{Update};
 ghost use Rattle.mip_rules_mobile.specs.Sendings.{number_option, update_bytes, update_packet, with_indices};
 
 use mip_bulist::Made;
-use mip_constants::MAX_RR_BINDING_LIFETIME;
-use mip_constants::protocol::MOBILITY_HEADER;
 use mip_mobhdr::{OptionSet, Plain};
 use mip_packets::{NO_OPTIONS, node_head, straight, write_authenticated_packet};
 use mip_tokens::PreparedKbm;
+use mip_words::constants::MAX_RR_BINDING_LIFETIME;
+use mip_words::protocol::MOBILITY_HEADER;
 use mip_words::{Address, Bytes, Memory};
 use std::alloc::Global;
 

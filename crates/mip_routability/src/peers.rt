@@ -4,15 +4,15 @@ ghost use Rattle.std.specs.Prelude.{◌≡◌, ◌==◌, ◌&&◌, not, is_some,
 ghost use Rattle.mip_rules_mobile.specs.HomeQuestions.{home_of, registration_of};
 ghost use Rattle.mip_rules_mobile.specs.RowQuestions.{trial_of, is_bound_row};
 ghost use Rattle.mip_rules_mobile.specs.Trials.{is_idle};
-ghost use Rattle.mip_rules_mobile.specs.PeerRules.{begins_at, meets, comes_right, keeps_home, keeps_careof, takes_home_test, takes_careof_test, rests, loses, takes_error, renews, takes_refresh};
+ghost use Rattle.mip_rules_mobile.specs.PeerRules.{begins_at, meets, comes_right, test_at, keeps_home, keeps_careof, takes_home_test, takes_careof_test, rests, loses, takes_error, renews, takes_refresh};
 ghost use Rattle.mip_rules_mobile.specs.Transitions.{Transition};
 ghost use Rattle.mip_call_context.specs.Seen.{Shows};
 
 use crate::trials::{start, update};
 use mip_bulist::{Any, Work};
 use mip_call_context::{CallContext, Heard};
-use mip_constants::INITIAL_BINDACK_TIMEOUT;
 use mip_rules_mobile::Attachment;
+use mip_words::constants::INITIAL_BINDACK_TIMEOUT;
 use mip_words::{Address, Memory, Why};
 use std::alloc::Global;
 
@@ -73,7 +73,8 @@ pub fn take_home_test(
     tunnelled: bool,
     test: &Heard,
 ) -> Result<(), Memory>
-    ensures { (t : Transition) → Shows context.old t → OnOk result (Shows context.new (takes_home_test number tunnelled test.now.peer test.now.index test.now.cookie.0 test.now.token.0 t)) }
+    ensures { (t : Transition) → Shows context.old t
+        → OnOk result (Shows context.new (takes_home_test number tunnelled test.now.peer test.now.index test.now.cookie.0 test.now.token.0 t)) }
 {
     if comes_right(context.standing(), tunnelled) {
         let row = context.home_row(test.peer, test.cookie);
@@ -91,7 +92,7 @@ fn keep_home_test(
     test: &Heard,
 ) -> Result<(), Memory>
     ensures { (t : Transition) → Shows context.old t
-        → OnOk result (Shows context.new (keeps_home number test.now.peer test.now.cookie (record { index = test.now.index; token = test.now.token; at = record { 0 = context.old.moment } }) row t)) }
+        → OnOk result (Shows context.new (keeps_home number test.now.peer test.now.cookie (test_at context.old.moment test.now.index test.now.token.0) row t)) }
 {
     match row {
         Some(row) => {
@@ -110,7 +111,8 @@ pub fn take_careof_test(
     tunnelled: bool,
     test: &Heard,
 ) -> Result<(), Memory>
-    ensures { (t : Transition) → Shows context.old t → OnOk result (Shows context.new (takes_careof_test number tunnelled test.now.peer test.now.index test.now.cookie.0 test.now.token.0 t)) }
+    ensures { (t : Transition) → Shows context.old t
+        → OnOk result (Shows context.new (takes_careof_test number tunnelled test.now.peer test.now.index test.now.cookie.0 test.now.token.0 t)) }
 {
     if comes_right(context.standing(), !tunnelled) {
         let row = context.careof_row(test.peer, test.cookie);
@@ -128,7 +130,7 @@ fn keep_careof_test(
     test: &Heard,
 ) -> Result<(), Memory>
     ensures { (t : Transition) → Shows context.old t
-        → OnOk result (Shows context.new (keeps_careof number test.now.peer test.now.cookie (record { index = test.now.index; token = test.now.token; at = record { 0 = context.old.moment } }) row t)) }
+        → OnOk result (Shows context.new (keeps_careof number test.now.peer test.now.cookie (test_at context.old.moment test.now.index test.now.token.0) row t)) }
 {
     match row {
         Some(row) => {

@@ -36,7 +36,8 @@ fn start_if_unbound(alloc: Global, context: &mut CallContext, row: u8) -> Result
 
 /// Whether a row was touched, and no trial of it is under way and no binding of it stands.
 fn is_due(context: &CallContext, row: u8) -> bool
-    ensures { result ≡ (is_touched_row context.now.known row && (is_idle (trial_of context.now.known row) && not (is_bound_row context.now.known context.now.moment row))) }
+    ensures { result ≡
+        (is_touched_row context.now.known row && (is_idle (trial_of context.now.known row) && not (is_bound_row context.now.known context.now.moment row))) }
 {
     context.is_touched_row(row) && is_idle(context, row) && !context.is_bound_row(row)
 }

@@ -15,9 +15,9 @@ use crate::missing::Missing;
 use crate::packets::write_update;
 use mip_bulist::{Aim, Any, Made, Refused};
 use mip_call_context::{CallContext, ask_home, doubled};
-use mip_constants::{INITIAL_BINDACK_TIMEOUT, MAX_BINDACK_TIMEOUT};
 use mip_packets::write_careof_init;
 use mip_rules_mobile::Attachment;
+use mip_words::constants::{INITIAL_BINDACK_TIMEOUT, MAX_BINDACK_TIMEOUT};
 use mip_words::{Address, Cookie, Memory};
 use std::alloc::Global;
 
@@ -119,7 +119,8 @@ fn make(
 ) -> Result<(), Memory>
     requires range { row < 16 }
     requires early { wait < 2 ^ 32 }
-    ensures { (t : Transition) → Shows context.old t → OnOk result (Shows context.new (makes_with (makes (record { 0 = context.old.moment }) (trial_of context.old.known row)) row peer wait t)) }
+    ensures { (t : Transition) → Shows context.old t
+        → OnOk result (Shows context.new (makes_with (makes (record { 0 = context.old.moment }) (trial_of context.old.known row)) row peer wait t)) }
 {
     match context.makes(row) {
         Some(Ok(made)) => send_made(alloc, context, row, peer, &made, wait),

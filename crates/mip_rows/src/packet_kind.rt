@@ -6,12 +6,12 @@ ghost use Rattle.mip_icmp.specs.Reading.{icmp_of};
 ghost use Rattle.mip_packets.specs.Says.{message_in as message_of};
 ghost use Rattle.mip_rows.specs.PacketKinds.{mobility_kind, icmp_kind, body_kind, kind_of};
 
-use mip_constants::protocol::{ICMPV6, IPV6, MOBILITY_HEADER, NO_NEXT_HEADER};
 use mip_explain::message_word;
 use mip_icmp::read_icmp;
 use mip_ipv6::{PacketRef, read_packet};
 use mip_packets::message_in;
 use mip_words::Address;
+use mip_words::protocol::{ICMPV6, IPV6, MOBILITY_HEADER, NO_NEXT_HEADER};
 
 fn mobility_kind(packet: &PacketRef) -> &'static [u8]
     ensures { result.now ≡ mobility_kind (message_of (tree packet.now)) }

@@ -1,4 +1,4 @@
-ghost use Rattle.std.specs.Prelude.{◌≡◌, ◌<◌, ◌≤◌, ◌∷◌, ◌++◌, [], List, length, slice_get};
+ghost use Rattle.std.specs.Prelude.{◌≡◌, ◌<◌, ◌∷◌, ◌++◌, [], List, length, slice_get};
 ghost use Rattle.mip_rows.specs.Values.{u8_at, u16_at, u32_at, u64_at, moment_at, address_at, token_at, node_at, link_at, outsider_at, who_at, some_u16_at, some_u64_at, some_address_at, some_token_at, some_link_at, shield_at, answer_at, why_at};
 
 use crate::value::Value;

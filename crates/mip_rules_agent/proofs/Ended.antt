@@ -7,8 +7,8 @@ use Rattle.std.proofs.lemmas.Bool.{eq-eqb, eqb-true}
 use Rattle.std.proofs.lemmas.Bool.Decides.{nat_tests}
 use Rattle.std.proofs.lemmas.List.{append_assoc, append-nil}
 use Rattle.std.proofs.lemmas.List.Folds.{list_any-append}
-use Rattle.mip_lists.specs.Last.{last_where}
-use Rattle.mip_lists.proofs.LastLaws.{last_where-push}
+use Rattle.mip_words.specs.Last.{last_where}
+use Rattle.mip_words.proofs.LastLaws.{last_where-push}
 use Rattle.mip_words.specs.declared.address.Address.{Address}
 use Rattle.mip_entries.specs.Stamped.{Stamped}
 use Rattle.mip_discovery.proofs.ListLaws.{all-filter}

@@ -6,8 +6,8 @@ use Rattle.std.proofs.lemmas.Bool.{eqb-true}
 use Rattle.std.proofs.lemmas.Bool.Decides.{nat_tests}
 use Rattle.mip_words.specs.declared.address.Address.{Address}
 use Rattle.mip_words.specs.declared.shield.Shield.{Shield}
-use Rattle.mip_lists.specs.Last.{or_else, last_where}
-use Rattle.mip_lists.proofs.LastLaws.{last_where-push, last_where-none}
+use Rattle.mip_words.specs.Last.{or_else, last_where}
+use Rattle.mip_words.proofs.LastLaws.{last_where-push, last_where-none}
 use Rattle.mip_outside.specs.declared.claim.Claim.{Claim}
 use Rattle.mip_entries.proofs.TransitionLaws.{noted-known, noted-steps, none-noted, none-parts}
 use Rattle.mip_reception.specs.Registrations.{home_of, registered_of}

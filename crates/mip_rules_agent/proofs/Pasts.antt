@@ -3,8 +3,8 @@ use Rattle.std.proofs.Common.{◌≡◌, ℕ, List, [], ◌∷◌, ◌++◌, ref
 use Rattle.std.specs.Prelude.{Bool, true, false, ◌==◌, ◌||◌, Option, Some, None, is_some, unwrap_or, option_map, fold, if◌then◌else◌}
 use Rattle.std.specs.Option.{option_map_or, option_and_then}
 use Rattle.std.proofs.lemmas.List.{append_assoc, append-nil}
-use Rattle.mip_lists.specs.Asked.{asked}
-use Rattle.mip_lists.specs.Last.{or_else, last_where}
+use Rattle.mip_words.specs.Asked.{asked}
+use Rattle.mip_words.specs.Last.{or_else, last_where}
 use Rattle.mip_words.specs.declared.address.Address.{Address}
 use Rattle.mip_binding.specs.Rows.{find_by, put_by}
 use Rattle.mip_binding.proofs.RowLaws.{find-put}

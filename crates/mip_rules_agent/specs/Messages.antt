@@ -1,6 +1,6 @@
 -- The packets that a home agent makes itself.
 use Rattle.std.specs.Prelude.{ℕ, List, Option, Some, None}
-use Rattle.mip_constants.specs.Protocols.{icmpv6}
+use Rattle.mip_words.specs.Protocols.{icmpv6}
 use Rattle.mip_words.specs.declared.address.Address.{Address}
 use Rattle.mip_words.specs.declared.shield.Shield.{Shield}
 use Rattle.mip_ipv6.specs.declared.head.Head.{Head}

@@ -3,8 +3,8 @@ use Rattle.std.specs.Prelude.{ℕ, List, [], ◌∷◌, Bool, true, false, ◌==
 use Rattle.std.specs.List.{flat_map, list_any}
 use Rattle.std.specs.Option.{option_map_or, option_and_then}
 use Rattle.mip_words.specs.declared.address.Address.{Address}
-use Rattle.mip_lists.specs.Asked.{asked}
-use Rattle.mip_lists.specs.Last.{last_where}
+use Rattle.mip_words.specs.Asked.{asked}
+use Rattle.mip_words.specs.Last.{last_where}
 use Rattle.mip_discovery.specs.declared.plan.PrefixPlan.{PrefixPlan}
 use Rattle.mip_discovery.specs.Heard.{Heard}
 use Rattle.mip_entries.specs.Stamped.{Stamped}

@@ -1,6 +1,6 @@
 -- By what right a home agent lets a packet out that it was handed, or answers it. RFC 6275 sections 10.3.1, 10.4.1, 10.4.5 and 10.6.2
 use Rattle.std.specs.Prelude.{◌≡◌, ◌≢◌, ℕ, List, true, ◌==◌, if◌then◌else◌, Option, Some, None}
-use Rattle.mip_constants.specs.Protocols.{mobility_header}
+use Rattle.mip_words.specs.Protocols.{mobility_header}
 use Rattle.mip_words.specs.declared.address.Address.{Address}
 use Rattle.mip_words.specs.declared.shield.Shield.{Shield}
 use Rattle.mip_ipv6.specs.Packet.{Packet}

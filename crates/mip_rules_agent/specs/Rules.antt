@@ -1,7 +1,7 @@
 -- What a home agent does about a packet: one rule a paragraph. RFC 6275 section 10
 use Rattle.std.specs.Prelude.{ℕ, ◌-◌, List, length, Bool, true, false, not, ◌&&◌, ◌||◌, ◌==◌, nat_lt, if◌then◌else◌, Option, Some, None, Result, Ok, Err}
 use Rattle.std.specs.Option.{option_map_or}
-use Rattle.mip_constants.specs.Protocols.{ipv6, icmpv6, mobility_header}
+use Rattle.mip_words.specs.Protocols.{ipv6, icmpv6, mobility_header}
 use Rattle.mip_words.specs.Addresses.{prefix_of, joined_address}
 use Rattle.mip_words.specs.declared.address.Address.{Address}
 use Rattle.mip_words.specs.declared.shield.Shield.{Shield}

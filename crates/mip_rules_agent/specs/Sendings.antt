@@ -1,7 +1,7 @@
 -- The packets that a home agent sends, one kind a line: what it was handed, in or out of a tunnel, or a message of its
 -- own. RFC 6275 sections 10.3 to 10.6
 use Rattle.std.specs.Prelude.{◌≡◌, ℕ, ◌≤◌, List, length, true, Option, Some, None, Ok}
-use Rattle.mip_constants.specs.Protocols.{ipv6}
+use Rattle.mip_words.specs.Protocols.{ipv6}
 use Rattle.mip_words.specs.declared.address.Address.{Address}
 use Rattle.mip_words.specs.declared.shield.Shield.{Shield}
 use Rattle.mip_ipv6.specs.Packet.{Packet}

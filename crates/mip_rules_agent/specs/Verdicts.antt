@@ -2,7 +2,7 @@
 -- the first of these rows that applies. RFC 6275 sections 10.3.1 and 10.3.2
 use Rattle.std.specs.Prelude.{ℕ, ◌+◌, ◌*◌, ◌/◌, Bool, false, not, ◌&&◌, ◌||◌, ◌==◌, nat_lt, if◌then◌else◌, min, Option, Some, None, is_some, unwrap_or}
 use Rattle.std.specs.Option.{option_map_or}
-use Rattle.mip_constants.specs.Constants.{lifetime_unit, max_home_lifetime}
+use Rattle.mip_words.specs.Constants.{lifetime_unit, max_home_lifetime}
 use Rattle.mip_words.specs.Addresses.{is_routable, prefix_of}
 use Rattle.mip_words.specs.Sequence.{is_after}
 use Rattle.mip_words.specs.declared.address.Address.{Address}

@@ -2,7 +2,7 @@
 use Rattle.std.proofs.Common.{◌≡◌, ℕ, List, [], ◌∷◌, ◌++◌, Bool, true, false, refl, ◌∙◌}
 use Rattle.std.specs.Prelude.{Option, Some, None, unwrap_or, option_map, fold, if◌then◌else◌}
 use Rattle.mip_bcache.specs.Seen.{CacheSeen, expired}
-use Rattle.mip_lists.specs.Last.{or_else, last_where}
+use Rattle.mip_words.specs.Last.{or_else, last_where}
 use Rattle.mip_entries.specs.Stamped.{Stamped}
 use Rattle.mip_entries.specs.Transitions.{StandsBy}
 use Rattle.mip_entries.proofs.TransitionLaws.{known-push}

@@ -4,7 +4,7 @@ use Rattle.std.proofs.lemmas.Bool.{cond_both, cond-false, eq-eqb, not-true, not-
 use Rattle.std.proofs.lemmas.Slice.Eq.{bytes_eq-Decides}
 use Rattle.std.proofs.Math.Nat.{le-max_right}
 use Rattle.std.specs.Prelude.{◌/◌, ◌==◌, Option, Some, None, option_map, is_some}
-use Rattle.mip_constants.specs.Constants.{max_nonce_lifetime}
+use Rattle.mip_words.specs.Constants.{max_nonce_lifetime}
 use Rattle.mip_words.specs.Addresses.{is_routable}
 use Rattle.mip_words.specs.Sequence.{is_after}
 use Rattle.mip_words.specs.declared.address.Address.{Address}

@@ -1,6 +1,6 @@
 -- What a correspondent does about a packet: one rule a paragraph. RFC 6275 section 9
 use Rattle.std.specs.Prelude.{ℕ, ◌-◌, List, length, Bool, true, false, not, ◌&&◌, ◌==◌, if◌then◌else◌, Option, Some, None, Result, Ok, Err}
-use Rattle.mip_constants.specs.Protocols.{ipv6, icmpv6, no_next_header, mobility_header}
+use Rattle.mip_words.specs.Protocols.{ipv6, icmpv6, no_next_header, mobility_header}
 use Rattle.mip_words.specs.declared.address.Address.{Address}
 use Rattle.mip_words.specs.declared.why.Why.{Why}
 use Rattle.mip_words.specs.declared.why.Why.TheVariants as whys

@@ -5,7 +5,7 @@ use Rattle.mip_words.specs.Addresses.{is_routable}
 use Rattle.mip_words.specs.Sequence.{is_after}
 use Rattle.mip_words.specs.declared.address.Address.{Address}
 use Rattle.mip_mobhdr.specs.declared.indices.Indices.{Indices}
-use Rattle.mip_constants.specs.Constants.{lifetime_unit, max_rr_binding_lifetime}
+use Rattle.mip_words.specs.Constants.{lifetime_unit, max_rr_binding_lifetime}
 use Rattle.mip_nonce.specs.Window.{IsValidAt, number_named}
 use Rattle.mip_tokens.specs.Token.{IsAuthentic}
 use Rattle.mip_tokens.specs.declared.kbm.Kbm.{Kbm}

@@ -5,7 +5,7 @@ use Rattle.mip_words.specs.Addresses.{is_routable}
 use Rattle.mip_words.specs.Sequence.{is_after}
 use Rattle.mip_words.specs.declared.address.Address.{Address}
 use Rattle.mip_words.specs.declared.why.Why.TheVariants as whys
-use Rattle.mip_constants.specs.Constants.{lifetime_unit, max_rr_binding_lifetime}
+use Rattle.mip_words.specs.Constants.{lifetime_unit, max_rr_binding_lifetime}
 use Rattle.mip_mobhdr.specs.declared.indices.Indices.{Indices}
 use Rattle.mip_nonce.specs.Secrets.{Life, kcn_of, nonce_of}
 use Rattle.mip_nonce.specs.Window.{number_named}

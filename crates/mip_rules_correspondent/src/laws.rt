@@ -1,12 +1,12 @@
 //! The laws by which a role stands for a past, and its cache for the updates accepted in it; and those of verdicts.
 
-ghost use Rattle.std.specs.Prelude.{◌≡◌, ℕ, ◌≤◌, List, [], ◌<◌, Option, Some, true, false, unwrap_or, option_map, is_some};
+ghost use Rattle.std.specs.Prelude.{◌≡◌, ℕ, ◌≤◌, List, ◌<◌, Option, Some, true, false, unwrap_or, option_map, is_some};
 ghost use Rattle.std.specs.List.{list_any, AllByRecursion};
 ghost use Rattle.mip_words.specs.declared.address.Address.{Address};
 ghost use Rattle.mip_words.specs.declared.shield.Shield.{Shield};
 ghost use Rattle.mip_ipv6.specs.Packet.{Packet};
 ghost use Rattle.mip_tokens.specs.declared.kbm.Kbm.{Kbm};
-ghost use Rattle.mip_lists.specs.Last.{last_where};
+ghost use Rattle.mip_words.specs.Last.{last_where};
 ghost use Rattle.mip_nonce.specs.Window.{IsValidAt};
 ghost use Rattle.mip_bcache.specs.Acceptance.{Acceptance, kept_until_of};
 ghost use Rattle.mip_bcache.specs.Held.{held, holds, floor, is_full};
@@ -35,7 +35,8 @@ ghost use Rattle.mip_rules_correspondent.specs.Wholes.{IsWhole};
 
 /// The last moment known is that of the last call.
 pub fn last_is_of_the_last_call()
-    ensures { (room numbers : ℕ) (past : List (Stamped Step)) → (known room numbers past).last.0 ≡ unwrap_or (option_map (λ s. s.at) (last_where (λ s. is_call s.step) past)) 0 }
+    ensures { (room numbers : ℕ) (past : List (Stamped Step))
+        → (known room numbers past).last.0 ≡ unwrap_or (option_map (λ s. s.at) (last_where (λ s. is_call s.step) past)) 0 }
 {}
 
 /// The last moment that a call leaves known is its own.
@@ -48,10 +49,18 @@ pub fn each_call_is_the_last()
 /// say.
 pub fn bindings_are_of_the_acceptances()
     ensures stands { (room numbers : ℕ) (past : List (Stamped Step)) → RisesFrom 0 past → StandsFor (known room numbers past).cache (accepted_in past) }
-    ensures held { (room numbers : ℕ) (past : List (Stamped Step)) (now : ℕ) (home : Address) → RisesFrom 0 past → AllByRecursion (λ s. s.at ≤ now) past → option_map (λ a. a.0) (held_of (known room numbers past) now home) ≡ held (accepted_in past) home.0 now }
-    ensures holds { (room numbers : ℕ) (past : List (Stamped Step)) (now : ℕ) (home careof : Address) → RisesFrom 0 past → AllByRecursion (λ s. s.at ≤ now) past → holds_for (known room numbers past) now home careof ≡ holds (accepted_in past) home.0 now careof.0 }
-    ensures floor { (room numbers : ℕ) (past : List (Stamped Step)) (now : ℕ) (home : Address) → RisesFrom 0 past → AllByRecursion (λ s. s.at ≤ now) past → floor_of (known room numbers past) now home ≡ floor (accepted_in past) home.0 now }
-    ensures full { (room numbers : ℕ) (past : List (Stamped Step)) (now : ℕ) (home : Address) → RisesFrom 0 past → AllByRecursion (λ s. s.at ≤ now) past → is_full_for (known room numbers past) now home ≡ is_full room (accepted_in past) home.0 now }
+    ensures held { (room numbers : ℕ) (past : List (Stamped Step)) (now : ℕ) (home : Address)
+        → RisesFrom 0 past → AllByRecursion (λ s. s.at ≤ now) past
+        → option_map (λ a. a.0) (held_of (known room numbers past) now home) ≡ held (accepted_in past) home.0 now }
+    ensures holds { (room numbers : ℕ) (past : List (Stamped Step)) (now : ℕ) (home careof : Address)
+        → RisesFrom 0 past → AllByRecursion (λ s. s.at ≤ now) past
+        → holds_for (known room numbers past) now home careof ≡ holds (accepted_in past) home.0 now careof.0 }
+    ensures floor { (room numbers : ℕ) (past : List (Stamped Step)) (now : ℕ) (home : Address)
+        → RisesFrom 0 past → AllByRecursion (λ s. s.at ≤ now) past
+        → floor_of (known room numbers past) now home ≡ floor (accepted_in past) home.0 now }
+    ensures full { (room numbers : ℕ) (past : List (Stamped Step)) (now : ℕ) (home : Address)
+        → RisesFrom 0 past → AllByRecursion (λ s. s.at ≤ now) past
+        → is_full_for (known room numbers past) now home ≡ is_full room (accepted_in past) home.0 now }
 {}
 
 /// Whoever stands for a past knows what it leaves known.
@@ -61,7 +70,9 @@ pub fn stands_for_what_is_known()
 
 /// Whoever stands for a past stands, after any call, for the past with the call's transition.
 pub fn stands_after_each_call()
-    ensures { (room numbers : ℕ) (past : List (Stamped Step)) (k : Known) (now : ℕ) (me : Identity) (c : Call) → Stands room numbers past k → Stands room numbers (with_transition past (transition_of me k now c)) (transition_of me k now c).known }
+    ensures { (room numbers : ℕ) (past : List (Stamped Step)) (k : Known) (now : ℕ) (me : Identity) (c : Call)
+        → Stands room numbers past k
+        → Stands room numbers (with_transition past (transition_of me k now c)) (transition_of me k now c).known }
 {}
 
 /// Whatever a call gives out is whole.
@@ -78,20 +89,27 @@ pub fn each_packet_is_its_own()
 /// A packet that is handed over leads to no acceptance, or at once to that of the update in it, with the verdict Accept on
 /// its bytes by what is kept of its home; so does one that is handed to the part of a mobile, and nothing else does.
 pub fn what_is_accepted_was_taken()
-    ensures taken { (me : Identity) (k : Known) (now number : ℕ) (shield : Option Shield) (bytes : List ℕ) → list_any is_acceptance (transition_of me k now (Take number shield bytes)).steps ≡ true
+    ensures taken { (me : Identity) (k : Known) (now number : ℕ) (shield : Option Shield) (bytes : List ℕ)
+        → list_any is_acceptance (transition_of me k now (Take number shield bytes)).steps ≡ true
         → IsUpdateTaken me k now number shield bytes (transition_of me k now (Take number shield bytes)).steps }
-    ensures parted { (me : Identity) (k : Known) (now number : ℕ) (packet : Packet) → list_any is_acceptance (transition_of me k now (Part number packet)).steps ≡ true
+    ensures parted { (me : Identity) (k : Known) (now number : ℕ) (packet : Packet)
+        → list_any is_acceptance (transition_of me k now (Part number packet)).steps ≡ true
         → IsUpdateParted me k now number packet (transition_of me k now (Part number packet)).steps }
     ensures refreshed { (me : Identity) (k : Known) (now : ℕ) (home : Address) → list_any is_acceptance (transition_of me k now (Refresh home)).steps ≡ false }
-    ensures sent { (me : Identity) (k : Known) (now : ℕ) (to : Address) (proto : ℕ) (payload : List ℕ) → list_any is_acceptance (transition_of me k now (Send to proto payload)).steps ≡ false }
+    ensures sent { (me : Identity) (k : Known) (now : ℕ) (to : Address) (proto : ℕ) (payload : List ℕ)
+        → list_any is_acceptance (transition_of me k now (Send to proto payload)).steps ≡ false }
     ensures ticked { (me : Identity) (k : Known) (now : ℕ) → list_any is_acceptance (transition_of me k now Tick).steps ≡ false }
 {}
 
 /// A packet that is dropped, and one whose update is denied, changes no row. Neither does any other call that leads to no
 /// acceptance, unless it is for the passing of time.
 pub fn refused_changes_no_row()
-    ensures refused { (me : Identity) (k : Known) (now : ℕ) (c : Call) → hands_over c ≡ true → list_any is_refusal (transition_of me k now c).steps ≡ true → (transition_of me k now c).known.cache ≡ k.cache }
-    ensures silent { (me : Identity) (c : Call) (t : Transition) → is_tick c ≡ false → list_any is_acceptance (does me c t).steps ≡ false → (does me c t).known.cache ≡ t.known.cache }
+    ensures refused { (me : Identity) (k : Known) (now : ℕ) (c : Call) → hands_over c ≡ true
+        → list_any is_refusal (transition_of me k now c).steps ≡ true
+        → (transition_of me k now c).known.cache ≡ k.cache }
+    ensures silent { (me : Identity) (c : Call) (t : Transition) → is_tick c ≡ false
+        → list_any is_acceptance (does me c t).steps ≡ false
+        → (does me c t).known.cache ≡ t.known.cache }
 {}
 
 /// Each verdict comes where its row says, and no row before it applies.
@@ -104,19 +122,25 @@ pub fn verdicts_in_order()
 /// after the sequence that is kept, and where there is room.
 #[tactic(auto, using(crate::proofs::VerdictLaws::sound))]
 pub fn accepted_is_sound()
-    ensures { (b : Bench) (r : Registration) (message : List ℕ) (home : Address) (number : ℕ) (accepted : Accepted) (granted : ℕ) (kbm : Kbm) → verdict b r message ≡ Accept home number accepted granted kbm → IsSound b r message home number accepted granted kbm }
+    ensures { (b : Bench) (r : Registration) (message : List ℕ) (home : Address) (number : ℕ) (accepted : Accepted) (granted : ℕ) (kbm : Kbm)
+        → verdict b r message ≡ Accept home number accepted granted kbm
+        → IsSound b r message home number accepted granted kbm }
 {}
 
 /// Status 135 carries the sequence that is kept, and the update does not come after it.
 #[tactic(auto, using(crate::proofs::VerdictLaws::behind_kept))]
 pub fn out_of_window_tells_the_floor()
-    ensures { (b : Bench) (r : Registration) (message : List ℕ) (last : ℕ) (kbm : Option Kbm) → verdict b r message ≡ Deny sequence_out_of_window last kbm → IsBehind b r last }
+    ensures { (b : Bench) (r : Registration) (message : List ℕ) (last : ℕ) (kbm : Option Kbm)
+        → verdict b r message ≡ Deny sequence_out_of_window last kbm
+        → IsBehind b r last }
 {}
 
 /// A denial goes out with an authenticator exactly where its status is one that does (RFC 6275 section 9.5.4).
 #[tactic(auto, using(crate::proofs::VerdictLaws::authorized_by_status))]
 pub fn denials_are_authorized_by_status()
-    ensures { (b : Bench) (r : Registration) (message : List ℕ) (status last : ℕ) (kbm : Option Kbm) → verdict b r message ≡ Deny status last kbm → is_some kbm ≡ is_authorized status }
+    ensures { (b : Bench) (r : Registration) (message : List ℕ) (status last : ℕ) (kbm : Option Kbm)
+        → verdict b r message ≡ Deny status last kbm
+        → is_some kbm ≡ is_authorized status }
 {}
 
 /// The sequence of an update is kept for as long as any nonce lives under which the update can be accepted.
@@ -128,5 +152,7 @@ pub fn a_sequence_outlives_a_nonce()
 /// A denial goes out under a key only where the update came with its authenticator.
 #[tactic(auto, using(crate::proofs::VerdictLaws::keyed))]
 pub fn keyed_denial_is_genuine()
-    ensures { (b : Bench) (r : Registration) (message : List ℕ) (status last : ℕ) (kbm : Kbm) → verdict b r message ≡ Deny status last (Some kbm) → (i : ℕ) × (j : Option ℕ) × IsGenuine b r message i j kbm }
+    ensures { (b : Bench) (r : Registration) (message : List ℕ) (status last : ℕ) (kbm : Kbm)
+        → verdict b r message ≡ Deny status last (Some kbm)
+        → (i : ℕ) × (j : Option ℕ) × IsGenuine b r message i j kbm }
 {}

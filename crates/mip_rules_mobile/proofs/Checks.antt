@@ -3,7 +3,7 @@ use Rattle.std.proofs.Common.{◌≡◌, ℕ, Bool, true, false}
 use Rattle.std.specs.Prelude.{Option, Some, None, Result, Ok, Err, not, ◌==◌, ◌||◌, ◌&&◌, if◌then◌else◌, is_some}
 use Rattle.std.specs.Result.{result_ok}
 use Rattle.std.proofs.lemmas.Bool.{cond_both, eqb-true}
-use Rattle.mip_constants.specs.Protocols.{mobility_header}
+use Rattle.mip_words.specs.Protocols.{mobility_header}
 use Rattle.mip_words.specs.declared.address.Address.{Address}
 use Rattle.mip_ipv6.specs.declared.not_packet.NotPacket.{NotPacket}
 use Rattle.mip_ipv6.specs.Packet.{Packet, source_of, destination_of}

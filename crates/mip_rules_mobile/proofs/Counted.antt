@@ -5,8 +5,8 @@ use Rattle.std.specs.List.{filter, list_any}
 use Rattle.std.proofs.Math.Nat.{mod-add-mod, mod-eq_of_lt, mod-mod}
 use Rattle.mip_words.specs.declared.address.Address.{Address}
 use Rattle.mip_nonce.specs.Secrets.{Life}
-use Rattle.mip_lists.specs.Last.{since}
-use Rattle.mip_lists.proofs.LastLaws.{since-quiet}
+use Rattle.mip_words.specs.Last.{since}
+use Rattle.mip_words.proofs.LastLaws.{since-quiet}
 use Rattle.mip_entries.specs.Stamped.{Stamped}
 use Rattle.mip_bulist.specs.declared.aim.Aim.TheVariants.{Bind, Delete}
 use Rattle.mip_rules_mobile.specs.Trials.{Start}

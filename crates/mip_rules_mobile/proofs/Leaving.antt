@@ -6,7 +6,7 @@ use Rattle.mip_words.specs.declared.address.Address.{Address}
 use Rattle.mip_nonce.specs.Secrets.{Life}
 use Rattle.mip_outside.specs.declared.claim.Claim.{Claim}
 use Rattle.mip_entries.proofs.TransitionLaws.{noted-known}
-use Rattle.mip_constants.specs.Constants.{initial_dhaad_timeout}
+use Rattle.mip_words.specs.Constants.{initial_dhaad_timeout}
 use Rattle.mip_rules_mobile.specs.declared.peer.Peer.{Peer}
 use Rattle.mip_rules_mobile.specs.declared.attachment.Attachment.{Attachment}
 use Rattle.mip_rules_mobile.specs.declared.attachment.Attachment.TheVariants.{Detached, AtHome, Away}

@@ -7,8 +7,8 @@ use Rattle.std.proofs.lemmas.Bool.Decides.{nat_tests}
 use Rattle.std.proofs.lemmas.List.Sums.{fold-append}
 use Rattle.mip_words.specs.declared.address.Address.{Address}
 use Rattle.mip_nonce.specs.Secrets.{Life}
-use Rattle.mip_lists.specs.Last.{or_else, last_where, since}
-use Rattle.mip_lists.proofs.LastLaws.{last_where-found}
+use Rattle.mip_words.specs.Last.{or_else, last_where, since}
+use Rattle.mip_words.proofs.LastLaws.{last_where-found}
 use Rattle.mip_entries.specs.Stamped.{Stamped}
 use Rattle.mip_discovery.specs.Retries.{DiscoverySeen, retried}
 use Rattle.mip_rules_mobile.specs.Steps.{Step, Detaches, Restarts, Seeks, SeeksAgain, GivesUp, Finds}

@@ -3,7 +3,7 @@ use Rattle.std.proofs.Common.{◌≡◌, ℕ, ◌<◌, ◌≤◌, List, [], ◌�
 use Rattle.std.specs.Prelude.{Option, Some, None, Ok, Result, ◌&&◌, ◌||◌, not, ◌==◌, is_some, is_none, nat_le}
 use Rattle.std.proofs.lemmas.Bool.{and_parts, cond_both, eqb-true, eq-eqb}
 use Rattle.std.proofs.lemmas.Bool.Decides.{nat_tests}
-use Rattle.mip_constants.specs.Protocols.{mobility_header}
+use Rattle.mip_words.specs.Protocols.{mobility_header}
 use Rattle.mip_words.specs.declared.address.Address.{Address}
 use Rattle.mip_words.specs.declared.shield.Shield.{Shield}
 use Rattle.mip_ipv6.specs.Packet.{Packet, source_of}

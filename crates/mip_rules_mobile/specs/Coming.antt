@@ -1,7 +1,7 @@
 -- How a packet comes that a mobile handles: it is the one that is handed over, or it stands in a tunnel from its agent.
 -- RFC 6275 sections 11.3.3 and 11.6.2
 use Rattle.std.specs.Prelude.{◌≡◌, ℕ, List, Bool, true, false, Option, Some, Ok, is_some}
-use Rattle.mip_constants.specs.Protocols.{mobility_header}
+use Rattle.mip_words.specs.Protocols.{mobility_header}
 use Rattle.mip_words.specs.declared.address.Address.{Address}
 use Rattle.mip_words.specs.declared.shield.Shield.{Shield}
 use Rattle.mip_ipv6.specs.Packet.{Packet}

@@ -7,7 +7,7 @@ use Rattle.mip_reception.specs.Statuses.{accepts_it, sequence_out_of_window}
 use Rattle.mip_rules_mobile.specs.declared.attachment.Attachment.{Attachment}
 use Rattle.mip_rules_mobile.specs.declared.attachment.Attachment.TheVariants.{Detached, AtHome, Away}
 use Rattle.mip_rules_mobile.specs.declared.home_update.HomeUpdate.{HomeUpdate}
-use Rattle.mip_constants.specs.Constants.{initial_bindack_timeout_first_reg, initial_bindack_timeout, lifetime_unit, initial_dhaad_timeout}
+use Rattle.mip_words.specs.Constants.{initial_bindack_timeout_first_reg, initial_bindack_timeout, lifetime_unit, initial_dhaad_timeout}
 use Rattle.mip_rules_mobile.specs.Timing.{refresh_unit}
 use Rattle.mip_rules_mobile.specs.Trials.{is_idle}
 use Rattle.mip_rules_mobile.specs.Sendings.{RegistersHome, DeregistersHome, Discovers}

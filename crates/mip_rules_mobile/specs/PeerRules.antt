@@ -16,7 +16,7 @@ use Rattle.mip_bulist.specs.Rows.{given_row}
 use Rattle.mip_reception.specs.Statuses.{accepts_it, sequence_out_of_window, expired_home_nonce, expired_nonces}
 use Rattle.mip_rules_mobile.specs.declared.attachment.Attachment.{Attachment}
 use Rattle.mip_rules_mobile.specs.declared.attachment.Attachment.TheVariants.{Detached, AtHome, Away}
-use Rattle.mip_constants.specs.Constants.{initial_bindack_timeout, lifetime_unit}
+use Rattle.mip_words.specs.Constants.{initial_bindack_timeout, lifetime_unit}
 use Rattle.mip_rules_mobile.specs.Timing.{refresh_unit}
 use Rattle.mip_rules_mobile.specs.Trials.{HomeTest, CareofTest, Resequence, Acknowledge, Rest, keeps_home_test, keeps_careof_test, last_made, binds_to, sent_at, is_idle}
 use Rattle.mip_rules_mobile.specs.Steps.{Drops, Meets, Tries, Forgets, Binds, Unbinds, Stops}

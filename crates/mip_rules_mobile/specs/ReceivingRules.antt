@@ -1,6 +1,6 @@
 -- What a mobile does about a packet that it is handed. RFC 6275 sections 9.2, 9.3.1 and 11.3.3
 use Rattle.std.specs.Prelude.{ℕ, List, Bool, true, false, not, ◌&&◌, ◌==◌, if◌then◌else◌, Option, Some, None, is_some, is_none, Result, Ok, Err}
-use Rattle.mip_constants.specs.Protocols.{ipv6, icmpv6, no_next_header, mobility_header}
+use Rattle.mip_words.specs.Protocols.{ipv6, icmpv6, no_next_header, mobility_header}
 use Rattle.mip_words.specs.declared.address.Address.{Address}
 use Rattle.mip_words.specs.declared.shield.Shield.{Shield}
 use Rattle.mip_words.specs.declared.why.Why.TheVariants as whys

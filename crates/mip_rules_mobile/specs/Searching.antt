@@ -1,6 +1,6 @@
 -- The discovery of agents that is under way, by the steps since it began. RFC 6275 section 11.4.1
 use Rattle.std.specs.Prelude.{ℕ, ◌+◌, ◌*◌, ◌^◌, List, Bool, true, false, nat_le, if◌then◌else◌, Option, Some, None}
-use Rattle.mip_constants.specs.Constants.{initial_dhaad_timeout, dhaad_retries}
+use Rattle.mip_words.specs.Constants.{initial_dhaad_timeout, dhaad_retries}
 use Rattle.mip_discovery.specs.Retries.{DiscoverySeen}
 use Rattle.mip_entries.specs.Stamped.{Stamped}
 use Rattle.mip_rules_mobile.specs.Steps.{Step, Detaches, Restarts, Seeks, SeeksAgain, GivesUp, Finds}

@@ -1,6 +1,6 @@
 -- The packets that a mobile sends, one kind a line. RFC 6275 sections 6.1, 6.5, 6.7, 11.3, 11.4, 11.6 and 11.7
 use Rattle.std.specs.Prelude.{ℕ, ◌==◌, List, Bool, true, false, if◌then◌else◌, Option, Some, None, is_some, Result, Ok, Err}
-use Rattle.mip_constants.specs.Protocols.{mobility_header, icmpv6}
+use Rattle.mip_words.specs.Protocols.{mobility_header, icmpv6}
 use Rattle.mip_words.specs.Addresses.{joined_address, prefix_of}
 use Rattle.mip_words.specs.declared.address.Address.{Address}
 use Rattle.mip_words.specs.declared.shield.Shield.{Shield}
@@ -17,7 +17,7 @@ use Rattle.mip_reception.specs.Authenticated.{authenticated_packet}
 use Rattle.mip_reception.specs.Messages.{home_init_packet, careof_init_packet}
 use Rattle.mip_ipv6.specs.Tunnel.{encapsulated}
 use Rattle.mip_bulist.specs.declared.made.Made.{Made}
-use Rattle.mip_constants.specs.Constants.{max_home_lifetime, max_rr_binding_lifetime}
+use Rattle.mip_words.specs.Constants.{max_home_lifetime, max_rr_binding_lifetime}
 
 -- a packet from the home address
 pub data Inner : Type 0 where

@@ -1,6 +1,6 @@
 -- How the times between two sendings grow, and when a binding is refreshed. RFC 6275 section 11.8
 use Rattle.std.specs.Prelude.{ℕ, ◌*◌, min, max}
-use Rattle.mip_constants.specs.Constants.{initial_bindack_timeout, max_bindack_timeout}
+use Rattle.mip_words.specs.Constants.{initial_bindack_timeout, max_bindack_timeout}
 
 -- each such time is twice the one before, from the first one to the longest
 abbrev pub doubled : ℕ → ℕ

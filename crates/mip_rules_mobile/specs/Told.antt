@@ -1,6 +1,6 @@
 -- What a past says of a question: what the last step says that says anything of it.
 use Rattle.std.specs.Prelude.{ℕ, ◌==◌, if◌then◌else◌, List, Option, Some, None, unwrap_or, is_some, option_and_then}
-use Rattle.mip_lists.specs.Last.{last_where}
+use Rattle.mip_words.specs.Last.{last_where}
 use Rattle.mip_entries.specs.Stamped.{Stamped}
 use Rattle.mip_words.specs.declared.address.Address.{Address}
 use Rattle.mip_rules_mobile.specs.Steps.{Step}

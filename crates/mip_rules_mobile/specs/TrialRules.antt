@@ -12,7 +12,7 @@ use Rattle.mip_bulist.specs.declared.trial.Trial.{Trial}
 use Rattle.mip_bulist.specs.declared.work.Work.TheVariants.{Resend}
 use Rattle.mip_rules_mobile.specs.declared.attachment.Attachment.{Attachment}
 use Rattle.mip_rules_mobile.specs.declared.attachment.Attachment.TheVariants.{Detached, AtHome, Away}
-use Rattle.mip_constants.specs.Constants.{initial_bindack_timeout, max_bindack_timeout}
+use Rattle.mip_words.specs.Constants.{initial_bindack_timeout, max_bindack_timeout}
 use Rattle.mip_rules_mobile.specs.Timing.{doubled}
 use Rattle.mip_rules_mobile.specs.Trials.{Start, Rest, makes, lacks_home, lacks_careof}
 use Rattle.mip_rules_mobile.specs.Sendings.{AsksHome, AsksCareof}

@@ -1,12 +1,12 @@
 //! The laws by which a mobile stands for a past, and by which its steps, packets and timers are as they should be.
 
-ghost use Rattle.std.specs.Prelude.{◌≡◌, ℕ, ◌<◌, ◌+◌, ◌%◌, ◌^◌, List, [], ◌∷◌, ◌++◌, Option, Some, None, Bool, true, false, is_some, length, filter, if◌then◌else◌};
+ghost use Rattle.std.specs.Prelude.{◌≡◌, ℕ, ◌<◌, ◌+◌, ◌%◌, ◌^◌, List, [], ◌∷◌, ◌++◌, Option, Some, None, true, false, is_some, length, filter, if◌then◌else◌};
 ghost use Rattle.std.specs.List.{list_any};
 ghost use Rattle.mip_words.specs.declared.address.Address.{Address};
 ghost use Rattle.mip_words.specs.declared.shield.Shield.{Shield};
 ghost use Rattle.mip_nonce.specs.Secrets.{Life};
 ghost use Rattle.mip_outside.specs.declared.claim.Claim.{Claim};
-ghost use Rattle.mip_lists.specs.Last.{since};
+ghost use Rattle.mip_words.specs.Last.{since};
 ghost use Rattle.mip_bulist.specs.Timers.{AreDueFrom, AreInOrder};
 ghost use Rattle.mip_entries.specs.Stamped.{Stamped};
 ghost use Rattle.mip_rules_mobile.specs.declared.attachment.Attachment.TheVariants.{AtHome, Away};
@@ -35,19 +35,23 @@ ghost use Rattle.mip_rules_mobile.specs.Part.{part_of, part_life, IsPartTransiti
 
 /// Whoever stands for a past knows what it leaves known.
 pub fn stands_for_what_is_known()
-    ensures { (home : Address) (declared : Option Address) (numbers : ℕ) (secrets : Life) (past : List (Stamped Step)) (k : Known) → Stands home declared numbers secrets past k → k ≡ known home declared numbers secrets past }
+    ensures { (home : Address) (declared : Option Address) (numbers : ℕ) (secrets : Life) (past : List (Stamped Step)) (k : Known)
+        → Stands home declared numbers secrets past k
+        → k ≡ known home declared numbers secrets past }
 {}
 
 /// Whoever stands for a past stands, after any call, for the past with the call's transition.
 pub fn stands_after_each_call()
-    ensures { (home : Address) (declared : Option Address) (numbers : ℕ) (secrets : Life) (past : List (Stamped Step)) (k : Known) (now : ℕ) (c : Call) → Stands home declared numbers secrets past k
+    ensures { (home : Address) (declared : Option Address) (numbers : ℕ) (secrets : Life) (past : List (Stamped Step)) (k : Known) (now : ℕ) (c : Call)
+        → Stands home declared numbers secrets past k
         → Stands home declared numbers secrets (with_transition past (transition_of k now c)) (transition_of k now c).known }
 {}
 
 /// The correspondent part is a correspondent with the home address, the secrets of the mobile's present life and room for
 /// sixteen homes: it knows what was done since the mobile last restarted, call by call.
 pub fn the_part_is_a_correspondent()
-    ensures { (home : Address) (declared : Option Address) (numbers : ℕ) (secrets : Life) (past : List (Stamped Step)) → (known home declared numbers secrets past).part ≡ part_of home numbers (part_life home numbers secrets past) }
+    ensures { (home : Address) (declared : Option Address) (numbers : ℕ) (secrets : Life) (past : List (Stamped Step))
+        → (known home declared numbers secrets past).part ≡ part_of home numbers (part_life home numbers secrets past) }
 {}
 
 /// A call of a mobile is nothing to its correspondent part, or one call of it at most, or a restart. The part accepts an update only
@@ -73,21 +77,32 @@ pub fn each_call_is_the_last()
 /// registered, the last home registration or deregistration and the agent of the last registration, whether one is to be undone,
 /// the next sequence to an agent, the agents that were found, how many of them were chosen since, and the last one chosen.
 pub fn each_answer_is_the_last_told()
-    ensures last { (home : Address) (declared : Option Address) (numbers : ℕ) (secrets : Life) (past : List (Stamped Step)) → (known home declared numbers secrets past).last.0 ≡ last_told (λ s. if is_call s.step then Some s.at else None) 0 past }
-    ensures standing { (home : Address) (declared : Option Address) (numbers : ℕ) (secrets : Life) (past : List (Stamped Step)) → (known home declared numbers secrets past).standing ≡ last_told (λ s. standing_said home s.step) AtHome past }
-    ensures registered { (home : Address) (declared : Option Address) (numbers : ℕ) (secrets : Life) (past : List (Stamped Step)) → (known home declared numbers secrets past).registered ≡ last_told (λ s. registered_said s.step) None past }
-    ensures latest { (home : Address) (declared : Option Address) (numbers : ℕ) (secrets : Life) (past : List (Stamped Step)) → (known home declared numbers secrets past).latest ≡ last_told (λ s. latest_said s.at s.step) None past }
-    ensures agent { (home : Address) (declared : Option Address) (numbers : ℕ) (secrets : Life) (past : List (Stamped Step)) → (known home declared numbers secrets past).agent ≡ last_told (λ s. agent_said s.step) None past }
-    ensures owes { (home : Address) (declared : Option Address) (numbers : ℕ) (secrets : Life) (past : List (Stamped Step)) → (known home declared numbers secrets past).owes ≡ last_told (λ s. owes_said s.step) false past }
-    ensures next { (home : Address) (declared : Option Address) (numbers : ℕ) (secrets : Life) (past : List (Stamped Step)) (agent : Address) → next_to agent (known home declared numbers secrets past).numberings ≡ last_told (λ s. next_in agent (next_said s.step)) 1 past }
-    ensures found { (home : Address) (declared : Option Address) (numbers : ℕ) (secrets : Life) (past : List (Stamped Step)) → (known home declared numbers secrets past).found ≡ last_told (λ s. found_said s.step) [] past }
-    ensures tried { (home : Address) (declared : Option Address) (numbers : ℕ) (secrets : Life) (past : List (Stamped Step)) → (known home declared numbers secrets past).tried ≡ length (filter (λ s. is_choice s.step) (since (λ s. is_some (found_said s.step)) past)) }
-    ensures chosen { (home : Address) (declared : Option Address) (numbers : ℕ) (secrets : Life) (past : List (Stamped Step)) → (known home declared numbers secrets past).chosen ≡ last_told (λ s. chosen_said s.step) None past }
+    ensures last { (home : Address) (declared : Option Address) (numbers : ℕ) (secrets : Life) (past : List (Stamped Step))
+        → (known home declared numbers secrets past).last.0 ≡ last_told (λ s. if is_call s.step then Some s.at else None) 0 past }
+    ensures standing { (home : Address) (declared : Option Address) (numbers : ℕ) (secrets : Life) (past : List (Stamped Step))
+        → (known home declared numbers secrets past).standing ≡ last_told (λ s. standing_said home s.step) AtHome past }
+    ensures registered { (home : Address) (declared : Option Address) (numbers : ℕ) (secrets : Life) (past : List (Stamped Step))
+        → (known home declared numbers secrets past).registered ≡ last_told (λ s. registered_said s.step) None past }
+    ensures latest { (home : Address) (declared : Option Address) (numbers : ℕ) (secrets : Life) (past : List (Stamped Step))
+        → (known home declared numbers secrets past).latest ≡ last_told (λ s. latest_said s.at s.step) None past }
+    ensures agent { (home : Address) (declared : Option Address) (numbers : ℕ) (secrets : Life) (past : List (Stamped Step))
+        → (known home declared numbers secrets past).agent ≡ last_told (λ s. agent_said s.step) None past }
+    ensures owes { (home : Address) (declared : Option Address) (numbers : ℕ) (secrets : Life) (past : List (Stamped Step))
+        → (known home declared numbers secrets past).owes ≡ last_told (λ s. owes_said s.step) false past }
+    ensures next { (home : Address) (declared : Option Address) (numbers : ℕ) (secrets : Life) (past : List (Stamped Step)) (agent : Address)
+        → next_to agent (known home declared numbers secrets past).numberings ≡ last_told (λ s. next_in agent (next_said s.step)) 1 past }
+    ensures found { (home : Address) (declared : Option Address) (numbers : ℕ) (secrets : Life) (past : List (Stamped Step))
+        → (known home declared numbers secrets past).found ≡ last_told (λ s. found_said s.step) [] past }
+    ensures tried { (home : Address) (declared : Option Address) (numbers : ℕ) (secrets : Life) (past : List (Stamped Step))
+        → (known home declared numbers secrets past).tried ≡ length (filter (λ s. is_choice s.step) (since (λ s. is_some (found_said s.step)) past)) }
+    ensures chosen { (home : Address) (declared : Option Address) (numbers : ℕ) (secrets : Life) (past : List (Stamped Step))
+        → (known home declared numbers secrets past).chosen ≡ last_told (λ s. chosen_said s.step) None past }
 {}
 
 /// After every past the timers stand in order of due moment.
 pub fn timers_are_in_order()
-    ensures { (home : Address) (declared : Option Address) (numbers : ℕ) (secrets : Life) (past : List (Stamped Step)) → AreInOrder (known home declared numbers secrets past).list.timers }
+    ensures { (home : Address) (declared : Option Address) (numbers : ℕ) (secrets : Life) (past : List (Stamped Step))
+        → AreInOrder (known home declared numbers secrets past).list.timers }
 {}
 
 /// A tick leaves nothing that is due at its moment.
@@ -104,13 +119,16 @@ pub fn answers_are_whole()
 /// Away, the care-of address is another one than the home address, after every past; a packet that is handed to the wire then
 /// leaves from the care-of address, and detached none is.
 pub fn packets_leave_from_where_it_stands()
-    ensures elsewhere { (home : Address) (declared : Option Address) (numbers : ℕ) (secrets : Life) (past : List (Stamped Step)) → IsElsewhere (known home declared numbers secrets past) }
+    ensures elsewhere { (home : Address) (declared : Option Address) (numbers : ℕ) (secrets : Life) (past : List (Stamped Step))
+        → IsElsewhere (known home declared numbers secrets past) }
     ensures leaves { (k : Known) (now : ℕ) (c : Call) → IsElsewhere k → EachAnswer LeavesRight now k (transition_of k now c).steps }
 {}
 
 /// Away, each packet of a call by which the mobile stays where it stands leaves from its care-of address.
 pub fn away_packets_leave_from_the_careof_address()
-    ensures { (k : Known) (now : ℕ) (c : Call) (careof : Address) → k.standing ≡ Away careof → IsElsewhere k → stays_put c ≡ true → AreFrom careof (answers_of (transition_of k now c).steps) }
+    ensures { (k : Known) (now : ℕ) (c : Call) (careof : Address) → k.standing ≡ Away careof → IsElsewhere k
+        → stays_put c ≡ true
+        → AreFrom careof (answers_of (transition_of k now c).steps) }
 {}
 
 /// Whatever a mobile sends is a test of its own correspondent part, or says no test, or says what the packet said that it was
@@ -122,21 +140,26 @@ pub fn each_test_is_its_own()
 /// A packet that is dropped, and an update that is denied, change nothing but the moments of the last calls: no binding, no
 /// registration, no trial, no timer, no list.
 pub fn refused_changes_nothing()
-    ensures { (k : Known) (now number : ℕ) (shield : Option Shield) (packet : List ℕ) → list_any is_refusal (transition_of k now (Take number shield packet)).steps ≡ true
+    ensures { (k : Known) (now number : ℕ) (shield : Option Shield) (packet : List ℕ)
+        → list_any is_refusal (transition_of k now (Take number shield packet)).steps ≡ true
         → tables_of (transition_of k now (Take number shield packet)).known ≡ tables_of k }
 {}
 
 /// The tests that a trial keeps were given to it since it started, after every past; and an update has the tokens of such
 /// tests. That a test which is given was handed over is part of `each_step_fits`.
 pub fn updates_are_of_tests_since_the_start()
-    ensures trials { (home : Address) (declared : Option Address) (numbers : ℕ) (secrets : Life) (past : List (Stamped Step)) → RowsGiven past (known home declared numbers secrets past).list.rows }
-    ensures updates { (home : Address) (declared : Option Address) (numbers : ℕ) (secrets : Life) (past : List (Stamped Step)) (now row : ℕ) (u : PeerUpdate) → IsUpdateOf now (known home declared numbers secrets past) row u → IsMadeFrom past row u.made }
+    ensures trials { (home : Address) (declared : Option Address) (numbers : ℕ) (secrets : Life) (past : List (Stamped Step))
+        → RowsGiven past (known home declared numbers secrets past).list.rows }
+    ensures updates { (home : Address) (declared : Option Address) (numbers : ℕ) (secrets : Life) (past : List (Stamped Step)) (now row : ℕ) (u : PeerUpdate)
+        → IsUpdateOf now (known home declared numbers secrets past) row u
+        → IsMadeFrom past row u.made }
 {}
 
 /// Each packet that a mobile sends under a shield is sent under one from its own home address, and that is the same after
 /// every past.
 pub fn shields_are_from_its_home()
-    ensures home { (home : Address) (declared : Option Address) (numbers : ℕ) (secrets : Life) (past : List (Stamped Step)) → home_of (known home declared numbers secrets past) ≡ home }
+    ensures home { (home : Address) (declared : Option Address) (numbers : ℕ) (secrets : Life) (past : List (Stamped Step))
+        → home_of (known home declared numbers secrets past) ≡ home }
     ensures sent { (k : Known) (now : ℕ) (c : Call) → AreShieldedFrom (home_of k) (answers_of (transition_of k now c).steps) }
 {}
 
@@ -174,26 +197,42 @@ pub fn cookies_begin_at_zero()
 /// What is known of a row is what the last step says that says anything of it: whether its peer was sent an update that is not
 /// undone, until when its binding was acknowledged, and how long its resending waits. So is how long that of a registration waits.
 pub fn each_row_is_the_last_told()
-    ensures touched { (home : Address) (declared : Option Address) (numbers : ℕ) (secrets : Life) (past : List (Stamped Step)) (row : ℕ) → row < 16 → is_touched_row (known home declared numbers secrets past) row ≡ last_told (λ s. touched_said row s.step) false past }
-    ensures bound { (home : Address) (declared : Option Address) (numbers : ℕ) (secrets : Life) (past : List (Stamped Step)) (row : ℕ) → row < 16 → bound_at (known home declared numbers secrets past) row ≡ last_told (λ s. bound_said row s.step) None past }
-    ensures resends { (home : Address) (declared : Option Address) (numbers : ℕ) (secrets : Life) (past : List (Stamped Step)) (row : ℕ) → row < 16 → wait_of_row (known home declared numbers secrets past) row ≡ last_told (λ s. resend_said row s.step) 0 past }
-    ensures wait { (home : Address) (declared : Option Address) (numbers : ℕ) (secrets : Life) (past : List (Stamped Step)) → (known home declared numbers secrets past).wait ≡ last_told (λ s. wait_said s.step) 0 past }
+    ensures touched { (home : Address) (declared : Option Address) (numbers : ℕ) (secrets : Life) (past : List (Stamped Step)) (row : ℕ)
+        → row < 16
+        → is_touched_row (known home declared numbers secrets past) row ≡ last_told (λ s. touched_said row s.step) false past }
+    ensures bound { (home : Address) (declared : Option Address) (numbers : ℕ) (secrets : Life) (past : List (Stamped Step)) (row : ℕ)
+        → row < 16
+        → bound_at (known home declared numbers secrets past) row ≡ last_told (λ s. bound_said row s.step) None past }
+    ensures resends { (home : Address) (declared : Option Address) (numbers : ℕ) (secrets : Life) (past : List (Stamped Step)) (row : ℕ)
+        → row < 16
+        → wait_of_row (known home declared numbers secrets past) row ≡ last_told (λ s. resend_said row s.step) 0 past }
+    ensures wait { (home : Address) (declared : Option Address) (numbers : ℕ) (secrets : Life) (past : List (Stamped Step))
+        → (known home declared numbers secrets past).wait ≡ last_told (λ s. wait_said s.step) 0 past }
 {}
 
 /// The identifiers of discoveries and of solicitations begin at 1 in each life and go on by one, modulo 65536; cookies are those
 /// drawn since the last restart, modulo 2^64; the number of a binding that is asked for counts the places since then, modulo the
 /// numbers that a binding may have.
 pub fn numbers_are_counted_in_each_life()
-    ensures discoveries { (home : Address) (declared : Option Address) (numbers : ℕ) (secrets : Life) (past : List (Stamped Step)) → (known home declared numbers secrets past).discoveries ≡ (1 + how_many is_search (this_life past)) % 65536 }
-    ensures solicitations { (home : Address) (declared : Option Address) (numbers : ℕ) (secrets : Life) (past : List (Stamped Step)) → (known home declared numbers secrets past).solicitations ≡ (1 + how_many is_solicitation (this_life past)) % 65536 }
-    ensures cookies { (home : Address) (declared : Option Address) (numbers : ℕ) (secrets : Life) (past : List (Stamped Step)) → (known home declared numbers secrets past).cookies ≡ cookies_drawn (this_life past) % 2 ^ 64 }
-    ensures numbers { (home : Address) (declared : Option Address) (numbers : ℕ) (secrets : Life) (past : List (Stamped Step)) → 0 < numbers → binding_number_of (known home declared numbers secrets past) ≡ how_many (is_place home) (this_life past) % numbers }
+    ensures discoveries { (home : Address) (declared : Option Address) (numbers : ℕ) (secrets : Life) (past : List (Stamped Step))
+        → (known home declared numbers secrets past).discoveries ≡ (1 + how_many is_search (this_life past)) % 65536 }
+    ensures solicitations { (home : Address) (declared : Option Address) (numbers : ℕ) (secrets : Life) (past : List (Stamped Step))
+        → (known home declared numbers secrets past).solicitations ≡ (1 + how_many is_solicitation (this_life past)) % 65536 }
+    ensures cookies { (home : Address) (declared : Option Address) (numbers : ℕ) (secrets : Life) (past : List (Stamped Step))
+        → (known home declared numbers secrets past).cookies ≡ cookies_drawn (this_life past) % 2 ^ 64 }
+    ensures numbers { (home : Address) (declared : Option Address) (numbers : ℕ) (secrets : Life) (past : List (Stamped Step))
+        → 0 < numbers
+        → binding_number_of (known home declared numbers secrets past) ≡ how_many (is_place home) (this_life past) % numbers }
 {}
 
 /// A discovery runs from its beginning until it is given up or answered, or the mobile leaves or restarts: with the identifier that
 /// was next before it, with as many requests behind the first as were sent since, four at most, and the next one due after the last.
 pub fn a_discovery_runs_until_it_is_over()
-    ensures runs { (home : Address) (declared : Option Address) (numbers : ℕ) (secrets : Life) (before : List (Stamped Step)) (at : ℕ) (later : List (Stamped Step)) → list_any (λ s. is_transition s.step) later ≡ false
-        → (known home declared numbers secrets (before ++ record { at = at; step = Seeks } ∷ later)).discovery ≡ search_with (known home declared numbers secrets before).discoveries at later }
-    ensures none { (home : Address) (declared : Option Address) (numbers : ℕ) (secrets : Life) (past : List (Stamped Step)) → list_any (λ s. is_search s.step) (since (λ s. is_over s.step) past) ≡ false → (known home declared numbers secrets past).discovery ≡ None }
+    ensures runs { (home : Address) (declared : Option Address) (numbers : ℕ) (secrets : Life) (before : List (Stamped Step)) (at : ℕ) (later : List (Stamped Step))
+        → list_any (λ s. is_transition s.step) later ≡ false
+        → (known home declared numbers secrets (before ++ record { at = at; step = Seeks } ∷ later)).discovery
+        ≡ search_with (known home declared numbers secrets before).discoveries at later }
+    ensures none { (home : Address) (declared : Option Address) (numbers : ℕ) (secrets : Life) (past : List (Stamped Step))
+        → list_any (λ s. is_search s.step) (since (λ s. is_over s.step) past) ≡ false
+        → (known home declared numbers secrets past).discovery ≡ None }
 {}

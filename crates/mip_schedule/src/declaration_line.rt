@@ -1,6 +1,6 @@
 //! What a declaration owes to those before it.
 
-ghost use Rattle.std.specs.Prelude.{◌≡◌, ◌||◌, nat_le};
+ghost use Rattle.std.specs.Prelude.{◌≡◌, ◌||◌};
 ghost use Rattle.std.specs.List.{count_by, list_any};
 ghost use Rattle.mip_lines.specs.Cutting.{texts};
 ghost use Rattle.mip_schedule.specs.DeclarationTimes as rows;

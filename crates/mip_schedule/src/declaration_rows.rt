@@ -1,6 +1,6 @@
 //! The lines of declarations: what each reads, and what each owes to those before it.
 
-ghost use Rattle.std.specs.Prelude.{◌≡◌, length};
+ghost use Rattle.std.specs.Prelude.{◌≡◌};
 ghost use Rattle.mip_lines.specs.Cutting.{texts};
 ghost use Rattle.mip_schedule.specs.DeclarationRows as rows;
 ghost use Rattle.mip_symbols.specs.Places.{AreFew};

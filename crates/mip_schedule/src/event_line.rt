@@ -1,6 +1,6 @@
 //! What an event owes to the declarations and to the events before it.
 
-ghost use Rattle.std.specs.Prelude.{◌≡◌, ◌+◌, ◌≤◌, length, IfNone, IfOk};
+ghost use Rattle.std.specs.Prelude.{◌≡◌, ◌+◌, ◌≤◌, IfNone, IfOk};
 ghost use Rattle.mip_lines.specs.Cutting.{texts};
 ghost use Rattle.mip_schedule.specs.EventTimes as rows;
 ghost use Rattle.mip_symbols.specs.Faults.{GivesLine};

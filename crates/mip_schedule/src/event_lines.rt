@@ -1,6 +1,6 @@
 //! The lines of events, read to the end of the text.
 
-ghost use Rattle.std.specs.Prelude.{◌≡◌, ◌+◌, ◌<◌, ◌≤◌, ◌^◌, [], length, IfOk};
+ghost use Rattle.std.specs.Prelude.{◌+◌, ◌<◌, ◌≤◌, ◌^◌, [], length, IfOk};
 ghost use Rattle.mip_lines.specs.Cutting.{fields_of, rows_of};
 ghost use Rattle.mip_schedule.specs.EventTimes as rows;
 ghost use Rattle.mip_schedule.specs.Faults.{GivesText};

@@ -1,7 +1,7 @@
 //! The first three lines: the version, the seed and the moment of the start.
 
-ghost use Rattle.std.specs.Prelude.{◌≡◌, ◌≢◌, Err, ◌+◌, ◌≤◌, ◌<◌, codes, length, IfOk};
-ghost use Rattle.mip_lines.specs.Cutting.{fields_of, rows_of, texts};
+ghost use Rattle.std.specs.Prelude.{◌≢◌, Err, ◌+◌, ◌≤◌, ◌<◌, length, IfOk};
+ghost use Rattle.mip_lines.specs.Cutting.{rows_of, texts};
 ghost use Rattle.mip_words.specs.Steps.{Gives};
 ghost use Rattle.mip_schedule.specs.Faults.{GivesText};
 ghost use Rattle.mip_schedule.specs.Heads.{head_seen};

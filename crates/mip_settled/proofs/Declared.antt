@@ -4,7 +4,7 @@ use Rattle.std.specs.Prelude.{Option, Some, None, fold, if◌then◌else◌, sli
 use Rattle.std.proofs.lemmas.Bool.{eq-eqb, ne_eqb}
 use Rattle.std.proofs.lemmas.List.Sums.{fold-append}
 use Rattle.mip_words.specs.declared.address.Address.{Address}
-use Rattle.mip_lists.specs.Last.{or_else}
+use Rattle.mip_words.specs.Last.{or_else}
 use Rattle.mip_entries.specs.declared.entry.Entry.{Entry}
 use Rattle.mip_schedule.specs.declared.event.Event.{Event}
 use Rattle.mip_history.specs.Setup.{Setup, Host}

@@ -3,11 +3,11 @@ use Rattle.std.proofs.Common.{◌≡◌, ℕ, ◌+◌, List, [], ◌∷◌, ◌+
 use Rattle.std.specs.Prelude.{Option, Some, None, fold, option_map, ◌==◌, ◌&&◌, if◌then◌else◌}
 use Rattle.std.proofs.lemmas.Bool.{eqb-true}
 use Rattle.std.proofs.lemmas.Bool.Decides.{nat_tests}
-use Rattle.mip_constants.specs.Constants.{max_nonce_lifetime}
+use Rattle.mip_words.specs.Constants.{max_nonce_lifetime}
 use Rattle.mip_words.specs.declared.address.Address.{Address}
 use Rattle.mip_words.specs.declared.moment.Moment.{Moment}
 use Rattle.mip_words.specs.declared.ids.NodeId.{NodeId}
-use Rattle.mip_lists.specs.Last.{last_where}
+use Rattle.mip_words.specs.Last.{last_where}
 use Rattle.mip_binding.specs.Acceptance.{Acceptance, Binding, binding_of}
 use Rattle.mip_binding.specs.Rows.{others_by}
 use Rattle.mip_binding.specs.Homes.{HomeKept, number_key, latest, kept_of, kept_with, home_after}

@@ -3,7 +3,7 @@ use Rattle.std.proofs.Common.{◌≡◌, ℕ, List, [], ◌∷◌, ◌++◌, Boo
 use Rattle.std.specs.Prelude.{Option, Some, None, option_map, not, ◌||◌, ◌==◌, if◌then◌else◌}
 use Rattle.std.proofs.lemmas.Bool.Decides.{nat_tests}
 use Rattle.std.proofs.lemmas.List.Folds.{list_any-append}
-use Rattle.mip_lists.specs.Last.{or_else, last_where}
+use Rattle.mip_words.specs.Last.{or_else, last_where}
 use Rattle.mip_binding.specs.Acceptance.{Binding}
 use Rattle.mip_binding.specs.Rows.{add_found, others_by}
 use Rattle.mip_binding.specs.Homes.{number_key, latest}

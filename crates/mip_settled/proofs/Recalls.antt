@@ -4,7 +4,7 @@ use Rattle.std.specs.Prelude.{Some, slice_get, Bool, true, false, if◌then◌el
 use Rattle.std.proofs.lemmas.List.{take_more, drop-append-le, length-take-le}
 use Rattle.std.proofs.Math.ListN.{drop_of_length-le}
 use Rattle.std.proofs.lemmas.Option.{slice_get_within, get_or_from_slice_get}
-use Rattle.mip_constants.specs.Constants.{max_nonce_lifetime}
+use Rattle.mip_words.specs.Constants.{max_nonce_lifetime}
 use Rattle.mip_binding.specs.Acceptance.{Binding}
 use Rattle.mip_binding.specs.Homes.{latest}
 use Rattle.mip_entries.specs.declared.entry.Entry.{Entry}

@@ -7,7 +7,7 @@ use Rattle.std.proofs.lemmas.Bool.{cases_eq, eqb-true, eq-eqb, ne_eqb}
 use Rattle.mip_words.specs.Addresses.{prefix_of}
 use Rattle.mip_words.specs.declared.address.Address.{Address}
 use Rattle.mip_words.specs.declared.ids.LinkId.{LinkId}
-use Rattle.mip_lists.specs.Asked.{asked}
+use Rattle.mip_words.specs.Asked.{asked}
 use Rattle.mip_nonce.specs.Secrets.{Life}
 use Rattle.mip_outside.specs.declared.claim.Claim.{Claim}
 use Rattle.mip_outside.specs.declared.claim.Claim.TheVariants as claim

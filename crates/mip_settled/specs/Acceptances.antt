@@ -2,7 +2,7 @@
 -- several bindings for one home
 use Rattle.std.specs.Prelude.{ℕ, ◌+◌, List, [], ◌∷◌, ◌++◌, Bool, false, not, ◌&&◌, ◌||◌, ◌==◌, nat_lt, if◌then◌else◌, Option, Some, None, fold, drop, take}
 use Rattle.std.specs.List.{list_any}
-use Rattle.mip_constants.specs.Constants.{max_nonce_lifetime}
+use Rattle.mip_words.specs.Constants.{max_nonce_lifetime}
 use Rattle.mip_binding.specs.Acceptance.{Binding}
 use Rattle.mip_binding.specs.Rows.{add_found}
 use Rattle.mip_binding.specs.Homes.{latest}

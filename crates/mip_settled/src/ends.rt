@@ -4,7 +4,7 @@ ghost use Rattle.std.specs.Prelude.{◌≡◌, option_map, Some};
 ghost use Rattle.mip_binding.specs.Held.{held};
 ghost use Rattle.mip_links.specs.Table.{is_address};
 ghost use Rattle.mip_links.specs.Nets.{is_held_by};
-ghost use Rattle.mip_history.specs.Questions.{holder_in, declared_in};
+ghost use Rattle.mip_history.specs.Questions.{declared_in};
 ghost use Rattle.mip_history.specs.Bound.{accepted_by};
 ghost use Rattle.mip_history.specs.Told.{present_in};
 ghost use Rattle.mip_history.specs.Settled.{is_with_agent, is_placed, is_held_right, is_bound_right, is_settled_at, is_settled_with, is_settled};

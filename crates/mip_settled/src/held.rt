@@ -1,13 +1,13 @@
 //! What a node holds for a home, as its entries tell it.
 
-ghost use Rattle.std.specs.Prelude.{◌≡◌, ◌<◌, ◌≤◌, ◌+◌, ℕ, length, drop, take, option_map, slice_get, Some, if◌then◌else◌};
+ghost use Rattle.std.specs.Prelude.{◌≡◌, ◌<◌, ◌≤◌, ◌+◌, length, drop, take, option_map, slice_get, Some, if◌then◌else◌};
 ghost use Rattle.mip_binding.specs.Held.{held};
 ghost use Rattle.mip_history.specs.Bound.{accepted_by};
 ghost use Rattle.mip_settled.specs.Acceptances.{binding_from, ends_others, with_told, remembered_step, remembered, recalled};
 
 use crate::left::{Told, accepted, last_standing, latest_end};
-use mip_constants::MAX_NONCE_LIFETIME;
 use mip_entries::Entry;
+use mip_words::constants::MAX_NONCE_LIFETIME;
 use mip_words::{Address, Moment, NodeId};
 
 /// What is remembered of a home along a history: the moment, that to which its last sequence is kept, and the place of the first
@@ -88,7 +88,8 @@ fn recall_accepted(
     requires here { slice_get history.now place ≡ Some entry.now }
     requires from { recall.from ≤ place }
     ensures from { result.from ≤ place }
-    ensures step { recalled history.now (place + 1) result ≡ with_told node.0 home.0 (recalled history.now place recall) entry.now (Some (binding_from home.0 told)) }
+    ensures step { recalled history.now (place + 1) result
+        ≡ with_told node.0 home.0 (recalled history.now place recall) entry.now (Some (binding_from home.0 told)) }
 {
     let from = first_behind(place, recall, told, home);
     let least = u128::from(recall.at.0) + u128::from(MAX_NONCE_LIFETIME);

@@ -1,7 +1,7 @@
 //! The bindings of a home that some entries of a node leave.
 
 ghost use Rattle.std.specs.Prelude.{◌≡◌, option_map};
-ghost use Rattle.mip_lists.specs.Last.{last_where};
+ghost use Rattle.mip_words.specs.Last.{last_where};
 ghost use Rattle.mip_binding.specs.Homes.{latest};
 ghost use Rattle.mip_binding.specs.Held.{is_standing};
 ghost use Rattle.mip_settled.specs.Acceptances.{accepted_told, binding_from, has_number, is_renewed, left_first, left_in};

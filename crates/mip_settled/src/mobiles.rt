@@ -1,7 +1,7 @@
 //! Where a mobile is found, its registration and its bindings, as its entries tell them.
 
 ghost use Rattle.std.specs.Prelude.{◌≡◌, None};
-ghost use Rattle.mip_lists.specs.Asked.{asked};
+ghost use Rattle.mip_words.specs.Asked.{asked};
 ghost use Rattle.mip_rules_mobile.specs.RowQuestions.{lies_ahead};
 ghost use Rattle.mip_history.specs.Told.{present_says, present_in, registration_told, agent_in, binding_told, is_bound_in};
 

@@ -1,8 +1,8 @@
 //! Kinds of field: each reads a field, or refuses it for its own reason.
 
-ghost use Rattle.std.specs.Prelude.{◌≡◌, ◌<◌, ◌≤◌, ◌^◌, IfOk};
+ghost use Rattle.std.specs.Prelude.{◌≡◌, ◌<◌, ◌≤◌, IfOk};
 ghost use Rattle.mip_symbols.specs.Faults.{GivesLine};
-ghost use Rattle.mip_symbols.specs.Places.{AreFew, members};
+ghost use Rattle.mip_symbols.specs.Places.{AreFew};
 ghost use Rattle.mip_symbols.specs.Kinds as kinds;
 
 use crate::declaration::Declaration;

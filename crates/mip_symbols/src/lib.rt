@@ -15,5 +15,5 @@ pub use declarations::Declarations;
 pub use line_fault::LineFault;
 pub use name::Name;
 pub use numbered::{link_name, node_name, outsider_name};
-pub use places::{Sort, count, is_mobile, is_taken, member, place_of};
+pub use places::{Sort, count, is_mobile, member, place_of};
 pub use reason::{Reason, refused, too_many};

@@ -1,7 +1,7 @@
 -- What is known of the table of lines: words are told apart, a line has few fields, the entry of an entry's line is the
 -- entry, and the line of a row's entry is the row.
-use Rattle.std.proofs.Common.{◌≡◌, ℕ, ◌+◌, List, [], ◌∷◌, length, true, nat_le, refl, arith}
-use Rattle.std.specs.Prelude.{Option, Some, None}
+use Rattle.std.proofs.Common.{◌≡◌, ℕ, ◌+◌, List, [], length, true, nat_le, refl}
+use Rattle.std.specs.Prelude.{Some, None}
 use Rattle.mip_lines.specs.Lines.{is_plain}
 use Rattle.mip_entries.specs.declared.entry.Entry.{Entry}
 use Rattle.mip_entries.specs.declared.entry.Entry.TheVariants as entries

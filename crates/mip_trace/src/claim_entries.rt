@@ -47,7 +47,8 @@ fn put_claim(
     link: LinkId,
     address: Address,
 ) -> Result<(), Memory>
-    ensures { OnOk result (out.new ≡ out.old ++ line_text (line_fields names.now (line word (values.Who who ∷ values.Link link ∷ values.Address address ∷ [])))) }
+    ensures { OnOk result (out.new ≡ out.old ++ line_text (line_fields names.now
+        (line word (values.Who who ∷ values.Link link ∷ values.Address address ∷ [])))) }
 {
     put_values(
         out,

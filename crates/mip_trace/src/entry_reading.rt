@@ -1,6 +1,5 @@
 //! One line of a trace, read.
 
-ghost use Rattle.std.specs.Prelude.{◌≡◌};
 ghost use Rattle.mip_lines.specs.Cutting.{fields_of, texts};
 ghost use Rattle.mip_symbols.specs.Places.{AreFew};
 ghost use Rattle.mip_rows.specs.Rows.{GivesRow};

@@ -48,7 +48,8 @@ fn put_dropped(
     number: u64,
     why: Why,
 ) -> Result<(), Memory>
-    ensures { OnOk result (out.new ≡ out.old ++ line_text (line_fields names.now (line words.Dropped (values.Node node ∷ values.U64 number ∷ values.Why why ∷ [])))) }
+    ensures { OnOk result (out.new ≡ out.old ++ line_text (line_fields names.now
+        (line words.Dropped (values.Node node ∷ values.U64 number ∷ values.Why why ∷ [])))) }
 {
     put_values(
         out,
@@ -68,7 +69,8 @@ fn put_up(
     proto: u8,
     payload: &[u8],
 ) -> Result<(), Memory>
-    ensures { OnOk result (out.new ≡ out.old ++ line_text (line_fields names.now (tailed words.Up (values.Node node ∷ values.U64 number ∷ values.Address source ∷ values.Address destination ∷ values.U8 proto ∷ []) payload.now))) }
+    ensures { OnOk result (out.new ≡ out.old ++ line_text (line_fields names.now (tailed words.Up (
+        values.Node node ∷ values.U64 number ∷ values.Address source ∷ values.Address destination ∷ values.U8 proto ∷ []) payload.now))) }
 {
     put_line(
         out,

@@ -1,6 +1,6 @@
 //! The line of a row behind a word.
 
-ghost use Rattle.std.specs.Prelude.{◌≡◌, [], ◌++◌, OnOk};
+ghost use Rattle.std.specs.Prelude.{◌≡◌, ◌++◌, OnOk};
 ghost use Rattle.mip_lines.specs.Lines.{line_text};
 ghost use Rattle.mip_trace.specs.EntryLines.{line, tailed, line_fields};
 

@@ -49,7 +49,8 @@ pub fn put_until(
     address: Address,
     end: Moment,
 ) -> Result<(), Memory>
-    ensures { OnOk result (out.new ≡ out.old ++ line_text (line_fields names.now (line word (values.Node node ∷ values.Address address ∷ values.Moment end ∷ [])))) }
+    ensures { OnOk result (out.new ≡ out.old ++ line_text (line_fields names.now
+        (line word (values.Node node ∷ values.Address address ∷ values.Moment end ∷ [])))) }
 {
     put_values(
         out,

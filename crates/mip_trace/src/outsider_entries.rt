@@ -49,7 +49,8 @@ fn put_injected(
     link: LinkId,
     packet: &[u8],
 ) -> Result<(), Memory>
-    ensures { OnOk result (out.new ≡ out.old ++ line_text (line_fields names.now (tailed words.Injected (values.U64 number ∷ values.Outsider outsider ∷ values.Link link ∷ []) packet.now))) }
+    ensures { OnOk result (out.new ≡ out.old ++ line_text (line_fields names.now
+        (tailed words.Injected (values.U64 number ∷ values.Outsider outsider ∷ values.Link link ∷ []) packet.now))) }
 {
     put_line(
         out,

@@ -58,7 +58,8 @@ fn put_sent(
     shielded: bool,
     packet: &[u8],
 ) -> Result<(), Memory>
-    ensures { OnOk result (out.new ≡ out.old ++ line_text (line_fields names.now (tailed words.Sent (values.U64 number ∷ values.Node node ∷ values.Shield shielded ∷ []) packet.now))) }
+    ensures { OnOk result (out.new ≡ out.old ++ line_text (line_fields names.now
+        (tailed words.Sent (values.U64 number ∷ values.Node node ∷ values.Shield shielded ∷ []) packet.now))) }
 {
     put_line(
         out,

@@ -50,7 +50,8 @@ fn put_made(
     home: Token,
     careof: Option<Token>,
 ) -> Result<(), Memory>
-    ensures { OnOk result (out.new ≡ out.old ++ line_text (line_fields names.now (line words.Made (values.Node node ∷ values.Address peer ∷ values.U64 number ∷ values.Token home ∷ values.SomeToken careof ∷ [])))) }
+    ensures { OnOk result (out.new ≡ out.old ++ line_text (line_fields names.now (line words.Made (
+        values.Node node ∷ values.Address peer ∷ values.U64 number ∷ values.Token home ∷ values.SomeToken careof ∷ [])))) }
 {
     put_values(
         out,

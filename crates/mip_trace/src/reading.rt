@@ -1,13 +1,13 @@
 //! Traces read.
 
-ghost use Rattle.std.specs.Prelude.{◌≡◌, ◌<◌, ◌^◌, List, [], length, Ok, IfOk};
+ghost use Rattle.std.specs.Prelude.{◌<◌, ◌^◌, List, length, Ok, IfOk};
 ghost use Rattle.mip_lines.specs.Cutting.{fields_of, rows_of};
 ghost use Rattle.mip_entries.specs.declared.entry.Entry.{Entry as Happened};
 ghost use Rattle.mip_symbols.specs.Places.{AreFew};
 ghost use Rattle.mip_trace.specs.EntryReading.{entry_of};
 ghost use Rattle.mip_trace.specs.Faults.{GivesText, OnBad};
 ghost use Rattle.mip_trace.specs.Ranges.{IsTraceOf, IsFirstBad};
-ghost use Rattle.mip_trace.specs.Reading.{at_line, entries_of, reading};
+ghost use Rattle.mip_trace.specs.Reading.{at_line, reading};
 
 use crate::entry_reading::read_entry;
 use crate::fault::TraceFault;

@@ -55,7 +55,9 @@ fn put_accepted(
     home_index: u16,
     careof_index: Option<u16>,
 ) -> Result<(), Memory>
-    ensures { OnOk result (out.new ≡ out.old ++ line_text (line_fields names.now (line words.Accepted (values.Node node ∷ values.U64 number ∷ values.Address home ∷ values.U8 binding ∷ values.Address careof ∷ values.U16 sequence ∷ values.Moment end ∷ values.U16 home_index ∷ values.SomeU16 careof_index ∷ [])))) }
+    ensures { OnOk result (out.new ≡ out.old ++ line_text (line_fields names.now (line words.Accepted (
+        values.Node node ∷ values.U64 number ∷ values.Address home ∷ values.U8 binding ∷ values.Address careof ∷ values.U16 sequence ∷ values.Moment end
+        ∷ values.U16 home_index ∷ values.SomeU16 careof_index ∷ [])))) }
 {
     put_values(
         out,

@@ -1,7 +1,6 @@
 //! Traces written.
 
-ghost use Rattle.std.specs.Prelude.{◌≡◌, ◌++◌, Some, option_map, IfOk, OnOk, OnErr};
-ghost use Rattle.std.specs.Borrow.{Bor};
+ghost use Rattle.std.specs.Prelude.{◌≡◌, ◌++◌, Some, IfOk, OnOk, OnErr};
 ghost use Rattle.mip_lines.specs.Lines.{line_text};
 ghost use Rattle.mip_trace.specs.Lines.{entry_row, trace_text};
 ghost use Rattle.mip_rows.specs.Names.{names_of};

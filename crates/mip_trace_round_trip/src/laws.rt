@@ -20,7 +20,8 @@ pub fn trace_is_read_back(schedule: &Schedule)
     ensures spelled { length (trace_text (Some schedule.now.declarations) (permitted (content schedule.now))) < 2 ^ 32
         → AllByRecursion (IsOf schedule.now.declarations) (permitted (content schedule.now)) }
     ensures read_back { length (trace_text (Some schedule.now.declarations) (permitted (content schedule.now))) < 2 ^ 32
-        → reading schedule.now.declarations (trace_text (Some schedule.now.declarations) (permitted (content schedule.now))) ≡ Ok (permitted (content schedule.now)) }
+        → reading schedule.now.declarations (trace_text (Some schedule.now.declarations) (permitted (content schedule.now)))
+        ≡ Ok (permitted (content schedule.now)) }
 {
     few(schedule);
     lawful(schedule);

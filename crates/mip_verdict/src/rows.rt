@@ -7,12 +7,12 @@ ghost use Rattle.mip_verdict.specs.Judging.{IsJudged};
 
 use crate::judged::Judged;
 use mip_bcache::{Accepted, Cache};
-use mip_constants::{LIFETIME_UNIT, MAX_RR_BINDING_LIFETIME};
 use mip_mobhdr::Indices;
 use mip_nonce::{Secrets, by_index};
 use mip_reception::{Registration, careof_of, deletes, home_of, registered_of, status};
 use mip_rules_correspondent::Verdict;
 use mip_tokens::{Kbm, PreparedKbm, authentic, careof_token, home_token};
+use mip_words::constants::{LIFETIME_UNIT, MAX_RR_BINDING_LIFETIME};
 use mip_words::{Address, Moment, Why, after};
 
 /// Who judges an update, when, and over which binding cache.

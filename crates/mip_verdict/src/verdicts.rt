@@ -29,8 +29,11 @@ pub fn judge(
     requires early { now.0 < 2 ^ 62 }
     requires later { cache.now.last ≤ now.0 }
     requires update { IsUpdate update.now.message.now }
-    ensures found { IsSomeAnd (registration_in update.now.source update.now.home update.now.message.now) (λ r. result ≡ verdict (bench_at own secrets.now now.0 cache.now r) r update.now.message.now) }
-    ensures answers { (past : List Acceptance) → StandsFor cache.now past → IsSomeAnd (registration_in update.now.source update.now.home update.now.message.now) (λ r. result ≡ verdict (bench_after own secrets.now now.0 cache.now.limit cache.now.numbers past r) r update.now.message.now) }
+    ensures found { IsSomeAnd (registration_in update.now.source update.now.home update.now.message.now)
+        (λ r. result ≡ verdict (bench_at own secrets.now now.0 cache.now r) r update.now.message.now) }
+    ensures answers { (past : List Acceptance) → StandsFor cache.now past
+        → IsSomeAnd (registration_in update.now.source update.now.home update.now.message.now)
+        (λ r. result ≡ verdict (bench_after own secrets.now now.0 cache.now.limit cache.now.numbers past r) r update.now.message.now) }
 {
     let registration = registration_in(update);
     verdict(now, secrets, cache, own, &registration, update.message).verdict
@@ -49,7 +52,8 @@ pub fn verdict(
     requires later { cache.now.last ≤ now.0 }
     requires read { registration_in registration.now.source registration.now.home_option message.now ≡ Some registration.now }
     ensures found { IsJudged result (verdict (bench_at own secrets.now now.0 cache.now registration.now) registration.now message.now) }
-    ensures answers { (past : List Acceptance) → StandsFor cache.now past → IsJudged result (verdict (bench_after own secrets.now now.0 cache.now.limit cache.now.numbers past registration.now) registration.now message.now) }
+    ensures answers { (past : List Acceptance) → StandsFor cache.now past
+        → IsJudged result (verdict (bench_after own secrets.now now.0 cache.now.limit cache.now.numbers past registration.now) registration.now message.now) }
 {
     let judge = Judge {
         own,

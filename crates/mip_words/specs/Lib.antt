@@ -4,3 +4,8 @@ pub mod Hex
 pub mod Sequence
 pub mod Steps
 pub mod Holders
+pub mod Constants
+pub mod Protocols
+pub mod Asked
+pub mod Last
+pub mod EachAfter

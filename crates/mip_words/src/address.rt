@@ -1,4 +1,4 @@
-ghost use Rattle.std.specs.Prelude.{◌≡◌, ℕ, ◌+◌, ◌<◌, ◌≤◌, ◌^◌, length, Ok, IfOk};
+ghost use Rattle.std.specs.Prelude.{◌≡◌, ◌+◌, ◌<◌, ◌≤◌, ◌^◌, length, Ok, IfOk};
 ghost use Rattle.mip_words.specs.Numbers.{number_at, number_bytes};
 ghost use Rattle.mip_words.specs.Hex.{hex_of};
 ghost use Rattle.mip_words.specs.Addresses.{address_at, address_bytes, prefix_of, is_routable, address_read};

@@ -1,16 +1,19 @@
 //! The words that every crate shares: addresses and prefixes, moments, ids, sequence numbers, tokens,
-//! byte lists, and numbers in bytes.
+//! byte lists, numbers in bytes, the protocol constants, and laws on lists.
 #![tactic(auto)]
 
 mod address;
 mod bytes;
+pub mod constants;
 mod hex;
 mod holder;
 mod ids;
+mod laws;
 mod memory;
 mod moment;
 mod numbers;
 mod prefix;
+pub mod protocol;
 mod sequence;
 mod shield;
 mod token;
@@ -21,6 +24,7 @@ pub use bytes::Bytes;
 pub use hex::{hex_exact, hex_into, put_hex};
 pub use holder::{HOLDERS, Holder};
 pub use ids::{LinkId, NodeId};
+pub use laws::last_goes_on;
 pub use memory::Memory;
 pub use moment::Moment;
 pub use numbers::{u16_at, u16_bytes, u32_at, u32_bytes, u64_at, u64_bytes};

@@ -1,6 +1,6 @@
 //! What an engine asks of its nodes, and does with them.
 
-ghost use Rattle.std.specs.Prelude.{◌≡◌, ◌+◌, ◌<◌, ◌^◌, true, false, if◌then◌else◌, length, unwrap_or, IfOk, IfSome, OnOk, Option, None, Some, is_some, option_map, slice_get};
+ghost use Rattle.std.specs.Prelude.{◌≡◌, ◌+◌, ◌<◌, ◌^◌, true, false, length, unwrap_or, IfOk, IfSome, OnOk, Option, None, Some, is_some, option_map, slice_get};
 ghost use Rattle.std.specs.Option.{option_map_or};
 ghost use Rattle.mip_links.specs.Table.{link_of};
 ghost use Rattle.mip_links.specs.Nets.{holder_of};

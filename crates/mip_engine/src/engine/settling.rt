@@ -169,7 +169,8 @@ impl Engine {
         requires first { a.0 < length self.old.nodes }
         requires second { b.0 < length self.old.nodes }
         ensures noted { OnOk result (self.new ≡ with_entry (Settled a b (are_settled self.old a.0 b.0)) self.old) }
-        ensures settled { (s : Setup) (events : List Event) → IsAt self.old s (run_of s events) → are_settled self.old a.0 b.0 ≡ is_settled s.start self.old.past a.0 b.0 }
+        ensures settled { (s : Setup) (events : List Event) → IsAt self.old s (run_of s events)
+            → are_settled self.old a.0 b.0 ≡ is_settled s.start self.old.past a.0 b.0 }
     {
         let yes = self.are_settled(a, b);
         self.note(Entry::Settled { a, b, yes })

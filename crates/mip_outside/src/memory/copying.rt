@@ -1,6 +1,6 @@
 //! Bytes copied into a slice that may be shorter.
 
-ghost use Rattle.std.specs.Prelude.{◌≡◌, ℕ, ◌+◌, ◌<◌, ◌≤◌, [], ◌++◌, length, take, drop, min};
+ghost use Rattle.std.specs.Prelude.{◌≡◌, ◌+◌, ◌<◌, ◌≤◌, [], ◌++◌, length, take, drop, min};
 
 /// Copies as many bytes to the front as have room there, and says how many.
 pub fn copy_front(into: &mut [u8], from: &[u8]) -> usize

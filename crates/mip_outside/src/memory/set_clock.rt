@@ -1,4 +1,4 @@
-ghost use Rattle.std.specs.Prelude.{◌≡◌, ℕ, ◌<◌, ◌^◌, List, length, drop, Some, IfOk, OnOk, OnErr};
+ghost use Rattle.std.specs.Prelude.{◌≡◌, ◌<◌, length, drop, Some, IfOk, OnOk, OnErr};
 ghost use Rattle.mip_outside.specs.Moments.{AreMoments, Moments};
 
 use crate::clock::Clock;

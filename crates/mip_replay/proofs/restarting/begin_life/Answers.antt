@@ -5,7 +5,6 @@ use Rattle.mip_entries.specs.declared.entry.Entry.TheVariants.{Restarted}
 use Rattle.mip_rules_agent.specs.declared.home_row.HomeRow.{HomeRow}
 use Rattle.mip_history.specs.Restarting.{restarted}
 use Rattle.mip_engine.specs.Nodes as nodes
-use Rattle.mip_engine.specs.Nodes.{NodeSeen}
 use Rattle.mip_engine.specs.Engines.{EngineSeen, with_entry}
 use Rattle.mip_replay.specs.Renewals.{renewed, begun_anew}
 use Rattle.mip_engine.proofs.ItemLaws.{set_here, there_is}

@@ -1,5 +1,5 @@
 use Rattle.std.proofs.Common.{◌≡◌, drop}
-use Rattle.mip_lists.specs.Asked.{asked}
+use Rattle.mip_words.specs.Asked.{asked}
 use Rattle.mip_history.specs.Questions.{moment_says, moment_in}
 use Rattle.mip_settled.proofs.claims.moment.Given as goal
 

@@ -1,6 +1,6 @@
 use Rattle.std.proofs.Common.{ap, sym, ◌∙◌}
 use Rattle.std.specs.Prelude.{List, option_map}
-use Rattle.mip_lists.specs.Last.{last_where}
+use Rattle.mip_words.specs.Last.{last_where}
 use Rattle.mip_binding.specs.Acceptance.{Binding}
 use Rattle.mip_binding.specs.Held.{is_standing}
 use Rattle.mip_entries.specs.declared.entry.Entry.{Entry}

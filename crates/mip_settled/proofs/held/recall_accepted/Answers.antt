@@ -1,7 +1,7 @@
 use Rattle.std.proofs.Common.{ap, ◌∙◌, ◌+◌}
 use Rattle.std.specs.Prelude.{List, ℕ}
 use Rattle.mip_binding.specs.Homes.{latest}
-use Rattle.mip_constants.specs.Constants.{max_nonce_lifetime}
+use Rattle.mip_words.specs.Constants.{max_nonce_lifetime}
 use Rattle.mip_entries.specs.declared.entry.Entry.{Entry}
 use Rattle.mip_settled.specs.Acceptances.{binding_from, left_in}
 use Rattle.mip_settled.proofs.Recalls.{recalled_more}

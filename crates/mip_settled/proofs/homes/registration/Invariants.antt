@@ -1,5 +1,5 @@
 use Rattle.std.proofs.Common.{◌≡◌, drop}
-use Rattle.mip_lists.specs.Asked.{asked}
+use Rattle.mip_words.specs.Asked.{asked}
 use Rattle.mip_history.specs.Registered.{registration_says, last_registration}
 use Rattle.mip_settled.proofs.homes.registration.Given as goal
 

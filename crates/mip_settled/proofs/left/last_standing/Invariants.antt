@@ -1,6 +1,6 @@
 use Rattle.std.proofs.Common.{◌≡◌, length}
 use Rattle.std.specs.Prelude.{option_map}
-use Rattle.mip_lists.specs.Last.{or_else}
+use Rattle.mip_words.specs.Last.{or_else}
 use Rattle.mip_binding.specs.Held.{is_standing}
 use Rattle.mip_settled.specs.Acceptances.{left_in}
 use Rattle.mip_settled.proofs.LeftLaws.{careof_last}

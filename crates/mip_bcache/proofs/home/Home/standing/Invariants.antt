@@ -1,5 +1,5 @@
 use Rattle.std.proofs.Common.{◌≡◌, drop, option_copied}
-use Rattle.mip_lists.specs.Last.{or_else, last_where}
+use Rattle.mip_words.specs.Last.{or_else, last_where}
 use Rattle.mip_bcache.specs.Seen.{stands}
 use Rattle.mip_bcache.proofs.home.Home.standing.Given as goal
 

@@ -1,5 +1,5 @@
 ghost use Rattle.std.specs.Prelude.{◌≡◌, ℕ, Bool, List, [], ◌∷◌, ◌++◌, Some, if◌then◌else◌};
-ghost use Rattle.mip_lists.specs.Last.{last_where};
+ghost use Rattle.mip_words.specs.Last.{last_where};
 
 /// The law by which a question goes on: after one more item the last one of a kind is that item where
 /// it is of the kind, and else the same as before.

@@ -1,8 +1,5 @@
 //! The protocol constants (RFC 6275 section 12) and those that go with them. Times are in milliseconds, lifetimes in units
 //! of 4 s. Each has its name in `specs/Constants` too.
-#![tactic(auto)]
-
-pub mod protocol;
 
 /// For how long a nonce is the newest one.
 pub const NONCE_PERIOD: u64 = 30_000;

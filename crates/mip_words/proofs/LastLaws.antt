@@ -1,11 +1,11 @@
 -- What is known of the last item of a kind, and of what came since.
-use Rattle.std.proofs.Common.{◌≡◌, List, [], ◌∷◌, ◌++◌, Bool, true, false, refl, sym, ap, ◌∙◌, subst, arith}
+use Rattle.std.proofs.Common.{◌≡◌, List, [], ◌∷◌, ◌++◌, Bool, true, false, refl, sym, ap, ◌∙◌, subst}
 use Rattle.std.specs.Prelude.{Option, Some, None, if◌then◌else◌, ◌||◌}
 use Rattle.std.specs.List.{list_any, AllByRecursion}
 use Rattle.std.proofs.lemmas.List.{append_assoc, append-nil}
 use Rattle.std.proofs.lemmas.List.Folds.{list_any-append}
-use Rattle.std.proofs.lemmas.Bool.{cond_both, or_parts, cases_Bool}
-use Rattle.mip_lists.specs.Last.{or_else, last_where, since, StandsLast, StandsFirst}
+use Rattle.std.proofs.lemmas.Bool.{or_parts}
+use Rattle.mip_words.specs.Last.{or_else, last_where, since, StandsLast, StandsFirst}
 
 -- one more item
 pub last_where-push : {X : Type 0} (p : X → Bool) (xs : List X) (x : X) → last_where p (xs ++ x ∷ []) ≡ (if p x then Some x else last_where p xs)

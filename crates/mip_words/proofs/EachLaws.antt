@@ -1,8 +1,8 @@
 -- What is known of a fact of each item about the items before it.
-use Rattle.std.proofs.Common.{◌≡◌, List, [], ◌∷◌, ◌++◌, refl, sym, ap, ◌∙◌, subst}
+use Rattle.std.proofs.Common.{List, [], ◌∷◌, ◌++◌, sym, subst}
 use Rattle.std.specs.Prelude.{fold}
 use Rattle.std.proofs.lemmas.List.{append_assoc, append-nil}
-use Rattle.mip_lists.specs.EachAfter.{EachAfter}
+use Rattle.mip_words.specs.EachAfter.{EachAfter}
 
 -- two lists, one behind the other
 pub each-append : {X : Type 0} (P : List X → X → Type 0) (front xs ys : List X) → EachAfter P front xs → EachAfter P (front ++ xs) ys → EachAfter P front (xs ++ ys)

@@ -1,5 +1,0 @@
-use Rattle.mip_lists.proofs.LastLaws.{last_where-push}
-use Rattle.mip_lists.proofs.laws.last_goes_on.Goals as goal
-
-pub returns : goal.returns
-returns c = λ p xs x. last_where-push p xs x
