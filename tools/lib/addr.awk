@@ -24,10 +24,12 @@ BEGIN {
 
 function to_digits(n,    i, digits) {
     sub(/#.*/, "")
+    if (/\r$/) { refuse(n, "it ends with CR LF, and lines end with LF alone: tr -d \"\\r\" takes the CR away"); return }
     sub(/[ \t]+$/, "")
     if ($0 == "") return
     for (i = 1; i <= NF; i++) {
         if ($i !~ /:/) continue
+        if (i == prefix_at[$1] && $i !~ /\//) { refuse(n, "a prefix of 64 bits stands here, such as 2001:db8:1::/64, and not `" substr($i, 1, 60) "`"); return }
         digits = $i ~ /\// ? prefix_in_full($i) : in_full($i)
         if (digits == "") { refuse(n, "this is neither an address nor a prefix of 64 bits: `" substr($i, 1, 60) "`"); return }
         $i = digits

@@ -120,6 +120,8 @@ function why_digits(s, count) {
 function why_address(kind, s,    why) {
     if (kind != "address") return ""
     if (s ~ /:/) return quoted(s) " is written with colons, and here stand 32 digits; tools/addr writes them"
+    if (s ~ /^[0-9]+([.][0-9]+)+$/) return quoted(s) " is no IPv6 address, and here stand the 32 digits of one; tools/addr writes them"
+    if (s in sort_of) return quoted(s) " is the name of " (sort_of[s] ~ /^[ao]/ ? "an " : "a ") sort_of[s] ", and here stand the 32 digits of an address"
     why = why_digits(s, 32)
     if (why != "") return why
     if (s ~ /^0+[01]?$/) return quoted(s) " is the unspecified or the loopback address, which is not routable"

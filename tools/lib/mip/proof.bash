@@ -84,7 +84,7 @@ prove() {
     before=$(sources) || fail 'the sources cannot be read, or rt version failed'
     if is_proved "$before"; then return; fi
     echo 'mip: no program is proved from these sources yet. The proof takes some 40 minutes on four processors where nothing is kept, and less' >&2
-    echo 'mip: after an edit. Where .ci/run has passed in this clone, the program stands already. ./mip --unproved runs at once' >&2
+    echo 'mip: after an edit. Where .ci/run has passed in this clone, the program stands already. ./mip --unproved runs without a proof' >&2
     while :; do
         rm -f "$program" "$stamp" "$log"
         (cd "$top/crates/mip_prog" && rt run --) </dev/null 2>&1 >/dev/null | progress || true

@@ -23,8 +23,8 @@ no_answer() {
 run_unproved() {
     local said status how=() file number=0 answered=0 begun=$SECONDS
     if [ -r "$tried" ]; then echo "mip: nothing is proved of this run. It took $(<"$tried") s here the last time" >&2
-    else echo 'mip: nothing is proved of this run. It is built first, which takes one to two minutes, and more beside other work' >&2; fi
-    echo 'mip: the run may take 60 seconds and write 1 MiB; for more ./mip needs the proof, once' >&2
+    else echo 'mip: nothing is proved of this run. It is built first, which takes some four minutes of processor time and up to 9 GB of memory, each time' >&2; fi
+    echo 'mip: the run may take 60 seconds and write 1 MiB; for more ./mip needs the proof, once. Several files in one call are built for once' >&2
     work=$(mktemp -d)
     trap 'rm -rf "$work"' EXIT
     said=$work/said
