@@ -1,8 +1,15 @@
-# What is wrong with the line `bad` of a schedule, which was refused for `reason`. The text comes with a line `.` added.
+# What is wrong with the line `bad` of a schedule, or of a configuration where `what` is `node` or `hub`, which was refused for `reason`. The text comes with a
+# line `.` added.
 BEGIN {
     FS = "[ ]"
     u16 = "0-65535"
     u32 = "0-4294967295"
+    noun = what == "schedule" ? "a schedule" : "a configuration"
+    if (what == "schedule") schedule_tables()
+    else config_tables()
+}
+
+function schedule_tables() {
     # for each word what its fields are called, and of which kind they are
     declares("link", "NAME PREFIX", "new prefix")
     declares("agent", "NAME LINK ADDRESS PREFERENCE LIFE ROOM", "new link address " u16 " " u16 " 1-64")
@@ -88,6 +95,7 @@ function called(sort) {
 }
 
 function why_name(kind, s,    others) {
+    if (kind == "yes-or-no") return s == "yes" || s == "no" ? "" : quoted(s) " is neither `yes` nor `no`" meant(s, "yes no")
     if (kind == "test") return s == "home" || s == "careof" ? "" : quoted(s) " is neither `home` nor `careof`" meant(s, "home careof")
     if (kind == "new") {
         if (s in sort_of) return quoted(s) " is the name of " (sort_of[s] ~ /^[ao]/ ? "an " : "a ") sort_of[s] " already"
@@ -118,6 +126,7 @@ function why_digits(s, count) {
 }
 
 function why_address(kind, s,    why) {
+    if (kind == "address-or-find") { if (s == "find") return ""; kind = "address" }
     if (kind != "address") return ""
     if (s ~ /:/) return quoted(s) " is written with colons, and here stand 32 digits; tools/addr writes them"
     if (s ~ /^[0-9]+([.][0-9]+)+$/) return quoted(s) " is no IPv6 address, and here stand the 32 digits of one; tools/addr writes them"
@@ -150,13 +159,13 @@ function why_field(kind, s) {
 }
 
 # What the first field from the left has against it, or what the whole line has.
-function why_fields(    kind, n, i, why) {
-    n = split($1 == "mip" ? "1-2" : $1 == "seed" ? "seed" : $1 == "start" ? "0-1099511627776" : kinds_of[$1], kind, " ")
+function why_fields(kinds,    kind, n, i, why) {
+    n = split(kinds, kind, " ")
     for (i = 1; i <= n; i++) {
         why = why_field(kind[i], $(i + 1))
         if (why != "") return why
     }
-    if (reason == "number" && $1 == "data") return "protocol " $4 " is of a header, of ICMPv6 or of a mobility message, which `data` does not send"
+    if (reason == "number" && ($1 == "data" || $1 == "payload")) return "protocol " $4 " is of a header, of ICMPv6 or of a mobility message, which `" $1 "` does not send"
     if (reason == "address") return quoted($3) " is on no declared link"
     return "a field is no such field"
 }
@@ -166,8 +175,8 @@ function why_fields(    kind, n, i, why) {
 function why_layout() {
     if (/\r$/) return "the line ends with CR LF, and lines end with LF alone"
     if (/\t/) return "a tab stands there, and fields are separated by single spaces"
-    if ($0 == "") return "the line is empty, and a schedule has no empty lines"
-    if (/#/) return "a schedule has no comments; tools/addr takes them out, and tools/why --addr reads what it reads"
+    if ($0 == "") return "the line is empty, and " noun " has no empty lines"
+    if (/#/) return noun " has no comments; tools/addr takes them out, and tools/why --addr reads what it reads"
     if (/^ /) return "the line begins with a space"
     if (/ $/) return "the line ends with a space, which makes an empty field"
     if (/  /) return "two spaces stand side by side, which makes an empty field"
@@ -222,7 +231,10 @@ function why_packet() {
     return length($4) < 80 ? "here stand " length($4) / 2 " bytes, and an IPv6 packet has 40 at least" : "the first digit is the version, and is not 6"
 }
 
+function schedule_kinds() { return $1 == "mip" ? "1-2" : $1 == "seed" ? "seed" : $1 == "start" ? "0-1099511627776" : kinds_of[$1] }
+
 function sentence(    why) {
+    if (what != "schedule") return config_sentence()
     if (bad > lines) return why_end()
     $0 = text
     why = why_layout()
@@ -233,7 +245,7 @@ function sentence(    why) {
     if (reason == "packet") return why_packet()
     if (reason == "time") return "the waits up to here are " waited + $2 " ms together, and may be 36000000"
     if (reason == "carry") return "the carries up to here are " carried + $2 " packets together, and may be 200000"
-    return why_fields()
+    return why_fields(schedule_kinds())
 }
 
 # From version 2 on an update names the number of its binding.
@@ -244,6 +256,7 @@ function numbers_updates() {
 
 # What stands before the bad line.
 function remember() {
+    if (what != "schedule") return
     if ($1 == "mip" && $2 == 2) numbers_updates()
     if ($1 == "run") running = 1
     if ($1 == "wait") waited += $2
