@@ -5,7 +5,7 @@ chosen_program() {
     local program=$1/crates/mip_prog/out/mip_prog
     if [ -n "${MIP-}" ]; then
         program=$(command -v "$MIP") || { echo "MIP names no program: $MIP"; return 1; }
-    elif ! "$1/mip" --version 2>/dev/null | grep -q '^proved from'; then
+    elif [[ $("$1/mip" --version 2>/dev/null || true) != *$'\nproved from '* ]]; then
         echo 'no program is proved from the sources that stand here: ./mip proves one, or MIP names another'
         return 1
     elif [ ! -e "$1/crates.txt" ]; then

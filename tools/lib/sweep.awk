@@ -8,7 +8,7 @@ NF == columns + 1 && !($1 in seen) {
     if (runs == 1 || $1 > last) last = $1
     for (i = 1; i <= columns; i++) {
         sum[i] += $(i + 1)
-        if (runs == 1 || $(i + 1) > most[i]) { most[i] = $(i + 1); seed[i] = $1 }
+        if (runs == 1 || $(i + 1) > most[i] || $(i + 1) == most[i] && $1 < seed[i]) { most[i] = $(i + 1); seed[i] = $1 }
     }
 }
 

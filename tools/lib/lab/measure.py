@@ -1,8 +1,8 @@
 """Shows what is lost between two hosts, as a line that grows and as numbers.
 
-    measure.py ping ADDRESS COUNT MOVES     a ping each tenth of a second: `.` came back, `x` did not within a second
-    measure.py tcp ADDRESS COUNT MOVES      a line over TCP each tenth of a second: `.` something came back in it, `_` nothing did
-    measure.py serve                        sends all back that comes over TCP
+    measure.py ping ADDRESS COUNT MOVES      a ping each tenth of a second: `.` came back, `x` did not within a second
+    measure.py tcp ADDRESS COUNT MOVES PORT  a line over TCP each tenth of a second: `.` something came back in it, `_` nothing did
+    measure.py serve                         writes a port, and sends all back that comes there over TCP
 
 MOVES has a line a move, its moment and its link; each move that comes meanwhile stands in the line as `[LINK]`.
 """
@@ -12,7 +12,7 @@ import struct
 import sys
 import time
 
-EACH, PATIENCE, PORT, COLUMNS = 0.1, 1.0, 7, 100
+EACH, PATIENCE, COLUMNS = 0.1, 1.0, 100
 ECHO_REQUEST, ECHO_REPLY = 128, 129
 
 
@@ -101,8 +101,8 @@ class Pings:
 class Lines:
     """Lines of four bytes with their numbers, which a server sends back."""
 
-    def __init__(self, address):
-        self.link = socket.create_connection((address, PORT), 10)
+    def __init__(self, address, port):
+        self.link = socket.create_connection((address, int(port)), 10)
         self.link.setsockopt(socket.IPPROTO_TCP, socket.TCP_NODELAY, 1)
         self.sent, self.bytes, self.marks, self.silence = 0, 0, "", 0.0
         self.last = time.time()
@@ -134,16 +134,16 @@ class Lines:
 
 
 def serve():
-    server = socket.create_server(("::", PORT), family=socket.AF_INET6)
-    print("ready", flush=True)
+    server = socket.create_server(("::", 0), family=socket.AF_INET6)
+    print(server.getsockname()[1], flush=True)
     it, _ = server.accept()
     while text := it.recv(4096):
         it.sendall(text)
 
 
-def measure(kind, address, count, moves):
+def measure(kind, address, count, moves, *port):
     try:
-        it = (Pings if kind == "ping" else Lines)(address)
+        it = (Pings if kind == "ping" else Lines)(address, *port)
     except OSError as why:
         sys.exit(f"lab: {kind}: {why}")
     try:
