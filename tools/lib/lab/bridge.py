@@ -161,7 +161,9 @@ class Bridge:
 
     def from_node(self, it):
         frame, (_, port) = it.recvfrom(4097)
-        self.post(next(role for role in ROLES if NODE_PORT[role] == port), frame)
+        for role in ROLES:
+            if NODE_PORT[role] == port:
+                self.post(role, frame)
 
     def from_hub(self, role, it):
         """What a hub sends before its time is held back; what it sends behind it is lost."""
@@ -190,14 +192,14 @@ class Bridge:
             return it
         if known.careof and known.is_bound(peer):
             return packets.named(it, bytes.fromhex(known.careof))
-        if known.careof and known.is_registered():
+        if known.careof and known.is_registered() and packets.may_enter_tunnel(it):
             return packets.tunnelled(it, bytes.fromhex(known.careof), bytes.fromhex(known.agent))
         return None
 
     def to_role(self, role, frame):
-        it = frame[33:] if frame[0] else frame[1:]
+        it = frame[33:] if frame[:1] == b"\1" else frame[1:]
         inner = it if role == "agent" else packets.opened(it)
-        is_own = frame[0] == 0 and packets.destination(inner).hex() == self.network.address[role]
+        is_own = frame[:1] == b"\0" and packets.is_packet(inner) and packets.destination(inner).hex() == self.network.address[role]
         if is_own and (packets.is_icmp_of_hosts(inner) or role == "agent" and inner[6] in (packets.TCP, packets.UDP)):
             self.to_host(role, inner)
         else:
@@ -221,10 +223,13 @@ class Bridge:
     def ask(self, control):
         it, _ = control.accept()
         it.settimeout(1)
-        words = it.recv(200).decode().split()
-        if words[:1] == ["status"]:
+        try:
+            words = it.recv(200).decode("ascii", "replace").split()
+        except OSError:
+            words = []
+        if words == ["status"]:
             self.answer(it, "\n".join(self.status()))
-        elif words[:1] == ["move"] and len(words) == 3:
+        elif words[:1] == ["move"] and len(words) == 3 and words[2].isdigit():
             self.move(it, words[1], int(words[2]))
         else:
             self.answer(it, "bad words")

@@ -22,6 +22,10 @@ def packet(origin, target, proto, body, hop=64, front=b"\x60\0\0\0"):
     return front + struct.pack(">HBB", len(body), proto, hop) + origin + target + body
 
 
+def may_enter_tunnel(it):
+    return it[7] >= 2
+
+
 def tunnelled(it, entry, end):
     lowered = it[:7] + bytes([it[7] - 1]) + it[8:]
     return packet(entry, end, TUNNEL, lowered)
@@ -41,6 +45,8 @@ def named(it, careof):
 
 def opened(it):
     """The packet as the other host sent it."""
+    if not is_packet(it):
+        return it
     if it[6] == TUNNEL and is_packet(it[40:]):
         it = it[40:]
     if len(it) >= 64 and it[6] == ROUTING and it[42] == 2:
