@@ -67,7 +67,7 @@ class Bridge:
         self.network = Network(f"{folder}/network")
         self.wait = selectors.DefaultSelector()
         self.known = {role: Known() for role in ROLES}
-        self.ended, self.lost, self.unsent = {}, 0, 0
+        self.ended, self.lost, self.dropped, self.unsent = {}, 0, 0, 0
         self.hub, self.coming, self.hubs = None, None, 0
         self.hub_port, self.next, self.is_ready, self.held = HUB_PORTS[0], None, False, []
         self.moves, self.asked, self.later = [], [], None
@@ -128,8 +128,8 @@ class Bridge:
 
     def of_hub(self, program, words):
         self.is_ready = self.is_ready or program is self.coming
-        if words[0] == "gone":
-            self.lost += 1
+        self.lost += words[0] == "gone"
+        self.dropped += words[0] == "dropped"
 
     def exchange(self):
         """The hub that has begun takes the place of the other one."""
@@ -282,6 +282,8 @@ class Bridge:
                 yield f"{role}: {text}"
         for name, text in self.ended.items():
             yield f"{name} {text}"
+        if self.dropped:
+            yield f"hub: dropped {self.dropped}"
         yield f"lost: {self.lost} packets for an address that nobody held, {self.unsent} that the mobile could not send"
 
     def turn(self):
