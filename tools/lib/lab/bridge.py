@@ -5,23 +5,23 @@
 
 FOLDER has the network and the configuration of each node, and gets their traces. What a host sends goes out as its node would send data by what its trace
 says: into the tunnel, with a routing header or with a Home Address option. All that comes is the node's, and what it hands up is the host's. The ICMPv6
-messages of hosts, of which a node does nothing, are opened here. Each packet passes the hub. A mobile that moves gets another hub, with other claims.
+messages of hosts, of which a node does nothing, are opened here. Each packet passes the hub.
 """
 import fcntl
 import os
 import selectors
 import socket
 import struct
-import subprocess
 import sys
 import time
 
 import packets
+from hubs import Hubs
 from known import Known
-from network import FRONT, HOST_PORT, HUB_PORTS, NODE_PORT, Network
+from network import FRONT, HOST_PORT, NODE_PORT, Network
+from program import Program
 
 ROLES = "agent", "mobile", "correspondent"
-TURNS = "1000000"
 PATIENCE = 10  # seconds for which an answer to a move is held back
 
 
@@ -32,56 +32,28 @@ def tun(name):
     return it
 
 
-class Program:
-    """A process of mip. It ends with the bridge. Its text is kept line by line."""
-
-    def __init__(self, folder, name, mip, command, line):
-        with open(f"{folder}/{name}.config", "rb") as config:
-            words = ["setpriv", "--pdeathsig", "KILL", mip, command, TURNS]
-            self.process = subprocess.Popen(words, stdin=config, stdout=subprocess.PIPE)
-        self.out = self.process.stdout.fileno()
-        self.kept = open(f"{folder}/{name}.trace", "wb", buffering=0)
-        self.name, self.line, self.rest, self.last = name, line, b"", ""
-        self.began = time.monotonic()
-
-    def read(self):
-        """Takes what it has written; False where it has ended."""
-        text = os.read(self.out, 1 << 16)
-        *lines, self.rest = (self.rest + text).split(b"\n")
-        for line in lines:
-            self.kept.write(line + b"\n")
-            self.last = line.decode()
-            self.line(self, self.last.split(" "))
-        return text != b""
-
-    def end(self):
-        self.process.kill()
-        self.kept.close()
-        self.process.stdout.close()
-        return self.process.wait()
-
-
 class Bridge:
     def __init__(self, folder, mip):
         self.folder, self.mip = folder, mip
         self.network = Network(f"{folder}/network")
         self.wait = selectors.DefaultSelector()
         self.known = {role: Known() for role in ROLES}
-        self.ended, self.lost, self.dropped, self.unsent = {}, 0, 0, 0
-        self.hub, self.coming, self.hubs = None, None, 0
-        self.hub_port, self.next, self.is_ready, self.held = HUB_PORTS[0], None, False, []
-        self.moves, self.asked, self.later = [], [], None
+        self.ended, self.unsent, self.asked = {}, 0, []
         self.front = self.listen(FRONT, self.from_node)
         self.hosts = {role: tun(role) for role in ROLES}
         for role in ROLES:
-            self.listen(HOST_PORT[role], lambda it, role=role: self.from_hub(role, it))
-            self.watch(self.hosts[role], lambda it, role=role: self.from_host(role, it))
-            self.start(role, "node", lambda program, words, role=role: self.told(role, words))
+            self.join(role)
         self.control = socket.socket(socket.AF_UNIX)
         self.control.bind(f"{folder}/control")
         self.control.listen()
         self.watch(self.control, self.ask)
-        self.stand_on(self.network.at)
+        self.hubs = Hubs(folder, self.network, self.start, self.forget)
+        self.hubs.move(self.network.at)
+
+    def join(self, role):
+        self.listen(HOST_PORT[role], lambda it: self.from_hub(role, it))
+        self.watch(self.hosts[role], lambda it: self.from_host(role, it))
+        self.start(role, "node", lambda _, words: self.told(role, words))
 
     def watch(self, it, call, first=False):
         self.wait.register(it, selectors.EVENT_READ, (not first, call))
@@ -93,9 +65,6 @@ class Bridge:
         self.watch(it, call)
         return it
 
-    def to(self, port, frame):
-        self.front.sendto(frame, ("127.0.0.1", port))
-
     # Processes.
 
     def start(self, name, command, line):
@@ -103,61 +72,28 @@ class Bridge:
         self.watch(program.out, lambda _: self.read(program), first=True)
         return program
 
+    def forget(self, program):
+        if program.out in self.wait.get_map():
+            self.wait.unregister(program.out)
+
     def read(self, program):
-        if program.out in self.wait.get_map() and not program.read():
-            self.gone(program)
-
-    def gone(self, program):
-        self.wait.unregister(program.out)
-        status = program.process.wait()
-        if program is self.coming:
-            self.coming = None
-        if program is self.hub and time.monotonic() - program.began > 1:
-            self.stand_on(self.network.at)
-        else:
-            self.ended[program.name] = f"has ended with status {status}: {program.last or 'it has written nothing'}"
-
-    def stand_on(self, link, moment=0.0):
-        """A hub for this link begins; the mobile stands there once it is ready, and not before this moment."""
-        self.hubs += 1
-        name, port = f"hub.{self.hubs}", HUB_PORTS[self.hubs % 2]
-        with open(f"{self.folder}/{name}.config", "w", encoding="ascii") as it:
-            it.writelines(self.network.hub(link, port))
-        self.next, self.is_ready, self.held = (link, port, moment), False, []
-        self.coming = self.start(name, "hub", self.of_hub)
-
-    def of_hub(self, program, words):
-        self.is_ready = self.is_ready or program is self.coming
-        self.lost += words[0] == "gone"
-        self.dropped += words[0] == "dropped"
-
-    def exchange(self):
-        """The hub that has begun takes the place of the other one."""
-        if not self.coming or not self.is_ready or time.time() < self.next[2]:
+        if program.read():
             return
-        if self.hub:
-            if self.hub.out in self.wait.get_map():
-                self.wait.unregister(self.hub.out)
-            self.hub.end()
-        self.hub, self.coming = self.coming, None
-        self.network.at, self.hub_port, _ = self.next
-        self.moves.append((time.time(), self.network.at))
-        with open(f"{self.folder}/moves", "a", encoding="ascii") as it:
-            it.write(f"{self.moves[-1][0]} {self.network.at}\n")
-        for role, frame in self.held:
-            self.to_role(role, frame)
-        if self.later:
-            (link, gap), self.later = self.later, None
-            self.stand_on(link, self.moves[-1][0] + gap / 1000)
+        self.forget(program)
+        if not self.hubs.ended(program):
+            self.ended[program.name] = f"has ended with status {program.process.wait()}: {program.last or 'it has written nothing'}"
 
     # Packets.
+
+    def to(self, port, frame):
+        self.front.sendto(frame, ("127.0.0.1", port))
 
     def post(self, role, frame):
         """A frame of this role goes to the hub; a mobile on no link has nobody who hears it."""
         if role == "mobile" and self.network.at not in self.network.links:
             self.unsent += 1
         else:
-            self.to(self.hub_port, frame)
+            self.to(self.hubs.port, frame)
 
     def from_node(self, it):
         frame, (_, port) = it.recvfrom(4097)
@@ -166,12 +102,9 @@ class Bridge:
                 self.post(role, frame)
 
     def from_hub(self, role, it):
-        """What a hub sends before its time is held back; what it sends behind it is lost."""
         frame, (_, port) = it.recvfrom(4097)
-        if port == self.hub_port:
+        if self.hubs.holds(port, role, frame):
             self.to_role(role, frame)
-        elif self.coming and port == self.next[1]:
-            self.held.append((role, frame))
 
     def from_host(self, role, device):
         it = os.read(device, 4096)
@@ -197,6 +130,7 @@ class Bridge:
         return None
 
     def to_role(self, role, frame):
+        """To the node, or to the host where its node does nothing with such a packet."""
         it = frame[33:] if frame[:1] == b"\1" else frame[1:]
         inner = it if role == "agent" else packets.opened(it)
         is_own = frame[:1] == b"\0" and packets.is_packet(inner) and packets.destination(inner).hex() == self.network.address[role]
@@ -209,7 +143,7 @@ class Bridge:
         try:
             os.write(self.hosts[role], it)
         except OSError:
-            self.lost += 1  # the device is not up
+            pass  # its device is not up
 
     def told(self, role, words):
         self.known[role].take(words)
@@ -242,15 +176,13 @@ class Bridge:
         it.close()
 
     def move(self, it, link, gap):
-        """To this link, after so many milliseconds on none."""
         if link != "-" and link not in self.network.links:
             self.answer(it, f"no link has the name {link}: they are {' '.join(self.network.links)}, and - for none")
-        elif self.coming or self.later:
+        elif self.hubs.is_under_way():
             self.answer(it, "another move is under way")
         else:
-            self.asked.append((it, len(self.moves) + (gap != 0), time.time() + gap / 1000))
-            self.later = (link, gap) if gap else None
-            self.stand_on("-" if gap else link)
+            self.asked.append((it, len(self.hubs.moves) + (gap != 0), time.time() + gap / 1000 + PATIENCE))
+            self.hubs.move(link, gap)
 
     def is_settled(self):
         """Whether the mobile knows where it stands, and its agent too."""
@@ -262,41 +194,44 @@ class Bridge:
     def answer_moves(self):
         for each in list(self.asked):
             it, number, due = each
-            if len(self.moves) > number and self.is_settled():
-                taken = time.time() - self.moves[number][0]
+            if len(self.hubs.moves) > number and self.is_settled():
+                taken = time.time() - self.hubs.moves[number][0]
                 how = "nobody hears it" if self.network.at == "-" else f"it and its agent know that after {1000 * taken:.0f} ms"
                 text = f"the mobile stands on {self.network.at}: {how}"
-            elif time.time() - due > PATIENCE:
-                text = f"the mobile is not settled after {PATIENCE} s; see status"
+            elif time.time() > due:
+                text = f"the mobile and its agent do not know of the move after {PATIENCE} s; see status"
             else:
                 continue
             self.asked.remove(each)
             self.answer(it, text)
 
     def status(self):
-        at = self.network.at
+        at, moves = self.network.at, self.hubs.moves
         where = f"{at}, {self.network.prefix(at)}" if at != "-" else "no link"
-        yield f"the mobile stands on {where}, for {time.time() - self.moves[-1][0]:.0f} s; moves: {len(self.moves) - 1}"
+        yield f"the mobile stands on {where}, for {time.time() - moves[-1][0]:.0f} s; moves: {len(moves) - 1}"
         for role in ROLES:
             for text in self.known[role].said(self.network.home):
                 yield f"{role}: {text}"
+        if self.hubs.dropped:
+            yield f"hub: dropped {self.hubs.dropped}"
         for name, text in self.ended.items():
             yield f"{name} {text}"
-        if self.dropped:
-            yield f"hub: dropped {self.dropped}"
-        yield f"lost: {self.lost} packets for an address that nobody held, {self.unsent} that the mobile could not send"
+        yield f"lost: {self.hubs.lost} packets for an address that nobody held, {self.unsent} that the mobile could not send"
+
+    # Turns.
 
     def turn(self):
         """What has come is taken, texts of processes first."""
         come = self.wait.select(0.005 if self.asked else 1)
         for key, _ in sorted(come, key=lambda it: it[0].data[0]):
             key.data[1](key.fileobj)
-        self.exchange()
+        for role, frame in self.hubs.exchange() or []:
+            self.to_role(role, frame)
         self.answer_moves()
 
     def begin(self):
         """Until each process has written a line. A text where one has ended."""
-        while not self.hub or any(known.lines == 0 for known in self.known.values()):
+        while not self.hubs.program or any(known.lines == 0 for known in self.known.values()):
             self.turn()
             if self.ended:
                 return "; ".join(f"{name} {text}" for name, text in self.ended.items())
