@@ -21,13 +21,13 @@ class Hubs:
         self.later = (link, gap) if gap else None
         self.begin("-" if gap else link, 0)
 
-    def begin(self, link, moment):
+    def begin(self, link, moment, is_move=True):
         """A hub for this link begins; it stands once it is ready, and not before this moment."""
         self.number += 1
         name, port = f"hub.{self.number}", HUB_PORTS[self.number % 2]
         with open(f"{self.folder}/{name}.config", "w", encoding="ascii") as it:
             it.writelines(self.network.hub(link, port))
-        self.next, self.is_ready, self.held = (link, port, moment), False, []
+        self.next, self.is_ready, self.held = (link, port, moment, is_move), False, []
         self.coming = self.start(name, "hub", self.line)
 
     def line(self, program, words):
@@ -49,15 +49,19 @@ class Hubs:
             self.forget(self.program)
             self.program.end()
         self.program, self.coming = self.coming, None
-        self.network.at, self.port, _ = self.next
-        self.moves.append((time.time(), self.network.at))
-        with open(f"{self.folder}/moves", "a", encoding="ascii") as it:
-            it.write(f"{self.moves[-1][0]} {self.network.at}\n")
+        self.network.at, self.port, _, is_move = self.next
+        if is_move:
+            self.keep_move()
         held, self.held = self.held, []
         if self.later:
             (link, gap), self.later = self.later, None
             self.begin(link, self.moves[-1][0] + gap / 1000)
         return held
+
+    def keep_move(self):
+        self.moves.append((time.time(), self.network.at))
+        with open(f"{self.folder}/moves", "a", encoding="ascii") as it:
+            it.write(f"{self.moves[-1][0]} {self.network.at}\n")
 
     def ended(self, program):
         """A hub that has had its turns is followed by another one. Whether that is so."""
@@ -65,5 +69,5 @@ class Hubs:
             self.coming, self.later = None, None
         if program is not self.program or time.monotonic() - program.began < 1:
             return False
-        self.begin(self.network.at, 0)
+        self.begin(self.network.at, 0, is_move=False)
         return True
