@@ -1,10 +1,8 @@
 -- What a home agent does about a packet that it is handed: it registers nothing, or at once the update in the packet, with
 -- the verdict Accept; where it registers nothing, its homes and their ends stay.
 use Rattle.std.proofs.Common.{◌≡◌, ℕ, List, [], ◌∷◌, Bool, true, false, ◌⊎◌, inl, inr, refl, sym, ap, subst, length}
-use Rattle.std.specs.Prelude.{Option, Some, None, Result, Ok, Err, not, ◌==◌, ◌||◌, ◌&&◌, nat_lt, if◌then◌else◌, is_some, slice_index}
+use Rattle.std.specs.Prelude.{Option, Some, None, Result, Ok, Err, not, ◌==◌, ◌&&◌, nat_lt, if◌then◌else◌}
 use Rattle.std.specs.List.{list_any}
-use Rattle.std.proofs.lemmas.Bool.{cond_both, eqb-true}
-use Rattle.mip_words.specs.Steps.{◌>>=◌}
 use Rattle.mip_words.specs.declared.address.Address.{Address}
 use Rattle.mip_words.specs.declared.shield.Shield.{Shield}
 use Rattle.mip_words.specs.declared.why.Why.{Why}
@@ -22,7 +20,6 @@ use Rattle.mip_entries.specs.Stamped.{stamped}
 use Rattle.mip_entries.specs.Transitions.{known_by}
 use Rattle.mip_entries.proofs.TransitionLaws.{noted_all, noted_all-is}
 use Rattle.mip_reception.specs.declared.refusal.Refusal.{Refusal}
-use Rattle.mip_reception.specs.declared.address_match.AddressMatch.{AddressMatch}
 use Rattle.mip_reception.specs.Checks.{message_at, checked}
 use Rattle.mip_reception.specs.Replies.{reply_packet}
 use Rattle.mip_reception.proofs.CheckedMessages.{checked_message, message_read, message_proto, update_read, update_type}

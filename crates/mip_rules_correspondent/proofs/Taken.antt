@@ -1,10 +1,8 @@
 -- What a correspondent does about a packet that it is handed: it accepts nothing, or at once the update in the packet, with
 -- the verdict Accept.
 use Rattle.std.proofs.Common.{◌≡◌, ℕ, List, [], ◌∷◌, Bool, true, false, ◌⊎◌, inl, inr, refl, sym, ap, ◌∙◌, subst}
-use Rattle.std.specs.Prelude.{Option, Some, None, Result, Ok, Err, not, ◌==◌, ◌||◌, ◌&&◌, if◌then◌else◌, is_some}
+use Rattle.std.specs.Prelude.{Option, Some, None, Result, Ok, Err, not, ◌&&◌, if◌then◌else◌}
 use Rattle.std.specs.List.{list_any}
-use Rattle.std.proofs.lemmas.Bool.{cond_both, eqb-true}
-use Rattle.mip_words.specs.Steps.{◌>>=◌}
 use Rattle.mip_words.specs.Sequence.{is_after}
 use Rattle.mip_words.specs.Addresses.{is_routable}
 use Rattle.mip_words.specs.declared.address.Address.{Address}
@@ -22,7 +20,6 @@ use Rattle.mip_tokens.specs.declared.kbm.Kbm.{Kbm}
 use Rattle.mip_bcache.specs.declared.accepted.Accepted.{Accepted}
 use Rattle.mip_entries.proofs.TransitionLaws.{noted-now, noted_all, noted_all-is, none-noted}
 use Rattle.mip_reception.specs.declared.refusal.Refusal.{Refusal}
-use Rattle.mip_reception.specs.declared.address_match.AddressMatch.{AddressMatch}
 use Rattle.mip_reception.specs.Checks.{message_at, checked}
 use Rattle.mip_reception.specs.Replies.{reply_packet}
 use Rattle.mip_reception.proofs.CheckedMessages.{either, checked_message, message_read, message_proto, update_read}
