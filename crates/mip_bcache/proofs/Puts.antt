@@ -6,6 +6,7 @@ use Rattle.std.proofs.lemmas.Bool.{cases_eq, cases_lt, false≢true}
 use Rattle.std.proofs.lemmas.Bool.Decides.{nat_tests}
 use Rattle.std.specs.Global.{Vec}
 use Rattle.mip_binding.specs.Rows.{find_by, put_by}
+use Rattle.mip_binding.proofs.PlaceLaws.{all_at}
 use Rattle.mip_binding.proofs.RowLaws.{rises-put, length-put}
 use Rattle.mip_chain.specs.Chain.{Item, find, put, without}
 use Rattle.mip_chain.specs.declared.slot.Slot.{Slot}
@@ -15,7 +16,6 @@ use Rattle.mip_bcache.specs.declared.row.Row.{Row}
 use Rattle.mip_bcache.specs.declared.home.Home.{Home}
 use Rattle.mip_bcache.specs.Seen.{no_room}
 use Rattle.mip_bcache.specs.Table.{key_of, due_of, IsSound, IsPlace, IsGap, TableSeen, add_home, homes_of, homes_in, item_for, AreApart, HaveSlots, has_slot, IsFilled, IsTable, IsHome, IsSpare, IsLoose}
-use Rattle.mip_bcache.proofs.Places.{all_at}
 use Rattle.mip_bcache.proofs.Slots.{Items, find_put_same, find_put_other, find_without_other, find_without_none, rows_agree, length_rows}
 
 -- lists with an item more, or another one at a place

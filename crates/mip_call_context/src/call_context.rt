@@ -12,14 +12,9 @@ use mip_bulist::ListFull;
 use mip_entries::Answers;
 use mip_mobile_state::MobileState;
 use mip_nonce::Secrets;
-use mip_words::{Address, LinkId, Memory, Moment, NodeId};
+use mip_words::{Address, Memory, Moment};
 use std::alloc::Global;
 use std::marker::Model;
-
-/// A role writes 0 for its own number, and for a link.
-pub(crate) const MYSELF: NodeId = NodeId(0);
-
-pub(crate) const SOME_LINK: LinkId = LinkId(0);
 
 /// A call under way.
 #[derive(Drop)]

@@ -5,12 +5,12 @@ ghost use Rattle.mip_rules_mobile.specs.Steps.{Detaches, Restarts};
 ghost use Rattle.mip_rules_mobile.specs.Transitions.{Transition, noted};
 ghost use Rattle.mip_call_context.specs.Seen.{Shows};
 
-use crate::call_context::{CallContext, MYSELF};
+use crate::call_context::CallContext;
 use mip_entries::{Answer, Entry};
 use mip_mobile_state::peers;
 use mip_nonce::Secrets;
 use mip_rules_mobile::Attachment;
-use mip_words::Memory;
+use mip_words::{MYSELF, Memory};
 use std::alloc::Global;
 
 impl CallContext {

@@ -9,13 +9,13 @@ ghost use Rattle.mip_rules_mobile.specs.Transitions.{Transition, noted};
 ghost use Rattle.mip_rules_mobile.specs.Sendings.{Sending, RegistersHome, DeregistersHome, packet_of_sending, shield_of, shield_to, Solicits, registration_packet, deregistration_packet, solicitation_packet};
 ghost use Rattle.mip_call_context.specs.Seen.{Shows, IsNeutral};
 
-use crate::call_context::{CallContext, MYSELF};
+use crate::call_context::CallContext;
 use mip_bulist::{HomeTimer, Work};
 use mip_discovery::Discovery;
 use mip_entries::{Answer, Entry};
 use mip_mobile_state::Agents;
 use mip_rules_mobile::{HomeUpdate, Registered};
-use mip_words::{Address, Bytes, Memory, Moment, Shield};
+use mip_words::{Address, Bytes, MYSELF, Memory, Moment, Shield};
 
 impl CallContext {
     /// The last accepted sequence of the mobile's agent was this one.

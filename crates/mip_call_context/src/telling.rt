@@ -6,10 +6,10 @@ ghost use Rattle.mip_rules_mobile.specs.Steps.{Arrives, Chooses, Claims, Drops, 
 ghost use Rattle.mip_rules_mobile.specs.Transitions.{Transition, noted};
 ghost use Rattle.mip_call_context.specs.Seen.{Shows};
 
-use crate::call_context::{CallContext, MYSELF, SOME_LINK};
+use crate::call_context::CallContext;
 use mip_entries::{Answer, Entry};
 use mip_rules_mobile::Attachment;
-use mip_words::{Address, Memory, Why};
+use mip_words::{Address, HERE, MYSELF, Memory, Why};
 
 impl CallContext {
     /// The mobile claims an address.
@@ -18,7 +18,7 @@ impl CallContext {
     {
         self.answers.push(Answer::Note(Entry::Claimed {
             who: 0,
-            link: SOME_LINK,
+            link: HERE,
             address,
         }))?;
         Ok(())
@@ -30,7 +30,7 @@ impl CallContext {
     {
         self.answers.push(Answer::Note(Entry::Released {
             who: 0,
-            link: SOME_LINK,
+            link: HERE,
             address,
         }))?;
         Ok(())
@@ -147,7 +147,7 @@ impl CallContext {
     {
         self.answers.push(Answer::Note(Entry::Taken {
             who: 0,
-            link: SOME_LINK,
+            link: HERE,
             address,
             holder,
         }))?;

@@ -16,10 +16,7 @@ use crate::call_context::CallContext;
 use mip_bulist::{Aim, Work};
 use mip_entries::{Answer, Entry};
 use mip_mobile_state::{Heard, peers, trial};
-use mip_words::{Address, Cookie, Memory, Moment, NodeId};
-
-/// A role writes 0 for its own number.
-const MYSELF: NodeId = NodeId(0);
+use mip_words::{Address, Cookie, MYSELF, Memory, Moment};
 
 impl CallContext {
     /// The trial of a row is given up.

@@ -8,11 +8,11 @@ ghost use Rattle.mip_entries.specs.declared.entry.Entry.TheVariants as entries;
 ghost use Rattle.mip_rules_mobile.specs.Transitions.{Transition, noted};
 ghost use Rattle.mip_call_context.specs.Seen.{Shows};
 
-use crate::call_context::{CallContext, MYSELF};
+use crate::call_context::CallContext;
 use mip_bulist::Made;
 use mip_entries::{Answer, Entry};
 use mip_mobile_state::{peers, trial};
-use mip_words::{Address, Bytes, Memory};
+use mip_words::{Address, Bytes, MYSELF, Memory};
 
 impl CallContext {
     /// The trial of a row makes an update, and it is handed to the wire.

@@ -1,7 +1,7 @@
 -- What is read keeps to what a configuration keeps to.
-use Rattle.std.proofs.Common.{◌≡◌, ℕ, ◌≤◌, List, [], ◌∷◌, ◌++◌, length, Bool, true, false, cond, refl, ◌∙◌, subst, arith, length-append}
-use Rattle.std.specs.Prelude.{Option, Some, None, Result, Ok, Err, codes, nat_le, ⊤}
-use Rattle.std.specs.List.{list_all, list_any}
+use Rattle.std.proofs.Common.{◌≡◌, ℕ, ◌≤◌, List, [], ◌∷◌, ◌++◌, length, Bool, true, false, refl, ◌∙◌, subst, arith, length-append}
+use Rattle.std.specs.Prelude.{Option, Some, None, Result, Ok, codes, ⊤}
+use Rattle.std.specs.List.{list_all}
 use Rattle.std.specs.Str.{bytes_eq}
 use Rattle.std.proofs.lemmas.Bool.{cond_both, leb-false, le-leb}
 use Rattle.std.proofs.lemmas.List.Folds.{list_all-append}
@@ -15,7 +15,6 @@ use Rattle.mip_lines.proofs.HexFieldLaws.{hex_field-spelled}
 use Rattle.mip_symbols.specs.Kinds as kinds
 use Rattle.mip_symbols.specs.Kinds.{to_host, address, bytes}
 use Rattle.mip_symbols.specs.declared.reason.Reason.{Reason}
-use Rattle.mip_symbols.specs.declared.reason.Reason.TheVariants as reasons
 use Rattle.mip_symbols.proofs.KindLaws.{option_is}
 use Rattle.mip_schedule.specs.DeclarationRows.{u16, room}
 use Rattle.mip_schedule.specs.EventTimes.{is_reserved}
@@ -23,22 +22,14 @@ use Rattle.mip_drafts.specs.Walk.{Walked, walk}
 use Rattle.mip_drafts.proofs.WalkLaws.{walk_keeps}
 use Rattle.mip_config.specs.Configs.{Content}
 use Rattle.mip_config.specs.Facts.{address_of, is_home, is_sendable}
-use Rattle.mip_config.specs.Rows.{turn, some_agent, route_row, default_row, agent_row, correspondent_row, mobile_row, role_row, serve_row, payload_row}
-use Rattle.mip_config.specs.Drafts.{nothing, is_open, is_agent, is_host, is_undecided, refuse, route_onto, default_onto, is_anycast, role_onto, is_same, serve_judged, serve_onto, payload_judged, payload_onto, line_onto}
+use Rattle.mip_config.specs.Rows.{turn, some_agent, agent_row, correspondent_row, mobile_row, role_row, serve_row, payload_row}
+use Rattle.mip_config.specs.Drafts.{nothing, route_onto, default_onto, role_onto, serve_onto, payload_onto, line_onto}
 use Rattle.mip_config.specs.Reading.{Head, head_of, configured, reading}
 use Rattle.mip_config.specs.declared.config_draft.ConfigDraft.{ConfigDraft}
 use Rattle.mip_config.specs.declared.payload.Payload.{Payload}
 use Rattle.mip_config.specs.declared.role.Role.{Role}
 use Rattle.mip_config.specs.declared.role.Role.TheVariants.{Agent, Correspondent, Mobile}
-
--- an `Ok` behind a test
-passed : {A : Type 0} (b : Bool) (r : Result A Reason) (why : Reason) (x : A) → cond b r (Err why) ≡ Ok x → r ≡ Ok x
-passed true r why x e = e
-passed false r why x e = absurd cc
-
-unrefused : {A : Type 0} (b : Bool) (why : Reason) (r : Result A Reason) (x : A) → cond b (Err why) r ≡ Ok x → (b ≡ false) × (r ≡ Ok x)
-unrefused true why r x e = absurd cc
-unrefused false why r x e = (refl, e)
+use Rattle.mip_config.proofs.LineLaws.{route_line, default_line, role_line, serve_line, payload_line}
 
 -- the role, if it stands, has a routable address
 abbrev IsRouted : Option Role → Type 0
@@ -53,7 +44,7 @@ pub record IsSound (d : ConfigDraft) : Type 0 where
   pub few_homes : length d.serves ≤ 8
   pub few_payloads : length d.payloads ≤ 1000
 
-all_more : {A : Type 0} (p : A → Bool) (xs : List A) (x : A) → list_all p xs ≡ true → p x ≡ true → list_all p (xs ++ x ∷ []) ≡ true
+pub all_more : {A : Type 0} (p : A → Bool) (xs : List A) (x : A) → list_all p xs ≡ true → p x ≡ true → list_all p (xs ++ x ∷ []) ≡ true
 all_more p xs x all one = list_all-append p xs (x ∷ []) ∙ rw (all, one) refl
 
 -- fields
@@ -155,26 +146,21 @@ abbrev Keeps : ConfigDraft → Result ConfigDraft Reason → Type 0
 Keeps d r = (e : ConfigDraft) → r ≡ Ok e → IsSound d → IsSound e
 
 route_keeps : (d : ConfigDraft) (fields : List (List ℕ)) → Keeps d (route_onto d fields)
-unfolding route_onto
 route_keeps d fields e is sound =
-    let r1 = passed (is_open d.fallback d.role) _ reasons.Form e is in
-    let x = bind_ok (route_row fields) (λ route. refuse (nat_le 64 (length d.routes)) reasons.Limit (record d { routes = d.routes ++ route ∷ [] })) e r1 in
-    let y = unrefused (nat_le 64 (length d.routes)) reasons.Limit (Ok (record d { routes = d.routes ++ x.0 ∷ [] })) e x.2 in
-    subst IsSound (ok_is _ e y.1) (record {
+    let l = route_line d fields e is in
+    subst IsSound l.is (record {
       role = sound.role;
       homes = sound.homes;
       sendable = sound.sendable;
-      few_routes = omega (arith, length-append d.routes (x.0 ∷ []), leb-false 64 (length d.routes) y.0);
+      few_routes = omega (arith, length-append d.routes (l.route ∷ []), leb-false 64 (length d.routes) l.few);
       few_homes = sound.few_homes;
       few_payloads = sound.few_payloads;
     })
 
 default_keeps : (d : ConfigDraft) (fields : List (List ℕ)) → Keeps d (default_onto d fields)
-unfolding default_onto
 default_keeps d fields e is sound =
-    let r1 = passed (is_open d.fallback d.role) _ reasons.Form e is in
-    let x = bind_ok (default_row fields) (λ port. Ok (record d { fallback = Some port })) e r1 in
-    subst IsSound (ok_is _ e x.2) (record {
+    let l = default_line d fields e is in
+    subst IsSound l.is (record {
       role = sound.role;
       homes = sound.homes;
       sendable = sound.sendable;
@@ -184,13 +170,10 @@ default_keeps d fields e is sound =
     })
 
 role_keeps : (d : ConfigDraft) (word : List ℕ) (fields : List (List ℕ)) → Keeps d (role_onto d word fields)
-unfolding role_onto
 role_keeps d word fields e is sound =
-    let r1 = passed (is_undecided d.role) _ reasons.Form e is in
-    let x = bind_ok (role_row word fields) (λ role. refuse (is_anycast (address_of role)) reasons.Clash (record d { role = Some role })) e r1 in
-    let y = unrefused (is_anycast (address_of x.0)) reasons.Clash (Ok (record d { role = Some x.0 })) e x.2 in
-    subst IsSound (ok_is _ e y.1) (record {
-      role = role_routed word fields x.0 x.1;
+    let l = role_line d word fields e is in
+    subst IsSound l.is (record {
+      role = role_routed word fields l.role l.read;
       homes = sound.homes;
       sendable = sound.sendable;
       few_routes = sound.few_routes;
@@ -199,37 +182,27 @@ role_keeps d word fields e is sound =
     })
 
 serve_keeps : (d : ConfigDraft) (fields : List (List ℕ)) → Keeps d (serve_onto d fields)
-unfolding serve_onto
 serve_keeps d fields e is sound =
-    let r1 = passed (is_agent d.role) _ reasons.Form e is in
-    let x = bind_ok (serve_row fields) (serve_judged d) e r1 in
-    let more : ConfigDraft = record d { serves = d.serves ++ x.0 ∷ [] } in
-    let y = unrefused (nat_le 8 (length d.serves)) reasons.Limit (refuse (list_any (is_same x.0) d.serves) reasons.Clash more) e x.2 in
-    let z = unrefused (list_any (is_same x.0) d.serves) reasons.Clash (Ok more) e y.1 in
-    subst IsSound (ok_is more e z.1) (record {
+    let l = serve_line d fields e is in
+    subst IsSound l.is (record {
       role = sound.role;
-      homes = all_more is_home d.serves x.0 sound.homes (serve_home fields x.0 x.1);
+      homes = all_more is_home d.serves l.home sound.homes (serve_home fields l.home l.read);
       sendable = sound.sendable;
       few_routes = sound.few_routes;
-      few_homes = omega (arith, length-append d.serves (x.0 ∷ []), leb-false 8 (length d.serves) y.0);
+      few_homes = omega (arith, length-append d.serves (l.home ∷ []), leb-false 8 (length d.serves) l.few);
       few_payloads = sound.few_payloads;
     })
 
 payload_keeps : (d : ConfigDraft) (fields : List (List ℕ)) → Keeps d (payload_onto d fields)
-unfolding payload_onto
 payload_keeps d fields e is sound =
-    let r1 = passed (is_host d.role) _ reasons.Form e is in
-    let x = bind_ok (payload_row fields) (payload_judged d) e r1 in
-    let more : ConfigDraft = record d { payloads = d.payloads ++ x.0 ∷ [] } in
-    let y = unrefused (nat_le 1000 (length d.payloads)) reasons.Limit (refuse (is_reserved x.0.proto) reasons.Number more) e x.2 in
-    let z = unrefused (is_reserved x.0.proto) reasons.Number (Ok more) e y.1 in
-    subst IsSound (ok_is more e z.1) (record {
+    let l = payload_line d fields e is in
+    subst IsSound l.is (record {
       role = sound.role;
       homes = sound.homes;
-      sendable = all_more is_sendable d.payloads x.0 sound.sendable (fit_sendable x.0 (payload_fit fields x.0 x.1) z.0);
+      sendable = all_more is_sendable d.payloads l.payload sound.sendable (fit_sendable l.payload (payload_fit fields l.payload l.read) l.free);
       few_routes = sound.few_routes;
       few_homes = sound.few_homes;
-      few_payloads = omega (arith, length-append d.payloads (x.0 ∷ []), leb-false 1000 (length d.payloads) y.0);
+      few_payloads = omega (arith, length-append d.payloads (l.payload ∷ []), leb-false 1000 (length d.payloads) l.few);
     })
 
 line_keeps : (d : ConfigDraft) (row : List (List ℕ)) → Keeps d (line_onto d row)

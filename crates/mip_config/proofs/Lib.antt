@@ -1,1 +1,2 @@
-mod KeptLaws
+pub mod LineLaws
+pub mod KeptLaws

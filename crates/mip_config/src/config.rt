@@ -3,11 +3,10 @@ ghost use Rattle.std.specs.List.{list_all};
 ghost use Rattle.mip_words.specs.Addresses.{is_routable};
 ghost use Rattle.mip_config.specs.Facts.{address_of, is_home, is_sendable};
 
-use crate::addresses::Addresses;
-use crate::payloads::Payloads;
+use crate::payload::Payload;
 use crate::role::Role;
 use mip_frames::Routes;
-use mip_words::NodeId;
+use mip_words::{Address, Items, NodeId};
 
 /// The configuration of one node: the seed of its secrets, its number, the port that it listens on, where its packets go, what it
 /// is, the homes that it serves as an agent, and what it sends. All ports are of this host.
@@ -20,8 +19,8 @@ pub struct Config {
     /// The port of the packets that no route is for.
     pub fallback: Option<u16>,
     pub role: Role,
-    pub serves: Addresses,
-    pub payloads: Payloads,
+    pub serves: Items<Address>,
+    pub payloads: Items<Payload>,
     pub ghost routable: { is_routable (address_of role).0 ≡ true },
     pub ghost homes: { list_all is_home serves ≡ true },
     pub ghost sendable: { list_all is_sendable payloads ≡ true },

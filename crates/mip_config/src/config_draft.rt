@@ -1,20 +1,18 @@
 ghost use Rattle.std.specs.Prelude.{◌≡◌};
 ghost use Rattle.std.specs.List.{list_any};
 ghost use Rattle.mip_lines.specs.Cutting.{texts};
-ghost use Rattle.mip_schedule.specs.EventTimes.{is_reserved};
 ghost use Rattle.mip_drafts.specs.Adding.{Becomes};
 ghost use Rattle.mip_config.specs.Drafts as drafts;
 ghost use Rattle.mip_config.specs.Facts.{address_of};
 
-use crate::addresses::Addresses;
 use crate::payload::Payload;
-use crate::payloads::Payloads;
 use crate::role::Role;
 use crate::rows::{default_row, payload_row, role_row, route_row, serve_row};
 use mip_drafts::Draft;
 use mip_frames::Routes;
+use mip_schedule::is_reserved;
 use mip_symbols::{LineFault, Reason};
-use mip_words::Address;
+use mip_words::{Address, HOME_AGENTS, Items};
 use std::alloc::Global;
 
 /// How many routes there may be.
@@ -26,17 +24,14 @@ const MOST_HOMES: usize = 8;
 /// How many payloads there may be.
 const MOST_PAYLOADS: usize = 1000;
 
-/// The last 64 bits of the home-agents anycast addresses (RFC 2526 section 3).
-const HOME_AGENTS: u64 = 0xfdff_ffff_ffff_fffe;
-
 /// What the lines of a configuration behind its head said so far.
 #[derive(Drop)]
 pub struct ConfigDraft {
     pub routes: Routes,
     pub fallback: Option<u16>,
     pub role: Option<Role>,
-    pub serves: Addresses,
-    pub payloads: Payloads,
+    pub serves: Items<Address>,
+    pub payloads: Items<Payload>,
 }
 
 fn address_of(role: Role) -> Address
@@ -55,13 +50,6 @@ fn is_anycast(address: Address) -> bool
     (address.0 % 0x1_0000_0000_0000_0000) as u64 == HOME_AGENTS
 }
 
-#[tactic(auto, unfolding(mip_schedule::specs::EventTimes::is_reserved))]
-fn is_reserved(proto: u8) -> bool
-    ensures { result ≡ is_reserved proto }
-{
-    matches!(proto, 0 | 41 | 43 | 44 | 50 | 51 | 58 | 59 | 60 | 135)
-}
-
 fn is_served(homes: &[Address], home: Address) -> bool
     ensures { result ≡ list_any (drafts.is_same home) homes.now }
 {
@@ -76,8 +64,8 @@ impl ConfigDraft {
             routes: Routes::new(alloc),
             fallback: None,
             role: None,
-            serves: Addresses::new(alloc),
-            payloads: Payloads::new(alloc),
+            serves: Items::new(alloc),
+            payloads: Items::new(alloc),
         }
     }
 

@@ -5,17 +5,16 @@ ghost use Rattle.mip_schedule.specs.Faults.{GivesText};
 ghost use Rattle.mip_config.specs.Configs.{content, parts_content};
 ghost use Rattle.mip_config.specs.Reading.{reading};
 
-use crate::addresses::Addresses;
 use crate::config::Config;
 use crate::config_draft::ConfigDraft;
 use crate::head::read_head;
-use crate::payloads::Payloads;
+use crate::payload::Payload;
 use crate::role::Role;
 use mip_drafts::{Cursor, read_lines};
 use mip_frames::Routes;
 use mip_schedule::ScheduleFault;
 use mip_symbols::Reason;
-use mip_words::NodeId;
+use mip_words::{Address, Items, NodeId};
 use std::alloc::Global;
 
 /// What a text holds.
@@ -27,8 +26,8 @@ pub struct Parts {
     routes: Routes,
     fallback: Option<u16>,
     role: Role,
-    serves: Addresses,
-    payloads: Payloads,
+    serves: Items<Address>,
+    payloads: Items<Payload>,
 }
 
 #[tactic(auto, unfolding(crate::specs::Reading::reading))]

@@ -1,23 +1,20 @@
 -- What the lines of a configuration made has these lines.
-use Rattle.std.proofs.Common.{◌≡◌, ℕ, ◌+◌, List, [], ◌∷◌, ◌++◌, length, Bool, true, false, cond, refl, sym, ap, ◌∙◌, subst, append_assoc}
-use Rattle.std.specs.Prelude.{Option, Some, None, Result, Ok, Err, codes, map, nat_le}
-use Rattle.std.specs.List.{list_any}
+use Rattle.std.proofs.Common.{◌≡◌, ℕ, ◌+◌, List, [], ◌∷◌, ◌++◌, true, refl, sym, ap, ◌∙◌, subst, append_assoc}
+use Rattle.std.specs.Prelude.{Option, Some, None, Result, Ok, codes, map}
 use Rattle.std.specs.Str.{bytes_eq}
 use Rattle.std.proofs.lemmas.Bool.{cond_both}
 use Rattle.std.proofs.lemmas.List.{append-nil, map-append}
 use Rattle.mip_words.specs.declared.address.Address.{Address}
 use Rattle.mip_words.proofs.StepLaws.{bind_ok, ok_is}
 use Rattle.mip_symbols.specs.declared.reason.Reason.{Reason}
-use Rattle.mip_symbols.specs.declared.reason.Reason.TheVariants as reasons
 use Rattle.mip_symbols.proofs.KindLaws.{worded}
+pub use Rattle.mip_lines.proofs.TextRows.{end_row}
 use Rattle.mip_frames.specs.declared.route.Route.{Route}
-use Rattle.mip_schedule.specs.EventTimes.{is_reserved}
 use Rattle.mip_schedule.specs.Reading.{at_line}
 use Rattle.mip_schedule.proofs.TextLaws.{at_line_ok}
 use Rattle.mip_drafts.specs.Walk.{Walked, ended, walk}
-use Rattle.mip_config.specs.Facts.{address_of}
-use Rattle.mip_config.specs.Rows.{route_row, default_row, role_row, serve_row, payload_row}
-use Rattle.mip_config.specs.Drafts.{nothing, is_open, is_agent, is_host, is_undecided, refuse, route_onto, default_onto, is_anycast, role_onto, is_same, serve_judged, serve_onto, payload_judged, payload_onto, line_onto}
+use Rattle.mip_config.specs.Drafts.{nothing, is_open, is_agent, is_host, is_undecided, route_onto, default_onto, role_onto, serve_onto, payload_onto, line_onto}
+use Rattle.mip_config.proofs.LineLaws.{route_line, default_line, role_line, serve_line, payload_line}
 use Rattle.mip_config.specs.declared.config_draft.ConfigDraft.{ConfigDraft}
 use Rattle.mip_config.specs.declared.payload.Payload.{Payload}
 use Rattle.mip_config.specs.declared.role.Role.{Role}
@@ -28,18 +25,6 @@ use Rattle.mip_config_writing.proofs.RowLaws.{route_spelled, default_spelled, ro
 
 abbrev pub Rows : Type 0
 Rows = List (List (List ℕ))
-
-abbrev pub end_row : List (List ℕ)
-end_row = [] ∷ []
-
--- an `Ok` behind a test
-pub passed : {A : Type 0} (b : Bool) (r : Result A Reason) (why : Reason) (x : A) → cond b r (Err why) ≡ Ok x → (b ≡ true) × (r ≡ Ok x)
-passed true r why x e = (refl, e)
-passed false r why x e = absurd cc
-
-pub unrefused : {A : Type 0} (b : Bool) (why : Reason) (r : Result A Reason) (x : A) → cond b (Err why) r ≡ Ok x → (b ≡ false) × (r ≡ Ok x)
-unrefused true why r x e = absurd cc
-unrefused false why r x e = (refl, e)
 
 -- the lines behind the head
 abbrev role_rows : Option Role → Rows
@@ -135,60 +120,48 @@ of_row : (d e : ConfigDraft) (row text : List (List ℕ)) → row ≡ text → d
 of_row d e row text is rows = rows ∙ ap (λ (r : List (List ℕ)). draft_rows d ++ r ∷ []) (sym is)
 
 route_extends : (d : ConfigDraft) (fields : List (List ℕ)) → Extends d (codes "route" ∷ fields) (route_onto d fields)
-unfolding route_onto
 route_extends d fields e is ordered =
-    let r = passed (is_open d.fallback d.role) _ reasons.Form e is in
-    let x = bind_ok (route_row fields) (λ route. refuse (nat_le 64 (length d.routes)) reasons.Limit (record d { routes = d.routes ++ route ∷ [] })) e r.1 in
-    let more : ConfigDraft = record d { routes = d.routes ++ x.0 ∷ [] } in
-    subst (IsMore d (codes "route" ∷ fields)) (ok_is more e (unrefused (nat_le 64 (length d.routes)) reasons.Limit (Ok more) e x.2).1) (record {
-      rows = of_row d more _ _ (route_spelled fields x.0 x.1) (route_more d.routes x.0 d.fallback d.role d.serves d.payloads r.0 ordered);
+    let l = route_line d fields e is in
+    let more : ConfigDraft = record d { routes = d.routes ++ l.route ∷ [] } in
+    subst (IsMore d (codes "route" ∷ fields)) l.is (record {
+      rows = of_row d more _ _ (route_spelled fields l.route l.read) (route_more d.routes l.route d.fallback d.role d.serves d.payloads l.in_time ordered);
       ordered = ordered;
     })
 
 default_extends : (d : ConfigDraft) (fields : List (List ℕ)) → Extends d (codes "default" ∷ fields) (default_onto d fields)
-unfolding default_onto
 default_extends d fields e is ordered =
-    let r = passed (is_open d.fallback d.role) _ reasons.Form e is in
-    let x = bind_ok (default_row fields) (λ port. Ok (record d { fallback = Some port })) e r.1 in
-    let more : ConfigDraft = record d { fallback = Some x.0 } in
-    subst (IsMore d (codes "default" ∷ fields)) (ok_is more e x.2) (record {
-      rows = of_row d more _ _ (default_spelled fields x.0 x.1) (default_more d.routes x.0 d.fallback d.role d.serves d.payloads r.0 ordered);
+    let l = default_line d fields e is in
+    let more : ConfigDraft = record d { fallback = Some l.port } in
+    subst (IsMore d (codes "default" ∷ fields)) l.is (record {
+      rows = of_row d more _ _ (default_spelled fields l.port l.read) (default_more d.routes l.port d.fallback d.role d.serves d.payloads l.in_time ordered);
       ordered = ordered;
     })
 
 role_extends : (d : ConfigDraft) (word : List ℕ) (fields : List (List ℕ)) → Extends d (word ∷ fields) (role_onto d word fields)
-unfolding role_onto
 role_extends d word fields e is ordered =
-    let r = passed (is_undecided d.role) _ reasons.Form e is in
-    let x = bind_ok (role_row word fields) (λ role. refuse (is_anycast (address_of role)) reasons.Clash (record d { role = Some role })) e r.1 in
-    let more : ConfigDraft = record d { role = Some x.0 } in
-    subst (IsMore d (word ∷ fields)) (ok_is more e (unrefused (is_anycast (address_of x.0)) reasons.Clash (Ok more) e x.2).1) (record {
-      rows = of_row d more _ _ (role_spelled word fields x.0 x.1) (role_more d.routes d.fallback x.0 d.role d.serves d.payloads r.0 ordered);
-      ordered = role_ordered x.0 d.role d.serves d.payloads r.0 ordered;
+    let l = role_line d word fields e is in
+    let more : ConfigDraft = record d { role = Some l.role } in
+    subst (IsMore d (word ∷ fields)) l.is (record {
+      rows = of_row d more _ _ (role_spelled word fields l.role l.read) (role_more d.routes d.fallback l.role d.role d.serves d.payloads l.in_time ordered);
+      ordered = role_ordered l.role d.role d.serves d.payloads l.in_time ordered;
     })
 
 serve_extends : (d : ConfigDraft) (fields : List (List ℕ)) → Extends d (codes "serve" ∷ fields) (serve_onto d fields)
-unfolding serve_onto
 serve_extends d fields e is ordered =
-    let r = passed (is_agent d.role) _ reasons.Form e is in
-    let x = bind_ok (serve_row fields) (serve_judged d) e r.1 in
-    let more : ConfigDraft = record d { serves = d.serves ++ x.0 ∷ [] } in
-    let y = unrefused (nat_le 8 (length d.serves)) reasons.Limit (refuse (list_any (is_same x.0) d.serves) reasons.Clash more) e x.2 in
-    subst (IsMore d (codes "serve" ∷ fields)) (ok_is more e (unrefused (list_any (is_same x.0) d.serves) reasons.Clash (Ok more) e y.1).1) (record {
-      rows = of_row d more _ _ (serve_spelled fields x.0 x.1) (serve_more d.routes d.fallback d.role d.serves x.0 d.payloads r.0 ordered);
-      ordered = serve_ordered d.role d.serves (d.serves ++ x.0 ∷ []) d.payloads r.0 ordered;
+    let l = serve_line d fields e is in
+    let more : ConfigDraft = record d { serves = d.serves ++ l.home ∷ [] } in
+    subst (IsMore d (codes "serve" ∷ fields)) l.is (record {
+      rows = of_row d more _ _ (serve_spelled fields l.home l.read) (serve_more d.routes d.fallback d.role d.serves l.home d.payloads l.in_time ordered);
+      ordered = serve_ordered d.role d.serves (d.serves ++ l.home ∷ []) d.payloads l.in_time ordered;
     })
 
 payload_extends : (d : ConfigDraft) (fields : List (List ℕ)) → Extends d (codes "payload" ∷ fields) (payload_onto d fields)
-unfolding payload_onto
 payload_extends d fields e is ordered =
-    let r = passed (is_host d.role) _ reasons.Form e is in
-    let x = bind_ok (payload_row fields) (payload_judged d) e r.1 in
-    let more : ConfigDraft = record d { payloads = d.payloads ++ x.0 ∷ [] } in
-    let y = unrefused (nat_le 1000 (length d.payloads)) reasons.Limit (refuse (is_reserved x.0.proto) reasons.Number more) e x.2 in
-    subst (IsMore d (codes "payload" ∷ fields)) (ok_is more e (unrefused (is_reserved x.0.proto) reasons.Number (Ok more) e y.1).1) (record {
-      rows = of_row d more _ _ (payload_spelled fields x.0 x.1) (payload_more d.routes d.fallback d.role d.serves d.payloads x.0 r.0 ordered);
-      ordered = payload_ordered d.role d.serves d.payloads (d.payloads ++ x.0 ∷ []) r.0 ordered;
+    let l = payload_line d fields e is in
+    let more : ConfigDraft = record d { payloads = d.payloads ++ l.payload ∷ [] } in
+    subst (IsMore d (codes "payload" ∷ fields)) l.is (record {
+      rows = of_row d more _ _ (payload_spelled fields l.payload l.read) (payload_more d.routes d.fallback d.role d.serves d.payloads l.payload l.in_time ordered);
+      ordered = payload_ordered d.role d.serves d.payloads (d.payloads ++ l.payload ∷ []) l.in_time ordered;
     })
 
 -- a line that begins with this word

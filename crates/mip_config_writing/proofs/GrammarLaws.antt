@@ -1,30 +1,28 @@
 -- A configuration that some text is read as is in the grammar.
-use Rattle.std.proofs.Common.{◌≡◌, ◌⊎◌, ℕ, ◌≤◌, List, [], ◌∷◌, ◌++◌, length, Bool, true, false, inl, inr, refl, sym, ap, ◌∙◌, subst, arith, length-append}
-use Rattle.std.specs.Prelude.{Option, Some, None, Result, Ok, codes, nat_le, ⊤}
+use Rattle.std.proofs.Common.{◌≡◌, ◌⊎◌, ℕ, List, [], ◌∷◌, ◌++◌, length, true, false, inl, inr, refl, sym, ap, subst, arith, length-append}
+use Rattle.std.specs.Prelude.{Option, Some, None, Result, Ok, codes, ⊤}
 use Rattle.std.specs.List.{list_all, list_any}
 use Rattle.std.specs.Str.{bytes_eq}
-use Rattle.std.proofs.lemmas.Bool.{cond_both, leb-false}
-use Rattle.std.proofs.lemmas.List.Folds.{list_all-append}
+use Rattle.std.proofs.lemmas.Bool.{cond_both}
 use Rattle.mip_words.specs.Steps.{◌>>=◌}
 use Rattle.mip_words.specs.declared.address.Address.{Address}
 use Rattle.mip_words.proofs.StepLaws.{bind_ok, ok_is}
 use Rattle.mip_lines.specs.Cutting.{rows_of}
 use Rattle.mip_symbols.specs.Kinds as kinds
 use Rattle.mip_symbols.specs.declared.reason.Reason.{Reason}
-use Rattle.mip_symbols.specs.declared.reason.Reason.TheVariants as reasons
-use Rattle.mip_schedule.specs.EventTimes.{is_reserved}
 use Rattle.mip_schedule.specs.Reading.{version_line, seed_line}
 use Rattle.mip_drafts.specs.Walk.{Walked, walk}
 use Rattle.mip_drafts.proofs.WalkLaws.{walk_keeps}
 use Rattle.mip_config.specs.Configs.{Content}
 use Rattle.mip_config.specs.Facts.{address_of}
-use Rattle.mip_config.specs.Rows.{route_row, default_row, role_row, serve_row, payload_row}
-use Rattle.mip_config.specs.Drafts.{nothing, is_open, is_agent, is_host, is_undecided, refuse, route_onto, default_onto, is_anycast, role_onto, is_same, serve_judged, serve_onto, payload_judged, payload_onto, line_onto}
+use Rattle.mip_config.specs.Drafts.{nothing, route_onto, default_onto, is_anycast, role_onto, is_same, serve_onto, payload_onto, line_onto}
 use Rattle.mip_config.specs.Reading.{self_line, port_line, Head, head_of, configured, reading}
 use Rattle.mip_config.specs.declared.config_draft.ConfigDraft.{ConfigDraft}
 use Rattle.mip_config.specs.declared.role.Role.{Role}
+use Rattle.mip_config.proofs.LineLaws.{route_line, default_line, role_line, serve_line, payload_line}
+use Rattle.mip_config.proofs.KeptLaws.{all_more, IsKept, reading_keeps}
 use Rattle.mip_config_writing.specs.Grammar.{is_within, are_bytes, is_port, is_fallback, is_route, is_address, is_role, is_payload, IsEachNew, InGrammar}
-use Rattle.mip_config_writing.proofs.DraftLaws.{passed, unrefused, IsOrdered, line_extends}
+use Rattle.mip_config_writing.proofs.DraftLaws.{IsOrdered, line_extends}
 use Rattle.mip_config_writing.proofs.RowsWithin.{number_is_within, seed_is, route_within, default_within, role_within, serve_within, payload_within}
 use Rattle.mip_config_writing.proofs.TextLaws.{head_line_spelled, made_head}
 
@@ -48,9 +46,6 @@ new_more homes x new one before home after e =
       | inr p ↦ new before home p.0 p.1
     ]
 
-all_more : {A : Type 0} (p : A → Bool) (xs : List A) (x : A) → list_all p xs ≡ true → p x ≡ true → list_all p (xs ++ x ∷ []) ≡ true
-all_more p xs x all one = list_all-append p xs (x ∷ []) ∙ rw (all, one) refl
-
 -- the role, if it stands
 abbrev IsOwn : Option Role → Type 0
 IsOwn None = ⊤
@@ -63,106 +58,68 @@ record IsFine (d : ConfigDraft) : Type 0 where
   homes : list_all is_address d.serves ≡ true
   new_homes : IsEachNew d.serves
   payloads : list_all is_payload d.payloads ≡ true
-  few_routes : length d.routes ≤ 64
-  few_homes : length d.serves ≤ 8
-  few_payloads : length d.payloads ≤ 1000
 
 abbrev Keeps : ConfigDraft → Result ConfigDraft Reason → Type 0
 Keeps d r = (e : ConfigDraft) → r ≡ Ok e → IsFine d → IsFine e
 
 route_keeps : (d : ConfigDraft) (fields : List (List ℕ)) → Keeps d (route_onto d fields)
-unfolding route_onto
 route_keeps d fields e is fine =
-    let r = passed (is_open d.fallback d.role) _ reasons.Form e is in
-    let x = bind_ok (route_row fields) (λ route. refuse (nat_le 64 (length d.routes)) reasons.Limit (record d { routes = d.routes ++ route ∷ [] })) e r.1 in
-    let more : ConfigDraft = record d { routes = d.routes ++ x.0 ∷ [] } in
-    let y = unrefused (nat_le 64 (length d.routes)) reasons.Limit (Ok more) e x.2 in
-    subst IsFine (ok_is more e y.1) (record {
-      routes = all_more is_route d.routes x.0 fine.routes (route_within fields x.0 x.1);
+    let l = route_line d fields e is in
+    subst IsFine l.is (record {
+      routes = all_more is_route d.routes l.route fine.routes (route_within fields l.route l.read);
       fallback = fine.fallback;
       role = fine.role;
       homes = fine.homes;
       new_homes = fine.new_homes;
       payloads = fine.payloads;
-      few_routes = omega (arith, length-append d.routes (x.0 ∷ []), leb-false 64 (length d.routes) y.0);
-      few_homes = fine.few_homes;
-      few_payloads = fine.few_payloads;
     })
 
 default_keeps : (d : ConfigDraft) (fields : List (List ℕ)) → Keeps d (default_onto d fields)
-unfolding default_onto
 default_keeps d fields e is fine =
-    let r = passed (is_open d.fallback d.role) _ reasons.Form e is in
-    let x = bind_ok (default_row fields) (λ port. Ok (record d { fallback = Some port })) e r.1 in
-    subst IsFine (ok_is (record d { fallback = Some x.0 }) e x.2) (record {
+    let l = default_line d fields e is in
+    subst IsFine l.is (record {
       routes = fine.routes;
-      fallback = default_within fields x.0 x.1;
+      fallback = default_within fields l.port l.read;
       role = fine.role;
       homes = fine.homes;
       new_homes = fine.new_homes;
       payloads = fine.payloads;
-      few_routes = fine.few_routes;
-      few_homes = fine.few_homes;
-      few_payloads = fine.few_payloads;
     })
 
 role_keeps : (d : ConfigDraft) (word : List ℕ) (fields : List (List ℕ)) → Keeps d (role_onto d word fields)
-unfolding role_onto
 role_keeps d word fields e is fine =
-    let r = passed (is_undecided d.role) _ reasons.Form e is in
-    let x = bind_ok (role_row word fields) (λ role. refuse (is_anycast (address_of role)) reasons.Clash (record d { role = Some role })) e r.1 in
-    let more : ConfigDraft = record d { role = Some x.0 } in
-    let y = unrefused (is_anycast (address_of x.0)) reasons.Clash (Ok more) e x.2 in
-    subst IsFine (ok_is more e y.1) (record {
+    let l = role_line d word fields e is in
+    subst IsFine l.is (record {
       routes = fine.routes;
       fallback = fine.fallback;
-      role = (role_within word fields x.0 x.1, y.0);
+      role = (role_within word fields l.role l.read, l.own);
       homes = fine.homes;
       new_homes = fine.new_homes;
       payloads = fine.payloads;
-      few_routes = fine.few_routes;
-      few_homes = fine.few_homes;
-      few_payloads = fine.few_payloads;
     })
 
 serve_keeps : (d : ConfigDraft) (fields : List (List ℕ)) → Keeps d (serve_onto d fields)
-unfolding serve_onto
 serve_keeps d fields e is fine =
-    let r = passed (is_agent d.role) _ reasons.Form e is in
-    let x = bind_ok (serve_row fields) (serve_judged d) e r.1 in
-    let more : ConfigDraft = record d { serves = d.serves ++ x.0 ∷ [] } in
-    let y = unrefused (nat_le 8 (length d.serves)) reasons.Limit (refuse (list_any (is_same x.0) d.serves) reasons.Clash more) e x.2 in
-    let z = unrefused (list_any (is_same x.0) d.serves) reasons.Clash (Ok more) e y.1 in
-    subst IsFine (ok_is more e z.1) (record {
+    let l = serve_line d fields e is in
+    subst IsFine l.is (record {
       routes = fine.routes;
       fallback = fine.fallback;
       role = fine.role;
-      homes = all_more is_address d.serves x.0 fine.homes (serve_within fields x.0 x.1);
-      new_homes = new_more d.serves x.0 fine.new_homes z.0;
+      homes = all_more is_address d.serves l.home fine.homes (serve_within fields l.home l.read);
+      new_homes = new_more d.serves l.home fine.new_homes l.new;
       payloads = fine.payloads;
-      few_routes = fine.few_routes;
-      few_homes = omega (arith, length-append d.serves (x.0 ∷ []), leb-false 8 (length d.serves) y.0);
-      few_payloads = fine.few_payloads;
     })
 
 payload_keeps : (d : ConfigDraft) (fields : List (List ℕ)) → Keeps d (payload_onto d fields)
-unfolding payload_onto
 payload_keeps d fields e is fine =
-    let r = passed (is_host d.role) _ reasons.Form e is in
-    let x = bind_ok (payload_row fields) (payload_judged d) e r.1 in
-    let more : ConfigDraft = record d { payloads = d.payloads ++ x.0 ∷ [] } in
-    let y = unrefused (nat_le 1000 (length d.payloads)) reasons.Limit (refuse (is_reserved x.0.proto) reasons.Number more) e x.2 in
-    let z = unrefused (is_reserved x.0.proto) reasons.Number (Ok more) e y.1 in
-    subst IsFine (ok_is more e z.1) (record {
+    let l = payload_line d fields e is in
+    subst IsFine l.is (record {
       routes = fine.routes;
       fallback = fine.fallback;
       role = fine.role;
       homes = fine.homes;
       new_homes = fine.new_homes;
-      payloads = all_more is_payload d.payloads x.0 fine.payloads (payload_within fields x.0 x.1 z.0);
-      few_routes = fine.few_routes;
-      few_homes = fine.few_homes;
-      few_payloads = omega (arith, length-append d.payloads (x.0 ∷ []), leb-false 1000 (length d.payloads) y.0);
+      payloads = all_more is_payload d.payloads l.payload fine.payloads (payload_within fields l.payload l.read l.free);
     })
 
 line_keeps : (d : ConfigDraft) (row : List (List ℕ)) → Keeps d (line_onto d row)
@@ -189,9 +146,6 @@ none_fine = record {
   homes = refl;
   new_homes = λ before home after e. absurd (omega (arith, ap length e, length-append before (home ∷ after)));
   payloads = refl;
-  few_routes = omega arith;
-  few_homes = omega arith;
-  few_payloads = omega arith;
 }
 
 -- what the head holds
@@ -230,25 +184,27 @@ head_within rows h e =
     subst (λ (x : Head). IsHead x.seed x.node.0 x.port) {x = made_head s.0.0 n.0.0 p.0} (ok_is (made_head s.0.0 n.0.0 p.0) h p.2)
     (record { seed_bytes = seed.0; seed_size = seed.1; node_within = self_within s.0.1 n.0 n.1; port_within = port_within n.0.1 p.0 p.1 })
 
-configured_within : (h : Head) (w : Walked ConfigDraft) (role : Option Role) (c : Content) → w.draft.role ≡ role → configured h w role ≡ Ok c → IsHead h.seed h.node.0 h.port → IsSound w.draft → InGrammar c
-configured_within h w None c is e head sound = absurd cc
-configured_within h w (Some role) c is e head sound =
+configured_within : (h : Head) (w : Walked ConfigDraft) (role : Option Role) (c : Content) → w.draft.role ≡ role → configured h w role ≡ Ok c → IsHead h.seed h.node.0 h.port → IsSound w.draft → IsKept c → InGrammar c
+configured_within h w None c is e head sound kept = absurd cc
+configured_within h w (Some role) c is e head sound kept =
     let own : IsOwn (Some role) = subst IsOwn is sound.0.role in
-    subst InGrammar (ok_is _ c e) (record {
+    let made = ok_is _ c e in
+    let few = subst IsKept (sym made) kept in
+    subst InGrammar made (record {
       seed = head.seed_bytes;
       seed_size = head.seed_size;
       node = head.node_within;
       port = head.port_within;
       routes = sound.0.routes;
-      few_routes = sound.0.few_routes;
+      few_routes = few.few_routes;
       fallback = sound.0.fallback;
       role = own.0;
       own = own.1;
       homes = sound.0.homes;
-      few_homes = sound.0.few_homes;
+      few_homes = few.few_homes;
       new_homes = sound.0.new_homes;
       payloads = sound.0.payloads;
-      few_payloads = sound.0.few_payloads;
+      few_payloads = few.few_payloads;
       apart = subst (λ (r : Option Role). IsOrdered r w.draft.serves w.draft.payloads) is sound.1;
     })
 
@@ -260,3 +216,4 @@ in_grammar text c e =
     let w = bind_ok (walk line_onto nothing 5 h.0.rows) (λ walked. configured h.0 walked walked.draft.role) c h.2 in
     configured_within h.0 w.0 w.0.draft.role c refl w.2 (head_within (rows_of text) h.0 h.1)
     (walk_keeps line_onto IsSound sound_keeps nothing 5 h.0.rows w.0 w.1 (none_fine, (refl, refl)))
+    (reading_keeps text c e)

@@ -4,18 +4,13 @@ use Rattle.std.specs.Prelude.{Option, Some, None, map, slice_get}
 use Rattle.std.specs.Borrow.{Bor}
 use Rattle.std.specs.Option.{option_copied}
 use Rattle.std.proofs.lemmas.Grind.{flat_map-append}
-use Rattle.std.proofs.lemmas.List.{append-nil, map-append, take_more}
+use Rattle.std.proofs.lemmas.List.{map-append, take_more}
 use Rattle.std.proofs.lemmas.Option.{get_or_from_slice_get, slice_get_within}
 use Rattle.mip_frames.specs.declared.route.Route.{Route}
 use Rattle.mip_lines.specs.Lines.{line_text, lines_text}
+use Rattle.mip_schedule.proofs.WritingLaws.{line_more}
 use Rattle.mip_config.specs.Configs.{Content}
 use Rattle.mip_config_writing.specs.Spelling.{head_rows, route_text, default_rows, role_text, serve_text, payload_text, spelling}
-
--- one line more
-line_more : (o : List ℕ) (rows : List (List (List ℕ))) (row : List (List ℕ)) → (o ++ lines_text rows) ++ line_text row ≡ o ++ lines_text (rows ++ row ∷ [])
-line_more o rows row =
-    append_assoc o (lines_text rows) (line_text row)
-    ∙ ap (λ (t : List ℕ). o ++ t) (ap (λ (t : List ℕ). lines_text rows ++ t) (sym (append-nil (line_text row))) ∙ sym (flat_map-append line_text rows (row ∷ [])))
 
 -- the line of the route at i behind those of the routes before it
 pub route_more : (routes : List Route) (i : ℕ) (o : Option (Bor Route)) (route : Bor Route) (front out new : List ℕ) → o ≡ Some route → option_copied o ≡ slice_get routes i

@@ -8,11 +8,8 @@ ghost use Rattle.mip_correspondent.specs.Showing.{Goes, Keeps};
 
 use crate::accepted_binding::AcceptedBinding;
 use mip_entries::{Answer, Answers, Entry};
-use mip_words::{Address, Bytes, Memory, NodeId, Why};
+use mip_words::{Address, Bytes, MYSELF, Memory, Why};
 use std::alloc::Global;
-
-/// A role writes 0 for its own number.
-const MYSELF: NodeId = NodeId(0);
 
 /// The index by which a nonce is named.
 pub fn index_of(number: u64) -> u16

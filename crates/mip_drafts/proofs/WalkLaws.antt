@@ -1,12 +1,10 @@
 -- One line more of a text, and what stands behind its last line end.
-use Rattle.std.proofs.Common.{◌≡◌, ℕ, ◌+◌, ◌<◌, List, [], ◌∷◌, length, Bool, true, false, cond, refl, sym, ap, ◌∙◌, subst, arith}
-use Rattle.std.specs.Prelude.{Result, Ok, Err, map, ◌==◌}
-use Rattle.std.specs.List.{slice_split, onto_first}
-use Rattle.std.proofs.lemmas.Bool.{eqb-false}
-use Rattle.std.proofs.lemmas.List.Splits.{length-slice_split}
+use Rattle.std.proofs.Common.{◌≡◌, ℕ, ◌+◌, ◌<◌, List, [], ◌∷◌, length, refl, sym, ap, ◌∙◌, subst}
+use Rattle.std.specs.Prelude.{Result, Ok, Err}
 use Rattle.mip_words.specs.Steps.{◌>>=◌}
 use Rattle.mip_words.proofs.StepLaws.{bind_ok, ok_is}
-use Rattle.mip_lines.specs.Cutting.{parts, fields_of, rows_of}
+use Rattle.mip_lines.specs.Cutting.{fields_of, rows_of}
+use Rattle.mip_lines.proofs.TextRows.{some_row, empty_line, full_line}
 use Rattle.mip_symbols.specs.declared.reason.Reason.{Reason}
 use Rattle.mip_schedule.specs.declared.fault.ScheduleFault.{ScheduleFault}
 use Rattle.mip_schedule.specs.declared.fault.ScheduleFault.TheVariants.{Bad, Memory}
@@ -14,20 +12,6 @@ use Rattle.mip_schedule.specs.Faults.{Wrong}
 use Rattle.mip_schedule.specs.Reading.{at_line, bad_form}
 use Rattle.mip_drafts.specs.Walk.{Walked, ended, walk}
 use Rattle.mip_drafts.specs.Adding.{IsRead, IsWalked}
-
-shape : (xs : List (List ℕ)) → 0 < length xs → (first : List ℕ) × (rest : List (List ℕ)) × (xs ≡ first ∷ rest)
-shape [] long = absurd (omega arith)
-shape (x ∷ xs) long = (x, xs, refl)
-
--- a text has a part at least
-some_part : (c : ℕ) (bytes : List ℕ) → (first : List ℕ) × (rest : List (List ℕ)) × (parts c bytes ≡ first ∷ rest)
-unfolding parts
-some_part c bytes = shape (slice_split (λ b. b == c) bytes) (omega (arith, length-slice_split (λ b. b == c) bytes))
-
-some_row : (text : List ℕ) → (row : List (List ℕ)) × (rows : List (List (List ℕ))) × (rows_of text ≡ row ∷ rows)
-some_row text =
-    let p = some_part 10 text in
-    (fields_of p.0, map fields_of p.1, ap (map fields_of) p.2)
 
 walk_step : {S : Type 0} (onto : S → List (List ℕ) → Result S Reason) (draft : S) (n : ℕ) (text : List ℕ) (row : List (List ℕ)) (more : List ℕ) → rows_of text ≡ row ∷ rows_of more
     → walk onto draft n (rows_of text) ≡ (at_line n (onto draft row) >>= (λ d. walk onto d (n + 1) (rows_of more)))
@@ -65,34 +49,15 @@ last : {S : Type 0} (onto : S → List (List ℕ) → Result S Reason) (draft : 
 unfolding walk
 last onto draft n text e = ap (walk onto draft n) e
 
-empty : {S : Type 0} (draft : S) (n : ℕ) (text : List ℕ) → length text ≡ 0 → ended draft n (fields_of text) ≡ Ok (record { draft = draft; line = n })
-unfolding parts
-empty draft n [] none = refl
-empty draft n (c ∷ text) none = absurd (omega arith)
-
-full : {S : Type 0} (draft : S) (n : ℕ) (text : List ℕ) → 0 < length text → ended draft n (fields_of text) ≡ bad_form n
-unfolding parts
-full draft n [] some = absurd (omega arith)
-full draft n (c ∷ text) some =
-    let p = some_part 32 text in
-    subst (λ (rest : List (List ℕ)). ended draft n (cond (c == 32) ([] ∷ rest) (onto_first c rest)) ≡ bad_form n) (sym p.2) (by (c == 32) p.0 p.1)
-  where
-    by : (b : Bool) (first : List ℕ) (rest : List (List ℕ)) → ended draft n (cond b ([] ∷ first ∷ rest) (onto_first c (first ∷ rest))) ≡ bad_form n
-    by true first rest = refl
-    by false first rest = refl
-
 -- nothing behind the last line end
 pub ends : {S : Type 0} (onto : S → List (List ℕ) → Result S Reason) (draft : S) (n : ℕ) (text : List ℕ) (whole : Result (Walked S) Wrong) → rows_of text ≡ fields_of text ∷ []
     → length text ≡ 0 → walk onto draft n (rows_of text) ≡ whole → whole ≡ Ok (record { draft = draft; line = n })
-ends onto draft n text whole e none so_far = sym so_far ∙ last onto draft n text e ∙ empty draft n text none
+ends onto draft n text whole e none so_far = sym so_far ∙ last onto draft n text e ∙ ap (ended draft n) (empty_line text none)
 
 -- something behind the last line end
 pub left_over : {S : Type 0} (onto : S → List (List ℕ) → Result S Reason) (draft : S) (n : ℕ) (text : List ℕ) (whole : Result (Walked S) Wrong) → rows_of text ≡ fields_of text ∷ []
     → 0 < length text → walk onto draft n (rows_of text) ≡ whole → whole ≡ bad_form n
-left_over onto draft n text whole e some so_far = sym so_far ∙ last onto draft n text e ∙ full draft n text some
-
-pub not_zero : (n : ℕ) → (n == 0) ≡ false → 0 < n
-not_zero n e = grind (arith, eqb-false)
+left_over onto draft n text whole e some so_far = sym so_far ∙ last onto draft n text e ∙ full_line (ended draft n) (bad_form n) (λ c field fields. refl) (λ field fields. refl) text some
 
 -- what each line keeps is kept by all of them
 pub walk_keeps : {S : Type 0} (onto : S → List (List ℕ) → Result S Reason) (P : S → Type 0) → ((d : S) (row : List (List ℕ)) (e : S) → onto d row ≡ Ok e → P d → P e)

@@ -93,7 +93,7 @@ fn some_token_fits(token: Option<Token>)
     }
 }
 
-/// Time and place, and the claims of addresses.
+/// A law of entries on time, place and the claims of addresses: their numbers fit their bits.
 fn place_widths(entry: &Entry)
     ensures { HasPlaceWidths entry.now }
 {
@@ -108,7 +108,7 @@ fn place_widths(entry: &Entry)
     }
 }
 
-/// What becomes of packets, and of the data in them.
+/// A law of entries on what becomes of packets and of the data in them: their numbers fit their bits.
 fn packet_widths(entry: &Entry)
     ensures { HasPacketWidths entry.now }
 {
@@ -140,7 +140,7 @@ fn packet_widths(entry: &Entry)
     }
 }
 
-/// What a mobile knows and does.
+/// A law of entries on what a mobile knows and does: their numbers fit their bits.
 fn mobile_widths(entry: &Entry)
     ensures { HasMobileWidths entry.now }
 {
@@ -180,7 +180,7 @@ fn mobile_widths(entry: &Entry)
     }
 }
 
-/// Registrations of homes, and rows of caches.
+/// A law of entries on registrations of homes and rows of caches: their numbers fit their bits.
 fn row_widths(entry: &Entry)
     ensures { HasRowWidths entry.now }
 {
@@ -217,7 +217,7 @@ fn row_widths(entry: &Entry)
     }
 }
 
-/// What becomes of updates.
+/// A law of entries on what becomes of updates: their numbers fit their bits.
 fn update_widths(entry: &Entry)
     ensures { HasUpdateWidths entry.now }
 {

@@ -24,7 +24,7 @@ impl<T> GhostLog<T> {
         GhostLog { of: PhantomData }
     }
 
-    /// The log with this item behind those before.
+    /// The log with this item behind those before. The item is for clauses alone, so nothing is done with it.
     pub fn with(&self, item: &T) -> GhostLog<T>
         ensures { result.items ≡ self.now.items ++ item.now ∷ [] }
     {

@@ -24,7 +24,7 @@ use Rattle.mip_reception.specs.Says.{UpdateIdentity, update_said, said_by, says}
 use Rattle.mip_reception.specs.Says.Carried.{Update, Other}
 use Rattle.mip_reception.specs.declared.registration.Registration.{Registration}
 use Rattle.mip_reception.specs.Registrations.{registration, registration_said, registration_in}
-use Rattle.mip_rules_correspondent.proofs.Taken.{update_read}
+use Rattle.mip_reception.proofs.CheckedMessages.{update_read}
 
 -- bytes end with the 12 of an authenticator
 record EndsWith (bytes a : List ℕ) : Type 0 where

@@ -8,13 +8,8 @@ ghost use Rattle.mip_homeagent.specs.Endings.{answers_released};
 
 use mip_entries::{Answer, Answers, Entry};
 use mip_rules_agent::{Ending, HomeBinding};
-use mip_words::{Address, Bytes, LinkId, Memory, NodeId, Shield, Why};
+use mip_words::{Address, Bytes, HERE, MYSELF, Memory, Shield, Why};
 use std::alloc::Global;
-
-/// A role writes 0 for its own number, and for a link.
-const MYSELF: NodeId = NodeId(0);
-
-const HERE: LinkId = LinkId(0);
 
 /// The agent sends a packet.
 pub fn send(answers: &mut Answers, shield: Option<Shield>, packet: Bytes) -> Result<(), Memory>

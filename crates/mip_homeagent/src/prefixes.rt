@@ -168,14 +168,14 @@ pub fn take_icmp(
     ensures { (claim : Claim)
         → Goes result (takes_icmp (handing_at context.now claim) (tree packet.now) (icmp_of (source_of packet.now.head) (destination_of packet.now.head) packet.now.body.now)) answers.old answers.new }
 {
-    let home = packet.head.sender();
-    match read_icmp(home, packet.head.receiver(), packet.body) {
+    let sender = packet.head.sender();
+    match read_icmp(sender, packet.head.receiver(), packet.body) {
         Ok(Icmp::DiscoverAsk { identifier }) => {
             name_agents(alloc, answers, context, packet.head.source, identifier)
         }
         Ok(Icmp::PrefixAsk { identifier }) => {
-            let careof = context.known.careof(context.moment, home);
-            answer_solicitation(alloc, answers, context, home, identifier, careof)
+            let careof = context.known.careof(context.moment, sender);
+            answer_solicitation(alloc, answers, context, sender, identifier, careof)
         }
         _ => drop_packet(answers, context.number, Why::Role),
     }

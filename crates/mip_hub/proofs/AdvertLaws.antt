@@ -1,6 +1,7 @@
 -- An advertisement is short.
 use Rattle.std.proofs.Common.{◌≡◌, ℕ, ◌≤◌, List, length, ap, arith}
 use Rattle.std.specs.Prelude.{Bool, Result, Ok, Err, IfOk}
+use Rattle.mip_words.specs.Addresses.{all_nodes}
 use Rattle.mip_words.specs.Numbers.{number_bytes}
 use Rattle.mip_words.specs.declared.memory.Memory.{Memory}
 use Rattle.mip_words.specs.declared.prefix.Prefix.{Prefix}
@@ -8,7 +9,7 @@ use Rattle.mip_ipv6.specs.Sum.{checksum_of}
 use Rattle.mip_ipv6.proofs.Sums.{length-with_number_at}
 use Rattle.mip_icmp.specs.Spelling.{icmp_bytes, unsummed, set_bytes}
 use Rattle.mip_icmp.proofs.Canonical.{unsummed_long}
-use Rattle.mip_hub.specs.Adverts.{router, all_nodes, router_said}
+use Rattle.mip_hub.specs.Adverts.{router, router_said}
 
 unsummed_short : (prefix : Prefix) (agent : Bool) → length (unsummed (router_said prefix agent)) ≤ 64
 unfolding unsummed set_bytes number_bytes

@@ -1,6 +1,6 @@
 -- The advertisement of a router (RFC 4861 section 4.2, RFC 6275 section 7.1).
 use Rattle.std.specs.Prelude.{ℕ, ◌*◌, ◌+◌, ◌-◌, ◌^◌, List, Bool, Some, None}
-use Rattle.mip_words.specs.Addresses.{joined_address}
+use Rattle.mip_words.specs.Addresses.{all_nodes, joined_address}
 use Rattle.mip_words.specs.declared.address.Address.{Address}
 use Rattle.mip_words.specs.declared.prefix.Prefix.{Prefix}
 use Rattle.mip_ipv6.specs.declared.head.Head.{Head}
@@ -12,10 +12,6 @@ use Rattle.mip_packets.specs.Packets.{data_packet}
 -- the router, fe80::1
 abbrev pub router : Address
 router = record { 0 = 65152 * 2 ^ 112 + 1 }
-
--- all nodes of a link, ff02::1. RFC 4291 section 2.7.1
-abbrev pub all_nodes : Address
-all_nodes = record { 0 = 65282 * 2 ^ 112 + 1 }
 
 -- a packet that has passed no router: its hop limit is 255. RFC 4861 section 6.1.2
 abbrev pub router_head : Head

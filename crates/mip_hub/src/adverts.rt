@@ -1,21 +1,19 @@
 //! The advertisements of routers (RFC 4861 section 4.2, RFC 6275 section 7.1).
 
 ghost use Rattle.std.specs.Prelude.{◌≡◌, ◌≤◌, ◌∷◌, length, IfOk};
+ghost use Rattle.mip_words.specs.Addresses.{all_nodes};
 ghost use Rattle.mip_icmp.specs.Spelling.{icmp_bytes};
-ghost use Rattle.mip_hub.specs.Adverts.{router, all_nodes, router_head, prefix_info, router_said, advert_packet};
+ghost use Rattle.mip_hub.specs.Adverts.{router, router_head, prefix_info, router_said, advert_packet};
 
 use mip_icmp::{IcmpSet, PlainIcmp, PrefixInfo, write_icmp};
 use mip_ipv6::Head;
 use mip_packets::write_data_packet;
 use mip_words::protocol::ICMPV6;
-use mip_words::{Address, Bytes, Memory, Prefix};
+use mip_words::{ALL_NODES, Address, Bytes, Memory, Prefix};
 use std::alloc::Global;
 
 /// The router of every link.
 const ROUTER: Address = Address(0xfe80_0000_0000_0000_0000_0000_0000_0001);
-
-/// All nodes of a link (RFC 4291 section 2.7.1).
-const ALL_NODES: Address = Address(0xff02_0000_0000_0000_0000_0000_0000_0001);
 
 /// The head of a packet that has passed no router (RFC 4861 section 6.1.2).
 fn router_head() -> Head

@@ -3,6 +3,7 @@ use Rattle.std.proofs.Common.{◌≡◌, ℕ, true, false, cond, eqb, List, [], 
 use Rattle.std.specs.Prelude.{map, slice_index}
 use Rattle.std.specs.Option.{option_or, option_to_list}
 use Rattle.std.proofs.lemmas.Bool.{cases_Bool, cases_eq, eq-eqb, ne_eqb}
+use Rattle.mip_icmp.specs.Walk.{seen_by}
 use Rattle.mip_icmp.specs.declared.prefix_info.PrefixInfo.{PrefixInfo}
 use Rattle.mip_icmp.specs.declared.options.IcmpSet.{IcmpSet}
 use Rattle.mip_icmp.specs.Options.{prefix_at, interval_at, agent_at, of_type, first_of, preferred_among, set_from}
@@ -10,8 +11,7 @@ use Rattle.mip_icmp.specs.Reading.{preferred_of, noted, nothing}
 
 -- what is seen after these options
 abbrev pub seen_after : IcmpSet → List (List ℕ) → IcmpSet
-seen_after seen [] = seen
-seen_after seen (o ∷ options) = seen_after (noted seen o) options
+seen_after seen options = seen_by noted seen options
 
 -- what these options say behind what was seen
 abbrev said_with : IcmpSet → List (List ℕ) → IcmpSet
@@ -26,7 +26,7 @@ preferred_one None = refl
 preferred_one (Some x) =
     elim (eqb x.length 64) as (λ b. option_or (cond b (Some x) None) (Some x) ≡ Some x) [ true ↦ refl | false ↦ refl ]
 
-first_one : {A : Type 0} (seen : Option A) → first_of (option_to_list seen ++ []) ≡ seen
+pub first_one : {A : Type 0} (seen : Option A) → first_of (option_to_list seen ++ []) ≡ seen
 first_one None = refl
 first_one (Some x) = refl
 
@@ -42,7 +42,7 @@ preferred_more : (seen : Option PrefixInfo) (y : PrefixInfo) (ys : List PrefixIn
 preferred_more None y ys = refl
 preferred_more (Some x) y ys = preferred_two x y ys
 
-first_more : {A : Type 0} (seen : Option A) (y : A) (ys : List A) → first_of (option_to_list seen ++ (y ∷ ys)) ≡ first_of (option_to_list (option_or seen (Some y)) ++ ys)
+pub first_more : {A : Type 0} (seen : Option A) (y : A) (ys : List A) → first_of (option_to_list seen ++ (y ∷ ys)) ≡ first_of (option_to_list (option_or seen (Some y)) ++ ys)
 first_more None y ys = refl
 first_more (Some x) y ys = refl
 

@@ -1,4 +1,5 @@
 pub mod Walking
+pub mod Cuts
 pub mod Choices
 pub mod Areas
 pub mod Messages

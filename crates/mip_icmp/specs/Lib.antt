@@ -1,4 +1,5 @@
 pub mod Fields
+pub mod Walk
 pub mod Options
 pub mod Said
 pub mod Reading

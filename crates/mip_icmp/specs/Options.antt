@@ -5,11 +5,12 @@
 --   |     Type      |    Length     |              ...              |
 --
 -- Length counts units of 8 bytes, the first two bytes among them. RFC 4861 section 4.6
-use Rattle.std.specs.Prelude.{◌≡◌, ℕ, ◌*◌, List, [], ◌∷◌, length, filter, map, find, Option, Some, None, Bool, true, not, ◌||◌, ◌==◌, slice_index, if◌then◌else◌}
+use Rattle.std.specs.Prelude.{◌≡◌, ℕ, List, [], ◌∷◌, filter, map, find, Option, Some, None, Bool, not, ◌||◌, ◌==◌, slice_index, if◌then◌else◌}
 use Rattle.std.specs.List.{flat_map, AllByRecursion}
 use Rattle.std.specs.Option.{option_or}
 use Rattle.mip_words.specs.Numbers.{number_at}
 use Rattle.mip_words.specs.Addresses.{address_at}
+use Rattle.mip_icmp.specs.Walk.{IsOptionOf}
 use Rattle.mip_icmp.specs.declared.prefix_info.PrefixInfo.{PrefixInfo}
 use Rattle.mip_icmp.specs.declared.agent_info.AgentInfo.{AgentInfo}
 use Rattle.mip_icmp.specs.declared.options.IcmpOptions.{IcmpOptions}
@@ -54,9 +55,8 @@ has_units type units =
     else not (units == 0)
 
 -- these bytes are one option
-pub record IsOption (option : List ℕ) : Type 0 where
-  pub units : has_units (slice_index option 0) (slice_index option 1) ≡ true
-  pub whole : length option ≡ 8 * slice_index option 1
+abbrev pub IsOption : List ℕ → Type 0
+IsOption option = IsOptionOf has_units option
 
 -- those of a type
 abbrev pub of_type : ℕ → List (List ℕ) → List (List ℕ)

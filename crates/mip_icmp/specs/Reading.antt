@@ -1,5 +1,5 @@
 -- Reading an ICMPv6 message: the first fault that applies, or what the message says.
-use Rattle.std.specs.Prelude.{ℕ, zero, suc, ◌+◌, ◌-◌, ◌*◌, ◌%◌, List, [], ◌∷◌, length, drop, Option, Some, None, Result, Ok, Err, not, ◌||◌, ◌==◌, nat_lt, slice_index, if◌then◌else◌}
+use Rattle.std.specs.Prelude.{ℕ, ◌%◌, List, length, drop, Option, Some, None, Result, Ok, Err, not, ◌||◌, ◌==◌, nat_lt, slice_index, if◌then◌else◌}
 use Rattle.std.specs.Option.{option_or}
 use Rattle.mip_words.specs.Numbers.{number_at}
 use Rattle.mip_words.specs.Steps.{◌>>=◌}
@@ -11,6 +11,7 @@ use Rattle.mip_icmp.specs.declared.fault.IcmpFault.{IcmpFault}
 use Rattle.mip_icmp.specs.declared.fault.IcmpFault.TheVariants as faults
 use Rattle.mip_icmp.specs.declared.fault.IcmpFault.TheVariants.{Short, Checksum, Unknown}
 use Rattle.mip_icmp.specs.Fields.{least_size, is_known, identifier_at, is_agent_flag}
+use Rattle.mip_icmp.specs.Walk.{option_by, options_by}
 use Rattle.mip_icmp.specs.Options.{prefix_at, interval_at, agent_at, has_units}
 use Rattle.mip_icmp.specs.Said.{Said, Parameter, Advertisement, DiscoverAsk, DiscoverReply, PrefixAsk, PrefixReply}
 
@@ -28,19 +29,12 @@ noted seen bytes =
     else seen
 
 -- the options seen so far, with the one that begins these bytes, and how many bytes it takes
-unfoldable pub option_at : ℕ → IcmpSet → List ℕ → Result (IcmpSet × ℕ) IcmpFault
-option_at place seen bytes =
-    if nat_lt (length bytes) 2 then Err (faults.Option place)
-    else if nat_lt (length bytes) (8 * slice_index bytes 1) || not (has_units (slice_index bytes 0) (slice_index bytes 1)) then Err (faults.Option place)
-    else Ok (noted seen bytes, 8 * slice_index bytes 1)
+abbrev pub option_at : ℕ → IcmpSet → List ℕ → Result (IcmpSet × ℕ) IcmpFault
+option_at place seen bytes = option_by has_units noted faults.Option place seen bytes
 
 -- the options of these bytes, which begin at a place of their message, after a number of bytes to pass over
-unfoldable pub options_after : ℕ → IcmpSet → ℕ → List ℕ → Result IcmpSet IcmpFault
-options_after skipped seen place [] = Ok seen
-options_after (suc n) seen place (b ∷ rest) = options_after n seen (place + 1) rest
-options_after zero seen place (t ∷ rest) = do
-  x ← option_at place seen (t ∷ rest)
-  options_after (x.1 - 1) x.0 (place + 1) rest
+abbrev pub options_after : ℕ → IcmpSet → ℕ → List ℕ → Result IcmpSet IcmpFault
+options_after skipped seen place bytes = options_by option_at skipped seen place bytes
 
 abbrev pub nothing : IcmpSet
 nothing = record { prefix = None; interval = None; agent = None }

@@ -46,7 +46,7 @@ fn with_option(seen: IcmpSet, option: &[u8]) -> IcmpSet
 }
 
 /// The options seen so far, with the option that begins these bytes, and the bytes that it takes.
-#[tactic(auto, unfolding(crate::specs::Reading::option_at))]
+#[tactic(auto, unfolding(crate::specs::Walk::option_by))]
 fn option_of(place: usize, seen: IcmpSet, bytes: &[u8]) -> Result<(IcmpSet, usize), IcmpFault>
     ensures exact { Gives (λ x. x) result (option_at place seen bytes.now) }
     ensures some { IfOk result (λ x. 0 < x.1) }

@@ -8,10 +8,9 @@ use crate::head::Head;
 use crate::lowering::lower;
 use crate::write_fault::WriteFault;
 use crate::writing::write_packet;
+use mip_words::protocol::IPV6;
 use mip_words::{Address, Bytes, Memory};
 use std::alloc::Global;
-
-const TUNNEL: u8 = 41;
 
 const HOP_LIMIT: u8 = 64;
 
@@ -26,7 +25,7 @@ fn head_of_tunnel(entry: Address, exit: Address) -> Head
         flow: 0,
         route: None,
         home: None,
-        proto: TUNNEL,
+        proto: IPV6,
     }
 }
 

@@ -7,8 +7,7 @@ use crate::exit_fault::ExitFault;
 use crate::packet_ref::PacketRef;
 use crate::reading::read_packet;
 use mip_words::Address;
-
-const TUNNEL: u8 = 41;
+use mip_words::protocol::IPV6;
 
 /// Takes a packet out of a tunnel that begins at `entry`.
 #[tactic(auto, unfolding(crate::specs::Tunnel::opened))]
@@ -16,7 +15,7 @@ pub fn decapsulate<'a>(packet: &PacketRef<'a>, entry: Address) -> Result<PacketR
     ensures exact { Gives tree result (opened entry (tree packet.now)) }
     ensures place { IfOk result (λ q. IsAt q packet.now.body.now) }
 {
-    if packet.head.proto != TUNNEL {
+    if packet.head.proto != IPV6 {
         return Err(ExitFault::NotTunnel);
     }
     let seen = packet.head.source;

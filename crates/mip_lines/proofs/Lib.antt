@@ -5,3 +5,4 @@ pub mod LineLaws
 pub mod HexFieldLaws
 pub mod LongRows
 pub mod RowReadings
+pub mod TextRows

@@ -1,4 +1,4 @@
-//! The events of a generated schedule, each made of two words.
+//! The events of a generated schedule, each made of two drawn words: one picks the kind, the other, `y` here, the rest.
 
 ghost use Rattle.std.specs.Prelude.{◌≡◌, ◌<◌, IfOk};
 ghost use Rattle.mip_words.specs.Numbers.{number_bytes};

@@ -1,16 +1,17 @@
 -- Which options count: going through them one by one finds what the whole list says.
-use Rattle.std.proofs.Common.{◌≡◌, ℕ, true, false, eqb, List, [], ◌∷◌, ◌++◌, Option, Some, None, inl, inr, refl, sym, ◌∙◌, arith}
+use Rattle.std.proofs.Common.{◌≡◌, ℕ, true, false, eqb, List, [], ◌∷◌, ◌++◌, inl, inr, refl, sym, ◌∙◌, arith}
 use Rattle.std.specs.Prelude.{map, slice_index}
-use Rattle.std.specs.Option.{option_or, option_to_list}
+use Rattle.std.specs.Option.{option_to_list}
 use Rattle.std.proofs.lemmas.Bool.{cases_eq, eq-eqb, ne_eqb}
+use Rattle.mip_icmp.specs.Walk.{seen_by}
+use Rattle.mip_icmp.proofs.Choices.{first_one, first_more}
 use Rattle.mip_proxynd.specs.declared.layers.Layers.{Layers}
 use Rattle.mip_proxynd.specs.Options.{layer_at, of_type, first_of, layers_from}
 use Rattle.mip_proxynd.specs.Reading.{noted, nothing}
 
 -- what is seen after these options
 abbrev pub seen_after : Layers → List (List ℕ) → Layers
-seen_after seen [] = seen
-seen_after seen (o ∷ options) = seen_after (noted seen o) options
+seen_after seen options = seen_by noted seen options
 
 -- what these options say behind what was seen
 abbrev said_with : Layers → List (List ℕ) → Layers
@@ -18,14 +19,6 @@ said_with seen options = record {
   source = first_of (option_to_list seen.source ++ map layer_at (of_type 1 options));
   target = first_of (option_to_list seen.target ++ map layer_at (of_type 2 options));
 }
-
-first_one : {A : Type 0} (seen : Option A) → first_of (option_to_list seen ++ []) ≡ seen
-first_one None = refl
-first_one (Some x) = refl
-
-first_more : {A : Type 0} (seen : Option A) (y : A) (ys : List A) → first_of (option_to_list seen ++ (y ∷ ys)) ≡ first_of (option_to_list (option_or seen (Some y)) ++ ys)
-first_more None y ys = refl
-first_more (Some x) y ys = refl
 
 one_more : (seen : Layers) (o : List ℕ) (options : List (List ℕ)) → said_with seen (o ∷ options) ≡ said_with (noted seen o) options
 one_more seen o options =

@@ -1,4 +1,3 @@
-pub mod Walking
 pub mod Choices
 pub mod Areas
 pub mod Messages

@@ -5,8 +5,10 @@
 --   |     Type      |    Length     |    Link-Layer Address ...
 --
 -- Length counts units of 8 bytes, the first two bytes among them. RFC 4861 section 4.6
-use Rattle.std.specs.Prelude.{◌≡◌, ℕ, ◌*◌, List, [], ◌∷◌, length, take, drop, filter, map, Option, Some, None, Bool, true, not, ◌||◌, ◌==◌, slice_index, if◌then◌else◌}
+use Rattle.std.specs.Prelude.{◌≡◌, ℕ, List, take, drop, map, Bool, not, ◌||◌, ◌==◌, if◌then◌else◌}
 use Rattle.std.specs.List.{flat_map, AllByRecursion}
+use Rattle.mip_icmp.specs.Walk.{IsOptionOf}
+pub use Rattle.mip_icmp.specs.Options.{of_type, first_of}
 use Rattle.mip_proxynd.specs.declared.layers.Layers.{Layers}
 
 -- Source and Target Link-Layer Address, options 1 and 2, of a link whose addresses have six bytes. RFC 4861 section 4.6.1
@@ -20,17 +22,8 @@ has_units type units =
     else not (units == 0)
 
 -- these bytes are one option
-pub record IsOption (option : List ℕ) : Type 0 where
-  pub units : has_units (slice_index option 0) (slice_index option 1) ≡ true
-  pub whole : length option ≡ 8 * slice_index option 1
-
--- those of a type
-abbrev pub of_type : ℕ → List (List ℕ) → List (List ℕ)
-of_type type options = filter (λ option. slice_index option 0 == type) options
-
-abbrev pub first_of : {A : Type 0} → List A → Option A
-first_of [] = None
-first_of (x ∷ xs) = Some x
+abbrev pub IsOption : List ℕ → Type 0
+IsOption option = IsOptionOf has_units option
 
 -- what a list of options says: of each type the first counts
 abbrev pub layers_from : List (List ℕ) → Layers

@@ -1,5 +1,6 @@
 -- The packets of neighbour messages.
 use Rattle.std.specs.Prelude.{ℕ, ◌+◌, ◌*◌, ◌%◌, ◌^◌, List, [], ◌∷◌, false, true, Option, Some, None, nat_lt, if◌then◌else◌, slice_get, unwrap_or}
+use Rattle.mip_words.specs.Addresses.{all_nodes}
 use Rattle.mip_words.specs.Holders.{first_outsider}
 use Rattle.mip_words.specs.declared.address.Address.{Address}
 use Rattle.mip_ipv6.specs.declared.head.Head.{Head}
@@ -24,10 +25,6 @@ near_packet source destination m = record { head = near_head source destination;
 -- the packet of a message
 unfoldable pub message_packet : Address → Address → Neighbour → List ℕ
 message_packet source destination m = packet_bytes (near_packet source destination m)
-
--- all nodes of a link, ff02::1. RFC 4291 section 2.7.1
-abbrev pub all_nodes : Address
-all_nodes = record { 0 = 65282 * 2 ^ 112 + 1 }
 
 -- the solicited-node address of a target, ff02::1:ff00:0 with its last 24 bits. RFC 4291 section 2.7.1
 abbrev pub solicited_node : Address → Address

@@ -1,9 +1,10 @@
 -- Reading a neighbour message: the first fault that applies, or what the message says.
-use Rattle.std.specs.Prelude.{ℕ, zero, suc, ◌+◌, ◌-◌, ◌*◌, List, [], ◌∷◌, length, drop, Some, None, Result, Ok, Err, not, ◌||◌, ◌==◌, nat_lt, slice_index, if◌then◌else◌}
+use Rattle.std.specs.Prelude.{ℕ, List, length, drop, Some, None, Result, Ok, Err, not, ◌||◌, ◌==◌, nat_lt, slice_index, if◌then◌else◌}
 use Rattle.std.specs.Option.{option_or}
 use Rattle.mip_words.specs.Steps.{◌>>=◌}
 use Rattle.mip_words.specs.declared.address.Address.{Address}
 use Rattle.mip_ipv6.specs.Sum.{is_right_sum}
+use Rattle.mip_icmp.specs.Walk.{option_by, options_by}
 use Rattle.mip_proxynd.specs.declared.layers.Layers.{Layers}
 use Rattle.mip_proxynd.specs.declared.neighbour.Neighbour.{Neighbour}
 use Rattle.mip_proxynd.specs.declared.neighbour.Neighbour.TheVariants.{Solicit, Advert}
@@ -21,19 +22,12 @@ noted seen bytes =
     else seen
 
 -- the options seen so far, with the one that begins these bytes, and how many bytes it takes
-unfoldable pub option_at : ℕ → Layers → List ℕ → Result (Layers × ℕ) NeighbourFault
-option_at place seen bytes =
-    if nat_lt (length bytes) 2 then Err (faults.Option place)
-    else if nat_lt (length bytes) (8 * slice_index bytes 1) || not (has_units (slice_index bytes 0) (slice_index bytes 1)) then Err (faults.Option place)
-    else Ok (noted seen bytes, 8 * slice_index bytes 1)
+abbrev pub option_at : ℕ → Layers → List ℕ → Result (Layers × ℕ) NeighbourFault
+option_at place seen bytes = option_by has_units noted faults.Option place seen bytes
 
 -- the options of these bytes, which begin at a place of their message, after a number of bytes to pass over
-unfoldable pub options_after : ℕ → Layers → ℕ → List ℕ → Result Layers NeighbourFault
-options_after skipped seen place [] = Ok seen
-options_after (suc n) seen place (b ∷ rest) = options_after n seen (place + 1) rest
-options_after zero seen place (t ∷ rest) = do
-  x ← option_at place seen (t ∷ rest)
-  options_after (x.1 - 1) x.0 (place + 1) rest
+abbrev pub options_after : ℕ → Layers → ℕ → List ℕ → Result Layers NeighbourFault
+options_after skipped seen place bytes = options_by option_at skipped seen place bytes
 
 abbrev pub nothing : Layers
 nothing = record { source = None; target = None }

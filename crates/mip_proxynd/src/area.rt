@@ -47,7 +47,7 @@ fn with_option(seen: Layers, option: &[u8]) -> Layers
 }
 
 /// The options seen so far, with the option that begins these bytes, and the bytes that it takes.
-#[tactic(auto, unfolding(crate::specs::Reading::option_at))]
+#[tactic(auto, unfolding(mip_icmp::specs::Walk::option_by))]
 fn option_of(place: usize, seen: Layers, bytes: &[u8]) -> Result<(Layers, usize), NeighbourFault>
     ensures exact { Gives (λ x. x) result (option_at place seen bytes.now) }
     ensures some { IfOk result (λ x. 0 < x.1) }

@@ -1,13 +1,14 @@
 //! Neighbour messages in packets.
 
 ghost use Rattle.std.specs.Prelude.{◌≡◌, false, true, Some, Ok, IfOk, slice_get};
+ghost use Rattle.mip_words.specs.Addresses.{all_nodes};
 ghost use Rattle.mip_ipv6.specs.Reading.{packet_of};
 ghost use Rattle.mip_symbols.specs.Places.{members};
 ghost use Rattle.mip_symbols.specs.declared.places.Sort.TheVariants as sorts;
 ghost use Rattle.mip_proxynd.specs.declared.neighbour.Neighbour.TheVariants.{Solicit, Advert};
 ghost use Rattle.mip_proxynd.specs.Adverts.{layer_of, advert};
 ghost use Rattle.mip_proxynd.specs.Fields.{is_group, target_of};
-ghost use Rattle.mip_proxynd.specs.Packets.{near_head, near_packet, message_packet, all_nodes, solicited_node, asker, address_or, asker_layer, declared_address, source_of};
+ghost use Rattle.mip_proxynd.specs.Packets.{near_head, near_packet, message_packet, solicited_node, asker, address_or, asker_layer, declared_address, source_of};
 ghost use Rattle.mip_proxynd.specs.Reading.{neighbour_of};
 ghost use Rattle.mip_proxynd.specs.Spelling.{neighbour_bytes};
 
@@ -17,11 +18,8 @@ use crate::writing::write_neighbour;
 use mip_ipv6::{Head, WriteFault, write_packet};
 use mip_symbols::{Declaration, Sort, member};
 use mip_words::protocol::ICMPV6;
-use mip_words::{Address, Bytes, Holder, Memory, NodeId};
+use mip_words::{ALL_NODES, Address, Bytes, Holder, Memory, NodeId};
 use std::alloc::Global;
-
-/// All nodes of a link (RFC 4291 section 2.7.1).
-const ALL_NODES: Address = Address(0xff02_0000_0000_0000_0000_0000_0000_0001);
 
 /// The solicited-node address of a target whose last 24 bits are zero (RFC 4291 section 2.7.1).
 const SOLICITED: u128 = 0xff02_0000_0000_0000_0000_0001_ff00_0000;

@@ -2,6 +2,7 @@ pub mod Passings
 pub mod Pointers
 pub mod Reasons
 pub mod Updates
+pub mod CheckedMessages
 pub use Rattle.mip_packets.proofs.Longs
 pub use Rattle.mip_packets.proofs.Sayings
 pub use Rattle.mip_packets.proofs.WrittenPackets

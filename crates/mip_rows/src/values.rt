@@ -25,6 +25,7 @@ impl Model for Values {
     ghost view = { λ v. v.list.items };
 }
 
+/// A value is read by the kind that its row has at that place. One of another kind, which no row asks for, reads as 0.
 impl Values {
     /// No values.
     pub fn new() -> Values

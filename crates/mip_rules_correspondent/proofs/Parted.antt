@@ -28,7 +28,8 @@ use Rattle.mip_rules_correspondent.specs.Rules.{answers_home_init, answers_careo
 use Rattle.mip_rules_correspondent.specs.Doing.{parts, does, transition_of}
 use Rattle.mip_rules_correspondent.specs.Refusing.{is_refusal}
 use Rattle.mip_rules_correspondent.specs.Taken.{IsUpdateParted}
-use Rattle.mip_rules_correspondent.proofs.Taken.{update_read, AcceptsNone, none_called, none_more}
+use Rattle.mip_reception.proofs.CheckedMessages.{update_read}
+use Rattle.mip_rules_correspondent.proofs.Taken.{AcceptsNone, none_called, none_more}
 
 -- a packet with a message has a mobility header, and the message is read from it
 parted_proto : (p : Packet) (m : Said) → message_in p ≡ Some m → p.head.proto ≡ 135

@@ -17,7 +17,7 @@ rows_more before (x ∷ ds) d =
     (rows_more (before ++ x ∷ []) ds d ∙ ap (λ (xs : List Declaration). declaration_rows (before ++ x ∷ []) ds ++ declaration_text xs d ∷ []) (append_assoc before (x ∷ []) ds))
 
 -- one line more
-line_more : (o : List ℕ) (rows : List (List (List ℕ))) (row : List (List ℕ)) → (o ++ lines_text rows) ++ line_text row ≡ o ++ lines_text (rows ++ row ∷ [])
+pub line_more : (o : List ℕ) (rows : List (List (List ℕ))) (row : List (List ℕ)) → (o ++ lines_text rows) ++ line_text row ≡ o ++ lines_text (rows ++ row ∷ [])
 line_more o rows row =
     append_assoc o (lines_text rows) (line_text row)
     ∙ ap (λ (t : List ℕ). o ++ t) (ap (λ (t : List ℕ). lines_text rows ++ t) (sym (append-nil (line_text row))) ∙ sym (flat_map-append line_text rows (row ∷ [])))

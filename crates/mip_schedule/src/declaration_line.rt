@@ -8,10 +8,7 @@ ghost use Rattle.mip_symbols.specs.Places.{AreFew, is_mobile, members};
 
 use crate::declaration_rows::declaration_fields;
 use mip_symbols::{Declaration, Reason, Sort, count, is_mobile, member, refused};
-use mip_words::{Address, LinkId, NodeId, Prefix};
-
-/// The last 64 bits of the home-agents anycast addresses (RFC 2526 section 3).
-const HOME_AGENTS: u64 = 0xfdff_ffff_ffff_fffe;
+use mip_words::{Address, HOME_AGENTS, LinkId, NodeId, Prefix};
 
 fn interface_of(address: Address) -> u64
     ensures { result ≡ rows.interface_of address.0 }

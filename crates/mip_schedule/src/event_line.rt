@@ -33,8 +33,9 @@ pub fn carry_of(e: &Event) -> u32
     }
 }
 
+/// Whether no data may have this next header: it names a header of IPv6, ICMPv6 or a mobility message.
 #[tactic(auto, unfolding(crate::specs::EventTimes::is_reserved))]
-fn is_reserved(proto: u8) -> bool
+pub fn is_reserved(proto: u8) -> bool
     ensures { result ≡ rows.is_reserved proto }
 {
     matches!(proto, 0 | 41 | 43 | 44 | 50 | 51 | 58 | 59 | 60 | 135)

@@ -27,6 +27,7 @@ mod versions;
 mod writing;
 
 pub use event::Event;
+pub use event_line::is_reserved;
 pub use events::Events;
 pub use fault::ScheduleFault;
 pub use head::{head_field, seed_line, version_line};

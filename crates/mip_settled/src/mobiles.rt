@@ -40,7 +40,7 @@ pub fn present(history: &[Entry], node: NodeId, own: Address) -> Option<Address>
     present
 }
 
-/// The registration that an entry tells of.
+/// What an entry says of a mobile's registration: a registration, that there is none any more (`Some(None)`), or nothing (`None`).
 fn registration_said(entry: &Entry, node: NodeId) -> Option<Option<Registered>>
     ensures { result ≡ registration_told node.0 entry.now }
 {
@@ -98,7 +98,7 @@ pub fn agent(history: &[Entry], now: Moment, node: NodeId) -> Option<Address>
     }
 }
 
-/// The end of the binding with a peer that an entry tells of.
+/// What an entry says of a mobile's binding with a peer: its end, that there is none any more (`Some(None)`), or nothing (`None`).
 fn binding_said(entry: &Entry, node: NodeId, peer: Address) -> Option<Option<Moment>>
     ensures { result ≡ binding_told node.0 peer entry.now }
 {

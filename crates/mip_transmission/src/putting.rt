@@ -10,11 +10,8 @@ ghost use Rattle.mip_transmission.specs.Putting.{after_put, Puts, PutsAll, PutsF
 use crate::fault::StationFault;
 use mip_entries::{Answer, Answers, Entry};
 use mip_outside::{Put, Wire};
-use mip_words::{Bytes, NodeId, Shield, Why};
+use mip_words::{Bytes, MYSELF, Shield, Why};
 use std::alloc::Global;
-
-/// A role writes 0 for its own number.
-const MYSELF: NodeId = NodeId(0);
 
 /// What becomes of a packet that its wire answered this to.
 fn after_put(put: Put, shield: Option<Shield>, packet: Bytes) -> Answer

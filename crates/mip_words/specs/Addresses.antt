@@ -13,6 +13,10 @@ address_at place bytes = record { 0 = number_at 16 place bytes }
 abbrev pub address_bytes : Address → List ℕ
 address_bytes address = number_bytes 16 address.0
 
+-- all nodes of a link, ff02::1. RFC 4291 section 2.7.1
+abbrev pub all_nodes : Address
+all_nodes = record { 0 = 65282 * 2 ^ 112 + 1 }
+
 -- the address with this prefix and these last 64 bits
 abbrev pub joined_address : ℕ → ℕ → ℕ
 joined_address prefix interface = prefix * 2 ^ 64 + interface

@@ -11,6 +11,9 @@ use byteorder::{BigEndian, ByteOrder};
 #[derive(Clone, Copy, Debug, PartialEq, Eq, PartialOrd, Ord)]
 pub struct Address(pub u128);
 
+/// All nodes of a link, ff02::1 (RFC 4291 section 2.7.1).
+pub const ALL_NODES: Address = Address(0xff02_0000_0000_0000_0000_0000_0000_0001);
+
 /// The text is not 32 lower-case hexadecimal digits.
 #[derive(Clone, Copy, Debug, PartialEq, Eq)]
 pub struct NotAddress;

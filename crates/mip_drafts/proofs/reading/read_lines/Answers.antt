@@ -1,7 +1,8 @@
 use Rattle.std.proofs.Common.{sym, length, arith}
 use Rattle.std.proofs.lemmas.Bool.{eqb-true}
 use Rattle.mip_lines.specs.Cutting.{texts}
-use Rattle.mip_drafts.proofs.WalkLaws.{goes_on, stops, ends, left_over, not_zero}
+use Rattle.mip_lines.proofs.TextRows.{not_zero}
+use Rattle.mip_drafts.proofs.WalkLaws.{goes_on, stops, ends, left_over}
 use Rattle.mip_drafts.proofs.reading.read_lines.Goals as goal
 
 pub returns-in-Err : goal.returns-in-Err
