@@ -1,6 +1,6 @@
 -- The secrets of one life of a node, drawn from ChaCha20 (RFC 8439 section 2.3; the nonce is the
 -- number of a stream) under the seed as key. RFC 6275 sections 5.2.1 and 5.2.2
-use Rattle.std.specs.Prelude.{ℕ, ◌+◌, ◌*◌, ◌^◌, List, ◌++◌}
+use Rattle.std.specs.Prelude.{◌≡◌, ℕ, ◌+◌, ◌*◌, ◌^◌, ◌<◌, List, ◌++◌, slice_index}
 use Rattle.std.specs.Int.{w32, to_be_bytes}
 use Rattle.rand_chacha.specs.ChaCha.{word_at, key_of}
 
@@ -32,3 +32,7 @@ nonce_of life n = to_be_bytes w32 (word_of life 1 (2 * n)) ++ to_be_bytes w32 (w
 -- cookie number n: the n-th pair of words of kind 2, as one number, the first word its high half
 unfoldable pub cookie_of : Life → ℕ → ℕ
 cookie_of life n = word_of life 2 (2 * n) * 2 ^ 32 + word_of life 2 (2 * n + 1)
+
+-- thirty-two cookies one behind the other, from the one of this number on
+abbrev pub AreCookies : Life → ℕ → List ℕ → Type 0
+AreCookies life first cookies = (i : ℕ) → i < 32 → slice_index cookies i ≡ cookie_of life (first + i)

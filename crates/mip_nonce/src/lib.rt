@@ -2,6 +2,7 @@
 //! (RFC 6275 sections 5.2.1, 5.2.2 and 5.2.5).
 #![tactic(auto)]
 
+mod cookie_row;
 mod secrets;
 mod source;
 mod window;

@@ -1,6 +1,7 @@
-ghost use Rattle.std.specs.Prelude.{◌≡◌};
-ghost use Rattle.mip_nonce.specs.Secrets.{kcn_of, nonce_of, cookie_of};
+ghost use Rattle.std.specs.Prelude.{◌≡◌, IfSome};
+ghost use Rattle.mip_nonce.specs.Secrets.{Life, kcn_of, nonce_of, cookie_of, AreCookies};
 
+use crate::cookie_row::{CookieRow, ROW};
 use crate::source::Source;
 use crate::window::current;
 use mip_tokens::PreparedKey;
@@ -8,24 +9,26 @@ use mip_words::{Cookie, Moment, NodeId};
 use std::marker::Model;
 
 /// The secrets of one life of a node. A node that restarts begins a life with new ones. The key of the
-/// life and the nonce that was last the newest one are drawn once and kept.
+/// life and the nonce that was last the newest one are drawn once and kept, and so are cookies, a row at a time.
 #[derive(Drop)]
 pub struct Secrets {
     source: Source,
     kcn: PreparedKey,
     newest: u64,
     nonce: [u8; 8],
+    drawn: Option<CookieRow>,
 }
 
 impl Model for Secrets {
-    ghost use Rattle.std.specs.Prelude.{◌≡◌};
-    ghost use Rattle.mip_nonce.specs.Secrets.{Life, kcn_of, nonce_of};
+    ghost use Rattle.std.specs.Prelude.{◌≡◌, IfSome};
+    ghost use Rattle.mip_nonce.specs.Secrets.{Life, kcn_of, nonce_of, AreCookies};
 
     ghost Value = { Life };
 
     ghost view = { λ s. s.source };
 
-    ghost invariant = { λ s. (s.kcn ≡ kcn_of s.source) × (s.nonce ≡ nonce_of s.source s.newest) };
+    ghost invariant = { λ s. (s.kcn ≡ kcn_of s.source) × (s.nonce ≡ nonce_of s.source s.newest)
+        × IfSome s.drawn (λ r. AreCookies s.source r.first r.cookies) };
 }
 
 impl Secrets {
@@ -42,6 +45,7 @@ impl Secrets {
             kcn,
             newest: 0,
             nonce,
+            drawn: None,
         }
     }
 
@@ -78,6 +82,32 @@ impl Secrets {
     pub fn cookie(&self, number: u64) -> Cookie
         ensures { result.0 ≡ cookie_of self.now number }
     {
-        self.source.cookie(number)
+        match kept_cookie(&self.drawn, number) {
+            Some(cookie) => cookie,
+            None => self.source.cookie(number),
+        }
+    }
+
+    /// Draws the cookie of this number with those beside it, where it is not yet drawn. The secrets stay the same.
+    pub fn draw_cookies(&mut self, number: u64)
+        ensures { self.new ≡ self.old }
+    {
+        if kept_cookie(&self.drawn, number).is_none() {
+            let first = number - number % ROW as u64;
+            self.drawn = Some(CookieRow {
+                first,
+                cookies: self.source.cookies(first),
+            });
+        }
+    }
+}
+
+/// The cookie of this number, where it is drawn.
+fn kept_cookie(drawn: &Option<CookieRow>, number: u64) -> Option<Cookie>
+    ensures { (life : Life) → IfSome drawn.now (λ r. AreCookies life r.first r.cookies) → IfSome result (λ c. c.0 ≡ cookie_of life number) }
+{
+    match drawn {
+        Some(row) => row.cookie(number),
+        None => None,
     }
 }
