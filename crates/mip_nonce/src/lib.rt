@@ -3,6 +3,7 @@
 #![tactic(auto)]
 
 mod cookie_row;
+mod kept_token;
 mod secrets;
 mod source;
 mod window;

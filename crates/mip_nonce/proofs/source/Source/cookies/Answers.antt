@@ -1,4 +1,4 @@
-use Rattle.std.proofs.Common.{◌≡◌, ℕ, ◌+◌, ◌*◌, ◌^◌, ◌<◌, List, length, get_or, sym, ap, ◌∙◌, subst, arith}
+use Rattle.std.proofs.Common.{◌≡◌, ℕ, ◌+◌, ◌*◌, ◌^◌, ◌<◌, get_or, sym, ap, ◌∙◌, subst, arith}
 use Rattle.std.proofs.Math.ListN.{set, length-set}
 use Rattle.std.proofs.lemmas.List.Edits.{fill_by_more}
 use Rattle.rand_chacha.specs.ChaCha.{ChaCha, key_of, word_at}
@@ -41,5 +41,5 @@ loop-i-preserved c =
       long = length-set c.loop-i.cookies i c.next_cookie.result ∙ c.loop-i.invariant.long;
       words = words-on life c.loop-i.words c.next_cookie.new.words first i c.loop-i.invariant.words c.next_cookie.ensures.words;
       drawn = subst (λ (x : ℕ). (k : ℕ) → k < i + 1 → get_or (set c.loop-i.cookies i x) k 0 ≡ cookie_of life (first + k)) (sym drawn)
-          (fill_by_more (λ k. cookie_of life (first + k)) c.loop-i.cookies i 0 (omega arith) c.loop-i.invariant.drawn)
+          (fill_by_more (λ k. cookie_of life (first + k)) c.loop-i.cookies i 0 (omega arith) c.loop-i.invariant.drawn);
     }
