@@ -1,11 +1,11 @@
 -- Return routability with one peer, as functions on the trial: one definition a call.
 -- RFC 6275 sections 5.2.5 to 5.2.7, 11.6 and 11.7.2
-use Rattle.std.specs.Prelude.{ℕ, ◌+◌, ◌-◌, ◌%◌, Bool, true, false, not, ◌&&◌, ◌==◌, nat_lt, if◌then◌else◌, Option, Some, None, Result, Ok, Err}
+use Rattle.std.specs.Prelude.{◌≡◌, ℕ, ◌+◌, ◌-◌, ◌%◌, Bool, true, false, not, ◌&&◌, ◌==◌, nat_lt, if◌then◌else◌, Option, Some, None, Result, Ok, Err}
 use Rattle.mip_words.specs.declared.address.Address.{Address}
 use Rattle.mip_words.specs.declared.moment.Moment.{Moment}
 use Rattle.mip_words.specs.declared.token.Cookie.{Cookie}
 use Rattle.mip_words.specs.Constants.{max_token_lifetime}
-use Rattle.mip_tokens.specs.Token.{kbm_both_of, kbm_home_of}
+use Rattle.mip_tokens.specs.Token.{kbm_both_of, kbm_home_of, kbm_of_tokens}
 use Rattle.mip_bulist.specs.declared.aim.Aim.{Aim}
 use Rattle.mip_bulist.specs.declared.aim.Aim.TheVariants.{Bind, Delete}
 use Rattle.mip_bulist.specs.declared.tested.Test.{Test}
@@ -119,6 +119,10 @@ made_of sequence (Home home) = record {
   careof = None;
 }
 
+-- an update is made under the key of its tokens
+abbrev pub IsOfTokens : Made → Type 0
+IsOfTokens made = made.kbm.0 ≡ kbm_of_tokens made.home made.careof
+
 -- the care-of address that an update of these tests binds; none where it deletes
 abbrev pub bound_to : Tested → Option Address
 bound_to (Both to home careof) = Some to
@@ -139,6 +143,11 @@ making now tested t =
 abbrev pub making_of : {S : Type 0} → Result (Trial Pending × Made) (Trial S × Refused) → Result Made Refused
 making_of (Ok r) = Ok r.1
 making_of (Err e) = Err e.1
+
+-- the trial that making an update leaves, without the update
+abbrev pub trial_left : {S : Type 0} → Result (Trial Pending × Made) (Trial S × Refused) → Result (Trial Pending) (Trial S × Refused)
+trial_left (Ok r) = Ok r.0
+trial_left (Err e) = Err e
 
 abbrev pub updated : Moment → Trial Proved → Result (Trial Pending × Made) (Trial Proved × Refused)
 updated now t = making now t.state.tested t

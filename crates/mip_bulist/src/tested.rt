@@ -1,5 +1,6 @@
-ghost use Rattle.std.specs.Prelude.{◌≡◌};
-ghost use Rattle.mip_bulist.specs.Trials.{is_old, has_old, made_of, needed};
+ghost use Rattle.std.specs.Prelude.{◌≡◌, ℕ};
+ghost use Rattle.mip_tokens.specs.Token.{kbm_of_tokens};
+ghost use Rattle.mip_bulist.specs.Trials.{is_old, has_old, made_of, needed, IsOfTokens};
 
 use crate::aim::Aim;
 use crate::made::Made;
@@ -68,9 +69,24 @@ impl Tested {
         }
     }
 
+    /// The tokens of which the key of each update is made.
+    pub fn tokens(&self) -> (Token, Option<Token>)
+        ensures { (sequence : ℕ) → (made_of sequence self.now).kbm.0 ≡ kbm_of_tokens result.0 result.1 }
+    {
+        match self {
+            Tested::Both {
+                to: _,
+                home,
+                careof,
+            } => (home.token, Some(careof.token)),
+            Tested::Home { home } => (home.token, None),
+        }
+    }
+
     /// What an update with this sequence is written with.
     pub fn made(&self, sequence: u16) -> Made
-        ensures { result ≡ made_of sequence self.now }
+        ensures made { result ≡ made_of sequence self.now }
+        ensures key { IsOfTokens result }
     {
         match self {
             Tested::Both {

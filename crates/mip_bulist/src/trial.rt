@@ -1,7 +1,8 @@
-ghost use Rattle.std.specs.Prelude.{◌≡◌, is_none};
+ghost use Rattle.std.specs.Prelude.{◌≡◌, is_none, IfOk};
 ghost use Rattle.std.specs.Result.{is_ok};
+ghost use Rattle.mip_tokens.specs.Token.{kbm_of_tokens};
 ghost use Rattle.mip_bulist.specs.declared.tested.Test.{Test};
-ghost use Rattle.mip_bulist.specs.Trials.{peer_of, next_of, in_state, fresh_trial, made_of, bound_to, probed, weighed, home_tested, careof_tested, made_now, making_of, updated, made_again, ended_with, acknowledged_as, resequenced, at_rest};
+ghost use Rattle.mip_bulist.specs.Trials.{peer_of, next_of, in_state, fresh_trial, made_of, bound_to, probed, weighed, home_tested, careof_tested, made_now, making_of, trial_left, IsOfTokens, updated, made_again, ended_with, acknowledged_as, resequenced, at_rest};
 
 use crate::aim::Aim;
 use crate::made::Made;
@@ -68,11 +69,11 @@ impl<S: State> Trial<S> {
         }
     }
 
-    /// Makes an update of these tests.
-    fn make(self, now: Moment, tested: Tested) -> (Trial<Pending>, Made)
-        ensures { result ≡ made_now now tested self }
+    /// The trial that makes an update of these tests.
+    fn pending(self, now: Moment, tested: Tested) -> Trial<Pending>
+        ensures { result ≡ (made_now now tested self).0 }
     {
-        let pending = Trial {
+        Trial {
             peer: self.peer,
             next: self.next.wrapping_add(1),
             recent: self.recent.with(now),
@@ -80,8 +81,15 @@ impl<S: State> Trial<S> {
                 tested,
                 last: self.next,
             },
-        };
-        (pending, tested.made(self.next))
+        }
+    }
+
+    /// Makes an update of these tests.
+    fn make(self, now: Moment, tested: Tested) -> (Trial<Pending>, Made)
+        ensures { result ≡ made_now now tested self }
+    {
+        let made = tested.made(self.next);
+        (self.pending(now, tested), made)
     }
 }
 
@@ -236,7 +244,8 @@ impl Trial<Probing> {
 impl Trial<Proved> {
     /// What `update` would make at this moment.
     pub fn outlook(&self, now: Moment) -> Result<Made, Refused>
-        ensures { result ≡ making_of (updated now self.now) }
+        ensures made { result ≡ making_of (updated now self.now) }
+        ensures key { IfOk result IsOfTokens }
     {
         if self.state.tested.is_old(now) {
             return Err(Refused::Old);
@@ -260,12 +269,27 @@ impl Trial<Proved> {
         }
         Ok(self.make(now, tested))
     }
+
+    /// Goes on as `update` does, without the update itself: its key is not hashed.
+    pub fn advance(self, now: Moment) -> Result<Trial<Pending>, (Trial<Proved>, Refused)>
+        ensures { result ≡ trial_left (updated now self) }
+    {
+        let tested = self.state.tested;
+        if tested.is_old(now) {
+            return Err((self, Refused::Old));
+        }
+        if self.recent.is_full(now) {
+            return Err((self, Refused::TooSoon));
+        }
+        Ok(self.pending(now, tested))
+    }
 }
 
 impl Trial<Pending> {
     /// What `again` would make at this moment.
     pub fn outlook(&self, now: Moment) -> Result<Made, Refused>
-        ensures { result ≡ making_of (made_again now self.now) }
+        ensures made { result ≡ making_of (made_again now self.now) }
+        ensures key { IfOk result IsOfTokens }
     {
         if self.state.tested.is_old(now) {
             return Err(Refused::Old);
@@ -281,6 +305,20 @@ impl Trial<Pending> {
         ensures { result ≡ made_of self.now.state.last self.now.state.tested }
     {
         self.state.tested.made(self.state.last)
+    }
+
+    /// The sequence of the last update that it made.
+    pub fn last_sequence(&self) -> u16
+        ensures { result ≡ self.now.state.last }
+    {
+        self.state.last
+    }
+
+    /// The tokens of which the key of its updates is made.
+    pub fn tokens(&self) -> (Token, Option<Token>)
+        ensures { (made_of self.now.state.last self.now.state.tested).kbm.0 ≡ kbm_of_tokens result.0 result.1 }
+    {
+        self.state.tested.tokens()
     }
 
     /// The care-of address that the update is to bind; `None` where it deletes.
@@ -312,6 +350,20 @@ impl Trial<Pending> {
             return Err((self, Refused::TooSoon));
         }
         Ok(self.make(now, tested))
+    }
+
+    /// Goes on as `again` does, without the update itself: its key is not hashed.
+    pub fn advance(self, now: Moment) -> Result<Trial<Pending>, (Trial<Pending>, Refused)>
+        ensures { result ≡ trial_left (made_again now self) }
+    {
+        let tested = self.state.tested;
+        if tested.is_old(now) {
+            return Err((self, Refused::Old));
+        }
+        if self.recent.is_full(now) {
+            return Err((self, Refused::TooSoon));
+        }
+        Ok(self.pending(now, tested))
     }
 
     /// Takes an acknowledgement that accepts, with the lifetime granted in units of 4 s

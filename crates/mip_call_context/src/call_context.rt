@@ -12,16 +12,18 @@ use mip_bulist::ListFull;
 use mip_entries::Answers;
 use mip_mobile_state::MobileState;
 use mip_nonce::Secrets;
+use mip_tokens::KeptKbm;
 use mip_words::{Address, Memory, Moment};
 use std::alloc::Global;
 use std::marker::Model;
 
-/// A call under way.
+/// A call under way; and the key of the last update to a peer, for its acknowledgement.
 #[derive(Drop)]
 pub struct CallContext {
     pub(crate) moment: Moment,
     pub(crate) known: MobileState,
     pub(crate) answers: Answers,
+    pub(crate) kbm: Option<KeptKbm>,
 }
 
 impl Model for CallContext {
@@ -54,6 +56,7 @@ impl CallContext {
             moment: Moment(0),
             known: MobileState::new(alloc, home, declared, secrets, numbers)?,
             answers: Answers::new(alloc)?,
+            kbm: None,
         })
     }
 

@@ -1,6 +1,6 @@
 //! What a call reads of what is kept.
 
-ghost use Rattle.std.specs.Prelude.{◌≡◌, Some, length, is_some, option_map, option_copied, IfSome, ◌+◌, ◌*◌, ◌<◌, ◌≤◌, ◌^◌, IsTrue, slice_get};
+ghost use Rattle.std.specs.Prelude.{◌≡◌, Some, length, is_some, option_map, option_copied, IfSome, IfOk, ◌+◌, ◌*◌, ◌<◌, ◌≤◌, ◌^◌, IsTrue, slice_get};
 ghost use Rattle.mip_bcache.specs.Seen.{rows_at};
 ghost use Rattle.mip_words.specs.Constants.{initial_dhaad_timeout};
 ghost use Rattle.mip_bulist.specs.declared.any.Any.TheVariants.{Pending};
@@ -8,6 +8,7 @@ ghost use Rattle.mip_bulist.specs.declared.state.Pending as pending;
 ghost use Rattle.mip_bulist.specs.declared.tested.Test.{Test};
 ghost use Rattle.mip_bulist.specs.declared.trial.Trial.{Trial};
 ghost use Rattle.mip_bulist.specs.Timers.{first_due};
+ghost use Rattle.mip_bulist.specs.Trials.{IsOfTokens};
 ghost use Rattle.mip_rules_correspondent.specs.Questions.{held_of};
 ghost use Rattle.mip_rules_correspondent.specs.Rules.{holds_option};
 ghost use Rattle.mip_rules_mobile.specs.RowQuestions.{first_cookie, second_cookie, row_of, peer_of_row, trial_of, is_bound_row, is_touched_row, wait_of_row, bound_row_of};
@@ -24,6 +25,7 @@ use mip_bcache::Row;
 use mip_bulist::{Any, Made, Refused};
 use mip_mobile_state::peers;
 use mip_rules_mobile::{Attachment, HomeUpdate, Registered};
+use mip_tokens::KeptKbm;
 use mip_words::{Address, Cookie, Moment};
 
 impl CallContext {
@@ -47,6 +49,11 @@ impl CallContext {
         ensures few { result < 8 }
     {
         self.known.places % self.known.part.numbers()
+    }
+
+    /// The key of the last update, and of which tokens it is.
+    pub fn kept_kbm(&self) -> Option<&KeptKbm> {
+        self.kbm.as_ref()
     }
 
     /// The row of a peer.
@@ -129,7 +136,8 @@ impl CallContext {
 
     /// What an update of a row would be at this moment; none where its trial makes none.
     pub fn makes(&self, row: u8) -> Option<Result<Made, Refused>>
-        ensures { result ≡ makes (record { 0 = self.now.moment }) (trial_of self.now.known row) }
+        ensures made { result ≡ makes (record { 0 = self.now.moment }) (trial_of self.now.known row) }
+        ensures key { IfSome result (λ r. IfOk r IsOfTokens) }
     {
         match self.trial(row) {
             Some(Any::Proved(trial)) => Some(trial.outlook(self.moment)),

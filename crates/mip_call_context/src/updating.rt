@@ -1,4 +1,4 @@
-//! The step of a call that hands an update of a trial to the wire.
+//! The step of a call that hands an update of a trial to the wire, and what is made ready or kept beside the steps.
 
 ghost use Rattle.std.specs.Prelude.{◌≡◌, OnOk};
 ghost use Rattle.mip_rules_mobile.specs.HomeQuestions.{home_of, binding_number_of};
@@ -12,9 +12,24 @@ use crate::call_context::CallContext;
 use mip_bulist::Made;
 use mip_entries::{Answer, Entry};
 use mip_mobile_state::{peers, trial};
+use mip_tokens::KeptKbm;
 use mip_words::{Address, Bytes, MYSELF, Memory};
 
 impl CallContext {
+    /// Draws the next cookies. Nothing that a contract sees changes.
+    pub fn draw_cookies(&mut self)
+        ensures { self.new ≡ self.old }
+    {
+        self.known.part.draw_cookies(self.known.cookies);
+    }
+
+    /// Keeps the key of an update for its acknowledgement. Nothing that a contract sees changes.
+    pub fn keep_kbm(&mut self, kbm: KeptKbm)
+        ensures { self.new ≡ self.old }
+    {
+        self.kbm = Some(kbm);
+    }
+
     /// The trial of a row makes an update, and it is handed to the wire.
     pub fn put_update(
         &mut self,
@@ -34,7 +49,7 @@ impl CallContext {
             shield: None,
             packet,
         })?;
-        let _made = trial::make(&mut self.known.list, row, self.moment);
+        trial::make(&mut self.known.list, row, self.moment);
         peers::touch(&mut self.known.peers, row as usize);
         Ok(())
     }

@@ -1,3 +1,4 @@
 pub mod Soundness
 pub mod Showing
 pub mod Requirements
+pub mod Inits

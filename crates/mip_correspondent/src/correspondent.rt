@@ -20,14 +20,14 @@ ghost use Rattle.mip_correspondent.specs.Showing.{left, with_kept, Fits};
 
 use crate::accepted_binding::AcceptedBinding;
 use crate::packet_context::PacketContext;
-use crate::part::answer_message;
+use crate::part::{answer_message, init_in};
 use crate::receiving::receive;
 use crate::sending::{ask_refresh, send_data};
 use mip_bcache::{AcceptFault, Cache, Row};
 use mip_entries::Answers;
 use mip_ipv6::PacketRef;
 use mip_nonce::Secrets;
-use mip_packets::message_in;
+use mip_packets::{TestKind, init_ahead, message_in};
 use mip_rules_correspondent::{Identity, Known};
 use mip_words::{Address, Cookie, Memory, Moment, Shield};
 use std::alloc::Global;
@@ -80,6 +80,13 @@ impl Correspondent {
         ensures { result.0 ≡ cookie_of self.now.identity.secrets number }
     {
         self.identity.secrets.cookie(number)
+    }
+
+    /// Draws the cookie of this number with those beside it. Nothing that a contract sees changes.
+    pub fn draw_cookies(&mut self, number: u64)
+        ensures { self.new ≡ self.old }
+    {
+        self.identity.secrets.draw_cookies(number);
     }
 
     /// How many numbers the bindings of a home may have.
@@ -135,7 +142,19 @@ impl Correspondent {
     {
         keep(&mut self.known.cache, now, kept);
         self.known.last = now;
-        self.identity.secrets.renew(now);
+    }
+
+    /// Makes ready the token that is asked for, at the address that asks, and keeps it for the update that follows. Nothing
+    /// that a contract sees changes.
+    fn keep_token(&mut self, now: Moment, asked: Option<(TestKind, Address)>)
+        ensures { self.new ≡ self.old }
+    {
+        let secrets = &mut self.identity.secrets;
+        match asked {
+            Some((TestKind::Home, address)) => secrets.keep_home_token(now, address),
+            Some((TestKind::Careof, address)) => secrets.keep_careof_token(now, address),
+            None => (),
+        }
     }
 
     /// Takes a packet that was handed to the node, by its number and shield, and gives what the node
@@ -159,6 +178,7 @@ impl Correspondent {
         ensures err { OnErr result (self.new ≡ self.old) }
     {
         let mut answers = Answers::new(alloc)?;
+        self.keep_token(now, init_ahead(packet));
         let context = PacketContext {
             identity: &self.identity,
             cache: &self.known.cache,
@@ -190,13 +210,14 @@ impl Correspondent {
         ensures err { OnErr result (self.new ≡ self.old) }
     {
         let mut answers = Answers::new(alloc)?;
+        let message = message_in(packet);
+        self.keep_token(now, init_in(packet.head.source, &message));
         let context = PacketContext {
             identity: &self.identity,
             cache: &self.known.cache,
             moment: now,
             number,
         };
-        let message = message_in(packet);
         let kept = answer_message(alloc, &mut answers, &context, packet, &message)?;
         self.commit_call(now, kept);
         Ok(answers)

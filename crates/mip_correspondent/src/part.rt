@@ -7,6 +7,7 @@ ghost use Rattle.mip_packets.specs.Updates.{IsReadUpdate};
 ghost use Rattle.mip_reception.specs.Checks.{is_probe};
 ghost use Rattle.mip_rules_correspondent.specs.Rules.{hands_up, is_data, is_for_part, by_message};
 ghost use Rattle.mip_correspondent.specs.Showing.{Fits, Goes, Leads};
+ghost use Rattle.mip_correspondent.specs.Inits.{init_in};
 
 use crate::accepted_binding::AcceptedBinding;
 use crate::answering::hand_up;
@@ -16,9 +17,10 @@ use crate::update::take_update;
 use mip_entries::Answers;
 use mip_ipv6::PacketRef;
 use mip_mobhdr::Message;
+use mip_packets::TestKind;
 use mip_reception::registration_of;
-use mip_words::Memory;
 use mip_words::protocol::{ICMPV6, IPV6, MOBILITY_HEADER, NO_NEXT_HEADER};
+use mip_words::{Address, Memory};
 use std::alloc::Global;
 
 /// Data is what is neither a tunnel, nor ICMPv6, nor nothing, nor a mobility message.
@@ -37,6 +39,17 @@ pub fn is_for_part(proto: u8, message: &Option<Message<'_>>) -> bool
         Some(Message::HomeInit { .. } | Message::CareofInit { .. } | Message::Update { .. }) =>
             true,
         Some(_) => false,
+    }
+}
+
+/// The kind of test that a message from this source asks for, and the source.
+pub fn init_in(source: Address, message: &Option<Message<'_>>) -> Option<(TestKind, Address)>
+    ensures { result ≡ init_in source (option_map said message.now) }
+{
+    match message {
+        Some(Message::HomeInit { .. }) => Some((TestKind::Home, source)),
+        Some(Message::CareofInit { .. }) => Some((TestKind::Careof, source)),
+        _ => None,
     }
 }
 

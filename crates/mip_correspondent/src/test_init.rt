@@ -10,7 +10,6 @@ use mip_entries::Answers;
 use mip_nonce::current;
 use mip_packets::{write_careof_test, write_home_test};
 use mip_rules_correspondent::Identity;
-use mip_tokens::{careof_token, home_token};
 use mip_words::{Address, Bytes, Cookie, Memory, Moment};
 use std::alloc::Global;
 
@@ -26,7 +25,7 @@ fn home_test(
     ensures { IfOk result (λ b. b ≡ home_test me.now now.0 source cookie.0) }
 {
     let number = current(now);
-    let token = home_token(me.secrets.kcn(), source, &me.secrets.nonce(number));
+    let token = me.secrets.home_token(source, number);
     write_home_test(alloc, me.own, source, index_of(number), cookie, token)
 }
 
@@ -41,7 +40,7 @@ fn careof_test(
     ensures { IfOk result (λ b. b ≡ careof_test me.now now.0 source cookie.0) }
 {
     let number = current(now);
-    let token = careof_token(me.secrets.kcn(), source, &me.secrets.nonce(number));
+    let token = me.secrets.careof_token(source, number);
     write_careof_test(alloc, me.own, source, index_of(number), cookie, token)
 }
 

@@ -1,15 +1,15 @@
 //! The trial of a row is lifted, changed and put back.
 
 ghost use Rattle.std.specs.Prelude.{◌≡◌, true, Some};
-ghost use Rattle.mip_bulist.specs.Rows.{lifted, with_trial, takes_at, peer_of_any};
-ghost use Rattle.mip_bulist.specs.Trials.{updated, made_again, making_of};
+ghost use Rattle.mip_bulist.specs.Rows.{with_trial, takes_at, peer_of_any};
+ghost use Rattle.mip_bulist.specs.Trials.{updated, made_again};
 ghost use Rattle.mip_words.specs.declared.moment.Moment.{Moment};
 ghost use Rattle.mip_rules_mobile.specs.PeerRules.{test_at};
-ghost use Rattle.mip_rules_mobile.specs.Trials.{Start, HomeTest, CareofTest, Make, Resequence, Acknowledge, Rest, changed, with_change, after_probe, after_update, after_again, after_end, makes};
+ghost use Rattle.mip_rules_mobile.specs.Trials.{Start, HomeTest, CareofTest, Make, Resequence, Acknowledge, Rest, changed, with_change, after_probe, after_update, after_again, after_end};
 ghost use Rattle.mip_mobile_state.specs.Mine.{IsMine};
 
 use crate::heard::Heard;
-use mip_bulist::{Aim, Any, Ended, List, Made, Pending, Probe, Probing, Proved, Refused, Trial};
+use mip_bulist::{Aim, Any, Ended, List, Pending, Probe, Probing, Proved, Refused, Trial};
 use mip_words::{Cookie, Moment};
 
 /// A trial goes back to its row.
@@ -50,44 +50,37 @@ fn resequenced(any: Any, last: u16) -> Any
     }
 }
 
-/// What a first update leaves, and what comes of it.
-fn updated(trial: Trial<Proved>, now: Moment) -> (Any, Result<Made, Refused>)
-    ensures trial { result.0 ≡ after_update (updated now trial) }
-    ensures made { result.1 ≡ making_of (updated now trial) }
+/// What a first update leaves.
+#[tactic(auto, using(crate::proofs::Left::first_left))]
+fn updated(trial: Trial<Proved>, now: Moment) -> Any
+    ensures { result ≡ after_update (updated now trial) }
 {
-    match trial.update(now) {
-        Ok((trial, made)) => (Any::Pending(trial), Ok(made)),
-        Err((trial, refused)) => (Any::Proved(trial), Err(refused)),
+    match trial.advance(now) {
+        Ok(trial) => Any::Pending(trial),
+        Err((trial, _refused)) => Any::Proved(trial),
     }
 }
 
-/// What a later update leaves, and what comes of it.
-fn made_again(trial: Trial<Pending>, now: Moment) -> (Any, Result<Made, Refused>)
-    ensures trial { result.0 ≡ after_again (made_again now trial) }
-    ensures made { result.1 ≡ making_of (made_again now trial) }
+/// What a later update leaves.
+#[tactic(auto, using(crate::proofs::Left::later_left))]
+fn made_again(trial: Trial<Pending>, now: Moment) -> Any
+    ensures { result ≡ after_again (made_again now trial) }
 {
-    match trial.again(now) {
-        Ok((trial, made)) => (Any::Pending(trial), Ok(made)),
-        Err((trial, refused)) => (Any::Pending(trial), Err(refused)),
+    match trial.advance(now) {
+        Ok(trial) => Any::Pending(trial),
+        Err((trial, _refused)) => Any::Pending(trial),
     }
 }
 
-/// What making an update leaves, and what comes of it; none where the trial makes none.
+/// What making an update leaves.
 #[tactic(auto, unfolding(mip_rules_mobile::specs::Trials::changed))]
-fn made(any: Any, now: Moment) -> (Any, Option<Result<Made, Refused>>)
-    ensures trial { result.0 ≡ changed now Make any }
-    ensures made { result.1 ≡ makes now (Some any) }
+fn made(any: Any, now: Moment) -> Any
+    ensures { result ≡ changed now Make any }
 {
     match any {
-        Any::Proved(trial) => {
-            let (any, made) = updated(trial, now);
-            (any, Some(made))
-        }
-        Any::Pending(trial) => {
-            let (any, made) = made_again(trial, now);
-            (any, Some(made))
-        }
-        other => (other, None),
+        Any::Proved(trial) => updated(trial, now),
+        Any::Pending(trial) => made_again(trial, now),
+        other => other,
     }
 }
 
@@ -229,18 +222,13 @@ pub fn acknowledge(list: &mut List, row: u8, sequence: u16, granted: u16)
     }
 }
 
-/// The trial of a row makes an update; none where it makes none.
-pub fn make(list: &mut List, row: u8, now: Moment) -> Option<Result<Made, Refused>>
+/// The trial of a row makes an update, if it may.
+pub fn make(list: &mut List, row: u8, now: Moment)
     requires { IsMine list.old.rows row }
-    ensures made { result ≡ makes now (lifted row list.old.rows) }
-    ensures list { list.new ≡ record list.old { rows = with_change row now Make list.old.rows } }
+    ensures { list.new ≡ record list.old { rows = with_change row now Make list.old.rows } }
 {
     match list.lift(row) {
-        Some(any) => {
-            let (any, made) = made(any, now);
-            lay(list, row, any);
-            made
-        }
-        None => None,
+        Some(any) => lay(list, row, made(any, now)),
+        None => (),
     }
 }

@@ -2,6 +2,8 @@
 //! (RFC 6275 sections 5.2.1, 5.2.2 and 5.2.5).
 #![tactic(auto)]
 
+mod cookie_row;
+mod kept_token;
 mod secrets;
 mod source;
 mod window;

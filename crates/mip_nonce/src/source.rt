@@ -1,7 +1,8 @@
-ghost use Rattle.std.specs.Prelude.{◌≡◌, ◌<◌, ◌^◌};
-ghost use Rattle.rand_chacha.specs.ChaCha.{key_of};
-ghost use Rattle.mip_nonce.specs.Secrets.{stream_of, kcn_of, nonce_of, cookie_of};
+ghost use Rattle.std.specs.Prelude.{◌≡◌, ◌+◌, ◌*◌, ◌<◌, ◌^◌};
+ghost use Rattle.rand_chacha.specs.ChaCha.{key_of, word_at};
+ghost use Rattle.mip_nonce.specs.Secrets.{stream_of, kcn_of, nonce_of, cookie_of, AreCookies};
 
+use crate::cookie_row::ROW;
 use mip_words::{Cookie, NodeId};
 use rand_chacha::ChaCha20Rng;
 use rand_core::SeedableRng;
@@ -68,9 +69,19 @@ impl Source {
         ensures { result.0 ≡ cookie_of self.now number }
     {
         let mut words = self.words(2, 2 * number as u128);
-        let high = words.next_word() as u64;
-        let low = words.next_word() as u64;
-        Cookie(high * 0x1_0000_0000 + low)
+        Cookie(next_cookie(&mut words))
+    }
+
+    /// Cookies one behind the other, from the one that a life draws after this many others.
+    pub fn cookies(&self, first: u64) -> [u64; ROW]
+        ensures { AreCookies self.now first result }
+    {
+        let mut words = self.words(2, 2 * first as u128);
+        let mut cookies = [0; ROW];
+        for i in 0..ROW {
+            cookies[i] = next_cookie(&mut words);
+        }
+        cookies
     }
 
     /// The words of a kind of secret, from a place on.
@@ -85,4 +96,15 @@ impl Source {
         words.set_word_pos(place);
         words
     }
+}
+
+/// The next two words as one number, the first word its high half.
+fn next_cookie(words: &mut ChaCha20Rng) -> u64
+    requires { words.old.word_pos + 2 < 2 ^ 68 }
+    ensures value { result ≡ word_at 10 words.old.key words.old.stream words.old.word_pos * 2 ^ 32 + word_at 10 words.old.key words.old.stream (words.old.word_pos + 1) }
+    ensures words { words.new ≡ record words.old { word_pos = words.old.word_pos + 2 } }
+{
+    let high = words.next_word() as u64;
+    let low = words.next_word() as u64;
+    high * 0x1_0000_0000 + low
 }

@@ -5,3 +5,4 @@ pub mod Says
 pub mod Updates
 pub mod Written
 pub mod Keys
+pub mod Ahead

@@ -3,6 +3,7 @@
 //! the kind.
 #![tactic(auto)]
 
+mod ahead;
 mod authenticated_packet;
 mod carried;
 mod data_packet;
@@ -17,6 +18,7 @@ mod round_trip;
 mod test_kind;
 mod update_identity;
 
+pub use ahead::init_ahead;
 pub use authenticated_packet::write_authenticated_packet;
 pub use carried::Carried;
 pub use data_packet::write_data_packet;

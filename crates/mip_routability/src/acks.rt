@@ -1,9 +1,11 @@
 //! What a mobile does about the acknowledgements of a peer (RFC 6275 section 11.7.3).
 
-ghost use Rattle.std.specs.Prelude.{◌≡◌, ◌<◌, ◌^◌, OnOk, Some};
+ghost use Rattle.std.specs.Prelude.{◌≡◌, ◌<◌, ◌^◌, OnOk, IfSome, Some};
 ghost use Rattle.mip_bulist.specs.declared.any.Any.TheVariants as any;
 ghost use Rattle.mip_bulist.specs.declared.state.Pending as pending;
 ghost use Rattle.mip_bulist.specs.declared.trial.Trial.{Trial};
+ghost use Rattle.mip_tokens.specs.Token.{authenticator_of, kbm_of_tokens};
+ghost use Rattle.mip_rules_mobile.specs.Trials.{last_made};
 ghost use Rattle.mip_rules_mobile.specs.HomeQuestions.{home_of};
 ghost use Rattle.mip_rules_mobile.specs.RowQuestions.{trial_of};
 ghost use Rattle.mip_rules_mobile.specs.PeerRules.{tells_of_nonces, is_genuine, is_trusted, acknowledges, binds_from, ends_for, is_granted, takes_peer_ack, acks_trial, takes_ack_of};
@@ -18,9 +20,9 @@ use crate::waiting::Waiting;
 use mip_bulist::{Any, Pending, Trial, Work};
 use mip_call_context::CallContext;
 use mip_reception::status;
-use mip_tokens::{PreparedKbm, authenticator};
+use mip_tokens::{KeptKbm, PreparedKbm, authenticator};
 use mip_words::constants::{INITIAL_BINDACK_TIMEOUT, LIFETIME_UNIT};
-use mip_words::{Address, Memory, Moment, Why};
+use mip_words::{Address, Memory, Moment, Token, Why};
 use std::alloc::Global;
 
 /// A binding or a registration is refreshed when three quarters of its lifetime have passed: for each unit of 4 s, so
@@ -60,7 +62,7 @@ fn ack_row(
     let home = context.home();
     let sent = context.sent_at(row);
     match context.trial(row) {
-        Some(Any::Pending(trial)) if acknowledges(home, ack, trial) => {
+        Some(Any::Pending(trial)) if acknowledges(home, ack, trial, context.kept_kbm()) => {
             let waiting = Waiting::of(trial, sent);
             take_peer_ack(alloc, context, row, &waiting, ack)
         }
@@ -77,32 +79,69 @@ fn tells_of_nonces(status: u8) -> bool
 
 /// The authenticator is that of the last update: between the address that it binds, where it deletes the home address,
 /// and the peer.
-fn is_genuine(home: Address, trial: &Trial<Pending>, message: &[u8]) -> bool
+fn is_genuine(home: Address, trial: &Trial<Pending>, message: &[u8], kept: Option<&KeptKbm>) -> bool
     ensures { result ≡ is_genuine home trial.now message.now }
 {
     let careof = trial.binds_to().unwrap_or(home);
     let place = message.len().saturating_sub(12);
-    let kbm = PreparedKbm::new(trial.last_made().kbm);
-    message[place..] == authenticator(&kbm, careof, trial.peer(), message)[..]
+    message[place..] == authenticator_of(careof, trial, message, kept)[..]
+}
+
+/// The authenticator under the key of the trial's updates, which is kept where no other update was made since.
+fn authenticator_of(
+    careof: Address,
+    trial: &Trial<Pending>,
+    message: &[u8],
+    kept: Option<&KeptKbm>,
+) -> [u8; 12]
+    ensures { result ≡ authenticator_of (last_made trial.now).kbm.0 careof trial.now.peer message.now }
+{
+    let (home, other) = trial.tokens();
+    match key_of(kept, home, other) {
+        Some(kbm) => authenticator(kbm, careof, trial.peer(), message),
+        None => {
+            let kbm = PreparedKbm::new(trial.last_made().kbm);
+            authenticator(&kbm, careof, trial.peer(), message)
+        }
+    }
+}
+
+/// The key of these tokens, where it is kept.
+fn key_of(kept: Option<&KeptKbm>, home: Token, careof: Option<Token>) -> Option<&PreparedKbm>
+    ensures { IfSome result (λ k. k.now.0 ≡ kbm_of_tokens home careof) }
+{
+    match kept {
+        Some(kept) => kept.of(home, careof),
+        None => None,
+    }
 }
 
 /// The acknowledgement is authentic, or tells of expired nonces without an authenticator.
-fn is_trusted(home: Address, trial: &Trial<Pending>, ack: &PeerAck<'_>) -> bool
+fn is_trusted(
+    home: Address,
+    trial: &Trial<Pending>,
+    ack: &PeerAck<'_>,
+    kept: Option<&KeptKbm>,
+) -> bool
     ensures { result ≡ is_trusted home trial.now ack.now.status ack.now.authenticator ack.now.message.now }
 {
     match ack.authenticator {
-        Some(_) => is_genuine(home, trial, ack.message),
+        Some(_) => is_genuine(home, trial, ack.message, kept),
         None => tells_of_nonces(ack.status),
     }
 }
 
 /// An acknowledgement of the last update: trusted, with its sequence or status 135.
-fn acknowledges(home: Address, ack: &PeerAck<'_>, trial: &Trial<Pending>) -> bool
+fn acknowledges(
+    home: Address,
+    ack: &PeerAck<'_>,
+    trial: &Trial<Pending>,
+    kept: Option<&KeptKbm>,
+) -> bool
     ensures { result ≡ acknowledges home ack.now.status ack.now.sequence ack.now.authenticator ack.now.message.now trial.now }
 {
-    is_trusted(home, trial, ack)
-        && (ack.sequence == trial.last_made().sequence
-            || ack.status == status::SEQUENCE_OUT_OF_WINDOW)
+    is_trusted(home, trial, ack, kept)
+        && (ack.sequence == trial.last_sequence() || ack.status == status::SEQUENCE_OUT_OF_WINDOW)
 }
 
 /// Status 135: the next sequence comes after the one received, and the sending follows at once; 136 to 138: the trial

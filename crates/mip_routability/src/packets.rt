@@ -24,15 +24,17 @@ pub fn write_update(
     peer: Address,
     number: u8,
     made: &Made,
+    kbm: &PreparedKbm,
 ) -> Result<Bytes, Memory>
     requires home { IsTrue (is_routable home.0) }
     requires few { number < 8 }
+    requires key { kbm.now ≡ made.now.kbm }
     ensures { IfOk result (λ b. b ≡ update_packet (record { home = home; source = source; peer = peer; number = number; made = made.now })) }
 {
     if made.careof.is_some() {
-        write_binding(alloc, home, source, peer, number, made)
+        write_binding(alloc, home, source, peer, number, made, kbm)
     } else {
-        write_deletion(alloc, home, source, peer, number, made)
+        write_deletion(alloc, home, source, peer, number, made, kbm)
     }
 }
 
@@ -44,21 +46,16 @@ fn write_binding(
     peer: Address,
     number: u8,
     made: &Made,
+    kbm: &PreparedKbm,
 ) -> Result<Bytes, Memory>
     requires home { IsTrue (is_routable home.0) }
     requires few { number < 8 }
+    requires key { kbm.now ≡ made.now.kbm }
     ensures { IfOk result (λ b. b ≡ update_bytes (record { home = home; source = source; peer = peer; number = number; made = made.now }) true) }
 {
     let head = node_head(source, peer, None, Some(home), MOBILITY_HEADER);
     let message = update_of(made, number_option(number), MAX_RR_BINDING_LIFETIME);
-    write_authenticated_packet(
-        alloc,
-        &head,
-        &message,
-        &PreparedKbm::new(made.kbm),
-        source,
-        peer,
-    )
+    write_authenticated_packet(alloc, &head, &message, kbm, source, peer)
 }
 
 /// An update that deletes the binding, from home, whatever the number of the place.
@@ -69,19 +66,14 @@ fn write_deletion(
     peer: Address,
     number: u8,
     made: &Made,
+    kbm: &PreparedKbm,
 ) -> Result<Bytes, Memory>
+    requires { kbm.now ≡ made.now.kbm }
     ensures { IfOk result (λ b. b ≡ update_bytes (record { home = home; source = source; peer = peer; number = number; made = made.now }) false) }
 {
     let head = straight(source, peer, MOBILITY_HEADER);
     let message = update_of(made, None, 0);
-    write_authenticated_packet(
-        alloc,
-        &head,
-        &message,
-        &PreparedKbm::new(made.kbm),
-        source,
-        peer,
-    )
+    write_authenticated_packet(alloc, &head, &message, kbm, source, peer)
 }
 
 /// The Binding Number by which a number is asked for: none asks for 0.

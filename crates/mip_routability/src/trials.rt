@@ -4,6 +4,7 @@ ghost use Rattle.std.specs.Prelude.{◌≡◌, ◌<◌, ◌^◌, OnOk, Some};
 ghost use Rattle.mip_rules_mobile.specs.declared.attachment.Attachment.TheVariants.{AtHome, Away};
 ghost use Rattle.mip_rules_mobile.specs.HomeQuestions.{home_of};
 ghost use Rattle.mip_rules_mobile.specs.RowQuestions.{trial_of, wait_of_row};
+ghost use Rattle.mip_bulist.specs.Trials.{IsOfTokens};
 ghost use Rattle.mip_rules_mobile.specs.Trials.{makes};
 ghost use Rattle.mip_rules_mobile.specs.TrialRules.{starts_with, starts, source_for, sends_update, makes_with, updates, asks_home, asks_careof, goes_on, resends_at, resends_row};
 ghost use Rattle.mip_rules_mobile.specs.Sendings.{AsksCareof};
@@ -17,6 +18,7 @@ use mip_bulist::{Aim, Any, Made, Refused};
 use mip_call_context::{CallContext, ask_home, doubled};
 use mip_packets::write_careof_init;
 use mip_rules_mobile::Attachment;
+use mip_tokens::KeptKbm;
 use mip_words::constants::{INITIAL_BINDACK_TIMEOUT, MAX_BINDACK_TIMEOUT};
 use mip_words::{Address, Cookie, Memory};
 use std::alloc::Global;
@@ -26,7 +28,10 @@ pub fn start(alloc: Global, context: &mut CallContext, row: u8) -> Result<(), Me
     ensures { (t : Transition) → Shows context.old t → OnOk result (Shows context.new (starts row t)) }
 {
     match context.peer_of_row(row) {
-        Some(peer) => start_with(alloc, context, row, peer),
+        Some(peer) => {
+            context.draw_cookies();
+            start_with(alloc, context, row, peer)
+        }
         None => Ok(()),
     }
 }
@@ -143,6 +148,7 @@ fn send_made(
 ) -> Result<(), Memory>
     requires range { row < 16 }
     requires early { wait < 2 ^ 32 }
+    requires key { IsOfTokens made.now }
     ensures { (t : Transition) → Shows context.old t
         → OnOk result (Shows context.new (sends_update (source_for t.known.standing (home_of t.known) made.now) row peer made.now wait t)) }
 {
@@ -174,8 +180,10 @@ fn send_update(
 ) -> Result<(), Memory>
     requires range { row < 16 }
     requires early { wait < 2 ^ 32 }
+    requires key { IsOfTokens made.now }
     ensures { (t : Transition) → Shows context.old t → OnOk result (Shows context.new (sends_update (Some source) row peer made.now wait t)) }
 {
+    let kbm = KeptKbm::new(made.home, made.careof, made.kbm);
     let packet = write_update(
         alloc,
         context.home(),
@@ -183,8 +191,10 @@ fn send_update(
         peer,
         context.binding_number(),
         made,
+        kbm.key(),
     )?;
     context.put_update(row, source, peer, made, packet)?;
+    context.keep_kbm(kbm);
     context.wait_row(row, wait);
     Ok(())
 }

@@ -1,9 +1,10 @@
 -- Keygen tokens, the binding management key and the authenticator of an update.
 -- RFC 6275 sections 5.2.5, 5.2.6 and 6.2.7
-use Rattle.std.specs.Prelude.{◌≡◌, ℕ, ◌-◌, Bool, List, [], ◌∷◌, ◌++◌, length, take, drop, slice_range}
+use Rattle.std.specs.Prelude.{◌≡◌, ℕ, ◌-◌, Bool, Option, Some, None, List, [], ◌∷◌, ◌++◌, length, take, drop, slice_range}
 use Rattle.std.specs.Str.{bytes_eq}
 use Rattle.mip_words.specs.Addresses.{address_bytes}
 use Rattle.mip_words.specs.declared.address.Address.{Address}
+use Rattle.mip_words.specs.declared.token.Token.{Token}
 use Rattle.mip_tokens.specs.Hmac.{hmac_sha1}
 use Rattle.sha1.specs.Sha1.{sha1}
 
@@ -24,6 +25,11 @@ kbm_both_of home careof = sha1 (home ++ careof)
 -- Kbm = SHA1(home keygen token), where the update deletes the binding
 unfoldable pub kbm_home_of : List ℕ → List ℕ
 kbm_home_of home = sha1 home
+
+-- Kbm of the tokens of an update; one that has no care-of token deletes
+abbrev pub kbm_of_tokens : Token → Option Token → List ℕ
+kbm_of_tokens home None = kbm_home_of home.0
+kbm_of_tokens home (Some careof) = kbm_both_of home.0 careof.0
 
 -- what an authenticator covers of a message that ends with it: all but its 12 bytes, with the
 -- checksum (bytes 4 and 5) zero

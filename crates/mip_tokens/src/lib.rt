@@ -4,6 +4,7 @@
 
 mod authorization;
 mod kbm;
+mod kept_kbm;
 mod keyed;
 mod keygen;
 mod prepared_kbm;
@@ -11,6 +12,7 @@ mod prepared_key;
 
 pub use authorization::{authentic, authenticator, covered};
 pub use kbm::Kbm;
+pub use kept_kbm::KeptKbm;
 pub use keyed::{hmac, hmac_of_parts};
 pub use keygen::{careof_token, home_token};
 pub use prepared_kbm::PreparedKbm;

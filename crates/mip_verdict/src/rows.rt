@@ -11,7 +11,7 @@ use mip_mobhdr::Indices;
 use mip_nonce::{Secrets, by_index};
 use mip_reception::{Registration, careof_of, deletes, home_of, registered_of, status};
 use mip_rules_correspondent::Verdict;
-use mip_tokens::{Kbm, PreparedKbm, authentic, careof_token, home_token};
+use mip_tokens::{Kbm, PreparedKbm, authentic};
 use mip_words::constants::{LIFETIME_UNIT, MAX_RR_BINDING_LIFETIME};
 use mip_words::{Address, Moment, Why, after};
 
@@ -136,16 +136,13 @@ fn by_key(
 fn kbm_of(judge: &Judge<'_>, registration: &Registration, home: u64, careof: Option<u64>) -> Kbm
     ensures { result ≡ kbm_of (bench_of judge.now registration.now) registration.now home careof }
 {
-    let kcn = judge.secrets.kcn();
-    let home_token = home_token(kcn, home_of(registration), &judge.secrets.nonce(home));
+    let secrets = judge.secrets;
+    let home_token = secrets.home_token(home_of(registration), home);
     match careof {
         None => Kbm::home(home_token),
         Some(careof) => {
-            let nonce = judge.secrets.nonce(careof);
-            Kbm::both(
-                home_token,
-                careof_token(kcn, careof_of(registration), &nonce),
-            )
+            let token = secrets.careof_token(careof_of(registration), careof);
+            Kbm::both(home_token, token)
         }
     }
 }

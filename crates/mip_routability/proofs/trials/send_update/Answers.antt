@@ -6,7 +6,7 @@ use Rattle.mip_rules_mobile.specs.HomeQuestions.{home_of, binding_number_of}
 use Rattle.mip_rules_mobile.specs.Steps.{Updates, Waits}
 use Rattle.mip_rules_mobile.specs.Known.{Known}
 use Rattle.mip_rules_mobile.specs.Transitions.{noted}
-use Rattle.mip_call_context.specs.Seen.{Shows}
+use Rattle.mip_call_context.specs.Seen.{ContextSeen, Shows}
 use Rattle.mip_call_context.proofs.Noted.{shows-known}
 use Rattle.mip_routability.proofs.trials.send_update.Goals as goal
 
@@ -18,6 +18,6 @@ returns c = λ t shows.
     c.in_ok-packet.ensures
     ∙ ap (λ (h : Address). update_packet (update h c.binding_number.result)) c.home.ensures.value
     ∙ ap (λ (n : ℕ). update_packet (update (home_of k) n)) c.binding_number.ensures.value in
-    let sent = c.in_ok-put_update.ensures t told shows in
+    let sent = subst (λ (d : ContextSeen). Shows d (noted (Updates c.args.row (update (home_of k) (binding_number_of k))) t)) (sym c.keep_kbm.ensures) (c.in_ok-put_update.ensures t told shows) in
     subst (λ (k : Known). Shows c.wait_row.new.self (noted (Waits (Resend c.args.row) c.args.wait) (noted (Updates c.args.row (update (home_of k) (binding_number_of k))) t))) (sym (shows-known c.args.context.now t shows))
     (c.wait_row.ensures _ sent)

@@ -27,8 +27,8 @@ invariant_of-self-2 c = record {
   early = c.self.invariant.early;
   later = c.self.invariant.later;
   home = c.self.invariant.home;
-  mine = subst (λ (l : ListSeen). AreMine l.rows) (sym c.make-made.ensures.list) (mine-changed c.self.inside.known.list.rows c.args.row c.self.inside.moment Make c.self.invariant.mine);
-  sent = subst (λ (l : ListSeen). AreEarly l.rows) (sym c.make-made.ensures.list) (early-changed c.self.inside.known.list.rows c.args.row c.self.inside.moment Make c.self.invariant.early c.self.invariant.sent);
+  mine = subst (λ (l : ListSeen). AreMine l.rows) (sym c.make.ensures) (mine-changed c.self.inside.known.list.rows c.args.row c.self.inside.moment Make c.self.invariant.mine);
+  sent = subst (λ (l : ListSeen). AreEarly l.rows) (sym c.make.ensures) (early-changed c.self.inside.known.list.rows c.args.row c.self.inside.moment Make c.self.invariant.early c.self.invariant.sent);
   registered = c.self.invariant.registered;
 }
 
@@ -42,5 +42,5 @@ returns c = λ t packet shows.
     ∙ ap (λ (l : List Answer). l ++ Send None c.args.packet ∷ []) (c.in_ok-push.ensures.ok ∙ ap (λ (e : Entry). c.self.inside.answers ++ Note e ∷ []) c.made_entry.ensures)
     ∙ append_assoc c.self.inside.answers (made ∷ []) (Send None c.args.packet ∷ [])
     ∙ ap (λ (p : List ℕ). c.self.inside.answers ++ made ∷ Send None p ∷ []) packet)
-    (ap (λ (p : List Peer). record (seen c.self.inside.known) { list = c.make-made.new.list; peers = p }) c.touch.ensures
-    ∙ ap (λ (l : ListSeen). record (seen c.self.inside.known) { list = l; peers = with_peer c.args.row touched c.self.inside.known.peers }) c.make-made.ensures.list) shows
+    (ap (λ (p : List Peer). record (seen c.self.inside.known) { list = c.make.new.list; peers = p }) c.touch.ensures
+    ∙ ap (λ (l : ListSeen). record (seen c.self.inside.known) { list = l; peers = with_peer c.args.row touched c.self.inside.known.peers }) c.make.ensures) shows

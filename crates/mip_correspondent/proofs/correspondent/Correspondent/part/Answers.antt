@@ -14,7 +14,7 @@ use Rattle.mip_rules_correspondent.specs.Transitions.{Stands, with_transition}
 use Rattle.mip_rules_correspondent.specs.Seen.{CorrespondentSeen, transition_at}
 use Rattle.mip_rules_correspondent.proofs.Calls.{call-stands}
 use Rattle.mip_rules_correspondent.proofs.Refusals.{refused-call}
-use Rattle.mip_correspondent.specs.Showing.{Shows, with_kept}
+use Rattle.mip_correspondent.specs.Showing.{left, Shows, with_kept}
 use Rattle.mip_correspondent.proofs.CallTransitions.{Ends, ends}
 use Rattle.mip_correspondent.proofs.correspondent.Correspondent.part.Goals as goal
 
@@ -22,11 +22,12 @@ ended : (c : goal.After-commit_call) → Ends c.args.self.now c.commit_call.new.
 unfolding parts
 ended c =
     let inside : CorrespondentSeen = record { identity = c.self.inside.identity; known = c.self.inside.known } in
+    let kept = λ (s : CorrespondentSeen). (let t : CorrespondentSeen = record { identity = s.identity; known = left c.args.now.0 (with_kept c.args.now.0 c.in_ok-kept.kept s.known.cache) } in t) in
     ends c.args.self.now inside c.commit_call.new.self c.args.now.0 (calls.Part c.args.number (tree c.args.packet.now)) c.in_ok-answers.answers
-    (λ (cache : CacheSeen). with_kept c.args.now.0 c.in_ok-kept.kept cache) c.answer_message.new.answers refl c.in_ok-answers.ensures c.self.view_is
+    (λ (cache : CacheSeen). with_kept c.args.now.0 c.in_ok-kept.kept cache) c.answer_message.new.answers refl c.in_ok-answers.ensures (c.self.view_is ∙ c.keep_token.ensures)
     (λ t begins. subst (λ (m : Option Said). Shows c.args.now.0 (with_kept c.args.now.0 c.in_ok-kept.kept inside.known.cache) c.answer_message.new.answers (by_message inside.identity c.args.number (tree c.args.packet.now) m t))
     c.message_in-message.ensures.value (c.in_ok-kept.ensures.shows t begins))
-    c.commit_call.ensures
+    (c.commit_call.ensures ∙ ap kept c.keep_token.ensures)
 
 pub returns-clause-answers : goal.returns-clause-answers
 returns-clause-answers c = (ended c).answered

@@ -10,17 +10,18 @@ use Rattle.mip_rules_correspondent.specs.Transitions.{Stands, with_transition}
 use Rattle.mip_rules_correspondent.specs.Seen.{CorrespondentSeen, transition_at}
 use Rattle.mip_rules_correspondent.proofs.Calls.{call-stands}
 use Rattle.mip_rules_correspondent.proofs.Refusals.{refused-call}
-use Rattle.mip_correspondent.specs.Showing.{with_kept}
+use Rattle.mip_correspondent.specs.Showing.{left, with_kept}
 use Rattle.mip_correspondent.proofs.CallTransitions.{Ends, ends}
 use Rattle.mip_correspondent.proofs.correspondent.Correspondent.take.Goals as goal
 
 ended : (c : goal.After-commit_call) → Ends c.args.self.now c.commit_call.new.self c.receive.new.answers c.args.now.0 (calls.Take c.args.number c.args.shield c.args.packet.now)
 unfolding takes
 ended c =
+    let kept = λ (s : CorrespondentSeen). (let t : CorrespondentSeen = record { identity = s.identity; known = left c.args.now.0 (with_kept c.args.now.0 c.in_ok-kept.kept s.known.cache) } in t) in
     ends c.args.self.now (record { identity = c.self.inside.identity; known = c.self.inside.known }) c.commit_call.new.self c.args.now.0 (calls.Take c.args.number c.args.shield c.args.packet.now) c.in_ok-answers.answers
-    (λ (cache : CacheSeen). with_kept c.args.now.0 c.in_ok-kept.kept cache) c.receive.new.answers refl c.in_ok-answers.ensures c.self.view_is
+    (λ (cache : CacheSeen). with_kept c.args.now.0 c.in_ok-kept.kept cache) c.receive.new.answers refl c.in_ok-answers.ensures (c.self.view_is ∙ c.keep_token.ensures)
     (λ t begins. c.in_ok-kept.ensures.shows t begins)
-    c.commit_call.ensures
+    (c.commit_call.ensures ∙ ap kept c.keep_token.ensures)
 
 pub returns-clause-answers : goal.returns-clause-answers
 returns-clause-answers c = (ended c).answered
