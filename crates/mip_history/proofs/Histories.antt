@@ -1,5 +1,5 @@
 -- What is known of every permitted history.
-use Rattle.std.proofs.Common.{◌≡◌, ℕ, ◌+◌, ◌<◌, ◌≤◌, List, [], ◌∷◌, ◌++◌, length, Bool, true, ap, ◌∙◌, subst, arith}
+use Rattle.std.proofs.Common.{false, ◌≡◌, ℕ, ◌+◌, ◌<◌, ◌≤◌, List, [], ◌∷◌, ◌++◌, length, Bool, true, ap, ◌∙◌, subst, arith}
 use Rattle.std.specs.Prelude.{Option, Some, option_map, slice_get}
 use Rattle.std.specs.List.{sum_by}
 use Rattle.mip_words.specs.declared.address.Address.{Address}
@@ -31,9 +31,12 @@ use Rattle.mip_history.specs.Knowing.{known_in, now_in, secrets_in, mobile_known
 use Rattle.mip_history.specs.Permitted.{opening_claims, run_of, permitted}
 use Rattle.mip_history.specs.Passing.{waited_by, restarted_by}
 use Rattle.mip_history.specs.Bound.{accepted_by, held_in, held_under_in, packet_in, packets_of, is_accepted, HasAccepted, IsBound, IsBoundUnder}
+use Rattle.mip_history.specs.Shields.{is_shielded_in, IsHeardBare}
 use Rattle.mip_history.proofs.Runs.{Meets, IsPast}
 use Rattle.mip_history.proofs.Numbered.{packet_numbered}
 use Rattle.mip_history.proofs.Events.{run_passes}
+use Rattle.mip_history.proofs.Numbers.{IsNumbered, run_numbers}
+use Rattle.mip_history.proofs.Shields.{heard_bare}
 use Rattle.mip_history.proofs.Bindings.{held_is_bound, under_is_bound}
 
 -- a fact of each entry holds of a front
@@ -48,6 +51,15 @@ permitted_each c = (run_passes (setup_of c) c.events).run.kept.each
 meets_at : (c : Content) (before : List Entry) (e : Entry) (after : List Entry) → permitted c ≡ before ++ e ∷ after → Meets (setup_of c) before e
 meets_at c before e after whole =
     each_at (Meets (setup_of c)) [] before e after (subst (λ (l : List Entry). EachAfter (Meets (setup_of c)) [] l) whole (permitted_each c))
+
+numbered_at : (c : Content) (before : List Entry) (e : Entry) (after : List Entry) → permitted c ≡ before ++ e ∷ after → IsNumbered before e
+unfolding permitted
+numbered_at c before e after whole = each_at IsNumbered [] before e after (subst (λ (l : List Entry). EachAfter IsNumbered [] l) whole (run_numbers (setup_of c) c.events).each)
+
+pub permitted_heard_bare : (c : Content) (before : List Entry) (number outsider : ℕ) (after : List Entry) → permitted c ≡ before ++ entries.Heard number outsider ∷ after → is_shielded_in before number ≡ Some false
+unfolding permitted
+permitted_heard_bare c before number outsider after whole =
+    each_at IsHeardBare [] before (entries.Heard number outsider) after (subst (λ (l : List Entry). EachAfter IsHeardBare [] l) whole (heard_bare (setup_of c) c.events))
 
 pub permitted_held : (c : Content) (before after : List Entry) (n home careof : ℕ) → permitted c ≡ before ++ after → held_in (setup_of c) before n home ≡ Some careof
     → IsBound (setup_of c) before n home careof
@@ -71,11 +83,11 @@ permitted_at c before moment after whole = meets_at c before (entries.At moment)
 
 pub permitted_sent : (c : Content) (before : List Entry) (number : ℕ) (node : NodeId) (shielded : Bool) (packet : List ℕ) (after : List Entry)
     → permitted c ≡ before ++ entries.Sent number node shielded packet ∷ after → number ≡ length (packets_of before)
-permitted_sent c before number node shielded packet after whole = meets_at c before (entries.Sent number node shielded packet) after whole
+permitted_sent c before number node shielded packet after whole = numbered_at c before (entries.Sent number node shielded packet) after whole
 
 pub permitted_injected : (c : Content) (before : List Entry) (number outsider : ℕ) (link : LinkId) (packet : List ℕ) (after : List Entry)
     → permitted c ≡ before ++ entries.Injected number outsider link packet ∷ after → number ≡ length (packets_of before)
-permitted_injected c before number outsider link packet after whole = meets_at c before (entries.Injected number outsider link packet) after whole
+permitted_injected c before number outsider link packet after whole = numbered_at c before (entries.Injected number outsider link packet) after whole
 
 pub permitted_found : (c : Content) (k : ℕ) → packet_in (permitted c) k ≡ slice_get (packets_of (permitted c)) k
 permitted_found c k = packet_numbered (setup_of c) (permitted c) k (permitted_each c)
@@ -90,10 +102,10 @@ permitted_lives c n = (run_passes (setup_of c) c.events).life n ∙ omega arith
 
 -- packets are heard and handed over when they have been posted
 pub permitted_heard : (c : Content) (before : List Entry) (number outsider : ℕ) (after : List Entry) → permitted c ≡ before ++ entries.Heard number outsider ∷ after → number < length (packets_of before)
-permitted_heard c before number outsider after whole = meets_at c before (entries.Heard number outsider) after whole
+permitted_heard c before number outsider after whole = numbered_at c before (entries.Heard number outsider) after whole
 
 pub permitted_handed : (c : Content) (before : List Entry) (number : ℕ) (node : NodeId) (after : List Entry) → permitted c ≡ before ++ entries.Handed number node ∷ after → number < length (packets_of before)
-permitted_handed c before number node after whole = meets_at c before (entries.Handed number node) after whole
+permitted_handed c before number node after whole = numbered_at c before (entries.Handed number node) after whole
 
 -- addresses are claimed when they are free
 pub permitted_claimed : (c : Content) (before : List Entry) (who : ℕ) (link : LinkId) (address : Address) (after : List Entry) → permitted c ≡ before ++ entries.Claimed who link address ∷ after

@@ -4,6 +4,7 @@ pub mod Posts
 mod Claiming
 mod Residents
 mod Answering
+pub mod Effects
 mod Transitions
 pub mod Numbered
 mod Handing
@@ -27,6 +28,11 @@ mod Kept
 mod SameUpdates
 mod Repeats
 pub mod Keeping
+pub mod Changes
+pub mod Folds
+mod PostRecords
+mod Numbers
+mod Shields
 pub mod Walking
 mod Homed
 mod Homing

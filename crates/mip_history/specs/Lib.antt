@@ -22,3 +22,4 @@ pub mod Again
 pub mod Registered
 pub mod Naming
 pub mod Shown
+pub mod Shields

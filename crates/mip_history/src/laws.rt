@@ -34,6 +34,7 @@ ghost use Rattle.mip_history.specs.Passing.{waited_by, restarted_by};
 ghost use Rattle.mip_history.specs.Again.{RepeatsAfterRounds};
 ghost use Rattle.mip_history.specs.Naming.{IsDeclared};
 ghost use Rattle.mip_history.specs.Nodes.{rows_by_kind};
+ghost use Rattle.mip_history.specs.Shields.{is_shielded_in};
 ghost use Rattle.mip_history.specs.Shown.{kept_to, IsLastAcceptance};
 ghost use Rattle.mip_history.specs.Registered.{is_agent_at, registration_entry, last_registration, registered_in, IsRegistration, IsRegistered, HomeChange};
 ghost use Rattle.mip_history.specs.Bound.{accepted_by, held_in, held_under_in, packet_in, packets_of, accepted_entry, is_accepted, is_restart_of, is_accepted_for, HasAccepted, IsBound, IsBoundUnder};
@@ -164,6 +165,13 @@ pub fn packets_are_numbered()
         → permitted c ≡ before ++ Handed number node ∷ after
         → number < length (packets_of before) }
     ensures found { (c : Content) (k : ℕ) → packet_in (permitted c) k ≡ slice_get (packets_of (permitted c)) k }
+{}
+
+/// What an outsider hears had been posted without a shield.
+pub fn outsiders_hear_no_shielded_packet()
+    ensures { (c : Content) (before : List Entry) (number outsider : ℕ) (after : List Entry)
+        → permitted c ≡ before ++ Heard number outsider ∷ after
+        → is_shielded_in before number ≡ Some false }
 {}
 
 /// A node begins a new life as often as the schedule restarts it, and never otherwise.

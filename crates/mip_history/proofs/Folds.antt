@@ -1,0 +1,101 @@
+-- What each effect keeps, and a moment and a life that begins, every schedule keeps.
+use Rattle.std.proofs.Common.{◌≡◌, ℕ, ◌≤◌, List, [], ◌∷◌, ◌++◌, Bool, true, false, length, refl, sym, subst}
+use Rattle.std.specs.Prelude.{fold, Option, Some, None, unwrap_or, if◌then◌else◌, slice_get}
+use Rattle.std.proofs.lemmas.List.{append_assoc, append-nil}
+use Rattle.mip_words.specs.declared.address.Address.{Address}
+use Rattle.mip_words.specs.declared.ids.LinkId.{LinkId}
+use Rattle.mip_words.specs.declared.ids.NodeId.{NodeId}
+use Rattle.mip_entries.specs.declared.entry.Entry.{Entry}
+use Rattle.mip_entries.specs.declared.entry.Entry.TheVariants as entries
+use Rattle.mip_schedule.specs.declared.event.Event.{Event}
+use Rattle.mip_links.specs.Table.{link_of, holder_outside}
+use Rattle.mip_history.specs.Setup.{Setup, Host, Kind}
+use Rattle.mip_history.specs.Setup.Kind.{Correspondent, Agent, Mobile}
+use Rattle.mip_history.specs.Runs.{Run, note, notes, with_past, with_agent_past}
+use Rattle.mip_history.specs.Calls.{Leave, Restart}
+use Rattle.mip_history.specs.Knowing.{now_in}
+use Rattle.mip_history.specs.Nodes.{acts}
+use Rattle.mip_history.specs.Permitted.{is_first_agent, anycast_at, claimed_entry, claims_of, claims_from, opening_claims, opened, happens, run_of}
+use Rattle.mip_history.proofs.Opening.{nothing}
+use Rattle.mip_history.proofs.Keeping.{emptied_by_kind, emptied_by_host, emptied}
+use Rattle.mip_history.proofs.Effects.{IsSeen, Effect, notes-it, enters, goes, learns, h-claims, h-gives_up, h-acts}
+use Rattle.mip_history.proofs.Changes.{IsLeft, Change, left, comes, injects, drops, squats, yields, acted, moved, reborn, gives, renewed, all_keep}
+
+-- an entry that no node leaves posts nothing
+pub left_seen : (s : Setup) (event : Event) (run : Run) (e : Entry) → IsLeft s event run e → IsSeen run e
+left_seen s event run entries.Idle is = tt
+left_seen s event run (entries.Heard k o) is = is.bare
+left_seen s event run (entries.Handed k node) is = record { post = is.post; posted = is.posted }
+left_seen s event run (entries.Gone k why) is = tt
+left_seen s event run (entries.Lost k) is = tt
+left_seen s event run (entries.Listening o link) is = tt
+left_seen s event run (entries.Deafened o link) is = tt
+left_seen s event run (entries.Settled a b value) is = tt
+left_seen s event run (entries.Advertised node link router) is = tt
+left_seen s event run (entries.Row node home number careof sequence end kept) is = tt
+left_seen s event run _ is = absurd is
+
+-- a node that loses its past
+pub emptied_keeps : (s : Setup) (n : ℕ) (run : Run) (P : Run → Type 0) → P run → P (with_past n [] run) → P (with_agent_past n [] run) → P (emptied s n run)
+emptied_keeps s n run P same part agent = by_node (slice_get s.hosts n)
+  where
+    kinds : (kind : Kind) → P (emptied_by_kind n run kind)
+    kinds (Correspondent room) = part
+    kinds (Agent preference life room serves) = agent
+    kinds (Mobile home) = same
+
+    by_node : (o : Option Host) → P (emptied_by_host n run o)
+    by_node None = same
+    by_node (Some host) = kinds host.kind
+
+pub emptied_learns : (s : Setup) (n : ℕ) (run : Run) → Effect s run (emptied s n run)
+emptied_learns s n run = emptied_keeps s n run (Effect s run) (learns run run refl refl refl) (learns run _ refl refl refl) (learns run _ refl refl refl)
+
+pub emptied_past : (s : Setup) (n : ℕ) (run : Run) → (emptied s n run).past ≡ run.past
+emptied_past s n run = emptied_keeps s n run (λ (next : Run). next.past ≡ run.past) refl refl refl
+
+module _ (s : Setup) (P : Run → Type 0) (step : (a b : Run) → Effect s a b → P a → P b)
+    (timed : (run : Run) (m : ℕ) → now_in s run ≤ m → P run → P (note (entries.At (record { 0 = m })) run))
+    (born : (run : Run) (node : NodeId) → P run → P (note (entries.Restarted node) run)) where
+  pub change_effects : (event : Event) (a b : Run) → Change s event a b → P a → P b
+  change_effects event _ _ (left run e is) p = step run (note e run) (notes-it run e (left_seen s event run e is)) p
+  change_effects event _ _ (comes run m wait early) p = timed run m early p
+  change_effects event _ _ (injects run o link packet is) p =
+      step run _ (enters run (record { from = link.0; shield = None; packet = packet }) (entries.Injected (length run.posts) o link packet) (refl, refl, refl)) p
+  change_effects event _ _ (drops run k) p = step run _ (goes run k) p
+  change_effects event _ _ (squats run o address so) p = h-claims s P step (holder_outside o) address run p
+  change_effects event _ _ (yields run o address so) p = h-gives_up s P step (holder_outside o) address run p
+  change_effects event _ _ (acted run n call is) p = h-acts s P step n call run p
+  change_effects event _ _ (moved run node link so is) p =
+      let gone : Run = acts s node.0 Leave run in
+      step gone (note (entries.Moved node link) gone) (notes-it gone (entries.Moved node link) tt) (h-acts s P step node.0 Leave run p)
+  change_effects event _ _ (reborn run node so is) p = born (emptied s node.0 run) node (step run (emptied s node.0 run) (emptied_learns s node.0 run) p)
+  change_effects event _ _ (gives run node address so within) p = h-gives_up s P step node.0 address run p
+  change_effects event _ _ (renewed run node secrets so is life) p = h-acts s P step node.0 (Restart secrets) (note (entries.Restarted node) run) (born run node p)
+
+  pub schedule_effects : (run : Run) (events : List Event) → P run → P (fold (λ run event. happens s run event) run events)
+  schedule_effects run events p = all_keep s P change_effects run events p
+
+  -- from before the opening claims
+  module _ (claims : (run : Run) (who : ℕ) (link : LinkId) (address : Address) → P run → P (note (entries.Claimed who link address) run)) where
+    host_claims : (before : List Host) (host : Host) (run : Run) → P run → P (notes (claims_of s.links before host) run)
+    host_claims before host run p = by (is_first_agent s.links before host.address host.kind)
+      where
+        own : Entry
+        own = claimed_entry s.links (length before) host.address
+
+        by : (b : Bool) → P (notes (claimed_entry s.links (length before) host.address ∷ (if b then claimed_entry s.links (length before) (anycast_at host.address) ∷ [] else [])) run)
+        by true =
+            subst (λ (l : List Entry). P (record run { past = l })) (append_assoc run.past (own ∷ []) (claimed_entry s.links (length before) (anycast_at host.address) ∷ []))
+            (claims (note own run) (length before) (record { 0 = unwrap_or (link_of s.links (anycast_at host.address).0) 0 }) (anycast_at host.address)
+            (claims run (length before) (record { 0 = unwrap_or (link_of s.links host.address.0) 0 }) host.address p))
+        by false = claims run (length before) (record { 0 = unwrap_or (link_of s.links host.address.0) 0 }) host.address p
+
+    hosts_claim : (before hosts : List Host) (run : Run) → P run → P (notes (claims_from s.links before hosts) run)
+    hosts_claim before [] run p = subst (λ (l : List Entry). P (record run { past = l })) (sym (append-nil run.past)) p
+    hosts_claim before (host ∷ hosts) run p =
+        subst (λ (l : List Entry). P (record run { past = l })) (append_assoc run.past (claims_of s.links before host) (claims_from s.links (before ++ host ∷ []) hosts))
+        (hosts_claim (before ++ host ∷ []) hosts (notes (claims_of s.links before host) run) (host_claims before host run p))
+
+    pub run_effects : (events : List Event) → P (nothing s) → P (run_of s events)
+    run_effects events p = schedule_effects (opened s) events (hosts_claim [] s.hosts (nothing s) p)
