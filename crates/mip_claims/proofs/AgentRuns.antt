@@ -53,17 +53,16 @@ use Rattle.mip_history.specs.Claims.{claims}
 use Rattle.mip_history.specs.Homes.{gives_up}
 use Rattle.mip_history.specs.Knowing.{link_or_first, now_in, agent_of, agent_known_in, other_than, around_in}
 use Rattle.mip_history.specs.Nodes.{answered, after_agent_transition, by_kind, by_host, acts}
-use Rattle.mip_history.specs.Restarting.{homes_left}
 use Rattle.mip_history.specs.Permitted.{opened, run_of}
 use Rattle.mip_history.proofs.Keeping.{keeps_gives_up}
 use Rattle.mip_claims.specs.Claimings.{Claiming, claimings_told, is_on_link, agent_claiming, agent_claimings}
+use Rattle.mip_history.proofs.Effects.{answers_pasts}
 use Rattle.mip_claims.proofs.Acting.{acts_kept}
 use Rattle.mip_claims.proofs.Walking.{KeepsClaims, walk_run}
 use Rattle.mip_claims.proofs.Tables.{IsSafe, safe_other, same_holder, other_claims, other_gives_up, other_answers}
 use Rattle.mip_claims.proofs.Updating.{claiming_steps, acknowledging_steps, by_steps, IsAccepted, taking_is}
 use Rattle.mip_claims.proofs.Ends.{flipped, holds_after, AreApart, AreHeld, apart_with, held_with, AreReady, releasing, tick_is, released_of, ready_releasing, released_ends, later_held, later_apart, due_apart, due_held}
 use Rattle.mip_claims.proofs.Agents.{steps_claimings, stamped_claimings, IsHeld, IsMid, mid_other, quiet_known, mid_claimed, more_told, ready_told}
-use Rattle.mip_claims.proofs.Pasts.{answers_pasts}
 
 -- a transition that claims and gives up nothing, and leaves the homes as they were
 abbrev Stays : Known → agent_transitions.Transition → Type 0
@@ -241,7 +240,7 @@ module _ (s : Setup) (m : ℕ) (own : Address) (preference life room : ℕ) (ser
 
       finish : IsMid s m none n (base ++ steps_claimings s.links steps) final.past → AreHeld n n.ends → AreApart n.ends → IsAgreed (after_agent_transition s m own (transition c) run)
       finish mid had apart =
-          let pasts : final.agent_pasts ≡ slice_set run.agent_pasts m (agent_transitions.with_transition past (transition c)) = answers_pasts s m from (answers_of steps) (middle c) in
+          let pasts : final.agent_pasts ≡ slice_set run.agent_pasts m (agent_transitions.with_transition past (transition c)) = (answers_pasts s m from (answers_of steps) (middle c)).1 in
           let done : IsAgreed final = record {
             agents = ap (λ (l : List (List (Stamped Step))). length l) pasts ∙ length-set run.agent_pasts m (agent_transitions.with_transition past (transition c)) ∙ h.agents;
             on = subst (λ (l : List (Stamped Step)). IsAgreedOn l final.past)
@@ -475,25 +474,18 @@ module _ (s : Setup) (m : ℕ) (own : Address) (preference life room : ℕ) (ser
   fresh_agreed : (run : Run) → IsFresh run → IsAgreed run
   fresh_agreed run is = record { agents = is.0; on = subst (λ (l : List (Stamped Step)). IsAgreedOn l run.past) (sym is.1) (fresh_on run.past) }
 
-  left_fresh : (rows : List HomeRow) (run : Run) → IsFresh run → IsFresh (homes_left s m rows run)
-  unfolding homes_left
-  left_fresh [] run is = is
-  left_fresh (r ∷ rows) run is =
-      left_fresh rows (gives_up s m r.home run) (keeps_gives_up s IsFresh (λ (x : Run) (e : Entry) idle fresh. fresh) m r.home run is)
+  restart_agreed : (run : Run) (n : ℕ) → IsAgreed run → IsAgreed (with_agent_past n [] run)
+  restart_agreed run n h = elim (cases_eq m n) as (λ _. IsAgreed (with_agent_past n [] run)) [
+    | inl e ↦ subst (λ (x : ℕ). IsAgreed (with_agent_past x [] run)) e (fresh_agreed (with_agent_past m [] run) (length-set run.agent_pasts m [] ∙ h.agents, here run h []))
+    | inr other ↦ agreed_elsewhere n [] run other h
+  ]
 
-  left_other : (n : ℕ) → (m == n) ≡ false → (rows : List HomeRow) (run : Run) → IsAgreed run → IsAgreed (homes_left s n rows run)
-  unfolding homes_left
-  left_other n apart [] run h = h
-  left_other n apart (r ∷ rows) run h = left_other n apart rows (gives_up s n r.home run) (other_gives_up s m none IsAgreed agreed_safe n apart r.home run h)
-
-  restart_agreed : (run : Run) (n : ℕ) (rows : List HomeRow) → IsAgreed run → IsAgreed (homes_left s n rows (note (entries.Restarted (node_id n)) (with_agent_past n [] run)))
-  restart_agreed run n rows h = elim (cases_eq m n) as (λ _. IsAgreed (homes_left s n rows (note (entries.Restarted (node_id n)) (with_agent_past n [] run)))) [
-    | inl e ↦ subst (λ (x : ℕ). IsAgreed (homes_left s x rows (note (entries.Restarted (node_id x)) (with_agent_past x [] run)))) e
-        (let next : Run = note (entries.Restarted (node_id m)) (with_agent_past m [] run) in
-        fresh_agreed (homes_left s m rows next) (left_fresh rows next (length-set run.agent_pasts m [] ∙ h.agents, here run h [])))
-    | inr other ↦
-        left_other n (ne_eqb m n other) rows (note (entries.Restarted (node_id n)) (with_agent_past n [] run))
-        (agreed_safe (with_agent_past n [] run) (entries.Restarted (node_id n)) (safe_other m run.past (entries.Restarted (node_id n)) refl) (agreed_elsewhere n [] run other h))
+  gives_agreed : (run : Run) (n : ℕ) (address : Address) → agent_past_at run n ≡ [] → IsAgreed run → IsAgreed (gives_up s n address run)
+  gives_agreed run n address empty h = elim (cases_eq m n) as (λ _. IsAgreed (gives_up s n address run)) [
+    | inl e ↦
+        fresh_agreed (gives_up s n address run)
+        (keeps_gives_up s IsFresh (λ (x : Run) (e : Entry) idle fresh. fresh) n address run (h.agents, subst (λ (x : ℕ). agent_past_at run x ≡ []) (sym e) empty))
+    | inr other ↦ other_gives_up s m none IsAgreed agreed_safe n (ne_eqb m n other) address run h
   ]
 
   agreed_keeps : KeepsClaims s IsAgreed
@@ -505,7 +497,8 @@ module _ (s : Setup) (m : ℕ) (own : Address) (preference life room : ℕ) (ser
     yields = λ run o address h. other_gives_up s m none IsAgreed agreed_safe (holder_outside o) (ne_eqb m (holder_outside o) (node o)) address run h;
     acted = λ run n call h. acts_agreed run n call h;
     emptied = λ run n h. record { agents = h.agents; on = h.on };
-    reborn = λ run n own' preference' life' room' serves' is rows h. restart_agreed run n rows h;
+    reborn = λ run n h. restart_agreed run n h;
+    gives = λ run n address is h. gives_agreed run n address is.empty h;
   }
 
   no_past : (hosts : List Host) (n : ℕ) → slice_index_or (map (λ (x : Host). let l : List (Stamped Step) = [] in l) hosts) n [] ≡ []

@@ -11,10 +11,8 @@ use Rattle.mip_entries.specs.declared.answer.Answer.{Answer}
 use Rattle.mip_entries.specs.declared.answer.Answer.TheVariants.{Send, Note}
 use Rattle.mip_entries.specs.declared.entry.Entry.{Entry}
 use Rattle.mip_entries.specs.declared.entry.Entry.TheVariants as entries
-use Rattle.mip_entries.specs.Completed.{node_id}
 use Rattle.mip_entries.specs.Stamped.{Stamped}
 use Rattle.mip_entries.specs.Transitions.{StandsBy}
-use Rattle.mip_rules_agent.specs.declared.home_row.HomeRow.{HomeRow}
 use Rattle.mip_rules_mobile.specs.declared.attachment.Attachment.TheVariants.{AtHome, Away}
 use Rattle.mip_rules_mobile.specs.Known.{Known}
 use Rattle.mip_rules_mobile.specs.Calls as mobiles
@@ -31,20 +29,19 @@ use Rattle.mip_links.specs.Nets.{is_held_by}
 use Rattle.mip_schedule.specs.declared.event.Event.{Event}
 use Rattle.mip_history.specs.Setup.{Setup, Host, is_mobile_host}
 use Rattle.mip_history.specs.Setup.Kind.{Agent, Mobile}
-use Rattle.mip_history.specs.Runs.{Run, note, entered, mobile_past_at, with_agent_past, with_mobile_past}
+use Rattle.mip_history.specs.Runs.{Run, note, entered, mobile_past_at, with_mobile_past}
 use Rattle.mip_history.specs.Calls.{Call, Take, Send as SendsTo, Refresh, Tick, Plan, Hear, Attach, Leave, Ask, Restart}
 use Rattle.mip_history.specs.Questions.{holder_in}
 use Rattle.mip_history.specs.Claims.{link_id, claims}
 use Rattle.mip_history.specs.Homes.{resident, passes_to, left_on, given_up_on, gives_up}
 use Rattle.mip_history.specs.Knowing.{now_in, secrets_in, mobile_known_in, stands_on, around_in}
 use Rattle.mip_history.specs.Nodes.{left_by, answered_one, answered, after_mobile_transition, by_kind, by_host, acts}
-use Rattle.mip_history.specs.Restarting.{homes_left}
 use Rattle.mip_history.specs.Permitted.{opened, run_of}
 use Rattle.mip_claims.specs.Holdings.{HoldsWhatItUses}
 use Rattle.mip_claims.proofs.Noting.{is_claiming, left_kept, sent_kept}
+use Rattle.mip_history.proofs.Effects.{answers_pasts}
 use Rattle.mip_claims.proofs.Acting.{acts_kept}
 use Rattle.mip_claims.proofs.Walking.{KeepsClaims, walk_run}
-use Rattle.mip_claims.proofs.Pasts.{answers_mobiles}
 use Rattle.mip_claims.proofs.Tables.{holder_push, IsSafe, safe_other, safe_claimed, safe_released, other_holder, held_is, released_holder, not_held, other_claims}
 use Rattle.mip_claims.proofs.Holding.{Holds, staying_holds, restarting_holds, leaving_holds, attaching_holds}
 
@@ -183,7 +180,7 @@ module _ (s : Setup) (m : ℕ) (own : Address) (agent : Option Address) (host : 
     finish c holds =
         let new : List (Stamped Step) = with_transition past (transition c) in
         let final : Run = after_mobile_transition s m own (transition c) run in
-        let pasts : final.mobile_pasts ≡ slice_set run.mobile_pasts m new = answers_mobiles s m from (answers_of (transition c).steps) (middle c) in
+        let pasts : final.mobile_pasts ≡ slice_set run.mobile_pasts m new = (answers_pasts s m from (answers_of (transition c).steps) (middle c)).2 in
         let inside : m < length s.hosts = slice_get_within s.hosts m (record { address = own; kind = Mobile agent }) host in
         let long : length run.mobile_pasts ≡ length s.hosts = h.long in
         let here : mobile_past_at final m ≡ new =
@@ -232,11 +229,6 @@ module _ (s : Setup) (m : ℕ) (own : Address) (agent : Option Address) (host : 
       by true same = absurd (let both : true ≡ false = ap is_mobile_host (sym host ∙ ap (λ (x : ℕ). slice_get s.hosts x) (eqb-true m n same) ∙ is) in cc)
       by false same = refl
 
-  left_holding : (n : ℕ) → (m == n) ≡ false → (rows : List HomeRow) (run : Run) → IsHolding run → IsHolding (homes_left s n rows run)
-  unfolding homes_left
-  left_holding n apart [] run h = h
-  left_holding n apart (r ∷ rows) run h = left_holding n apart rows (gives_up s n r.home run) (others_give_up s m IsHolding holding_left n apart r.home run h)
-
   pub holding_keeps : KeepsClaims s IsHolding
   holding_keeps = record {
     other = λ run e is h. holding_other run e is h;
@@ -246,9 +238,8 @@ module _ (s : Setup) (m : ℕ) (own : Address) (agent : Option Address) (host : 
     yields = λ run o address h. others_give_up s m IsHolding holding_left (holder_outside o) (ne_eqb m (holder_outside o) (node o)) address run h;
     acted = λ run n call h. acts_holding run n call h;
     emptied = λ run n h. record { long = h.long; held = h.held };
-    reborn = λ run n own' preference life room serves is rows h.
-        left_holding n (agent_apart n own' preference life room serves is) rows (note (entries.Restarted (node_id n)) (with_agent_past n [] run))
-        (holding_other (with_agent_past n [] run) (entries.Restarted (node_id n)) refl (record { long = h.long; held = h.held }));
+    reborn = λ run n h. record { long = h.long; held = h.held };
+    gives = λ run n address is h. others_give_up s m IsHolding holding_left n (agent_apart n is.own is.preference is.life is.room is.serves is.host) address run h;
   }
 
   -- before the first event it is at home

@@ -5,7 +5,6 @@ pub mod Acting
 pub mod Walking
 pub mod Tables
 pub mod Ends
-pub mod Pasts
 pub mod Agents
 pub mod AgentRuns
 pub mod Searches

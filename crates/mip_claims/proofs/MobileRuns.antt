@@ -12,9 +12,7 @@ use Rattle.mip_outside.specs.Places.{claim_in}
 use Rattle.mip_entries.specs.declared.answer.Answer.{Answer}
 use Rattle.mip_entries.specs.declared.entry.Entry.{Entry}
 use Rattle.mip_entries.specs.declared.entry.Entry.TheVariants as entries
-use Rattle.mip_entries.specs.Completed.{node_id}
 use Rattle.mip_entries.specs.Stamped.{Stamped, stamped}
-use Rattle.mip_rules_agent.specs.declared.home_row.HomeRow.{HomeRow}
 use Rattle.mip_rules_mobile.specs.Known.{Known}
 use Rattle.mip_rules_mobile.specs.Calls as mobiles
 use Rattle.mip_rules_mobile.specs.HomeQuestions.{home_of}
@@ -27,17 +25,15 @@ use Rattle.mip_links.specs.Table.{Post, link_of, holder_outside}
 use Rattle.mip_schedule.specs.declared.event.Event.{Event}
 use Rattle.mip_history.specs.Setup.{Setup, Host}
 use Rattle.mip_history.specs.Setup.Kind.{Mobile}
-use Rattle.mip_history.specs.Runs.{Run, note, entered, mobile_past_at, with_agent_past, with_mobile_past}
+use Rattle.mip_history.specs.Runs.{Run, note, entered, mobile_past_at, with_mobile_past}
 use Rattle.mip_history.specs.Calls.{Call, Take, Send, Refresh, Tick, Plan, Hear, Attach, Leave, Ask, Restart}
-use Rattle.mip_history.specs.Homes.{gives_up}
 use Rattle.mip_history.specs.Knowing.{now_in, secrets_in, mobile_known_in, stands_on, around_in}
 use Rattle.mip_history.specs.Nodes.{answered, after_mobile_transition, by_kind, by_host, acts}
-use Rattle.mip_history.specs.Restarting.{homes_left}
 use Rattle.mip_history.specs.Permitted.{is_first_agent, anycast_at, claimed_entry, claims_of, claims_from, opened, run_of}
 use Rattle.mip_claims.specs.Claimings.{Claiming, search_told, searches_told, mobile_search, mobile_searches}
+use Rattle.mip_history.proofs.Effects.{answers_pasts}
 use Rattle.mip_claims.proofs.Acting.{acts_kept}
 use Rattle.mip_claims.proofs.Walking.{KeepsClaims, walk_run}
-use Rattle.mip_claims.proofs.Pasts.{answers_mobiles}
 use Rattle.mip_claims.proofs.Searches.{search_same, silent_other, silent_claimed, silent_home, gives_up_silent, claims_silent, answers_silent}
 use Rattle.mip_claims.proofs.Mobiles.{Told, staying_told, restarting_told, leaving_told, attaching_told}
 
@@ -94,7 +90,7 @@ module _ (s : Setup) (m : ℕ) (own : Address) (agent : Option Address) (host : 
     finish c told =
         let new : List (Stamped Step) = with_transition past (transition c) in
         let final : Run = after_mobile_transition s m own (transition c) run in
-        let pasts : final.mobile_pasts ≡ slice_set run.mobile_pasts m new = answers_mobiles s m from (answers_of (transition c).steps) (middle c) in
+        let pasts : final.mobile_pasts ≡ slice_set run.mobile_pasts m new = (answers_pasts s m from (answers_of (transition c).steps) (middle c)).2 in
         let inside : m < length s.hosts = slice_get_within s.hosts m (record { address = own; kind = Mobile agent }) host in
         let long : length run.mobile_pasts ≡ length s.hosts = h.long in
         let here : mobile_past_at final m ≡ new =
@@ -136,11 +132,6 @@ module _ (s : Setup) (m : ℕ) (own : Address) (agent : Option Address) (host : 
     | inr other ↦ other_acts n other run h call
   ]
 
-  left_telling : (n : ℕ) (rows : List HomeRow) (run : Run) → IsTelling run → IsTelling (homes_left s n rows run)
-  unfolding homes_left
-  left_telling n [] run h = h
-  left_telling n (r ∷ rows) run h = left_telling n rows (gives_up s n r.home run) (gives_up_silent s m own agent host IsTelling telling_silent n r.home run h)
-
   telling_keeps : KeepsClaims s IsTelling
   telling_keeps = record {
     other = λ run e is h. telling_silent run e (silent_other own m e is) h;
@@ -150,9 +141,8 @@ module _ (s : Setup) (m : ℕ) (own : Address) (agent : Option Address) (host : 
     yields = λ run o address h. gives_up_silent s m own agent host IsTelling telling_silent (holder_outside o) address run h;
     acted = λ run n call h. acts_telling run n call h;
     emptied = λ run n h. record { long = h.long; told = h.told };
-    reborn = λ run n own' preference life room serves is rows h.
-        left_telling n rows (note (entries.Restarted (node_id n)) (with_agent_past n [] run))
-        (telling_silent (with_agent_past n [] run) (entries.Restarted (node_id n)) refl (record { long = h.long; told = h.told }));
+    reborn = λ run n h. record { long = h.long; told = h.told };
+    gives = λ run n address is h. gives_up_silent s m own agent host IsTelling telling_silent n address run h;
   }
 
   -- before the first event it has claimed its home address alone

@@ -52,10 +52,6 @@ module _ (s : Setup) (P : Run → Type 0) (one : (run : Run) (e : Entry) → is_
   others_kept (e ∷ es) run none p =
       subst (λ (l : List Entry). P (record run { past = l })) (append_assoc run.past (e ∷ []) es) (others_kept es (note e run) none.1 (one run e none.0 p))
 
-  pub choice_kept : (b : Bool) (x y : Entry) (run : Run) → is_claiming x ≡ false → is_claiming y ≡ false → P run → P (note (if b then x else y) run)
-  choice_kept true x y run first second p = one run x first p
-  choice_kept false x y run first second p = one run y second p
-
   pub overheard_kept : (link : ℕ) (shield : Option Shield) (by : Option ℕ) (k : ℕ) (run : Run) → P run → P (overheard s link shield by k run)
   overheard_kept link shield by k run p = at (is_some shield)
     where

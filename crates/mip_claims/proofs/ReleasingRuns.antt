@@ -1,6 +1,6 @@
 -- Every run tells which addresses its mobiles give up.
 use Rattle.std.proofs.Common.{◌≡◌, ◌≢◌, ℕ, ◌<◌, List, [], ◌∷◌, ◌++◌, Bool, true, false, inl, inr, length, refl, sym, ap, ◌∙◌, subst, arith}
-use Rattle.std.specs.Prelude.{Option, Some, None, unwrap_or, ◌==◌, if◌then◌else◌, slice_get, slice_set, slice_index_or}
+use Rattle.std.specs.Prelude.{Option, Some, None, unwrap_or, if◌then◌else◌, slice_get, slice_set, slice_index_or}
 use Rattle.std.specs.List.{filter_map, cons_option}
 use Rattle.std.proofs.lemmas.List.{get_or-set_same, get_or-set_other}
 use Rattle.std.proofs.lemmas.List.Elements.{filter_map-append}
@@ -11,9 +11,7 @@ use Rattle.mip_outside.specs.Places.{claim_in}
 use Rattle.mip_entries.specs.declared.answer.Answer.{Answer}
 use Rattle.mip_entries.specs.declared.entry.Entry.{Entry}
 use Rattle.mip_entries.specs.declared.entry.Entry.TheVariants as entries
-use Rattle.mip_entries.specs.Completed.{node_id}
 use Rattle.mip_entries.specs.Stamped.{Stamped, stamped}
-use Rattle.mip_rules_agent.specs.declared.home_row.HomeRow.{HomeRow}
 use Rattle.mip_rules_mobile.specs.Known.{Known}
 use Rattle.mip_rules_mobile.specs.Calls as mobiles
 use Rattle.mip_rules_mobile.specs.HomeQuestions.{home_of}
@@ -26,18 +24,16 @@ use Rattle.mip_links.specs.Table.{Post, holder_outside}
 use Rattle.mip_schedule.specs.declared.event.Event.{Event}
 use Rattle.mip_history.specs.Setup.{Setup, Host}
 use Rattle.mip_history.specs.Setup.Kind.{Mobile}
-use Rattle.mip_history.specs.Runs.{Run, note, entered, mobile_past_at, with_agent_past, with_mobile_past}
+use Rattle.mip_history.specs.Runs.{Run, note, entered, mobile_past_at, with_mobile_past}
 use Rattle.mip_history.specs.Calls.{Call, Take, Send, Refresh, Tick, Plan, Hear, Attach, Leave, Ask, Restart}
-use Rattle.mip_history.specs.Homes.{gives_up}
 use Rattle.mip_history.specs.Knowing.{now_in, secrets_in, mobile_known_in, stands_on, around_in}
 use Rattle.mip_history.specs.Nodes.{answered, after_mobile_transition, by_kind, by_host, acts}
-use Rattle.mip_history.specs.Restarting.{homes_left}
 use Rattle.mip_history.specs.Permitted.{is_first_agent, anycast_at, claimed_entry, claims_of, claims_from, opened, run_of}
 use Rattle.mip_claims.specs.Claimings.{Claiming, release_told, releases_told, mobile_release, mobile_releases}
 use Rattle.mip_claims.proofs.Noting.{is_claiming}
+use Rattle.mip_history.proofs.Effects.{answers_pasts}
 use Rattle.mip_claims.proofs.Acting.{acts_kept}
 use Rattle.mip_claims.proofs.Walking.{KeepsClaims, walk_run}
-use Rattle.mip_claims.proofs.Pasts.{answers_mobiles}
 use Rattle.mip_claims.proofs.Releasings.{release_same, plain_untold, claims_untold, other_gives_up_untold, answers_untold}
 use Rattle.mip_claims.proofs.Releasing.{Tells, staying_tells, restarting_tells, leaving_tells, attaching_tells}
 use Rattle.mip_claims.proofs.HoldingRuns.{IsHolding, agent_apart, holding_keeps, no_past, holding_opened}
@@ -99,7 +95,7 @@ module _ (s : Setup) (m : ℕ) (own : Address) (agent : Option Address) (host : 
         let new : List (Stamped Step) = with_transition past (transition c) in
         let final : Run = after_mobile_transition s m own (transition c) run in
         let on : IsHolding s m own agent host node run = h.on in
-        let pasts : final.mobile_pasts ≡ slice_set run.mobile_pasts m new = answers_mobiles s m from (answers_of (transition c).steps) (middle c) in
+        let pasts : final.mobile_pasts ≡ slice_set run.mobile_pasts m new = (answers_pasts s m from (answers_of (transition c).steps) (middle c)).2 in
         let inside : m < length s.hosts = slice_get_within s.hosts m (record { address = own; kind = Mobile agent }) host in
         let long : length run.mobile_pasts ≡ length s.hosts = on.long in
         let here : mobile_past_at final m ≡ new =
@@ -139,11 +135,6 @@ module _ (s : Setup) (m : ℕ) (own : Address) (agent : Option Address) (host : 
     | inr other ↦ other_acts n other run h.told call
   ]
 
-  left_told : (n : ℕ) → (m == n) ≡ false → (rows : List HomeRow) (run : Run) → IsTold run → IsTold (homes_left s n rows run)
-  unfolding homes_left
-  left_told n apart [] run told = told
-  left_told n apart (r ∷ rows) run told = left_told n apart rows (gives_up s n r.home run) (other_gives_up_untold s m own IsTold untold n apart r.home run told)
-
   abbrev keeps : KeepsClaims s (IsHolding s m own agent host node)
   keeps = holding_keeps s m own agent host node
 
@@ -159,11 +150,10 @@ module _ (s : Setup) (m : ℕ) (own : Address) (agent : Option Address) (host : 
     };
     acted = λ run n call h. record { on = keeps.acted run n call h.on; told = acts_told run n call h };
     emptied = λ run n h. record { on = keeps.emptied run n h.on; told = h.told };
-    reborn = λ run n own' preference life room serves is rows h. record {
-      on = keeps.reborn run n own' preference life room serves is rows h.on;
-      told =
-          left_told n (agent_apart s m own agent host node n own' preference life room serves is) rows (note (entries.Restarted (node_id n)) (with_agent_past n [] run))
-          (told_other (with_agent_past n [] run) (entries.Restarted (node_id n)) refl h.told);
+    reborn = λ run n h. record { on = keeps.reborn run n h.on; told = h.told };
+    gives = λ run n address is h. record {
+      on = keeps.gives run n address is h.on;
+      told = other_gives_up_untold s m own IsTold untold n (agent_apart s m own agent host node n is.own is.preference is.life is.room is.serves is.host) address run h.told;
     };
   }
 

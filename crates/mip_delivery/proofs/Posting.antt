@@ -1,5 +1,5 @@
 -- The packet that an end of a run posts as it is to send data.
-use Rattle.std.proofs.Common.{◌≡◌, ◌≢◌, ℕ, List, [], ◌∷◌, ◌++◌, length, refl, sym, ap, ◌∙◌, subst}
+use Rattle.std.proofs.Common.{◌≡◌, ◌≢◌, ℕ, List, [], ◌∷◌, ◌++◌, length, sym, ap, ◌∙◌, subst}
 use Rattle.std.specs.Prelude.{Option, Some, None, unwrap_or, slice_get}
 use Rattle.mip_words.specs.declared.address.Address.{Address}
 use Rattle.mip_entries.specs.declared.answer.Answer.TheVariants.{Send}
@@ -33,6 +33,7 @@ use Rattle.mip_delivery.specs.Stretches.{run_on}
 use Rattle.mip_delivery.specs.Reached.{sending}
 use Rattle.mip_delivery.proofs.Sending.{sent_by_correspondent, sent_at_home, sent_bound, sent_tunnelled}
 use Rattle.mip_delivery.proofs.Delivering.{send_left}
+use Rattle.mip_history.proofs.Effects.{get_last}
 use Rattle.mip_delivery.proofs.Growing.{post_stays}
 use Rattle.mip_delivery.proofs.Joining.{bare}
 
@@ -40,10 +41,6 @@ use Rattle.mip_delivery.proofs.Joining.{bare}
 pub record Posts (s : Setup) (run after : Run) (packet : List ℕ) : Type 0 where
   pub link : ℕ
   pub posts : after.posts ≡ run.posts ++ bare link packet ∷ []
-
-get_last : {X : Type 0} (xs : List X) (x : X) → slice_get (xs ++ x ∷ []) (length xs) ≡ Some x
-get_last [] x = refl
-get_last (y ∷ xs) x = get_last xs x
 
 -- it has the number of how many were posted before, and keeps it
 pub posted_stays : (s : Setup) (run after : Run) (packet : List ℕ) → (p : Posts s run after packet) → (more : List Event) → slice_get (run_on s after more).posts (length run.posts) ≡ Some (bare p.link packet)

@@ -1,17 +1,15 @@
 -- What an event leaves that delivers no packet, and what it leaves of addresses; and that only the delivery of a packet leaves that
 -- it was handed over, or that nobody took it.
-use Rattle.std.proofs.Common.{◌≡◌, ℕ, zero, suc, ◌+◌, ◌<◌, List, [], ◌∷◌, ◌++◌, Bool, true, false, length, drop, max, inl, inr, refl, sym, ap, ◌∙◌, subst, arith}
-use Rattle.std.specs.Prelude.{Option, Some, None, is_some, map, Contains, ◌==◌, ◌&&◌, ◌||◌, nat_lt, if◌then◌else◌, slice_get, slice_index_or, slice_set}
+use Rattle.std.proofs.Common.{◌≡◌, ℕ, zero, suc, ◌<◌, List, [], ◌∷◌, ◌++◌, Bool, true, false, length, drop, inl, inr, refl, sym, ap, ◌∙◌, subst, arith}
+use Rattle.std.specs.Prelude.{Option, Some, None, is_some, Contains, ◌==◌, ◌&&◌, ◌||◌, if◌then◌else◌, slice_get, slice_index_or, slice_set}
 use Rattle.std.specs.List.{list_any, AllByRecursion}
 use Rattle.std.proofs.lemmas.List.{append_assoc, append-nil}
 use Rattle.std.proofs.lemmas.List.Folds.{list_any-append}
 use Rattle.std.proofs.lemmas.Bool.{or_parts, eqb-true, eq-eqb}
 use Rattle.mip_words.specs.declared.address.Address.{Address}
-use Rattle.mip_words.specs.declared.ids.LinkId.{LinkId}
+use Rattle.mip_words.specs.declared.ids.NodeId.{NodeId}
 use Rattle.mip_words.specs.declared.why.Why.{Why}
 use Rattle.mip_words.specs.declared.shield.Shield.{Shield}
-use Rattle.mip_bcache.specs.declared.row.Row.{Row}
-use Rattle.mip_bcache.specs.Seen as caches
 use Rattle.mip_entries.specs.declared.answer.Answer.{Answer}
 use Rattle.mip_entries.specs.declared.answer.Answer.TheVariants.{Send, Note}
 use Rattle.mip_entries.specs.declared.entry.Entry.{Entry}
@@ -33,29 +31,26 @@ use Rattle.mip_rules_correspondent.specs.Calls as correspondent_calls
 use Rattle.mip_rules_correspondent.specs.Doing.{transition_of as correspondent_transition}
 use Rattle.mip_rules_mobile.specs.Calls as mobile_calls
 use Rattle.mip_rules_mobile.specs.Doing.{transition_of as mobile_transition}
-use Rattle.mip_links.specs.Table.{Fate, Post, link_of, delivery, in_pool, outsider_of, holder_outside}
+use Rattle.mip_links.specs.Table.{Post, link_of, holder_outside}
 use Rattle.mip_links.specs.Nets.{lowest_of, is_held_by}
-use Rattle.mip_links.specs.Table.Fate.{Idle, Gone, Outsider, Node}
 use Rattle.mip_schedule.specs.declared.event.Event.{Event}
-use Rattle.mip_schedule.specs.declared.event.Event.TheVariants.{Wait, Move, Advertise, Payload, Inject, Probe, Bind, Tell, Listen, Deaf, Squat, Yield, Deliver, Repeat, Lose, Carry, Restart, Refresh, Plan, Ask, Show, Settle}
-use Rattle.mip_history.specs.Setup.{Setup, Host, Kind, is_mobile_at}
+use Rattle.mip_schedule.specs.declared.event.Event.TheVariants.{Deliver, Repeat, Carry, Restart}
+use Rattle.mip_history.specs.Setup.{Setup, Host, Kind}
 use Rattle.mip_history.specs.Setup.Kind.{Correspondent, Agent, Mobile}
 use Rattle.mip_history.specs.Registered.{is_agent_host, is_agent_at}
-use Rattle.mip_history.specs.Runs.{Run, note, notes, entered, without, with_agent_past}
-use Rattle.mip_history.specs.Questions.{holder_in, hears_in, life_in, asked_in}
+use Rattle.mip_history.specs.Runs.{Run, note, notes, entered, with_agent_past}
+use Rattle.mip_history.specs.Questions.{holder_in, hears_in, life_in}
 use Rattle.mip_history.specs.Calls as calls
-use Rattle.mip_history.specs.Calls.{Call, Take, for_correspondent, for_agent, for_mobile}
+use Rattle.mip_history.specs.Calls.{Call, for_correspondent, for_agent, for_mobile}
 use Rattle.mip_history.specs.Claims.{link_id, claim_entry, claimed_on, claims}
 use Rattle.mip_history.specs.Homes.{resident, passes_to, left_on, given_up_on, gives_up}
 use Rattle.mip_history.specs.Knowing.{now_in, secrets_in, known_in, agent_known_in, mobile_known_in, around_in, identity_in, agent_of}
-use Rattle.mip_history.specs.Nodes.{marks_of, marked, left_by, answered_one, answered, asks, by_kind, by_host, acts, row_entry, home_entry, rows_by_kind, rows_shown, shown, after_transition, after_agent_transition, after_mobile_transition}
+use Rattle.mip_history.specs.Nodes.{marks_of, marked, left_by, answered_one, answered, asks, by_kind, by_host, acts, after_transition, after_agent_transition, after_mobile_transition}
 use Rattle.mip_history.specs.Posting.{heards, is_other, overheard}
-use Rattle.mip_history.specs.Delivery.{handed_over, overheard_at, hears_there, handed, is_no_holder, became, arrival_link, arrived, delivered, carried_one, carried}
-use Rattle.mip_history.specs.Outsiders.{injected, injected_if, probe_packet, update_packet, test_packet}
-use Rattle.mip_history.specs.Waiting.{Waiting, due_of, earliest, comes_to, is_due, ticks_one, ticked, works, works_on, works_until, waited}
-use Rattle.mip_history.specs.Advertising.{Router, router_at, hears_of_router, hears_of_node, hears_of_first, hears_of_all, agents_hear, roams_on, mobile_told, mobiles_told}
+use Rattle.mip_history.specs.Delivery.{delivered, carried_one, carried}
 use Rattle.mip_history.specs.Restarting.{homes_left, reborn_by_kind, reborn_by_host, restarted}
-use Rattle.mip_history.specs.Permitted.{lost, moves, happens}
+use Rattle.mip_history.specs.Permitted.{happens}
+use Rattle.mip_history.proofs.Changes.{Delivers as Delivers_of, IsLeft, Change, left, comes, injects, drops, squats, yields, acted, moved, reborn, gives, renewed, happens_keeps}
 use Rattle.mip_delivery.specs.Stretches.{run_on, left_by as left_by_events, IsSingle}
 use Rattle.mip_delivery.specs.Answers.{IsReached, Delivers}
 use Rattle.mip_delivery.proofs.Leaving.{drop_front}
@@ -130,6 +125,13 @@ is_delivery (Repeat number) = true
 is_delivery (Carry count) = true
 is_delivery _ = false
 
+abbrev is_restart : Event → Bool
+is_restart (Restart node) = true
+is_restart _ = false
+
+alive : (event : Event) (node : NodeId) → event ≡ Restart node → is_restart event ≡ false → ⊥
+alive event node so lives = absurd (let both : true ≡ false = sym (ap is_restart so) ∙ lives in cc)
+
 module _ (s : Setup) (bad : Entry → Bool) (may : ℕ → Address → Type 0) (stand : List (List (Stamped agents.Step)) → Type 0) (mild : IsMild s bad may stand) (front : List Entry) where
   -- what a run leaves behind this front has no such entry
   pub record Calm (run : Run) : Type 0 where
@@ -161,10 +163,6 @@ module _ (s : Setup) (bad : Entry → Bool) (may : ℕ → Address → Type 0) (
   pub one : (run : Run) (e : Entry) → is_special e ≡ false → Calm run → Calm (note e run)
   one run e none c = single run e (mild.other e none) c
 
-  pub either : (b : Bool) (x y : Entry) (run : Run) → is_special x ≡ false → is_special y ≡ false → Calm run → Calm (note (if b then x else y) run)
-  either true x y run p q c = one run x p c
-  either false x y run p q c = one run y q c
-
   same : (a b : Run) → b.past ≡ a.past → b.agent_pasts ≡ a.agent_pasts → Calm a → Calm b
   same a b is pasts c = record { rest = c.rest; whole = is ∙ c.whole; calm = c.calm; stands = subst stand (sym pasts) c.stands }
 
@@ -189,10 +187,6 @@ module _ (s : Setup) (bad : Entry → Bool) (may : ℕ → Address → Type 0) (
       at : (b : Bool) → Calm (if b then run else notes (heards hears number s.outsiders) run)
       at true = c
       at false = calm_notes (heards hears number s.outsiders) run (heards_calm hears number s.outsiders) c
-
-  overhears_there : (post : Post) (number : ℕ) (link : Option ℕ) (run : Run) → Calm run → Calm (overheard_at s post number link run)
-  overhears_there post number None run c = c
-  overhears_there post number (Some link) run c = overhears link post.shield None number run c
 
   -- addresses are claimed and given up
   pub claims_calm : (who : ℕ) (address : Address) (run : Run) → Calm run → Calm (claims s who address run)
@@ -288,119 +282,6 @@ module _ (s : Setup) (bad : Entry → Bool) (may : ℕ → Address → Type 0) (
       by_node None host = one run entries.Idle refl c
       by_node (Some h) host = kinds h.address h.kind host
 
-  -- another packet is delivered
-  handed_calm : (number n : ℕ) (post : Post) (link : Option ℕ) (run : Run) → IsMildOf bad number → Calm run → Calm (handed s number post n link run)
-  unfolding handed
-  handed_calm number n post link run other c =
-      acts_calm (note (entries.Handed number (node_id n)) run) n (Take number post.shield (handed_over post.packet link)) (single run (entries.Handed number (node_id n)) (other.handed n) c)
-
-  became_calm : (number : ℕ) (post : Post) (link : Option ℕ) (run : Run) → IsMildOf bad number → (d : Fate) → Calm run → Calm (became s number post link run d)
-  became_calm number post link run other Idle c = one run entries.Idle refl c
-  became_calm number post link run other (Gone why) c = by (is_no_holder why)
-    where
-      by : (b : Bool) → Calm (note (entries.Gone number why) (if b then overheard_at s post number link run else run))
-      by true = single (overheard_at s post number link run) (entries.Gone number why) (other.gone why) (overhears_there post number link run c)
-      by false = single run (entries.Gone number why) (other.gone why) c
-  became_calm number post link run other (Outsider who) c = by (hears_there (overheard_at s post number link run) (outsider_of who) link)
-    where
-      by : (b : Bool) → Calm (if b then overheard_at s post number link run else note (entries.Heard number (outsider_of who)) (overheard_at s post number link run))
-      by true = overhears_there post number link run c
-      by false = one (overheard_at s post number link run) (entries.Heard number (outsider_of who)) refl (overhears_there post number link run c)
-  became_calm number post link run other (Node n) c = handed_calm number n post link (overheard_at s post number link run) other (overhears_there post number link run c)
-
-  arrived_calm : (number : ℕ) (run : Run) (o : Option Post) → IsMildOf bad number → Calm run → Calm (arrived s number run o)
-  arrived_calm number run None other c = one run entries.Idle refl c
-  arrived_calm number run (Some post) other c = became_calm number post (arrival_link s post) run other (delivery (asked_in s run.past) (Some post)) c
-
-  pub delivered_calm : (run : Run) (number : ℕ) (keep : Bool) → IsMildOf bad number → Calm run → Calm (delivered s run number keep)
-  unfolding delivered
-  delivered_calm run number true other c = arrived_calm number run (in_pool run.flying run.posts number) other c
-  delivered_calm run number false other c =
-      arrived_calm number (without number run) (in_pool run.flying run.posts number) other (record { rest = c.rest; whole = c.whole; calm = c.calm; stands = c.stands })
-
-  -- time goes on
-  comes_calm : (m : ℕ) (w : Waiting) → Calm w.run → Calm (comes_to s m w).run
-  comes_calm m w c = by (w.told && (now_in s w.run == m))
-    where
-      by : (b : Bool) → Calm (let x : Waiting = (if b then w else record { run = note (entries.At (record { 0 = m })) w.run; told = true }) in x.run)
-      by true = c
-      by false = one w.run (entries.At (record { 0 = m })) refl c
-
-  ticks_calm : (n : ℕ) (run : Run) → Calm run → Calm (ticks_one s n run)
-  ticks_calm n run c = by (is_due (due_of s run n) (now_in s run))
-    where
-      by : (b : Bool) → Calm (if b then acts s n calls.Tick run else run)
-      by true = acts_calm run n calls.Tick c
-      by false = c
-
-  ticked_calm : (n : ℕ) (run : Run) → Calm run → Calm (ticked s n run)
-  unfolding ticked
-  ticked_calm zero run c = c
-  ticked_calm (suc n) run c = ticks_calm n (ticked s n run) (ticked_calm n run c)
-
-  works_calm : (due : ℕ) (w : Waiting) → Calm w.run → Calm (works s due w).run
-  works_calm due w c = let m = max (now_in s w.run) due in ticked_calm (length s.hosts) (comes_to s m w).run (comes_calm m w c)
-
-  works_on_calm : (target : ℕ) (more : Waiting → Waiting) → ((w : Waiting) → Calm w.run → Calm (more w).run) → (o : Option ℕ) (w : Waiting) → Calm w.run → Calm (works_on more s target o w).run
-  works_on_calm target more go None w c = c
-  works_on_calm target more go (Some due) w c = by (nat_lt target due)
-    where
-      by : (b : Bool) → Calm (let x : Waiting = (if b then w else more (works s due w)) in x.run)
-      by true = c
-      by false = go (works s due w) (works_calm due w c)
-
-  works_until_calm : (target n : ℕ) (w : Waiting) → Calm w.run → Calm (works_until s target n w).run
-  unfolding works_until
-  works_until_calm target zero w c = c
-  works_until_calm target (suc n) w c = works_on_calm target (works_until s target n) (works_until_calm target n) (earliest (due_of s w.run) (length s.hosts)) w c
-
-  waited_calm : (run : Run) (ms : ℕ) → Calm run → Calm (waited s run ms)
-  unfolding waited
-  waited_calm run ms c =
-      let target = now_in s run + ms in
-      let first : Waiting = record { run = run; told = false } in
-      comes_calm target (works_until s target (suc ms) first) (works_until_calm target (suc ms) first c)
-
-  -- routers advertise themselves
-  router_calm : (link g : ℕ) (run : Run) (o : Option Router) → Calm run → Calm (hears_of_router s link g run o)
-  router_calm link g run None c = c
-  router_calm link g run (Some r) c =
-      let told : Run = note (entries.Advertised (node_id g) (link_id link) (Some r.address)) run in
-      acts_calm told g (calls.Hear r.address r.preference r.life) (one run (entries.Advertised (node_id g) (link_id link) (Some r.address)) refl c)
-
-  node_calm : (link g other : ℕ) (run : Run) → Calm run → Calm (hears_of_node s link g other run)
-  node_calm link g other run c = by (other == g)
-    where
-      by : (b : Bool) → Calm (if b then run else hears_of_router s link g run (router_at s link other))
-      by true = c
-      by false = router_calm link g run (router_at s link other) c
-
-  first_calm : (link g n : ℕ) (run : Run) → Calm run → Calm (hears_of_first s link g n run)
-  unfolding hears_of_first
-  first_calm link g zero run c = c
-  first_calm link g (suc n) run c = node_calm link g n (hears_of_first s link g n run) (first_calm link g n run c)
-
-  all_calm : (link g : ℕ) (run : Run) (o : Option Router) → Calm run → Calm (hears_of_all s link g run o)
-  all_calm link g run None c = c
-  all_calm link g run (Some r) c = first_calm link g (length s.hosts) run c
-
-  agents_calm : (link n : ℕ) (run : Run) → Calm run → Calm (agents_hear s link n run)
-  unfolding agents_hear
-  agents_calm link zero run c = c
-  agents_calm link (suc n) run c = all_calm link n (agents_hear s link n run) (router_at s link n) (agents_calm link n run c)
-
-  mobile_calm : (link n : ℕ) (run : Run) → Calm run → Calm (mobile_told s link n run)
-  mobile_calm link n run c = by (roams_on s run link n)
-    where
-      by : (b : Bool) → Calm (if b then acts s n (calls.Attach (slice_index_or s.links link 0)) (note (entries.Advertised (node_id n) (link_id link) None) run) else run)
-      by true = acts_calm (note (entries.Advertised (node_id n) (link_id link) None) run) n (calls.Attach (slice_index_or s.links link 0)) (one run (entries.Advertised (node_id n) (link_id link) None) refl c)
-      by false = c
-
-  mobiles_calm : (link n : ℕ) (run : Run) → Calm run → Calm (mobiles_told s link n run)
-  unfolding mobiles_told
-  mobiles_calm link zero run c = c
-  mobiles_calm link (suc n) run c = mobile_calm link n (mobiles_told s link n run) (mobiles_calm link n run c)
-
   -- a node begins its next life
   homes_calm : (n : ℕ) (rows : List HomeRow) (run : Run) → AllByRecursion (λ (r : HomeRow). may n r.home) rows → Calm run → Calm (homes_left s n rows run)
   unfolding homes_left
@@ -429,89 +310,51 @@ module _ (s : Setup) (bad : Entry → Bool) (may : ℕ → Address → Type 0) (
       by None host = so
       by (Some h) host = of_kind h.address h.kind host
 
-  -- what outsiders do
-  injected_calm : (o link : ℕ) (packet : List ℕ) (run : Run) → Calm run → Calm (injected s run o link packet)
-  injected_calm o link packet run c =
-      let e : Entry = entries.Injected (length run.posts) o (link_id link) packet in
-      let post : Post = record { from = link; shield = None; packet = packet } in
-      overhears link None (Some o) (length run.posts) (entered post (note e run)) (same (note e run) (entered post (note e run)) refl refl (one run e refl c))
+  -- what each change leaves, but for the homes that an agent gives up as it begins its next life
+  abbrev AreMild : Event → Type 0
+  AreMild event = (number : ℕ) → Delivers_of event number → IsMildOf bad number
 
-  injected_if_calm : (o link : ℕ) (packet : Option (List ℕ)) (run : Run) → Calm run → Calm (injected_if s run o link packet)
-  injected_if_calm o link None run c = one run entries.Idle refl c
-  injected_if_calm o link (Some packet) run c = injected_calm o link packet run c
+  left_single : (event : Event) → AreMild event → (run : Run) (e : Entry) → IsLeft s event run e → bad e ≡ false
+  left_single event all run (entries.Handed number node) is = (all number is.delivers).handed node.0
+  left_single event all run (entries.Gone number why) is = (all number is.delivers).gone why
+  left_single event all run (entries.Claimed who link address) is = absurd is
+  left_single event all run (entries.Released who link address) is = absurd is
+  left_single event all run e is = mild.other e refl
 
-  -- rows that are shown
-  rows_calm : (n : ℕ) (rows : List Row) → list_any is_special (map (row_entry n) rows) ≡ false
-  rows_calm n [] = refl
-  rows_calm n (r ∷ rows) = rows_calm n rows
+  change_calm : (event : Event) → is_restart event ≡ false → AreMild event → (a b : Run) → Change s event a b → Calm a → Calm b
+  change_calm event lives all _ _ (left run e is) c = single run e (left_single event all run e is) c
+  change_calm event lives all _ _ (comes run m wait early) c = one run (entries.At (record { 0 = m })) refl c
+  change_calm event lives all _ _ (injects run o link packet is) c =
+      let e : Entry = entries.Injected (length run.posts) o link packet in
+      same (note e run) (entered (record { from = link.0; shield = None; packet = packet }) (note e run)) refl refl (one run e refl c)
+  change_calm event lives all _ _ (drops run k) c = record { rest = c.rest; whole = c.whole; calm = c.calm; stands = c.stands }
+  change_calm event lives all _ _ (squats run o address so) c = claims_calm (holder_outside o) address run c
+  change_calm event lives all _ _ (yields run o address so) c = gives_up_calm (holder_outside o) address run (mild.outside o address) c
+  change_calm event lives all _ _ (acted run n call is) c = acts_calm run n call c
+  change_calm event lives all _ _ (moved run node link so is) c = one (acts s node.0 calls.Leave run) (entries.Moved node link) refl (acts_calm run node.0 calls.Leave c)
+  change_calm event lives all _ _ (reborn run node so is) c = absurd (alive event node so lives)
+  change_calm event lives all _ _ (gives run node address so is) c = absurd (alive event node so lives)
+  change_calm event lives all _ _ (renewed run node secrets so is life) c = absurd (alive event node so lives)
 
-  home_rows_calm : (n : ℕ) (rows : List HomeRow) → list_any is_special (map (home_entry n) rows) ≡ false
-  home_rows_calm n [] = refl
-  home_rows_calm n (r ∷ rows) = home_rows_calm n rows
+  happens_calm : (run : Run) (event : Event) → is_restart event ≡ false → AreMild event → Calm run → Calm (happens s run event)
+  happens_calm run event lives all c = happens_keeps s Calm run event (change_calm event lives all) c
 
-  kind_calm : (n : ℕ) (own : Address) (run : Run) (kind : Kind) → list_any is_special (rows_by_kind s n own run kind) ≡ false
-  kind_calm n own run (Correspondent room) = rows_calm n (caches.rows_at (known_in s run n room).cache (now_in s run))
-  kind_calm n own run (Agent preference life room serves) = home_rows_calm n (rows_at (now_in s run) (agent_known_in run n serves).homes)
-  kind_calm n own run (Mobile agent) = rows_calm n (caches.rows_at (mobile_known_in s run n own agent).part.known.cache (now_in s run))
-
-  shown_calm : (n : ℕ) (run : Run) → Calm run → Calm (shown s n run)
-  shown_calm n run c = by (slice_get s.hosts n)
-    where
-      by : (o : Option Host) → Calm (rows_shown s n run o)
-      by None = one run entries.Idle refl c
-      by (Some host) = calm_notes (rows_by_kind s n host.address run host.kind) run (kind_calm n host.address run host.kind) c
-
-  lost_calm : (run : Run) (number : ℕ) → Calm run → Calm (lost run number)
-  unfolding lost
-  lost_calm run number c =
-      either (slice_index_or run.flying number false) (entries.Lost number) entries.Idle (without number run) refl refl (record { rest = c.rest; whole = c.whole; calm = c.calm; stands = c.stands })
-
-  moves_calm : (run : Run) (n : ℕ) (link : Option LinkId) (b : Bool) → Calm run → Calm (if b then moves s run n link else note entries.Idle run)
-  moves_calm run n link true c = one (acts s n calls.Leave run) (entries.Moved (node_id n) link) refl (acts_calm run n calls.Leave c)
-  moves_calm run n link false c = one run entries.Idle refl c
-
-  carried_one_calm : ((number : ℕ) → IsMildOf bad number) → (run : Run) (o : Option ℕ) → Calm run → Calm (carried_one s run o)
-  carried_one_calm all run None c = c
-  carried_one_calm all run (Some number) c = delivered_calm run number false (all number) c
-
-  carried_calm : ((number : ℕ) → IsMildOf bad number) → (run : Run) (count : ℕ) → Calm run → Calm (carried s run count)
-  unfolding carried
-  carried_calm all run zero c = c
-  carried_calm all run (suc n) c = carried_one_calm all (carried s run n) (lowest_of (carried s run n).flying) (carried_calm all run n c)
+  pub delivered_calm : (run : Run) (number : ℕ) (keep : Bool) → IsMildOf bad number → Calm run → Calm (delivered s run number keep)
+  delivered_calm run number true other c = happens_calm run (Repeat number) refl (λ k same. subst (IsMildOf bad) same other) c
+  delivered_calm run number false other c = happens_calm run (Deliver number) refl (λ k same. subst (IsMildOf bad) same other) c
 
   -- an event that delivers no packet
   pub event_calm : (run : Run) (event : Event) → is_delivery event ≡ false → Calm run → Calm (happens s run event)
+  event_calm run (Restart node) none c = restarted_calm run node.0 c
   event_calm run (Deliver number) none c = absurd cc
   event_calm run (Repeat number) none c = absurd cc
   event_calm run (Carry count) none c = absurd cc
-  event_calm run (Wait ms) none c = waited_calm run ms c
-  event_calm run (Move node link) none c = moves_calm run node.0 link (is_mobile_at s node.0) c
-  event_calm run (Advertise link) none c =
-      mobiles_calm link.0 (length s.hosts) (agents_hear s link.0 (length s.hosts) run) (agents_calm link.0 (length s.hosts) run c)
-  event_calm run (Payload node to proto payload) none c = acts_calm run node.0 (calls.Send to proto payload) c
-  event_calm run (Inject o link packet) none c = injected_calm o link.0 packet run c
-  event_calm run (Probe o link careof source peer cookie) none c = injected_calm o link.0 (probe_packet careof source peer cookie.0) run c
-  event_calm run (Bind o link ends sequence lifetime kh kc number) none c =
-      injected_if_calm o link.0 (update_packet (record { source = ends.source; peer = ends.peer; home = ends.home; careof = ends.careof; sequence = sequence; lifetime = lifetime; number = number }) run.posts kh kc) run c
-  event_calm run (Tell o link kt kp) none c = injected_if_calm o link.0 (test_packet run.posts kt kp) run c
-  event_calm run (Listen o link) none c = either (hears_in run.past o link.0) entries.Idle (entries.Listening o (link_id link.0)) run refl refl c
-  event_calm run (Deaf o link) none c = either (hears_in run.past o link.0) (entries.Deafened o (link_id link.0)) entries.Idle run refl refl c
-  event_calm run (Squat o address) none c = claims_calm (holder_outside o) address run c
-  event_calm run (Yield o address) none c = gives_up_calm (holder_outside o) address run (mild.outside o address) c
-  event_calm run (Lose number) none c = lost_calm run number c
-  event_calm run (Restart node) none c = restarted_calm run node.0 c
-  event_calm run (Refresh node home) none c = acts_calm run node.0 (calls.Refresh home) c
-  event_calm run (Plan node valid preferred) none c = acts_calm run node.0 (calls.Plan valid preferred) c
-  event_calm run (Ask node) none c = acts_calm run node.0 calls.Ask c
-  event_calm run (Show node) none c = shown_calm node.0 run c
-  event_calm run (Settle a b) none c = one run _ refl c
+  event_calm run event none c = happens_calm run event refl (λ number delivers. absurd delivers) c
 
   -- any event
   pub any_calm : ((number : ℕ) → IsMildOf bad number) → (run : Run) (event : Event) → Calm run → Calm (happens s run event)
-  any_calm all run (Deliver number) c = delivered_calm run number false (all number) c
-  any_calm all run (Repeat number) c = delivered_calm run number true (all number) c
-  any_calm all run (Carry count) c = carried_calm all run count c
-  any_calm all run event c = event_calm run event refl c
+  any_calm all run (Restart node) c = restarted_calm run node.0 c
+  any_calm all run event c = happens_calm run event refl (λ number delivers. all number) c
 
   pub events_calm : ((number : ℕ) → IsMildOf bad number) → (run : Run) (events : List Event) → Calm run → Calm (run_on s run events)
   events_calm all run [] c = c

@@ -1,6 +1,6 @@
 -- What an event makes of a run is a list of changes of eleven kinds, each with what its event allows.
 use Rattle.std.proofs.Common.{◌≡◌, ℕ, zero, suc, ◌+◌, ◌<◌, ◌≤◌, List, [], ◌∷◌, ◌++◌, Bool, true, false, length, max, ◌⊎◌, inl, inr, refl, sym, ap, ◌∙◌, subst, arith}
-use Rattle.std.specs.Prelude.{fold, map, not, Option, Some, None, unwrap_or, is_some, ◌==◌, ◌&&◌, nat_lt, if◌then◌else◌, slice_get, slice_index_or}
+use Rattle.std.specs.Prelude.{fold, map, not, Option, Some, None, unwrap_or, is_some, ◌==◌, ◌&&◌, nat_lt, if◌then◌else◌, slice_get, slice_index_or, slice_set}
 use Rattle.std.specs.List.{AllByRecursion}
 use Rattle.std.proofs.lemmas.Bool.{cond_both}
 use Rattle.std.proofs.lemmas.Bool.Decides.{nat_tests}
@@ -13,7 +13,6 @@ use Rattle.mip_words.specs.declared.ids.NodeId.{NodeId}
 use Rattle.mip_words.specs.declared.shield.Shield.{Shield}
 use Rattle.mip_words.specs.declared.why.Why.TheVariants.{Shield as NotForIt, Hop}
 use Rattle.mip_nonce.specs.Secrets.{Life}
-use Rattle.mip_bcache.specs.declared.row.Row.{Row}
 use Rattle.mip_bcache.specs.Seen as caches
 use Rattle.mip_entries.specs.declared.entry.Entry.{Entry}
 use Rattle.mip_entries.specs.declared.entry.Entry.TheVariants as entries
@@ -44,13 +43,21 @@ use Rattle.mip_history.specs.Advertising.{Router, router_by_host, router_at, hea
 use Rattle.mip_history.specs.Restarting.{homes_left, reborn_by_kind, reborn_by_host, restarted}
 use Rattle.mip_history.specs.Settled.{is_settled}
 use Rattle.mip_history.specs.Permitted.{lost, moves, moves_if, happens}
-use Rattle.mip_history.proofs.Keeping.{IsHanded, IsThere, emptied, emptied_by_host}
-use Rattle.mip_history.proofs.Effects.{IsBare, post_last, now_acts}
+use Rattle.mip_history.proofs.Keeping.{IsHanded, IsThere, emptied, emptied_by_host, keeps_gives_up}
+use Rattle.mip_history.proofs.Effects.{IsBare, get_last, now_acts}
 
 -- an event by which time goes on
 abbrev pub IsWait : Event → Type 0
 IsWait (Wait ms) = Unit {0}
 IsWait _ = ⊥
+
+-- an event by which a node begins its next life
+abbrev pub is_restart : Event → Bool
+is_restart (Restart node) = true
+is_restart _ = false
+
+pub alive : (event : Event) (node : NodeId) → event ≡ Restart node → is_restart event ≡ false → ⊥
+alive event node so none = absurd (let both : true ≡ false = sym (ap is_restart so) ∙ none in cc)
 
 -- an event that delivers packet k; `carry` delivers what flies
 abbrev pub Delivers : Event → ℕ → Type 0
@@ -109,6 +116,16 @@ IsBy s event run n calls.Ask = event ≡ Ask (node_id n)
 IsBy s event run n calls.Leave = ⊥
 IsBy s event run n (calls.Restart secrets) = ⊥
 
+-- an agent that has just begun its life
+pub record IsBornAgent (s : Setup) (run : Run) (n : ℕ) : Type 0 where
+  pub own : Address
+  pub preference : ℕ
+  pub life : ℕ
+  pub room : ℕ
+  pub serves : List Address
+  pub host : slice_get s.hosts n ≡ Some (record { address = own; kind = Agent preference life room serves })
+  pub empty : agent_past_at run n ≡ []
+
 pub data Change (s : Setup) (event : Event) : Run → Run → Type 0 where
   left : (run : Run) (e : Entry) → IsLeft s event run e → Change s event run (note e run)
   comes : (run : Run) (m : ℕ) → IsWait event → now_in s run ≤ m → Change s event run (note (entries.At (record { 0 = m })) run)
@@ -120,7 +137,7 @@ pub data Change (s : Setup) (event : Event) : Run → Run → Type 0 where
   acted : (run : Run) (n : ℕ) (call : Call) → IsBy s event run n call → Change s event run (acts s n call run)
   moved : (run : Run) (node : NodeId) (link : Option LinkId) → event ≡ Move node link → is_mobile_host (slice_get s.hosts node.0) ≡ true → Change s event run (moves s run node.0 link)
   reborn : (run : Run) (node : NodeId) → event ≡ Restart node → is_mobile_host (slice_get s.hosts node.0) ≡ false → Change s event run (note (entries.Restarted node) (emptied s node.0 run))
-  gives : (run : Run) (node : NodeId) (address : Address) → event ≡ Restart node → node.0 < length s.hosts → Change s event run (gives_up s node.0 address run)
+  gives : (run : Run) (node : NodeId) (address : Address) → event ≡ Restart node → IsBornAgent s run node.0 → Change s event run (gives_up s node.0 address run)
   renewed : (run : Run) (node : NodeId) (secrets : Life) → event ≡ Restart node → is_mobile_host (slice_get s.hosts node.0) ≡ true
       → secrets ≡ secrets_in s node.0 (life_in (run.past ++ entries.Restarted node ∷ []) node.0)
       → Change s event run (acts s node.0 (calls.Restart secrets) (note (entries.Restarted node) run))
@@ -216,6 +233,23 @@ outsider_bare s past post who is = on (link_of s.links (destination_in post.pack
     on (Some link) e =
         cond_both (not (link == post.from) && nat_lt (hop_of post.packet) 2) (Gone Hop) (at_holder (asked_in s past) post.shield (holder_in past (destination_in post.packet)))
         (λ (f : Fate). f ≡ Outsider who → post.shield ≡ None) (λ used f. absurd cc) (λ fresh f. at (holder_in past (destination_in post.packet)) f) e
+
+-- the past of an agent that has just begun its life is empty, and stays so as it gives up homes
+set_empty : {X : Type 0} (pasts : List (List X)) (n : ℕ) → slice_index_or (slice_set pasts n []) n [] ≡ []
+set_empty [] n = refl
+set_empty (past ∷ pasts) zero = refl
+set_empty (past ∷ pasts) (suc n) = set_empty pasts n
+
+gives_born : (s : Setup) (run : Run) (n : ℕ) (address : Address) → IsBornAgent s run n → IsBornAgent s (gives_up s n address run) n
+gives_born s run n address is = record {
+  own = is.own;
+  preference = is.preference;
+  life = is.life;
+  room = is.room;
+  serves = is.serves;
+  host = is.host;
+  empty = keeps_gives_up s (λ (r : Run). agent_past_at r n ≡ []) (λ r e quiet empty. empty) n address run is.empty;
+}
 
 -- what each change keeps, an event keeps
 module _ (s : Setup) (event : Event) (P : Run → Type 0) (step : (a b : Run) → Change s event a b → P a → P b) where
@@ -437,10 +471,10 @@ module _ (s : Setup) (event : Event) (P : Run → Type 0) (step : (a b : Run) �
 
   -- a node begins its next life
   module _ (node : NodeId) (so : event ≡ Restart node) where
-    walk_homes : (rows : List HomeRow) (run : Run) → node.0 < length s.hosts → P run → P (homes_left s node.0 rows run)
+    walk_homes : (rows : List HomeRow) (run : Run) → IsBornAgent s run node.0 → P run → P (homes_left s node.0 rows run)
     unfolding homes_left
-    walk_homes [] run within p = p
-    walk_homes (r ∷ rows) run within p = walk_homes rows (gives_up s node.0 r.home run) within (step run (gives_up s node.0 r.home run) (gives run node r.home so within) p)
+    walk_homes [] run is p = p
+    walk_homes (r ∷ rows) run is p = walk_homes rows (gives_up s node.0 r.home run) (gives_born s run node.0 r.home is) (step run (gives_up s node.0 r.home run) (gives run node r.home so is) p)
 
     walk_reborn : (run : Run) (o : Option Host) → slice_get s.hosts node.0 ≡ o → is_mobile_host o ≡ false → P run → P (note (entries.Restarted node) (emptied_by_host node.0 run o))
     walk_reborn run o is unmoved p =
@@ -454,7 +488,8 @@ module _ (s : Setup) (event : Event) (P : Run → Type 0) (step : (a b : Run) �
         of_kind : (own : Address) (kind : Kind) → slice_get s.hosts node.0 ≡ Some (record { address = own; kind = kind }) → P (reborn_by_kind s node.0 run kind)
         of_kind own (Correspondent room) is = walk_reborn run _ is refl p
         of_kind own (Agent preference life room serves) is =
-            walk_homes (rows_at (now_in s run) (agent_known_in run node.0 serves).homes) _ (slice_get_within s.hosts node.0 _ is) (walk_reborn run _ is refl p)
+            walk_homes (rows_at (now_in s run) (agent_known_in run node.0 serves).homes) _
+            (record { own = own; preference = preference; life = life; room = room; serves = serves; host = is; empty = set_empty run.agent_pasts node.0 }) (walk_reborn run _ is refl p)
         of_kind own (Mobile agent) is =
             let next : Run = note (entries.Restarted node) run in
             step run _ (renewed run node (secrets_in s node.0 (life_in next.past node.0)) so (ap is_mobile_host is) refl) p
@@ -469,7 +504,7 @@ module _ (s : Setup) (event : Event) (P : Run → Type 0) (step : (a b : Run) �
       let post : Post = record { from = link.0; shield = None; packet = packet } in
       let next : Run = entered post (note (entries.Injected (length run.posts) o link packet) run) in
       let since : Since (length run.posts) post next (injected s run o link.0 packet) =
-      since_overheard (length run.posts) post link.0 (Some o) next (post_last run.posts post) (step run next (injects run o link packet is) p) in
+      since_overheard (length run.posts) post link.0 (Some o) next (get_last run.posts post) (step run next (injects run o link packet is) p) in
       since.p
 
   walk_injected_if : (o : ℕ) (link : LinkId) (packet : Option (List ℕ)) (run : Run) → Injects event o link → P run → P (injected_if s run o link.0 packet)

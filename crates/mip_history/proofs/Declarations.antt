@@ -15,7 +15,6 @@ use Rattle.mip_symbols.specs.Places.{members, AreFew}
 use Rattle.mip_symbols.specs.declared.declaration.Declaration.{Declaration}
 use Rattle.mip_symbols.specs.declared.declaration.Declaration.TheVariants as declare
 use Rattle.mip_schedule.specs.declared.event.Event.{Event}
-use Rattle.mip_schedule.specs.declared.event.Event.TheVariants as events
 use Rattle.mip_symbols.specs.declared.places.Sort.TheVariants as sorts
 use Rattle.mip_symbols.specs.declared.reason.Reason.{Reason}
 use Rattle.mip_symbols.specs.declared.reason.Reason.TheVariants as reasons
@@ -23,7 +22,7 @@ use Rattle.mip_history.specs.Setup.{links_in, hosts_from, outsiders_in, setup_of
 use Rattle.mip_history.specs.Permitted.{permitted}
 use Rattle.mip_history.specs.Naming.{IsDeclared}
 use Rattle.mip_history.proofs.Declaring.{IsOf}
-use Rattle.mip_history.proofs.DeclaringRuns.{Names, declared_run}
+use Rattle.mip_history.proofs.DeclaringRuns.{declared_run}
 
 -- as many as are declared
 links_count : (ds : List Declaration) → length (members sorts.Link ds) ≡ length (links_in ds)
@@ -112,27 +111,10 @@ module _ (all : List Declaration) (stand : MayStand all) where
       node_link front ds (declare.Mobile name link address agent) whole
       (on_link front link address (passed (has_no_room front) (misplaced front link address) (stand front (declare.Mobile name link address agent) ds whole)))
 
--- what an event names
-event_names : (numbered : Bool) (ds : List Declaration) (e : Event) → IsWithin numbered ds e → Names ds e
-event_names numbered ds (events.Move node link) within = within
-event_names numbered ds (events.Advertise link) within = within
-event_names numbered ds (events.Inject o link packet) within = (within.0, within.1)
-event_names numbered ds (events.Probe o link careof source peer cookie) within = (within.0, within.1)
-event_names numbered ds (events.Bind o link ends sequence lifetime kh kc number) within = (within.0, within.1)
-event_names numbered ds (events.Tell o link kt kp) within = within
-event_names numbered ds (events.Listen o link) within = within
-event_names numbered ds (events.Deaf o link) within = within
-event_names numbered ds (events.Squat o address) within = within.0
-event_names numbered ds (events.Yield o address) within = within.0
-event_names numbered ds (events.Restart node) within = within
-event_names numbered ds (events.Settle a b) within = within
-event_names numbered ds _ within = tt
-
 module _ (c : Content) (lawful : IsLawful c) where
-  names_from : (front es : List Event) → c.events ≡ front ++ es → AllByRecursion (Names c.declarations) es
-  names_from front [] whole = tt
-  names_from front (e ∷ es) whole =
-      (event_names (is_numbered c.version) c.declarations e ((lawful.events front e es whole).within), names_from (front ++ e ∷ []) es (whole ∙ sym (append_assoc front (e ∷ []) es)))
+  within_from : (front es : List Event) → c.events ≡ front ++ es → AllByRecursion (IsWithin (is_numbered c.version) c.declarations) es
+  within_from front [] whole = tt
+  within_from front (e ∷ es) whole = ((lawful.events front e es whole).within, within_from (front ++ e ∷ []) es (whole ∙ sym (append_assoc front (e ∷ []) es)))
 
   module _ (few : AreFew c.declarations) where
     is_of : IsOf c.declarations (setup_of c)
@@ -146,4 +128,4 @@ module _ (c : Content) (lawful : IsLawful c) where
 
     pub permitted_declared : AllByRecursion (IsDeclared c.declarations) (permitted c)
     unfolding permitted
-    permitted_declared = declared_run c.declarations (setup_of c) is_of c.events (names_from [] c.events refl)
+    permitted_declared = declared_run (is_numbered c.version) c.declarations (setup_of c) is_of c.events (within_from [] c.events refl)

@@ -2,15 +2,15 @@
 use Rattle.std.proofs.Common.{◌≡◌, ℕ, ◌+◌, ◌<◌, ◌≤◌, List, [], ◌∷◌, ◌++◌, Bool, true, false, length, inl, inr, refl, sym, arith, length-append, subst}
 use Rattle.std.specs.Prelude.{Option, Some, None, unwrap_or, if◌then◌else◌}
 use Rattle.std.specs.List.{AllByRecursion}
+use Rattle.std.proofs.lemmas.Option.{slice_get_within}
 use Rattle.mip_words.specs.declared.address.Address.{Address}
 use Rattle.mip_words.specs.declared.ids.LinkId.{LinkId}
 use Rattle.mip_entries.specs.declared.entry.Entry.{Entry}
 use Rattle.mip_entries.specs.declared.entry.Entry.TheVariants as entries
-use Rattle.mip_entries.specs.Completed.{node_id}
-use Rattle.mip_schedule.specs.Lawful.{IsLink, IsNode, IsOutsider, IsLinkIfAny}
+use Rattle.mip_schedule.specs.Lawful.{IsLink, IsOutsider, IsWithin}
 use Rattle.mip_symbols.specs.declared.declaration.Declaration.{Declaration}
 use Rattle.mip_schedule.specs.declared.event.Event.{Event}
-use Rattle.mip_schedule.specs.declared.event.Event.TheVariants.{Move, Advertise, Inject, Probe, Bind, Tell, Listen, Deaf, Squat, Yield, Restart, Settle}
+use Rattle.mip_schedule.specs.declared.event.Event.TheVariants.{Inject, Probe, Bind, Tell}
 use Rattle.mip_links.specs.Table.{Fate, link_of, outsider_of, holder_outside}
 use Rattle.mip_links.specs.Table.Fate.{Gone, Outsider, Node}
 use Rattle.mip_history.specs.Setup.{Setup, Host}
@@ -23,39 +23,22 @@ use Rattle.mip_history.specs.Naming.{IsDeclared}
 use Rattle.mip_history.proofs.Reasons.{all_append}
 use Rattle.mip_history.proofs.Declaring.{IsOf, P, d-note, link_is, node_is, d-claims, d-gives_up, d-acts, IsRight, delivery_right}
 use Rattle.mip_history.proofs.Keeping.{emptied}
-use Rattle.mip_history.proofs.Effects.{Effect, notes-it, enters, goes, learns}
 use Rattle.mip_history.proofs.Changes.{Injects, IsFate, IsHeard, IsLeft, Change, left, comes, injects, drops, squats, yields, acted, moved, reborn, gives, renewed, schedule_keeps}
 use Rattle.mip_history.proofs.Folds.{emptied_past}
 
--- what an event names is declared
-abbrev pub Names : List Declaration → Event → Type 0
-Names ds (Move node link) = IsNode ds node × IsLinkIfAny ds link
-Names ds (Advertise link) = IsLink ds link
-Names ds (Inject o link packet) = IsOutsider ds o × IsLink ds link
-Names ds (Probe o link careof source peer cookie) = IsOutsider ds o × IsLink ds link
-Names ds (Bind o link ends sequence lifetime kh kc number) = IsOutsider ds o × IsLink ds link
-Names ds (Tell o link kt kp) = IsOutsider ds o × IsLink ds link
-Names ds (Listen o link) = IsOutsider ds o × IsLink ds link
-Names ds (Deaf o link) = IsOutsider ds o × IsLink ds link
-Names ds (Squat o address) = IsOutsider ds o
-Names ds (Yield o address) = IsOutsider ds o
-Names ds (Restart node) = IsNode ds node
-Names ds (Settle a b) = IsNode ds a × IsNode ds b
-Names ds _ = Unit {0}
-
 -- who injects
-injector : (ds : List Declaration) (event : Event) (o : ℕ) (link : LinkId) → Injects event o link → Names ds event → IsOutsider ds o × IsLink ds link
-injector ds (Inject outsider on packet) o link is names = (subst (IsOutsider ds) is.0 names.0, subst (IsLink ds) is.1 names.1)
-injector ds (Probe outsider on careof source peer cookie) o link is names = (subst (IsOutsider ds) is.0 names.0, subst (IsLink ds) is.1 names.1)
-injector ds (Bind outsider on ends sequence lifetime kh kc number) o link is names = (subst (IsOutsider ds) is.0 names.0, subst (IsLink ds) is.1 names.1)
-injector ds (Tell outsider on kt kp) o link is names = (subst (IsOutsider ds) is.0 names.0, subst (IsLink ds) is.1 names.1)
-injector ds _ o link is names = absurd is
+injector : (numbered : Bool) (ds : List Declaration) (event : Event) (o : ℕ) (link : LinkId) → Injects event o link → IsWithin numbered ds event → IsOutsider ds o × IsLink ds link
+injector numbered ds (Inject outsider on packet) o link is within = (subst (IsOutsider ds) is.0 within.0, subst (IsLink ds) is.1 within.1)
+injector numbered ds (Probe outsider on careof source peer cookie) o link is within = (subst (IsOutsider ds) is.0 within.0, subst (IsLink ds) is.1 within.1)
+injector numbered ds (Bind outsider on ends sequence lifetime kh kc number) o link is within = (subst (IsOutsider ds) is.0 within.0, subst (IsLink ds) is.1 within.1)
+injector numbered ds (Tell outsider on kt kp) o link is within = (subst (IsOutsider ds) is.0 within.0, subst (IsLink ds) is.1 within.1)
+injector numbered ds _ o link is within = absurd is
 
 all_front : {X : Type 0} (F : X → Type 0) (xs ys : List X) → AllByRecursion F (xs ++ ys) → AllByRecursion F xs
 all_front F [] ys all = tt
 all_front F (x ∷ xs) ys all = (all.0, all_front F xs ys all.1)
 
-module _ (ds : List Declaration) (s : Setup) (of : IsOf ds s) where
+module _ (numbered : Bool) (ds : List Declaration) (s : Setup) (of : IsOf ds s) where
   abbrev Q : Run → Type 0
   Q run = P ds s of run
 
@@ -97,34 +80,34 @@ module _ (ds : List Declaration) (s : Setup) (of : IsOf ds s) where
     | inr (who, fate, same) ↦ (let right : outsider_of who < s.outsiders = fate_right event run k (Outsider who) fate q in omega (arith, right, same, of.outsiders))
   ]
 
-  left_is : (event : Event) → Names ds event → (run : Run) (e : Entry) → IsLeft s event run e → Q run → IsDeclared ds e
-  left_is event names run entries.Idle is q = tt
-  left_is event names run (entries.Heard k o) is q = heard_is event run k o is q
-  left_is event names run (entries.Handed k node) is q = node_is ds s of node.0 (fate_right event run k (Node node.0) is q)
-  left_is event names run (entries.Gone k why) is q = fate_right event run k (Gone why) is q
-  left_is event names run (entries.Lost k) is q = tt
-  left_is event names run (entries.Listening o link) is q = subst (Names ds) is names
-  left_is event names run (entries.Deafened o link) is q = subst (Names ds) is names
-  left_is event names run (entries.Settled a b value) is q = subst (Names ds) is names
-  left_is event names run (entries.Advertised node link router) is q = (node_is ds s of node.0 is.1, subst (Names ds) is.0 names)
-  left_is event names run (entries.Row node home number careof sequence end kept) is q = node_is ds s of node.0 is.1
-  left_is event names run _ is q = absurd is
+  left_is : (event : Event) → IsWithin numbered ds event → (run : Run) (e : Entry) → IsLeft s event run e → Q run → IsDeclared ds e
+  left_is event bounds run entries.Idle is q = tt
+  left_is event bounds run (entries.Heard k o) is q = heard_is event run k o is q
+  left_is event bounds run (entries.Handed k node) is q = node_is ds s of node.0 (fate_right event run k (Node node.0) is q)
+  left_is event bounds run (entries.Gone k why) is q = fate_right event run k (Gone why) is q
+  left_is event bounds run (entries.Lost k) is q = tt
+  left_is event bounds run (entries.Listening o link) is q = subst (IsWithin numbered ds) is bounds
+  left_is event bounds run (entries.Deafened o link) is q = subst (IsWithin numbered ds) is bounds
+  left_is event bounds run (entries.Settled a b value) is q = subst (IsWithin numbered ds) is bounds
+  left_is event bounds run (entries.Advertised node link router) is q = (node_is ds s of node.0 is.1, subst (IsWithin numbered ds) is.0 bounds)
+  left_is event bounds run (entries.Row node home number careof sequence end kept) is q = node_is ds s of node.0 is.1
+  left_is event bounds run _ is q = absurd is
 
-  change : (event : Event) → Names ds event → (a b : Run) → Change s event a b → Q a → Q b
-  change event names _ _ (left run e is) q = note-it e run (left_is event names run e is q) q
-  change event names _ _ (comes run m wait early) q = note-it (entries.At (record { 0 = m })) run tt q
-  change event names _ _ (injects run o link packet is) q = note-it (entries.Injected (length run.posts) o link packet) run (injector ds event o link is names) q
-  change event names _ _ (drops run k) q = q
-  change event names _ _ (squats run o address so) q = d-claims ds s of (holder_outside o) address run (inr (o, subst (Names ds) so names, omega arith)) q
-  change event names _ _ (yields run o address so) q = d-gives_up ds s of (holder_outside o) address run (inr (o, subst (Names ds) so names, omega arith)) q
-  change event names _ _ (acted run n call is) q = d-acts ds s of n call run q
-  change event names _ _ (moved run node link so is) q =
-      note-it (entries.Moved node link) (acts s node.0 calls.Leave run) (subst (Names ds) so names) (d-acts ds s of node.0 calls.Leave run q)
-  change event names _ _ (reborn run node so is) q =
-      note-it (entries.Restarted node) (emptied s node.0 run) (subst (Names ds) so names) (subst (AllByRecursion (IsDeclared ds)) (sym (emptied_past s node.0 run)) q)
-  change event names _ _ (gives run node address so within) q = d-gives_up ds s of node.0 address run (inl (node_is ds s of node.0 within)) q
-  change event names _ _ (renewed run node secrets so is life) q =
-      d-acts ds s of node.0 (calls.Restart secrets) (note (entries.Restarted node) run) (note-it (entries.Restarted node) run (subst (Names ds) so names) q)
+  change : (event : Event) → IsWithin numbered ds event → (a b : Run) → Change s event a b → Q a → Q b
+  change event bounds _ _ (left run e is) q = note-it e run (left_is event bounds run e is q) q
+  change event bounds _ _ (comes run m wait early) q = note-it (entries.At (record { 0 = m })) run tt q
+  change event bounds _ _ (injects run o link packet is) q = note-it (entries.Injected (length run.posts) o link packet) run (injector numbered ds event o link is bounds) q
+  change event bounds _ _ (drops run k) q = q
+  change event bounds _ _ (squats run o address so) q = d-claims ds s of (holder_outside o) address run (inr (o, (subst (IsWithin numbered ds) so bounds).0, omega arith)) q
+  change event bounds _ _ (yields run o address so) q = d-gives_up ds s of (holder_outside o) address run (inr (o, (subst (IsWithin numbered ds) so bounds).0, omega arith)) q
+  change event bounds _ _ (acted run n call is) q = d-acts ds s of n call run q
+  change event bounds _ _ (moved run node link so is) q =
+      note-it (entries.Moved node link) (acts s node.0 calls.Leave run) (subst (IsWithin numbered ds) so bounds) (d-acts ds s of node.0 calls.Leave run q)
+  change event bounds _ _ (reborn run node so is) q =
+      note-it (entries.Restarted node) (emptied s node.0 run) (subst (IsWithin numbered ds) so bounds) (subst (AllByRecursion (IsDeclared ds)) (sym (emptied_past s node.0 run)) q)
+  change event bounds _ _ (gives run node address so is) q = d-gives_up ds s of node.0 address run (inl (node_is ds s of node.0 (slice_get_within s.hosts node.0 _ is.host))) q
+  change event bounds _ _ (renewed run node secrets so is life) q =
+      d-acts ds s of node.0 (calls.Restart secrets) (note (entries.Restarted node) run) (note-it (entries.Restarted node) run (subst (IsWithin numbered ds) so bounds) q)
 
-  pub declared_run : (events : List Event) → AllByRecursion (Names ds) events → Q (run_of s events)
-  declared_run events names = schedule_keeps s Q (Names ds) change (opened s) events names (claims_are [] s.hosts (omega arith))
+  pub declared_run : (events : List Event) → AllByRecursion (IsWithin numbered ds) events → Q (run_of s events)
+  declared_run events bounds = schedule_keeps s Q (IsWithin numbered ds) change (opened s) events bounds (claims_are [] s.hosts (omega arith))

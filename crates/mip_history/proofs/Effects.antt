@@ -1,6 +1,6 @@
 -- What a run becomes by whatever happens in it, however that came about: an entry is left, a packet is posted, one leaves the
 -- pool, or a node has learnt something. A call is many of these.
-use Rattle.std.proofs.Common.{◌≡◌, ℕ, zero, suc, ◌<◌, List, [], ◌∷◌, ◌++◌, Bool, true, false, length, refl, sym, ap, ◌∙◌, subst}
+use Rattle.std.proofs.Common.{◌≡◌, ℕ, zero, suc, List, [], ◌∷◌, ◌++◌, Bool, true, false, length, refl, sym, ap, ◌∙◌, subst}
 use Rattle.std.specs.Prelude.{fold, Option, Some, None, unwrap_or, is_some, ◌==◌, ◌&&◌, if◌then◌else◌, slice_get}
 use Rattle.std.specs.List.{AllByRecursion}
 use Rattle.std.proofs.lemmas.Bool.{eqb-true, eq-eqb}
@@ -24,7 +24,7 @@ use Rattle.mip_links.specs.Nets.{is_held_by}
 use Rattle.mip_history.specs.Setup.{Setup, Host, Kind}
 use Rattle.mip_history.specs.Setup.Kind.{Correspondent, Agent, Mobile}
 use Rattle.mip_history.specs.Runs.{Run, note, notes, entered, without}
-use Rattle.mip_history.specs.Questions.{moment_says, holder_says, holder_in, hears_in}
+use Rattle.mip_history.specs.Questions.{moment_says, holder_says, holder_in, hears_in, restarts, life_in}
 use Rattle.mip_history.specs.Calls.{Call, for_correspondent, for_agent, for_mobile}
 use Rattle.mip_history.specs.Knowing.{now_in, around_in}
 use Rattle.mip_history.specs.Claims.{link_id, is_free_for, claim_entry, claimed_on, claims}
@@ -79,18 +79,20 @@ held_is : (holder : Option ℕ) (who : ℕ) → is_held_by holder who ≡ true �
 held_is None who e = absurd cc
 held_is (Some other) who e = ap (λ (n : ℕ). Some n) (eqb-true other who e)
 
--- the last post
-pub post_last : (posts : List Post) (post : Post) → slice_get (posts ++ post ∷ []) (length posts) ≡ Some post
-post_last [] post = refl
-post_last (p ∷ posts) post = post_last posts post
+-- the last of several
+pub get_last : {X : Type 0} (xs : List X) (x : X) → slice_get (xs ++ x ∷ []) (length xs) ≡ Some x
+get_last [] x = refl
+get_last (y ∷ xs) x = get_last xs x
 
 -- an entry of which nothing is asked but of the packets that were posted
 abbrev pub IsSeenOf : List Post → Entry → Type 0
 IsSeenOf posts e = (r : Run) → r.posts ≡ posts → IsSeen r e
 
-module _ (s : Setup) (P : Run → Type 0) (step : (a b : Run) → Effect s a b → P a → P b) where
+-- what is kept by an entry and by a post, is kept by claims, by what outsiders hear and by what a node leaves
+module _ (s : Setup) (P : Run → Type 0) (noted : (run : Run) (e : Entry) → IsSeen run e → P run → P (note e run))
+    (put : (run : Run) (post : Post) (e : Entry) → IsPosting run post e → P run → P (entered post (note e run))) where
   h-note : (e : Entry) (run : Run) → IsSeen run e → P run → P (note e run)
-  h-note e run seen p = step run (note e run) (notes-it run e seen) p
+  h-note e run seen p = noted run e seen p
 
   pub h-notes : (es : List Entry) (run : Run) → AllByRecursion (IsSeenOf run.posts) es → P run → P (notes es run)
   h-notes [] run all p = subst (λ (l : List Entry). P (record run { past = l })) (sym (append-nil run.past)) p
@@ -119,11 +121,11 @@ module _ (s : Setup) (P : Run → Type 0) (step : (a b : Run) → Effect s a b �
 
   -- a packet is posted
   pub h-posted : (post : Post) (by : Option ℕ) (e : Entry) (run : Run) → IsPosting run post e → P run → P (posted s post by e run)
-  h-posted post by e run is p = h-overheard post.from post by (length run.posts) (entered post (note e run)) (post_last run.posts post) (step run (entered post (note e run)) (enters run post e is) p)
+  h-posted post by e run is p = h-overheard post.from post by (length run.posts) (entered post (note e run)) (get_last run.posts post) (put run post e is p)
 
   -- an address is claimed, and given up
-  pub h-claims : (who : ℕ) (address : Address) (run : Run) → P run → P (claims s who address run)
-  h-claims who address run p = by (link_of s.links address.0)
+  c-claims : (who : ℕ) (address : Address) (run : Run) → P run → P (claims s who address run)
+  c-claims who address run p = by (link_of s.links address.0)
     where
       of_other : (link other : ℕ) (mine : Bool) → (other == who) ≡ mine → holder_in run.past address.0 ≡ Some other
           → P (note (if mine then entries.Claimed who (link_id link) address else entries.Taken who (link_id link) address other) run)
@@ -146,8 +148,8 @@ module _ (s : Setup) (P : Run → Type 0) (step : (a b : Run) → Effect s a b �
       by true = p
       by false = h-note (entries.Claimed m (link_id link) address) run (ap (λ (h : Option ℕ). is_free_for h m) free) p
 
-  pub h-gives_up : (who : ℕ) (address : Address) (run : Run) → P run → P (gives_up s who address run)
-  h-gives_up who address run p = by (link_of s.links address.0)
+  c-gives_up : (who : ℕ) (address : Address) (run : Run) → P run → P (gives_up s who address run)
+  c-gives_up who address run p = by (link_of s.links address.0)
     where
       held : (link : ℕ) (b : Bool) → is_held_by (holder_in run.past address.0) who ≡ b → P (if b then left_on s who address link run else note entries.Idle run)
       held link true is =
@@ -170,9 +172,9 @@ module _ (s : Setup) (P : Run → Type 0) (step : (a b : Run) → Effect s a b �
   marks_seen posts past (Some a) = (mark_seen posts (mark_in past a), tt)
 
   h-left : (n : ℕ) (run : Run) (e : Entry) → P run → P (left_by s n run e)
-  h-left n run (entries.Claimed who link address) p = h-claims n address run p
-  h-left n run (entries.Taken who link address holder) p = h-claims n address run p
-  h-left n run (entries.Released who link address) p = h-gives_up n address run p
+  h-left n run (entries.Claimed who link address) p = c-claims n address run p
+  h-left n run (entries.Taken who link address holder) p = c-claims n address run p
+  h-left n run (entries.Released who link address) p = c-gives_up n address run p
   h-left n run (entries.Restarted node) p = p
   h-left n run e p =
       h-notes (named n 0 (length run.posts) e ∷ marks_of run.past (update_accepted (named n 0 (length run.posts) e))) run
@@ -183,28 +185,64 @@ module _ (s : Setup) (P : Run → Type 0) (step : (a b : Run) → Effect s a b �
       h-posted (record { from = from; shield = shield; packet = packet }) None (entries.Sent (length run.posts) (node_id n) (is_some shield) packet) run (refl, refl, refl) p
   h-answer n from run (Note entry) p = h-left n run entry p
 
-  h-answers : (n from : ℕ) (run : Run) (answers : List Answer) → P run → P (answered s n from run answers)
+  pub h-answers : (n from : ℕ) (run : Run) (answers : List Answer) → P run → P (answered s n from run answers)
   unfolding answered
   h-answers n from run [] p = p
   h-answers n from run (answer ∷ answers) p = h-answers n from (answered_one s n from run answer) answers (h-answer n from run answer p)
 
+-- what each effect keeps
+module _ (s : Setup) (P : Run → Type 0) (step : (a b : Run) → Effect s a b → P a → P b) where
+  noted : (run : Run) (e : Entry) → IsSeen run e → P run → P (note e run)
+  noted run e seen p = step run (note e run) (notes-it run e seen) p
+
+  put : (run : Run) (post : Post) (e : Entry) → IsPosting run post e → P run → P (entered post (note e run))
+  put run post e is p = step run (entered post (note e run)) (enters run post e is) p
+
+  pub h-claims : (who : ℕ) (address : Address) (run : Run) → P run → P (claims s who address run)
+  h-claims who address run p = c-claims s P noted put who address run p
+
+  pub h-gives_up : (who : ℕ) (address : Address) (run : Run) → P run → P (gives_up s who address run)
+  h-gives_up who address run p = c-gives_up s P noted put who address run p
+
   h-asks : {C : Type 0} (does : C → Run → Run) (call : Option C) (run : Run) → ((c : C) → P (does c run)) → P run → P (asks does call run)
-  h-asks does None run each p = h-note entries.Idle run tt p
+  h-asks does None run each p = noted run entries.Idle tt p
   h-asks does (Some c) run each p = each c
 
   pub h-acts : (n : ℕ) (call : Call) (run : Run) → P run → P (acts s n call run)
   h-acts n call run p = by_node (slice_get s.hosts n)
     where
       kinds : (own : Address) (kind : Kind) → P (by_kind s n own call run kind)
-      kinds own (Correspondent room) = h-asks _ (for_correspondent call) run (λ c. h-answers n _ _ _ (step run _ (learns run _ refl refl refl) p)) p
-      kinds own (Agent preference life room serves) = h-asks _ (for_agent (around_in run n None) call) run (λ c. h-answers n _ _ _ (step run _ (learns run _ refl refl refl) p)) p
-      kinds own (Mobile agent) = h-asks _ (for_mobile (around_in run n (Some own.0)) own call) run (λ c. h-answers n _ _ _ (step run _ (learns run _ refl refl refl) p)) p
+      kinds own (Correspondent room) = h-asks _ (for_correspondent call) run (λ c. h-answers s P noted put n _ _ _ (step run _ (learns run _ refl refl refl) p)) p
+      kinds own (Agent preference life room serves) = h-asks _ (for_agent (around_in run n None) call) run (λ c. h-answers s P noted put n _ _ _ (step run _ (learns run _ refl refl refl) p)) p
+      kinds own (Mobile agent) = h-asks _ (for_mobile (around_in run n (Some own.0)) own call) run (λ c. h-answers s P noted put n _ _ _ (step run _ (learns run _ refl refl refl) p)) p
 
       by_node : (o : Option Host) → P (by_host s n call run o)
-      by_node None = h-note entries.Idle run tt p
+      by_node None = noted run entries.Idle tt p
       by_node (Some host) = kinds host.address host.kind
 
--- no effect moves the moment
+-- what a node leaves is no past of a node
+abbrev pub HasPasts : Run → Run → Type 0
+HasPasts before run = (run.pasts ≡ before.pasts) × (run.agent_pasts ≡ before.agent_pasts) × (run.mobile_pasts ≡ before.mobile_pasts)
+
+pub answers_pasts : (s : Setup) (n from : ℕ) (answers : List Answer) (run : Run) → HasPasts run (answered s n from run answers)
+answers_pasts s n from answers run = h-answers s (HasPasts run) (λ r e seen has. has) (λ r post e is has. has) n from run answers (refl, refl, refl)
+
+-- no effect moves the moment, and none begins a life
+life_seen : (run : Run) (e : Entry) (n count : ℕ) → IsSeen run e → restarts n count e ≡ count
+life_seen run (entries.Restarted node) n count seen = absurd seen
+life_seen run _ n count seen = refl
+
+life_posting : (run : Run) (post : Post) (e : Entry) (n count : ℕ) → IsPosting run post e → restarts n count e ≡ count
+life_posting run post (entries.Sent number node shielded packet) n count is = refl
+life_posting run post (entries.Injected number outsider link packet) n count is = refl
+life_posting run post _ n count is = absurd is
+
+pub effect_life : (s : Setup) (n : ℕ) (a b : Run) → Effect s a b → life_in b.past n ≡ life_in a.past n
+effect_life s n _ _ (notes-it run e seen) = fold-append (restarts n) 0 run.past (e ∷ []) ∙ life_seen run e n (life_in run.past n) seen
+effect_life s n _ _ (enters run post e is) = fold-append (restarts n) 0 run.past (e ∷ []) ∙ life_posting run post e n (life_in run.past n) is
+effect_life s n _ _ (goes run k) = refl
+effect_life s n _ _ (learns run next past posts flying) = ap (λ (l : List Entry). life_in l n) past
+
 moment_seen : (run : Run) (e : Entry) (at : ℕ) → IsSeen run e → unwrap_or (moment_says e) at ≡ at
 moment_seen run (entries.At moment) at seen = absurd seen
 moment_seen run _ at seen = refl

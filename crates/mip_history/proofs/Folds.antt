@@ -8,6 +8,7 @@ use Rattle.mip_words.specs.declared.ids.NodeId.{NodeId}
 use Rattle.mip_entries.specs.declared.entry.Entry.{Entry}
 use Rattle.mip_entries.specs.declared.entry.Entry.TheVariants as entries
 use Rattle.mip_schedule.specs.declared.event.Event.{Event}
+use Rattle.mip_schedule.specs.declared.event.Event.TheVariants.{Restart as Restarts}
 use Rattle.mip_links.specs.Table.{link_of, holder_outside}
 use Rattle.mip_history.specs.Setup.{Setup, Host, Kind}
 use Rattle.mip_history.specs.Setup.Kind.{Correspondent, Agent, Mobile}
@@ -15,11 +16,11 @@ use Rattle.mip_history.specs.Runs.{Run, note, notes, with_past, with_agent_past}
 use Rattle.mip_history.specs.Calls.{Leave, Restart}
 use Rattle.mip_history.specs.Knowing.{now_in}
 use Rattle.mip_history.specs.Nodes.{acts}
-use Rattle.mip_history.specs.Permitted.{is_first_agent, anycast_at, claimed_entry, claims_of, claims_from, opening_claims, opened, happens, run_of}
+use Rattle.mip_history.specs.Permitted.{is_first_agent, anycast_at, claimed_entry, claims_of, claims_from, opened, happens, run_of}
 use Rattle.mip_history.proofs.Opening.{nothing}
 use Rattle.mip_history.proofs.Keeping.{emptied_by_kind, emptied_by_host, emptied}
 use Rattle.mip_history.proofs.Effects.{IsSeen, Effect, notes-it, enters, goes, learns, h-claims, h-gives_up, h-acts}
-use Rattle.mip_history.proofs.Changes.{IsLeft, Change, left, comes, injects, drops, squats, yields, acted, moved, reborn, gives, renewed, all_keep}
+use Rattle.mip_history.proofs.Changes.{IsWait, IsLeft, Change, left, comes, injects, drops, squats, yields, acted, moved, reborn, gives, renewed, all_keep}
 
 -- an entry that no node leaves posts nothing
 pub left_seen : (s : Setup) (event : Event) (run : Run) (e : Entry) → IsLeft s event run e → IsSeen run e
@@ -54,27 +55,31 @@ emptied_learns s n run = emptied_keeps s n run (Effect s run) (learns run run re
 pub emptied_past : (s : Setup) (n : ℕ) (run : Run) → (emptied s n run).past ≡ run.past
 emptied_past s n run = emptied_keeps s n run (λ (next : Run). next.past ≡ run.past) refl refl refl
 
+-- a change is many effects, but for a moment that comes and a life that begins
+module _ (s : Setup) (P : Run → Type 0) (step : (a b : Run) → Effect s a b → P a → P b) (event : Event)
+    (timed : (run : Run) (m : ℕ) → IsWait event → now_in s run ≤ m → P run → P (note (entries.At (record { 0 = m })) run))
+    (born : (run : Run) (node : NodeId) → event ≡ Restarts node → P run → P (note (entries.Restarted node) run)) where
+  pub change_effects : (a b : Run) → Change s event a b → P a → P b
+  change_effects _ _ (left run e is) p = step run (note e run) (notes-it run e (left_seen s event run e is)) p
+  change_effects _ _ (comes run m wait early) p = timed run m wait early p
+  change_effects _ _ (injects run o link packet is) p =
+      step run _ (enters run (record { from = link.0; shield = None; packet = packet }) (entries.Injected (length run.posts) o link packet) (refl, refl, refl)) p
+  change_effects _ _ (drops run k) p = step run _ (goes run k) p
+  change_effects _ _ (squats run o address so) p = h-claims s P step (holder_outside o) address run p
+  change_effects _ _ (yields run o address so) p = h-gives_up s P step (holder_outside o) address run p
+  change_effects _ _ (acted run n call is) p = h-acts s P step n call run p
+  change_effects _ _ (moved run node link so is) p =
+      let gone : Run = acts s node.0 Leave run in
+      step gone (note (entries.Moved node link) gone) (notes-it gone (entries.Moved node link) tt) (h-acts s P step node.0 Leave run p)
+  change_effects _ _ (reborn run node so is) p = born (emptied s node.0 run) node so (step run (emptied s node.0 run) (emptied_learns s node.0 run) p)
+  change_effects _ _ (gives run node address so within) p = h-gives_up s P step node.0 address run p
+  change_effects _ _ (renewed run node secrets so is life) p = h-acts s P step node.0 (Restart secrets) (note (entries.Restarted node) run) (born run node so p)
+
 module _ (s : Setup) (P : Run → Type 0) (step : (a b : Run) → Effect s a b → P a → P b)
     (timed : (run : Run) (m : ℕ) → now_in s run ≤ m → P run → P (note (entries.At (record { 0 = m })) run))
     (born : (run : Run) (node : NodeId) → P run → P (note (entries.Restarted node) run)) where
-  pub change_effects : (event : Event) (a b : Run) → Change s event a b → P a → P b
-  change_effects event _ _ (left run e is) p = step run (note e run) (notes-it run e (left_seen s event run e is)) p
-  change_effects event _ _ (comes run m wait early) p = timed run m early p
-  change_effects event _ _ (injects run o link packet is) p =
-      step run _ (enters run (record { from = link.0; shield = None; packet = packet }) (entries.Injected (length run.posts) o link packet) (refl, refl, refl)) p
-  change_effects event _ _ (drops run k) p = step run _ (goes run k) p
-  change_effects event _ _ (squats run o address so) p = h-claims s P step (holder_outside o) address run p
-  change_effects event _ _ (yields run o address so) p = h-gives_up s P step (holder_outside o) address run p
-  change_effects event _ _ (acted run n call is) p = h-acts s P step n call run p
-  change_effects event _ _ (moved run node link so is) p =
-      let gone : Run = acts s node.0 Leave run in
-      step gone (note (entries.Moved node link) gone) (notes-it gone (entries.Moved node link) tt) (h-acts s P step node.0 Leave run p)
-  change_effects event _ _ (reborn run node so is) p = born (emptied s node.0 run) node (step run (emptied s node.0 run) (emptied_learns s node.0 run) p)
-  change_effects event _ _ (gives run node address so within) p = h-gives_up s P step node.0 address run p
-  change_effects event _ _ (renewed run node secrets so is life) p = h-acts s P step node.0 (Restart secrets) (note (entries.Restarted node) run) (born run node p)
-
   pub schedule_effects : (run : Run) (events : List Event) → P run → P (fold (λ run event. happens s run event) run events)
-  schedule_effects run events p = all_keep s P change_effects run events p
+  schedule_effects run events p = all_keep s P (λ event a b change p. change_effects s P step event (λ run m wait early p. timed run m early p) (λ run node so p. born run node p) a b change p) run events p
 
   -- from before the opening claims
   module _ (claims : (run : Run) (who : ℕ) (link : LinkId) (address : Address) → P run → P (note (entries.Claimed who link address) run)) where

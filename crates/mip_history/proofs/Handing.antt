@@ -41,7 +41,7 @@ use Rattle.mip_history.specs.Nodes.{after_transition}
 use Rattle.mip_history.specs.Delivery.{handed_over}
 use Rattle.mip_history.specs.Bound.{accepted_by, packet_in, judge_in, IsAccepted}
 use Rattle.mip_history.proofs.Numbered.{packet_numbered}
-use Rattle.mip_history.proofs.Runs.{IsPast, IsRun, Goes, quiet_handed, quiet_run}
+use Rattle.mip_history.proofs.Runs.{IsPast, IsRun, Goes}
 use Rattle.mip_history.proofs.Transitions.{done, quiet_transition, accepting_transition}
 use Rattle.mip_rules_correspondent.proofs.Taken.{accepted_home, taken_is}
 
@@ -98,24 +98,21 @@ judge_same s past n own secrets room steps mine p r home same =
     (known-numbers room s.numbers steps)
 
 -- a packet is handed over to a node
-module _ (s : Setup) (k n : ℕ) (post : Post) (before : Run) (is : IsRun s before) (posted : slice_get before.posts k ≡ Some post) where
-  pub handed_run : IsRun s (note (entries.Handed k (node_id n)) before)
-  handed_run = quiet_run s before (note (entries.Handed k (node_id n)) before) (quiet_handed s k (node_id n) before (slice_get_within before.posts k post posted)) is
-
+module _ (s : Setup) (k n : ℕ) (post : Post) (before : Run) (is : IsRun s (note (entries.Handed k (node_id n)) before)) (posted : slice_get before.posts k ≡ Some post) where
   pub handed_packet : packet_in (before.past ++ entries.Handed k (node_id n) ∷ []) k ≡ Some post.packet
   handed_packet =
-      packet_numbered s (before.past ++ entries.Handed k (node_id n) ∷ []) k handed_run.kept.each
-      ∙ ap (λ (l : List (List ℕ)). slice_get l k) handed_run.kept.packets
+      packet_numbered s (before.past ++ entries.Handed k (node_id n) ∷ []) k is.kept.each
+      ∙ ap (λ (l : List (List ℕ)). slice_get l k) is.kept.packets
       ∙ slice_get-map (λ (p : Post). p.packet) before.posts k
       ∙ ap (λ (o : Option Post). option_map (λ p. p.packet) o) posted
 
-module _ (s : Setup) (k n : ℕ) (post : Post) (link : Option ℕ) (before : Run) (is : IsRun s before) (posted : slice_get before.posts k ≡ Some post) (own : Address) (room : ℕ)
+module _ (s : Setup) (k n : ℕ) (post : Post) (link : Option ℕ) (before : Run) (is : IsRun s (note (entries.Handed k (node_id n)) before)) (posted : slice_get before.posts k ≡ Some post) (own : Address) (room : ℕ)
     (host_is : slice_get s.hosts n ≡ Some (record { address = own; kind = Correspondent room })) where
   abbrev pub run : Run
   run = note (entries.Handed k (node_id n)) before
 
   run_is : IsRun s run
-  run_is = handed_run s k n post before is posted
+  run_is = is
 
   inside : n < length s.hosts
   inside = slice_get_within s.hosts n (record { address = own; kind = Correspondent room }) host_is

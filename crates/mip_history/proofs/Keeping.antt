@@ -23,7 +23,7 @@ use Rattle.mip_history.specs.Claims.{link_id, claim_entry, claimed_on, claims}
 use Rattle.mip_history.specs.Homes.{resident, passes_to, left_on, given_up_on, gives_up}
 use Rattle.mip_history.specs.Nodes.{acts}
 use Rattle.mip_history.specs.Posting.{heards, is_other, overheard}
-use Rattle.mip_history.specs.Delivery.{handed_over, overheard_at}
+use Rattle.mip_history.specs.Delivery.{handed_over}
 use Rattle.mip_history.specs.Advertising.{roams_on}
 use Rattle.mip_history.specs.Permitted.{moves}
 
@@ -118,20 +118,6 @@ heards_idle hears k (suc o) =
     by true = refl
     by false = refl
 
-posts_overheard : (s : Setup) (link : ℕ) (shield : Option Shield) (by : Option ℕ) (k : ℕ) (run : Run) → (overheard s link shield by k run).posts ≡ run.posts
-posts_overheard s link shield by k run = at (is_some shield)
-  where
-    hears : ℕ → Bool
-    hears o = is_other by o && hears_in run.past o link
-
-    at : (b : Bool) → (if b then run else notes (heards hears k s.outsiders) run).posts ≡ run.posts
-    at true = refl
-    at false = refl
-
-pub posts_overheard_at : (s : Setup) (post : Post) (k : ℕ) (link : Option ℕ) (run : Run) → (overheard_at s post k link run).posts ≡ run.posts
-posts_overheard_at s post k None run = refl
-posts_overheard_at s post k (Some link) run = posts_overheard s link post.shield None k run
-
 -- what other entries keep
 module _ (s : Setup) (P : Run → Type 0) (idle : (run : Run) (e : Entry) → is_busy e ≡ false → P run → P (note e run)) where
   pub keeps_notes : (es : List Entry) (run : Run) → list_any is_busy es ≡ false → P run → P (notes es run)
@@ -139,10 +125,6 @@ module _ (s : Setup) (P : Run → Type 0) (idle : (run : Run) (e : Entry) → is
   keeps_notes (e ∷ es) run none p =
       let parts = or_parts (is_busy e) (list_any is_busy es) none in
       subst (λ (l : List Entry). P (record run { past = l })) (append_assoc run.past (e ∷ []) es) (keeps_notes es (note e run) parts.1 (idle run e parts.0 p))
-
-  pub keeps_either : (b : Bool) (x y : Entry) (run : Run) → is_busy x ≡ false → is_busy y ≡ false → P run → P (note (if b then x else y) run)
-  keeps_either true x y run one two p = idle run x one p
-  keeps_either false x y run one two p = idle run y two p
 
   pub keeps_overheard : (link : ℕ) (shield : Option Shield) (by : Option ℕ) (k : ℕ) (run : Run) → P run → P (overheard s link shield by k run)
   keeps_overheard link shield by k run p = at (is_some shield)

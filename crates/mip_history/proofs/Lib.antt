@@ -11,12 +11,11 @@ mod Handing
 pub mod PartTransitions
 mod PartHanding
 mod Acting
-mod Deliveries
-mod Advertising
 mod Waiting
 mod Passes
 mod Restarting
 pub mod Opening
+mod RunChanges
 pub mod Events
 mod Places
 pub mod LastOnes

@@ -12,7 +12,7 @@ use Rattle.mip_history.specs.Runs.{Run}
 use Rattle.mip_history.specs.Permitted.{run_of}
 use Rattle.mip_history.specs.Bound.{packet_posted, packets_of}
 use Rattle.mip_history.proofs.Effects.{IsSeen, IsPosting}
-use Rattle.mip_history.proofs.PostRecords.{IsBeside, Tells, TellsWhere, run_tells}
+use Rattle.mip_history.proofs.PostRecords.{IsBeside, Tells, run_tells}
 
 abbrev pub IsNumbered : List Entry → Entry → Type 0
 IsNumbered past (entries.Sent number node shielded packet) = number ≡ length (packets_of past)

@@ -33,7 +33,7 @@ use Rattle.mip_history.specs.Nodes.{after_mobile_transition}
 use Rattle.mip_history.specs.Delivery.{handed_over}
 use Rattle.mip_history.specs.Bound.{judge_in, IsAccepted}
 use Rattle.mip_history.proofs.Runs.{IsPart, IsRun, Goes}
-use Rattle.mip_history.proofs.Handing.{reads_as, judge_same, handed_run, handed_packet}
+use Rattle.mip_history.proofs.Handing.{reads_as, judge_same, handed_packet}
 use Rattle.mip_history.proofs.PartTransitions.{mobile_transition}
 
 -- what is handed over has in it what was posted
@@ -81,13 +81,13 @@ abbrev bytes_in : Call → List ℕ
 bytes_in (Take number shield packet) = packet
 bytes_in _ = []
 
-module _ (s : Setup) (k n : ℕ) (post : Post) (link : Option ℕ) (before : Run) (is : IsRun s before) (posted : slice_get before.posts k ≡ Some post) (own : Address) (agent : Option Address)
+module _ (s : Setup) (k n : ℕ) (post : Post) (link : Option ℕ) (before : Run) (is : IsRun s (note (entries.Handed k (node_id n)) before)) (posted : slice_get before.posts k ≡ Some post) (own : Address) (agent : Option Address)
     (host_is : slice_get s.hosts n ≡ Some (record { address = own; kind = Mobile agent })) where
   abbrev run : Run
   run = note (entries.Handed k (node_id n)) before
 
   run_is : IsRun s run
-  run_is = handed_run s k n post before is posted
+  run_is = is
 
   abbrev known : Known
   known = mobile_known_in s run n own agent

@@ -7,7 +7,6 @@ use Rattle.std.proofs.lemmas.List.Sums.{fold-append}
 use Rattle.std.proofs.lemmas.List.Folds.{list_any-append}
 use Rattle.std.proofs.lemmas.List.Elements.{filter_map-append}
 use Rattle.mip_words.specs.declared.shield.Shield.{Shield}
-use Rattle.mip_words.specs.declared.ids.LinkId.{LinkId}
 use Rattle.mip_words.specs.EachAfter.{EachAfter}
 use Rattle.mip_words.proofs.EachLaws.{each-append}
 use Rattle.mip_entries.specs.declared.answer.Answer.{Answer}
@@ -25,14 +24,14 @@ use Rattle.mip_history.proofs.Quiet.{is_told, same_packets}
 use Rattle.mip_history.proofs.Runs.{Meets, IsQuiet, quiet_same, quiet_then, quiet_meeting, count_posts}
 
 -- the entry of a packet that takes a number
-record IsPostOf (s : Setup) (number : ℕ) (packet : List ℕ) (e : Entry) : Type 0 where
-  lives : (n : ℕ) (l : Lived) → lived n l e ≡ l
-  moment : (at : ℕ) → unwrap_or (moment_says e) at ≡ at
-  life : (n count : ℕ) → restarts n count e ≡ count
-  posts : packet_posted e ≡ Some packet
-  meets : (front : List Entry) → number ≡ length (packets_of front) → Meets s front e
+pub record IsPostOf (s : Setup) (number : ℕ) (packet : List ℕ) (e : Entry) : Type 0 where
+  pub lives : (n : ℕ) (l : Lived) → lived n l e ≡ l
+  pub moment : (at : ℕ) → unwrap_or (moment_says e) at ≡ at
+  pub life : (n count : ℕ) → restarts n count e ≡ count
+  pub posts : packet_posted e ≡ Some packet
+  pub meets : (front : List Entry) → number ≡ length (packets_of front) → Meets s front e
 
-quiet_entered : (s : Setup) (post : Post) (e : Entry) (run : Run) → IsPostOf s (length run.posts) post.packet e → IsQuiet s run (entered post (note e run))
+pub quiet_entered : (s : Setup) (post : Post) (e : Entry) (run : Run) → IsPostOf s (length run.posts) post.packet e → IsQuiet s run (entered post (note e run))
 unfolding accepted_by
 quiet_entered s post e run is = record {
   pasts = refl;
@@ -108,13 +107,6 @@ pub quiet_sent : (s : Setup) (post : Post) (n : ℕ) (shielded : Bool) (run : Ru
     → IsQuiet s run (posted s post None (entries.Sent (length run.posts) (node_id n) shielded post.packet) run)
 quiet_sent s post n shielded run =
     quiet_posted s post None (entries.Sent (length run.posts) (node_id n) shielded post.packet) run
-    (record { lives = λ m l. refl; moment = λ at. refl; life = λ m count. refl; posts = refl; meets = λ front same. same })
-
--- an outsider posts one
-pub quiet_injected : (s : Setup) (post : Post) (o : ℕ) (link : LinkId) (run : Run)
-    → IsQuiet s run (posted s post (Some o) (entries.Injected (length run.posts) o link post.packet) run)
-quiet_injected s post o link run =
-    quiet_posted s post (Some o) (entries.Injected (length run.posts) o link post.packet) run
     (record { lives = λ m l. refl; moment = λ at. refl; life = λ m count. refl; posts = refl; meets = λ front same. same })
 
 -- what a node does, in two parts

@@ -1,10 +1,9 @@
 -- A node begins its next life.
 use Rattle.std.proofs.Common.{◌≡◌, ◌≢◌, ℕ, suc, ◌+◌, ◌<◌, List, [], ◌∷◌, ◌++◌, Bool, true, false, length, inl, inr, refl, sym, ap, ◌∙◌, subst, arith, length-set}
-use Rattle.std.specs.Prelude.{Option, Some, None, unwrap_or, ◌==◌, if◌then◌else◌, slice_get, slice_set, slice_index_or}
+use Rattle.std.specs.Prelude.{Option, Some, unwrap_or, ◌==◌, if◌then◌else◌, slice_get, slice_set, slice_index_or}
 use Rattle.std.proofs.lemmas.List.{append-nil, get_or-set_same, get_or-set_other}
 use Rattle.std.proofs.lemmas.List.Sums.{fold-append}
 use Rattle.std.proofs.lemmas.List.Elements.{filter_map-append}
-use Rattle.std.proofs.lemmas.Option.{slice_get_within}
 use Rattle.std.proofs.lemmas.Bool.{cases_eq, eq-eqb, ne_eqb}
 use Rattle.mip_words.specs.declared.address.Address.{Address}
 use Rattle.mip_words.proofs.EachLaws.{each-append}
@@ -15,8 +14,6 @@ use Rattle.mip_entries.specs.Stamped.{Stamped, stamped}
 use Rattle.mip_nonce.specs.Secrets.{Life}
 use Rattle.mip_rules_correspondent.specs.Steps.{Step}
 use Rattle.mip_rules_correspondent.specs.Pasts.{accepted_in}
-use Rattle.mip_rules_agent.specs.declared.home_row.HomeRow.{HomeRow}
-use Rattle.mip_rules_agent.specs.Questions.{rows_at}
 use Rattle.mip_rules_mobile.specs.Calls as mobiles
 use Rattle.mip_rules_mobile.specs.Steps as mobile_steps
 use Rattle.mip_rules_mobile.specs.Transitions.{Transition}
@@ -24,26 +21,28 @@ use Rattle.mip_rules_mobile.specs.Doing.{transition_of}
 use Rattle.mip_rules_mobile.specs.Part.{PartLife, part_life, IsPartReborn}
 use Rattle.mip_rules_mobile.proofs.Calls.{call-now}
 use Rattle.mip_rules_mobile.proofs.PartTransitions.{restart-part}
-use Rattle.mip_history.specs.Setup.{Setup, Host, Kind, is_correspondent_host, is_correspondent_at, is_mobile_host}
-use Rattle.mip_history.specs.Setup.Kind.{Correspondent, Agent, Mobile}
-use Rattle.mip_history.specs.Runs.{Run, note, past_at, mobile_past_at, with_past, with_agent_past, with_mobile_past}
+use Rattle.mip_history.specs.Setup.{Setup, is_correspondent_at, is_mobile_host}
+use Rattle.mip_history.specs.Setup.Kind.{Mobile}
+use Rattle.mip_history.specs.Runs.{Run, note, past_at, mobile_past_at, with_past, with_mobile_past}
 use Rattle.mip_history.specs.Questions.{moment_says, moment_in, restarts, life_in}
-use Rattle.mip_history.specs.Calls.{Restart}
-use Rattle.mip_history.specs.Knowing.{now_in, secrets_in, agent_known_in, mobile_known_in, part_in, stands_on}
-use Rattle.mip_history.specs.Nodes.{after_mobile_transition, by_host}
-use Rattle.mip_history.specs.Homes.{gives_up}
-use Rattle.mip_history.specs.Restarting.{homes_left, reborn_by_kind, reborn_by_host, restarted}
+use Rattle.mip_history.specs.Knowing.{now_in, secrets_in, mobile_known_in, part_in, stands_on}
+use Rattle.mip_history.specs.Nodes.{after_mobile_transition}
 use Rattle.mip_history.specs.Bound.{Lived, lived, accepted_by, packet_posted, packets_of}
-use Rattle.mip_history.proofs.Runs.{Meets, IsKept, IsPast, IsPart, past_stays, part_stays, IsRun, IsQuiet, quiet_same, quiet_then, quiet_run, goes_quietly}
-use Rattle.mip_history.proofs.Claiming.{quiet_gives_up}
+use Rattle.mip_history.proofs.Runs.{Meets, IsKept, IsPast, IsPart, past_stays, part_stays, IsRun, goes_quietly}
 use Rattle.mip_history.proofs.Answering.{differs}
 use Rattle.mip_history.proofs.PartTransitions.{mobile_apart, part_goes, mobile_done, reborn_life, quiet_reborn}
-use Rattle.mip_history.proofs.Acting.{quiet_agent_past}
-use Rattle.mip_history.proofs.Passes.{Passes, passes_behind, passes_before}
+use Rattle.mip_history.proofs.Passes.{Passes, passes_before}
 
 -- how often this restarts a node
 abbrev pub again : ℕ → ℕ → ℕ
 again n m = if m == n then 1 else 0
+
+pub born_life : (past : List Entry) (n m : ℕ) → life_in (past ++ entries.Restarted (node_id n) ∷ []) m ≡ life_in past m + again n m
+born_life past n m = fold-append (restarts m) 0 past (entries.Restarted (node_id n) ∷ []) ∙ by (m == n) (life_in past m)
+  where
+    by : (b : Bool) (count : ℕ) → (if b then suc count else count) ≡ count + (if b then 1 else 0)
+    by true count = omega arith
+    by false count = omega arith
 
 module _ (s : Setup) (run : Run) (n : ℕ) (is : IsRun s run) where
   abbrev past : List Entry
@@ -57,11 +56,7 @@ module _ (s : Setup) (run : Run) (n : ℕ) (is : IsRun s run) where
   moment_then = fold-append (λ (at : ℕ) (x : Entry). unwrap_or (moment_says x) at) s.start run.past (entries.Restarted (node_id n) ∷ [])
 
   life_then : (m : ℕ) → life_in past m ≡ life_in run.past m + again n m
-  life_then m = fold-append (restarts m) 0 run.past (entries.Restarted (node_id n) ∷ []) ∙ by (m == n) (life_in run.past m)
-    where
-      by : (b : Bool) (count : ℕ) → (if b then suc count else count) ≡ count + (if b then 1 else 0)
-      by true count = omega arith
-      by false count = omega arith
+  life_then m = born_life run.past n m
 
   kept_then : IsKept s past run.posts
   kept_then = record {
@@ -153,45 +148,10 @@ module _ (s : Setup) (run : Run) (n : ℕ) (is : IsRun s run) where
         (sym (reborn_life home s.numbers (secrets_in s n 0) (mobile_past_at run n) (now_in s next) secrets transition.steps reborn))
         (record { secrets = refl; past = past_of_this })
 
-    mobile_reborn : Passes s run (after_mobile_transition s n home transition next) 0 (again n)
+    pub mobile_reborn : Passes s run (after_mobile_transition s n home transition next) 0 (again n)
     mobile_reborn =
         let middle = with_mobile_past n moved next in
         let there : IsRun s middle = part_goes s n home agent run is host_is past moved begins_anew accepted_apart moment_then life_apart kept_then in
         subst (λ (at : ℕ). Passes s run (mobile_done s n (unwrap_or (stands_on s next n home) 0) at transition.steps next) 0 (again n)) (sym (call-now (mobile_known_in s next n home agent) (now_in s next) (mobiles.Restart secrets)))
         (passes_before s run middle _ 0 (again n) (record { run = there; moment = moment_then ∙ omega arith; life = life_then })
         (goes_quietly s middle _ there (quiet_reborn s n (unwrap_or (stands_on s next n home) 0) middle secrets transition.steps reborn)))
-
--- an agent gives up its homes
-quiet_homes : (s : Setup) (n : ℕ) (rows : List HomeRow) (run : Run) → IsQuiet s run (homes_left s n rows run)
-unfolding homes_left
-quiet_homes s n [] run = quiet_same s run
-quiet_homes s n (r ∷ rows) run =
-    quiet_then s run (gives_up s n r.home run) _ (quiet_gives_up s n r.home run) (quiet_homes s n rows (gives_up s n r.home run))
-
-module _ (s : Setup) (run : Run) (n : ℕ) (is : IsRun s run) where
-  agent_reborn : (rows : List HomeRow) → is_correspondent_at s n ≡ false → is_mobile_host (slice_get s.hosts n) ≡ false
-      → Passes s run (homes_left s n rows (note (entries.Restarted (node_id n)) (with_agent_past n [] run))) 0 (again n)
-  agent_reborn rows other unmoved =
-      let empty = with_agent_past n [] run in
-      let quiet = quiet_agent_past s n [] run in
-      let next = note (entries.Restarted (node_id n)) empty in
-      let reborn = passes_behind s run empty next 0 (again n) (goes_quietly s run empty is quiet) (other_reborn s empty n (quiet_run s run empty quiet is) other unmoved) in
-      passes_before s run next _ 0 (again n) reborn (goes_quietly s next _ reborn.run (quiet_homes s n rows next))
-
-  mobile_goes_on : (own : Address) (agent : Option Address) → slice_get s.hosts n ≡ Some (record { address = own; kind = Mobile agent }) → Passes s run (reborn_by_kind s n run (Mobile agent)) 0 (again n)
-  mobile_goes_on own agent e =
-      let next = note (entries.Restarted (node_id n)) run in
-      subst (λ (o : Option Host). Passes s run (by_host s n (Restart (secrets_in s n (life_in next.past n))) next o) 0 (again n)) (sym e) (mobile_reborn s run n is own agent e)
-
-  reborn_kind : (own : Address) (kind : Kind) → slice_get s.hosts n ≡ Some (record { address = own; kind = kind }) → Passes s run (reborn_by_kind s n run kind) 0 (again n)
-  reborn_kind own (Correspondent room) e = correspondent_reborn s run n is (slice_get_within s.hosts n _ e) (ap is_mobile_host e)
-  reborn_kind own (Agent preference life room serves) e = agent_reborn (rows_at (now_in s run) (agent_known_in run n serves).homes) (ap is_correspondent_host e) (ap is_mobile_host e)
-  reborn_kind own (Mobile agent) e = mobile_goes_on own agent e
-
-  pub restarted_passes : Passes s run (restarted s run n) 0 (again n)
-  unfolding restarted
-  restarted_passes = by (slice_get s.hosts n) refl
-    where
-      by : (o : Option Host) → slice_get s.hosts n ≡ o → Passes s run (reborn_by_host s n run o) 0 (again n)
-      by None e = other_reborn s run n is (ap is_correspondent_host e) (ap is_mobile_host e)
-      by (Some host) e = reborn_kind host.address host.kind e

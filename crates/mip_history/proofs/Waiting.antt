@@ -17,7 +17,7 @@ use Rattle.mip_history.specs.Questions.{moment_says, moment_in, restarts, life_i
 use Rattle.mip_history.specs.Calls.{Tick}
 use Rattle.mip_history.specs.Knowing.{now_in, secrets_in, part_in}
 use Rattle.mip_history.specs.Nodes.{acts}
-use Rattle.mip_history.specs.Waiting.{Waiting, due_of, earliest, comes_to, is_due, ticks_one, ticked, works, works_on, works_until, waited}
+use Rattle.mip_history.specs.Waiting.{Waiting, due_of, earliest, comes_to, is_due, ticks_one, ticked, works, works_on, works_until}
 use Rattle.mip_history.specs.Bound.{Lived, lived, accepted_by, packet_posted, packets_of}
 use Rattle.mip_history.proofs.Runs.{Meets, IsPast, IsRun, Goes, goes_then}
 use Rattle.mip_history.proofs.Acting.{stays, acts_calmly}
@@ -38,7 +38,7 @@ all_later : (at later : ℕ) (past : List (Stamped Step)) → at ≤ later → A
 all_later at later [] p all = tt
 all_later at later (t ∷ past) p all = (let e = all.0 in omega arith, all_later at later past p all.1)
 
-at_comes : (s : Setup) (run : Run) (m : ℕ) → IsRun s run → moment_in s.start run.past ≤ m → Comes s run (note (entries.At (record { 0 = m })) run) m
+pub at_comes : (s : Setup) (run : Run) (m : ℕ) → IsRun s run → moment_in s.start run.past ≤ m → Comes s run (note (entries.At (record { 0 = m })) run) m
 unfolding accepted_by
 at_comes s run m is later = record {
   run = record {
@@ -83,7 +83,7 @@ comes_goes s m w is later = by (w.told && (now_in s w.run == m)) refl
     by false e = at_comes s w.run m is later
 
 -- nodes with work due do it
-pub ticks_one_goes : (s : Setup) (n : ℕ) (run : Run) → IsRun s run → Goes s run (ticks_one s n run)
+ticks_one_goes : (s : Setup) (n : ℕ) (run : Run) → IsRun s run → Goes s run (ticks_one s n run)
 ticks_one_goes s n run is = by (is_due (due_of s run n) (now_in s run))
   where
     by : (b : Bool) → Goes s run (if b then acts s n Tick run else run)
@@ -133,12 +133,3 @@ unfolding works_until
 works_until_within s target zero w is early = record { run = is; early = early; life = λ n. refl }
 works_until_within s target (suc n) w is early =
     works_on_within s target (works_until s target n) (works_until_within s target n) (earliest (due_of s w.run) (length s.hosts)) w is early
-
-pub waited_comes : (s : Setup) (run : Run) (ms : ℕ) → IsRun s run → Comes s run (waited s run ms) (moment_in s.start run.past + ms)
-unfolding waited
-waited_comes s run ms is =
-    let target = now_in s run + ms in
-    let first : Waiting = record { run = run; told = false } in
-    let all = works_until_within s target (suc ms) first is (omega arith) in
-    let come = comes_goes s target (works_until s target (suc ms) first) all.run all.early in
-    record { run = come.run; moment = come.moment; life = λ n. come.life n ∙ all.life n }

@@ -6,8 +6,7 @@ pub mod Posting
 pub mod Answering
 pub mod Roles
 pub mod Acting
-pub mod Delivering
-pub mod Going
+pub mod OwnChanges
 pub mod Histories
 pub mod Lawful
 pub mod Origins

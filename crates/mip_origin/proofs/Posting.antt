@@ -19,7 +19,6 @@ use Rattle.mip_history.specs.Questions.{holder_in, hears_in}
 use Rattle.mip_history.specs.Posting.{heards, is_other, overheard, posted}
 use Rattle.mip_history.specs.Claims.{link_id, claim_entry, claimed_on, claims}
 use Rattle.mip_history.specs.Homes.{resident, passes_to, left_on, given_up_on, gives_up}
-use Rattle.mip_history.specs.Outsiders.{injected, injected_if}
 use Rattle.mip_history.specs.Bound.{packet_posted, packets_of}
 use Rattle.mip_origin.specs.Marked.{IsFollowed}
 use Rattle.mip_origin.specs.OwnHistories.{IsOwnEntry}
@@ -38,16 +37,6 @@ heards_idle hears k (suc o) =
     by : (b : Bool) → (false || list_any is_busy (if b then entries.Heard k o ∷ [] else [])) ≡ false
     by true = refl
     by false = refl
-
-pub overheard_posts : (s : Setup) (link : ℕ) (shield : Option Shield) (by : Option ℕ) (k : ℕ) (run : Run) → (overheard s link shield by k run).posts ≡ run.posts
-overheard_posts s link shield by k run = at (is_some shield)
-  where
-    hears : ℕ → Bool
-    hears o = is_other by o && hears_in run.past o link
-
-    at : (b : Bool) → (if b then run else notes (heards hears k s.outsiders) run).posts ≡ run.posts
-    at true = refl
-    at false = refl
 
 good_entered : (post : Post) (e : Entry) (run : Run) → packet_posted e ≡ Some post.packet → IsGood run → IsGood (entered post (note e run))
 good_entered post e run posts good = record {
@@ -70,30 +59,23 @@ module _ (s : Setup) (Q : Type 0) where
       at true = adds_same s Q run run refl refl good
       at false = adds_notes s Q (heards hears k s.outsiders) run (heards_idle hears k s.outsiders) good
 
+  pub adds_entered : (post : Post) (e : Entry) (run : Run) → IsGood run → packet_posted e ≡ Some post.packet → (Q → IsOwnEntry s run.past e)
+      → update_accepted e ≡ None → is_timed e ≡ false → Adds s Q run (entered post (note e run))
+  adds_entered post e run good posts own none steady = record {
+    es = e ∷ [];
+    whole = refl;
+    own = λ q h. (own q, tt);
+    secrets = secrets_stay s run (entered post (note e run)) refl (λ n. untimed_life s run.past (e ∷ []) n (ap (λ (x : Bool). x || false) steady));
+    followed = (subst (λ (o : Option AcceptedUpdate). IsFollowed run.past o []) (sym none) tt, tt);
+    steady = ap (λ (x : Bool). x || false) steady;
+    good = good_entered post e run posts good;
+  }
+
   pub adds_posted : (post : Post) (by : Option ℕ) (e : Entry) (run : Run) → IsGood run → packet_posted e ≡ Some post.packet → (Q → IsOwnEntry s run.past e)
       → update_accepted e ≡ None → is_timed e ≡ false → Adds s Q run (posted s post by e run)
   adds_posted post by e run good posts own none steady =
-      let next : Run = entered post (note e run) in
-      let all_good : IsGood next = good_entered post e run posts good in
-      adds_then s Q run next _
-      (record {
-        es = e ∷ [];
-        whole = refl;
-        own = λ q h. (own q, tt);
-        secrets = secrets_stay s run next refl (λ n. untimed_life s run.past (e ∷ []) n (ap (λ (x : Bool). x || false) steady));
-        followed = (subst (λ (o : Option AcceptedUpdate). IsFollowed run.past o []) (sym none) tt, tt);
-        steady = ap (λ (x : Bool). x || false) steady;
-        good = all_good;
-      })
-      (adds_overheard post.from post.shield by (length run.posts) next all_good)
-
-  pub adds_injected : (o link : ℕ) (packet : List ℕ) (run : Run) → IsGood run → Adds s Q run (injected s run o link packet)
-  adds_injected o link packet run good =
-      adds_posted (record { from = link; shield = None; packet = packet }) (Some o) (entries.Injected (length run.posts) o (link_id link) packet) run good refl (λ q. tt) refl refl
-
-  pub adds_injected_if : (o link : ℕ) (packet : Option (List ℕ)) (run : Run) → IsGood run → Adds s Q run (injected_if s run o link packet)
-  adds_injected_if o link None run good = adds_one s Q entries.Idle run refl good
-  adds_injected_if o link (Some packet) run good = adds_injected o link packet run good
+      let one : Adds s Q run (entered post (note e run)) = adds_entered post e run good posts own none steady in
+      adds_then s Q run (entered post (note e run)) _ one (adds_overheard post.from post.shield by (length run.posts) (entered post (note e run)) one.good)
 
   -- an address is claimed, and given up
   pub adds_claims : (who : ℕ) (address : Address) (run : Run) → IsGood run → Adds s Q run (claims s who address run)

@@ -6,10 +6,6 @@ use Rattle.std.specs.List.{list_any}
 use Rattle.mip_words.specs.declared.address.Address.{Address}
 use Rattle.mip_nonce.specs.Secrets.{Life}
 use Rattle.mip_outside.specs.declared.claim.Claim.{Claim}
-use Rattle.mip_entries.specs.declared.answer.Answer.{Answer}
-use Rattle.mip_entries.specs.declared.answer.Answer.TheVariants.{Send, Note}
-use Rattle.mip_entries.specs.declared.entry.Entry.{Entry}
-use Rattle.mip_entries.specs.declared.entry.Entry.TheVariants as entries
 use Rattle.mip_entries.specs.Stamped.{Stamped}
 use Rattle.mip_entries.specs.Transitions.{StandsBy}
 use Rattle.mip_rules_correspondent.specs.declared.known.Known.{Known}
@@ -42,36 +38,12 @@ use Rattle.mip_rules_mobile.proofs.Calls as mobile_stands
 use Rattle.mip_rules_mobile.proofs.Refusals as mobile_refusals
 use Rattle.mip_history.specs.Setup.{Setup, Host}
 use Rattle.mip_history.specs.Setup.Kind.{Correspondent, Agent, Mobile}
-use Rattle.mip_history.specs.Runs.{Run, note, past_at, agent_past_at, mobile_past_at, with_past, with_agent_past, with_mobile_past}
+use Rattle.mip_history.specs.Runs.{Run, past_at, agent_past_at, mobile_past_at, with_past, with_agent_past, with_mobile_past}
 use Rattle.mip_history.specs.Calls.{Call, Take}
 use Rattle.mip_history.specs.Knowing.{link_or_first, now_in, identity_in, known_in, secrets_in, agent_of, agent_known_in, mobile_known_in, stands_on, around_in}
-use Rattle.mip_history.specs.Nodes.{left_by, answered_one, answered, by_host}
-use Rattle.mip_history.proofs.Keeping.{is_busy, keeps_overheard, keeps_claims, keeps_gives_up}
+use Rattle.mip_history.specs.Nodes.{answered, by_host}
+use Rattle.mip_history.proofs.Effects.{HasPasts, answers_pasts}
 use Rattle.mip_past.specs.Refused.{Handed, correspondent_transition, agent_transition, mobile_transition, taken_by, LeavesTables}
-
--- a run has the pasts of another
-abbrev HasPasts : Run → Run → Type 0
-HasPasts before run = (run.pasts ≡ before.pasts) × (run.agent_pasts ≡ before.agent_pasts) × (run.mobile_pasts ≡ before.mobile_pasts)
-
-module _ (s : Setup) (before : Run) where
-  pasts_idle : (run : Run) (e : Entry) → is_busy e ≡ false → HasPasts before run → HasPasts before (note e run)
-  pasts_idle run e idle has = has
-
-  pasts_left : (n : ℕ) (run : Run) (e : Entry) → HasPasts before run → HasPasts before (left_by s n run e)
-  pasts_left n run (entries.Claimed who link address) has = keeps_claims s (HasPasts before) pasts_idle n address run (λ on holder. has) has
-  pasts_left n run (entries.Taken who link address holder) has = keeps_claims s (HasPasts before) pasts_idle n address run (λ on other. has) has
-  pasts_left n run (entries.Released who link address) has = keeps_gives_up s (HasPasts before) pasts_idle n address run has
-  pasts_left n run (entries.Restarted node) has = has
-  pasts_left n run _ has = has
-
-  pasts_answer : (n from : ℕ) (run : Run) (answer : Answer) → HasPasts before run → HasPasts before (answered_one s n from run answer)
-  pasts_answer n from run (Send shield packet) has = keeps_overheard s (HasPasts before) pasts_idle from shield None _ _ has
-  pasts_answer n from run (Note e) has = pasts_left n run e has
-
-  pasts_answers : (n from : ℕ) (run : Run) (answers : List Answer) → HasPasts before run → HasPasts before (answered s n from run answers)
-  unfolding answered
-  pasts_answers n from run [] has = has
-  pasts_answers n from run (answer ∷ answers) has = pasts_answers n from (answered_one s n from run answer) answers (pasts_answer n from run answer has)
 
 -- a node with a place in a list of pasts has the new one there, and one without keeps what it had
 at_place : {X : Type 0} (P : List X → Type 0) (pasts : List (List X)) (n : ℕ) (more : List X) → P (slice_index_or pasts n []) → P more → P (slice_index_or (slice_set pasts n more) n [])
@@ -117,7 +89,7 @@ module _ (s : Setup) (run : Run) (n : ℕ) (h : Handed) where
       more = correspondent_transitions.with_transition (past_at run n) transition
 
       pasts : HasPasts (with_past n more run) (answered s n (link_or_first s own.0) (with_past n more run) (correspondents.answers_of transition.steps))
-      pasts = pasts_answers s (with_past n more run) n (link_or_first s own.0) (with_past n more run) (correspondents.answers_of transition.steps) (refl, refl, refl)
+      pasts = answers_pasts s n (link_or_first s own.0) (correspondents.answers_of transition.steps) (with_past n more run)
 
       knows : correspondent_questions.known room s.numbers more ≡ transition.known
       knows =
@@ -155,7 +127,7 @@ module _ (s : Setup) (run : Run) (n : ℕ) (h : Handed) where
       more = agent_transitions.with_transition (agent_past_at run n) transition
 
       pasts : HasPasts (with_agent_past n more run) (answered s n (link_or_first s own.0) (with_agent_past n more run) (agents.answers_of transition.steps))
-      pasts = pasts_answers s (with_agent_past n more run) n (link_or_first s own.0) (with_agent_past n more run) (agents.answers_of transition.steps) (refl, refl, refl)
+      pasts = answers_pasts s n (link_or_first s own.0) (agents.answers_of transition.steps) (with_agent_past n more run)
 
       knows : agent_questions.known serves more ≡ transition.known
       knows = sym (agent_pasts.stands-known serves more transition.known (agent_stands.call-stands serves (agent_past_at run n) k (now_in s run) me taking (agent-stands serves (agent_past_at run n))))
@@ -193,7 +165,7 @@ module _ (s : Setup) (run : Run) (n : ℕ) (h : Handed) where
       more = mobile_transitions.with_transition (mobile_past_at run n) transition
 
       pasts : HasPasts (with_mobile_past n more run) (answered s n (unwrap_or (stands_on s run n own) 0) (with_mobile_past n more run) (mobiles.answers_of transition.steps))
-      pasts = pasts_answers s (with_mobile_past n more run) n (unwrap_or (stands_on s run n own) 0) (with_mobile_past n more run) (mobiles.answers_of transition.steps) (refl, refl, refl)
+      pasts = answers_pasts s n (unwrap_or (stands_on s run n own) 0) (mobiles.answers_of transition.steps) (with_mobile_past n more run)
 
       knows : known more ≡ transition.known
       knows =
