@@ -59,7 +59,8 @@ use Rattle.mip_history.specs.Nodes.{marks_of, marked, left_by, answered_one, ans
 use Rattle.mip_history.specs.Permitted.{run_of}
 use Rattle.mip_history.specs.Registered.{is_agent_kind, is_agent_host, is_agent_at}
 use Rattle.mip_history.proofs.Reasons.{all_append}
-use Rattle.mip_history.proofs.Keeping.{is_busy, emptied_by_kind, emptied_by_host, emptied, Keeps, keeps_overheard, keeps_claims, keeps_gives_up}
+use Rattle.mip_history.proofs.Keeping.{is_busy, emptied, Keeps, keeps_overheard, keeps_claims, keeps_gives_up}
+use Rattle.mip_history.proofs.Folds.{emptied_keeps}
 use Rattle.mip_history.proofs.Walking.{walk_run}
 use Rattle.mip_claims.specs.Seekers.{MayFindTaken}
 use Rattle.mip_claims.proofs.Updating.{claiming_steps, acknowledging_steps, IsAccepted, taking_is}
@@ -357,18 +358,6 @@ module _ (s : Setup) (n : ℕ) (run : Run) (p : IsFairRun s run) where
       by (Some host) is = kind_fair host.address call host.kind (λ mobile. inl (ap is_mobile_host is ∙ mobile))
 
 -- all that can happen
-emptied_fair : (s : Setup) (n : ℕ) (run : Run) → IsFairRun s run → IsFairRun s (emptied s n run)
-emptied_fair s n run p = by (slice_get s.hosts n)
-  where
-    kinds : (kind : Kind) → IsFairRun s (emptied_by_kind n run kind)
-    kinds (Correspondent room) = p
-    kinds (Agent preference life room serves) = p
-    kinds (Mobile agent) = p
-
-    by : (o : Option Host) → IsFairRun s (emptied_by_host n run o)
-    by None = p
-    by (Some host) = kinds host.kind
-
 fair_keeps : (s : Setup) → Keeps s (IsFairRun s)
 fair_keeps s = record {
   idle = λ run e idle p. noted_idle s run e idle p;
@@ -378,7 +367,7 @@ fair_keeps s = record {
   taken = λ run o link address holder p. noted_fair s (entries.Taken (holder_outside o) link address holder) run (inr (o, refl)) p;
   acted = λ run n call is stays lives p. acts_fair s n run p call;
   moved = λ run n link is p. noted_fair s (entries.Moved (node_id n) link) (acts s n Leave run) tt (acts_fair s n run p Leave);
-  reborn = λ run n other p. noted_fair s (entries.Restarted (node_id n)) (emptied s n run) tt (emptied_fair s n run p);
+  reborn = λ run n other p. noted_fair s (entries.Restarted (node_id n)) (emptied s n run) tt (emptied_keeps s n run (IsFairRun s) p p p);
   renewed = λ run n secrets is p. acts_fair s n (note (entries.Restarted (node_id n)) run) (noted_fair s (entries.Restarted (node_id n)) run tt p) (Restart secrets);
 }
 

@@ -30,8 +30,8 @@ use Rattle.mip_rules_mobile.specs.Answering.{stays_put}
 use Rattle.mip_rules_mobile.specs.Part.{is_restart}
 use Rattle.mip_links.specs.Table.{holder_outside}
 use Rattle.mip_schedule.specs.declared.event.Event.{Event}
-use Rattle.mip_history.specs.Setup.{Setup, Host, Kind, is_mobile_host}
-use Rattle.mip_history.specs.Setup.Kind.{Correspondent, Agent, Mobile}
+use Rattle.mip_history.specs.Setup.{Setup, is_mobile_host}
+use Rattle.mip_history.specs.Setup.Kind.{Mobile}
 use Rattle.mip_history.specs.Runs.{Run, note, mobile_past_at}
 use Rattle.mip_history.specs.Calls.{Call, Leave, Restart}
 use Rattle.mip_history.specs.Knowing.{now_in, secrets_in, mobile_known_in, stands_on, around_in}
@@ -39,7 +39,8 @@ use Rattle.mip_history.specs.Nodes.{by_host, acts}
 use Rattle.mip_history.specs.Permitted.{moves, run_of}
 use Rattle.mip_history.specs.Found.{address_of}
 use Rattle.mip_history.proofs.Opening.{nothing}
-use Rattle.mip_history.proofs.Keeping.{is_busy, IsThere, IsCall, is_leave, is_rebirth, emptied_by_kind, emptied_by_host, emptied, Keeps}
+use Rattle.mip_history.proofs.Keeping.{is_busy, IsThere, IsCall, is_leave, is_rebirth, emptied, Keeps}
+use Rattle.mip_history.proofs.Folds.{emptied_keeps}
 use Rattle.mip_history.proofs.Walking.{walk_run}
 use Rattle.mip_settled.proofs.Answered.{IsQuiet, IsMute, tells, tells_push, tells_same}
 use Rattle.mip_settled.proofs.MobileTransitions.{is_plain, entry_of, says_of, IsRightNote, IsKnown, Tells, arrived_at, staying_tells, restart_tells, using_tells, attaching_tells}
@@ -188,16 +189,9 @@ module _ (s : Setup) (n : ℕ) (own : Address) (agent : Option Address) (host : 
   is_other m none same = absurd (let both : true ≡ false = sym (ap is_mobile_host host) ∙ ap (λ (x : ℕ). is_mobile_host (slice_get s.hosts x)) same ∙ none in cc)
 
   reborn_so : (run : Run) (m : ℕ) → told run ≡ knows run → told (note (entries.Restarted (node_id m)) (emptied s m run)) ≡ knows (note (entries.Restarted (node_id m)) (emptied s m run))
-  reborn_so run m so = by (slice_get s.hosts m)
-    where
-      of_kind : (kind : Kind) → told (note (entries.Restarted (node_id m)) (emptied_by_kind m run kind)) ≡ knows (note (entries.Restarted (node_id m)) (emptied_by_kind m run kind))
-      of_kind (Correspondent room) = tells_same s (found_says n) (Some own) run (entries.Restarted (node_id m)) refl ∙ so
-      of_kind (Agent preference life room serves) = tells_same s (found_says n) (Some own) run (entries.Restarted (node_id m)) refl ∙ so
-      of_kind (Mobile other) = tells_same s (found_says n) (Some own) run (entries.Restarted (node_id m)) refl ∙ so
-
-      by : (o : Option Host) → told (note (entries.Restarted (node_id m)) (emptied_by_host m run o)) ≡ knows (note (entries.Restarted (node_id m)) (emptied_by_host m run o))
-      by None = tells_same s (found_says n) (Some own) run (entries.Restarted (node_id m)) refl ∙ so
-      by (Some other) = of_kind other.kind
+  reborn_so run m so =
+      let same = tells_same s (found_says n) (Some own) run (entries.Restarted (node_id m)) refl ∙ so in
+      emptied_keeps s m run (λ (r : Run). told (note (entries.Restarted (node_id m)) r) ≡ knows (note (entries.Restarted (node_id m)) r)) same same same
 
   acted_so : (run : Run) (m : ℕ) (call : Call) → IsCall s run m call → is_leave call ≡ false → is_rebirth call ≡ false → IsSo run → told (acts s m call run) ≡ knows (acts s m call run)
   acted_so run m call is stays lives p = elim (cases_eq n m) as (λ _. told (acts s m call run) ≡ knows (acts s m call run)) [

@@ -227,6 +227,9 @@ HasPasts before run = (run.pasts ≡ before.pasts) × (run.agent_pasts ≡ befor
 pub answers_pasts : (s : Setup) (n from : ℕ) (answers : List Answer) (run : Run) → HasPasts run (answered s n from run answers)
 answers_pasts s n from answers run = h-answers s (HasPasts run) (λ r e seen has. has) (λ r post e is has. has) n from run answers (refl, refl, refl)
 
+pub answers_mobiles : (s : Setup) (n from : ℕ) (answers : List Answer) (run : Run) → (answered s n from run answers).mobile_pasts ≡ run.mobile_pasts
+answers_mobiles s n from answers run = let has = answers_pasts s n from answers run in has.2
+
 -- no effect moves the moment, and none begins a life
 life_seen : (run : Run) (e : Entry) (n count : ℕ) → IsSeen run e → restarts n count e ≡ count
 life_seen run (entries.Restarted node) n count seen = absurd seen

@@ -30,9 +30,9 @@ use Rattle.mip_rules_mobile.specs.Fitting.{EachFits}
 use Rattle.mip_rules_mobile.proofs.Fits.{known_along, call-along}
 use Rattle.mip_links.specs.Table.{holder_outside}
 use Rattle.mip_schedule.specs.declared.event.Event.{Event}
-use Rattle.mip_history.specs.Setup.{Setup, Host, Kind, is_mobile_host}
-use Rattle.mip_history.specs.Setup.Kind.{Correspondent, Agent, Mobile}
-use Rattle.mip_history.specs.Runs.{Run, note, mobile_past_at}
+use Rattle.mip_history.specs.Setup.{Setup, is_mobile_host}
+use Rattle.mip_history.specs.Setup.Kind.{Mobile}
+use Rattle.mip_history.specs.Runs.{Run, note, mobile_past_at, with_past, with_agent_past}
 use Rattle.mip_history.specs.Questions.{moment_says}
 use Rattle.mip_history.specs.Calls.{Call, Leave, Restart}
 use Rattle.mip_history.specs.Knowing.{now_in, secrets_in, mobile_known_in, stands_on, around_in}
@@ -40,7 +40,8 @@ use Rattle.mip_history.specs.Claims.{link_id}
 use Rattle.mip_history.specs.Nodes.{by_host, acts}
 use Rattle.mip_history.specs.Permitted.{moves, run_of}
 use Rattle.mip_history.proofs.Opening.{nothing}
-use Rattle.mip_history.proofs.Keeping.{is_busy, IsCall, is_leave, is_rebirth, emptied_by_kind, emptied_by_host, emptied, Keeps}
+use Rattle.mip_history.proofs.Keeping.{is_busy, IsCall, is_leave, is_rebirth, emptied, Keeps}
+use Rattle.mip_history.proofs.Folds.{emptied_keeps}
 use Rattle.mip_history.proofs.Walking.{walk_run}
 use Rattle.mip_history.specs.Told.{binding_told, late_says}
 use Rattle.mip_settled.proofs.Answered.{IsQuiet, IsMute, tells, tells_push, tells_same, answers_mute}
@@ -285,7 +286,9 @@ module _ (s : Setup) (u : ℕ) (since : s.start ≤ u) (peer : Address) where
       }
 
   binding_reborn : (run : Run) (n : ℕ) → is_mobile_host (slice_get s.hosts n) ≡ false → IsRoaming s (note (entries.Restarted (node_id n)) (emptied s n run)) → IsBinding run → IsBinding (note (entries.Restarted (node_id n)) (emptied s n run))
-  binding_reborn run n none roaming b = by (slice_get s.hosts n) roaming
+  binding_reborn run n none roaming b =
+      emptied_keeps s n run (λ (later : Run). IsRoaming s (note (entries.Restarted (node_id n)) later) → IsBinding (note (entries.Restarted (node_id n)) later))
+      (λ r. on run r refl refl) (λ r. on (with_past n [] run) r refl refl) (λ r. on (with_agent_past n [] run) r refl refl) roaming
     where
       apart : (m : ℕ) (own : Address) (agent : Option Address) → slice_get s.hosts m ≡ Some (record { address = own; kind = Mobile agent }) → m ≢ n
       apart m own agent host same = absurd (let both : true ≡ false = sym (ap is_mobile_host host) ∙ ap (λ (x : ℕ). is_mobile_host (slice_get s.hosts x)) same ∙ none in cc)
@@ -298,15 +301,6 @@ module _ (s : Setup) (u : ℕ) (since : s.start ≤ u) (peer : Address) where
             (goes_on m own agent run later (ap (λ (l : List Entry). asked (binding_told m peer) None l) past) (λ early. sym (ap (λ (l : List Entry). asked (late_says u) false l) past) ∙ early)
             (ap (λ (l : List (List (Stamped Step))). slice_index_or l m []) pasts) (b.bound m own agent host));
       }
-
-      of_kind : (kind : Kind) → IsRoaming s (note (entries.Restarted (node_id n)) (emptied_by_kind n run kind)) → IsBinding (note (entries.Restarted (node_id n)) (emptied_by_kind n run kind))
-      of_kind (Correspondent room) r = on (emptied_by_kind n run (Correspondent room)) r refl refl
-      of_kind (Agent preference life room serves) r = on (emptied_by_kind n run (Agent preference life room serves)) r refl refl
-      of_kind (Mobile agent) r = on run r refl refl
-
-      by : (o : Option Host) → IsRoaming s (note (entries.Restarted (node_id n)) (emptied_by_host n run o)) → IsBinding (note (entries.Restarted (node_id n)) (emptied_by_host n run o))
-      by None r = on run r refl refl
-      by (Some host) r = of_kind host.kind r
 
   injected_binding : (run : Run) (o link : ℕ) (packet : List ℕ) → IsBinding run → IsBinding (note (entries.Injected (length run.posts) o (link_id link) packet) run)
   injected_binding run o link packet b =

@@ -33,7 +33,8 @@ use Rattle.mip_history.specs.Claims.{link_id}
 use Rattle.mip_history.specs.Nodes.{left_by, answered_one, answered, asks, by_kind, by_host, acts}
 use Rattle.mip_history.specs.Permitted.{run_of}
 use Rattle.mip_history.proofs.Reasons.{all_append}
-use Rattle.mip_history.proofs.Keeping.{Keeps, emptied, emptied_by_kind, emptied_by_host}
+use Rattle.mip_history.proofs.Keeping.{Keeps, emptied}
+use Rattle.mip_history.proofs.Folds.{emptied_keeps}
 use Rattle.mip_history.proofs.Walking.{walk_run}
 use Rattle.mip_settled.proofs.Answered.{IsQuiet, IsMute, tells, tells_push, tells_same, tells_marked, tells_sent, tells_released, tells_claimed}
 use Rattle.mip_settled.proofs.Roaming.{acts_mute}
@@ -131,15 +132,7 @@ module _ {S : Type 0} (s : Setup) (says : Entry → Option S) (d : S) (n : ℕ) 
       tells_push s says d run (entries.Restarted (node_id m)) ∙ ap (λ (x : S). unwrap_or (says (entries.Restarted (node_id m))) x) p ∙ never.restarted m
 
   emptied_same : (m : ℕ) (run : Run) → tells s says d (emptied s m run) ≡ tells s says d run
-  emptied_same m run = by (slice_get s.hosts m)
-    where
-      kinds : (kind : Kind) → tells s says d (emptied_by_kind m run kind) ≡ tells s says d run
-      kinds (Correspondent room) = refl
-      kinds _ = refl
-
-      by : (o : Option Host) → tells s says d (emptied_by_host m run o) ≡ tells s says d run
-      by None = refl
-      by (Some host) = kinds host.kind
+  emptied_same m run = emptied_keeps s m run (λ (r : Run). tells s says d r ≡ tells s says d run) refl refl refl
 
   never_keeps : Keeps s (λ (run : Run). tells s says d run ≡ d)
   never_keeps = record {

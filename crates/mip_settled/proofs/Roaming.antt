@@ -11,8 +11,6 @@ use Rattle.mip_words.specs.Asked.{asked}
 use Rattle.mip_nonce.specs.Secrets.{Life}
 use Rattle.mip_outside.specs.declared.claim.Claim.{Claim}
 use Rattle.mip_outside.specs.declared.claim.Claim.TheVariants as claim
-use Rattle.mip_entries.specs.declared.answer.Answer.{Answer}
-use Rattle.mip_entries.specs.declared.answer.Answer.TheVariants.{Send, Note}
 use Rattle.mip_entries.specs.declared.entry.Entry.{Entry}
 use Rattle.mip_entries.specs.declared.entry.Entry.TheVariants as entries
 use Rattle.mip_entries.specs.Completed.{node_id}
@@ -43,16 +41,18 @@ use Rattle.mip_links.specs.Table.{link_from, link_of, holder_outside}
 use Rattle.mip_schedule.specs.declared.event.Event.{Event}
 use Rattle.mip_history.specs.Setup.{Setup, Host, Kind, is_mobile_host}
 use Rattle.mip_history.specs.Setup.Kind.{Correspondent, Agent, Mobile}
-use Rattle.mip_history.specs.Runs.{Run, note, mobile_past_at, with_mobile_past}
+use Rattle.mip_history.specs.Runs.{Run, note, mobile_past_at, with_mobile_past, with_past, with_agent_past}
 use Rattle.mip_history.specs.Questions.{moved_says}
 use Rattle.mip_history.specs.Calls.{Call, Take, Send as Sending, Refresh, Tick, Plan, Hear, Attach, Leave, Ask, Restart, for_correspondent, for_agent, for_mobile}
 use Rattle.mip_history.specs.Knowing.{now_in, secrets_in, mobile_known_in, stands_on, around_in}
 use Rattle.mip_history.specs.Advertising.{is_link, roams_by_host}
 use Rattle.mip_history.specs.Claims.{link_id}
-use Rattle.mip_history.specs.Nodes.{left_by, answered_one, answered, after_mobile_transition, asks, by_kind, by_host, acts}
+use Rattle.mip_history.specs.Nodes.{after_mobile_transition, asks, by_kind, by_host, acts}
 use Rattle.mip_history.specs.Permitted.{moves, run_of}
 use Rattle.mip_history.proofs.Opening.{nothing}
-use Rattle.mip_history.proofs.Keeping.{is_busy, IsThere, IsCall, is_leave, is_rebirth, emptied_by_kind, emptied_by_host, emptied, Keeps, keeps_overheard, keeps_claims, keeps_gives_up}
+use Rattle.mip_history.proofs.Keeping.{is_busy, IsThere, IsCall, is_leave, is_rebirth, emptied, Keeps}
+use Rattle.mip_history.proofs.Effects.{answers_mobiles}
+use Rattle.mip_history.proofs.Folds.{emptied_keeps}
 use Rattle.mip_history.proofs.Walking.{walk_run}
 use Rattle.mip_history.specs.Told.{present_says, present_in, registration_told}
 use Rattle.mip_history.specs.Found.{address_of}
@@ -144,30 +144,6 @@ unfolding after
 apart_registered k at address holder = refl
 
 module _ (s : Setup) where
-  -- what answers leave of the pasts of mobiles
-  abbrev HasPasts : List (List (Stamped Step)) → Run → Type 0
-  HasPasts pasts run = run.mobile_pasts ≡ pasts
-
-  module _ (pasts : List (List (Stamped Step))) where
-    pasts_idle : (run : Run) (e : Entry) → is_busy e ≡ false → HasPasts pasts run → HasPasts pasts (note e run)
-    pasts_idle run e idle is = is
-
-    pasts_left : (n : ℕ) (run : Run) (e : Entry) → HasPasts pasts run → HasPasts pasts (left_by s n run e)
-    pasts_left n run (entries.Claimed who link address) is = keeps_claims s (HasPasts pasts) pasts_idle n address run (λ on holder. is) is
-    pasts_left n run (entries.Taken who link address holder) is = keeps_claims s (HasPasts pasts) pasts_idle n address run (λ on other. is) is
-    pasts_left n run (entries.Released who link address) is = keeps_gives_up s (HasPasts pasts) pasts_idle n address run is
-    pasts_left n run (entries.Restarted node) is = is
-    pasts_left n run _ is = is
-
-    pasts_answer : (n from : ℕ) (run : Run) (answer : Answer) → HasPasts pasts run → HasPasts pasts (answered_one s n from run answer)
-    pasts_answer n from run (Send shield packet) is = keeps_overheard s (HasPasts pasts) pasts_idle from shield None _ _ is
-    pasts_answer n from run (Note e) is = pasts_left n run e is
-
-    pasts_answers : (n from : ℕ) (run : Run) (answers : List Answer) → HasPasts pasts run → HasPasts pasts (answered s n from run answers)
-    unfolding answered
-    pasts_answers n from run [] is = is
-    pasts_answers n from run (answer ∷ answers) is = pasts_answers n from (answered_one s n from run answer) answers (pasts_answer n from run answer is)
-
   -- what a call of another node leaves
   module _ {S : Type 0} (says : Entry → Option S) (d : S) (quiet : IsQuiet says) (n : ℕ) (mute : IsMute says n) where
     asks_mute : {C : Type 0} (does : C → Run → Run) (call : Option C) (run : Run) → ((c : C) → tells s says d (does c run) ≡ tells s says d run) → tells s says d (asks does call run) ≡ tells s says d run
@@ -208,10 +184,10 @@ module _ (s : Setup) where
   others_acts n call run = by_node (slice_get s.hosts n)
     where
       kinds : (own : Address) (kind : Kind) → HasOthers n run (by_kind s n own call run kind)
-      kinds own (Correspondent room) = others_asks n _ (for_correspondent call) run (λ c. others_same n run _ (pasts_answers run.mobile_pasts n _ _ _ refl))
-      kinds own (Agent preference life room serves) = others_asks n _ (for_agent (around_in run n None) call) run (λ c. others_same n run _ (pasts_answers run.mobile_pasts n _ _ _ refl))
+      kinds own (Correspondent room) = others_asks n _ (for_correspondent call) run (λ c. others_same n run _ (answers_mobiles s n _ _ _))
+      kinds own (Agent preference life room serves) = others_asks n _ (for_agent (around_in run n None) call) run (λ c. others_same n run _ (answers_mobiles s n _ _ _))
       kinds own (Mobile agent) =
-          others_asks n _ (for_mobile (around_in run n (Some own.0)) own call) run (λ c. others_set n run _ _ (pasts_answers (slice_set run.mobile_pasts n _) n _ _ _ refl))
+          others_asks n _ (for_mobile (around_in run n (Some own.0)) own call) run (λ c. others_set n run _ _ (answers_mobiles s n _ _ _))
 
       by_node : (o : Option Host) → HasOthers n run (by_host s n call run o)
       by_node None = others_same n run (note entries.Idle run) refl
@@ -278,7 +254,7 @@ module _ (s : Setup) where
     known_then c =
         let past : List (Stamped Step) = with_transition (mobile_past_at run n) (transition c) in
         let inside : n < length s.hosts = slice_get_within s.hosts n (record { address = own; kind = Mobile agent }) host in
-        ap (λ (l : List (List (Stamped Step))). known own agent s.numbers (secrets_in s n 0) (slice_index_or l n [])) (pasts_answers (slice_set run.mobile_pasts n past) n _ (middle c) (answers_of (transition c).steps) refl)
+        ap (λ (l : List (List (Stamped Step))). known own agent s.numbers (secrets_in s n 0) (slice_index_or l n [])) (answers_mobiles s n _ (answers_of (transition c).steps) (middle c))
         ∙ ap (known own agent s.numbers (secrets_in s n 0)) (get_or-set_same run.mobile_pasts n past [] (omega (arith, long, inside)))
         ∙ sym (stands-known own agent s.numbers (secrets_in s n 0) past (transition c).known (call-stands own agent s.numbers (secrets_in s n 0) (mobile_past_at run n) k now c refl))
 
@@ -476,7 +452,8 @@ module _ (s : Setup) where
       }
 
   roaming_reborn : (run : Run) (n : ℕ) → is_mobile_host (slice_get s.hosts n) ≡ false → IsRoaming s run → IsRoaming s (note (entries.Restarted (node_id n)) (emptied s n run))
-  roaming_reborn run n none r = by (slice_get s.hosts n)
+  roaming_reborn run n none r =
+      emptied_keeps s n run (λ (later : Run). IsRoaming s (note (entries.Restarted (node_id n)) later)) (on run refl refl) (on (with_past n [] run) refl refl) (on (with_agent_past n [] run) refl refl)
     where
       apart : (m : ℕ) (own : Address) (agent : Option Address) → slice_get s.hosts m ≡ Some (record { address = own; kind = Mobile agent }) → m ≢ n
       apart m own agent host same = absurd (let both : true ≡ false = sym (ap is_mobile_host host) ∙ ap (λ (x : ℕ). is_mobile_host (slice_get s.hosts x)) same ∙ none in cc)
@@ -489,15 +466,6 @@ module _ (s : Setup) where
             (goes_on m own agent run later (ap (λ (l : List Entry). present_in l m own) past) (λ node. ap (λ (l : List Entry). asked (registration_told m) None l) past)
             (ap (λ (l : List Entry). asked (moved_says m) (link_of s.links own.0) l) past) (ap (λ (l : List (List (Stamped Step))). slice_index_or l m []) pasts) (r.found m own agent host));
       }
-
-      of_kind : (kind : Kind) → IsRoaming s (note (entries.Restarted (node_id n)) (emptied_by_kind n run kind))
-      of_kind (Correspondent room) = on (emptied_by_kind n run (Correspondent room)) refl refl
-      of_kind (Agent preference life room serves) = on (emptied_by_kind n run (Agent preference life room serves)) refl refl
-      of_kind (Mobile agent) = on run refl refl
-
-      by : (o : Option Host) → IsRoaming s (note (entries.Restarted (node_id n)) (emptied_by_host n run o))
-      by None = on run refl refl
-      by (Some host) = of_kind host.kind
 
   roaming_taken : (run : Run) (o : ℕ) (link : LinkId) (address : Address) (holder : ℕ) → IsRoaming s run → IsRoaming s (note (entries.Taken (holder_outside o) link address holder) run)
   roaming_taken run o link address holder r =
