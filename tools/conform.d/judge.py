@@ -1,0 +1,49 @@
+"""Compares what the device did with what the proved node did and with the case's own words."""
+import dataclasses
+
+import cases
+
+PASSED, FAILED, WARNED, NOTED, KIT = "passed", "failed", "warned", "noted", "kit is wrong"
+
+
+@dataclasses.dataclass
+class Verdict:
+    """What became of a case, and why: the step, and how it is not as permitted."""
+
+    case: cases.Case
+    outcome: str
+    why: list = dataclasses.field(default_factory=list)
+    step: int = 0
+    device: object = None
+    proved: object = None
+
+
+def differences(done, proved):
+    """How a step of the device has another answer than the proved node's, in the fields of which the case does not speak."""
+    found = []
+    if done.choice != proved.choice:
+        return found
+    for ours, theirs in zip(proved.came, done.came):
+        for field in sorted(ours.keys() | theirs.keys()):
+            if field not in cases.FREE and field not in done.named and ours.get(field) != theirs.get(field):
+                found.append(f"{field} is {cases.told(theirs.get(field))} and not {cases.told(ours.get(field))}, as the proved node has it")
+    return found
+
+
+def not_met(case, level):
+    """The outcome of a case one step of which is not met."""
+    if case.ours:
+        return NOTED
+    return WARNED if (level or case.level) == cases.SHOULD else FAILED
+
+
+def judge(case, proved, device):
+    if proved.wrong:
+        return Verdict(case, KIT, [f"the proved node: {it}" for it in proved.wrong], len(proved.steps) - 1, device, proved)
+    for at, (done, ours) in enumerate(zip(device.steps, proved.steps)):
+        why = done.wrong or differences(done, ours)
+        if why:
+            return Verdict(case, not_met(case, done.level), why, at, device, proved)
+    if device.late:
+        return Verdict(case, not_met(case, ""), ["an answer came late: " + device.late[0]], len(device.steps) - 1, device, proved)
+    return Verdict(case, PASSED, [], 0, device, proved)
