@@ -5,6 +5,7 @@ stand for at one target. README.md tells how a case is written.
 """
 import dataclasses
 import secrets
+import struct
 
 import packets
 import tokens
@@ -54,6 +55,7 @@ class Env:
         self.base = 0  # sequence numbers of steps count from here
         self.seal = None  # key, care-of address and peer of the last update
         self.sent = b""  # the last packet sent
+        self.history = []  # packets, shields and seals of all that was sent
         self.more = {}  # whatever a role keeps of its own
 
     def address(self, name):
@@ -141,6 +143,7 @@ class Send:
     async def perform(self, run):
         packet, shield = self.make(run.env)
         run.env.sent = packet
+        run.env.history.append((packet, shield, run.env.seal))
         run.send(packet, shield)
         return Done(f"sent {self.text}", sent=packet)
 
@@ -325,17 +328,17 @@ def headers_of(env, route, option):
 
 
 def mobility(env, body, source, destination, option=None, route=None, after=None, cut=0, more=b"", length=None, hop=64, headers=None):
-    """A packet with a mobility message and its checksum. `after` replaces bytes behind the checksum's making, `cut` and `more` take bytes from the end or add some."""
+    """A packet with a mobility message and its checksum. `cut` takes bytes from the message's end, `more` adds some; `after` replaces bytes once the checksum is made."""
     first, last = env.address(option or source), env.address(route or destination)
-    body = edited(packets.summed(first, last, packets.MOBILITY, body, 4), after)
-    body = body[: len(body) - cut] + more
+    body = packets.summed(first, last, packets.MOBILITY, body[: len(body) - cut] + more, 4)
+    body = edited(body, after)
     headers = headers_of(env, route, option) if headers is None else headers
     return packets.packet(env.address(source), env.address(destination), packets.MOBILITY, body, hop, headers, length)
 
 
-def init(kind, source, destination, cookie, option, before, wrong):
+def init(kind, source, destination, cookie, option, options, before, wrong):
     def make(env):
-        body = edited(packets.test_init(kind, env.cookie(cookie)), before)
+        body = edited(packets.test_init(kind, env.cookie(cookie), options), before)
         return mobility(env, body, source, destination, option, **wrong), None
 
     return Send(f"{kind} from {source} to {destination}" + (f", option {option}" if option else "") + noted(before, wrong), make)
@@ -348,13 +351,13 @@ def noted(before, wrong):
     return "".join(f", {it}" for it in words)
 
 
-def hoti(source="H", destination="C", cookie="home", option=None, before=None, **wrong):
+def hoti(source="H", destination="C", cookie="home", option=None, options=(), before=None, **wrong):
     """A Home Test Init. `before` replaces bytes before the checksum is made; `wrong` are the words of `mobility`."""
-    return init("hoti", source, destination, cookie, option, before, wrong)
+    return init("hoti", source, destination, cookie, option, options, before, wrong)
 
 
-def coti(source="A", destination="C", cookie="careof", option=None, before=None, **wrong):
-    return init("coti", source, destination, cookie, option, before, wrong)
+def coti(source="A", destination="C", cookie="careof", option=None, options=(), before=None, **wrong):
+    return init("coti", source, destination, cookie, option, options, before, wrong)
 
 
 def hot(destination="H", cookie="home", keep="home", level="", **words):
@@ -416,8 +419,9 @@ def bu(sequence=1, lifetime=10, flags="A", source="A", destination="C", home="H"
 
 
 def ba(status, sequence=1, level="", **words):
-    """A Binding Acknowledgement."""
-    return Expect("ba", {"source": "C", "status": status, "sequence": sequence, **words}, level=level)
+    """A Binding Acknowledgement. The lifetime of one that accepts is 10 at most where none is named, as an update asks for; that of one that denies has no meaning."""
+    lifetime = anything if status != 0 else between(1, 10)
+    return Expect("ba", {"source": "C", "status": status, "sequence": sequence, "lifetime": lifetime, **words}, level=level)
 
 
 def be(status, home="::", destination="A", level="", **words):
@@ -438,6 +442,16 @@ def data(source="A", destination="C", option="H", route=None, proto=packets.NONE
         return packets.packet(env.address(source), env.address(destination), proto, body, hop, found), None
 
     return Send(f"data from {source} to {destination}" + (f", option {option}" if option else "") + (f", route {route}" if route else ""), make)
+
+
+def again(back=1):
+    """The packet that was sent so many packets before, byte for byte."""
+
+    def make(env):
+        packet, shield, env.seal = env.history[-back]
+        return packet, shield
+
+    return Send("the same packet again" if back == 1 else f"the packet that was sent {back} packets before, again", make)
 
 
 def raw(make, text="bytes"):

@@ -97,8 +97,8 @@ def message(kind, fields, options=(), aligned=True):
     return body[:1] + bytes([len(body) // 8 - 1]) + body[2:]
 
 
-def test_init(kind, cookie):
-    return message(KINDS.index(kind), b"\0\0" + cookie)
+def test_init(kind, cookie, options=()):
+    return message(KINDS.index(kind), b"\0\0" + cookie, options)
 
 
 def test(kind, index, cookie, token):
