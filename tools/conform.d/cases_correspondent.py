@@ -6,6 +6,7 @@ import tokens
 from cases import (FREE, Case, Expect, Send, Word, again, anything, at_most, ba, be, between, bu, cot, coti, data, edited, hot, hoti, key_of, mobility, must, nothing, one,
                    one_of, problem, raw, should, tests, wait)
 from roles import Role
+from talking import counted, place, talk
 
 UNKNOWN = 60000  # a nonce index that no node has given
 OLD = one_of(136, 137, 138)  # a nonce that is no longer taken
@@ -241,7 +242,7 @@ PLACES = (
          bind, coti("B", cookie="new"), cot("B", "new", "new"), bu(source="B", sequence=2, careof_test="new"), ba(0, 2, destination="B"), data("B"), nothing(), unbound),
     must("tokens-again", "5.2.5", "Two tokens make more than one update.", bind, bu(sequence=2), ba(0, sequence=2), bound),
     must("binding-ends", "9.5.2", "A binding ends with its lifetime.", tests(), bu(lifetime=1), ba(0, lifetime=1), bound, wait(5), unbound),
-    must("binding-renewed", "9.5.2", "An update before the end makes the binding last from then on.", tests(), bu(lifetime=2), ba(0, lifetime=2), wait(5), bu(sequence=2, lifetime=2), ba(0, 2, lifetime=2), wait(5), bound),
+    must("binding-renewed", "9.5.2", "An update before the end makes the binding last from then on.", tests(), bu(lifetime=1), ba(0, lifetime=1), wait(2.5), bu(sequence=2, lifetime=1), ba(0, 2, lifetime=1), wait(2.5), bound),
 )
 
 SEQUENCES = (
@@ -298,7 +299,21 @@ OPTIONS = (
     must("flags-key-local", "6.1.7", "Flags L and K do not hinder an update to a correspondent.", tests(), bu(flags="ALK"), ba(0, flags=anything)),
 )
 
-TALKS = ()
+BEACONS = ("data", "reply")
+TALKS = (
+    must("talk-unbound", "9.3.2", "Data to a home address without a binding goes there, without a routing header.", counted(), talk(destination="H", route=None), talks=True, ignores=BEACONS),
+    should("talk-bound", "9.3.2", "Data to a home address with a binding goes to the care-of address, with a type 2 routing header that has the home address.",
+           counted(), bind, talk("A", "H", destination="A", route="H"), talks=True, ignores=BEACONS),
+    must("talk-moved", "9.3.2", "Data does not go to the care-of address that a later one took the place of.",
+         counted(), bind, coti("B", cookie="new"), cot("B", "new", "new"), bu(source="B", sequence=2, careof_test="new"), ba(0, 2, destination="B"),
+         talk("B", "H", destination=place("B", "H"), route=anything), talks=True, ignores=BEACONS),
+    must("talk-deleted", "9.5.3", "Data goes to the home address once the binding is deleted.", counted(), bind, delete, ba(0, 2, lifetime=anything), talk(destination="H", route=None),
+         talks=True, ignores=BEACONS),
+    must("talk-ended", "9.5.2", "Data goes to the home address once the binding has ended.", counted(), tests(), bu(lifetime=1), ba(0, lifetime=1), wait(5), talk(destination="H", route=None),
+         talks=True, ignores=BEACONS),
+    must("talk-refused", "9.5.1", "Data goes to the home address after an update whose authenticator was wrong.", counted(), tests(), bu(spoiled=True), nothing(), talk(destination="H", route=None),
+         talks=True, ignores=BEACONS),
+)
 
 SLOW = (
     must("token-205-s", "5.2.7", "A token is taken for 210 s at least.", tests(), wait(205), bu(), ba(0), is_slow=True),
@@ -312,14 +327,20 @@ SLOW = (
     must("binding-stands", "9.5.2", "A binding of 40 s stands after 37 s, and has ended after 42 s.", tests(), bu(), ba(0, lifetime=10), wait(37), bound, wait(5), unbound, is_slow=True),
 )
 
-CASES = TESTS + RECEPTION + VERDICTS + PLACES + SEQUENCES + DELETIONS + OPTIONS + TALKS + SLOW
+CASES = TALKS + TESTS + RECEPTION + VERDICTS + PLACES + SEQUENCES + DELETIONS + OPTIONS + SLOW
+
+
+# the homes to which a device has to send data, by the numbers of the cases that look at it: they are always the same
+HOMES = {at: packets.packed(f"2001:db8:1::e{at:03x}") for at, it in enumerate(CASES) if it.talks}
+TURNS_BETWEEN = 10  # turns of a `mip node` between two data for a home
 
 
 def addresses(number, run, own):
     """A case's own addresses: those of another run of the kit are others, since a device keeps sequence numbers for long."""
     tail = b"\2" + run + number.to_bytes(2, "big")
     at = lambda link, more=0: packets.packed(f"2001:db8:{link}::")[:8] + bytes([more]) + tail
-    return {"C": own, "H": at(1), "H2": at(1, 1), "A": at(3), "B": at(4), "X": at(5), "Z": at(6)}
+    home = HOMES.get(number) or at(1)
+    return {"C": own, "H": home, "H2": at(1, 1), "A": at(3), "B": at(4), "X": at(5), "Z": at(6)}
 
 
 def barrier(env):
@@ -338,7 +359,10 @@ def hello(env):
 
 
 def configuration(port, kit, own, cases):
-    return ["mip 1", f"seed {secrets.token_hex(32)}", "self 0", f"port {port}", f"default {kit}", f"correspondent {own.hex()} 64"]
+    """A correspondent that sends data to each home of the cases that look for it, as often as a configuration has room for."""
+    homes = [HOMES[CASES.index(it)].hex() for it in cases if it.talks]
+    lines = ["mip 1", f"seed {secrets.token_hex(32)}", "self 0", f"port {port}", f"default {kit}", f"correspondent {own.hex()} 64"]
+    return lines + [f"payload {TURNS_BETWEEN * (1 + at // len(homes))} {homes[at % len(homes)]} 253 74616c6b" for at in range(1000 if homes else 0)]
 
 
 ROLE = Role("correspondent", "C", "2001:db8:2::2", CASES, addresses, configuration, barrier, hello, ignores=("brr",), shared=("C",))

@@ -48,12 +48,17 @@ def words():
     it.add_argument("--case", nargs="+", default=[], metavar="NAME")
     it.add_argument("--patience", type=positive, default=2.0)
     it.add_argument("--junit", metavar="FILE")
-    for flag in ("--slow", "--list", "--json"):
+    for flag in ("--slow", "--list", "--json", "--no-data", "--config"):
         it.add_argument(flag, action="store_true")
     found = it.parse_args()
     if not found.list and not found.start and (found.port is None or not 1 <= found.port <= 65535):
         it.error("--port takes the device's port, 1 to 65535")
     return found
+
+
+def waits(case):
+    """The seconds for which a case waits: those that wait longest begin first."""
+    return sum(getattr(it, "seconds", 0) for it in case.steps)
 
 
 class Kit:
@@ -78,7 +83,8 @@ class Kit:
                 if not await self.greet(self.device):
                     return NEVER_ANSWERED
             step = self.role.at_one_node
-            await asyncio.gather(*[self.part(mip, self.chosen[at : at + step]) for at in range(0, len(self.chosen), step)])
+            order = sorted(self.chosen, key=lambda it: (not it.talks, -waits(it)))
+            await asyncio.gather(*[self.part(mip, order[at : at + step]) for at in range(0, len(order), step)])
         finally:
             for it in self.begun:
                 await it.end()
@@ -153,7 +159,9 @@ def chosen_of(role, given):
     for name in given.case:
         if name not in names:
             stop(f"there is no case {name}; --list has them all")
-    return [it for it in role.cases if (it.name in given.case if given.case else given.slow or not it.is_slow)]
+    if given.case:
+        return [it for it in role.cases if it.name in given.case]
+    return [it for it in role.cases if (given.slow or not it.is_slow) and not (given.no_data and it.talks)]
 
 
 def list_cases(chosen):
@@ -188,6 +196,10 @@ def main():
     chosen = chosen_of(role, given)
     if given.list:
         list_cases(chosen)
+        return ALL_PASSED
+    if given.config:
+        own = packets.packed(given.address or role.own)
+        print("\n".join(role.configuration(given.port, given.kit_port or given.port + 1, own, chosen)))
         return ALL_PASSED
     kit = Kit(given, role, chosen)
     try:

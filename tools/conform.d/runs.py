@@ -7,7 +7,7 @@ import cases
 import frames
 import packets
 
-MOST = 100  # packets that a case takes; a device that sends more floods it
+MOST = 200  # packets that a case takes; a device that sends more floods it
 QUIET = 0.02  # s that are waited for more behind the answer that ends a silence
 
 
@@ -55,8 +55,10 @@ class Run:
         if self.barrier and self.barrier(data):
             self.barrier = None
         elif len(self.seen) < MOST:
-            self.inbox.append(self.came(now, data, shield, fault))
-            self.seen.append(data)
+            it = self.came(now, data, shield, fault)
+            self.inbox.append(it)
+            if it.said["kind"] not in self.ignores:
+                self.seen.append(data)
         self.event.set()
 
     def came(self, now, data, shield, fault):
