@@ -2,6 +2,7 @@
 
 What is read is a record of fields with plain names (`kind`, `source`, `status`, ..): one for each packet, whose `kind` says what it is.
 """
+import dataclasses
 import ipaddress
 import struct
 
@@ -231,29 +232,50 @@ def extension(body, number):
     return size
 
 
-def read(data):
-    """The fields of a packet. `source` and `destination` are those of its first header, `route` and `option` the addresses of a type 2 routing header and a Home Address option."""
+@dataclasses.dataclass
+class Walked:
+    """A packet whose headers were walked: their fields, the body and its place, and the types of all destination options."""
+
+    head: dict
+    body: bytes
+    place: int
+    options: list
+
+    def ends(self):
+        """Source and destination as a checksum has them: with the Home Address option and the routing header's address."""
+        return tuple(packed(self.head[by] or self.head[it]) for by, it in (("option", "source"), ("route", "destination")))
+
+
+def walk(data):
+    """Walks the headers of a packet."""
     if len(data) < 40 or data[0] >> 4 != 6:
         raise NotPacket("it is no IPv6 packet")
     _, length, proto, hop, source, destination = WHERE.unpack(data[:40])
     if length != len(data) - 40:
         raise NotPacket(f"its payload length is {length}, and {len(data) - 40} bytes stand there")
-    body = data[40:]
-    said = {"source": shown(source), "destination": shown(destination), "route": None, "option": None}
+    head = {"source": shown(source), "destination": shown(destination), "route": None, "option": None}
+    place, options = 40, []
     while proto in (HOP_OPTIONS, ROUTING, OPTIONS, FRAGMENT):
-        size = extension(body, proto)
-        if proto == ROUTING and body[2] == 2 and size == 24:
-            said["route"], destination = shown(body[8:24]), body[8:24]
+        header = data[place:]
+        size = extension(header, proto)
+        if proto == ROUTING and header[2] == 2 and size == 24:
+            head["route"] = shown(header[8:24])
         if proto == OPTIONS:
-            for kind, value in options_of(body[2:size]):
-                if kind == 201 and len(value) == 16:
-                    said["option"], source = shown(value), value
-        proto, body = body[0], body[size:]
-    said |= {"proto": proto, "hop": hop}
+            found = options_of(header[2:size])
+            options += [kind for kind, _ in found]
+            head["option"] = next((shown(value) for kind, value in found if kind == 201 and len(value) == 16), None)
+        proto, place = header[0], place + size
+    return Walked(head | {"proto": proto, "hop": hop}, data[place:], place, options)
+
+
+def read(data):
+    """The fields of a packet. `source` and `destination` are those of its first header, `route` and `option` the addresses of a type 2 routing header and a Home Address option."""
+    it = walk(data)
+    proto = it.head["proto"]
     if proto == MOBILITY:
-        return said | read_message(source, destination, body)
+        return it.head | read_message(*it.ends(), it.body)
     if proto == ICMP:
-        return said | read_icmp(source, destination, body)
+        return it.head | read_icmp(*it.ends(), it.body)
     if proto == TUNNEL:
-        return said | {"kind": "tunnel", "inner": read(body)}
-    return said | {"kind": "none" if proto == NONE else "data", "body": body}
+        return it.head | {"kind": "tunnel", "inner": read(it.body)}
+    return it.head | {"kind": "none" if proto == NONE else "data", "body": it.body}
