@@ -238,6 +238,7 @@ class Correspondent:
         if "H" in fields["flags"] and not self.has("accepts_h"):
             return answer.denied(131)
         is_deletion = fields["lifetime"] == 0 or careof == home
+        if not is_routable(home) or not is_routable(careof) or "nonces" not in options or "auth" not in options:
             return []
         numbers = [self.number_of(int.from_bytes(options["nonces"][at : at + 2], "big"), now) for at in (0, 2)]
         reads_both = not is_deletion or self.has("deletion_reads_index")
