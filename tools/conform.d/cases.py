@@ -131,6 +131,7 @@ class Done:
     choice: int = 0  # which of several permitted answers came
     level: str = ""
     named: tuple = ()  # the fields that the step's words speak of
+    is_lax: bool = False
 
 
 @dataclasses.dataclass(frozen=True)
@@ -168,6 +169,7 @@ class Expect:
     keep: str = ""  # the name under which a test is kept
     level: str = ""
     patience: float = 0  # seconds that are waited beside the kit's own patience
+    is_lax: bool = False  # fields of which the words do not speak are not compared with the proved node's
 
     def text(self):
         fields = ", ".join(f"{field} {told(value)}" for field, value in self.words.items())
@@ -202,6 +204,7 @@ class Nothing:
     words = {}
     kind = "nothing"
     patience = 0
+    is_lax = False
 
     def text(self):
         return "nothing"
@@ -228,6 +231,7 @@ class OneOf:
         if came is None:
             if "nothing" in kinds:
                 done.choice = next(at for at, it in enumerate(self.choices) if it.kind == "nothing")
+                done.wrong = run.why_no_silence()
             else:
                 done.wrong = [run.why_quiet()]
             return done
@@ -243,7 +247,7 @@ class OneOf:
         for at, it in enumerate(self.choices):
             found = [f"{came.said['kind']} came, and nothing is permitted"] if it.kind == "nothing" else it.differences(came.said, run.env)
             if not found:
-                done.choice, done.named, done.wrong = at, tuple(it.words), []
+                done.choice, done.named, done.wrong, done.is_lax = at, tuple(it.words), [], it.is_lax
                 it.take(came.said, run.env)
                 return
             if best is None or it.kind == came.said["kind"]:
@@ -292,6 +296,11 @@ def told(value):
 
 def wait(seconds):
     return Wait(seconds)
+
+
+def lax(it):
+    """The same expectation, for a step that only leads to the rule of its case: what its words do not name is not compared."""
+    return dataclasses.replace(it, is_lax=True)
 
 
 def nothing(seconds=0, level=""):
@@ -371,8 +380,8 @@ def cot(destination="A", cookie="careof", keep="careof", level="", **words):
 
 def tests(home="H", careof="A", names=("home", "careof")):
     """Both tests, kept under these names; without a care-of address the home test alone."""
-    steps = (hoti(home, cookie=names[0]), hot(home, names[0], names[0]))
-    return steps + ((coti(careof, cookie=names[1]), cot(careof, names[1], names[1])) if careof else ())
+    steps = (hoti(home, cookie=names[0]), lax(hot(home, names[0], names[0])))
+    return steps + ((coti(careof, cookie=names[1]), lax(cot(careof, names[1], names[1]))) if careof else ())
 
 
 def key_of(env, home_test, careof_test):
@@ -422,6 +431,16 @@ def ba(status, sequence=1, level="", **words):
     """A Binding Acknowledgement. The lifetime of one that accepts is 10 at most where none is named, as an update asks for; that of one that denies has no meaning."""
     lifetime = anything if status != 0 else between(1, 10)
     return Expect("ba", {"source": "C", "status": status, "sequence": sequence, "lifetime": lifetime, **words}, level=level)
+
+
+def ok(sequence=1, **words):
+    """An update is accepted: more is not looked at but what is named."""
+    return lax(Expect("ba", {"status": 0, "sequence": sequence, **words}))
+
+
+def denied(status, sequence=1, **words):
+    """An update is denied: more is not looked at but what is named."""
+    return lax(Expect("ba", {"status": status, "sequence": sequence, **words}))
 
 
 def be(status, home="::", destination="A", level="", **words):

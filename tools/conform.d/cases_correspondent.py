@@ -3,8 +3,8 @@ import secrets
 
 import packets
 import tokens
-from cases import (FREE, Case, Expect, Send, Word, again, anything, at_most, ba, be, between, bu, cot, coti, data, edited, hot, hoti, key_of, mobility, must, nothing, one,
-                   one_of, problem, raw, should, tests, wait)
+from cases import (Expect, Send, Word, again, anything, ba, be, between, bu, cot, coti, data, denied, edited, hot, hoti, lax, mobility, must, nothing, ok, one, one_of, problem, raw,
+                   should, tests, wait)
 from roles import Role
 from talking import counted, place, talk
 
@@ -15,13 +15,13 @@ HOP_OPTIONS = packets.HOP_OPTIONS
 
 # what shows whether the device has the binding of H to A
 bound = (data(), nothing())
-unbound = (data(), be(1, home="H"))
-bind = (tests(), bu(), ba(0))
+unbound = (data(), lax(Expect("be", {"status": 1})))
+bind = (tests(), bu(), ok())
 delete = bu(sequence=2, lifetime=0, careof_test=None)
 # the answers to what is no packet for the device: nothing, or an error message of ICMPv6
 dropped = one(nothing(), problem(anything, code=anything))
 # an old update once more: it may be denied or passed over, but never accepted
-refused = one(ba(one_of(135, 136, 137, 138), sequence=anything, authentic=anything), nothing())
+refused = one(denied(one_of(135, 136, 137, 138), anything), nothing())
 
 
 def another(name):
@@ -167,7 +167,7 @@ RECEPTION = (
     must("truncated-message", "6.1.1", "A message that ends before its Header Len says is not answered.", coti(cut=8), dropped),
     must("truncated-update", "6.1.1", "An update that ends before its Header Len says changes nothing.", tests(), bu(cut=8), dropped, unbound),
     must("truncated-field", "6.1.1", "A message of fewer than 8 bytes is not answered.", raw(tiny, "4 bytes of a mobility message from A to C"), dropped),
-    must("data-unbound", "9.3.1", "Data with a Home Address option of which there is no binding is answered by a Binding Error with status 1 that names it.", unbound),
+    must("data-unbound", "9.3.1", "Data with a Home Address option of which there is no binding is answered by a Binding Error with status 1 that names it.", data(), be(1, home="H")),
     must("data-unbound-udp", "9.3.1", "A datagram with a Home Address option of which there is no binding is answered by a Binding Error, and by nothing else.",
          data(proto=17, body=bytes.fromhex("000900090008") + bytes(2)), be(1, home="H")),
     must("data-unbound-icmp", "9.3.1", "An echo request with a Home Address option of which there is no binding is answered by a Binding Error, and by nothing else.",
@@ -193,14 +193,14 @@ VERDICTS = (
          tests(), bu(), ba(0, destination="A", route="H", option=None, authentic=True)),
     must("accepted-binds", "9.5.2", "An accepted update makes a binding.", unbound, bind, bound),
     should("accepted-without-a", "9.5.4", "An update without flag A that is accepted is not acknowledged.", tests(), bu(flags=""), nothing()),
-    must("accepted-without-a-binds", "9.5.2", "An update without flag A makes a binding, too.", tests(), bu(flags=""), one(nothing(), ba(0)), bound),
-    must("any-first-sequence", "9.5.1", "Any sequence number is accepted where there is no binding.", tests(), bu(sequence=40000), ba(0, sequence=40000)),
-    must("lifetime-asked", "9.5.2", "The lifetime that is granted is not above the one asked for.", tests(), bu(lifetime=1), ba(0, lifetime=1)),
-    must("lifetime-most", "5.2.6", "A binding by return routability lasts 420 s at most.", tests(), bu(lifetime=65535), ba(0, lifetime=between(1, 105))),
+    must("accepted-without-a-binds", "9.5.2", "An update without flag A makes a binding, too.", tests(), bu(flags=""), one(nothing(), ok()), bound),
+    must("any-first-sequence", "9.5.1", "Any sequence number is accepted where there is no binding.", tests(), bu(sequence=40000), ok(40000)),
+    must("lifetime-asked", "9.5.2", "The lifetime that is granted is not above the one asked for.", tests(), bu(lifetime=1), ok(lifetime=1)),
+    must("lifetime-most", "5.2.6", "A binding by return routability lasts 420 s at most.", tests(), bu(lifetime=65535), ok(lifetime=between(1, 105))),
     must("home-registration", "10.3.1", "A node that is no home agent denies an update with flag H with 131.",
          tests(), bu(flags="AH", options=()), ba(131, authentic=anything), unbound),
     must("home-registration-bound", "9.5.1", "An update with flag H for a home that has a binding without it is denied, and the binding stays.",
-         bind, bu(sequence=2, flags="AH", options=()), one(ba(131, sequence=2, authentic=anything), ba(139, sequence=2, authentic=anything)), bound),
+         bind, bu(sequence=2, flags="AH", options=()), denied(one_of(131, 139), 2), bound),
     must("home-multicast", "9.5.1", "An update for a multicast home address is dropped in silence.", update_for("ff0e::1", "multicast"), dropped),
     must("home-link-local", "9.5.1", "An update for a link-local home address is dropped in silence.", update_for("fe80::1", "link-local"), dropped),
     must("home-unspecified", "9.5.1", "An update for the unspecified home address is dropped in silence.", update_for("::", "unspecified"), dropped),
@@ -216,11 +216,11 @@ VERDICTS = (
          tests(), bu(indices=(None, UNKNOWN)), ba(137, authentic=None, destination="A", route="H"), unbound),
     must("both-indices", "9.5.1", "Two nonce indices that are not known are denied with 138, without an authenticator.",
          tests(), bu(indices=(UNKNOWN, UNKNOWN)), ba(138, authentic=None, destination="A", route="H"), unbound),
-    must("index-without-a", "9.5.4", "A nonce index that is not known is told where flag A is not set, too.", tests(), bu(flags="", indices=(UNKNOWN, UNKNOWN)), ba(138, authentic=None)),
-    must("index-keeps", "9.5.1", "An update that is denied for its nonces leaves the binding as it is.", bind, bu(sequence=2, alternate="B", indices=(UNKNOWN, UNKNOWN)), ba(138, 2, authentic=None), bound),
+    must("index-without-a", "9.5.4", "A nonce index that is not known is told where flag A is not set, too.", tests(), bu(flags="", indices=(UNKNOWN, UNKNOWN)), denied(138, authentic=None)),
+    must("index-keeps", "9.5.1", "An update that is denied for its nonces leaves the binding as it is.", bind, bu(sequence=2, alternate="B", indices=(UNKNOWN, UNKNOWN)), denied(138, 2, authentic=None), bound),
     must("authenticator", "9.5.1", "An update whose authenticator is wrong in one bit is dropped in silence.", tests(), bu(spoiled=True), nothing(), unbound),
     must("authenticator-keeps", "9.5.1", "An update whose authenticator is wrong leaves the binding and its sequence number.",
-         bind, bu(sequence=9, spoiled=True), nothing(), bound, bu(sequence=2), ba(0, sequence=2)),
+         bind, bu(sequence=9, spoiled=True), nothing(), bound, bu(sequence=2), ok(2)),
     must("authenticator-place", "6.2.7", "The authenticator covers the care-of address.", tests(), bu(registers="B"), nothing(), unbound),
     must("authenticator-home", "5.2.5", "The home token is that of the home address.", tests("H2"), bu(), nothing(), unbound),
     must("authenticator-token", "5.2.5", "The care-of token is that of the care-of address.", tests(careof="B"), bu(), nothing(), unbound),
@@ -233,36 +233,36 @@ VERDICTS = (
 
 PLACES = (
     must("alternate", "9.5.1", "The care-of address is the Alternate Care-of Address, with the token for that one; the acknowledgement goes to the source.",
-         tests(careof="B"), bu(alternate="B"), ba(0, destination="A", route="H"), data("B"), nothing(), unbound),
+         tests(careof="B"), bu(alternate="B"), ok(destination="A"), data("B"), nothing(), unbound),
     must("alternate-token", "9.5.1", "The token of the source makes no binding for an Alternate Care-of Address.", tests(), bu(alternate="B"), nothing(), data("B"), be(1, home="H", destination="B")),
-    must("alternate-same", "6.2.5", "An Alternate Care-of Address may be the source.", tests(), bu(alternate="A"), ba(0), bound),
+    must("alternate-same", "6.2.5", "An Alternate Care-of Address may be the source.", tests(), bu(alternate="A"), ok(), bound),
     must("alternate-from-home", "9.5.4", "An update from the home address with an Alternate Care-of Address makes a binding, and is acknowledged without a routing header.",
-         tests(), bu(source="H", alternate="A"), ba(0, destination="H", route=None), bound),
+         tests(), bu(source="H", alternate="A"), ok(destination="H", route=None), bound),
     must("moved", "9.5.2", "A later update has its care-of address take the place of the former.",
-         bind, coti("B", cookie="new"), cot("B", "new", "new"), bu(source="B", sequence=2, careof_test="new"), ba(0, 2, destination="B"), data("B"), nothing(), unbound),
-    must("tokens-again", "5.2.5", "Two tokens make more than one update.", bind, bu(sequence=2), ba(0, sequence=2), bound),
-    must("binding-ends", "9.5.2", "A binding ends with its lifetime.", tests(), bu(lifetime=1), ba(0, lifetime=1), bound, wait(5), unbound),
-    must("binding-renewed", "9.5.2", "An update before the end makes the binding last from then on.", tests(), bu(lifetime=1), ba(0, lifetime=1), wait(2.5), bu(sequence=2, lifetime=1), ba(0, 2, lifetime=1), wait(2.5), bound),
+         bind, coti("B", cookie="new"), cot("B", "new", "new"), bu(source="B", sequence=2, careof_test="new"), ok(2, destination="B"), data("B"), nothing(), unbound),
+    must("tokens-again", "5.2.5", "Two tokens make more than one update.", bind, bu(sequence=2), ok(2), bound),
+    must("binding-ends", "9.5.2", "A binding ends with its lifetime.", tests(), bu(lifetime=1), ok(lifetime=1), bound, wait(5), unbound),
+    must("binding-renewed", "9.5.2", "An update before the end makes the binding last from then on.", tests(), bu(lifetime=1), ok(lifetime=1), wait(2.5), bu(sequence=2, lifetime=1), ok(2, lifetime=1), wait(2.5), bound),
 )
 
 SEQUENCES = (
     must("sequence-same", "9.5.1", "An update with the sequence number of the last one is denied with 135, which carries that number.",
-         tests(), bu(sequence=5), ba(0, 5), bu(sequence=5), ba(135, 5, authentic=True, destination="A", route="H")),
+         tests(), bu(sequence=5), ok(5), bu(sequence=5), denied(135, 5)),
     must("sequence-less", "9.5.1", "An update with a lower sequence number is denied with 135, which carries the last number and not its own.",
-         tests(), bu(sequence=5), ba(0, 5), bu(sequence=3), ba(135, 5, authentic=True)),
-    must("sequence-less-without-a", "9.5.4", "A sequence number out of window is told where flag A is not set, too.", tests(), bu(sequence=5), ba(0, 5), bu(sequence=4, flags=""), ba(135, 5, authentic=True)),
+         tests(), bu(sequence=5), ok(5), bu(sequence=3), ba(135, 5, authentic=True)),
+    must("sequence-less-without-a", "9.5.4", "A sequence number out of window is told where flag A is not set, too.", tests(), bu(sequence=5), ok(5), bu(sequence=4, flags=""), denied(135, 5)),
     must("sequence-keeps", "9.5.1", "An update that is denied with 135 leaves the binding as it is.",
-         tests(), coti("B", cookie="new"), cot("B", "new", "new"), bu(sequence=5), ba(0, 5), bu(source="B", sequence=5, careof_test="new"), ba(135, 5, destination="B"), bound),
-    must("sequence-skips", "9.5.1", "A sequence number 32767 above the last is accepted.", tests(), bu(sequence=15), ba(0, 15), bu(sequence=32782), ba(0, 32782)),
-    must("sequence-half", "9.5.1", "A sequence number 32768 above the last is denied with 135.", tests(), bu(sequence=15), ba(0, 15), bu(sequence=32783), ba(135, 15)),
-    must("sequence-wraps", "9.5.1", "Sequence number 0 comes after 65535.", tests(), bu(sequence=65535), ba(0, 65535), bu(sequence=0), ba(0, 0)),
-    must("sequence-wraps-back", "9.5.1", "Sequence number 65535 does not come after 0.", tests(), bu(sequence=0), ba(0, 0), bu(sequence=65535), ba(135, 0)),
-    must("sequence-of-each-home", "9.5.1", "Each home address has a sequence number of its own.", tests(), bu(sequence=9), ba(0, 9),
-         hoti("H2", cookie="other"), hot("H2", "other", "other"), bu(home="H2", home_test="other", sequence=3), ba(0, 3, route="H2")),
-    must("replay", "5.2.8", "An update that comes once more is denied with 135.", bind, again(), ba(135, 1)),
-    must("replay-after-deletion", "9.5.3", "An update that comes once more after the binding was deleted is not accepted.", bind, delete, ba(0, 2, lifetime=anything), again(2), refused, unbound),
-    must("replay-after-end", "5.2.8", "An update that comes once more after its binding has ended is not accepted.", tests(), bu(lifetime=1), ba(0, lifetime=1), wait(5), again(), refused, unbound),
-    must("deletion-again", "9.5.1", "A deletion that comes once more is not accepted.", bind, delete, ba(0, 2, lifetime=anything), again(), refused),
+         tests(), coti("B", cookie="new"), cot("B", "new", "new"), bu(sequence=5), ok(5), bu(source="B", sequence=5, careof_test="new"), denied(135, 5, destination="B"), bound),
+    must("sequence-skips", "9.5.1", "A sequence number 32767 above the last is accepted.", tests(), bu(sequence=15), ok(15), bu(sequence=32782), ok(32782)),
+    must("sequence-half", "9.5.1", "A sequence number 32768 above the last is denied with 135.", tests(), bu(sequence=15), ok(15), bu(sequence=32783), denied(135, 15)),
+    must("sequence-wraps", "9.5.1", "Sequence number 0 comes after 65535.", tests(), bu(sequence=65535), ok(65535), bu(sequence=0), ok(0)),
+    must("sequence-wraps-back", "9.5.1", "Sequence number 65535 does not come after 0.", tests(), bu(sequence=0), ok(0), bu(sequence=65535), denied(135, 0)),
+    must("sequence-of-each-home", "9.5.1", "Each home address has a sequence number of its own.", tests(), bu(sequence=9), ok(9),
+         hoti("H2", cookie="other"), hot("H2", "other", "other"), bu(home="H2", home_test="other", sequence=3), ok(3)),
+    must("replay", "5.2.8", "An update that comes once more is denied with 135.", bind, again(), denied(135, 1)),
+    must("replay-after-deletion", "9.5.3", "An update that comes once more after the binding was deleted is not accepted.", bind, delete, ok(2), again(2), refused, unbound),
+    must("replay-after-end", "5.2.8", "An update that comes once more after its binding has ended is not accepted.", tests(), bu(lifetime=1), ok(lifetime=1), wait(5), again(), refused, unbound),
+    must("deletion-again", "9.5.1", "A deletion that comes once more is not accepted.", bind, delete, ok(2), again(), refused),
 )
 
 DELETIONS = (
@@ -271,32 +271,32 @@ DELETIONS = (
     must("deletion-from-home", "9.5.3", "An update from the home address, which is its care-of address, deletes the binding; it is acknowledged there, without a routing header.",
          bind, bu(source="H", sequence=2, careof_test=None), ba(0, 2, lifetime=anything, destination="H", route=None, authentic=True), unbound),
     must("deletion-from-home-zero", "9.5.3", "An update from the home address with lifetime 0 deletes the binding.",
-         bind, bu(source="H", sequence=2, lifetime=0, careof_test=None), ba(0, 2, lifetime=anything, destination="H", route=None), unbound),
+         bind, bu(source="H", sequence=2, lifetime=0, careof_test=None), ok(2, destination="H", route=None), unbound),
     must("deletion-alternate", "9.5.1", "An update whose Alternate Care-of Address is the home address deletes the binding.",
-         bind, bu(sequence=2, alternate="H", careof_test=None), ba(0, 2, lifetime=anything, destination="A", route="H"), unbound),
+         bind, bu(sequence=2, alternate="H", careof_test=None), ok(2, destination="A"), unbound),
     must("deletion-index", "9.5.1", "The care-of nonce index of a deletion is not looked at.", bind, bu(sequence=2, lifetime=0, careof_test=None, indices=(None, UNKNOWN)),
-         ba(0, 2, lifetime=anything), unbound),
+         ok(2), unbound),
     must("deletion-home-index", "9.5.1", "A deletion whose home nonce index is not known is denied with 136.", bind, bu(sequence=2, lifetime=0, careof_test=None, indices=(UNKNOWN, 0)),
-         ba(136, 2, authentic=None), bound),
+         denied(136, 2, authentic=None), bound),
     must("deletion-both-tokens", "5.2.5", "A deletion under the key of both tokens is dropped in silence.", bind, bu(sequence=2, lifetime=0), nothing(), bound),
     must("deletion-spoiled", "9.5.1", "A deletion whose authenticator is wrong leaves the binding.", bind, bu(sequence=2, lifetime=0, careof_test=None, spoiled=True), nothing(), bound),
-    must("deletion-sequence", "9.5.1", "A deletion with an old sequence number is denied with 135, and leaves the binding.", bind, bu(lifetime=0, careof_test=None), ba(135, 1), bound),
-    must("deletion-of-none", "9.5.3", "A deletion of a binding that is not there makes none.", tests(careof=None), bu(lifetime=0, careof_test=None), ba(0, lifetime=anything), unbound),
+    must("deletion-sequence", "9.5.1", "A deletion with an old sequence number is denied with 135, and leaves the binding.", bind, bu(lifetime=0, careof_test=None), denied(135, 1), bound),
+    must("deletion-of-none", "9.5.3", "A deletion of a binding that is not there makes none.", tests(careof=None), bu(lifetime=0, careof_test=None), ok(), unbound),
     should("deletion-without-a", "9.5.4", "A deletion without flag A is not acknowledged.", bind, bu(sequence=2, lifetime=0, careof_test=None, flags=""), nothing(), unbound),
 )
 
 OPTIONS = (
-    must("options-ordered", "6.2.1", "Options before the authorization come in any order.", tests(careof="B"), bu(alternate="B", options=("alternate", "nonces", "auth")), ba(0)),
-    must("options-unaligned", "6.2.1", "Options that are not aligned are read.", tests(), bu(options=(b"\0", "nonces", b"\1\4\7\7\7\7\0", "auth"), aligned=False), ba(0)),
-    must("options-padded", "6.2.3", "Padding of any length and contents is passed over.", tests(), bu(options=(packets.option(1, bytes([9] * 8)), b"\0\0", "nonces", packets.option(1, b""), "auth")), ba(0)),
-    must("option-unknown", "6.2.1", "An option of an unknown type in an update is skipped.", tests(), bu(options=(packets.option(77, bytes(6)), "nonces", packets.option(250, b""), "auth")), ba(0)),
+    must("options-ordered", "6.2.1", "Options before the authorization come in any order.", tests(careof="B"), bu(alternate="B", options=("alternate", "nonces", "auth")), ok()),
+    must("options-unaligned", "6.2.1", "Options that are not aligned are read.", tests(), bu(options=(b"\0", "nonces", b"\1\4\7\7\7\7\0", "auth"), aligned=False), ok()),
+    must("options-padded", "6.2.3", "Padding of any length and contents is passed over.", tests(), bu(options=(packets.option(1, bytes([9] * 8)), b"\0\0", "nonces", packets.option(1, b""), "auth")), ok()),
+    must("option-unknown", "6.2.1", "An option of an unknown type in an update is skipped.", tests(), bu(options=(packets.option(77, bytes(6)), "nonces", packets.option(250, b""), "auth")), ok()),
     must("padding-last", "9.5.1", "Binding Authorization Data with padding behind it is dropped in silence.", tests(), bu_behind(bytes([1, 6]) + bytes(6)), nothing(), unbound),
     must("option-last", "9.5.1", "Binding Authorization Data with another option behind it is dropped in silence.", tests(), bu_behind(packets.option(77, bytes(6))), nothing(), unbound),
     must("indices-short", "6.2.6", "Nonce Indices of 2 bytes are none.", tests(), bu(options=(packets.option(4, b"\0\0"), "auth")), nothing(), unbound),
     must("authorization-short", "6.2.7", "Binding Authorization Data of 10 bytes is none.", tests(), bu(options=("nonces", packets.option(5, bytes(10)))), nothing(), unbound),
     must("option-past-end", "6.2.1", "An option that runs past the end of its message makes no binding.", tests(), bu(options=("nonces", bytes([77, 200]) + bytes(4))), dropped, unbound),
-    must("update-reserved", "6.1.7", "The reserved bits of an update are passed over.", tests(), bu(before={3: 0xFF, 8: 0x8F, 9: 0xFF}), ba(0)),
-    must("flags-key-local", "6.1.7", "Flags L and K do not hinder an update to a correspondent.", tests(), bu(flags="ALK"), ba(0, flags=anything)),
+    must("update-reserved", "6.1.7", "The reserved bits of an update are passed over.", tests(), bu(before={3: 0xFF, 8: 0x8F, 9: 0xFF}), ok()),
+    must("flags-key-local", "6.1.7", "Flags L and K do not hinder an update to a correspondent.", tests(), bu(flags="ALK"), ok()),
 )
 
 BEACONS = ("data", "reply")
@@ -305,26 +305,26 @@ TALKS = (
     should("talk-bound", "9.3.2", "Data to a home address with a binding goes to the care-of address, with a type 2 routing header that has the home address.",
            counted(), bind, talk("A", "H", destination="A", route="H"), talks=True, ignores=BEACONS),
     must("talk-moved", "9.3.2", "Data does not go to the care-of address that a later one took the place of.",
-         counted(), bind, coti("B", cookie="new"), cot("B", "new", "new"), bu(source="B", sequence=2, careof_test="new"), ba(0, 2, destination="B"),
+         counted(), bind, coti("B", cookie="new"), cot("B", "new", "new"), bu(source="B", sequence=2, careof_test="new"), ok(2, destination="B"),
          talk("B", "H", destination=place("B", "H"), route=anything), talks=True, ignores=BEACONS),
-    must("talk-deleted", "9.5.3", "Data goes to the home address once the binding is deleted.", counted(), bind, delete, ba(0, 2, lifetime=anything), talk(destination="H", route=None),
+    must("talk-deleted", "9.5.3", "Data goes to the home address once the binding is deleted.", counted(), bind, delete, ok(2), talk(destination="H", route=None),
          talks=True, ignores=BEACONS),
-    must("talk-ended", "9.5.2", "Data goes to the home address once the binding has ended.", counted(), tests(), bu(lifetime=1), ba(0, lifetime=1), wait(5), talk(destination="H", route=None),
+    must("talk-ended", "9.5.2", "Data goes to the home address once the binding has ended.", counted(), tests(), bu(lifetime=1), ok(lifetime=1), wait(5), talk(destination="H", route=None),
          talks=True, ignores=BEACONS),
     must("talk-refused", "9.5.1", "Data goes to the home address after an update whose authenticator was wrong.", counted(), tests(), bu(spoiled=True), nothing(), talk(destination="H", route=None),
          talks=True, ignores=BEACONS),
 )
 
 SLOW = (
-    must("token-205-s", "5.2.7", "A token is taken for 210 s at least.", tests(), wait(205), bu(), ba(0), is_slow=True),
-    must("token-242-s", "5.2.7", "A token is taken for 240 s at most.", tests(), wait(242), bu(), ba(OLD, authentic=None), unbound, is_slow=True),
-    must("home-token-242-s", "5.2.7", "An old home token with a new care-of token is denied with 136.", tests(), wait(242), coti(), cot(), bu(), ba(136, authentic=None), unbound, is_slow=True),
-    must("care-of-token-242-s", "5.2.7", "An old care-of token with a new home token is denied with 137.", tests(), wait(242), hoti(), hot(), bu(), ba(137, authentic=None), unbound, is_slow=True),
+    must("token-205-s", "5.2.7", "A token is taken for 210 s at least.", tests(), wait(205), bu(), ok(), is_slow=True),
+    must("token-242-s", "5.2.7", "A token is taken for 240 s at most.", tests(), wait(242), bu(), denied(OLD, authentic=None), unbound, is_slow=True),
+    must("home-token-242-s", "5.2.7", "An old home token with a new care-of token is denied with 136.", tests(), wait(242), coti(), cot(), bu(), denied(136, authentic=None), unbound, is_slow=True),
+    must("care-of-token-242-s", "5.2.7", "An old care-of token with a new home token is denied with 137.", tests(), wait(242), hoti(), hot(), bu(), denied(137, authentic=None), unbound, is_slow=True),
     must("replay-after-deletion-205-s", "5.2.8", "An update that comes once more 205 s after the binding was deleted is not accepted.",
-         bind, delete, ba(0, 2, lifetime=anything), wait(205), again(2), refused, unbound, is_slow=True),
+         bind, delete, ok(2), wait(205), again(2), refused, unbound, is_slow=True),
     must("replay-after-end-205-s", "5.2.8", "An update that comes once more 200 s after its binding has ended is not accepted.",
-         tests(), bu(lifetime=1), ba(0, lifetime=1), wait(205), again(), refused, unbound, is_slow=True),
-    must("binding-stands", "9.5.2", "A binding of 40 s stands after 37 s, and has ended after 42 s.", tests(), bu(), ba(0, lifetime=10), wait(37), bound, wait(5), unbound, is_slow=True),
+         tests(), bu(lifetime=1), ok(lifetime=1), wait(205), again(), refused, unbound, is_slow=True),
+    must("binding-stands", "9.5.2", "A binding of 40 s stands after 37 s, and has ended after 42 s.", tests(), bu(), ok(1, lifetime=10), wait(37), bound, wait(5), unbound, is_slow=True),
 )
 
 CASES = TALKS + TESTS + RECEPTION + VERDICTS + PLACES + SEQUENCES + DELETIONS + OPTIONS + SLOW
@@ -365,4 +365,9 @@ def configuration(port, kit, own, cases):
     return lines + [f"payload {TURNS_BETWEEN * (1 + at // len(homes))} {homes[at % len(homes)]} 253 74616c6b" for at in range(1000 if homes else 0)]
 
 
-ROLE = Role("correspondent", "C", "2001:db8:2::2", CASES, addresses, configuration, barrier, hello, ignores=("brr",), shared=("C",))
+def is_stray(data):
+    """Whether a packet is data for the home of a case that has not begun."""
+    return data[24:40] in HOMES.values()
+
+
+ROLE = Role("correspondent", "C", "2001:db8:2::2", CASES, addresses, configuration, barrier, hello, ignores=("brr",), shared=("C",), is_stray=is_stray)

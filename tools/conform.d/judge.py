@@ -21,7 +21,7 @@ class Verdict:
 def differences(done, proved):
     """How a step of the device has another answer than the proved node's, in the fields of which the case does not speak."""
     found = []
-    if done.choice != proved.choice:
+    if done.choice != proved.choice or done.is_lax:
         return found
     for ours, theirs in zip(proved.came, done.came):
         for field in sorted(ours.keys() | theirs.keys()):
@@ -37,13 +37,18 @@ def not_met(case, level):
     return WARNED if (level or case.level) == cases.SHOULD else FAILED
 
 
+def late(result):
+    """What came when the case had ended."""
+    return [f"an answer came late, {it}" for it in result.late[:1]]
+
+
 def judge(case, proved, device):
     if proved.wrong:
         return Verdict(case, KIT, [f"the proved node: {it}" for it in proved.wrong], len(proved.steps) - 1, device, proved)
     for at, (done, ours) in enumerate(zip(device.steps, proved.steps)):
         why = done.wrong or differences(done, ours)
         if why:
-            return Verdict(case, not_met(case, done.level), why, at, device, proved)
+            return Verdict(case, not_met(case, done.level), why + late(device), at, device, proved)
     if device.late:
-        return Verdict(case, not_met(case, ""), ["an answer came late: " + device.late[0]], len(device.steps) - 1, device, proved)
+        return Verdict(case, not_met(case, ""), late(device), len(device.steps) - 1, device, proved)
     return Verdict(case, PASSED, [], 0, device, proved)

@@ -52,7 +52,7 @@ def words():
         it.add_argument(flag, action="store_true")
     found = it.parse_args()
     if not found.list and not found.start and (found.port is None or not 1 <= found.port <= 65535):
-        it.error("--port takes the device's port, 1 to 65535")
+        it.error("the port of the device is missing: --port takes 1 to 65535")
     return found
 
 
@@ -68,7 +68,7 @@ class Kit:
         self.given, self.role, self.chosen = given, role, chosen
         self.own = packets.packed(given.address or role.own)
         self.number = secrets.token_bytes(4)
-        self.verdicts, self.notes, self.begun, self.device = {}, [], [], None
+        self.found, self.notes, self.begun, self.device = {}, [], [], None
         self.room = asyncio.Semaphore(AT_ONCE)
 
     def addresses(self, case):
@@ -85,10 +85,11 @@ class Kit:
             step = self.role.at_one_node
             order = sorted(self.chosen, key=lambda it: (not it.talks, -waits(it)))
             await asyncio.gather(*[self.part(mip, order[at : at + step]) for at in range(0, len(order), step)])
+            await self.linger()
         finally:
             for it in self.begun:
                 await it.end()
-        return None if self.verdicts else NEVER_ANSWERED
+        return None if self.found else NEVER_ANSWERED
 
     async def part(self, mip, part):
         """The cases of one proved node."""
@@ -141,17 +142,27 @@ class Kit:
 
     async def both(self, case, node):
         ours, theirs = await asyncio.gather(node.session.run(case, self.addresses(case)), self.at_device(case))
-        self.verdicts[case.name] = judge.judge(case, ours, theirs)
+        if ours and theirs:
+            self.found[case.name] = (case, ours, theirs)
         self.progress(case)
+
+    async def linger(self):
+        """Waits for what comes late, where the device does not answer at once."""
+        if self.device and not self.device.has_barrier:
+            await asyncio.sleep(3 * self.given.patience)
+        if self.device and self.device.misses >= runs.MISSES:
+            self.notes.append(f"the device no longer answered: nothing came to {runs.MISSES} cases in a row")
+        if self.device and self.device.count > 1000 + 20 * self.device.sent:
+            self.notes.append(f"the device floods: it sent {self.device.count} packets, and {self.device.sent} were sent to it")
 
     def progress(self, case):
         if sys.stderr.isatty():
-            done = len(self.verdicts)
+            done = len(self.found)
             print(f"\r{done} of {len(self.chosen)}  {case.name[:40]:40}", end="\n" if done == len(self.chosen) else "", file=sys.stderr, flush=True)
 
     def told(self):
         """The verdicts in the order of the table."""
-        return [self.verdicts[it.name] for it in self.chosen if it.name in self.verdicts]
+        return [judge.judge(*self.found[it.name]) for it in self.chosen if it.name in self.found]
 
 
 def chosen_of(role, given):
@@ -175,7 +186,7 @@ def status_of(verdicts):
 
 
 def tell(kit, status):
-    verdicts, left = kit.told(), len(kit.chosen) - len(kit.verdicts)
+    verdicts, left = kit.told(), len(kit.chosen) - len(kit.found)
     if kit.given.json:
         print(report.json_of(kit.role.name, verdicts, left, kit.notes))
     else:

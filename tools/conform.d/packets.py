@@ -3,6 +3,7 @@
 What is read is a record of fields with plain names (`kind`, `source`, `status`, ..): one for each packet, whose `kind` says what it is.
 """
 import dataclasses
+import functools
 import ipaddress
 import struct
 
@@ -23,10 +24,12 @@ class NotPacket(Exception):
     """Bytes that cannot be read; its text says why."""
 
 
+@functools.lru_cache(4096)
 def packed(address):
     return address if isinstance(address, bytes) else ipaddress.IPv6Address(address).packed
 
 
+@functools.lru_cache(4096)
 def shown(address):
     return str(ipaddress.IPv6Address(address))
 

@@ -8,6 +8,7 @@ import frames
 import packets
 
 MOST = 200  # packets that a case takes; a device that sends more floods it
+MISSES = 5  # cases in a row to which nothing at all came: then the device is taken for gone
 QUIET = 0.02  # s that are waited for more behind the answer that ends a silence
 
 
@@ -39,21 +40,25 @@ class Run:
         self.inbox, self.seen, self.late = [], [], []
         self.event, self.has_ended, self.begun = asyncio.Event(), False, time.monotonic()
         self.ignores = set(case.ignores) | set(session.role.ignores)
-        self.barrier, self.moment = None, self.begun  # the moment of the last packet, sent or come
+        self.barrier, self.is_silent = None, False
+        self.moment = self.begun  # of the last packet, sent or come
 
     def send(self, packet, shield=None):
         self.moment = time.monotonic()
+        self.session.sent += 1
         self.session.link.send(packet, shield)
 
     def hear(self, data, shield, fault=""):
         """Takes a packet in, and reads it with this case's keys."""
         now = time.monotonic()
         if self.has_ended:
-            if len(self.late) < MOST:
-                self.late.append(f"{now - self.begun:.1f} s after its beginning, when it had ended: {packet_text(data)}")
+            it = self.came(now, data, shield, fault)
+            if it.said["kind"] not in self.ignores and len(self.late) < MOST:
+                self.late.append(f"{now - self.begun:.1f} s after the case began: {it.fault or said_text(it.said)}")
             return
-        if self.barrier and self.barrier(data):
+        if self.barrier and not fault and self.barrier(data):
             self.barrier = None
+            self.seen.append(data)
         elif len(self.seen) < MOST:
             it = self.came(now, data, shield, fault)
             self.inbox.append(it)
@@ -116,17 +121,26 @@ class Run:
             pass
 
     async def quiet(self, kinds=()):
-        """Waits until the device has had the time to answer: until it answers a later packet, or for the patience where it answers none."""
+        """Waits until the device has had the time to answer: until it answers a later packet, or for the patience where it answers none. Such silence is no sign of life."""
         until = time.monotonic() + self.session.patience
         packet, shield, self.barrier = self.session.role.barrier(self.env)
         self.send(packet, shield)
         while self.barrier and time.monotonic() < until and not self.session.link.is_closed:
             await self.heard(min(0.1, max(until - time.monotonic(), 0)))
-            if self.session.has_barrier is False and kinds and any(it.said["kind"] in kinds for it in self.inbox):
+            if not self.session.has_barrier and any(it.said["kind"] in kinds for it in self.inbox):
                 break
-        self.session.has_barrier = self.barrier is None
+        self.is_silent = self.barrier is not None
+        self.session.has_barrier = self.session.has_barrier or not self.is_silent
         self.barrier = None
-        await asyncio.sleep(QUIET)
+        await asyncio.sleep(self.session.grace)
+
+    def why_no_silence(self):
+        """Why silence is no answer of this device, or nothing."""
+        if self.session.link.is_closed:
+            return ["nobody listens at the device's port"]
+        if self.is_silent and self.session.has_barrier:
+            return ["the device no longer answers, so that its silence tells nothing"]
+        return []
 
     async def sleep(self, seconds):
         self.session.leave(self)
@@ -163,11 +177,14 @@ def packet_text(data):
     return said_text(said)
 
 
+HIDDEN = ("kind", "hop", "proto", "message", "bytes", "quoted", "seconds")
+
+
 def said_text(said):
     """The fields of a packet in one line."""
     words = [said["kind"]]
     for field, value in said.items():
-        if field not in ("kind", "hop", "proto", "message", "bytes", "quoted") and value not in (None, "", b""):
+        if field not in HIDDEN and value not in (None, "", b""):
             words.append(f"{field} {cases.told(value)}")
     return " ".join(words[:1]) + (" with " if words[1:] else "") + ", ".join(words[1:])
 
@@ -175,10 +192,10 @@ def said_text(said):
 class Session:
     """A target with its link: cases run at it one after the other, and those that wait beside each other."""
 
-    def __init__(self, link, role, patience):
-        self.link, self.role, self.patience = link, role, patience
+    def __init__(self, link, role, patience, grace=QUIET):
+        self.link, self.role, self.patience, self.grace = link, role, patience, grace
         self.owners, self.lock, self.holder, self.last = {}, asyncio.Lock(), None, None
-        self.count, self.strays, self.has_barrier = 0, [], None
+        self.count, self.sent, self.strays, self.has_barrier, self.misses = 0, 0, [], False, 0
 
     def begin(self):
         self.link.begin(self.heard)
@@ -188,6 +205,8 @@ class Session:
         shield, data = frames.read_frame(datagram) or (None, datagram)
         fault = "" if frames.read_frame(datagram) else "what came is no frame"
         run = None if fault else self.owner(data)
+        if run is None and not fault and self.role.is_stray(data):
+            return
         run = run or self.holder or self.last
         if run:
             run.hear(data, shield, fault)
@@ -215,12 +234,16 @@ class Session:
         return run
 
     async def run(self, case, addresses):
-        """The result of a case; a case that waited goes on beside the next ones."""
+        """The result of a case, or None where the device answers no longer; a case that waited goes on beside the next ones."""
         await self.lock.acquire()
+        if self.misses >= MISSES:
+            self.lock.release()
+            return None
         run = self.holder = self.last = self.own(Run(self, case, addresses))
         try:
             return await run.perform()
         finally:
+            self.misses = 0 if run.seen else self.misses + 1
             if self.holder is run:
                 self.holder = None
                 self.lock.release()

@@ -274,7 +274,7 @@ class Correspondent:
         is_deletion = registered == home
         units = 0 if is_deletion else fields["lifetime"] if self.has("lifetime_as_asked") else min(fields["lifetime"], MOST_UNITS)
         old = self.bindings.get(home)
-        if old and not is_deletion:
+        if old and old.careof != home and not is_deletion:
             self.bindings[(home, "former")] = old.careof
         if is_deletion and old and self.has("keeps_the_deleted"):
             self.bindings[home] = dataclasses.replace(old, sequence=fields["sequence"])

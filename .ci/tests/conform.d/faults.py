@@ -1,9 +1,10 @@
 """Runs the cases of a role at a device with each of its faults, and compares the cases that fail with a table.
 
-    faults.py TOOLS ROLE [--write] [--slow] [FAULT ..]
+    faults.py TOOLS ROLE [--more | --slow] [--write] [FAULT ..]
 
-TOOLS is the folder of the kit. The table, ROLE.faults beside this script, has a line a fault: its name and the cases that fail or are warned of, or, with --slow, ROLE.slow_faults.
-The device runs in this process, so that all of them run at the same time beside one run at proved nodes. MIP names the program.
+TOOLS is the folder of the kit. ROLE.py beside this script has the device, with `FAULTS`, by name what each does wrong, and `make(own, faults)`. The table is ROLE.faults, or with
+--more ROLE.more_faults, which takes longer, or with --slow ROLE.slow_faults, of the slow cases: a line a fault, with its name and the cases that fail or are warned of.
+--write prints such lines in place of comparing. The device runs in this process, so that all of them run at the same time beside one run at proved nodes. MIP names the program.
 """
 import asyncio
 import importlib
@@ -19,7 +20,7 @@ import main  # noqa: E402
 import nodes  # noqa: E402
 import runs  # noqa: E402
 
-PATIENCE = 0.2  # s: a device in this process answers at once
+PATIENCE, GRACE = 0.2, 0.002  # s: a device in this process answers at once
 
 
 class MemoryLink:
@@ -41,7 +42,7 @@ class MemoryLink:
 
 async def at_device(role, chosen, addresses, device):
     """The results of the cases at a device, one after the other."""
-    session = runs.Session(MemoryLink(device), role, PATIENCE)
+    session = runs.Session(MemoryLink(device), role, PATIENCE, GRACE)
     session.begin()
     found = await asyncio.gather(*[session.run(it, addresses[it.name]) for it in chosen])
     return {it.name: result for it, result in zip(chosen, found)}
@@ -88,7 +89,7 @@ def read_table(path):
 def main_of(words):
     flags, words = {it for it in words if it.startswith("--")}, [it for it in words if not it.startswith("--")]
     role = importlib.import_module(f"cases_{words[0]}").ROLE
-    table = HERE / f"{role.name}.{'slow_' if '--slow' in flags else ''}faults"
+    table = HERE / f"{role.name}.{'slow_' if '--slow' in flags else 'more_' if '--more' in flags else ''}faults"
     wanted = read_table(table) if table.exists() else {}
     module = importlib.import_module(role.name)
     faults = words[1:] or (["none", *module.FAULTS] if "--write" in flags else list(wanted))
