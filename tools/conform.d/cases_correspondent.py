@@ -351,11 +351,8 @@ def barrier(env):
 
 
 def hello(env):
-    """A test init, and an echo request, which any host answers."""
-    source, own = env.address("Z"), env.address("C")
-    ping = packets.summed(source, own, packets.ICMP, packets.icmp(128, bytes(8)), 2)
-    yield barrier(env)[0]
-    yield packets.packet(source, own, packets.ICMP, ping)
+    """An echo request, which any host answers."""
+    yield echo(env, "Z")
 
 
 def configuration(port, kit, own, cases):

@@ -14,6 +14,7 @@ import report
 import runs
 
 ROLES = ("correspondent",)
+TRIES = 6  # times half the patience that a device has for its first answer
 HELLO = 65535  # the number of a case for the packets that ask whether the device is there
 AT_ONCE = 8  # devices that are started, or proved nodes with a case of their own, at the same time
 ALL_PASSED, SOME_FAILED, WORDS, NEVER_ANSWERED, KIT_IS_WRONG, INTERRUPTED = 0, 1, 2, 3, 4, 130
@@ -112,15 +113,20 @@ class Kit:
         await it.end()
 
     async def greet(self, session):
-        """Whether the device answers anything at all."""
+        """Whether the device answers anything at all; and whether it answers what ends a silence."""
         run = session.own(runs.Run(session, self.chosen[0], self.role.addresses(HELLO, self.number, self.own)))
-        for _ in range(6):
+        for _ in range(TRIES):
+            packet, shield, run.barrier = self.role.barrier(run.env)
+            run.send(packet, shield)
             for packet in self.role.hello(run.env):
-                session.link.send(packet)
+                run.send(packet)
             for _ in range(20):
                 await asyncio.sleep(self.given.patience / 40)
-                if session.count:
+                if run.barrier is None:
+                    session.has_barrier = True
                     return True
+            if session.count:
+                return True
         return False
 
     async def at_device(self, case):

@@ -26,6 +26,7 @@ class Talk:
         return packets.packet(env.address(self.source), env.address("C"), packets.ICMP, body, headers=headers)
 
     async def perform(self, run):
+        await run.quiet()  # what the device sent before has come
         run.inbox = [it for it in run.inbox if it.said["kind"] not in KINDS]
         done = cases.Done(self.text(), level=self.level, named=tuple(self.words))
         run.send(self.ask(run.env))
