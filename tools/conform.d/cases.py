@@ -49,8 +49,8 @@ def should(name, section, says, *steps, **more):
 class Env:
     """What the names of a case stand for at one target: addresses, cookies, tests, and the key of the last update."""
 
-    def __init__(self, addresses):
-        self.addresses = addresses  # names and their 16 bytes
+    def __init__(self, addresses, draw=secrets.SystemRandom()):
+        self.addresses, self.draw = addresses, draw  # names and their 16 bytes; where cookies are drawn from
         self.cookies, self.tests = {}, {}
         self.base = 0  # sequence numbers of steps count from here
         self.seal = None  # key, care-of address and peer of the last update
@@ -64,7 +64,7 @@ class Env:
 
     def cookie(self, name):
         """A new cookie under this name."""
-        self.cookies[name] = secrets.token_bytes(8)
+        self.cookies[name] = self.draw.randbytes(8)
         return self.cookies[name]
 
     def sequence(self, number):

@@ -345,7 +345,7 @@ def addresses(number, run, own):
 
 def barrier(env):
     """A Care-of Test Init from an address that stands for nothing else."""
-    cookie, source, own = secrets.token_bytes(8), env.address("Z"), env.address("C")
+    cookie, source, own = env.draw.randbytes(8), env.address("Z"), env.address("C")
     body = packets.summed(source, own, packets.MOBILITY, packets.test_init("coti", cookie), 4)
     return packets.packet(source, own, packets.MOBILITY, body), None, lambda it: it[24:40] == source and it[48:56] == cookie
 

@@ -3,6 +3,7 @@ import argparse
 import asyncio
 import contextlib
 import importlib
+import random
 import secrets
 import sys
 
@@ -49,6 +50,7 @@ def words():
     it.add_argument("--case", nargs="+", default=[], metavar="NAME")
     it.add_argument("--patience", type=positive, default=2.0)
     it.add_argument("--junit", metavar="FILE")
+    it.add_argument("--seed", default="")
     for flag in ("--slow", "--list", "--json", "--no-data", "--config"):
         it.add_argument(flag, action="store_true")
     found = it.parse_args()
@@ -68,7 +70,7 @@ class Kit:
     def __init__(self, given, role, chosen):
         self.given, self.role, self.chosen = given, role, chosen
         self.own = packets.packed(given.address or role.own)
-        self.number = secrets.token_bytes(4)
+        self.number = random.Random(given.seed).randbytes(4) if given.seed else secrets.token_bytes(4)
         self.found, self.notes, self.begun, self.device = {}, [], [], None
         self.room = asyncio.Semaphore(AT_ONCE)
 
@@ -80,6 +82,7 @@ class Kit:
         try:
             if not self.given.start:
                 self.device = runs.Session(frames.UdpLink(self.given.kit_port or self.given.port + 1, self.given.port), self.role, self.given.patience)
+                self.device.seed = self.given.seed
                 self.device.begin()
                 if not await self.greet(self.device):
                     return NEVER_ANSWERED
@@ -116,13 +119,15 @@ class Kit:
         """Whether the device answers anything at all; and whether it answers what ends a silence."""
         run = session.own(runs.Run(session, self.chosen[0], self.role.addresses(HELLO, self.number, self.own)))
         for _ in range(TRIES):
-            packet, shield, run.barrier = self.role.barrier(run.env)
-            run.send(packet, shield)
+            found = self.role.barrier(run.env)
+            if found:
+                packet, shield, run.barrier = found
+                run.send(packet, shield)
             for packet in self.role.hello(run.env):
                 run.send(packet)
             for _ in range(20):
                 await asyncio.sleep(self.given.patience / 40)
-                if run.barrier is None:
+                if found and run.barrier is None:
                     session.has_barrier = True
                     return True
             if session.count:

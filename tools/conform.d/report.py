@@ -13,7 +13,7 @@ def permitted(step, proved):
     """What a step's words and the proved node say."""
     rows = [("permitted", step.text)]
     if proved is not None:
-        rows.append(("proved node", ", ".join(map(runs.said_text, proved.came)) or "nothing"))
+        rows.append(("proved node", ", ".join(runs.said_text(it, {*cases.FREE, "kind"}) for it in proved.came) or "nothing"))
     return rows
 
 

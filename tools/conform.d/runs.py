@@ -1,6 +1,8 @@
 """Runs cases at a target: the proved node or the device. A packet that comes belongs to the case that has one of its addresses."""
 import asyncio
 import dataclasses
+import random
+import secrets
 import time
 
 import cases
@@ -36,7 +38,7 @@ class Run:
     """One case at one target."""
 
     def __init__(self, session, case, addresses):
-        self.session, self.case, self.env = session, case, cases.Env(addresses)
+        self.session, self.case, self.env = session, case, cases.Env(addresses, session.draw_for(case))
         self.inbox, self.seen, self.late = [], [], []
         self.event, self.has_ended, self.begun = asyncio.Event(), False, time.monotonic()
         self.ignores = set(case.ignores) | set(session.role.ignores)
@@ -180,11 +182,11 @@ def packet_text(data):
 HIDDEN = ("kind", "hop", "proto", "message", "bytes", "quoted", "seconds")
 
 
-def said_text(said):
+def said_text(said, hidden=HIDDEN):
     """The fields of a packet in one line."""
     words = [said["kind"]]
     for field, value in said.items():
-        if field not in HIDDEN and value not in (None, "", b""):
+        if field not in hidden and value not in (None, "", b""):
             words.append(f"{field} {cases.told(value)}")
     return " ".join(words[:1]) + (" with " if words[1:] else "") + ", ".join(words[1:])
 
@@ -196,9 +198,14 @@ class Session:
         self.link, self.role, self.patience, self.grace = link, role, patience, grace
         self.owners, self.lock, self.holder, self.last = {}, asyncio.Lock(), None, None
         self.count, self.sent, self.strays, self.has_barrier, self.misses = 0, 0, [], False, 0
+        self.seed = ""
 
     def begin(self):
         self.link.begin(self.heard)
+
+    def draw_for(self, case):
+        """Where the cookies of a case are drawn from: the same ones in each run with the same seed."""
+        return random.Random(f"{self.seed} {case.name}") if self.seed else secrets.SystemRandom()
 
     def heard(self, datagram):
         self.count += 1

@@ -1,6 +1,5 @@
 """Steps that look at data which the device sends of itself, and steps for a home address that an earlier run may have used."""
 import dataclasses
-import random
 
 import cases
 import packets
@@ -54,7 +53,7 @@ class Counted:
     """Finds where the sequence numbers of the home address stand: a deletion is accepted, or denied with the last number. The case's own ones count from there."""
 
     async def perform(self, run):
-        run.env.base = random.randrange(65536)
+        run.env.base = run.env.draw.randrange(65536)
         for step in cases.tests(careof=None) + (cases.bu(0, lifetime=0, careof_test=None),):
             done = await step.perform(run)
             if done.wrong:

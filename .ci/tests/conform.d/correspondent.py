@@ -21,7 +21,7 @@ FAULTS = {
     "own_sequence_in_135": "denies with 135 and the update's own sequence number",
     "one_byte_for_both_tokens": "makes home and care-of tokens with one byte",
     "tokens_without_address": "makes tokens of the nonce alone",
-    "any_index": "takes any nonce index for its present nonce",
+    "any_index": "takes a nonce index that it does not know for that of its present nonce",
     "nine_nonces": "takes nine nonces",
     "six_nonces": "takes six nonces",
     "token_of_the_source": "takes the care-of token for the update's source, not for the alternate address",
@@ -88,10 +88,9 @@ class Correspondent:
     def number_of(self, index, now):
         """The valid nonce of an index."""
         present = int(now // PERIOD)
-        if self.has("any_index"):
-            return present
         count = 9 if self.has("nine_nonces") else 6 if self.has("six_nonces") else NONCES
-        return next((it for it in range(max(present - count + 1, 0), present + 1) if it % 65536 == index), None)
+        unknown = present if self.has("any_index") else None
+        return next((it for it in range(max(present - count + 1, 0), present + 1) if it % 65536 == index), unknown)
 
     def token(self, kind, address, number):
         if self.has("one_byte_for_both_tokens"):
