@@ -28,6 +28,7 @@ class Case:
     steps: tuple
     is_slow: bool = False
     talks: bool = False  # the device has to send data of its own, or answer an echo request
+    fills: bool = False  # the device takes no other home for minutes afterwards
     ours: bool = False  # our own choice and no rule of RFC 6275: another answer never fails a device
     ignores: tuple = ()  # kinds of packets that may come at any time
     options: dict = dataclasses.field(default_factory=dict)  # of the role, for its cases alone

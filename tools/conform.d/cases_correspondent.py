@@ -3,15 +3,13 @@ import secrets
 
 import packets
 import tokens
-from cases import (Expect, Send, Word, again, anything, ba, be, between, bu, cot, coti, data, denied, edited, hot, hoti, lax, mobility, must, nothing, ok, one, one_of, problem, raw,
-                   should, tests, wait)
+from cases import Expect, Word, again, anything, ba, be, between, bu, cot, coti, data, denied, hot, hoti, lax, must, nothing, ok, one, one_of, problem, raw, should, tests, wait
 from roles import Role
-from talking import counted, place, talk
+from steps_correspondent import bu_behind, counted, echo, filled, message_of, place, resealed, sealed_with, spelled_zero, talk, tiny, update_for, with_option
 
 UNKNOWN = 60000  # a nonce index that no node has given
 OLD = one_of(136, 137, 138)  # a nonce that is no longer taken
 PASSED_OVER, DISCARDED, TOLD, TOLD_ONCE = 0x1E, 0x5E, 0x9E, 0xDE  # unknown destination options, by what RFC 8200 section 4.2 says of their two highest bits
-HOP_OPTIONS = packets.HOP_OPTIONS
 
 # what shows whether the device has the binding of H to A
 bound = (data(), nothing())
@@ -32,96 +30,6 @@ def another(name):
 def same_by_index(name):
     """The token that is kept under this name, where its index is the same."""
     return Word(f"the token of {name}", lambda value, env: value == env.tests[name][1])
-
-
-def spelled_zero(field):
-    """A Care-of Test Init whose checksum is 0, with these two bytes in its place."""
-
-    def make(env):
-        cookie = env.cookie("careof")
-        source, own = env.address("A"), env.address("C")
-        rest = packets.checksum(source, own, packets.MOBILITY, packets.test_init("coti", cookie[:6] + b"\0\0"), 4)
-        env.cookies["careof"] = cookie[:6] + rest.to_bytes(2, "big")
-        body = packets.test_init("coti", env.cookies["careof"])
-        return packets.packet(source, own, packets.MOBILITY, body[:4] + field + body[6:]), None
-
-    return Send(f"coti from A to C, whose checksum is spelled {field.hex()}", make)
-
-
-def sealed_with(make_key, text):
-    """An update with a key that `make_key` makes of the two tokens."""
-
-    def make(env):
-        home, careof = env.tests["home"], env.tests["careof"]
-        nonces = home[0].to_bytes(2, "big") + careof[0].to_bytes(2, "big")
-        body = packets.update(env.sequence(1), "A", 10, [("nonces", nonces), ("auth", bytes(12))])
-        body = body[:-12] + tokens.authenticator(make_key(home[1], careof[1]), env.address("A"), env.address("C"), body)
-        return mobility(env, body, "A", "C", "H"), None
-
-    return Send(f"bu from A to C, home H, sequence 1, lifetime 10, flags A, its key {text}", make)
-
-
-def with_option(kind, size=4):
-    """A Care-of Test Init behind a Destination Options header with an unknown option."""
-    header = bytes([0]) + packets.option(kind, bytes(size))
-    header += packets.padding(7 - len(header))
-    return coti(headers=[(packets.OPTIONS, header)])
-
-
-def update_for(home, text):
-    """An update for a home address that is none."""
-
-    def make(env):
-        body = packets.update(1, "A", 10, [("nonces", bytes(4)), ("auth", bytes(12))])
-        option = packets.packed(home)
-        body = packets.summed(option, env.address("C"), packets.MOBILITY, body, 4)
-        return packets.packet(env.address("A"), env.address("C"), packets.MOBILITY, body, headers=[(packets.OPTIONS, packets.home_option(option))])
-
-    return raw(make, f"bu from A to C, whose home address is {text}")
-
-
-def message_of(kind, fields, text):
-    """A message that is no test init and no update, from A to the device."""
-    return raw(lambda env: mobility(env, packets.message(packets.KINDS.index(kind), fields), "A", "C"), text)
-
-
-def tiny(env):
-    return packets.packet(env.address("A"), env.address("C"), packets.MOBILITY, bytes([packets.NONE, 0, 2, 0]))
-
-
-def echo(env, source, option=None):
-    """An echo request, as a ping sends it."""
-    body = packets.summed(env.address(option or source), env.address("C"), packets.ICMP, packets.icmp(128, env.cookie("echo")), 2)
-    headers = [(packets.OPTIONS, packets.home_option(env.address(option)))] if option else []
-    return packets.packet(env.address(source), env.address("C"), packets.ICMP, body, headers=headers)
-
-
-def bu_behind(more):
-    """An update whose Binding Authorization Data has something behind it, and is right for all that stands there."""
-
-    def make(env):
-        home, careof = env.tests["home"], env.tests["careof"]
-        nonces = home[0].to_bytes(2, "big") + careof[0].to_bytes(2, "big")
-        body = packets.update(env.sequence(1), "A", 10, [("nonces", nonces), ("auth", bytes(12)), more])
-        proof_at = len(body) - len(more) - 12
-        key = tokens.kbm(home[1], careof[1])
-        covered = body[:proof_at]
-        body = covered + tokens.authenticator(key, env.address("A"), env.address("C"), covered + bytes(12)) + more
-        return mobility(env, body, "A", "C", "H"), None
-
-    return Send(f"bu from A to C, home H, sequence 1, lifetime 10, flags A, with {more.hex()} behind the authorization", make)
-
-
-def resealed(step):
-    """The update of a step, whose lifetime was changed on the way, with its checksum made anew."""
-
-    def make(env):
-        packet, _ = step.make(env)
-        head, body = packet[:64], packet[64:]
-        body = edited(body, {11: body[11] ^ 1})
-        return head + packets.summed(env.address("H"), env.address("C"), packets.MOBILITY, body, 4), None
-
-    return Send(step.text + ", then its lifetime changed", make)
 
 
 TESTS = (
@@ -327,7 +235,11 @@ SLOW = (
     must("binding-stands", "9.5.2", "A binding of 40 s stands after 37 s, and has ended after 42 s.", tests(), bu(), ok(1, lifetime=10), wait(37), bound, wait(5), unbound, is_slow=True),
 )
 
-CASES = TALKS + TESTS + RECEPTION + VERDICTS + PLACES + SEQUENCES + DELETIONS + OPTIONS + SLOW
+ROOM = (
+    must("room", "9.5.4", "A node that has no room for another home denies its update with 130; there need be no such moment.", filled(), fills=True),
+)
+
+CASES = TALKS + TESTS + RECEPTION + VERDICTS + PLACES + SEQUENCES + DELETIONS + OPTIONS + ROOM + SLOW
 
 
 # the homes to which a device has to send data, by the numbers of the cases that look at it: they are always the same

@@ -51,7 +51,7 @@ def words():
     it.add_argument("--patience", type=positive, default=2.0)
     it.add_argument("--junit", metavar="FILE")
     it.add_argument("--seed", default="")
-    for flag in ("--slow", "--list", "--json", "--no-data", "--config"):
+    for flag in ("--slow", "--list", "--json", "--no-data", "--fill", "--config"):
         it.add_argument(flag, action="store_true")
     found = it.parse_args()
     if not found.list and not found.start and (found.port is None or not 1 <= found.port <= 65535):
@@ -87,8 +87,11 @@ class Kit:
                 if not await self.greet(self.device):
                     return NEVER_ANSWERED
             step = self.role.at_one_node
-            order = sorted(self.chosen, key=lambda it: (not it.talks, -waits(it)))
+            order = sorted([it for it in self.chosen if not it.fills], key=lambda it: (not it.talks, -waits(it)))
             await asyncio.gather(*[self.part(mip, order[at : at + step]) for at in range(0, len(order), step)])
+            for it in self.chosen:
+                if it.fills:
+                    await self.part(mip, [it])
             await self.linger()
         finally:
             for it in self.begun:
@@ -183,7 +186,7 @@ def chosen_of(role, given):
             stop(f"there is no case {name}; --list has them all")
     if given.case:
         return [it for it in role.cases if it.name in given.case]
-    return [it for it in role.cases if (given.slow or not it.is_slow) and not (given.no_data and it.talks)]
+    return [it for it in role.cases if (given.slow or not it.is_slow) and (given.fill or not it.fills) and not (given.no_data and it.talks)]
 
 
 def list_cases(chosen):

@@ -1,5 +1,6 @@
 """What is told of the cases: as text, as JSON, and for JUnit's readers."""
 import json
+import re
 import xml.etree.ElementTree as xml
 
 import cases
@@ -17,8 +18,21 @@ def permitted(step, proved):
     return rows
 
 
+def named(rows, names):
+    """The rows with the names of addresses in place of these, and first what the names stand for."""
+    used = {}
+
+    def name_of(found):
+        if found[0] in names:
+            used[names[found[0]]] = found[0]
+        return names.get(found[0], found[0])
+
+    rows = [(word, re.sub(r"[0-9a-f:]{4,}", name_of, text) if word else text) for word, text in rows]
+    return [("addresses", ", ".join(f"{name} {used[name]}" for name in sorted(used)))] + rows if used else rows
+
+
 def rows_of(verdict):
-    """The lines of a case that is not passed, as pairs of a word and a text."""
+    """The lines of a case that is not passed, as pairs of a word and a text; a text without a word is the bytes of a packet."""
     told = verdict.proved if verdict.outcome == judge.KIT else verdict.device
     rows = []
     for at, done in enumerate(told.steps[: verdict.step + 1]):
@@ -33,7 +47,7 @@ def rows_of(verdict):
         rows += permitted(done, both[verdict.step] if verdict.step < len(both) else None)
     else:
         rows += permitted(done, None)
-    return rows + [("why", it) for it in verdict.why]
+    return named(rows + [("why", it) for it in verdict.why], told.names)
 
 
 def row(verdict):

@@ -32,6 +32,7 @@ class Result:
     steps: list
     wrong: list
     late: list
+    names: dict = dataclasses.field(default_factory=dict)  # of addresses, as they are written
 
 
 class Run:
@@ -159,7 +160,7 @@ class Run:
         else:
             steps.append(await self.ending())
         self.has_ended = True
-        return Result(steps, steps[-1].wrong, self.late)
+        return Result(steps, steps[-1].wrong, self.late, {packets.shown(address): name for name, address in self.env.addresses.items()})
 
     async def ending(self):
         """Nothing more comes."""

@@ -24,7 +24,7 @@ class Port:
     """The device's port, at which each answer goes out in its manner."""
 
     def __init__(self, device, port, kit, manner):
-        self.device, self.kit, self.manner, self.count = device, kit, manner, 0
+        self.device, self.kit, self.manner, self.count, self.begun = device, kit, manner, 0, time.monotonic()
         self.socket = socket.socket(socket.AF_INET, socket.SOCK_DGRAM)
         self.socket.bind(("127.0.0.1", port))
         self.socket.setblocking(False)
@@ -42,7 +42,7 @@ class Port:
             sys.exit(0)
         if frame is None or self.manner == "silent":
             return
-        for it in self.device.take(frame[1], time.monotonic()):
+        for it in self.device.take(frame[1], time.monotonic() - self.begun):
             self.answer(b"\0" + it)
 
     def answer(self, datagram):

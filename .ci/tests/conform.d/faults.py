@@ -93,7 +93,7 @@ def main_of(words):
     wanted = read_table(table) if table.exists() else {}
     module = importlib.import_module(role.name)
     faults = words[1:] or (["none", *module.FAULTS] if "--write" in flags else list(wanted))
-    chosen = [it for it in sorted(role.cases, key=lambda it: (not it.talks, -main.waits(it))) if it.is_slow == ("--slow" in flags)]
+    chosen = [it for it in sorted(role.cases, key=lambda it: (not it.talks, -main.waits(it))) if it.is_slow == ("--slow" in flags) and not it.fills]
     found = asyncio.run(verdicts(role, chosen, faults))
     order = [it.name for it in role.cases]
     found = {fault: sorted(names, key=order.index) for fault, names in found.items()}
