@@ -256,10 +256,10 @@ def addresses(number, run, own):
 
 
 def barrier(env):
-    """A Care-of Test Init from an address that stands for nothing else."""
+    """A Care-of Test Init from an address that stands for nothing else; an ICMPv6 error about it is an answer, too."""
     cookie, source, own = env.draw.randbytes(8), env.address("Z"), env.address("C")
     body = packets.summed(source, own, packets.MOBILITY, packets.test_init("coti", cookie), 4)
-    return packets.packet(source, own, packets.MOBILITY, body), None, lambda it: it[24:40] == source and it[48:56] == cookie
+    return packets.packet(source, own, packets.MOBILITY, body), None, lambda it: it[24:40] == source and cookie in it
 
 
 def hello(env):

@@ -13,6 +13,7 @@ import nodes
 import packets
 import report
 import runs
+import tun
 
 ROLES = ("correspondent",)
 TRIES = 6  # times half the patience that a device has for its first answer
@@ -46,6 +47,8 @@ def words():
     it.add_argument("--port", type=int)
     it.add_argument("--kit-port", type=int)
     it.add_argument("--start", metavar="COMMAND")
+    it.add_argument("--tun", metavar="NAME")
+    it.add_argument("--name-space", default="conform")
     it.add_argument("--address")
     it.add_argument("--case", nargs="+", default=[], metavar="NAME")
     it.add_argument("--patience", type=positive, default=2.0)
@@ -54,7 +57,7 @@ def words():
     for flag in ("--slow", "--list", "--json", "--no-data", "--fill", "--config"):
         it.add_argument(flag, action="store_true")
     found = it.parse_args()
-    if not found.list and not found.start and (found.port is None or not 1 <= found.port <= 65535):
+    if not found.list and not found.start and not found.tun and (found.port is None or not 1 <= found.port <= 65535):
         it.error("the port of the device is missing: --port takes 1 to 65535")
     return found
 
@@ -80,10 +83,11 @@ class Kit:
     async def run(self):
         mip = nodes.program()
         try:
-            if not self.given.start:
-                self.device = runs.Session(frames.UdpLink(self.given.kit_port or self.given.port + 1, self.given.port), self.role, self.given.patience)
+            if self.given.tun or not self.given.start:
+                self.device = runs.Session(self.link(), self.role, self.given.patience)
                 self.device.seed = self.given.seed
                 self.device.begin()
+                await self.host()
                 if not await self.greet(self.device):
                     return NEVER_ANSWERED
             step = self.role.at_one_node
@@ -96,7 +100,20 @@ class Kit:
         finally:
             for it in self.begun:
                 await it.end()
+            if self.device:
+                self.device.link.end()
         return None if self.found else NEVER_ANSWERED
+
+    def link(self):
+        """The kit's end of the link to a device that stands."""
+        if self.given.tun:
+            return tun.TunLink(self.given.tun, self.given.name_space, packets.shown(self.own))
+        return frames.UdpLink(self.given.kit_port or self.given.port + 1, self.given.port)
+
+    async def host(self):
+        """Starts the program of the host behind a TUN device, where there is one."""
+        if self.given.tun and self.given.start:
+            self.begun.append(nodes.Host(await nodes.process(self.device.link.started(self.given.start))))
 
     async def part(self, mip, part):
         """The cases of one proved node."""
@@ -124,13 +141,13 @@ class Kit:
         for _ in range(TRIES):
             found = self.role.barrier(run.env)
             if found:
-                packet, shield, run.barrier = found
-                run.send(packet, shield)
+                run.barriers.append(found[2])
+                run.send(*found[:2])
             for packet in self.role.hello(run.env):
                 run.send(packet)
             for _ in range(20):
                 await asyncio.sleep(self.given.patience / 40)
-                if found and run.barrier is None:
+                if found and found[2] not in run.barriers:
                     session.has_barrier = True
                     return True
             if session.count:
@@ -139,7 +156,7 @@ class Kit:
 
     async def at_device(self, case):
         """The result of a case at the device that stands, or at one that is started for it."""
-        if not self.given.start:
+        if self.device:
             return await self.device.run(case, self.addresses(case))
         it = nodes.Started(self.given.start, self.role, self.given.patience)
         async with self.device_room():
@@ -231,6 +248,8 @@ def main():
         status = asyncio.run(kit.run())
     except nodes.NoProgram as fault:
         stop(f"there is no proved node to compare with: {fault}", 70)
+    except (tun.NoDevice, OSError) as fault:
+        stop(f"{fault}")
     except KeyboardInterrupt:
         status = INTERRUPTED
     return tell(kit, status_of(kit.told()) if status is None else status)

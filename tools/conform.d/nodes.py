@@ -66,6 +66,7 @@ class Node:
             raise NoProgram(f"{self.mip} node finds no free port")
         self.drain = asyncio.create_task(self._drain())
         self.session = runs.Session(frames.UdpLink(kit, port), self.role, PATIENCE)
+        self.session.has_barrier = True
         self.session.begin()
         return self
 
@@ -81,6 +82,21 @@ class Node:
             self.drain.cancel()
 
 
+async def process(words):
+    """A process of the device's, in a group of its own."""
+    return await asyncio.create_subprocess_exec(*words, stdin=subprocess.DEVNULL, stdout=subprocess.DEVNULL, start_new_session=True)
+
+
+class Host:
+    """The program of a host behind a TUN device."""
+
+    def __init__(self, running):
+        self.running = running
+
+    async def end(self):
+        await ended(self.running)
+
+
 class Started:
     """A device that a command starts anew: the words PORT and KIT in it are its own port and the kit's."""
 
@@ -91,7 +107,7 @@ class Started:
     async def begin(self):
         port, kit = frames.free_port(), frames.free_port()
         words = [it.replace("PORT", str(port)).replace("KIT", str(kit)) for it in shlex.split(self.command)]
-        self.process = await asyncio.create_subprocess_exec(*words, stdin=subprocess.DEVNULL, stdout=subprocess.DEVNULL, start_new_session=True)
+        self.process = await process(words)
         self.session = runs.Session(frames.UdpLink(kit, port), self.role, self.patience)
         self.session.begin()
         return self

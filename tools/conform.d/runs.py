@@ -43,7 +43,7 @@ class Run:
         self.inbox, self.seen, self.late = [], [], []
         self.event, self.has_ended, self.begun = asyncio.Event(), False, time.monotonic()
         self.ignores = set(case.ignores) | set(session.role.ignores)
-        self.barrier, self.is_silent = None, False
+        self.barriers, self.is_silent = [], False  # what the answers that end a silence look like, of those that did not come yet
         self.moment = self.begun  # of the last packet, sent or come
 
     def send(self, packet, shield=None):
@@ -59,8 +59,8 @@ class Run:
             if it.said["kind"] not in self.ignores and len(self.late) < MOST:
                 self.late.append(f"{now - self.begun:.1f} s after the case began: {it.fault or said_text(it.said)}")
             return
-        if self.barrier and not fault and self.barrier(data):
-            self.barrier = None
+        if not fault and (ended := next((it for it in self.barriers if it(data)), None)):
+            self.barriers.remove(ended)
             self.seen.append(data)
         elif len(self.seen) < MOST:
             it = self.came(now, data, shield, fault)
@@ -126,15 +126,15 @@ class Run:
     async def quiet(self, kinds=()):
         """Waits until the device has had the time to answer: until it answers a later packet, or for the patience where it answers none. Such silence is no sign of life."""
         until = time.monotonic() + self.session.patience
-        packet, shield, self.barrier = self.session.role.barrier(self.env)
+        packet, shield, barrier = self.session.role.barrier(self.env)
+        self.barriers.append(barrier)
         self.send(packet, shield)
-        while self.barrier and time.monotonic() < until and not self.session.link.is_closed:
+        while barrier in self.barriers and time.monotonic() < until and not self.session.link.is_closed:
             await self.heard(min(0.1, max(until - time.monotonic(), 0)))
             if not self.session.has_barrier and any(it.said["kind"] in kinds for it in self.inbox):
                 break
-        self.is_silent = self.barrier is not None
+        self.is_silent = barrier in self.barriers
         self.session.has_barrier = self.session.has_barrier or not self.is_silent
-        self.barrier = None
         await asyncio.sleep(self.session.grace)
 
     def why_no_silence(self):

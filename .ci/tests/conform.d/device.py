@@ -1,8 +1,9 @@
 """A device under test as a process: one of this folder, with faults, or with bad manners.
 
     device.py TOOLS ROLE PORT KIT [--MANNER] [FAULT ..]
+    device.py TOOLS ROLE INTERFACE raw [--MANNER] [FAULT ..]
 
-TOOLS is the folder of the kit, PORT the device's own port, KIT the kit's. A manner is one of: silent, twice, late (3 s), garbage (what is no packet), frameless (what is no frame),
+TOOLS is the folder of the kit, PORT the device's own port, KIT the kit's; with `raw` the device sees each packet of an interface of its name space. A manner is one of: silent, twice, late (3 s), garbage (what is no packet), frameless (what is no frame),
 flood (10,000 packets for one, which nobody asked for), closes (after ten packets).
 """
 import asyncio
@@ -17,26 +18,32 @@ sys.path[:0] = [sys.argv[1], str(HERE)]
 import frames  # noqa: E402
 
 MANNERS = ("silent", "twice", "late", "garbage", "frameless", "flood", "closes")
-LATE, FLOOD, LAST = 3, 10000, 10
+LATE, FLOOD, LAST, IPV6 = 3, 10000, 10, 0x86DD
 
 
 class Port:
     """The device's port, at which each answer goes out in its manner."""
 
     def __init__(self, device, port, kit, manner):
-        self.device, self.kit, self.manner, self.count, self.begun = device, kit, manner, 0, time.monotonic()
-        self.socket = socket.socket(socket.AF_INET, socket.SOCK_DGRAM)
-        self.socket.bind(("127.0.0.1", port))
+        self.device, self.manner, self.count, self.begun = device, manner, 0, time.monotonic()
+        self.is_raw = kit == "raw"
+        if self.is_raw:
+            self.socket, self.to = socket.socket(socket.AF_PACKET, socket.SOCK_DGRAM, socket.htons(IPV6)), (port, IPV6)
+            self.socket.bind((port, IPV6))
+        else:
+            self.socket, self.to = socket.socket(socket.AF_INET, socket.SOCK_DGRAM), ("127.0.0.1", int(kit))
+            self.socket.bind(("127.0.0.1", int(port)))
         self.socket.setblocking(False)
 
     def out(self, datagram):
         try:
-            self.socket.sendto(datagram, ("127.0.0.1", self.kit))
+            self.socket.sendto(datagram[1:] if self.is_raw else datagram, self.to)
         except OSError:  # a full buffer, or a kit that has gone
             pass
 
     def ready(self):
-        frame = frames.read_frame(self.socket.recv(frames.LONGEST + 1))
+        data = self.socket.recv(frames.LONGEST + 1)
+        frame = (None, data) if self.is_raw else frames.read_frame(data)
         self.count += 1
         if self.manner == "closes" and self.count > LAST:
             sys.exit(0)
@@ -67,7 +74,7 @@ def main(words):
         sys.exit(f"device: no such manner: {manners}")
     own = importlib.import_module(f"cases_{role}").ROLE.own
     device = importlib.import_module(role).make(socket.inet_pton(socket.AF_INET6, own), set(faults))
-    asyncio.run(serve(Port(device, int(port), int(kit), manners[0] if manners else "")))
+    asyncio.run(serve(Port(device, port, kit, manners[0] if manners else "")))
 
 
 if __name__ == "__main__":
