@@ -244,7 +244,6 @@ CASES = TALKS + TESTS + RECEPTION + VERDICTS + PLACES + SEQUENCES + DELETIONS + 
 
 # the homes to which a device has to send data, by the numbers of the cases that look at it: they are always the same
 HOMES = {at: packets.packed(f"2001:db8:1::e{at:03x}") for at, it in enumerate(CASES) if it.talks}
-TURNS_BETWEEN = 10  # turns of a `mip node` between two data for a home
 
 
 def addresses(number, run, own):
@@ -271,7 +270,15 @@ def configuration(port, kit, own, cases):
     """A correspondent that sends data to each home of the cases that look for it, as often as a configuration has room for."""
     homes = [HOMES[CASES.index(it)].hex() for it in cases if it.talks]
     lines = ["mip 1", f"seed {secrets.token_hex(32)}", "self 0", f"port {port}", f"default {kit}", f"correspondent {own.hex()} 64"]
-    return lines + [f"payload {TURNS_BETWEEN * (1 + at // len(homes))} {homes[at % len(homes)]} 253 74616c6b" for at in range(1000 if homes else 0)]
+    return lines + [f"payload {turn} {home} 253 74616c6b" for turn in beats(1000 // len(homes) if homes else 0) for home in homes]
+
+
+def beats(count):
+    """The turns at which a node sends data: each tenth at first, ever fewer later, for some minutes."""
+    turn = 0
+    for _ in range(count):
+        turn += 10 + turn // 40
+        yield turn
 
 
 def is_stray(data):

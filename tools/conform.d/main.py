@@ -161,6 +161,7 @@ class Kit:
         it = nodes.Started(self.given.start, self.role, self.given.patience)
         async with self.device_room():
             await self.started(it)
+            it.session.seed = self.given.seed
             await self.greet(it.session)
             try:
                 return await it.session.run(case, self.addresses(case))
