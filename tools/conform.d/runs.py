@@ -10,6 +10,7 @@ import frames
 import packets
 
 MOST = 200  # packets that a case takes; a device that sends more floods it
+LAST_LOOK = 0.02  # s, behind the end of a patience: this process may have stood still, and what came stands in the socket
 MISSES = 5  # cases in a row to which nothing at all came: then the device is taken for gone
 QUIET = 0.02  # s that are waited for more behind the answer that ends a silence
 
@@ -106,7 +107,8 @@ class Run:
         while not (it := self.taken(kinds)):
             left = until - time.monotonic()
             if left <= 0 or self.session.link.is_closed and left < patience - 0.3:
-                return None
+                await self.heard(LAST_LOOK)
+                return self.taken(kinds)
             await self.heard(min(left, 0.1))
         return it
 
@@ -133,6 +135,8 @@ class Run:
             await self.heard(min(0.1, max(until - time.monotonic(), 0)))
             if not self.session.has_barrier and any(it.said["kind"] in kinds for it in self.inbox):
                 break
+        if barrier in self.barriers:
+            await self.heard(LAST_LOOK)
         self.is_silent = barrier in self.barriers
         self.session.has_barrier = self.session.has_barrier or not self.is_silent
         await asyncio.sleep(self.session.grace)

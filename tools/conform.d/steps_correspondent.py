@@ -188,3 +188,8 @@ def resealed(step):
         return head + packets.summed(env.address("H"), env.address("C"), packets.MOBILITY, body, 4), None
 
     return Send(step.text + ", then its lifetime changed", make)
+
+
+def update_of_another_proto(env):
+    """An update that says that a header of protocol 17 follows, where nothing does."""
+    return mobility(env, edited(packets.update(1, "A", 10), {0: 17}), "A", "C", "H")

@@ -27,13 +27,13 @@ class MemoryLink:
     """A device in this process."""
 
     def __init__(self, device):
-        self.device, self.heard, self.is_closed = device, None, False
+        self.device, self.heard, self.is_closed, self.begun = device, None, False, time.monotonic()
 
     def begin(self, heard):
         self.heard = heard
 
     def send(self, packet, shield=None):
-        for it in self.device.take(packet, time.monotonic()):
+        for it in self.device.take(packet, time.monotonic() - self.begun):
             asyncio.get_running_loop().call_soon(self.heard, b"\0" + it)
 
     def end(self):
