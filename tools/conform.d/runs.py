@@ -72,7 +72,7 @@ class Run:
     def came(self, now, data, shield, fault):
         try:
             if not fault:
-                said = self.env.read(data) | {"shield": shield and " ".join(map(packets.shown, shield))}
+                said = self.env.read(data) | {"bytes": data, "shield": shield and " ".join(map(packets.shown, shield))}
                 return Came(now, data, said, shield)
         except packets.NotPacket as it:
             fault = f"what came is no packet: {it}"
@@ -180,7 +180,7 @@ def packet_text(data):
     return said_text(said)
 
 
-HIDDEN = ("kind", "hop", "proto", "message", "bytes", "quoted", "seconds")
+HIDDEN = ("kind", "hop", "proto", "message", "bytes", "quoted", "seconds", "carried")
 
 
 def said_text(said, hidden=HIDDEN):
@@ -200,6 +200,7 @@ class Session:
         self.owners, self.lock, self.holder, self.last = {}, asyncio.Lock(), None, None
         self.count, self.sent, self.strays, self.has_barrier, self.misses = 0, 0, [], False, 0
         self.seed = ""
+        self.kept = {}  # what a role keeps from case to case
 
     def begin(self):
         self.link.begin(self.heard)
