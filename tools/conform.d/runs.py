@@ -11,6 +11,7 @@ import packets
 
 MOST = 200  # packets that a case takes; a device that sends more floods it
 MISSES = 5  # cases in a row to which nothing at all came: then the device is taken for gone
+UNANSWERED = 0.6  # s that a silence takes where the device has no way to answer a later packet
 QUIET = 0.02  # s that are waited for more behind the answer that ends a silence
 
 
@@ -91,15 +92,18 @@ class Run:
         """The next packet of the inbox; those that may come at any time are passed over unless they are looked for."""
         while self.inbox:
             it = self.inbox.pop(0)
-            if it.fault or it.said["kind"] in kinds or it.said["kind"] not in self.ignores:
+            if self.counts(it, kinds):
                 it.said["seconds"], self.moment = it.moment - self.moment, it.moment
                 return it
         return None
 
+    def counts(self, it, kinds=()):
+        return it.fault or it.said["kind"] in kinds or it.said["kind"] not in self.ignores
+
     async def next(self, kinds, more=0, may_be_quiet=False):
         """The next packet, or None where nothing comes: within the patience and `more` seconds, or, where silence is permitted, before a later packet is answered."""
         if may_be_quiet:
-            await (self.sleep_quietly(more) if more else self.quiet(kinds))
+            await (self.sleep_quietly(more, kinds) if more else self.quiet(kinds))
             return self.taken(kinds)
         patience = self.session.patience + more
         until = time.monotonic() + patience
@@ -110,10 +114,10 @@ class Run:
             await self.heard(min(left, 0.1))
         return it
 
-    async def sleep_quietly(self, seconds):
-        """Waits so long, or until something comes."""
+    async def sleep_quietly(self, seconds, kinds=()):
+        """Waits so long, or until something comes that counts."""
         until = time.monotonic() + seconds
-        while not self.inbox and (left := until - time.monotonic()) > 0:
+        while not any(self.counts(it, kinds) for it in self.inbox) and (left := until - time.monotonic()) > 0:
             await self.heard(min(left, 0.1))
 
     async def heard(self, seconds):
@@ -125,8 +129,12 @@ class Run:
 
     async def quiet(self, kinds=()):
         """Waits until the device has had the time to answer: until it answers a later packet, or for the patience where it answers none. Such silence is no sign of life."""
-        until = time.monotonic() + self.session.patience
-        packet, shield, barrier = self.session.role.barrier(self.env)
+        until, found = time.monotonic() + self.session.patience, self.session.role.barrier(self.env)
+        self.is_silent = False
+        if found is None:
+            await self.sleep_quietly(UNANSWERED, kinds)
+            return
+        packet, shield, barrier = found
         self.barriers.append(barrier)
         self.send(packet, shield)
         while barrier in self.barriers and time.monotonic() < until and not self.session.link.is_closed:
