@@ -292,7 +292,8 @@ class Several:
             done.wrong = [] if fits else part.differences(came.said, run.env) + run.again(came)
             left.remove(part)
             part.take(came.said, run.env)
-            found[self.parts.index(part)] = {key: value for key, value in came.said.items() if not (part.is_lax or key in part.words)}
+            left_out = () if done.wrong else came.said.keys() - {"kind"} if part.is_lax else part.words
+            found[self.parts.index(part)] = {key: value for key, value in came.said.items() if key not in left_out}
         done.came = [found[at] for at in sorted(found)]
         return done
 
