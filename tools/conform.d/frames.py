@@ -4,6 +4,7 @@ A frame is byte 0 and an IPv6 packet; or byte 1, the two addresses of a shield, 
 """
 import asyncio
 import errno
+import random
 import socket
 
 LONGEST = 4096
@@ -25,14 +26,19 @@ def read_frame(datagram):
 
 
 def free_port():
-    """A UDP port that nothing has at this moment."""
-    with socket.socket(socket.AF_INET, socket.SOCK_DGRAM) as it:
-        it.bind(("127.0.0.1", 0))
-        return it.getsockname()[1]
+    """A UDP port that nothing has at this moment, and that Linux gives to nobody who names none."""
+    while True:
+        port = random.randrange(10000, 32000)
+        with socket.socket(socket.AF_INET, socket.SOCK_DGRAM) as it:
+            try:
+                it.bind(("127.0.0.1", port))
+                return port
+            except OSError:
+                pass
 
 
 class UdpLink:
-    """A port of our own, and that of the node at its other end. Each datagram goes to `heard`, whatever it is; `is_closed` tells that nobody listens there."""
+    """A port of our own, any one where it is 0, and that of the node at its other end. Each datagram goes to `heard`, whatever it is; `is_closed` tells that nobody listens there."""
 
     def __init__(self, own, other):
         self.other, self.heard, self.is_closed = other, None, False
@@ -41,6 +47,7 @@ class UdpLink:
         self.socket.setsockopt(socket.SOL_IP, ERRORS_TOO, 1)
         self.socket.setsockopt(socket.SOL_SOCKET, socket.SO_RCVBUF, 1 << 20)
         self.socket.bind(("127.0.0.1", own))
+        self.port = self.socket.getsockname()[1]
 
     def begin(self, heard):
         self.heard = heard
