@@ -54,7 +54,7 @@ class Run:
 
     def hear(self, data, shield, fault=""):
         """Takes a packet in, and reads it with this case's keys."""
-        now = time.monotonic()
+        now = getattr(self.session.link, "moment", 0) or time.monotonic()
         if self.has_ended:
             it = self.came(now, data, shield, fault)
             if it.said["kind"] not in self.ignores and len(self.late) < MOST:
