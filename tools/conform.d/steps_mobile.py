@@ -118,6 +118,34 @@ def home_bu(patience=0, level="", **words):
 
 
 @dataclasses.dataclass(frozen=True)
+class Without:
+    """None of these packets comes before the mobile answers a later one, or within so many seconds; whatever else comes is passed over."""
+
+    says: str
+    kinds: tuple
+    to: str
+    seconds: float = 0
+    level: str = ""
+
+    def is_one(self, said, env):
+        inner = said["inner"] if said["kind"] == "tunnel" else said
+        return inner["kind"] in self.kinds and inner.get("destination") in [packets.shown(env.address(it)) for it in self.to]
+
+    async def perform(self, run):
+        await (run.sleep(self.seconds) if self.seconds else run.quiet())
+        came, run.inbox = [it.said for it in run.inbox if not it.fault and self.is_one(it.said, run.env)], []
+        return Done(self.says, came=came[:1], named=Everything(), wrong=[f"{came[0]['kind']} came"] if came else [], level=self.level)
+
+
+def no_update(seconds=0, to="PQ"):
+    return Without("no update", ("bu",), to, seconds)
+
+
+def no_probing():
+    return Without("no test init", ("hoti", "coti"), "PQ")
+
+
+@dataclasses.dataclass(frozen=True)
 class Registers:
     """The mobile comes to a link and is registered there, whatever its update is like."""
 
@@ -134,9 +162,9 @@ class Registers:
         return Done(f"came to the link of {self.link}, and registered")
 
 
-async def update_to(run, name):
+async def update_to(run, name, patience=0):
     """The next update to this node; others are passed over."""
-    while came := await run.next({"bu"}):
+    while came := await run.next({"bu"}, patience):
         if came.said["kind"] == "bu" and came.said["destination"] == packets.shown(run.env.address(name)):
             note(came.said, run.env)
             return came.said
@@ -364,7 +392,7 @@ class Hurries:
     async def perform(self, run):
         times = []
         for _ in range(4):
-            if await update_to(run, "P") is None:
+            if await update_to(run, "P", 2) is None:
                 return Done("four updates", wrong=[run.why_quiet()])
             times.append(run.moment)
             if len(times) < 4:
