@@ -1,17 +1,58 @@
-"""A small mobile node, whose faults are switched on one by one. It serves the test of the kit alone."""
-import secrets
-import time
-from dataclasses import dataclass, field
+"""A small mobile node with faults that are switched on by name, to see that the conformance kit finds each of them.
 
-from device import Device, opened, p, run
-import tokens
+It keeps the rules of RFC 6275 where no fault is named. FAULTS says what each does wrong.
+"""
+import dataclasses
+import hashlib
+import hmac
+import pathlib
+import secrets
+import sys
+import time
+
+sys.path.append(str(pathlib.Path(__file__).resolve().parents[3] / "tools" / "conform.d"))
+import packets as p  # noqa: E402
+import tokens  # noqa: E402
+from common import Device, MemoryLink, opened, run  # noqa: E402
 
 ALL_NODES = p.packed("ff02::1")
 ASKED, BOUND_FOR = 900, 105  # units of 4 s
 FIRST, AGAIN, LONGEST = 1.5, 1.0, 32.0
+A_SECOND = 3  # updates to a peer at most
+FAULTS = {
+    "acknowledgement_not_asked_for": "registers without flag A",
+    "alternate_address_left_out": "registers without an Alternate Care-of Address option",
+    "registration_without_a_shield": "protects no update to its agent",
+    "resent_with_the_same_sequence": "sends an update to its agent again with the same sequence number",
+    "no_back_off": "sends again after the same time each time",
+    "any_sequence_acknowledges": "takes an acknowledgement of its agent with any sequence number",
+    "acknowledgement_without_a_shield": "takes an acknowledgement of its agent that is not protected",
+    "refused_and_sent_again": "goes on to send an update that was refused",
+    "sequence_not_taken_from_135": "passes over the sequence number of status 135",
+    "registration_not_renewed": "does not renew a registration",
+    "home_address_option_at_home": "deregisters with a Home Address option",
+    "bindings_left_at_home": "ends no binding when it is at home",
+    "home_test_init_sent_straight": "sends a Home Test Init from its care-of address",
+    "the_same_cookies_each_time": "has the same two cookies in each return routability",
+    "cookie_not_compared": "takes a test with any cookie",
+    "one_test_is_enough": "makes an update of one test",
+    "home_test_outside_the_tunnel": "takes a Home Test outside its agent's tunnel",
+    "tunnel_of_anybody": "opens a tunnel that is not its agent's",
+    "home_flag_to_a_correspondent": "sends a peer an update with flag H",
+    "bound_for_an_hour": "asks a peer for 3,600 s",
+    "authenticator_over_the_checksum": "makes authenticators over the checksum, too",
+    "acknowledgement_without_its_authenticator": "takes an acknowledgement of a peer with any authenticator or none",
+    "any_number_of_updates_a_second": "sends a peer as many updates as it is asked for",
+    "binding_error_passed_over": "keeps a binding after a Binding Error",
+    "error_of_any_home": "gives a binding up for a Binding Error about another home",
+    "refresh_request_passed_over": "passes over a Binding Refresh Request",
+    "routing_header_of_anybody": "takes a packet whose routing header names another home",
+    "checksum_not_compared": "looks at no checksum of a mobility message",
+    "unknown_message_dropped_in_silence": "sends no Binding Error about an unknown type",
+}
 
 
-@dataclass
+@dataclasses.dataclass
 class Peer:
     """A correspondent of the mobile, and how far return routability with it is: idle, probing, pending or bound."""
 
@@ -21,38 +62,24 @@ class Peer:
     is_touched: bool = False
     sequence: int = 0
     sent: float = 0.0
-    cookies: dict = field(default_factory=dict)
-    tests: dict = field(default_factory=dict)
-    times: list = field(default_factory=list)  # of its last updates
+    cookies: dict = dataclasses.field(default_factory=dict)
+    tests: dict = dataclasses.field(default_factory=dict)
+    times: list = dataclasses.field(default_factory=list)  # of its last updates
 
 
 class Mobile(Device):
-    def __init__(self, home, agent, send, faults):
-        super().__init__(home, send, faults)
+    FAULTS = FAULTS
+
+    def __init__(self, home, agent, faults, put):
+        super().__init__(home, faults, put)
         self.home, self.agent, self.at = home, agent, None
-        self.peers, self.timers = {}, {}
-        self.sequence, self.sent, self.last, self.registered = 0, 0.0, None, False
-        self.is_first, self.cookies = True, [secrets.token_bytes(8), secrets.token_bytes(8)]
+        self.peers, self.is_registered, self.is_first = {}, False, True
+        self.sequence, self.sent, self.last = 0, 0.0, None
+        self.cookies = [secrets.token_bytes(8), secrets.token_bytes(8)]
 
     @property
     def is_away(self):
         return self.at is not None and self.at != self.home
-
-    # --- timers: what is due when, by a name
-
-    def at_time(self, name, due, action):
-        self.timers[name] = (due, action)
-
-    def stop(self, *names):
-        for it in names:
-            self.timers.pop(it, None)
-
-    def tick(self):
-        now = time.monotonic()
-        for name, (due, action) in sorted(self.timers.items(), key=lambda it: it[1][0]):
-            if due <= now and self.timers.get(name, (None,))[0] == due:
-                del self.timers[name]
-                action()
 
     def again(self, name, wait, action):
         """Does it after `wait`, then after twice that, up to the longest wait."""
@@ -91,7 +118,7 @@ class Mobile(Device):
 
     def leave(self):
         self.timers.clear()
-        self.registered = False
+        self.is_registered = False
         for it in self.peers.values():
             it.state = "idle"
 
@@ -138,16 +165,16 @@ class Mobile(Device):
         elif not self.is_away:
             self.home_again()
         else:
-            self.is_registered(message["lifetime"])
+            self.registered(message["lifetime"])
 
     def is_home_shield(self, shield):
         return shield == (self.agent, self.home)
 
-    def is_registered(self, lifetime):
+    def registered(self, lifetime):
         self.stop("home")
         if not lifetime:
             return
-        self.registered = True
+        self.is_registered = True
         if not self.has("registration_not_renewed"):
             self.at_time("renew", self.sent + 3 * lifetime, lambda: self.update_home(False))
         self.at_time("end", self.sent + 4 * lifetime, self.has_ended)
@@ -156,12 +183,12 @@ class Mobile(Device):
                 self.start(it)
 
     def has_ended(self):
-        self.registered = False
+        self.is_registered = False
 
     def home_again(self):
         """The registration is ended; bindings are to end too."""
         self.stop("home", "renew", "end")
-        self.sent, self.last, self.registered = 0.0, None, False
+        self.sent, self.last, self.is_registered = 0.0, None, False
         for it in self.peers.values():
             if it.is_touched and not self.has("bindings_left_at_home"):
                 self.start(it, is_deletion=True)
@@ -200,7 +227,7 @@ class Mobile(Device):
         """Sends from the home address: through the tunnel while away."""
         if not self.is_away:
             self.sends(destination, proto, body)
-        elif self.registered:
+        elif self.is_registered:
             at = {p.MOBILITY: 4, p.ICMP: 2}.get(proto)
             inner = p.packet(self.home, destination, proto, p.summed(self.home, destination, proto, body, at), 63)
             self.sends(self.agent, p.TUNNEL, inner, (self.home, self.agent) if proto == p.MOBILITY else None, source=self.at)
@@ -209,7 +236,7 @@ class Mobile(Device):
         if seen.proto in (p.ICMP, p.NONE) or not seen.outer:
             return
         peer = self.peers.setdefault(seen.sender, Peer(seen.sender))
-        if peer.state == "idle" and self.registered:
+        if peer.state == "idle" and self.is_registered:
             self.start(peer)
 
     # --- return routability
@@ -279,7 +306,7 @@ class Mobile(Device):
         body = p.update(peer.sequence, flags, lifetime, [("nonces", indices), ("auth", bytes(12))])
         if self.has("authenticator_over_the_checksum"):
             body = p.summed(self.home, peer.address, p.MOBILITY, body, 4)
-            proof = tokens.hmac.new(self.key(peer), self.at + peer.address + body[:-12], tokens.hashlib.sha1).digest()[:12]
+            proof = hmac.new(self.key(peer), self.at + peer.address + body[:-12], hashlib.sha1).digest()[:12]
         else:
             proof = tokens.authenticator(self.key(peer), self.at, peer.address, body)
         body = body[:4] + bytes(2) + body[6:-12] + proof
@@ -327,10 +354,11 @@ class Mobile(Device):
             self.start(peer)
 
 
-def words(reader):
-    reader.add_argument("--home", required=True)
-    reader.add_argument("--agent", required=True)
+def link(own, faults):
+    """A mobile in this process."""
+    agent = own[:8] + (1).to_bytes(8, "big")
+    return MemoryLink(lambda put: Mobile(own, agent, faults, put))
 
 
 if __name__ == "__main__":
-    run(lambda given, send: Mobile(p.packed(given.home), p.packed(given.agent), send, given.fault), words)
+    run(lambda faults, put: Mobile(p.packed("2001:db8:1::77"), p.packed("2001:db8:1::1"), faults, put), "mobile")
