@@ -150,6 +150,8 @@ class Kit:
                 if found and found[2] not in run.barriers:
                     session.has_barrier = True
                     return True
+                if not found and session.count:
+                    return True
             if session.count:
                 return True
         return False
