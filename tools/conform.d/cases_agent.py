@@ -202,13 +202,13 @@ def addresses(number, run, own):
 
 def barrier(env):
     """A discovery request from an address that stands for nothing else."""
-    source, packet = env.address("Z"), discovery(identifier=secrets.randbelow(65536), source="Z").make(env)
-    return *packet, lambda it: it[24:40] == source
+    source, identifier = env.address("Z"), secrets.randbelow(65536)
+    packet, shield = discovery(identifier, source="Z").make(env)
+    return packet, shield, lambda it: it[24:40] == source and it[44:46] == identifier.to_bytes(2, "big")
 
 
 def hello(env):
-    """A discovery request, and an echo request, which any host answers."""
-    yield barrier(env)[0]
+    """An echo request, which any host answers."""
     yield echo("Z", "G").make(env)[0]
 
 

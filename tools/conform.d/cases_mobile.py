@@ -16,11 +16,11 @@ INITS = ("tunnel", "coti", "hoti")  # that are sent again while a test is missin
 
 def must(name, section, says, *steps, **more):
     """A case between two stays at home, at which nothing of an earlier case is left."""
-    return cases.must(name, section, says, AtHome(), *steps, AtHome(), **more)
+    return cases.must(name, section, says, AtHome(), *steps, AtHome(is_last=True), **more)
 
 
 def should(name, section, says, *steps, **more):
-    return cases.should(name, section, says, AtHome(), *steps, AtHome(), **more)
+    return cases.should(name, section, says, AtHome(), *steps, AtHome(is_last=True), **more)
 
 
 REGISTRATION = (
@@ -29,19 +29,19 @@ REGISTRATION = (
     must("registration-alternate", "11.7.1", "The update has an Alternate Care-of Address option with the care-of address.", arrives(), home_bu(alternate="A")),
     must("registration-protected", "11.7.1", "The update is protected.", arrives(), home_bu(shield=("H", "G"))),
     must("registration-lifetime", "11.7.1", "The update asks for a lifetime.", arrives(), home_bu(lifetime=some)),
-    should("resent", "11.8", "An update that is not acknowledged is sent again after 1 to 1.5 s.", arrives(), home_bu(), home_bu(seconds=AGAIN, patience=2)),
+    should("resent", "11.8", "An update that is not acknowledged is sent again after 1 to 1.5 s.", arrives(), home_bu(), home_bu(seconds=AGAIN, patience=2), is_slow=True),
     must("resent-sequence", "11.8", "An update that is sent again has a later sequence number.", arrives(), home_bu(), home_bu(sequence=later("G"), patience=2)),
     must("resent-later", "11.8", "The time until an update is sent again doubles.", arrives(), home_bu(), home_bu(patience=2), home_bu(seconds=backs_off, patience=5), is_slow=True),
     must("acknowledged", "11.7.3", "An update that is acknowledged with status 0 is not sent again.", arrives(), home_bu(), home_ack(), no_update(SILENT, "G")),
-    must("acknowledged-1", "6.1.8", "Status 1 is an acceptance too: the update is not sent again.", arrives(), home_bu(), home_ack(1), no_update(SILENT, "G")),
+    must("acknowledged-1", "6.1.8", "Status 1 is an acceptance too: the update is not sent again.", arrives(), home_bu(), home_ack(1), no_update(SILENT, "G"), is_slow=True),
     must("acknowledged-sequence", "11.7.3", "An acknowledgement with another sequence number than the last update's does not count: the update is sent again.",
          arrives(), home_bu(), home_ack(ahead=7), home_bu(patience=2)),
     must("acknowledged-unprotected", "5.1", "An acknowledgement of the home agent that is not protected does not count: the update is sent again.",
          arrives(), home_bu(), home_ack(shield=None), home_bu(patience=2)),
-    must("acknowledged-stranger", "11.7.3", "An acknowledgement of somebody else does not count: the update is sent again.", arrives(), home_bu(), home_ack(source="X", shield=None), home_bu(patience=2)),
+    must("acknowledged-stranger", "11.7.3", "An acknowledgement of somebody else does not count: the update is sent again.", arrives(), home_bu(), home_ack(source="X", shield=None), home_bu(patience=2), is_slow=True),
     must("acknowledged-checksum", "9.2", "An acknowledgement with a wrong checksum does not count: the update is sent again.",
-         arrives(), home_bu(), home_ack(after={4: 0x12, 5: 0x34}), home_bu(patience=2)),
-    should("refused", "11.7.3", "An update that is refused with status 129 is not sent again at once.", arrives(), home_bu(), home_ack(129, lifetime=0), no_update(SILENT, "G")),
+         arrives(), home_bu(), home_ack(after={4: 0x12, 5: 0x34}), home_bu(patience=2), is_slow=True),
+    should("refused", "11.7.3", "An update that is refused with status 129 is not sent again at once.", arrives(), home_bu(), home_ack(129, lifetime=0), no_update(SILENT, "G"), is_slow=True),
     must("sequence-out", "11.7.3", "After status 135 the mobile sends an update with a sequence number that is later than that of the acknowledgement.",
          arrives(), home_bu(), home_ack(135, ahead=1000, lifetime=0), home_bu(sequence=ahead_of("G", 1000), patience=1)),
     must("moved", "11.5.3", "On another foreign link the mobile registers its new care-of address.", Registers("A"), arrives("B"), home_bu(source="B", option="H", alternate="B")),
@@ -55,7 +55,7 @@ HOME = (
     must("home-source", "11.5.5", "The source of the deregistration is the home address, without a Home Address option.", Registers("A"), arrives("H"), home_bu(source="H", option=None)),
     must("home-protected", "11.5.5", "The deregistration is protected.", Registers("A"), arrives("H"), home_bu(shield=("H", "G"))),
     must("home-sequence", "11.7.1", "The deregistration has a later sequence number.", Registers("A"), arrives("H"), home_bu(sequence=later("G"))),
-    should("home-resent", "11.8", "A deregistration that is not acknowledged is sent again.", Registers("A"), arrives("H"), home_bu(), home_bu(lifetime=0, seconds=AGAIN, patience=2)),
+    should("home-resent", "11.8", "A deregistration that is not acknowledged is sent again.", Registers("A"), arrives("H"), home_bu(), home_bu(lifetime=0, seconds=AGAIN, patience=2), is_slow=True),
     must("home-acknowledged", "11.7.3", "A deregistration that is acknowledged is not sent again.", Registers("A"), arrives("H"), home_bu(), home_ack(lifetime=0), no_update(SILENT, "G")),
     must("home-sequence-out", "11.7.3", "After status 135 the mobile deregisters with a sequence number that is later than that of the acknowledgement.",
          Registers("A"), arrives("H"), home_bu(), home_ack(135, ahead=1000, lifetime=0), home_bu(lifetime=0, sequence=ahead_of("G", 1000), patience=1)),
@@ -76,7 +76,7 @@ ROUTABILITY = (
     must("cookies-new", "5.2.5", "Return routability that begins anew has new cookies.",
          pending(), peer_ack(136, lifetime=0, seal=""), hoti_seen(inner={"cookie": other_cookie}), ignores=INITS),
     should("test-inits-resent", "11.8", "Test inits that are not answered are sent again after a second.",
-           Registers(), data_in(), Probes(), inits(patience=2)),
+           Registers(), data_in(), Probes(), inits(patience=2), is_slow=True),
     must("home-test-alone", "11.6.2", "A Home Test alone makes no update.", probing(), home_test(), no_update()),
     must("care-of-test-alone", "11.6.2", "A Care-of Test alone makes no update.", probing(), careof_test(), no_update()),
     must("update", "11.7.2", "With both tests the mobile sends the peer an update from its care-of address, with a Home Address option and without flag H.",
@@ -98,20 +98,20 @@ ROUTABILITY = (
 )
 
 BINDINGS = (
-    should("update-resent", "11.8", "An update of a peer that is not acknowledged is sent again after a second.", pending(), peer_bu(seconds=AGAIN, patience=2)),
+    should("update-resent", "11.8", "An update of a peer that is not acknowledged is sent again after a second.", pending(), peer_bu(seconds=AGAIN, patience=2), is_slow=True),
     must("update-resent-sequence", "11.8", "It then has a later sequence number and the authenticator of its own.", pending(), peer_bu(sequence=later("P"), bytes=sealed, patience=2)),
     must("update-resent-later", "11.8", "The time until an update of a peer is sent again doubles.", pending(), peer_bu(patience=2), peer_bu(seconds=backs_off, patience=4), is_slow=True),
     must("bound", "11.7.3", "An update of a peer that is acknowledged is not sent again.", bound(), no_update(SILENT)),
     must("bound-not-authentic", "11.7.3", "An acknowledgement of a peer with a wrong authenticator does not count: the update is sent again.", pending(), peer_ack(seal="wrong"), peer_bu(patience=2)),
     must("bound-no-authenticator", "11.7.3", "An acknowledgement of a peer without an authenticator does not count: the update is sent again.", pending(), peer_ack(seal=""), peer_bu(patience=2)),
-    must("bound-sequence", "11.7.3", "An acknowledgement of a peer with another sequence number does not count: the update is sent again.", pending(), peer_ack(ahead=3), peer_bu(patience=2)),
-    must("bound-stranger", "11.7.3", "An acknowledgement of another node does not count: the update is sent again.", pending(), peer_ack(source="Q"), peer_bu(patience=2)),
+    must("bound-sequence", "11.7.3", "An acknowledgement of a peer with another sequence number does not count: the update is sent again.", pending(), peer_ack(ahead=3), peer_bu(patience=2), is_slow=True),
+    must("bound-stranger", "11.7.3", "An acknowledgement of another node does not count: the update is sent again.", pending(), peer_ack(source="Q"), peer_bu(patience=2), is_slow=True),
     must("peer-sequence-out", "11.7.3", "After status 135 of a peer its next update has a sequence number that is later than that of the acknowledgement.",
          pending(), peer_ack(135, ahead=1000, lifetime=0), peer_bu(sequence=ahead_of("P", 1000), bytes=sealed, patience=1)),
     should("home-nonce", "11.7.3", "After status 136 of a peer return routability begins anew.", pending(), peer_ack(136, lifetime=0, seal=""), inits()),
     should("care-of-nonce", "11.7.3", "After status 137 of a peer return routability begins anew.", pending(), peer_ack(137, lifetime=0, seal=""), inits()),
     should("both-nonces", "11.7.3", "After status 138 of a peer return routability begins anew.", pending(), peer_ack(138, lifetime=0, seal=""), inits()),
-    should("peer-refused", "11.7.3", "An update that a peer refuses with status 130 is not sent again at once.", pending(), peer_ack(130, lifetime=0), no_update(SILENT)),
+    should("peer-refused", "11.7.3", "An update that a peer refuses with status 130 is not sent again at once.", pending(), peer_ack(130, lifetime=0), no_update(SILENT), is_slow=True),
     must("update-rate", "11.8", "A peer gets three updates a second at most.", probing(), home_test(), careof_test(), Hurries()),
     should("refresh", "11.7.4", "A Binding Refresh Request of a bound peer makes return routability begin anew.", bound(), refresh_request(), inits(cookie=other_cookie)),
     must("refresh-stranger", "11.7.4", "A Binding Refresh Request of a node without a binding is dropped.", bound(), refresh_request("Q"), no_probing()),
@@ -156,10 +156,10 @@ def barrier(env):
     cookie, source = secrets.token_bytes(8), env.address("Z")
     init = packets.packet(source, env.address("H"), packets.MOBILITY, packets.summed(source, env.address("H"), packets.MOBILITY, packets.test_init("hoti", cookie), 4))
     if env.more.get("at") == "H":
-        return init, None, lambda it: it[24:40] == source
+        return init, None, lambda it: it[24:40] == source and it[48:56] == cookie
     if not env.more.get("is registered"):
         return None
-    return inside(env, init), (env.address("G"), env.address("H")), lambda it: it[6] == packets.TUNNEL and it[64:80] == source
+    return inside(env, init), (env.address("G"), env.address("H")), lambda it: it[6] == packets.TUNNEL and it[64:80] == source and it[88:96] == cookie
 
 
 def hello(env):
