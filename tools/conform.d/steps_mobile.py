@@ -14,7 +14,7 @@ from cases import SHOULD, Done, Expect, Send, Several, Word, changed, mobility
 
 ALL_NODES, ROUTER = packets.packed("ff02::1"), packets.packed("fe80::1")
 UDP, DISCARD = 17, 9
-A_SECOND = 1.5  # s within which a mobile that may not send another update at once sends it, on a machine that may be busy
+A_SECOND = 2.5  # s within which a mobile that may not send another update at once sends it, on a machine that may be busy
 ROUNDS = 8  # of answers, until a mobile that comes home has nothing more to ask
 
 
@@ -175,7 +175,8 @@ async def update_to(run, name, patience=0):
 
 @dataclasses.dataclass(frozen=True)
 class AtHome:
-    """Brings the mobile home, and answers there what it asks, until it has neither a registration nor a binding. A case whose predecessor ended so begins so."""
+    """Brings the mobile home, and answers there what it asks, until it has neither a registration nor a binding. A case whose predecessor ended so begins so;
+    behind one that failed the mobile goes away and registers first, since it ends what it has when it comes home."""
 
     is_last: bool = False
 
@@ -183,6 +184,9 @@ class AtHome:
         if run.session.kept.pop("is at home", False):
             run.env.more |= {"at": "H", "is registered": False}
             return Done("at home: no registration and no bindings")
+        if not self.is_last and run.session.kept.get("has begun"):
+            await Registers("B").perform(run)
+        run.session.kept["has begun"] = True
         await arrives("H").perform(run)
         for _ in range(ROUNDS):
             await run.quiet()

@@ -22,7 +22,7 @@ import nodes  # noqa: E402
 import runs  # noqa: E402
 
 PATIENCE, GRACE = 0.2, 0.002  # s: a device in this process answers at once
-AT_ONCE, DEVICES = 16, 60  # proved nodes, and devices, at the same time
+AT_ONCE, DEVICES = 16, 24  # proved nodes, and devices, at the same time
 
 
 class MemoryLink:
@@ -101,6 +101,11 @@ async def verdicts(role, chosen, faults):
     return told
 
 
+def told(role, chosen, faults, order):
+    """For each fault the names of the cases that are not passed, in the order of the table of cases."""
+    return {fault: sorted(names, key=order.index) for fault, names in asyncio.run(verdicts(role, chosen, faults)).items()}
+
+
 def read_table(path):
     return {line.split()[0]: line.split()[1:] for line in path.read_text().splitlines() if line.strip() and not line.startswith("#")}
 
@@ -113,9 +118,12 @@ def main_of(words):
     module = importlib.import_module(role.name)
     faults = words[1:] or (["none", *module.FAULTS] if "--write" in flags else list(wanted))
     chosen = [it for it in sorted(role.cases, key=lambda it: (not it.talks, -main.waits(it))) if it.is_slow == ("--slow" in flags) and not it.fills]
-    found = asyncio.run(verdicts(role, chosen, faults))
     order = [it.name for it in role.cases]
-    found = {fault: sorted(names, key=order.index) for fault, names in found.items()}
+    found = told(role, chosen, faults, order)
+    # a machine that stands still for a second may let a case fail: what is not as the table says is tried once more
+    doubtful = [fault for fault, names in found.items() if "--write" not in flags and names != wanted.get(fault)]
+    if doubtful:
+        found |= told(role, chosen, doubtful, order)
     if "--write" in flags:
         print("\n".join(" ".join([fault, *names]) for fault, names in found.items()))
         return 0
