@@ -14,7 +14,7 @@ MUST, SHOULD = "MUST", "SHOULD"
 # fields whose text is the name of an address
 ADDRESSES = {"source", "destination", "route", "option", "home", "alternate", "prefix"}
 # what two right implementations may have different: compared only where a case names it
-FREE = {"hop", "index", "token", "cookie", "auth", "message", "advice", "quoted", "body", "proto", "nonces", "identifier", "seconds"}
+FREE = {"hop", "index", "token", "cookie", "auth", "message", "advice", "quoted", "body", "proto", "nonces", "identifier", "seconds", "bytes", "carried"}
 
 
 @dataclasses.dataclass(frozen=True)
@@ -87,6 +87,8 @@ class Env:
         """What a field is to be, where a case names it."""
         if isinstance(value, Word) or value is None:
             return value
+        if field == "shield":
+            return " ".join(packets.shown(self.address(it)) for it in value)
         if field in ADDRESSES:
             return packets.shown(self.address(value))
         return self.cookies[value] if field == "cookie" else value
@@ -116,6 +118,20 @@ def one_of(*values):
 
 anything = Word("anything", lambda value, env: True)
 front_of_sent = Word("a front of the packet sent", lambda value, env: len(value) > 0 and env.sent.startswith(value))
+
+
+def unlike(words, said, env, front=""):
+    """The fields that are not as the words say. A field whose words are fields again is a packet within the packet."""
+    found = []
+    for field, value in words.items():
+        has = said.get(field)
+        if isinstance(value, dict):
+            found += unlike(value, has or {}, env, f"{front}{field} ")
+            continue
+        wanted = env.wanted(field, value)
+        if not (wanted.test(has, env) if isinstance(wanted, Word) else has == wanted):
+            found.append(f"{front}{field} is {told(has)} and not {told(wanted)}")
+    return found
 
 
 # --- steps
@@ -180,12 +196,7 @@ class Expect:
         """How the packet is another one than this, as pairs of texts."""
         if said["kind"] != self.kind:
             return [f"{said['kind']} came in place of {self.kind}"]
-        found = []
-        for field, value in self.words.items():
-            wanted, has = env.wanted(field, value), said.get(field)
-            if not (wanted.test(has, env) if isinstance(wanted, Word) else has == wanted):
-                found.append(f"{field} is {told(has)} and not {told(wanted)}")
-        return found
+        return unlike(self.words, said, env)
 
     def take(self, said, env):
         """Keeps what later steps name."""
@@ -281,7 +292,8 @@ class Several:
             done.wrong = [] if fits else part.differences(came.said, run.env) + run.again(came)
             left.remove(part)
             part.take(came.said, run.env)
-            found[self.parts.index(part)] = {key: value for key, value in came.said.items() if key not in part.words}
+            left_out = () if done.wrong else came.said.keys() - {"kind"} if part.is_lax else part.words
+            found[self.parts.index(part)] = {key: value for key, value in came.said.items() if key not in left_out}
         done.came = [found[at] for at in sorted(found)]
         return done
 
@@ -290,9 +302,11 @@ def told(value):
     """A value of a field as a report has it."""
     if isinstance(value, bytes):
         return value.hex() or "-"
+    if isinstance(value, tuple):
+        return " ".join(map(str, value))
     if isinstance(value, dict):
-        return "(" + ", ".join(f"{k} {told(v)}" for k, v in value.items() if k not in ("message", "quoted")) + ")"
-    return {None: "none", True: "yes", False: "no", "": "-"}.get(value, str(value)) if not isinstance(value, (int, tuple)) or isinstance(value, bool) else str(value)
+        return "(" + ", ".join(f"{k} {told(v)}" for k, v in value.items() if k not in ("message", "quoted", "carried")) + ")"
+    return {None: "none", True: "yes", False: "no", "": "-"}.get(value, str(value)) if not isinstance(value, int) or isinstance(value, bool) else str(value)
 
 
 def wait(seconds):

@@ -4,10 +4,15 @@ A frame is byte 0 and an IPv6 packet; or byte 1, the two addresses of a shield, 
 """
 import asyncio
 import errno
+import random
 import socket
+import struct
+import time
 
 LONGEST = 4096
 ERRORS_TOO = 11  # IP_RECVERR: a port that is closed is told
+MOMENTS_TOO = 35  # SO_TIMESTAMPNS: when a datagram came, however late it is read
+MOMENT = struct.Struct("qq")
 
 
 def write_frame(packet, shield=None):
@@ -25,22 +30,40 @@ def read_frame(datagram):
 
 
 def free_port():
-    """A UDP port that nothing has at this moment."""
-    with socket.socket(socket.AF_INET, socket.SOCK_DGRAM) as it:
-        it.bind(("127.0.0.1", 0))
-        return it.getsockname()[1]
+    """A UDP port that nothing has at this moment, and that Linux gives to nobody who names none."""
+    while True:
+        port = random.randrange(10000, 32000)
+        with socket.socket(socket.AF_INET, socket.SOCK_DGRAM) as it:
+            try:
+                it.bind(("127.0.0.1", port))
+                return port
+            except OSError:
+                pass
+
+
+def moment_of(more):
+    """When a datagram came, on the clock of time.monotonic."""
+    now = time.monotonic()
+    for level, kind, data in more:
+        if level == socket.SOL_SOCKET and kind == MOMENTS_TOO:
+            seconds, nanoseconds = MOMENT.unpack(data[: MOMENT.size])
+            return min(now, now - time.time() + seconds + nanoseconds / 1e9)
+    return now
 
 
 class UdpLink:
-    """A port of our own, and that of the node at its other end. Each datagram goes to `heard`, whatever it is; `is_closed` tells that nobody listens there."""
+    """A port of our own, any one where it is 0, and that of the node at its other end. Each datagram goes to `heard`, whatever it is; `is_closed` tells that nobody listens there."""
 
     def __init__(self, own, other):
         self.other, self.heard, self.is_closed = other, None, False
+        self.moment = 0.0  # of the last datagram
         self.socket = socket.socket(socket.AF_INET, socket.SOCK_DGRAM)
         self.socket.setblocking(False)
         self.socket.setsockopt(socket.SOL_IP, ERRORS_TOO, 1)
         self.socket.setsockopt(socket.SOL_SOCKET, socket.SO_RCVBUF, 1 << 20)
+        self.socket.setsockopt(socket.SOL_SOCKET, MOMENTS_TOO, 1)
         self.socket.bind(("127.0.0.1", own))
+        self.port = self.socket.getsockname()[1]
 
     def begin(self, heard):
         self.heard = heard
@@ -55,7 +78,9 @@ class UdpLink:
 
     def _ready(self):
         try:
-            self.heard(self.socket.recv(LONGEST + 1))
+            datagram, more, _, _ = self.socket.recvmsg(LONGEST + 1, 64)
+            self.moment = moment_of(more)
+            self.heard(datagram)
         except OSError as fault:
             self._note(fault)
 

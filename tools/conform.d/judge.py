@@ -18,14 +18,20 @@ class Verdict:
     proved: object = None
 
 
+def compared(said, named):
+    """The fields that two answers have to have alike, those of a packet within the packet among them."""
+    return {it: compared(value, ()) if isinstance(value, dict) else value for it, value in said.items() if it not in cases.FREE and it not in named}
+
+
 def differences(done, proved):
     """How a step of the device has another answer than the proved node's, in the fields of which the case does not speak."""
     found = []
     if done.choice != proved.choice or done.is_lax:
         return found
     for ours, theirs in zip(proved.came, done.came):
+        ours, theirs = compared(ours, done.named), compared(theirs, done.named)
         for field in sorted(ours.keys() | theirs.keys()):
-            if field not in cases.FREE and field not in done.named and ours.get(field) != theirs.get(field):
+            if ours.get(field) != theirs.get(field):
                 found.append(f"{field} is {cases.told(theirs.get(field))} and not {cases.told(ours.get(field))}, as the proved node has it")
     return found
 

@@ -15,7 +15,7 @@ import report
 import runs
 import tun
 
-ROLES = ("correspondent",)
+ROLES = ("correspondent", "agent", "mobile")
 TRIES = 6  # times half the patience that a device has for its first answer
 HELLO = 65535  # the number of a case for the packets that ask whether the device is there
 AT_ONCE = 8  # devices that are started, or proved nodes with a case of their own, at the same time
@@ -149,6 +149,8 @@ class Kit:
                 await asyncio.sleep(self.given.patience / 40)
                 if found and found[2] not in run.barriers:
                     session.has_barrier = True
+                    return True
+                if not found and session.count:
                     return True
             if session.count:
                 return True

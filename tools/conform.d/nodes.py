@@ -51,8 +51,9 @@ class Node:
 
     async def begin(self):
         for _ in range(TRIES):
-            port, kit = frames.free_port(), frames.free_port()
-            text = "\n".join(self.role.configuration(port, kit, self.own, self.cases)) + "\n"
+            port = frames.free_port()
+            link = frames.UdpLink(0, port)
+            text = "\n".join(self.role.configuration(port, link.port, self.own, self.cases)) + "\n"
             self.process = await asyncio.create_subprocess_exec(
                 self.mip, "node", TURNS, stdin=subprocess.PIPE, stdout=subprocess.PIPE, start_new_session=True)
             self.process.stdin.write(text.encode())
@@ -60,12 +61,13 @@ class Node:
             said = await self.process.stdout.readline()
             if said.startswith(b"at "):
                 break
+            link.socket.close()
             if await self.process.wait() != 7:
                 raise NoProgram(f"{self.mip} node says {said.decode(errors='replace').strip()} to the kit's configuration")
         else:
             raise NoProgram(f"{self.mip} node finds no free port")
         self.drain = asyncio.create_task(self._drain())
-        self.session = runs.Session(frames.UdpLink(kit, port), self.role, PATIENCE)
+        self.session = runs.Session(link, self.role, PATIENCE)
         self.session.has_barrier = True
         self.session.begin()
         return self
@@ -105,10 +107,10 @@ class Started:
         self.process = self.session = None
 
     async def begin(self):
-        port, kit = frames.free_port(), frames.free_port()
-        words = [it.replace("PORT", str(port)).replace("KIT", str(kit)) for it in shlex.split(self.command)]
+        link = frames.UdpLink(0, frames.free_port())
+        words = [it.replace("PORT", str(link.other)).replace("KIT", str(link.port)) for it in shlex.split(self.command)]
         self.process = await process(words)
-        self.session = runs.Session(frames.UdpLink(kit, port), self.role, self.patience)
+        self.session = runs.Session(link, self.role, self.patience)
         self.session.begin()
         return self
 

@@ -271,6 +271,14 @@ def walk(data):
     return Walked(head | {"proto": proto, "hop": hop}, data[place:], place, options)
 
 
+def inner_of(data):
+    """The fields of a packet that a tunnel carries, whatever it is."""
+    try:
+        return read(data)
+    except NotPacket as fault:
+        return {"kind": f"no packet ({fault})"}
+
+
 def read(data):
     """The fields of a packet. `source` and `destination` are those of its first header, `route` and `option` the addresses of a type 2 routing header and a Home Address option."""
     it = walk(data)
@@ -280,5 +288,5 @@ def read(data):
     if proto == ICMP:
         return it.head | read_icmp(*it.ends(), it.body)
     if proto == TUNNEL:
-        return it.head | {"kind": "tunnel", "inner": read(it.body)}
+        return it.head | {"kind": "tunnel", "inner": inner_of(it.body), "carried": it.body}
     return it.head | {"kind": "none" if proto == NONE else "data", "body": it.body}

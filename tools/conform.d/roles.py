@@ -12,7 +12,7 @@ class Role:
     cases: tuple
     addresses: object  # of the number of a case, of the run and the device's address: the names of the case's addresses and their bytes
     configuration: object  # of two ports, the device's address and the cases for it: the lines of a `mip node` of this role
-    barrier: object  # of an Env: a packet that is always answered, its shield, and whether a packet is that answer
+    barrier: object  # of an Env: a packet that is always answered, its shield, and whether a packet is that answer; or None where there is none now
     hello: object  # of an Env: packets beside the barrier's of which any host of this role may answer one
     ignores: tuple = ()  # kinds of packets that may come at any time
     shared: tuple = ()  # names of addresses that are no case's own

@@ -12,6 +12,7 @@ import packets
 MOST = 200  # packets that a case takes; a device that sends more floods it
 LAST_LOOK = 0.02  # s, behind the end of a patience: this process may have stood still, and what came stands in the socket
 MISSES = 5  # cases in a row to which nothing at all came: then the device is taken for gone
+UNANSWERED = 0.6  # s that a silence takes where the device has no way to answer a later packet
 QUIET = 0.02  # s that are waited for more behind the answer that ends a silence
 
 
@@ -54,7 +55,7 @@ class Run:
 
     def hear(self, data, shield, fault=""):
         """Takes a packet in, and reads it with this case's keys."""
-        now = time.monotonic()
+        now = getattr(self.session.link, "moment", 0) or time.monotonic()
         if self.has_ended:
             it = self.came(now, data, shield, fault)
             if it.said["kind"] not in self.ignores and len(self.late) < MOST:
@@ -73,7 +74,7 @@ class Run:
     def came(self, now, data, shield, fault):
         try:
             if not fault:
-                said = self.env.read(data) | {"shield": shield and " ".join(map(packets.shown, shield))}
+                said = self.env.read(data) | {"bytes": data, "shield": shield and " ".join(map(packets.shown, shield))}
                 return Came(now, data, said, shield)
         except packets.NotPacket as it:
             fault = f"what came is no packet: {it}"
@@ -92,15 +93,18 @@ class Run:
         """The next packet of the inbox; those that may come at any time are passed over unless they are looked for."""
         while self.inbox:
             it = self.inbox.pop(0)
-            if it.fault or it.said["kind"] in kinds or it.said["kind"] not in self.ignores:
+            if self.counts(it, kinds):
                 it.said["seconds"], self.moment = it.moment - self.moment, it.moment
                 return it
         return None
 
+    def counts(self, it, kinds=()):
+        return it.fault or it.said["kind"] in kinds or it.said["kind"] not in self.ignores
+
     async def next(self, kinds, more=0, may_be_quiet=False):
         """The next packet, or None where nothing comes: within the patience and `more` seconds, or, where silence is permitted, before a later packet is answered."""
         if may_be_quiet:
-            await (self.sleep_quietly(more) if more else self.quiet(kinds))
+            await (self.sleep_quietly(more, kinds) if more else self.quiet(kinds))
             return self.taken(kinds)
         patience = self.session.patience + more
         until = time.monotonic() + patience
@@ -112,10 +116,10 @@ class Run:
             await self.heard(min(left, 0.1))
         return it
 
-    async def sleep_quietly(self, seconds):
-        """Waits so long, or until something comes."""
+    async def sleep_quietly(self, seconds, kinds=()):
+        """Waits so long, or until something comes that counts."""
         until = time.monotonic() + seconds
-        while not self.inbox and (left := until - time.monotonic()) > 0:
+        while not any(self.counts(it, kinds) for it in self.inbox) and (left := until - time.monotonic()) > 0:
             await self.heard(min(left, 0.1))
 
     async def heard(self, seconds):
@@ -127,8 +131,12 @@ class Run:
 
     async def quiet(self, kinds=()):
         """Waits until the device has had the time to answer: until it answers a later packet, or for the patience where it answers none. Such silence is no sign of life."""
-        until = time.monotonic() + self.session.patience
-        packet, shield, barrier = self.session.role.barrier(self.env)
+        until, found = time.monotonic() + self.session.patience, self.session.role.barrier(self.env)
+        self.is_silent = False
+        if found is None:
+            await self.sleep_quietly(UNANSWERED, kinds)
+            return
+        packet, shield, barrier = found
         self.barriers.append(barrier)
         self.send(packet, shield)
         while barrier in self.barriers and time.monotonic() < until and not self.session.link.is_closed:
@@ -184,7 +192,7 @@ def packet_text(data):
     return said_text(said)
 
 
-HIDDEN = ("kind", "hop", "proto", "message", "bytes", "quoted", "seconds")
+HIDDEN = ("kind", "hop", "proto", "message", "bytes", "quoted", "seconds", "carried")
 
 
 def said_text(said, hidden=HIDDEN):
@@ -204,6 +212,7 @@ class Session:
         self.owners, self.lock, self.holder, self.last = {}, asyncio.Lock(), None, None
         self.count, self.sent, self.strays, self.has_barrier, self.misses = 0, 0, [], False, 0
         self.seed = ""
+        self.kept = {}  # what a role keeps from case to case
 
     def begin(self):
         self.link.begin(self.heard)
