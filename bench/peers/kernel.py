@@ -159,7 +159,11 @@ def mobile(boot):
     print("kernel: Linux opens our agent's tunnel, and our agent opens Linux's: its answer is handed up at the correspondent")
 
 
-boot = sys.argv[1:3]
-print("kernel: " + re.search(r"vmlinuz-(.*)", boot[0])[1] + ", Debian's")
-correspondent(boot)
-mobile(boot)
+def name_of(kernel):
+    return re.search(r"vmlinuz-(.*)", kernel)[1] + ", Debian's"
+
+
+if __name__ == "__main__":
+    print("kernel: " + name_of(sys.argv[1]))
+    correspondent(sys.argv[1:3])
+    mobile(sys.argv[1:3])
