@@ -1,25 +1,39 @@
 -- What a link sent only grows in a turn.
-use Rattle.std.proofs.Common.{◌≡◌, ℕ, ◌+◌, ◌<◌, List, [], ◌∷◌, ◌++◌, length, get_or, take, drop, Bool, true, false, refl, sym, subst, ◌∙◌, ap}
-use Rattle.std.specs.Prelude.{fold, option_map, None, Some, Option, nat_lt, ◌==◌, if◌then◌else◌}
-use Rattle.std.proofs.lemmas.List.{append-nil, append_assoc, take-append-drop, take_more}
+use Rattle.std.proofs.Common.{◌≡◌, ℕ, ◌+◌, ◌<◌, List, [], ◌∷◌, ◌++◌, length, get_or, take, drop, Bool, true, false, refl, sym, subst, ◌∙◌, ap, inl, inr}
+use Rattle.std.specs.Prelude.{fold, option_map, None, Some, Option, nat_lt, ◌==◌, if◌then◌else◌, ◌⊎◌, Result, Ok, Err, OnErr}
+use Rattle.std.proofs.lemmas.List.{append-nil, append_assoc, take-append-drop, take_more, length_push}
 use Rattle.std.proofs.lemmas.List.Sums.{fold-append, fold_push}
 use Rattle.mip_words.specs.declared.shield.Shield.{Shield}
 use Rattle.mip_entries.specs.declared.answer.Answer.{Answer}
 use Rattle.mip_entries.specs.declared.answer.Answer.TheVariants.{Send, Note}
-use Rattle.mip_frames.specs.Framing.{frame_bytes}
+use Rattle.mip_frames.specs.Framing.{Framed, frame_bytes, framed_in}
 use Rattle.mip_frames.specs.Routing.{port_of, with_frame}
 use Rattle.mip_history.specs.Calls as calls
 use Rattle.mip_history.specs.Calls.{Call, Tick}
 use Rattle.mip_config.specs.declared.payload.Payload.{Payload}
 use Rattle.mip_config.specs.Configs.{Content}
+use Rattle.mip_config.specs.Facts.{address_of}
 use Rattle.mip_node.specs.Roles.{answers_at, role_after, has_due}
-use Rattle.mip_node.specs.Nodes.{Running, Datagrams, Serving, serving, with_role, begun, put_on, answered_one, answered, asked_at}
-use Rattle.mip_node.specs.Turns.{worked, paid_one, paid, before}
+use Rattle.mip_node.specs.Nodes.{Running, Datagrams, Serving, serving, counted, with_role, begun, put_on, answered_one, answered, asked_at}
+use Rattle.mip_node.specs.Turns.{worked, paid_one, paid, before, told_of_router, given, advertised_to, taken, handed, heard, received}
 use Rattle.mip_node.specs.Faults.{Grew, Between}
+
+-- what holds anyhow, or follows from what holds, after an error
+pub err_any : {A E P : Type 0} (r : Result A E) → P → OnErr r P
+err_any (Ok x) p = tt
+err_any (Err e) p = p
+
+pub err_on : {A E P Q : Type 0} (r : Result A E) → (P → Q) → OnErr r P → OnErr r Q
+err_on (Ok x) step p = tt
+err_on (Err e) step p = step p
 
 pub grew_not : (a : Datagrams) → Grew a a
 grew_not None = record { more = []; is = refl }
 grew_not (Some xs) = record { more = []; is = ap (λ (l : List (ℕ × List ℕ)). Some l) (sym (append-nil xs)) }
+
+-- nothing was sent yet
+pub not_yet : (first last : Datagrams) → Grew first last → Between first first last
+not_yet first last until = record { since = grew_not first; until = until }
 
 onto-onto : (a : Datagrams) (xs ys : List (ℕ × List ℕ)) → option_map (λ items. items ++ ys) (option_map (λ items. items ++ xs) a) ≡ option_map (λ items. items ++ (xs ++ ys)) a
 onto-onto None xs ys = refl
@@ -71,6 +85,28 @@ answered-grew c answers s = fold-grew (answered_one c) (one-grew c) answers s
 pub asked_grew : (c : Content) (now : ℕ) (call : Call) (s : Serving) → Grew s.sent (asked_at c now call s).sent
 unfolding asked_at
 asked_grew c now call s = answered-grew c (answers_at s.node.role now call) _
+
+-- the answers so far are the first of all, and stay so with the next one
+first-more : (all : List Answer) (xs : List Answer) (a : Answer) → take (length xs) all ≡ xs → (length xs < length all) × (a ≡ get_or all (length xs) a)
+    → take (length (xs ++ a ∷ [])) all ≡ xs ++ a ∷ []
+first-more all xs a first yielded =
+    ap (λ (n : ℕ). take n all) (length_push xs a) ∙ take_more all (length xs) a yielded.0 ∙ ap (λ (l : List Answer). l ++ get_or all (length xs) a ∷ []) first ∙ ap (λ (b : Answer). xs ++ b ∷ []) (sym yielded.1)
+
+-- after so many answers the next one was not carried out, or its packet was sent
+pub stopped_at : (c : Content) (all xs : List Answer) (a : Answer) (s t : Serving) (sent : Datagrams)
+    → take (length xs) all ≡ xs → (length xs < length all) × (a ≡ get_or all (length xs) a) → t ≡ fold (answered_one c) s xs
+    → (sent ≡ t.sent) ⊎ (sent ≡ (answered_one c t a).sent)
+    → (count : ℕ) × (sent ≡ (answered c (take count all) s).sent)
+unfolding answered
+stopped_at c all xs a s t sent first yielded done (inl is) =
+    let f : Serving → Answer → Serving = answered_one c in
+    (length xs, is ∙ ap (λ (u : Serving). u.sent) done ∙ sym (ap (λ (l : List Answer). (fold f s l).sent) first))
+stopped_at c all xs a s t sent first yielded done (inr is) =
+    let f : Serving → Answer → Serving = answered_one c in (
+      length (xs ++ a ∷ []),
+      is ∙ ap (λ (u : Serving). (f u a).sent) done ∙ sym (ap (λ (u : Serving). u.sent) (fold_push f s xs a))
+          ∙ sym (ap (λ (l : List Answer). (fold f s l).sent) (first-more all xs a first yielded)),
+    )
 
 -- so many answers of a call were carried out
 pub asked_between : (c : Content) (now : ℕ) (call : Call) (node after : Running) (first sent : Datagrams) (answers : List Answer)
@@ -149,3 +185,23 @@ paying_between c turn now node n first w sent begin is cut =
     let same : w ≡ v = is ∙ ap (λ (m : Running). worked c now (serving m first)) begin in
     let mine : Between v.sent sent (paid c turn now c.payloads v).sent = subst (λ (x : Serving). Between x.sent sent (paid c turn now c.payloads x).sent) same cut in
     record { since = grew_on first v.sent sent (worked-grew c now (serving (begun now node) first)) mine.since; until = mine.until }
+
+pub told_grew : (c : Content) (now prefix : ℕ) (s : Serving) → Grew s.sent (told_of_router c now prefix s).sent
+told_grew c now prefix s = asked_grew c now (calls.Attach prefix) _
+
+given-grew : (c : Content) (now number : ℕ) (frame : Framed) (prefix : Option ℕ) (s : Serving) → Grew s.sent (given c now number frame prefix s).sent
+given-grew c now number frame None s = asked_grew c now (calls.Take number frame.shield frame.packet) s
+given-grew c now number frame (Some prefix) s = told_grew c now prefix s
+
+pub taken_grew : (c : Content) (now number : ℕ) (frame : Framed) (s : Serving) → Grew s.sent (taken c now number frame s).sent
+unfolding taken
+taken_grew c now number frame s = given-grew c now number frame (advertised_to c frame) _
+
+handed-grew : (c : Content) (now number : ℕ) (frame : Option Framed) (s : Serving) → Grew s.sent (handed c now number frame s).sent
+handed-grew c now number None s = grew_not s.sent
+handed-grew c now number (Some frame) s = taken_grew c now number frame s
+
+pub received_grew : (c : Content) (now : ℕ) (item : Option (List ℕ)) (s : Serving) → Grew s.sent (received c now item s).sent
+unfolding received heard
+received_grew c now None s = grew_not s.sent
+received_grew c now (Some datagram) s = handed-grew c now s.node.next (framed_in (address_of c.role) datagram) (serving (counted s.node) s.sent)

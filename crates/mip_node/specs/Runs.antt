@@ -24,11 +24,21 @@ pub record Stand : Type 0 where
   pub sent : Datagrams
   pub held : Option (List ℕ)
 
+-- what is outside of a node: what is to come of its clock and its link, what the link sent, and what the sink holds
+pub record Outside : Type 0 where
+  pub ahead : Ahead
+  pub coming : Coming
+  pub sent : Datagrams
+  pub held : Option (List ℕ)
+
 abbrev pub start : Content → Ahead → Coming → Datagrams → Option (List ℕ) → Start
 start content ahead coming sent held = record { content = content; ahead = ahead; coming = coming; sent = sent; held = held }
 
 abbrev pub stand : Ahead → Coming → Running → Datagrams → Option (List ℕ) → Stand
 stand ahead coming node sent held = record { ahead = ahead; coming = coming; node = node; sent = sent; held = held }
+
+abbrev pub outside : Ahead → Coming → Datagrams → Option (List ℕ) → Outside
+outside ahead coming sent held = record { ahead = ahead; coming = coming; sent = sent; held = held }
 
 -- after so many turns it stands here
 pub record HasRun (first : Start) (turns : ℕ) (at : Stand) : Type 0 where
@@ -58,13 +68,15 @@ node_text c seen = (run c seen None).text
 unfoldable pub node_sent : Content → List Seen → Datagrams → Datagrams
 node_sent c seen sent = (run c seen sent).serving.sent
 
--- as many turns were done, and their datagrams and their text are what was sent and written
-pub record Ran (first : Start) (turns : ℕ) (sent_now : Datagrams) (held_now : Option (List ℕ)) : Type 0 where
+-- as many turns were done: the clock was read and the link was listened to once in each, and their datagrams and their text are what was sent and written
+pub record Ran (first : Start) (turns : ℕ) (last : Outside) : Type 0 where
   pub seen : List Seen
   pub sees : Sees first.ahead first.coming seen
   pub many : length seen ≡ turns
-  pub sent : sent_now ≡ node_sent first.content seen first.sent
-  pub held : held_now ≡ append_known first.held (node_text first.content seen)
+  pub ahead : last.ahead ≡ ahead_after seen first.ahead
+  pub coming : last.coming ≡ coming_after seen first.coming
+  pub sent : last.sent ≡ node_sent first.content seen first.sent
+  pub held : last.held ≡ append_known first.held (node_text first.content seen)
 
 -- a front of the text of so many turns at most was written
 pub record WroteFront (first : Start) (turns : ℕ) (held_now : Option (List ℕ)) : Type 0 where

@@ -1,6 +1,6 @@
 //! A node is asked something: it answers, and its answers are carried out.
 
-ghost use Rattle.std.specs.Prelude.{◌≡◌, ◌<◌, ◌^◌, true, OnOk, IsErrOf};
+ghost use Rattle.std.specs.Prelude.{◌≡◌, ◌<◌, ◌^◌, true, OnOk, OnErr, IsErrOf};
 ghost use Rattle.mip_nodes.specs.Calls.{asked, IsAskable};
 ghost use Rattle.mip_config.specs.Facts.{is_sendable};
 ghost use Rattle.mip_node.specs.Faults.{CountsFaults, Between};
@@ -30,8 +30,8 @@ pub fn ask<L: Link>(
     requires early { now.0 < 2 ^ 62 }
     requires askable { IsAskable call }
     ensures ok { OnOk result (serving node.new (L.sent link.new) ≡ asked_at (said setting.now) now.0 (asked call.entry) (serving node.old (L.sent link.old))) }
-    ensures cut { IsErrOf result PutFault.Failed
-        → Between (L.sent link.old) (L.sent link.new) (asked_at (said setting.now) now.0 (asked call.entry) (serving node.old (L.sent link.old))).sent }
+    ensures cut { OnErr result (Between (L.sent link.old) (L.sent link.new)
+        (asked_at (said setting.now) now.0 (asked call.entry) (serving node.old (L.sent link.old))).sent) }
     ensures timely { IsBy node.new.role now.0 }
     ensures kept { (L.coming link.new ≡ L.coming link.old) × (L.port link.new ≡ L.port link.old) }
     ensures faults { CountsFaults (IsErrOf result PutFault.Failed) (L.faults link.old) (L.faults link.new) }
@@ -51,8 +51,8 @@ fn work<L: Link>(
     requires later { IsBy node.old.role now.0 }
     requires early { now.0 < 2 ^ 62 }
     ensures ok { OnOk result (serving node.new (L.sent link.new) ≡ worked (said setting.now) now.0 (serving node.old (L.sent link.old))) }
-    ensures cut { IsErrOf result PutFault.Failed
-        → Between (L.sent link.old) (L.sent link.new) (worked (said setting.now) now.0 (serving node.old (L.sent link.old))).sent }
+    ensures cut { OnErr result (Between (L.sent link.old) (L.sent link.new)
+        (worked (said setting.now) now.0 (serving node.old (L.sent link.old))).sent) }
     ensures timely { IsBy node.new.role now.0 }
     ensures kept { (L.coming link.new ≡ L.coming link.old) × (L.port link.new ≡ L.port link.old) }
     ensures faults { CountsFaults (IsErrOf result PutFault.Failed) (L.faults link.old) (L.faults link.new) }
@@ -78,8 +78,8 @@ fn pay_one<L: Link>(
     requires early { now.0 < 2 ^ 62 }
     requires sendable { is_sendable payload.now ≡ true }
     ensures ok { OnOk result (serving node.new (L.sent link.new) ≡ paid_one (said setting.now) turn now.0 (serving node.old (L.sent link.old)) payload.now) }
-    ensures cut { IsErrOf result PutFault.Failed
-        → Between (L.sent link.old) (L.sent link.new) (paid_one (said setting.now) turn now.0 (serving node.old (L.sent link.old)) payload.now).sent }
+    ensures cut { OnErr result (Between (L.sent link.old) (L.sent link.new)
+        (paid_one (said setting.now) turn now.0 (serving node.old (L.sent link.old)) payload.now).sent) }
     ensures timely { IsBy node.new.role now.0 }
     ensures kept { (L.coming link.new ≡ L.coming link.old) × (L.port link.new ≡ L.port link.old) }
     ensures faults { CountsFaults (IsErrOf result PutFault.Failed) (L.faults link.old) (L.faults link.new) }
@@ -108,8 +108,8 @@ fn pay<L: Link>(
     requires early { now.0 < 2 ^ 62 }
     ensures ok { OnOk result (serving node.new (L.sent link.new) ≡
         paid (said setting.now) turn now.0 (said setting.now).payloads (serving node.old (L.sent link.old))) }
-    ensures cut { IsErrOf result PutFault.Failed
-        → Between (L.sent link.old) (L.sent link.new) (paid (said setting.now) turn now.0 (said setting.now).payloads (serving node.old (L.sent link.old))).sent }
+    ensures cut { OnErr result (Between (L.sent link.old) (L.sent link.new)
+        (paid (said setting.now) turn now.0 (said setting.now).payloads (serving node.old (L.sent link.old))).sent) }
     ensures timely { IsBy node.new.role now.0 }
     ensures kept { (L.coming link.new ≡ L.coming link.old) × (L.port link.new ≡ L.port link.old) }
     ensures faults { CountsFaults (IsErrOf result PutFault.Failed) (L.faults link.old) (L.faults link.new) }
@@ -132,8 +132,8 @@ pub fn act_first<L: Link>(
     requires later { IsBy node.old.role now.0 }
     requires early { now.0 < 2 ^ 62 }
     ensures ok { OnOk result (serving node.new (L.sent link.new) ≡ before (said setting.now) turn now.0 (serving node.old (L.sent link.old))) }
-    ensures cut { IsErrOf result PutFault.Failed
-        → Between (L.sent link.old) (L.sent link.new) (before (said setting.now) turn now.0 (serving node.old (L.sent link.old))).sent }
+    ensures cut { OnErr result (Between (L.sent link.old) (L.sent link.new)
+        (before (said setting.now) turn now.0 (serving node.old (L.sent link.old))).sent) }
     ensures timely { IsBy node.new.role now.0 }
     ensures kept { (L.coming link.new ≡ L.coming link.old) × (L.port link.new ≡ L.port link.old) }
     ensures faults { CountsFaults (IsErrOf result PutFault.Failed) (L.faults link.old) (L.faults link.new) }

@@ -1,6 +1,6 @@
 //! A node is handed what comes over its link.
 
-ghost use Rattle.std.specs.Prelude.{◌≡◌, ◌<◌, ◌^◌, option_map, OnOk, IsErrOf};
+ghost use Rattle.std.specs.Prelude.{◌≡◌, ◌<◌, ◌^◌, option_map, OnOk, OnErr, IsErrOf};
 ghost use Rattle.mip_frames.specs.Framing.{framed};
 ghost use Rattle.mip_node.specs.Faults.{CountsFaults, Between};
 ghost use Rattle.mip_node.specs.Roles.{IsBy};
@@ -31,8 +31,8 @@ fn attach<L: Link>(
     requires later { IsBy node.old.role now.0 }
     requires early { now.0 < 2 ^ 62 }
     ensures ok { OnOk result (serving node.new (L.sent link.new) ≡ told_of_router (said setting.now) now.0 prefix.0 (serving node.old (L.sent link.old))) }
-    ensures cut { IsErrOf result PutFault.Failed
-        → Between (L.sent link.old) (L.sent link.new) (told_of_router (said setting.now) now.0 prefix.0 (serving node.old (L.sent link.old))).sent }
+    ensures cut { OnErr result (Between (L.sent link.old) (L.sent link.new)
+        (told_of_router (said setting.now) now.0 prefix.0 (serving node.old (L.sent link.old))).sent) }
     ensures timely { IsBy node.new.role now.0 }
     ensures kept { (L.coming link.new ≡ L.coming link.old) × (L.port link.new ≡ L.port link.old) }
     ensures faults { CountsFaults (IsErrOf result PutFault.Failed) (L.faults link.old) (L.faults link.new) }
@@ -70,9 +70,8 @@ fn give<L: Link>(
     requires early { now.0 < 2 ^ 62 }
     ensures ok { OnOk result (serving node.new (L.sent link.new) ≡
         given (said setting.now) now.0 number (framed frame.entry) (option_map (λ p. p.0) prefix) (serving node.old (L.sent link.old))) }
-    ensures cut { IsErrOf result PutFault.Failed
-        → Between (L.sent link.old) (L.sent link.new)
-        (given (said setting.now) now.0 number (framed frame.entry) (option_map (λ p. p.0) prefix) (serving node.old (L.sent link.old))).sent }
+    ensures cut { OnErr result (Between (L.sent link.old) (L.sent link.new)
+        (given (said setting.now) now.0 number (framed frame.entry) (option_map (λ p. p.0) prefix) (serving node.old (L.sent link.old))).sent) }
     ensures timely { IsBy node.new.role now.0 }
     ensures kept { (L.coming link.new ≡ L.coming link.old) × (L.port link.new ≡ L.port link.old) }
     ensures faults { CountsFaults (IsErrOf result PutFault.Failed) (L.faults link.old) (L.faults link.new) }
@@ -104,8 +103,8 @@ fn take<L: Link>(
     requires early { now.0 < 2 ^ 62 }
     ensures ok { OnOk result (serving node.new (L.sent link.new) ≡
         taken (said setting.now) now.0 number (framed frame.entry) (serving node.old (L.sent link.old))) }
-    ensures cut { IsErrOf result PutFault.Failed
-        → Between (L.sent link.old) (L.sent link.new) (taken (said setting.now) now.0 number (framed frame.entry) (serving node.old (L.sent link.old))).sent }
+    ensures cut { OnErr result (Between (L.sent link.old) (L.sent link.new)
+        (taken (said setting.now) now.0 number (framed frame.entry) (serving node.old (L.sent link.old))).sent) }
     ensures timely { IsBy node.new.role now.0 }
     ensures kept { (L.coming link.new ≡ L.coming link.old) × (L.port link.new ≡ L.port link.old) }
     ensures faults { CountsFaults (IsErrOf result PutFault.Failed) (L.faults link.old) (L.faults link.new) }
@@ -130,8 +129,8 @@ pub fn hear<L: Link>(
     requires later { IsBy node.old.role now.0 }
     requires early { now.0 < 2 ^ 62 }
     ensures ok { OnOk result (serving node.new (L.sent link.new) ≡ heard (said setting.now) now.0 datagram.now (serving node.old (L.sent link.old))) }
-    ensures cut { IsErrOf result PutFault.Failed
-        → Between (L.sent link.old) (L.sent link.new) (heard (said setting.now) now.0 datagram.now (serving node.old (L.sent link.old))).sent }
+    ensures cut { OnErr result (Between (L.sent link.old) (L.sent link.new)
+        (heard (said setting.now) now.0 datagram.now (serving node.old (L.sent link.old))).sent) }
     ensures timely { IsBy node.new.role now.0 }
     ensures kept { (L.coming link.new ≡ L.coming link.old) × (L.port link.new ≡ L.port link.old) }
     ensures faults { CountsFaults (IsErrOf result PutFault.Failed) (L.faults link.old) (L.faults link.new) }

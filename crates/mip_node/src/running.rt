@@ -1,10 +1,8 @@
-ghost use Rattle.std.specs.Prelude.{◌≡◌, ◌≤◌, ◌⊎◌, Some, OnOk, OnErr, IsErrOf, option_map};
-ghost use Rattle.mip_outside.specs.Cause.{Rose};
+ghost use Rattle.std.specs.Prelude.{◌≡◌, Some, OnOk, OnErr, IsErrOf, option_map};
 ghost use Rattle.mip_config.specs.Configs.{content};
-ghost use Rattle.mip_node.specs.Faults.{CountsFaults, CountsBoth, Broke, WrotePart, DidNothing, BrokeAfter, WroteAfter, StoppedAfter};
-ghost use Rattle.mip_node.specs.Nodes.{serving};
+ghost use Rattle.mip_node.specs.Faults.{CountsFaults, CountsBoth, BrokePart, WrotePart, CutPart, BrokeAfter, WroteAfter, CutAfter, LinkFailed, StoppedAfter};
 ghost use Rattle.mip_node.specs.Roles.{IsBy};
-ghost use Rattle.mip_node.specs.Runs.{HasRun, TurnDone, Ran, WroteFront, start, stand};
+ghost use Rattle.mip_node.specs.Runs.{HasRun, TurnDone, Ran, WroteFront, start, stand, outside};
 ghost use Rattle.mip_node.specs.Settings.{said};
 ghost use Rattle.mip_node.specs.Turns.{first_node};
 
@@ -44,12 +42,15 @@ fn turn_told<C: Clock, L: Link, K: Sink>(
     ensures ok { OnOk result (TurnDone (said setting.now) number
         (stand (C.ahead clock.old) (L.coming link.old) node.old (L.sent link.old) (K.held sink.old))
         (stand (C.ahead clock.new) (L.coming link.new) node.new (L.sent link.new) (K.held sink.new))) }
-    ensures link_fault { IsErrOf result Ended.Link → (K.held sink.new ≡ K.held sink.old)
-        × Broke (said setting.now) number (C.ahead clock.old) (L.coming link.old) (serving node.old (L.sent link.old)) (L.coming link.new) (L.sent link.new) }
-    ensures write_fault { IsErrOf result Ended.Sink
-        → WrotePart (said setting.now) number (stand (C.ahead clock.old) (L.coming link.old) node.old (L.sent link.old) (K.held sink.old)) (L.sent link.new) (K.held sink.new) }
-    ensures memory { IsErrOf result Ended.Memory → (K.held sink.new ≡ K.held sink.old)
-        ⊎ WrotePart (said setting.now) number (stand (C.ahead clock.old) (L.coming link.old) node.old (L.sent link.old) (K.held sink.old)) (L.sent link.new) (K.held sink.new) }
+    ensures link_fault { IsErrOf result Ended.Link → BrokePart (said setting.now) number
+        (stand (C.ahead clock.old) (L.coming link.old) node.old (L.sent link.old) (K.held sink.old))
+        (outside (C.ahead clock.new) (L.coming link.new) (L.sent link.new) (K.held sink.new)) }
+    ensures write_fault { IsErrOf result Ended.Sink → WrotePart (said setting.now) number
+        (stand (C.ahead clock.old) (L.coming link.old) node.old (L.sent link.old) (K.held sink.old))
+        (outside (C.ahead clock.new) (L.coming link.new) (L.sent link.new) (K.held sink.new)) }
+    ensures memory { IsErrOf result Ended.Memory → CutPart (said setting.now) number
+        (stand (C.ahead clock.old) (L.coming link.old) node.old (L.sent link.old) (K.held sink.old))
+        (outside (C.ahead clock.new) (L.coming link.new) (L.sent link.new) (K.held sink.new)) }
     ensures kept { IsBy node.new.role (C.last clock.new) × (L.port link.new ≡ L.port link.old) }
     ensures faults { CountsBoth (IsErrOf result Ended.Link) (IsErrOf result Ended.Sink)
         (L.faults link.old) (L.faults link.new) (K.faults sink.old) (K.faults sink.new) }
@@ -78,13 +79,13 @@ fn run_turns<C: Clock, L: Link, K: Sink>(
         (stand (C.ahead clock.new) (L.coming link.new) node.new (L.sent link.new) (K.held sink.new))) }
     ensures link_fault { IsErrOf result Ended.Link → BrokeAfter
         (start (said setting.now) (C.ahead clock.old) (L.coming link.old) (L.sent link.old) (K.held sink.old)) turns
-        (L.coming link.new) (L.sent link.new) (K.held sink.new) }
+        (outside (C.ahead clock.new) (L.coming link.new) (L.sent link.new) (K.held sink.new)) }
     ensures write_fault { IsErrOf result Ended.Sink → WroteAfter
         (start (said setting.now) (C.ahead clock.old) (L.coming link.old) (L.sent link.old) (K.held sink.old)) turns
-        (L.sent link.new) (K.held sink.new) }
-    ensures memory { IsErrOf result Ended.Memory → StoppedAfter
+        (outside (C.ahead clock.new) (L.coming link.new) (L.sent link.new) (K.held sink.new)) }
+    ensures memory { IsErrOf result Ended.Memory → CutAfter
         (start (said setting.now) (C.ahead clock.old) (L.coming link.old) (L.sent link.old) (K.held sink.old)) turns
-        (K.held sink.new) }
+        (outside (C.ahead clock.new) (L.coming link.new) (L.sent link.new) (K.held sink.new)) }
     ensures port { L.port link.new ≡ L.port link.old }
     ensures faults { CountsBoth (IsErrOf result Ended.Link) (IsErrOf result Ended.Sink)
         (L.faults link.old) (L.faults link.new) (K.faults sink.old) (K.faults sink.new) }
@@ -105,17 +106,19 @@ fn run<C: Clock, L: Link, K: Sink>(
     sink: &mut K,
     turns: u32,
 ) -> Result<(), Ended>
-    ensures ok { OnOk result (Ran (start (content config.now) (C.ahead clock.old) (L.coming link.old) (L.sent link.old) (K.held sink.old)) turns
-        (L.sent link.new) (K.held sink.new)) }
+    ensures ok { OnOk result (Ran
+        (start (content config.now) (C.ahead clock.old) (L.coming link.old) (L.sent link.old) (K.held sink.old)) turns
+        (outside (C.ahead clock.new) (L.coming link.new) (L.sent link.new) (K.held sink.new))) }
     ensures port { OnOk result (L.port link.new ≡ option_map (λ _. Some config.now.port) (L.port link.old)) }
-    ensures link_fault { IsErrOf result Ended.Link → DidNothing (L.sent link.old) (K.held sink.old) (L.sent link.new) (K.held sink.new)
-        ⊎ BrokeAfter (start (content config.now) (C.ahead clock.old) (L.coming link.old) (L.sent link.old) (K.held sink.old)) turns
-        (L.coming link.new) (L.sent link.new) (K.held sink.new) }
-    ensures write_fault { IsErrOf result Ended.Sink
-        → WroteAfter (start (content config.now) (C.ahead clock.old) (L.coming link.old) (L.sent link.old) (K.held sink.old)) turns
-        (L.sent link.new) (K.held sink.new) }
-    ensures memory { IsErrOf result Ended.Memory
-        → StoppedAfter (start (content config.now) (C.ahead clock.old) (L.coming link.old) (L.sent link.old) (K.held sink.old)) turns (K.held sink.new) }
+    ensures link_fault { IsErrOf result Ended.Link → LinkFailed
+        (start (content config.now) (C.ahead clock.old) (L.coming link.old) (L.sent link.old) (K.held sink.old)) turns
+        (outside (C.ahead clock.new) (L.coming link.new) (L.sent link.new) (K.held sink.new)) }
+    ensures write_fault { IsErrOf result Ended.Sink → WroteAfter
+        (start (content config.now) (C.ahead clock.old) (L.coming link.old) (L.sent link.old) (K.held sink.old)) turns
+        (outside (C.ahead clock.new) (L.coming link.new) (L.sent link.new) (K.held sink.new)) }
+    ensures memory { IsErrOf result Ended.Memory → StoppedAfter
+        (start (content config.now) (C.ahead clock.old) (L.coming link.old) (L.sent link.old) (K.held sink.old)) turns
+        (outside (C.ahead clock.new) (L.coming link.new) (L.sent link.new) (K.held sink.new)) }
     ensures faults { CountsBoth (IsErrOf result Ended.Link) (IsErrOf result Ended.Sink)
         (L.faults link.old) (L.faults link.new) (K.faults sink.old) (K.faults sink.new) }
 {
@@ -137,19 +140,22 @@ pub fn serve<C: Clock, L: Link, K: Sink>(
     sink: &mut K,
     turns: u32,
 ) -> Served
-    ensures done { result ≡ Served.Done → Ran (start (content config.now) (C.ahead clock.old) (L.coming link.old) (L.sent link.old) (K.held sink.old)) turns
-        (L.sent link.new) (K.held sink.new) }
+    ensures done { result ≡ Served.Done → Ran
+        (start (content config.now) (C.ahead clock.old) (L.coming link.old) (L.sent link.old) (K.held sink.old)) turns
+        (outside (C.ahead clock.new) (L.coming link.new) (L.sent link.new) (K.held sink.new)) }
     ensures port { result ≡ Served.Done → L.port link.new ≡ option_map (λ _. Some config.now.port) (L.port link.old) }
-    ensures link_fault { result ≡ Served.LinkFault → DidNothing (L.sent link.old) (K.held sink.old) (L.sent link.new) (K.held sink.new)
-        ⊎ BrokeAfter (start (content config.now) (C.ahead clock.old) (L.coming link.old) (L.sent link.old) (K.held sink.old)) turns
-        (L.coming link.new) (L.sent link.new) (K.held sink.new) }
-    ensures write_fault { result ≡ Served.WriteFault
-        → WroteAfter (start (content config.now) (C.ahead clock.old) (L.coming link.old) (L.sent link.old) (K.held sink.old)) turns
-        (L.sent link.new) (K.held sink.new) }
+    ensures link_fault { result ≡ Served.LinkFault → LinkFailed
+        (start (content config.now) (C.ahead clock.old) (L.coming link.old) (L.sent link.old) (K.held sink.old)) turns
+        (outside (C.ahead clock.new) (L.coming link.new) (L.sent link.new) (K.held sink.new)) }
+    ensures write_fault { result ≡ Served.WriteFault → WroteAfter
+        (start (content config.now) (C.ahead clock.old) (L.coming link.old) (L.sent link.old) (K.held sink.old)) turns
+        (outside (C.ahead clock.new) (L.coming link.new) (L.sent link.new) (K.held sink.new)) }
+    ensures memory { result ≡ Served.Memory → StoppedAfter
+        (start (content config.now) (C.ahead clock.old) (L.coming link.old) (L.sent link.old) (K.held sink.old)) turns
+        (outside (C.ahead clock.new) (L.coming link.new) (L.sent link.new) (K.held sink.new)) }
     ensures front { WroteFront (start (content config.now) (C.ahead clock.old) (L.coming link.old) (L.sent link.old) (K.held sink.old)) turns (K.held sink.new) }
-    ensures no_fewer { (L.faults link.old ≤ L.faults link.new) × (K.faults sink.old ≤ K.faults sink.new) }
-    ensures link_cause { result ≡ Served.LinkFault → Rose (L.faults link.old) (L.faults link.new) }
-    ensures write_cause { result ≡ Served.WriteFault → Rose (K.faults sink.old) (K.faults sink.new) }
+    ensures faults { CountsBoth (result ≡ Served.LinkFault) (result ≡ Served.WriteFault)
+        (L.faults link.old) (L.faults link.new) (K.faults sink.old) (K.faults sink.new) }
 {
     match run(alloc, config, clock, link, sink, turns) {
         Ok(()) => Served::Done,

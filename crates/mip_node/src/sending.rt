@@ -1,6 +1,6 @@
 //! A node carries out what its role answers.
 
-ghost use Rattle.std.specs.Prelude.{◌≡◌, ℕ, take, OnOk, IsErrOf};
+ghost use Rattle.std.specs.Prelude.{◌≡◌, ◌⊎◌, ℕ, take, OnOk, OnErr, IsErrOf};
 ghost use Rattle.mip_node.specs.Nodes.{serving, put_on, answered_one, answered};
 ghost use Rattle.mip_node.specs.Settings.{said};
 ghost use Rattle.mip_node.specs.Faults.{CountsFaults};
@@ -25,7 +25,8 @@ fn put<L: Link>(
     packet: Bytes,
 ) -> Result<(), PutFault>
     ensures ok { OnOk result (serving node.new (L.sent link.new) ≡ put_on (said setting.now) shield packet (serving node.old (L.sent link.old))) }
-    ensures cut { IsErrOf result PutFault.Failed → L.sent link.new ≡ L.sent link.old }
+    ensures cut { OnErr result ((L.sent link.new ≡ L.sent link.old)
+        ⊎ (L.sent link.new ≡ (put_on (said setting.now) shield packet (serving node.old (L.sent link.old))).sent)) }
     ensures role { node.new.role ≡ node.old.role }
     ensures kept { (L.coming link.new ≡ L.coming link.old) × (L.port link.new ≡ L.port link.old) }
     ensures faults { CountsFaults (IsErrOf result PutFault.Failed) (L.faults link.old) (L.faults link.new) }
@@ -53,7 +54,8 @@ fn answer_one<L: Link>(
     answer: Answer,
 ) -> Result<(), PutFault>
     ensures ok { OnOk result (serving node.new (L.sent link.new) ≡ answered_one (said setting.now) (serving node.old (L.sent link.old)) answer) }
-    ensures cut { IsErrOf result PutFault.Failed → L.sent link.new ≡ L.sent link.old }
+    ensures cut { OnErr result ((L.sent link.new ≡ L.sent link.old)
+        ⊎ (L.sent link.new ≡ (answered_one (said setting.now) (serving node.old (L.sent link.old)) answer).sent)) }
     ensures role { node.new.role ≡ node.old.role }
     ensures kept { (L.coming link.new ≡ L.coming link.old) × (L.port link.new ≡ L.port link.old) }
     ensures faults { CountsFaults (IsErrOf result PutFault.Failed) (L.faults link.old) (L.faults link.new) }
@@ -77,8 +79,8 @@ pub fn answer_all<L: Link>(
     answers: Answers,
 ) -> Result<(), PutFault>
     ensures ok { OnOk result (serving node.new (L.sent link.new) ≡ answered (said setting.now) answers (serving node.old (L.sent link.old))) }
-    ensures cut { IsErrOf result PutFault.Failed
-        → ((count : ℕ) × (L.sent link.new ≡ (answered (said setting.now) (take count answers) (serving node.old (L.sent link.old))).sent)) }
+    ensures cut { OnErr result ((count : ℕ)
+        × (L.sent link.new ≡ (answered (said setting.now) (take count answers) (serving node.old (L.sent link.old))).sent)) }
     ensures role { node.new.role ≡ node.old.role }
     ensures kept { (L.coming link.new ≡ L.coming link.old) × (L.port link.new ≡ L.port link.old) }
     ensures faults { CountsFaults (IsErrOf result PutFault.Failed) (L.faults link.old) (L.faults link.new) }

@@ -1,6 +1,6 @@
 //! A turn of a node: the moment, due work, payloads, and what comes over the link.
 
-ghost use Rattle.std.specs.Prelude.{◌≡◌, ◌<◌, ◌^◌, IfOk, IfSome, OnOk, IsErrOf, drop, option_map};
+ghost use Rattle.std.specs.Prelude.{◌≡◌, ◌<◌, ◌^◌, ◌⊎◌, IfOk, IfSome, OnOk, OnErr, IsErrOf, drop, option_map};
 ghost use Rattle.mip_outside.specs.Moments.{moments_after};
 ghost use Rattle.mip_node.specs.Faults.{CountsFaults, Between, Broke};
 ghost use Rattle.mip_node.specs.Roles.{IsBy};
@@ -28,6 +28,7 @@ fn next_datagram<L: Link>(alloc: Global, link: &mut L) -> Result<Option<Bytes>, 
     ensures came { IfOk result (λ item. IfSome (L.coming link.old) (λ items. IsNext items item)) }
     ensures ok { OnOk result (L.coming link.new ≡ option_map (drop 1) (L.coming link.old)) }
     ensures failed { IsErrOf result PutFault.Failed → L.coming link.new ≡ L.coming link.old }
+    ensures left { OnErr result ((L.coming link.new ≡ L.coming link.old) ⊎ (L.coming link.new ≡ option_map (drop 1) (L.coming link.old))) }
     ensures kept { (L.sent link.new ≡ L.sent link.old) × (L.port link.new ≡ L.port link.old) }
     ensures faults { CountsFaults (IsErrOf result PutFault.Failed) (L.faults link.old) (L.faults link.new) }
 {
@@ -54,8 +55,8 @@ fn receive<L: Link>(
     requires later { IsBy node.old.role now.0 }
     requires early { now.0 < 2 ^ 62 }
     ensures ok { OnOk result (serving node.new (L.sent link.new) ≡ received (said setting.now) now.0 datagram (serving node.old (L.sent link.old))) }
-    ensures cut { IsErrOf result PutFault.Failed
-        → Between (L.sent link.old) (L.sent link.new) (received (said setting.now) now.0 datagram (serving node.old (L.sent link.old))).sent }
+    ensures cut { OnErr result (Between (L.sent link.old) (L.sent link.new)
+        (received (said setting.now) now.0 datagram (serving node.old (L.sent link.old))).sent) }
     ensures timely { IsBy node.new.role now.0 }
     ensures kept { (L.coming link.new ≡ L.coming link.old) × (L.port link.new ≡ L.port link.old) }
     ensures faults { CountsFaults (IsErrOf result PutFault.Failed) (L.faults link.old) (L.faults link.new) }
@@ -78,8 +79,8 @@ pub fn turn<C: Clock, L: Link>(
     requires later { IsBy node.old.role (C.last clock.old) }
     ensures ok { OnOk result ((seen : Seen) × IsSeen (C.ahead clock.old) (L.coming link.old) seen
         × (serving node.new (L.sent link.new) ≡ turned (said setting.now) turn seen (serving node.old (L.sent link.old)))) }
-    ensures broke { IsErrOf result PutFault.Failed
-        → Broke (said setting.now) turn (C.ahead clock.old) (L.coming link.old) (serving node.old (L.sent link.old)) (L.coming link.new) (L.sent link.new) }
+    ensures broke { OnErr result (Broke (said setting.now) turn (C.ahead clock.old) (L.coming link.old) (serving node.old (L.sent link.old))
+        (L.coming link.new) (L.sent link.new)) }
     ensures timely { IsBy node.new.role (C.last clock.new) }
     ensures ahead { C.ahead clock.new ≡ option_map moments_after (C.ahead clock.old) }
     ensures coming { OnOk result (L.coming link.new ≡ option_map (drop 1) (L.coming link.old)) }

@@ -10,13 +10,20 @@ use Rattle.mip_commands.specs.declared.command.Command.{Command}
 use Rattle.mip_replies.specs.Answers.{Answer}
 use Rattle.mip_replies.specs.Told.{Told, IsConclusive, Says, HasWrittenFront}
 use Rattle.mip_top.specs.Answers.{answer_to}
-use Rattle.mip_top.specs.Obeyed.{Obeys}
-use Rattle.mip_top.specs.Serving.{Outside}
+use Rattle.mip_node.specs.Nodes.{Datagrams}
+use Rattle.mip_node.specs.Seen.{Ahead, Coming}
+use Rattle.mip_top.specs.Obeyed.{Obeys, IsFlushed, ObeysFlushed}
+use Rattle.mip_top.specs.Serving.{Outside, outside}
 
 -- what holds of bytes that are told follows for them
 pub if_left : (P Q : List ℕ → Type 0) (left : Option (List ℕ)) → ((bytes : List ℕ) → P bytes → Q bytes) → IfSome left P → IfSome left Q
 if_left P Q None step is = tt
 if_left P Q (Some bytes) step is = step bytes is
+
+-- what holds of all bytes holds of those that are told
+pub any_left : (P : List ℕ → Type 0) (left : Option (List ℕ)) → ((bytes : List ℕ) → P bytes) → IfSome left P
+any_left P None all = tt
+any_left P (Some bytes) all = all bytes
 
 -- what holds of each answer holds of one that is there
 pub if_any : (P : Answer → Type 0) (o : Option Answer) → ((answer : Answer) → P answer) → IfSome o P
@@ -58,7 +65,33 @@ pub front : (command : Option Command) (bytes : List ℕ) (given result : ℕ) (
 front command bytes given result first mid last old new held_old held_new empty end obeys =
     front_on (answer_to command bytes) given result first mid last empty end (rw (sym held_old, sym held_new) obeys.told)
 
+-- what was obeyed was obeyed when what waited was put on, which keeps what is held
+pub obeyed_flushed : (command : Option Command) (bytes : List ℕ) (given result : ℕ) (old : Outside) (held last : Option (List ℕ)) (ahead : Ahead) (coming : Coming) (sent : Datagrams)
+    (port : Option (Option ℕ)) → last ≡ held → IsFlushed given result → Obeys command bytes given old (outside held ahead coming sent port)
+    → ObeysFlushed command bytes result old (outside last ahead coming sent port)
+obeyed_flushed command bytes given result old held last ahead coming sent port kept is obeys = record {
+  given = given;
+  flushed = is;
+  obeys = subst (λ (h : Option (List ℕ)). Obeys command bytes given old (outside h ahead coming sent port)) (sym kept) obeys;
+}
+
 -- ---- how a process ends
+
+-- what holds after an error, and what follows
+pub err_on : {A E P Q : Type 0} (o : Result A E) → (P → Q) → OnErr o P → OnErr o Q
+err_on (Ok x) step is = tt
+err_on (Err e) step is = step is
+
+-- what is said of four objects is said still where each is as it was
+pub four_same : {A B C D E : Type 0} (a a_now : A) (b b_now : B) (c c_now : C) (d d_now : D) (f : A → B → C → D → E)
+    → (a_now ≡ a) × (b_now ≡ b) × (c_now ≡ c) × (d_now ≡ d) → f a_now b_now c_now d_now ≡ f a b c d
+four_same {A = A} {B = B} {C = C} {D = D} a a_now b b_now c c_now d d_now f same =
+    ap (λ (x : A). f x b_now c_now d_now) same.0 ∙ ap (λ (x : B). f a x c_now d_now) same.1 ∙ ap (λ (x : C). f a b x d_now) same.2 ∙ ap (λ (x : D). f a b c x) same.3
+
+-- what holds of the status of a run, and of 5 where it was not begun, holds of that of the process
+pub process_on : (Q : ℕ → Type 0) (o : Result Status Memory) (s : Status) → IfOk o (λ x. s ≡ x) → OnErr o (s.0 ≡ 5) → IfOk o (λ x. Q x.0) → OnErr o (Q 5) → Q s.0
+process_on Q (Ok x) s same five ran early = subst (λ (y : Status). Q y.0) (sym same) ran
+process_on Q (Err e) s same five ran early = subst Q (sym five) early
 
 -- what holds of a conclusive status of a run holds of that of the process
 pub sure_on : (Q : ℕ → Type 0) (o : Result Status Memory) (s : Status) → IfOk o (λ x. s ≡ x) → OnErr o (s.0 ≡ 5) → IfOk o (λ x. IsConclusive x.0 → Q x.0) → IsConclusive s.0 → Q s.0

@@ -14,8 +14,8 @@ use Rattle.mip_hub.specs.Reading as hubs
 use Rattle.mip_replies.specs.Answers.{Answer, long_answer, bad_answer}
 use Rattle.mip_replies.specs.Told.{Told, IsAnswered}
 use Rattle.mip_top.specs.Answers.{answer_to, configured, refusal, takes_nothing}
-use Rattle.mip_top.specs.Serving.{Outside, NodeServed, HubServed, IsStopped}
-use Rattle.mip_top.specs.Obeyed.{IsServed, Obeys, IsObeyed}
+use Rattle.mip_top.specs.Serving.{Outside, outside, NodeServed, HubServed, IsIdle, IsStopped}
+use Rattle.mip_top.specs.Obeyed.{IsRunBy, IsServed, Obeys, ObeysFlushed, IsObeyed}
 
 -- ---- where reading stopped, or memory ran out, nothing of any answer was told, and no node or hub was run
 
@@ -42,8 +42,8 @@ stopped_answer : (o : Option Answer) (given : ℕ) (old new : Outside) → IsSto
 stopped_answer None given old new is = tt
 stopped_answer (Some answer) given old new is = stopped_told answer given old new is
 
-stopped_run : {X : Type 0} (P : X → Type 0) (o : Option X) (given : ℕ) (old new : Outside) → IsStopped given old new → IfSome o (λ c. P c ⊎ IsStopped given old new)
-stopped_run P None given old new is = tt
+stopped_run : {X : Type 0} (P : X → Type 0) (o : Option X) (given : ℕ) (old new : Outside) → IsStopped given old new → IsRunBy o P given old new
+stopped_run P None given old new is = is.idle
 stopped_run P (Some c) given old new is = inr is
 
 stopped_served : (command : Option Command) (bytes : List ℕ) (given : ℕ) (old new : Outside) → IsStopped given old new → IsServed command bytes given old new
@@ -62,6 +62,22 @@ stopped command bytes given old new is = record {
   told = stopped_answer (answer_to command bytes) given old new is;
   served = stopped_served command bytes given old new is;
 }
+
+-- clock and link were left alone, whatever was written
+pub idle : (o : Outside) (held : Option (List ℕ)) → IsIdle o (outside held o.ahead o.coming o.sent o.port)
+idle o held = record { unread = refl; untaken = refl; unsent = refl; unmoved = refl }
+
+-- nothing outside was touched
+pub untouched : (given : ℕ) (old new : Outside) → (given ≡ 3) ⊎ (given ≡ 5) → new ≡ old → IsStopped given old new
+untouched given old new fault same = record {
+  fault = fault;
+  unwritten = ap (λ (o : Outside). o.held) same;
+  idle = subst (λ (o : Outside). IsIdle old o) (sym same) (idle old old.held);
+}
+
+-- and nothing waited in the sink
+pub stopped_flushed : (command : Option Command) (bytes : List ℕ) (given : ℕ) (old new : Outside) → IsStopped given old new → ObeysFlushed command bytes given old new
+stopped_flushed command bytes given old new is = record { given = given; flushed = inl refl; obeys = stopped command bytes given old new is }
 
 pub always : (command : Option Command) (given : ℕ) (left : Option (List ℕ)) (old new : Outside) → IsStopped given old new
     → IfSome left (λ bytes. Obeys command bytes given old new)
@@ -100,22 +116,33 @@ long (Hub turns) bytes takes many = rw (is_many bytes many) refl
 long (Make draft) bytes takes many = absurd (true≢false takes)
 long (Sum draft) bytes takes many = absurd (true≢false takes)
 
-unserved : (command : Command) (bytes : List ℕ) (given : ℕ) (old new : Outside) → Many bytes → IsServed (Some command) bytes given old new
-unserved Replay bytes given old new many = tt
-unserved Decode bytes given old new many = tt
-unserved (Claims ask) bytes given old new many = tt
-unserved Audit bytes given old new many = tt
-unserved (Make draft) bytes given old new many = tt
-unserved (Sum draft) bytes given old new many = tt
-unserved (Node turns) bytes given old new many = rw (is_many bytes many) tt
-unserved (Hub turns) bytes given old new many = rw (is_many bytes many) tt
+unserved : (command : Command) (bytes : List ℕ) (given : ℕ) (old new : Outside) → Many bytes → IsIdle old new → IsServed (Some command) bytes given old new
+unserved Replay bytes given old new many is = tt
+unserved Decode bytes given old new many is = tt
+unserved (Claims ask) bytes given old new many is = tt
+unserved Audit bytes given old new many is = tt
+unserved (Make draft) bytes given old new many is = tt
+unserved (Sum draft) bytes given old new many is = tt
+unserved (Node turns) bytes given old new many is = rw (is_many bytes many) is
+unserved (Hub turns) bytes given old new many is = rw (is_many bytes many) is
+
+unserved_alike : (command : Command) (bytes all : List ℕ) (given : ℕ) (old new : Outside) → Many bytes → Many all → IsServed (Some command) bytes given old new
+    → IsServed (Some command) all given old new
+unserved_alike Replay bytes all given old new many more is = tt
+unserved_alike Decode bytes all given old new many more is = tt
+unserved_alike (Claims ask) bytes all given old new many more is = tt
+unserved_alike Audit bytes all given old new many more is = tt
+unserved_alike (Make draft) bytes all given old new many more is = tt
+unserved_alike (Sum draft) bytes all given old new many more is = tt
+unserved_alike (Node turns) bytes all given old new many more is = rw (is_many all more) (rw (is_many bytes many) at is)
+unserved_alike (Hub turns) bytes all given old new many more is = rw (is_many all more) (rw (is_many bytes many) at is)
 
 many_alike : (command : Option Command) (bytes all : List ℕ) (given : ℕ) (old new : Outside) → takes_nothing command ≡ false → Many bytes → Many all
     → Obeys command bytes given old new → Obeys command all given old new
 many_alike None bytes all given old new takes many more is = absurd (true≢false takes)
 many_alike (Some command) bytes all given old new takes many more is = record {
   told = subst (λ (o : Option Answer). IfSome o (λ answer. Told answer given old.held new.held)) (long command bytes takes many ∙ sym (long command all takes more)) is.told;
-  served = unserved command all given old new more;
+  served = unserved_alike command bytes all given old new many more is.served;
 }
 
 -- ---- what was obeyed of the bytes that were taken was obeyed of all that there were
@@ -194,25 +221,25 @@ untaken command given left_old left_new old new none kept is = (
   },
 )
 
-stops : (given : ℕ) (old new : Outside) → new.sent ≡ old.sent → (P : Type 0) → P ⊎ (((given ≡ 3) ⊎ (given ≡ 5)) × (new.held ≡ old.held)) → P ⊎ IsStopped given old new
-stops given old new unsent P (inl end) = inl end
-stops given old new unsent P (inr stop) = inr (record { fault = stop.0; unwritten = stop.1; unsent = unsent })
+stops : (given : ℕ) (old new : Outside) → IsIdle old new → (P : Type 0) → P ⊎ (((given ≡ 3) ⊎ (given ≡ 5)) × (new.held ≡ old.held)) → P ⊎ IsStopped given old new
+stops given old new idle P (inl end) = inl end
+stops given old new idle P (inr stop) = inr (record { fault = stop.0; unwritten = stop.1; idle = idle })
 
 -- the input is answered by a text
 pub answered : (command : Option Command) (answer : List ℕ → Answer) (given : ℕ) (left_old left_new : Option (List ℕ)) (old new : Outside)
-    → ((bytes : List ℕ) → answer_to command bytes ≡ Some (answer bytes)) → ((bytes : List ℕ) → IsServed command bytes given old new) → new.sent ≡ old.sent
+    → ((bytes : List ℕ) → answer_to command bytes ≡ Some (answer bytes)) → ((bytes : List ℕ) → IsServed command bytes given old new) → IsIdle old new
     → ((bytes : List ℕ) × IsAnswered answer bytes given left_old left_new old.held new.held)
     → (bytes : List ℕ) × IsObeyed command bytes given left_old left_new old new
-answered command answer given left_old left_new old new by_text idle unsent a = (
+answered command answer given left_old left_new old new by_text unserved idle a = (
   a.0,
   record {
     most = a.1.most;
     taken = a.1.taken;
     obeys = record {
       told = subst (λ (o : Option Answer). IfSome o (λ answer. Told answer given old.held new.held)) (sym (by_text a.0)) a.1.told;
-      served = idle a.0;
+      served = unserved a.0;
     };
-    read = inr (stops given old new unsent _ a.1.read);
+    read = inr (stops given old new idle _ a.1.read);
   },
 )
 
@@ -232,15 +259,15 @@ unread command given left_old left_new old new stop some = (
 -- ---- a configuration, and its run
 
 long_obeyed_by : (command : Command) (bytes : List ℕ) (given : ℕ) (old new : Outside) → takes_nothing (Some command) ≡ false → Many bytes
-    → Told long_answer given old.held new.held → Obeys (Some command) bytes given old new
-long_obeyed_by command bytes given old new takes many told = record {
+    → IsIdle old new → Told long_answer given old.held new.held → Obeys (Some command) bytes given old new
+long_obeyed_by command bytes given old new takes many idle told = record {
   told = subst (λ (o : Option Answer). IfSome o (λ answer. Told answer given old.held new.held)) (sym (long command bytes takes many)) told;
-  served = unserved command bytes given old new many;
+  served = unserved command bytes given old new many idle;
 }
 
 pub long_obeyed : (command : Command) (bytes : List ℕ) (given : ℕ) (old new : Outside) → takes_nothing (Some command) ≡ false → 16777216 < length bytes
-    → Told long_answer given old.held new.held → Obeys (Some command) bytes given old new
-long_obeyed command bytes given old new takes many told = long_obeyed_by command bytes given old new takes many told
+    → IsIdle old new → Told long_answer given old.held new.held → Obeys (Some command) bytes given old new
+long_obeyed command bytes given old new takes many idle told = long_obeyed_by command bytes given old new takes many idle told
 
 module _ {X : Type 0} (reading : List ℕ → Result X Wrong) (bytes : List ℕ) (few : length bytes ≤ 16777216) where
   is_few : nat_lt 16777216 (length bytes) ≡ false
@@ -265,43 +292,43 @@ module _ {X : Type 0} (reading : List ℕ → Result X Wrong) (bytes : List ℕ)
       subst (λ (o : Option Answer). IfSome o (λ answer. Told answer given old.held new.held)) (sym (wrong_refused line why is)) told
 
   -- and nothing was run
-  refusal_run : (P : X → Type 0) (wrong : Wrong) → reading bytes ≡ Err wrong → IfSome (configured reading bytes) P
-  refusal_run P wrong is = subst (λ (o : Option X). IfSome o P) (sym (wrong_unconfigured wrong is)) tt
+  refusal_run : (P : X → Type 0) (wrong : Wrong) (given : ℕ) (old new : Outside) → reading bytes ≡ Err wrong → IsIdle old new → IsRunBy (configured reading bytes) P given old new
+  refusal_run P wrong given old new is idle = subst (λ (o : Option X). IsRunBy o P given old new) (sym (wrong_unconfigured wrong is)) idle
 
   -- a configuration was not refused
   right_told : (c : X) (P : Answer → Type 0) → reading bytes ≡ Ok c → IfSome (refusal reading bytes) P
   right_told c P is = subst (λ (o : Option Answer). IfSome o P) (sym (right_unrefused c is)) tt
 
   -- and was run
-  right_run : (c : X) (P : X → Type 0) → reading bytes ≡ Ok c → P c → IfSome (configured reading bytes) P
-  right_run c P is ran = subst (λ (o : Option X). IfSome o P) (sym (right_configured c is)) ran
+  right_run : (c : X) (P : X → Type 0) (given : ℕ) (old new : Outside) → reading bytes ≡ Ok c → P c → IsRunBy (configured reading bytes) P given old new
+  right_run c P given old new is ran = subst (λ (o : Option X). IsRunBy o P given old new) (sym (right_configured c is)) (inl ran)
 
 pub node_ran : (turns : ℕ) (bytes : List ℕ) (c : configs.Content) (given : ℕ) (old new : Outside) → length bytes ≤ 16777216 → nodes.reading bytes ≡ Ok c
     → NodeServed c turns given old new → Obeys (Some (Node turns)) bytes given old new
 node_ran turns bytes c given old new few is ran = record {
   told = right_told nodes.reading bytes few c (λ answer. Told answer given old.held new.held) is;
-  served = right_run nodes.reading bytes few c (λ x. NodeServed x turns given old new ⊎ IsStopped given old new) is (inl ran);
+  served = right_run nodes.reading bytes few c (λ x. NodeServed x turns given old new) given old new is ran;
 }
 
 pub node_refused : (turns : ℕ) (bytes : List ℕ) (line : ℕ) (why : Reason) (given : ℕ) (old new : Outside) → length bytes ≤ 16777216
-    → nodes.reading bytes ≡ Err (record { line = line; why = why }) → Told (bad_answer line why) given old.held new.held → Obeys (Some (Node turns)) bytes given old new
-node_refused turns bytes line why given old new few is told = record {
+    → nodes.reading bytes ≡ Err (record { line = line; why = why }) → IsIdle old new → Told (bad_answer line why) given old.held new.held → Obeys (Some (Node turns)) bytes given old new
+node_refused turns bytes line why given old new few is idle told = record {
   told = refusal_told nodes.reading bytes few line why given old new is told;
-  served = refusal_run nodes.reading bytes few (λ x. NodeServed x turns given old new ⊎ IsStopped given old new) _ is;
+  served = refusal_run nodes.reading bytes few (λ x. NodeServed x turns given old new) _ given old new is idle;
 }
 
 pub hub_ran : (turns : ℕ) (bytes : List ℕ) (c : hubs.Content) (given : ℕ) (old new : Outside) → length bytes ≤ 16777216 → hubs.reading bytes ≡ Ok c
     → HubServed c turns given old new → Obeys (Some (Hub turns)) bytes given old new
 hub_ran turns bytes c given old new few is ran = record {
   told = right_told hubs.reading bytes few c (λ answer. Told answer given old.held new.held) is;
-  served = right_run hubs.reading bytes few c (λ x. HubServed x turns given old new ⊎ IsStopped given old new) is (inl ran);
+  served = right_run hubs.reading bytes few c (λ x. HubServed x turns given old new) given old new is ran;
 }
 
 pub hub_refused : (turns : ℕ) (bytes : List ℕ) (line : ℕ) (why : Reason) (given : ℕ) (old new : Outside) → length bytes ≤ 16777216
-    → hubs.reading bytes ≡ Err (record { line = line; why = why }) → Told (bad_answer line why) given old.held new.held → Obeys (Some (Hub turns)) bytes given old new
-hub_refused turns bytes line why given old new few is told = record {
+    → hubs.reading bytes ≡ Err (record { line = line; why = why }) → IsIdle old new → Told (bad_answer line why) given old.held new.held → Obeys (Some (Hub turns)) bytes given old new
+hub_refused turns bytes line why given old new few is idle told = record {
   told = refusal_told hubs.reading bytes few line why given old new is told;
-  served = refusal_run hubs.reading bytes few (λ x. HubServed x turns given old new ⊎ IsStopped given old new) _ is;
+  served = refusal_run hubs.reading bytes few (λ x. HubServed x turns given old new) _ given old new is idle;
 }
 
 -- the bytes that were read configured it

@@ -4,7 +4,7 @@ use Rattle.std.specs.declared.option.Option.{Option}
 use Rattle.mip_frames.specs.declared.served.Served.{Served}
 use Rattle.mip_frames.specs.declared.served.Served.TheVariants.{Done, LinkFault, WriteFault, Memory}
 use Rattle.mip_config.specs.Configs as nodes
-use Rattle.mip_node.specs.Faults.{DidNothing, BrokeAfter, WroteAfter}
+use Rattle.mip_node.specs.Faults.{LinkFailed, WroteAfter, StoppedAfter}
 use Rattle.mip_node.specs.Nodes.{Datagrams}
 use Rattle.mip_node.specs.Runs as node
 use Rattle.mip_node.specs.Seen.{Ahead, Coming}
@@ -26,15 +26,21 @@ outside held ahead coming sent port = record { held = held; ahead = ahead; comin
 abbrev pub start_of : nodes.Content → Outside → node.Start
 start_of c o = node.start c o.ahead o.coming o.sent o.held
 
+abbrev pub end_of : Outside → node.Outside
+end_of o = node.outside o.ahead o.coming o.sent o.held
+
 -- a node was run by its configuration, for so many turns
 pub record NodeServed (c : nodes.Content) (turns given : ℕ) (old new : Outside) : Type 0 where
-  -- after status 0 as many turns were done: what was sent and written is the node's run
-  pub done : given ≡ 0 → node.Ran (start_of c old) turns new.sent new.held
+  pub statuses : (given ≡ 0) ⊎ ((given ≡ 4) ⊎ ((given ≡ 5) ⊎ (given ≡ 7)))
+  -- after status 0 as many turns were done: what was taken, sent and written is the node's run
+  pub done : given ≡ 0 → node.Ran (start_of c old) turns (end_of new)
   pub port : given ≡ 0 → new.port ≡ option_map (λ _. Some c.port) old.port
   -- after a fault of the link the text of the whole turns before stands, and a front of the datagrams of the next one was sent
-  pub link_fault : given ≡ 7 → DidNothing old.sent old.held new.sent new.held ⊎ BrokeAfter (start_of c old) turns new.coming new.sent new.held
+  pub link_fault : given ≡ 7 → LinkFailed (start_of c old) turns (end_of new)
   -- after a fault of the sink all datagrams of the next turn were sent, and a front of its text stands
-  pub write_fault : given ≡ 4 → WroteAfter (start_of c old) turns new.sent new.held
+  pub write_fault : given ≡ 4 → WroteAfter (start_of c old) turns (end_of new)
+  -- where memory ran out nothing was done, or the turn that it cut stands as one of these two
+  pub memory : given ≡ 5 → StoppedAfter (start_of c old) turns (end_of new)
   -- whatever comes, a front of the text of so many turns at most was written
   pub front : node.WroteFront (start_of c old) turns new.held
 
@@ -56,8 +62,15 @@ pub record HubServed (c : hubs.Content) (turns given : ℕ) (old new : Outside) 
   pub coming : given ≡ 0 → new.coming ≡ option_map (drop turns) old.coming
   pub port : given ≡ 0 → new.port ≡ option_map (λ _. Some c.port) old.port
 
--- the input could not be read, or memory ran out before a turn: nothing was sent and written
+-- no node or hub was run: clock and link tell what they told before
+pub record IsIdle (old new : Outside) : Type 0 where
+  pub unread : new.ahead ≡ old.ahead
+  pub untaken : new.coming ≡ old.coming
+  pub unsent : new.sent ≡ old.sent
+  pub unmoved : new.port ≡ old.port
+
+-- the input could not be read, or memory ran out before a run: nothing was written either
 pub record IsStopped (given : ℕ) (old new : Outside) : Type 0 where
   pub fault : (given ≡ 3) ⊎ (given ≡ 5)
   pub unwritten : new.held ≡ old.held
-  pub unsent : new.sent ≡ old.sent
+  pub idle : IsIdle old new

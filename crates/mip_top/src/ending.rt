@@ -8,6 +8,8 @@ ghost use Rattle.mip_outside.specs.Waiting.{held_by};
 ghost use Rattle.mip_replies.specs.Told.{IsConclusive, IsStatus, Says, HasWrittenFront};
 ghost use Rattle.mip_top.specs.Answers.{answer_of};
 ghost use Rattle.mip_top.specs.Endings.{Ends, objects};
+ghost use Rattle.mip_top.specs.Obeyed.{IsFlushed, ObeysFlushed};
+ghost use Rattle.mip_top.specs.Serving.{outside};
 
 use crate::top::mip;
 use mip_outside::{Buffered, Clock, Link, PutFault, Sink, Source};
@@ -24,6 +26,14 @@ pub fn mip_flushed<S: Source, K: Sink + Drop, C: Clock, L: Link>(
     link: &mut L,
 ) -> Status
     requires { sink.old.waiting ≡ [] }
+    // The words are obeyed as by `mip`, where what waits is held too; then what waits is put on.
+    ensures obeyed { IfSome (S.left source.old) (λ bytes. ObeysFlushed (command_of (map string_bytes words.now)) bytes result.0
+        (outside (held_by sink.old) (C.ahead clock.old) (L.coming link.old) (L.sent link.old) (L.port link.old))
+        (outside (held_by sink.new) (C.ahead clock.new) (L.coming link.new) (L.sent link.new) (L.port link.new))) }
+    ensures obeyed_of_some { (bytes : List ℕ) × (S.left source.old ≡ prepend_known bytes (S.left source.new))
+        × ObeysFlushed (command_of (map string_bytes words.now)) bytes result.0
+        (outside (held_by sink.old) (C.ahead clock.old) (L.coming link.old) (L.sent link.old) (L.port link.old))
+        (outside (held_by sink.new) (C.ahead clock.new) (L.coming link.new) (L.sent link.new) (L.port link.new)) }
     // Unless a call failed or memory ran out, the whole answer was put on.
     ensures whole { IfSome (S.left source.old) (λ bytes. IsConclusive result.0
         → IfSome (answer_of (map string_bytes words.now) bytes) (λ answer. Says answer result.0 sink.old.put_on sink.new.put_on)) }
@@ -48,6 +58,7 @@ fn finish<K: Sink + Drop>(sink: &mut Buffered<K>, status: Status) -> Status
     ensures held { held_by sink.new ≡ held_by sink.old }
     ensures conclusive { IsConclusive result.0 → (result.0 ≡ status.0) × (sink.new.waiting ≡ []) }
     ensures statuses { (result.0 ≡ status.0) ⊎ ((result.0 ≡ 4) ⊎ (result.0 ≡ 5)) }
+    ensures flushed { IsFlushed status.0 result.0 }
     ensures no_fewer { sink.old.faults ≤ sink.new.faults }
     ensures cause { result.0 ≡ 4 → ((status.0 ≡ 4) × (sink.new.faults ≡ sink.old.faults)) ⊎ Rose sink.old.faults sink.new.faults }
 {

@@ -8,6 +8,8 @@ ghost use Rattle.mip_replies.specs.Told.{IsConclusive, Says, HasWrittenFront};
 ghost use Rattle.mip_top.specs.Answers.{answer_of};
 ghost use Rattle.mip_top.specs.Endings.{Ends, objects};
 ghost use Rattle.mip_top.specs.Given.{words_behind, LacksMemory};
+ghost use Rattle.mip_top.specs.Obeyed.{ObeysFlushed};
+ghost use Rattle.mip_top.specs.Serving.{outside};
 
 use crate::ending::mip_flushed;
 use crate::given::words;
@@ -28,6 +30,14 @@ pub fn run<S: Source, K: Sink + Drop, C: Clock, L: Link>(
     link: &mut L,
 ) -> u8
     requires { sink.old.waiting ≡ [] }
+    // The words behind the program's name are obeyed, where what waits is held too; then what waits is put on.
+    ensures obeyed { IfSome (S.left source.old) (λ bytes. ObeysFlushed (command_of (map string_bytes (words_behind given))) bytes result
+        (outside (held_by sink.old) (C.ahead clock.old) (L.coming link.old) (L.sent link.old) (L.port link.old))
+        (outside (held_by sink.new) (C.ahead clock.new) (L.coming link.new) (L.sent link.new) (L.port link.new))) }
+    ensures obeyed_of_some { (bytes : List ℕ) × (S.left source.old ≡ prepend_known bytes (S.left source.new))
+        × ObeysFlushed (command_of (map string_bytes (words_behind given))) bytes result
+        (outside (held_by sink.old) (C.ahead clock.old) (L.coming link.old) (L.sent link.old) (L.port link.old))
+        (outside (held_by sink.new) (C.ahead clock.new) (L.coming link.new) (L.sent link.new) (L.port link.new)) }
     // Unless a call failed or memory ran out, the whole answer to the words and the input was put on, and the status is its own.
     ensures whole { IfSome (S.left source.old) (λ bytes. IsConclusive result
         → IfSome (answer_of (map string_bytes (words_behind given)) bytes) (λ answer. Says answer result sink.old.put_on sink.new.put_on)) }
@@ -57,6 +67,14 @@ fn attempt<S: Source, K: Sink + Drop, C: Clock, L: Link>(
     link: &mut L,
 ) -> Result<Status, Memory>
     requires { sink.old.waiting ≡ [] }
+    ensures obeyed { IfOk result (λ status. IfSome (S.left source.old) (λ bytes.
+        ObeysFlushed (command_of (map string_bytes (words_behind given))) bytes status.0
+        (outside (held_by sink.old) (C.ahead clock.old) (L.coming link.old) (L.sent link.old) (L.port link.old))
+        (outside (held_by sink.new) (C.ahead clock.new) (L.coming link.new) (L.sent link.new) (L.port link.new)))) }
+    ensures obeyed_of_some { IfOk result (λ status. (bytes : List ℕ) × (S.left source.old ≡ prepend_known bytes (S.left source.new))
+        × ObeysFlushed (command_of (map string_bytes (words_behind given))) bytes status.0
+        (outside (held_by sink.old) (C.ahead clock.old) (L.coming link.old) (L.sent link.old) (L.port link.old))
+        (outside (held_by sink.new) (C.ahead clock.new) (L.coming link.new) (L.sent link.new) (L.port link.new))) }
     ensures whole { IfOk result (λ status. IfSome (S.left source.old) (λ bytes. IsConclusive status.0
         → IfSome (answer_of (map string_bytes (words_behind given)) bytes) (λ answer. Says answer status.0 sink.old.put_on sink.new.put_on))) }
     ensures whole_of_some { IfOk result (λ status. IsConclusive status.0 → ((bytes : List ℕ)
@@ -65,10 +83,7 @@ fn attempt<S: Source, K: Sink + Drop, C: Clock, L: Link>(
     ensures front { IfOk result (λ status. (bytes : List ℕ) × (S.left source.old ≡ prepend_known bytes (S.left source.new))
         × IfSome (answer_of (map string_bytes (words_behind given)) bytes) (λ answer. HasWrittenFront answer sink.old.put_on (held_by sink.new))) }
     ensures memory { LacksMemory given → IsErr result }
-    ensures unread { OnErr result (source.new ≡ source.old) }
-    ensures unwritten { OnErr result (sink.new ≡ sink.old) }
-    ensures early { OnErr result (objects source.new (S.left source.new) (S.faults source.new) (held_by sink.new) sink.new.faults clock.new link.new (L.faults link.new)
-        ≡ objects source.old (S.left source.old) (S.faults source.old) (held_by sink.old) sink.old.faults clock.old link.old (L.faults link.old)) }
+    ensures early { OnErr result ((source.new ≡ source.old) × (sink.new ≡ sink.old) × (clock.new ≡ clock.old) × (link.new ≡ link.old)) }
     ensures ends { IfOk result (λ status. Ends (command_of (map string_bytes (words_behind given))) status.0
         (objects source.old (S.left source.old) (S.faults source.old) (held_by sink.old) sink.old.faults clock.old link.old (L.faults link.old))
         (objects source.new (S.left source.new) (S.faults source.new) (held_by sink.new) sink.new.faults clock.new link.new (L.faults link.new))) }

@@ -1,16 +1,25 @@
-use Rattle.std.proofs.Common.{rules}
 use Rattle.mip_node.specs.Nodes.{serving}
 use Rattle.mip_node.specs.Settings.{said}
-use Rattle.mip_node.proofs.TurnLaws.{turn_done, receive_broke, answer_broke}
+use Rattle.mip_node.proofs.Growing.{err_any, err_on}
+use Rattle.mip_node.proofs.TurnLaws.{turn_done, early_broke, receive_broke, answer_broke}
 use Rattle.mip_node.proofs.turn.turn.Goals as goal
 
-pub returns-in_err-datagram-clause-broke : goal.returns-in_err-datagram-clause-broke
-returns-in_err-datagram-clause-broke g c = λ failed.
+pub returns-in_err-act_first-clause-broke : goal.returns-in_err-act_first-clause-broke
+returns-in_err-act_first-clause-broke g c =
     let sent = g.L.Link.sent in
     let coming = g.L.Link.coming in
-    receive_broke (said c.args.setting.now) c.args.turn c.now.result (g.C.Clock.ahead c.args.clock.now) (coming c.args.link.now) (coming c.act_first.new.link) (coming c.next_datagram.new.link)
+    err_any c.from_residual.result
+    (early_broke (said c.args.setting.now) c.args.turn c.now.result (g.C.Clock.ahead c.args.clock.now) (coming c.args.link.now) (coming c.act_first.new.link)
+    (serving c.args.node.now (sent c.args.link.now)) (sent c.act_first.new.link) c.now.ensures.told c.act_first.ensures.kept.0 c.in_err-act_first.ensures.cut)
+
+pub returns-in_err-datagram-clause-broke : goal.returns-in_err-datagram-clause-broke
+returns-in_err-datagram-clause-broke g c =
+    let sent = g.L.Link.sent in
+    let coming = g.L.Link.coming in
+    err_any c.from_residual-in_err-datagram.result
+    (receive_broke (said c.args.setting.now) c.args.turn c.now.result (g.C.Clock.ahead c.args.clock.now) (coming c.args.link.now) (coming c.act_first.new.link) (coming c.next_datagram.new.link)
     (serving c.args.node.now (sent c.args.link.now)) c.act_first.new.node (sent c.act_first.new.link) (sent c.next_datagram.new.link)
-    c.now.ensures.told c.act_first.ensures.kept.0 (c.next_datagram.ensures.failed (search rules)) c.in_ok-act_first.ensures.ok c.next_datagram.ensures.kept.0
+    c.now.ensures.told c.act_first.ensures.kept.0 c.in_err-datagram.ensures.left c.in_ok-act_first.ensures.ok c.next_datagram.ensures.kept.0)
 
 pub returns-clause-ok : goal.returns-clause-ok
 returns-clause-ok g c =
@@ -21,11 +30,12 @@ returns-clause-ok g c =
     c.now.ensures.told c.act_first.ensures.kept.0 c.in_ok-datagram.ensures.came c.in_ok-act_first.ensures.ok c.next_datagram.ensures.kept.0 c.receive.ensures.ok
 
 pub returns-clause-broke : goal.returns-clause-broke
-returns-clause-broke g c = λ failed.
+returns-clause-broke g c =
     let sent = g.L.Link.sent in
     let coming = g.L.Link.coming in
-    answer_broke (said c.args.setting.now) c.args.turn c.now.result c.in_ok-datagram.datagram (g.C.Clock.ahead c.args.clock.now)
+    err_on c.receive.result
+    (answer_broke (said c.args.setting.now) c.args.turn c.now.result c.in_ok-datagram.datagram (g.C.Clock.ahead c.args.clock.now)
     (coming c.args.link.now) (coming c.act_first.new.link) (coming c.next_datagram.new.link) (coming c.receive.new.link)
     (serving c.args.node.now (sent c.args.link.now)) c.act_first.new.node (sent c.act_first.new.link) (sent c.next_datagram.new.link) (sent c.receive.new.link)
-    c.now.ensures.told c.act_first.ensures.kept.0 c.in_ok-datagram.ensures.came c.in_ok-datagram.ensures.ok c.receive.ensures.kept.0 c.in_ok-act_first.ensures.ok c.next_datagram.ensures.kept.0
-    (c.receive.ensures.cut failed)
+    c.now.ensures.told c.act_first.ensures.kept.0 c.in_ok-datagram.ensures.came c.in_ok-datagram.ensures.ok c.receive.ensures.kept.0 c.in_ok-act_first.ensures.ok c.next_datagram.ensures.kept.0)
+    c.receive.ensures.cut

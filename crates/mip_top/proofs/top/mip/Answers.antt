@@ -5,7 +5,7 @@ use Rattle.mip_top.specs.Serving.{Outside, outside}
 use Rattle.mip_top.proofs.AuditedLaws.{audited}
 use Rattle.mip_top.proofs.Bound.{if_told}
 use Rattle.mip_top.proofs.Endings.{ends_early}
-use Rattle.mip_top.proofs.ObeyedLaws.{whole, stopped, always}
+use Rattle.mip_top.proofs.ObeyedLaws.{idle, whole, stopped, always}
 use Rattle.mip_top.proofs.top.mip.Goals as goal
 
 pub returns-in-Ok-clause-obeyed : goal.returns-in-Ok-clause-obeyed
@@ -25,11 +25,11 @@ pub returns-in-Err-clause-ends : goal.returns-in-Err-clause-ends
 returns-in-Err-clause-ends g c = ends_early (command_of (map string_bytes c.args.words.now)) 5 _ refl
 
 pub returns-in-Err-clause-obeyed : goal.returns-in-Err-clause-obeyed
-returns-in-Err-clause-obeyed g c = always _ _ _ _ _ (record { fault = inr refl; unwritten = refl; unsent = refl })
+returns-in-Err-clause-obeyed g c = always _ _ _ _ _ (record { fault = inr refl; unwritten = refl; idle = idle _ _ })
 
 pub returns-in-Err-clause-obeyed_of_some : goal.returns-in-Err-clause-obeyed_of_some
 returns-in-Err-clause-obeyed_of_some g c =
-    ([], omega arith, prepend_none _ _ refl, stopped _ [] _ _ _ (record { fault = inr refl; unwritten = refl; unsent = refl }))
+    ([], omega arith, prepend_none _ _ refl, stopped _ [] _ _ _ (record { fault = inr refl; unwritten = refl; idle = idle _ _ }))
 
 pub returns-in-Ok-clause-bound : goal.returns-in-Ok-clause-bound
 returns-in-Ok-clause-bound g c = if_told _ (λ text x read. c.each_is_bound.ensures x) (g.S.Source.left c.args.source.now)
@@ -72,4 +72,4 @@ returns-in-Err-clause-audited g c =
     let left = g.S.Source.left c.args.source.now in
     let o : Outside =
     outside (g.K.Sink.held c.args.sink.now) (g.C.Clock.ahead c.args.clock.now) (g.L.Link.coming c.args.link.now) (g.L.Link.sent c.args.link.now) (g.L.Link.port c.args.link.now) in
-    audited c.each_audit_is_right.ensures command left 5 o o (always command 5 left o o (record { fault = inr refl; unwritten = refl; unsent = refl }))
+    audited c.each_audit_is_right.ensures command left 5 o o (always command 5 left o o (record { fault = inr refl; unwritten = refl; idle = idle _ _ }))

@@ -6,7 +6,7 @@ use Rattle.mip_replies.specs.declared.input_form.InputForm.TheVariants as forms
 use Rattle.mip_replies.specs.declared.told_run.ToldRun.TheVariants as runs
 use Rattle.mip_top.specs.Answers.{takes_nothing}
 use Rattle.mip_top.proofs.Endings.{ends_told, ends_answered, ends_served}
-use Rattle.mip_top.proofs.ObeyedLaws.{untaken, answered, at_end}
+use Rattle.mip_top.proofs.ObeyedLaws.{idle, untaken, answered, at_end}
 use Rattle.mip_top.proofs.top.obey.Goals as goal
 
 pub returns-in-None-clause-obeyed : goal.returns-in-None-clause-obeyed
@@ -17,25 +17,25 @@ returns-in-None-clause-obeyed g c =
 pub returns-in-Some-Replay-clause-obeyed : goal.returns-in-Some-Replay-clause-obeyed
 returns-in-Some-Replay-clause-obeyed g c =
     let is : c.args.command ≡ Some Replay = search rules in
-    rw is (answered (Some Replay) (form_answer (forms.Schedule runs.Trace)) _ _ _ _ _ (λ bytes. refl) (λ bytes. tt) refl c.answer_input.ensures.answered)
+    rw is (answered (Some Replay) (form_answer (forms.Schedule runs.Trace)) _ _ _ _ _ (λ bytes. refl) (λ bytes. tt) (idle _ _) c.answer_input.ensures.answered)
 
 pub returns-in-Some-Decode-clause-obeyed : goal.returns-in-Some-Decode-clause-obeyed
 returns-in-Some-Decode-clause-obeyed g c =
     let is : c.args.command ≡ Some Decode = search rules in
-    rw is (answered (Some Decode) (form_answer forms.Packet) _ _ _ _ _ (λ bytes. refl) (λ bytes. tt) refl c.answer_input-in-Some-Decode.ensures.answered)
+    rw is (answered (Some Decode) (form_answer forms.Packet) _ _ _ _ _ (λ bytes. refl) (λ bytes. tt) (idle _ _) c.answer_input-in-Some-Decode.ensures.answered)
 
 pub returns-in-Some-Claims-clause-obeyed : goal.returns-in-Some-Claims-clause-obeyed
 returns-in-Some-Claims-clause-obeyed g c =
     let ask = c.in-Some-Claims.ask in
     let is : c.args.command ≡ Some (Claims ask) = search rules in
     rw is
-    (answered (Some (Claims ask)) (form_answer (forms.Schedule (runs.Claims ask))) _ _ _ _ _ (λ bytes. refl) (λ bytes. tt) refl
+    (answered (Some (Claims ask)) (form_answer (forms.Schedule (runs.Claims ask))) _ _ _ _ _ (λ bytes. refl) (λ bytes. tt) (idle _ _)
     c.answer_input-in-Some-Claims.ensures.answered)
 
 pub returns-in-Some-Audit-clause-obeyed : goal.returns-in-Some-Audit-clause-obeyed
 returns-in-Some-Audit-clause-obeyed g c =
     let is : c.args.command ≡ Some Audit = search rules in
-    rw is (answered (Some Audit) (form_answer forms.Audit) _ _ _ _ _ (λ bytes. refl) (λ bytes. tt) refl c.answer_input-in-Some-Audit.ensures.answered)
+    rw is (answered (Some Audit) (form_answer forms.Audit) _ _ _ _ _ (λ bytes. refl) (λ bytes. tt) (idle _ _) c.answer_input-in-Some-Audit.ensures.answered)
 
 pub returns-in-Some-Make-clause-obeyed : goal.returns-in-Some-Make-clause-obeyed
 returns-in-Some-Make-clause-obeyed g c =

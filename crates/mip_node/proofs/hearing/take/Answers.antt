@@ -1,0 +1,10 @@
+use Rattle.mip_frames.specs.Framing.{framed}
+use Rattle.mip_node.specs.Nodes.{serving}
+use Rattle.mip_node.specs.Settings.{said}
+use Rattle.mip_node.proofs.Growing.{err_any, not_yet, taken_grew}
+use Rattle.mip_node.proofs.hearing.take.Goals as goal
+
+pub returns-in_err-note-clause-cut : goal.returns-in_err-note-clause-cut
+returns-in_err-note-clause-cut g c =
+    err_any c.from_residual.result
+    (not_yet _ _ (taken_grew (said c.args.setting.now) c.args.now.0 c.args.number (framed c.args.frame) (serving c.args.node.now (g.L.Link.sent c.args.link.now))))
