@@ -39,10 +39,10 @@ use Rattle.mip_history.specs.Nodes.{left_by, answered_one, answered, after_mobil
 use Rattle.mip_history.specs.Permitted.{opened, run_of}
 use Rattle.mip_claims.specs.Holdings.{HoldsWhatItUses}
 use Rattle.mip_claims.proofs.Noting.{is_claiming, left_kept, sent_kept}
-use Rattle.mip_history.proofs.Effects.{answers_pasts}
+use Rattle.mip_history.proofs.Effects.{released_holder, held_is, answers_pasts}
 use Rattle.mip_claims.proofs.Acting.{acts_kept}
 use Rattle.mip_claims.proofs.Walking.{KeepsClaims, walk_run}
-use Rattle.mip_claims.proofs.Tables.{holder_push, IsSafe, safe_other, safe_claimed, safe_released, other_holder, held_is, released_holder, not_held, other_claims}
+use Rattle.mip_claims.proofs.Tables.{holder_push, IsSafe, safe_other, safe_claimed, safe_released, other_holder, not_held, other_claims}
 use Rattle.mip_claims.proofs.Holding.{Holds, staying_holds, restarting_holds, leaving_holds, attaching_holds}
 
 -- an entry that leaves a node what it holds

@@ -27,6 +27,7 @@ use Rattle.mip_links.specs.Table.{Post}
 use Rattle.mip_history.specs.Runs.{entered}
 use Rattle.mip_history.specs.Knowing.{other_than}
 use Rattle.mip_history.specs.Nodes.{left_by, answered_one, answered}
+use Rattle.mip_history.proofs.Effects.{released_holder, held_is}
 use Rattle.mip_claims.proofs.Noting.{is_claiming, left_kept, sent_kept}
 
 -- one entry more
@@ -153,12 +154,6 @@ resident_mobile s run address x is = of_host (slice_get s.hosts x) (resident_liv
     of_host None is = absurd cc
     of_host (Some host) is = of_kind host host.kind is
 
--- behind its release nobody holds an address
-pub released_holder : (past : List Entry) (who : ℕ) (link : LinkId) (address : Address) → holder_in (past ++ entries.Released who link address ∷ []) address.0 ≡ None
-released_holder past who link address =
-    holder_push past (entries.Released who link address) address.0
-    ∙ ap (λ (b : Bool). unwrap_or (if b then Some None else None) (holder_in past address.0)) (eq-eqb address.0 address.0 refl)
-
 claimed_holder : (past : List Entry) (who : ℕ) (link : LinkId) (address : Address) → holder_in (past ++ entries.Claimed who link address ∷ []) address.0 ≡ Some who
 claimed_holder past who link address =
     holder_push past (entries.Claimed who link address) address.0
@@ -166,10 +161,6 @@ claimed_holder past who link address =
 
 pub not_held : (past : List Entry) (m a : ℕ) → holder_in past a ≡ None → holder_in past a ≡ Some m → ⊥
 not_held past m a none is = let both : None ≡ Some m = sym none ∙ is in cc
-
-pub held_is : (holder : Option ℕ) (who : ℕ) → is_held_by holder who ≡ true → holder ≡ Some who
-held_is None who is = absurd cc
-held_is (Some other) who is = ap (λ (n : ℕ). Some n) (eqb-true other who is)
 
 pub apart_from : (s : Setup) (m x : ℕ) → is_mobile_at s m ≡ false → is_mobile_at s x ≡ true → (m == x) ≡ false
 apart_from s m x none is = by (m == x) refl

@@ -1,19 +1,16 @@
 -- Claims of addresses, and addresses that are given up, are quiet: the history's table decides what they come to.
-use Rattle.std.proofs.Common.{◌≡◌, ℕ, List, [], ◌∷◌, ◌++◌, Bool, true, false, refl, ap, ◌∙◌}
-use Rattle.std.specs.Prelude.{Option, Some, None, unwrap_or, ◌==◌, if◌then◌else◌}
-use Rattle.std.proofs.lemmas.List.Sums.{fold-append}
-use Rattle.std.proofs.lemmas.Bool.{eqb-true, eq-eqb}
+use Rattle.std.proofs.Common.{◌≡◌, ℕ, [], ◌∷◌, Bool, true, false, refl, ap, ◌∙◌}
+use Rattle.std.specs.Prelude.{Option, Some, None, ◌==◌, if◌then◌else◌}
 use Rattle.mip_words.specs.declared.address.Address.{Address}
-use Rattle.mip_words.specs.declared.ids.LinkId.{LinkId}
-use Rattle.mip_entries.specs.declared.entry.Entry.{Entry}
 use Rattle.mip_entries.specs.declared.entry.Entry.TheVariants as entries
 use Rattle.mip_links.specs.Table.{link_of}
 use Rattle.mip_links.specs.Nets.{is_held_by}
 use Rattle.mip_history.specs.Setup.{Setup}
 use Rattle.mip_history.specs.Runs.{Run, note}
-use Rattle.mip_history.specs.Questions.{holder_says, holder_in}
+use Rattle.mip_history.specs.Questions.{holder_in}
 use Rattle.mip_history.specs.Claims.{link_id, is_free_for, claim_entry, claimed_on, claims}
 use Rattle.mip_history.specs.Homes.{resident, passes_to, left_on, given_up_on, gives_up}
+use Rattle.mip_history.proofs.Effects.{released_holder, held_is}
 use Rattle.mip_history.proofs.Runs.{IsQuiet, quiet_same, quiet_then, quiet_one, quiet_notes}
 
 quiet_claim : (s : Setup) (who : ℕ) (address : Address) (link : ℕ) (run : Run) (holder : Option ℕ) → holder_in run.past address.0 ≡ holder
@@ -33,13 +30,7 @@ quiet_claims s who address run = by (link_of s.links address.0)
     by None = quiet_notes s (entries.Idle ∷ []) run refl
     by (Some link) = quiet_claim s who address link run (holder_in run.past address.0) refl
 
--- behind its release nobody holds an address
-pub released_holder : (past : List Entry) (who : ℕ) (link : LinkId) (address : Address) → holder_in (past ++ entries.Released who link address ∷ []) address.0 ≡ None
-released_holder past who link address =
-    fold-append (λ (h : Option ℕ) (e : Entry). unwrap_or (holder_says address.0 e) h) None past (entries.Released who link address ∷ [])
-    ∙ ap (λ (b : Bool). unwrap_or (if b then Some None else None) (holder_in past address.0)) (eq-eqb address.0 address.0 refl)
-
--- so the mobile at home may have it
+-- behind its release nobody holds an address, so the mobile at home may have it
 quiet_passes : (s : Setup) (who : ℕ) (address : Address) (link : ℕ) (run : Run) (o : Option ℕ) → holder_in run.past address.0 ≡ None
     → IsQuiet s run (passes_to who address link run o)
 quiet_passes s who address link run None e = quiet_same s run
@@ -48,10 +39,6 @@ quiet_passes s who address link run (Some m) e = by (m == who)
     by : (same : Bool) → IsQuiet s run (if same then run else note (entries.Claimed m (link_id link) address) run)
     by true = quiet_same s run
     by false = quiet_one s run (entries.Claimed m (link_id link) address) refl (λ long. ap (λ (h : Option ℕ). is_free_for h m) e)
-
-held_is : (holder : Option ℕ) (who : ℕ) → is_held_by holder who ≡ true → holder ≡ Some who
-held_is None who e = absurd cc
-held_is (Some other) who e = ap (λ (n : ℕ). Some n) (eqb-true other who e)
 
 quiet_left : (s : Setup) (who : ℕ) (address : Address) (link : ℕ) (run : Run) → holder_in run.past address.0 ≡ Some who → IsQuiet s run (left_on s who address link run)
 quiet_left s who address link run e =

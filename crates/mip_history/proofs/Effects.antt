@@ -70,12 +70,12 @@ pub data Effect (s : Setup) : Run → Run → Type 0 where
   learns : (run next : Run) → next.past ≡ run.past → next.posts ≡ run.posts → next.flying ≡ run.flying → Effect s run next
 
 -- behind its release nobody holds an address
-released_holder : (past : List Entry) (who : ℕ) (link : LinkId) (address : Address) → holder_in (past ++ entries.Released who link address ∷ []) address.0 ≡ None
+pub released_holder : (past : List Entry) (who : ℕ) (link : LinkId) (address : Address) → holder_in (past ++ entries.Released who link address ∷ []) address.0 ≡ None
 released_holder past who link address =
     fold-append (λ (h : Option ℕ) (e : Entry). unwrap_or (holder_says address.0 e) h) None past (entries.Released who link address ∷ [])
     ∙ ap (λ (b : Bool). unwrap_or (if b then Some None else None) (holder_in past address.0)) (eq-eqb address.0 address.0 refl)
 
-held_is : (holder : Option ℕ) (who : ℕ) → is_held_by holder who ≡ true → holder ≡ Some who
+pub held_is : (holder : Option ℕ) (who : ℕ) → is_held_by holder who ≡ true → holder ≡ Some who
 held_is None who e = absurd cc
 held_is (Some other) who e = ap (λ (n : ℕ). Some n) (eqb-true other who e)
 

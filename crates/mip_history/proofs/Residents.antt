@@ -18,7 +18,7 @@ use Rattle.mip_history.specs.Questions.{holder_says, holder_in}
 use Rattle.mip_history.specs.Knowing.{mobile_known_in}
 use Rattle.mip_history.specs.Claims.{link_id}
 use Rattle.mip_history.specs.Homes.{is_at_home, lives_by_host, lives_at, first_below, resident, passes_to, left_on, given_up_on, gives_up}
-use Rattle.mip_history.proofs.Claiming.{released_holder}
+use Rattle.mip_history.proofs.Effects.{released_holder}
 
 -- the first number of which something is so
 module _ (is : ℕ → Bool) where
