@@ -87,16 +87,6 @@ quiet_overheard s link shield by k run posted = at (is_some shield)
     at false = quiet_meeting s (heards hears k s.outsiders) run (heards_quiet hears k s.outsiders)
         (λ kept. heards_meet s run.past hears k s.outsiders (subst (λ (n : ℕ). k < n) (sym (count_posts s run kept)) posted))
 
-pub overheard_posts : (s : Setup) (link : ℕ) (shield : Option Shield) (by : Option ℕ) (k : ℕ) (run : Run) → (overheard s link shield by k run).posts ≡ run.posts
-overheard_posts s link shield by k run = at (is_some shield)
-  where
-    hears : ℕ → Bool
-    hears o = is_other by o && hears_in run.past o link
-
-    at : (b : Bool) → (if b then run else notes (heards hears k s.outsiders) run).posts ≡ run.posts
-    at true = refl
-    at false = refl
-
 quiet_posted : (s : Setup) (post : Post) (by : Option ℕ) (e : Entry) (run : Run) → IsPostOf s (length run.posts) post.packet e → IsQuiet s run (posted s post by e run)
 quiet_posted s post by e run is =
     quiet_then s run (entered post (note e run)) (posted s post by e run) (quiet_entered s post e run is)
@@ -108,8 +98,3 @@ pub quiet_sent : (s : Setup) (post : Post) (n : ℕ) (shielded : Bool) (run : Ru
 quiet_sent s post n shielded run =
     quiet_posted s post None (entries.Sent (length run.posts) (node_id n) shielded post.packet) run
     (record { lives = λ m l. refl; moment = λ at. refl; life = λ m count. refl; posts = refl; meets = λ front same. same })
-
--- what a node does, in two parts
-pub answered_append : (s : Setup) (n from : ℕ) (run : Run) (xs ys : List Answer) → answered s n from run (xs ++ ys) ≡ answered s n from (answered s n from run xs) ys
-unfolding answered
-answered_append s n from run xs ys = fold-append (λ (r : Run) (answer : Answer). answered_one s n from r answer) run xs ys

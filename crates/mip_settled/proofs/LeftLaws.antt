@@ -15,10 +15,6 @@ pub latest_next : (moment end : ℕ) (bs : List Binding) → latest (max moment 
 latest_next moment end [] = omega arith
 latest_next moment end (b ∷ bs) = let more = latest_next moment end bs in omega arith
 
-pub latest_added : (moment : ℕ) (o : Option Binding) (bs : List Binding) → latest moment (add_found o bs) ≡ latest (latest moment (add_found o [])) bs
-latest_added moment None bs = refl
-latest_added moment (Some b) bs = sym (latest_next moment b.end bs) ∙ ap (λ (m : ℕ). latest m bs) (omega arith)
-
 -- what the last one that passes a test is at
 abbrev pub careof_last : (Binding → Bool) → List Binding → Option ℕ
 careof_last p bs = option_map (λ b. b.careof) (last_where p bs)
@@ -26,17 +22,6 @@ careof_last p bs = option_map (λ b. b.careof) (last_where p bs)
 abbrev pub careof_if : (Binding → Bool) → Option Binding → Option ℕ
 careof_if p None = None
 careof_if p (Some b) = if p b then Some b.careof else None
-
-pub last_added : (p : Binding → Bool) (o : Option Binding) (bs : List Binding) (held : Option ℕ)
-    → or_else (careof_last p (add_found o bs)) held ≡ or_else (careof_last p bs) (or_else (careof_if p o) held)
-last_added p None bs held = refl
-last_added p (Some b) bs held = by (last_where p bs) (p b)
-  where
-    by : (o : Option Binding) (passes : Bool) → or_else (option_map (λ (c : Binding). c.careof) (or_else o (if passes then Some b else None))) held
-        ≡ or_else (option_map (λ (c : Binding). c.careof) o) (or_else (if passes then Some b.careof else None) held)
-    by (Some c) passes = refl
-    by None true = refl
-    by None false = refl
 
 -- one entry more behind the others
 renewed_more : (n home number : ℕ) (es : List Entry) (e : Entry) → is_renewed n home number (es ++ e ∷ []) ≡ (is_renewed n home number es || (has_number number (accepted_told n home e) || false))
