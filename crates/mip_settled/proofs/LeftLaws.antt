@@ -19,10 +19,6 @@ latest_next moment end (b ∷ bs) = let more = latest_next moment end bs in omeg
 abbrev pub careof_last : (Binding → Bool) → List Binding → Option ℕ
 careof_last p bs = option_map (λ b. b.careof) (last_where p bs)
 
-abbrev pub careof_if : (Binding → Bool) → Option Binding → Option ℕ
-careof_if p None = None
-careof_if p (Some b) = if p b then Some b.careof else None
-
 -- one entry more behind the others
 renewed_more : (n home number : ℕ) (es : List Entry) (e : Entry) → is_renewed n home number (es ++ e ∷ []) ≡ (is_renewed n home number es || (has_number number (accepted_told n home e) || false))
 renewed_more n home number es e = list_any-append (λ (x : Entry). has_number number (accepted_told n home x)) es (e ∷ [])
