@@ -1,7 +1,7 @@
 # A table: a column a field, and empty where an entry has no such field.
 BEGIN {
     columns = split("moment entry who packet kind inside shield link address other home number careof sequence end kept home_index careof_index " \
-        "home_test careof_test home_token careof_token status why source destination protocol valid preferred layer port bytes", column, " ")
+        "home_test careof_test home_token careof_token status why source destination protocol valid preferred layer port bytes meaning", column, " ")
     for (i = 1; i <= columns; i++) head = head (i > 1 ? "," : "") column[i]
     # the columns of an entry's fields, in their order
     rows = "at moment/moved who link/advertised who link address/claimed who link address/released who link address/taken who link address other/" \
@@ -26,7 +26,18 @@ function names_columns(rows, of,    part, count, i, word) {
     }
 }
 
+# What a status, a reason or a cause means, without commas.
+function in_other_words(word) {
+    if (word == "denied") return meaning($4)
+    if (word == "refused") return meaning($3)
+    if (word == "forged") return cause_in_words($2)
+    if (word == "gone" || word == "unsent") return why_in_words[$3]
+    if (word == "dropped") return why_in_words[sort == "hub" ? $3 : $4]
+    return ""
+}
+
 function entry(n, word,    name, count, i, cell, out) {
+    note_tokens(word)
     if (word == "at") moment = $2
     count = split(columns_of[(sort == "" ? "trace" : sort), word], name, " ")
     for (i = 2; i <= count; i++) cell[name[i]] = $i
@@ -36,6 +47,8 @@ function entry(n, word,    name, count, i, cell, out) {
         cell["inside"] = in_brackets($5, $6)
         gsub(/[ ()]/, "", cell["inside"])
     }
+    cell["meaning"] = in_other_words(word)
+    gsub(/,/, ";", cell["meaning"])
     for (i = 1; i <= columns; i++) out = out (i > 1 ? "," : "") cell[column[i]]
     emit(out)
 }
