@@ -26,5 +26,11 @@ given() {
     echo .
 }
 
+# The name of the file without its end, or `trace`.
+named() {
+    name=${file##*/} name=${name%.*}
+    echo "${name:-trace}"
+}
+
 # The moment before the first `at`.
 since() { echo "${start:-0}"; }
