@@ -14,7 +14,7 @@
     press("Home");
     for (let n = 1; n <= run.entries.length; n++) {
       const row = document.getElementById(`e${n}`);
-      const picture = document.querySelector("#lines .chosen-row .arrow") ? "arrow" : "-";
+      const picture = document.querySelector("#lines .chosen .arrow") ? "arrow" : "-";
       const same = row?.getAttribute("aria-selected") === "true" && row.querySelector(".say").firstChild.textContent === text("says");
       say("entry", location.hash, text("place"), same ? "row" : "no row", picture, text("says"), text("line"));
       press("j");

@@ -11,7 +11,7 @@ const kindOfLane = new Map(run.lanes);
 // The groups of entries that a filter shows or hides.
 const groups = {
   posts: "sent injected got", arrivals: "handed to", hearings: "heard", losses: "gone lost", verdicts: "accepted denied origin forged",
-  bindings: "made bound unbound", registrations: "home registered unregistered refused chosen prefixes", data: "up", drops: "dropped unsent",
+  bindings: "made bound unbound", registrations: "home registered unregistered refused chosen prefixes", up: "up", drops: "dropped unsent",
   places: "moved advertised careof listening deafened restarted", addresses: "claimed released taken advert holds solicit answer silent claim free",
   questions: "row settled", moments: "at", idle: "idle",
 };
@@ -182,7 +182,7 @@ const plateAt = (x, y, text) => `<rect class="plate" x="${x - text.length * 3.3 
 function shortLabel(number, room) {
   const { kind = "" } = packets[number] ?? {};
   const inside = kind.replace(/^tunnel \((.*)\)$/, "$1");
-  return room > (String(number).length + inside.length + 1) * 6.2 + 14 ? `${number} ${inside}` : `${number}`;
+  return room > (String(number).length + inside.length + 1) * 6.2 + 8 ? `${number} ${inside}` : `${number}`;
 }
 
 // An arrow from lane to lane; one to the same lane or to none is a short one.
@@ -310,13 +310,20 @@ function marked(text) {
   return `${escaped(text.slice(0, from))}<mark>${escaped(text.slice(from, to))}</mark>${escaped(text.slice(to))}`;
 }
 
+// The line of the schedule stands in the first of the rows that it wrote, where there is room.
+function eventOf(entry, place) {
+  const wide = !shape.narrow && at("chart").clientWidth - shape.right > 360;
+  if (!entry.event || !wide || (place > 0 && shown[place - 1].event === entry.event)) return "";
+  return `<code class="event" title="line ${entry.event} of the schedule">${escaped(run.schedule[entry.event - 1] ?? "")}</code>`;
+}
+
 function rowOf(entry, place) {
   const again = place > 0 && shown[place - 1].moment === entry.moment ? " again" : "";
   const tokens = (tokensAt.get(entry.number) ?? []).map(text => `<span class="token">${text}</span>`).join("");
   const space = shape.narrow ? "" : `<span style="flex:none;width:${shape.right - shape.left}px"></span>`;
   return `<div class="${classesOf(entry)}" role="option" id="e${entry.number}" data-line="${entry.number}" aria-selected="${entry.number === state.line}"
     aria-setsize="${shown.length}" aria-posinset="${place + 1}" style="top:${place * shape.height}px;height:${shape.height}px">
-    <span class="n" style="width:${shape.number}px">${entry.number}</span><span class="t${again}" style="width:${shape.moment}px">${entry.moment}</span>${space}<span class="say">${marked(entry.text)}${tokens}</span></div>`;
+    <span class="n" style="width:${shape.number}px">${entry.number}</span><span class="t${again}" style="width:${shape.moment}px">${entry.moment}</span>${space}<span class="say">${marked(entry.text)}${tokens}</span>${eventOf(entry, place)}</div>`;
 }
 
 function drawRows(force) {
@@ -340,7 +347,7 @@ function drawLines(part, first, last) {
   svg.style.top = `${first * shape.height}px`;
   svg.innerHTML = lanes.map(name => `<path class="lane ${kindOfLane.get(name)}" d="M${shape.x(name)} 0V${height}"/>`).join("")
     + underWay(first) + run.marks.map(([line]) => markOf(markAt.get(line), first, first, last)).join("")
-    + part.map((entry, i) => `<g class="${entry.number === state.line ? "chosen-row" : ""}">${pictureOf(entry, i * shape.height + shape.middle)}</g>`).join("");
+    + part.map((entry, i) => `<g class="${classesOf(entry)}">${pictureOf(entry, i * shape.height + shape.middle)}</g>`).join("");
 }
 
 // What is told of the chosen entry.
@@ -478,10 +485,13 @@ function showAll() {
   refresh();
 }
 
-function toggle(button, part) {
+// Opens one of the two parts above the chart and closes the other, or closes it.
+function toggle(part) {
   const open = at(part).hidden;
-  at(part).hidden = !open;
-  at(button).setAttribute("aria-expanded", String(open));
+  for (const [other, its] of [["filters", "choices"], ["help", "keys"]]) {
+    at(its).hidden = its !== part || !open;
+    at(other).setAttribute("aria-expanded", String(!at(its).hidden));
+  }
   measure();
   show();
 }
@@ -502,7 +512,7 @@ const keys = {
   PageDown: () => step(pageOfRows()), PageUp: () => step(-pageOfRows()), Home: () => step(-entries.length), End: () => step(entries.length),
   "]": () => stepTo(1, samePacket), "[": () => stepTo(-1, samePacket), v: () => stepTo(1, isVerdict), V: () => stepTo(-1, isVerdict),
   n: () => match(1), N: () => match(-1), "/": () => { at("find").focus(); at("find").select(); },
-  f: () => toggle("filters", "choices"), "?": () => toggle("help", "keys"),
+  f: () => toggle("choices"), "?": () => toggle("keys"),
 };
 
 function pressed(event) {
