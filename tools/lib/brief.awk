@@ -44,6 +44,16 @@ function told(who, text) {
     else { handed_to = ""; add_row(who, "", "", text) }
 }
 
+# The event that wrote line `n`, where the schedule is given.
+function event_of(n,    text) {
+    if (events == "") return ""
+    if (!events_read) {
+        while ((getline text < schedule) > 0) event_text[++events_read] = text
+        while ((getline text < events) > 0) event_at[++lines_read] = text
+    }
+    return ": " event_text[event_at[n]]
+}
+
 function entry(n, word,    text) {
     note_tokens(word)
     if (word == "at") { moment = $2; handed_to = ""; return }
@@ -55,7 +65,7 @@ function entry(n, word,    text) {
     if (word == "heard") { add_row(poster[$2], $3, packet($2), "hears"); handed_to = ""; return }
     if (word == "gone") { add_row(poster[$2], "", packet($2), "gone, " explained($3)); handed_to = ""; return }
     if (word == "lost") { add_row(poster[$2], "", packet($2), "lost"); handed_to = ""; return }
-    if (word == "idle") { add_row("", "", "", "nothing changed"); handed_to = ""; return }
+    if (word == "idle") { add_row("", "", "", "nothing changed" event_of(n)); handed_to = ""; return }
     if (sort == "hub" && word == "dropped") { add_row("", "hub", packet($2), "dropped, " explained($3)); return }
     if (word == "dropped" && !($3 in arrived)) arrived[$3] = 1
     text = short_of(says(word))
