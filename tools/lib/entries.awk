@@ -33,6 +33,8 @@ function says_of_packet(word) {
 function aims(word) {
     if (word ~ /^(moved|claimed|released|taken|listening|deafened)$/) to = $3
     if (word == "advertised") { from = $3; to = $2 }
+    if (sort == "hub" && (word == "claim" || word == "advert")) to = "port " $3
+    if (sort == "claims" && word == "advert") to = $2
     if (word == "made") about = $4
     if (word ~ /^(accepted|denied|dropped|up)$/) about = $3
     if (word == "accepted") judged = $3

@@ -147,7 +147,7 @@ function measure() {
   shape.left = narrow ? 2 : shape.number + shape.moment;
   shape.gutter = run.marks.length ? 34 : 8;
   const room = narrow ? width - shape.left - shape.gutter - 6 : Math.min(640, width * 0.52);
-  const widest = Math.max(84, ...packets.map(packet => packet.kind.length * 6.2 + 34));
+  const widest = Math.max(84, ...packets.map(packet => packet.kind.length * 6.2 + 34), ...lanes.map(name => name.length * 9 + 12));
   shape.step = Math.max(narrow ? 26 : 30, Math.min(narrow ? 110 : Math.min(widest, 104), room / Math.max(1, lanes.length)));
   shape.right = shape.left + shape.gutter + shape.step * lanes.length;
   shape.narrow = narrow;
@@ -219,7 +219,7 @@ function lossOf(entry, y) {
 // Something between a node and a link: it holds an address there, stands there, or listens.
 function wireOf(entry, y) {
   const x1 = shape.x(entry.from), x2 = shape.x(entry.to);
-  const held = /^(claimed|moved|listening)$/.test(entry.word) ? "held" : "";
+  const held = /^(claimed|moved|listening|claim)$/.test(entry.word) ? "held" : "";
   const wire = x1 === undefined || x2 === undefined ? "" : `<path class="wire" d="M${x1} ${y}H${x2}"/>`;
   const node = x1 === undefined ? "" : `<rect class="plug ${held}" x="${x1 - 4}" y="${y - 4}" width="8" height="8" transform="rotate(45 ${x1} ${y})"/>`;
   if (x2 === undefined) return node;
@@ -250,8 +250,8 @@ function pictureOf(entry, y) {
     case "heard": return arrowOf(entry, y, "heard");
     case "sent": case "injected": return entry.to === "outside" ? arrowOf(entry, y, "") : postOf(entry, y);
     case "gone": case "lost": return lossOf(entry, y);
-    case "claimed": case "released": case "taken": case "moved": case "listening": case "deafened": return wireOf(entry, y);
-    case "advertised": return adviceOf(entry, y);
+    case "claimed": case "released": case "taken": case "moved": case "listening": case "deafened": case "claim": return wireOf(entry, y);
+    case "advertised": case "advert": return adviceOf(entry, y);
     case "at": case "idle": return "";
     default: return badgeOf(entry, y);
   }
@@ -358,7 +358,7 @@ const raw = text => element("p", { class: "raw" }, text);
 function linkTo(number, text) {
   const link = element("a", { href: `#line=${number}` }, element("b", {}, String(number)), text);
   if (number === state.line) link.setAttribute("aria-current", "true");
-  link.addEventListener("click", event => { event.preventDefault(); choose(number); });
+  link.addEventListener("click", event => { event.preventDefault(); choose(number); at("about").querySelector("[aria-current]")?.focus(); });
   return element("li", {}, link);
 }
 
@@ -444,6 +444,7 @@ function stepTo(by, holds) {
 
 function refresh() {
   filter();
+  if (placeOf[state.line] < 0 && shown.length) state.line = shown[placeOfChosen()].number;
   tellChoices();
   writeAddress();
   bringIntoView();
@@ -558,6 +559,8 @@ function listen() {
 function begin() {
   index();
   readAddress();
+  // a node that stands alone tells a moment with nearly each turn
+  if (!location.hash && entries.filter(entry => entry.word === "at").length > entries.length / 2) state.entries.add("moments");
   makeChoices();
   const last = entries.at(-1);
   at("title").textContent = run.title;
