@@ -194,8 +194,8 @@ function arrowOf(entry, y, how) {
   const to = x2 > x1 ? 1 : -1, middle = (x1 + x2) / 2;
   const pipe = packet.kind.startsWith("tunnel")
     ? `<rect class="pipe" x="${Math.min(x1, x2) + 5}" y="${y - 7}" width="${Math.abs(x2 - x1) - 10}" height="14" rx="7"/>` : "";
-  const shield = packet.shielded ? shieldAt(x1 + to * 14, y) : "";
-  const label = plateAt(middle, y, shortLabel(entry.packet, Math.abs(x2 - x1) - (packet.shielded ? 44 : 24)));
+  const shield = packet.shielded ? shieldAt(x1 + to * 11, y) : "";
+  const label = plateAt(middle + (packet.shielded ? to * 5 : 0), y, shortLabel(entry.packet, Math.abs(x2 - x1) - (packet.shielded ? 34 : 24)));
   return `<g class="p ${how} ${pipe && "piped"}">${pipe}${lineFrom(x1 + to * 2, x2 - to * 3, y, 'marker-end="url(#head)"')}${shield}${label}</g>`;
 }
 
