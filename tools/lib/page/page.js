@@ -165,7 +165,7 @@ function drawNames() {
   const heads = shape.narrow ? "" : `<span class="n" style="width:${shape.number}px">line</span><span class="t" style="left:${shape.number}px;width:${shape.moment}px">ms</span>`;
   at("names").innerHTML = heads + lanes.map(name => {
     const kind = kindOfLane.get(name);
-    return `<span class="name ${kind}" style="left:${shape.x(name)}px" title="${escaped(`${name} ${kind}`)}">${escaped(name)}<small>${escaped(kind)}</small></span>`;
+    return `<span class="name ${kind}" style="left:${shape.x(name)}px;max-width:${tight ? "none" : `${shape.step - 4}px`}" title="${escaped(`${name} ${kind}`)}">${escaped(name)}<small>${escaped(kind)}</small></span>`;
   }).join("");
 }
 
