@@ -97,6 +97,7 @@ const textOf = entry => `${entry.text}\n${entry.line}\n${listings[entry.packet] 
 function search() {
   const words = state.find.toLowerCase();
   matches = [];
+  drawn.first = -1;
   if (words) shown.forEach((entry, place) => { if (textOf(entry).includes(words)) matches.push(place); });
 }
 
@@ -326,28 +327,38 @@ function rowOf(entry, place) {
     <span class="n" style="width:${shape.number}px">${entry.number}</span><span class="t${again}" style="width:${shape.moment}px">${entry.moment}</span>${space}<span class="say">${marked(entry.text)}${tokens}</span>${eventOf(entry, place)}</div>`;
 }
 
-function drawRows(force) {
+// Draws what is in view, and some rows more on both sides; what stands there already only gets its classes anew.
+function drawRows() {
   const chart = at("chart"), over = 8;
-  const first = Math.max(0, Math.floor(chart.scrollTop / shape.height) - over);
-  const last = Math.min(shown.length, Math.ceil((chart.scrollTop + chart.clientHeight) / shape.height) + over);
-  if (!force && first === drawn.first && last === drawn.last) return;
-  Object.assign(drawn, { first, last });
-  const part = shown.slice(first, last);
-  at("list").innerHTML = part.map((entry, i) => rowOf(entry, first + i)).join("");
-  drawLines(part, first, last);
+  const first = Math.max(0, Math.floor(chart.scrollTop / shape.height / over) * over - over);
+  const last = Math.min(shown.length, Math.ceil((chart.scrollTop + chart.clientHeight) / shape.height / over) * over + over);
+  if (first !== drawn.first || last !== drawn.last) drawPart(first, last);
+  else chooseRows();
+  at("moving").innerHTML = underWay(first) + run.marks.map(([line]) => markOf(markAt.get(line), first, first, last)).join("");
   const chosen = at(`e${state.line}`);
   if (chosen) chart.setAttribute("aria-activedescendant", chosen.id); else chart.removeAttribute("aria-activedescendant");
 }
 
-function drawLines(part, first, last) {
-  const height = (last - first) * shape.height;
-  const svg = at("lines");
-  svg.setAttribute("width", shape.right);
-  svg.setAttribute("height", height);
-  svg.style.top = `${first * shape.height}px`;
-  svg.innerHTML = lanes.map(name => `<path class="lane ${kindOfLane.get(name)}" d="M${shape.x(name)} 0V${height}"/>`).join("")
-    + underWay(first) + run.marks.map(([line]) => markOf(markAt.get(line), first, first, last)).join("")
-    + part.map((entry, i) => `<g class="${classesOf(entry)}">${pictureOf(entry, i * shape.height + shape.middle)}</g>`).join("");
+function drawPart(first, last) {
+  Object.assign(drawn, { first, last });
+  const part = shown.slice(first, last), height = (last - first) * shape.height;
+  at("list").innerHTML = part.map((entry, i) => rowOf(entry, first + i)).join("");
+  at("lines").setAttribute("width", shape.right);
+  at("lines").setAttribute("height", height);
+  at("lines").style.top = `${first * shape.height}px`;
+  at("lane-lines").innerHTML = lanes.map(name => `<path class="lane ${kindOfLane.get(name)}" d="M${shape.x(name)} 0V${height}"/>`).join("");
+  at("pictures").innerHTML = part.map((entry, i) => `<g class="${classesOf(entry)}">${pictureOf(entry, i * shape.height + shape.middle)}</g>`).join("");
+}
+
+function chooseRows() {
+  const pictures = at("pictures").children;
+  [...at("list").children].forEach((row, i) => {
+    const entry = entries[row.dataset.line - 1], classes = classesOf(entry);
+    if (row.className === classes) return;
+    row.className = classes;
+    row.setAttribute("aria-selected", entry.number === state.line);
+    pictures[i].setAttribute("class", classes);
+  });
 }
 
 // What is told of the chosen entry.
@@ -417,7 +428,7 @@ function show() {
   at("first").disabled = at("before").disabled = place <= 0;
   at("last").disabled = at("next").disabled = place >= shown.length - 1;
   tellCount();
-  drawRows(true);
+  drawRows();
   tell();
 }
 
@@ -546,7 +557,7 @@ function listen() {
   at("find").addEventListener("keydown", pressedInSearch);
   at("search").addEventListener("submit", event => event.preventDefault());
   at("home").addEventListener("change", () => { state.home = at("home").value; refresh(); });
-  at("chart").addEventListener("scroll", () => requestAnimationFrame(() => drawRows(false)), { passive: true });
+  at("chart").addEventListener("scroll", () => requestAnimationFrame(drawRows), { passive: true });
   at("list").addEventListener("click", event => {
     const row = event.target.closest(".row");
     if (row) { at("chart").focus({ preventScroll: true }); choose(Number(row.dataset.line)); }
