@@ -25,6 +25,7 @@ function packet(number) {
 function short_of(text) {
     sub(/^accepted [0-9]+,/, "accepted,", text)
     sub(/^denied [0-9]+,/, "denied,", text)
+    sub(/^forged, cause/, "forged", text)
     sub(/^dropped [0-9]+,/, "dropped,", text)
     sub(/^up [0-9]+,/, "up,", text)
     gsub(/ is at /, " at ", text)
@@ -43,7 +44,18 @@ function told(who, text) {
     else { handed_to = ""; add_row(who, "", "", text) }
 }
 
+# The event that wrote line `n`, where the schedule is given.
+function event_of(n,    text) {
+    if (events == "") return ""
+    if (!events_read) {
+        while ((getline text < schedule) > 0) event_text[++events_read] = text
+        while ((getline text < events) > 0) event_at[++lines_read] = text
+    }
+    return ": " event_text[event_at[n]]
+}
+
 function entry(n, word,    text) {
+    note_tokens(word)
     if (word == "at") { moment = $2; handed_to = ""; return }
     # what a node that stands alone sends goes out
     if (word == "sent" && $3 == "self") { add_row("self", "outside", packet($2), ""); handed_to = ""; return }
@@ -51,10 +63,10 @@ function entry(n, word,    text) {
     if (word == "handed") { add_row(poster[$2], $3, packet($2), ""); handed_to = $3; return }
     if (word == "to") { add_row("hub", "port " $3, $2 " frame", ""); arrived[$2] = 1; handed_to = ""; return }
     if (word == "heard") { add_row(poster[$2], $3, packet($2), "hears"); handed_to = ""; return }
-    if (word == "gone") { add_row(poster[$2], "", packet($2), "gone, " $3); handed_to = ""; return }
+    if (word == "gone") { add_row(poster[$2], "", packet($2), "gone, " explained($3)); handed_to = ""; return }
     if (word == "lost") { add_row(poster[$2], "", packet($2), "lost"); handed_to = ""; return }
-    if (word == "idle") { add_row("", "", "", "nothing changed"); handed_to = ""; return }
-    if (sort == "hub" && word == "dropped") { add_row("", "hub", packet($2), "dropped, " $3); return }
+    if (word == "idle") { add_row("", "", "", "nothing changed" event_of(n)); handed_to = ""; return }
+    if (sort == "hub" && word == "dropped") { add_row("", "hub", packet($2), "dropped, " explained($3)); return }
     if (word == "dropped" && !($3 in arrived)) arrived[$3] = 1
     text = short_of(says(word))
     told(teller, text)

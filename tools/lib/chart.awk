@@ -41,14 +41,15 @@ function arrow(solid, from, to, text) {
 }
 
 function entry(n, word,    text) {
+    note_tokens(word)
     if (word == "at") { moment = $2 + 0; untold = $2 }
     else if (word == "sent" || word == "injected") { if (is_in($3)) actor($3); if ($3 == "self") arrow(1, "self", "outside", $2 " " kind_in_words($2)) }
     else if (word == "handed") arrow(1, poster[$2], $3, $2 " " kind_in_words($2))
     else if (word == "heard") arrow(0, poster[$2], $3, $2 " " kind_in_words($2))
     else if (word == "to") arrow(1, "hub", "port " $3, $2 " frame")
     else if (word == "lost") note(sort == "hub" ? "hub" : poster[$2], packet($2) " is lost")
-    else if (word == "gone") note(sort == "hub" ? "hub" : poster[$2], packet($2) " reaches nobody, " $3)
-    else if (sort == "hub" && word == "dropped") note("hub", packet($2) " is dropped, " $3)
+    else if (word == "gone") note(sort == "hub" ? "hub" : poster[$2], packet($2) " reaches nobody, " explained($3))
+    else if (sort == "hub" && word == "dropped") note("hub", packet($2) " is dropped, " explained($3))
     else if (word != "idle" && word != "got") { text = says(word); note(teller, text) }
 }
 

@@ -91,12 +91,13 @@ function entry(n, word,    text) {
         if (word == "solicit") frame(n, "asker", outbound, $3, "asked on " $2)
         return
     }
+    note_tokens(word)
     if (word == "at") { moment = $2; handed_in = 0 }
     else if (word == "sent") posts(n, $3, stands_on($3), $6)
     else if (word == "injected") posts(n, $3, $4, $6)
     else if (word == "handed") { if (digits_of[$2] != "") arrives(n, $2, $3, "handed") }
     else if (word == "heard") arrives(n, $2, $3, "heard")
-    else if (word == "gone") { became($2, "gone, " $3); handed_in = 0 }
+    else if (word == "gone") { became($2, "gone, " explained($3)); handed_in = 0 }
     else if (word == "lost") { became($2, "lost"); handed_in = 0 }
     else {
         follow(word)

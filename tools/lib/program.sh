@@ -18,3 +18,9 @@ proved_program() {
     if [ -z "${MIP-}" ]; then "$1/mip" decode </dev/null >/dev/null || true; fi
     chosen_program "$1"
 }
+
+# The same, and nothing where there is none.
+found_program() {
+    local found
+    if found=$(chosen_program "$1"); then echo "$found"; fi
+}

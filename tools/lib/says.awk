@@ -14,6 +14,35 @@ function meaning(status) {
     return "refused"
 }
 
+# Why a node did nothing with a packet, in words.
+BEGIN {
+    says_why("short=fewer than 40 bytes, or a header passes the end/version=the version is not 6/length=the payload length is not that of the packet")
+    says_why("header=a header that is not read, or one that stands twice/route=a routing header that is not taken here")
+    says_why("option=a destination option is malformed, stands twice or may not be skipped/size=the size is none that is taken")
+    says_why("checksum=the checksum does not hold/type=the type of the message is above 7/proto=Payload Proto is not 59")
+    says_why("headerlen=Header Len is below the least of its type/moption=a mobility option is malformed or stands twice")
+    says_why("address=it is for another address/probe=a test init with a Home Address option/homeoption=no binding from this home to this source is held")
+    says_why("unroutable=the home or the care-of address is not routable/options=nonce indices or authenticator are missing")
+    says_why("authenticator=the authenticator is not the one for these tokens/role=such a node does not take it/icmp=it is ICMPv6")
+    says_why("none=nothing stands behind its headers/unshielded=it comes without the shield/entry=the tunnel has another entry")
+    says_why("nested=the packet in the tunnel is a tunnel, or for the node itself/hop=the hop limit is used up")
+    says_why("cookie=the cookie is another one than was sent/ack=no update waits for it/error=a Binding Error of a peer that is not bound")
+    says_why("refresh=a refresh request of a peer that is not bound/frame=the datagram is no frame/nolink=no link has the prefix of the destination")
+    says_why("noholder=nobody holds the destination/shield=the shield is not that of the holder/detached=it stands on no link")
+    says_why("unregistered=it is not registered/noroute=it has no route there")
+}
+
+function says_why(rows,    part, count, i, at) {
+    count = split(rows, part, "/")
+    for (i = 1; i <= count; i++) {
+        at = index(part[i], "=")
+        why_in_words[substr(part[i], 1, at - 1)] = substr(part[i], at + 1)
+    }
+}
+
+# A word with what it means.
+function explained(why) { return why (why in why_in_words ? ": " why_in_words[why] : "") }
+
 # The number of a binding, where it is not the one that each home has.
 function under(number) { return number == 0 ? "" : " under number " number }
 
@@ -24,11 +53,11 @@ function says_of_update(word) {
         return "accepted " $3 ", " familiar($4) " is at " familiar($6) under($5) ", sequence " $7 ", until " $8 " ms"
     }
     if (word == "denied") return "denied " $3 ", status " $4 ", " meaning($4)
-    if (word == "dropped") return "dropped " $3 ", " $4
+    if (word == "dropped") return "dropped " $3 ", " explained($4)
     # a mark speaks of the update that was accepted last
     teller = judge
     if (word == "origin") return $3 == "-" ? "token of packet " $2 ", update of packet " $4 : "tokens of packets " $2 " and " $3 ", update of packet " $4
-    if (word == "forged") return "forged, cause " $2
+    if (word == "forged") return "forged, cause " $2 ": " cause_in_words($2)
     teller = $2
     return ""
 }
@@ -53,7 +82,7 @@ function says_of_mobile(word) {
 # What any node says of itself.
 function says_of_node(word) {
     if (word == "up") return "up " $3 ", protocol " $6 " from " familiar($4)
-    if (word == "unsent") return "cannot send, " $3
+    if (word == "unsent") return "cannot send, " explained($3)
     if (word == "restarted") return "restarts, and has lost what it kept"
     if (word == "row") return "row " familiar($3) " is at " familiar($5) under($4) ", sequence " $6 ", until " $7 " ms, kept until " $8 " ms"
     if (word == "settled") return ($4 == "yes" ? "can" : "cannot") " exchange data with " $3

@@ -105,6 +105,7 @@ function in_digits(    i, full) {
 }
 
 function line(n,    why) {
+    if (n == 1 && /^mip [12]$/) { refuse(n, "this is a schedule: run it first, as `mip replay < SCHEDULE` does, and give its trace"); return }
     if (/:/) in_digits()
     why = fault()
     if (why != "") { refuse(n, why); return }
