@@ -38,15 +38,17 @@ show_help() {
     fi
     printf '  %-35s%s\n' "$me help COMMAND" 'tells more of a command' "$me --version" 'tells which program runs'
     if [ -n "$installed" ]; then
-        printf '\n%s\n%s\n' 'Beside the program stand mip-why, which names the fault of a schedule, mip-brief, which lists a trace on a terminal, and others;' \
-            'each has --help, and man mip has them all.'
+        printf '\n%s\n%s\n%s\n' 'Beside the program stand mip-why, which names the fault of a schedule, mip-brief, which lists a trace on a terminal, mip-trace2html, which draws' \
+            'it as a page, mip-conform, which tells which rules of RFC 6275 another implementation breaks, mip-lab, mip-sweep and others;' \
+            'each has --help, and man mip has them all. man mip-schedule has the formats.'
         return
     fi
     cat <<HELP
 
 Schedules, traces, listings, configurations and exit statuses are described in docs/FORMATS.md. Beside the program stand tools/why, which names the fault of a
-schedule, tools/brief, which lists a trace on a terminal, and tools/addr, capture2inject, decode, trace2chart, trace2csv, trace2pcap and
-trace2pcapng; each has --help. A proved program is installed by tools/install.
+schedule or a configuration, tools/brief, which lists a trace on a terminal, tools/trace2html, which draws it as a page, tools/tracediff, which tells two traces apart,
+tools/conform, which tells which rules of RFC 6275 another implementation breaks, tools/lab, which puts nodes behind Linux hosts, tools/sweep, which runs many seeds, and
+tools/addr, capture2inject, decode, hostile, spread, trace2chart, trace2csv, trace2pcap and trace2pcapng; each has --help. A proved program is installed by tools/install.
 HELP
 }
 
