@@ -2,6 +2,7 @@
 import argparse
 import asyncio
 import contextlib
+import dataclasses
 import importlib
 import random
 import secrets
@@ -50,6 +51,7 @@ def words():
     it.add_argument("--tun", metavar="NAME")
     it.add_argument("--name-space", default="conform")
     it.add_argument("--address")
+    it.add_argument("--bound", nargs=2, default=[], metavar=("HOME", "CAREOF"))
     it.add_argument("--case", nargs="+", default=[], metavar="NAME")
     it.add_argument("--patience", type=positive, default=2.0)
     it.add_argument("--junit", metavar="FILE")
@@ -78,7 +80,8 @@ class Kit:
         self.room = asyncio.Semaphore(AT_ONCE)
 
     def addresses(self, case):
-        return self.role.addresses(self.role.cases.index(case), self.number, self.own)
+        found = self.role.addresses(self.role.cases.index(case), self.number, self.own)
+        return found | {name: packets.packed(it) for name, it in zip("HA", self.given.bound)}
 
     async def run(self):
         mip = nodes.program()
@@ -158,6 +161,8 @@ class Kit:
 
     async def at_device(self, case):
         """The result of a case at the device that stands, or at one that is started for it."""
+        if self.given.bound:
+            case = self.role.once_bound(case)
         if self.device:
             return await self.device.run(case, self.addresses(case))
         it = nodes.Started(self.given.start, self.role, self.given.patience)
@@ -206,6 +211,8 @@ def chosen_of(role, given):
             stop(f"there is no case {name}; --list has them all")
     if given.case:
         return [it for it in role.cases if it.name in given.case]
+    if given.tun:
+        role = dataclasses.replace(role, cases=[it for it in role.cases if "unprotected" not in it.name])  # what has no shield cannot be told from what has one
     return [it for it in role.cases if (given.slow or not it.is_slow) and (given.fill or not it.fills) and not (given.no_data and it.talks)]
 
 

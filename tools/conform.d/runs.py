@@ -74,7 +74,7 @@ class Run:
     def came(self, now, data, shield, fault):
         try:
             if not fault:
-                said = self.env.read(data) | {"bytes": data, "shield": shield and " ".join(map(packets.shown, shield))}
+                said = self.env.read(data) | {"bytes": data, "shield": self.session.unseen or (shield and " ".join(map(packets.shown, shield)))}
                 return Came(now, data, said, shield)
         except packets.NotPacket as it:
             fault = f"what came is no packet: {it}"
@@ -211,7 +211,7 @@ class Session:
         self.link, self.role, self.patience, self.grace = link, role, patience, grace
         self.owners, self.lock, self.holder, self.last = {}, asyncio.Lock(), None, None
         self.count, self.sent, self.strays, self.has_barrier, self.misses = 0, 0, [], False, 0
-        self.seed = ""
+        self.seed, self.unseen = "", getattr(link, "unseen", None)  # what stands for a shield that the link cannot show
         self.kept = {}  # what a role keeps from case to case
 
     def begin(self):
