@@ -4,7 +4,6 @@ Names of addresses: `H` is the mobile's home address, `G` its home agent, `A` an
 correspondents, `X` is a stranger. A peer is `P` where a step names none.
 """
 import dataclasses
-import secrets
 import struct
 import time
 
@@ -273,7 +272,7 @@ class Probes:
 
 def drawn(env, name, index):
     """A new token of a test, kept under this name with its index."""
-    env.tests[name] = (index, secrets.token_bytes(8))
+    env.tests[name] = (index, env.draw.randbytes(8))
     return env.tests[name]
 
 
