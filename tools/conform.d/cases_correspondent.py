@@ -149,7 +149,7 @@ PLACES = (
          bind, coti("B", cookie="new"), cot("B", "new", "new"), bu(source="B", sequence=2, careof_test="new"), ok(2, destination="B"), data("B"), nothing(), unbound),
     must("tokens-again", "5.2.5", "Two tokens make more than one update.", bind, bu(sequence=2), ok(2), bound),
     must("binding-ends", "9.5.2", "A binding ends with its lifetime.", tests(), bu(lifetime=1), ok(lifetime=1), bound, wait(5), unbound),
-    must("binding-renewed", "9.5.2", "An update before the end makes the binding last from then on.", tests(), bu(lifetime=1), ok(lifetime=1), wait(2.5), bu(sequence=2, lifetime=1), ok(2, lifetime=1), wait(2.5), bound),
+    must("binding-renewed", "9.5.2", "An update before the end makes the binding last from then on.", tests(), bu(lifetime=2), ok(lifetime=2), wait(5), bu(sequence=2, lifetime=2), ok(2, lifetime=2), wait(5), bound),
 )
 
 SEQUENCES = (
