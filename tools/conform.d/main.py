@@ -183,17 +183,18 @@ class Kit:
 
     async def at_device(self, case):
         """The result of a case at the device that stands, or at one that is started for it."""
+        addresses = self.addresses(case)
         if self.given.bound:
             case = self.role.once_bound(case)
         if self.device:
-            return await self.device.run(case, self.addresses(case))
+            return await self.device.run(case, addresses)
         it = nodes.Started(self.given.start, self.role, self.given.patience)
         async with self.device_room():
             await self.started(it)
             it.session.seed = self.given.seed
             await self.greet(it.session)
             try:
-                return await it.session.run(case, self.addresses(case))
+                return await it.session.run(case, addresses)
             finally:
                 self.has_answered = self.has_answered or it.session.count > 0
                 await self.ended(it)
