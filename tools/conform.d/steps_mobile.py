@@ -10,6 +10,7 @@ import time
 import packets
 import tokens
 from cases import SHOULD, Done, Expect, Send, Several, Word, changed, mobility
+from runs import packet_text
 
 ALL_NODES, ROUTER = packets.packed("ff02::1"), packets.packed("fe80::1")
 UDP, DISCARD = 17, 9
@@ -195,7 +196,8 @@ class AtHome:
             if "hoti" in answered:
                 await self.wait_for_update(run)
         run.session.kept["is at home"] = self.is_last
-        return Done("brought home: no registration and no bindings")
+        wrong = ["it is the same packet as one that came before: " + packet_text(it) for it in run.twice[:1]]
+        return Done("brought home: no registration and no bindings", wrong=wrong if self.is_last else [])
 
     async def wait_for_update(self, run):
         """A mobile that has sent as many updates as it may waits before it sends the one that ends a binding."""
