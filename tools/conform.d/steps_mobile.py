@@ -187,6 +187,8 @@ class AtHome:
         if not self.is_last and run.session.kept.get("has begun"):
             await Registers("B").perform(run)
         run.session.kept["has begun"] = True
+        if run.env.more.get("at") == "H":  # a deregistration may wait for its acknowledgement
+            await home_ack(lifetime=0).perform(run)
         await arrives("H").perform(run)
         for _ in range(ROUNDS):
             await run.quiet()
