@@ -198,8 +198,12 @@ class AtHome:
             if "hoti" in answered:
                 await self.wait_for_update(run)
         run.session.kept["is at home"] = self.is_last
-        wrong = ["it is the same packet as one that came before: " + packet_text(it) for it in run.twice[:1]]
-        return Done("brought home: no registration and no bindings", wrong=wrong if self.is_last else [])
+        return Done("brought home: no registration and no bindings", wrong=self.repeated(run) if self.is_last else [])
+
+    def repeated(self, run):
+        """What is wrong with a mobile that sends its updates twice: each has a sequence number of its own."""
+        updates = [it for it in map(packet_text, run.twice) if it.startswith("bu ")]
+        return ["it is the same packet as one that came before: " + it for it in updates[:1]]
 
     async def wait_for_update(self, run):
         """A mobile that has sent as many updates as it may waits before it sends the one that ends a binding."""
