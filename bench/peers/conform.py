@@ -14,7 +14,9 @@ import kernel
 
 KIT = pathlib.Path(__file__).resolve().parent.parent.parent / "tools" / "conform"
 # what a kernel decides without a daemon: extension headers, and the form of a mobility message
-CASES = ("proto-discarded", "proto-told", "proto-told-option", "length-discarded", "length-told", "length-told-update", "option-discards", "option-told", "routing-header")
+CASES = ("proto-discarded", "proto-told", "length-discarded", "length-told", "length-told-update", "option-discards", "option-told", "routing-header")
+# what it does where `ip xfrm` has told it of a binding
+BOUND = ("talk-bound", "data-bound", "type-unknown-bound")
 HEAD = kernel.GUEST + kernel.HOST + b"\x86\xdd"
 
 
@@ -39,11 +41,13 @@ def main(boot):
     print("conform: " + kernel.name_of(boot[0]))
     with kernel.Guest(*boot, "correspondent") as guest, socket.socket(socket.AF_INET, socket.SOCK_DGRAM) as port:
         port.bind(("127.0.0.1", 0))
-        words = [KIT, "correspondent", "--port", str(port.getsockname()[1]), "--patience", "3", "--case", *CASES]
-        kit = subprocess.Popen(words, stdout=subprocess.PIPE, text=True)
-        relay(guest, port, kit)
-        print(kit.stdout.read(), end="")
-    sys.exit(0 if kit.returncode in (0, 1) else kit.returncode)
+        for more in (CASES, (*BOUND, "--bound", kernel.HOME, kernel.CAREOF)):
+            words = [KIT, "correspondent", "--port", str(port.getsockname()[1]), "--patience", "3", "--case", *more]
+            kit = subprocess.Popen(words, stdout=subprocess.PIPE, text=True)
+            relay(guest, port, kit)
+            print(kit.stdout.read(), end="")
+            if kit.returncode not in (0, 1):
+                sys.exit(kit.returncode)
 
 
 main(sys.argv[1:3])

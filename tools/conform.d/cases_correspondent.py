@@ -3,9 +3,9 @@ import secrets
 
 import packets
 import tokens
-from cases import Expect, Word, again, anything, ba, be, between, bu, cot, coti, data, denied, hot, hoti, lax, must, nothing, ok, one, one_of, problem, raw, should, tests, wait
+from cases import Expect, Word, again, anything, ba, be, between, bu, cot, coti, data, denied, flat, hot, hoti, lax, must, nothing, ok, one, one_of, problem, raw, should, tests, wait
 from roles import Role
-from steps_correspondent import bu_behind, counted, echo, filled, message_of, place, resealed, sealed_with, spelled_zero, talk, tiny, update_for, update_of_another_proto, with_option
+from steps_correspondent import bu_behind, counted, echo, filled, message_of, place, resealed, sealed_with, spelled_zero, talk, tiny, update_for, update_of_another_proto, with_option, without
 
 UNKNOWN = 60000  # a nonce index that no node has given
 OLD = one_of(136, 137, 138)  # a nonce that is no longer taken
@@ -149,7 +149,7 @@ PLACES = (
          bind, coti("B", cookie="new"), cot("B", "new", "new"), bu(source="B", sequence=2, careof_test="new"), ok(2, destination="B"), data("B"), nothing(), unbound),
     must("tokens-again", "5.2.5", "Two tokens make more than one update.", bind, bu(sequence=2), ok(2), bound),
     must("binding-ends", "9.5.2", "A binding ends with its lifetime.", tests(), bu(lifetime=1), ok(lifetime=1), bound, wait(5), unbound),
-    must("binding-renewed", "9.5.2", "An update before the end makes the binding last from then on.", tests(), bu(lifetime=1), ok(lifetime=1), wait(2.5), bu(sequence=2, lifetime=1), ok(2, lifetime=1), wait(2.5), bound),
+    must("binding-renewed", "9.5.2", "An update before the end makes the binding last from then on.", tests(), bu(lifetime=2), ok(lifetime=2), wait(5), bu(sequence=2, lifetime=2), ok(2, lifetime=2), wait(5), bound),
 )
 
 SEQUENCES = (
@@ -264,6 +264,9 @@ def hello(env):
     yield echo(env, "Z")
 
 
+LAST_TURN = 1000000  # that a configuration may name
+
+
 def configuration(port, kit, own, cases):
     """A correspondent that sends data to each home of the cases that look for it, as often as a configuration has room for."""
     homes = [HOMES[CASES.index(it)].hex() for it in cases if it.talks]
@@ -272,11 +275,11 @@ def configuration(port, kit, own, cases):
 
 
 def beats(count):
-    """The turns at which a node sends data: each tenth at first, ever fewer later, for some minutes."""
-    turn = 0
-    for _ in range(count):
-        turn += 10 + turn // 40
+    """The turns at which a node sends data, so many at most: each tenth at first, ever fewer later."""
+    turn = 10
+    while count and turn <= LAST_TURN:
         yield turn
+        turn, count = turn + 10 + turn // 40, count - 1
 
 
 def is_stray(data):
@@ -284,4 +287,5 @@ def is_stray(data):
     return data[24:40] in HOMES.values()
 
 
-ROLE = Role("correspondent", "C", "2001:db8:2::2", CASES, addresses, configuration, barrier, hello, ignores=("brr",), shared=("C",), is_stray=is_stray)
+ROLE = Role("correspondent", "C", "2001:db8:2::2", CASES, addresses, configuration, barrier, hello, ignores=("brr",), shared=("C",), is_stray=is_stray,
+            once_bound=lambda case: without(case, flat(bind)))

@@ -2,6 +2,7 @@
 import argparse
 import asyncio
 import contextlib
+import dataclasses
 import importlib
 import random
 import secrets
@@ -41,24 +42,47 @@ def positive(text):
     return number
 
 
+def address(text):
+    return packets.shown(packets.packed(text))
+
+
+def writable(path):
+    """A file that can be written to, which is seen before the run and not behind it."""
+    try:
+        with open(path, "a", encoding="utf-8"):
+            return path
+    except OSError as fault:
+        raise argparse.ArgumentTypeError(f"{path}: {fault.strerror}") from fault
+
+
+def port(text):
+    number = int(text)
+    if not 1 <= number <= 65535:
+        raise ValueError
+    return number
+
+
 def words():
     it = Words(prog="conform", add_help=False, allow_abbrev=False)
     it.add_argument("role", choices=ROLES)
-    it.add_argument("--port", type=int)
-    it.add_argument("--kit-port", type=int)
+    it.add_argument("--port", type=port)
+    it.add_argument("--kit-port", type=port)
     it.add_argument("--start", metavar="COMMAND")
     it.add_argument("--tun", metavar="NAME")
     it.add_argument("--name-space", default="conform")
-    it.add_argument("--address")
+    it.add_argument("--address", type=address)
+    it.add_argument("--bound", nargs=2, type=address, default=[], metavar=("HOME", "CAREOF"))
     it.add_argument("--case", nargs="+", default=[], metavar="NAME")
     it.add_argument("--patience", type=positive, default=2.0)
-    it.add_argument("--junit", metavar="FILE")
+    it.add_argument("--junit", metavar="FILE", type=writable)
     it.add_argument("--seed", default="")
     for flag in ("--slow", "--list", "--json", "--no-data", "--fill", "--config"):
         it.add_argument(flag, action="store_true")
     found = it.parse_args()
-    if not found.list and not found.start and not found.tun and (found.port is None or not 1 <= found.port <= 65535):
+    if found.port is None and (found.config or not (found.list or found.start or found.tun)):
         it.error("the port of the device is missing: --port takes 1 to 65535")
+    if found.port and not found.kit_port:
+        found.kit_port = found.port + 1 if found.port < 65535 else it.error("the kit's port is missing: --kit-port takes 1 to 65535")
     return found
 
 
@@ -74,11 +98,12 @@ class Kit:
         self.given, self.role, self.chosen = given, role, chosen
         self.own = packets.packed(given.address or role.own)
         self.number = random.Random(given.seed).randbytes(4) if given.seed else secrets.token_bytes(4)
-        self.found, self.notes, self.begun, self.device = {}, [], [], None
+        self.found, self.notes, self.begun, self.device, self.has_answered = {}, [], [], None, False
         self.room = asyncio.Semaphore(AT_ONCE)
 
     def addresses(self, case):
-        return self.role.addresses(self.role.cases.index(case), self.number, self.own)
+        found = self.role.addresses(self.role.cases.index(case), self.number, self.own)
+        return found | {name: packets.packed(it) for name, it in zip("HA", self.given.bound)}
 
     async def run(self):
         mip = nodes.program()
@@ -102,13 +127,13 @@ class Kit:
                 await it.end()
             if self.device:
                 self.device.link.end()
-        return None if self.found else NEVER_ANSWERED
+        return None if self.found and (self.device or self.has_answered) else NEVER_ANSWERED
 
     def link(self):
         """The kit's end of the link to a device that stands."""
         if self.given.tun:
             return tun.TunLink(self.given.tun, self.given.name_space, packets.shown(self.own))
-        return frames.UdpLink(self.given.kit_port or self.given.port + 1, self.given.port)
+        return frames.UdpLink(self.given.kit_port, self.given.port)
 
     async def host(self):
         """Starts the program of the host behind a TUN device, where there is one."""
@@ -158,16 +183,20 @@ class Kit:
 
     async def at_device(self, case):
         """The result of a case at the device that stands, or at one that is started for it."""
+        addresses = self.addresses(case)
+        if self.given.bound:
+            case = self.role.once_bound(case)
         if self.device:
-            return await self.device.run(case, self.addresses(case))
+            return await self.device.run(case, addresses)
         it = nodes.Started(self.given.start, self.role, self.given.patience)
         async with self.device_room():
             await self.started(it)
             it.session.seed = self.given.seed
             await self.greet(it.session)
             try:
-                return await it.session.run(case, self.addresses(case))
+                return await it.session.run(case, addresses)
             finally:
+                self.has_answered = self.has_answered or it.session.count > 0
                 await self.ended(it)
 
     def device_room(self):
@@ -206,6 +235,8 @@ def chosen_of(role, given):
             stop(f"there is no case {name}; --list has them all")
     if given.case:
         return [it for it in role.cases if it.name in given.case]
+    if given.tun:
+        role = dataclasses.replace(role, cases=[it for it in role.cases if "unprotected" not in it.name])  # what has no shield cannot be told from what has one
     return [it for it in role.cases if (given.slow or not it.is_slow) and (given.fill or not it.fills) and not (given.no_data and it.talks)]
 
 
@@ -244,7 +275,7 @@ def main():
         return ALL_PASSED
     if given.config:
         own = packets.packed(given.address or role.own)
-        print("\n".join(role.configuration(given.port, given.kit_port or given.port + 1, own, chosen)))
+        print("\n".join(role.configuration(given.port, given.kit_port, own, chosen)))
         return ALL_PASSED
     kit = Kit(given, role, chosen)
     try:

@@ -17,5 +17,6 @@ class Role:
     ignores: tuple = ()  # kinds of packets that may come at any time
     shared: tuple = ()  # names of addresses that are no case's own
     is_exclusive: bool = False  # a case that waits keeps others from the device
+    once_bound: object = lambda case: case  # a case for a device that has the binding of H to A already, without the steps that make it
     is_stray: object = lambda data: False  # whether a packet for no address of a case is nothing to look at
     at_one_node: int = 24  # cases that share one proved node; 1 where each wants its own

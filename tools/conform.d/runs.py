@@ -9,6 +9,7 @@ import cases
 import frames
 import packets
 
+AT_ONCE = 0.3  # s within which no packet is sent again for want of an answer
 MOST = 200  # packets that a case takes; a device that sends more floods it
 LAST_LOOK = 0.02  # s, behind the end of a patience: this process may have stood still, and what came stands in the socket
 MISSES = 5  # cases in a row to which nothing at all came: then the device is taken for gone
@@ -43,6 +44,8 @@ class Run:
     def __init__(self, session, case, addresses):
         self.session, self.case, self.env = session, case, cases.Env(addresses, session.draw_for(case))
         self.inbox, self.seen, self.late = [], [], []
+        self.moments = {}  # of each packet that came, when it came last
+        self.twice = []  # packets that came twice at once
         self.event, self.has_ended, self.begun = asyncio.Event(), False, time.monotonic()
         self.ignores = set(case.ignores) | set(session.role.ignores)
         self.barriers, self.is_silent = [], False  # what the answers that end a silence look like, of those that did not come yet
@@ -59,8 +62,11 @@ class Run:
         if self.has_ended:
             it = self.came(now, data, shield, fault)
             if it.said["kind"] not in self.ignores and len(self.late) < MOST:
-                self.late.append(f"{now - self.begun:.1f} s after the case began: {it.fault or said_text(it.said)}")
+                self.late.append(f"{max(now - self.begun, 0):.1f} s after the case began: {it.fault or said_text(it.said)}")
             return
+        if now - self.moments.get(data, -AT_ONCE) < AT_ONCE:
+            self.twice.append(data)
+        self.moments[data] = now
         if not fault and (ended := next((it for it in self.barriers if it(data)), None)):
             self.barriers.remove(ended)
             self.seen.append(data)
@@ -74,7 +80,7 @@ class Run:
     def came(self, now, data, shield, fault):
         try:
             if not fault:
-                said = self.env.read(data) | {"bytes": data, "shield": shield and " ".join(map(packets.shown, shield))}
+                said = self.env.read(data) | {"bytes": data, "shield": self.session.unseen or (shield and " ".join(map(packets.shown, shield)))}
                 return Came(now, data, said, shield)
         except packets.NotPacket as it:
             fault = f"what came is no packet: {it}"
@@ -211,7 +217,7 @@ class Session:
         self.link, self.role, self.patience, self.grace = link, role, patience, grace
         self.owners, self.lock, self.holder, self.last = {}, asyncio.Lock(), None, None
         self.count, self.sent, self.strays, self.has_barrier, self.misses = 0, 0, [], False, 0
-        self.seed = ""
+        self.seed, self.unseen = "", getattr(link, "unseen", None)  # what stands for a shield that the link cannot show
         self.kept = {}  # what a role keeps from case to case
 
     def begin(self):

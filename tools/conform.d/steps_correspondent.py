@@ -97,6 +97,20 @@ def filled(most=80):
     return Filled(most)
 
 
+@dataclasses.dataclass(frozen=True)
+class Skipped:
+    """A step that is done already."""
+
+    async def perform(self, run):
+        return cases.Done("the device has the binding already", is_lax=True)
+
+
+def without(case, steps):
+    """The case without these steps and those in front of them."""
+    last = next((at + len(steps) for at in range(len(case.steps)) if case.steps[at : at + len(steps)] == steps), 0)
+    return dataclasses.replace(case, steps=(Skipped(),) * last + case.steps[last:])
+
+
 # --- packets that are special in one way
 
 

@@ -4,13 +4,13 @@ Names of addresses: `H` is the mobile's home address, `G` its home agent, `A` an
 correspondents, `X` is a stranger. A peer is `P` where a step names none.
 """
 import dataclasses
-import secrets
 import struct
 import time
 
 import packets
 import tokens
 from cases import SHOULD, Done, Expect, Send, Several, Word, changed, mobility
+from runs import packet_text
 
 ALL_NODES, ROUTER = packets.packed("ff02::1"), packets.packed("fe80::1")
 UDP, DISCARD = 17, 9
@@ -187,6 +187,8 @@ class AtHome:
         if not self.is_last and run.session.kept.get("has begun"):
             await Registers("B").perform(run)
         run.session.kept["has begun"] = True
+        if run.env.more.get("at") == "H":  # a deregistration may wait for its acknowledgement
+            await home_ack(lifetime=0).perform(run)
         await arrives("H").perform(run)
         for _ in range(ROUNDS):
             await run.quiet()
@@ -196,7 +198,12 @@ class AtHome:
             if "hoti" in answered:
                 await self.wait_for_update(run)
         run.session.kept["is at home"] = self.is_last
-        return Done("brought home: no registration and no bindings")
+        return Done("brought home: no registration and no bindings", wrong=self.repeated(run) if self.is_last else [])
+
+    def repeated(self, run):
+        """What is wrong with a mobile that sends its updates twice: each has a sequence number of its own."""
+        updates = [it for it in map(packet_text, run.twice) if it.startswith("bu ")]
+        return ["it is the same packet as one that came before: " + it for it in updates[:1]]
 
     async def wait_for_update(self, run):
         """A mobile that has sent as many updates as it may waits before it sends the one that ends a binding."""
@@ -273,7 +280,7 @@ class Probes:
 
 def drawn(env, name, index):
     """A new token of a test, kept under this name with its index."""
-    env.tests[name] = (index, secrets.token_bytes(8))
+    env.tests[name] = (index, env.draw.randbytes(8))
     return env.tests[name]
 
 

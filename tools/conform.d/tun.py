@@ -32,11 +32,14 @@ class Unseen:
     def __hash__(self):
         return 0
 
+    def __str__(self):
+        return "not seen"
+
 
 class TunLink:
     """The kit's end of the device. In the name space it has the address of the device under test, and the default route."""
 
-    is_closed = False
+    is_closed, unseen = False, Unseen()
 
     def __init__(self, name, space, own):
         self.name, self.space, self.heard, self.fd = name, space, None, -1

@@ -4,13 +4,10 @@ It keeps the rules of RFC 6275 where no fault is named. FAULTS says what each do
 """
 import dataclasses
 import ipaddress
-import pathlib
-import sys
 import time
 
-sys.path.append(str(pathlib.Path(__file__).resolve().parents[3] / "tools" / "conform.d"))
-import packets as p  # noqa: E402
-from common import Device, MemoryLink, opened, run  # noqa: E402
+import packets as p
+from common import Device, MemoryLink, opened
 
 GREATEST, UNIT, HOMES = 900, 4.0, 8
 ANYCAST = bytes.fromhex("fdfffffffffffffe")
@@ -210,7 +207,3 @@ class Agent(Device):
 def link(own, faults):
     """An agent in this process."""
     return MemoryLink(lambda put: Agent(own, faults, put))
-
-
-if __name__ == "__main__":
-    run(lambda faults, put: Agent(p.packed("2001:db8:1::1"), faults, put), "agent")

@@ -4,9 +4,6 @@ A device keeps the rules of RFC 6275 where no fault is named; each fault is a wo
 """
 import asyncio
 import dataclasses
-import select
-import socket
-import sys
 import time
 
 import frames
@@ -155,19 +152,3 @@ class MemoryLink:
     def end(self):
         if self.timer:
             self.timer.cancel()
-
-
-def run(make, role):
-    """ROLE.py PORT KIT [FAULT ..]: a device at a port, until it is ended."""
-    if len(sys.argv) < 3:
-        sys.exit(f"{role}.py PORT KIT [FAULT ..]: a small {role} with these faults at PORT, for a kit at the port KIT")
-    link = socket.socket(socket.AF_INET, socket.SOCK_DGRAM)
-    link.bind(("127.0.0.1", int(sys.argv[1])))
-    device = make(set(sys.argv[3:]), lambda packet, shield=None: link.sendto(frames.write_frame(packet, shield), ("127.0.0.1", int(sys.argv[2]))))
-    while True:
-        due = device.due()
-        if select.select([link], [], [], None if due is None else max(due - time.monotonic(), 0))[0]:
-            frame = frames.read_frame(link.recv(4097))
-            if frame:
-                device.take(frame[1], frame[0])
-        device.tick()

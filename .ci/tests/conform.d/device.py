@@ -49,8 +49,11 @@ class Port:
             sys.exit(0)
         if frame is None or self.manner == "silent":
             return
-        for it in self.device.take(frame[1], time.monotonic() - self.begun):
-            self.answer(b"\0" + it)
+        if hasattr(self.device, "send"):
+            self.device.send(frame[1], frame[0])
+        else:
+            for it in self.device.take(frame[1], time.monotonic() - self.begun):
+                self.answer(b"\0" + it)
 
     def answer(self, datagram):
         if self.manner == "late":
@@ -62,6 +65,8 @@ class Port:
 
 
 async def serve(port):
+    if hasattr(port.device, "begin"):
+        port.device.begin(port.answer)
     print("at 0", flush=True)  # as a `mip node` says that it listens
     asyncio.get_running_loop().add_reader(port.socket, port.ready)
     await asyncio.sleep(3600)
@@ -72,8 +77,9 @@ def main(words):
     role, port, kit, *faults = [it for it in words if not it.startswith("--")]
     if any(it not in MANNERS for it in manners):
         sys.exit(f"device: no such manner: {manners}")
-    own = importlib.import_module(f"cases_{role}").ROLE.own
-    device = importlib.import_module(role).make(socket.inet_pton(socket.AF_INET6, own), set(faults))
+    module, own = importlib.import_module(role), importlib.import_module(f"cases_{role}").ROLE.own
+    make = getattr(module, "link", None) or module.make  # a device that sends by itself has a link of its own
+    device = make(socket.inet_pton(socket.AF_INET6, own), set(faults))
     asyncio.run(serve(Port(device, port, kit, manners[0] if manners else "")))
 
 

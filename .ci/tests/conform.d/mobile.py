@@ -5,15 +5,12 @@ It keeps the rules of RFC 6275 where no fault is named. FAULTS says what each do
 import dataclasses
 import hashlib
 import hmac
-import pathlib
 import secrets
-import sys
 import time
 
-sys.path.append(str(pathlib.Path(__file__).resolve().parents[3] / "tools" / "conform.d"))
-import packets as p  # noqa: E402
-import tokens  # noqa: E402
-from common import Device, MemoryLink, opened, run  # noqa: E402
+import packets as p
+import tokens
+from common import Device, MemoryLink, opened
 
 ALL_NODES = p.packed("ff02::1")
 ASKED, BOUND_FOR = 900, 105  # units of 4 s
@@ -358,7 +355,3 @@ def link(own, faults):
     """A mobile in this process."""
     agent = own[:8] + (1).to_bytes(8, "big")
     return MemoryLink(lambda put: Mobile(own, agent, faults, put))
-
-
-if __name__ == "__main__":
-    run(lambda faults, put: Mobile(p.packed("2001:db8:1::77"), p.packed("2001:db8:1::1"), faults, put), "mobile")
