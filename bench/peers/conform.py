@@ -16,7 +16,7 @@ KIT = pathlib.Path(__file__).resolve().parent.parent.parent / "tools" / "conform
 # what a kernel decides without a daemon: extension headers, and the form of a mobility message
 CASES = ("proto-discarded", "proto-told", "length-discarded", "length-told", "length-told-update", "option-discards", "option-told", "routing-header")
 # what it does where `ip xfrm` has told it of a binding
-BOUND = ("talk-bound", "data-bound", "type-unknown-bound")
+BOUND = ("talk-bound", "data-bound")
 HEAD = kernel.GUEST + kernel.HOST + b"\x86\xdd"
 
 

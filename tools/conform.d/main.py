@@ -102,8 +102,7 @@ class Kit:
         self.room = asyncio.Semaphore(AT_ONCE)
 
     def addresses(self, case):
-        found = self.role.addresses(self.role.cases.index(case), self.number, self.own)
-        return found | {name: packets.packed(it) for name, it in zip("HA", self.given.bound)}
+        return self.role.addresses(self.role.cases.index(case), self.number, self.own)
 
     async def run(self):
         mip = nodes.program()
@@ -183,7 +182,7 @@ class Kit:
 
     async def at_device(self, case):
         """The result of a case at the device that stands, or at one that is started for it."""
-        addresses = self.addresses(case)
+        addresses = self.addresses(case) | {name: packets.packed(it) for name, it in zip("HA", self.given.bound)}
         if self.given.bound:
             case = self.role.once_bound(case)
         if self.device:

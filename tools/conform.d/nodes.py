@@ -32,14 +32,14 @@ def program():
 
 
 async def ended(process):
-    """Ends a process that the kit started, and those that it started."""
-    if process and process.returncode is None:
-        try:
-            os.killpg(process.pid, signal.SIGTERM)
-            await asyncio.wait_for(process.wait(), 2)
-        except (ProcessLookupError, TimeoutError):
-            os.killpg(process.pid, signal.SIGKILL)
-            await process.wait()
+    """Ends a process that the kit started, and those that it started. Its end is not waited for for ever: what it still says may have no reader any more."""
+    for sign in (signal.SIGTERM, signal.SIGKILL):
+        if process and process.returncode is None:
+            try:
+                os.killpg(process.pid, sign)
+                await asyncio.wait_for(process.wait(), 2)
+            except (ProcessLookupError, TimeoutError):
+                pass
 
 
 class Node:

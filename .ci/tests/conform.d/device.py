@@ -49,7 +49,7 @@ class Port:
             sys.exit(0)
         if frame is None or self.manner == "silent":
             return
-        if hasattr(self.device, "send"):
+        if hasattr(self.device, "begin"):
             self.device.send(frame[1], frame[0])
         else:
             for it in self.device.take(frame[1], time.monotonic() - self.begun):
