@@ -175,4 +175,4 @@ def configuration(port, kit, own, _):
 
 
 NAMES = ("H", "G", "A", "B", "P", "Q", "X", "Z")
-ROLE = Role("mobile", "H", "2001:db8:1::77", CASES, addresses, configuration, barrier, hello, shared=NAMES, is_exclusive=True, at_one_node=1)
+ROLE = Role("mobile", "H", "2001:db8:1::77", CASES, addresses, configuration, barrier, hello, ignores=("bu", "hoti"), shared=NAMES, is_exclusive=True, at_one_node=1)
