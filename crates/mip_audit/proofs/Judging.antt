@@ -5,7 +5,8 @@ use Rattle.std.specs.Str.{bytes_eq}
 use Rattle.std.proofs.lemmas.Bool.{cases_Bool}
 use Rattle.std.proofs.lemmas.Slice.Eq.{bytes_eq-Decides}
 use Rattle.mip_audit.specs.Lines.{lines_of, joined}
-use Rattle.mip_audit.specs.Differences.{first_apart, difference, IsJudgedSo}
+use Rattle.mip_audit.specs.Differences.{first_apart, difference}
+use Rattle.mip_audit.specs.DifferencesLaws.{IsJudgedSo}
 use Rattle.mip_audit.proofs.LineLaws.{joined-lines}
 
 apart_on : (n : ℕ) (a b : List ℕ) (xs ys : List (List ℕ)) → bytes_eq a b ≡ true → first_apart n (a ∷ xs) (b ∷ ys) ≡ first_apart (n + 1) xs ys

@@ -22,11 +22,6 @@ pub record DifferFirstAt (n : ℕ) (given permitted : List ℕ) : Type 0 where
   pub before : take (n - 1) (lines_of given) ≡ take (n - 1) (lines_of permitted)
   pub there : take n (lines_of given) ≢ take n (lines_of permitted)
 
--- what a judgement says of two texts
-abbrev pub IsJudgedSo : Option ℕ → List ℕ → List ℕ → Type 0
-IsJudgedSo None given permitted = given ≡ permitted
-IsJudgedSo (Some n) given permitted = DifferFirstAt n given permitted
-
 -- an audit answers that the texts differ in no line, or in this one first; want of memory says nothing
 abbrev pub Judges : {X : Type 0} → Result X AuditFault → Option ℕ → Type 0
 Judges (Ok _) differ = differ ≡ None

@@ -3,12 +3,15 @@ use Rattle.std.proofs.Common.{◌≡◌, ◌≢◌, ℕ, ◌<◌, ◌≤◌, Lis
 use Rattle.std.specs.Prelude.{Option, Some, None, option_map, is_some, ◌||◌, nat_lt, ◌==◌, if◌then◌else◌}
 use Rattle.std.specs.List.{list_any, AllByRecursion}
 use Rattle.std.proofs.lemmas.Bool.Decides.{nat_tests}
-use Rattle.mip_words.specs.Last.{or_else, last_where, StandsLast}
+use Rattle.mip_words.specs.Last.{or_else, last_where}
+use Rattle.mip_words.specs.LastLaws.{StandsLast}
 use Rattle.mip_words.proofs.LastLaws.{last_where-push, last_where-none, last_where-found, all-last}
-use Rattle.mip_binding.specs.Acceptance.{Acceptance, Binding, binding_of, is_deletion, kept_until_of}
+use Rattle.mip_binding.specs.Acceptance.{Acceptance, Binding, binding_of, is_deletion}
+use Rattle.mip_binding.specs.AcceptanceLaws.{kept_until_of}
 use Rattle.mip_binding.specs.Rows.{RisesBy, ApartBy, find_by}
 use Rattle.mip_binding.specs.Homes.{HomeKept, home_key, until_key, number_key, kept_with, home_after, homes, kept_homes}
-use Rattle.mip_binding.specs.Held.{is_standing, stands_under, stands_at, careof_where, sequence_in, any_lives, held, held_under, holds, floor, homes_with_floor, HeldUnder, HeldFrom, FloorFrom, LivesIn}
+use Rattle.mip_binding.specs.Held.{is_standing, stands_under, stands_at, careof_where, sequence_in, any_lives, held, held_under, holds, floor, homes_with_floor}
+use Rattle.mip_binding.specs.HeldLaws.{HeldUnder, HeldFrom, FloorFrom, LivesIn}
 use Rattle.mip_binding.proofs.RowLaws.{find-kept, if_kept, find-keys, rises-kept, rises-map}
 use Rattle.mip_binding.proofs.HomeLaws.{IsWellIf, left_by, kept_with-left, kept_with-sequence, kept_with-lasts, home_after-push, home_after-homes, home_after-sequence, home_after-well, rises-homes}
 use Rattle.mip_binding.proofs.LifeLaws.{all-live, AllLive, IsLast, live-last, last-stricter}

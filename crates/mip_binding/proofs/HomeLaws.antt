@@ -6,7 +6,8 @@ use Rattle.std.proofs.lemmas.List.Sums.{fold-append}
 use Rattle.std.proofs.lemmas.Bool.Decides.{nat_tests}
 use Rattle.mip_words.specs.Constants.{max_nonce_lifetime}
 use Rattle.mip_words.specs.Last.{or_else, last_where}
-use Rattle.mip_binding.specs.Acceptance.{Acceptance, Binding, binding_of, is_deletion, kept_until_of}
+use Rattle.mip_binding.specs.Acceptance.{Acceptance, Binding, binding_of, is_deletion}
+use Rattle.mip_binding.specs.AcceptanceLaws.{kept_until_of}
 use Rattle.mip_binding.specs.Rows.{RisesBy, ApartBy, find_by, put_by, others_by}
 use Rattle.mip_binding.specs.Homes.{HomeKept, home_key, until_key, number_key, latest, kept_of, joins, kept_with, home_step, home_after, homes, kept_homes}
 use Rattle.mip_binding.proofs.RowLaws.{find-put, find-kept, if_kept, rises-put, apart-others, apart-push, others-other}

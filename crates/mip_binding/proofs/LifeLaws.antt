@@ -9,7 +9,8 @@ use Rattle.mip_words.proofs.LastLaws.{last_where-push, last_where-none, none-las
 use Rattle.mip_binding.specs.Acceptance.{Acceptance, Binding, binding_of, is_deletion}
 use Rattle.mip_binding.specs.Rows.{others_by}
 use Rattle.mip_binding.specs.Homes.{HomeKept, number_key, joins, kept_with, home_step, home_after}
-use Rattle.mip_binding.specs.Held.{floor, sequence_in, Lives, LivesIn}
+use Rattle.mip_binding.specs.Held.{floor, sequence_in}
+use Rattle.mip_binding.specs.HeldLaws.{Lives, LivesIn}
 use Rattle.mip_binding.proofs.RowLaws.{others-other, last-others, all-push, all-filtered}
 use Rattle.mip_binding.proofs.HomeLaws.{left_by, kept_with-left, home_after-push}
 

@@ -1,6 +1,5 @@
 -- What an accepted Binding Update said. RFC 6275 section 9.5.1
-use Rattle.std.specs.Prelude.{ℕ, Bool, ◌+◌, ◌==◌, max}
-use Rattle.mip_words.specs.Constants.{max_nonce_lifetime}
+use Rattle.std.specs.Prelude.{ℕ, Bool, ◌==◌}
 
 -- at a moment, for a home address: a care-of address under a number of this home, the update's sequence
 -- number, and the moment at which the binding ends. Addresses are numbers, moments milliseconds
@@ -11,10 +10,6 @@ pub record Acceptance : Type 0 where
   pub careof : ℕ
   pub sequence : ℕ
   pub end : ℕ
-
--- a sequence is kept to the end of its binding, and at least for as long as a nonce lives
-abbrev pub kept_until_of : Acceptance → ℕ
-kept_until_of a = max a.end (a.at + max_nonce_lifetime)
 
 -- home itself was accepted as the care-of address: the bindings of this home end
 abbrev pub is_deletion : Acceptance → Bool

@@ -3,9 +3,11 @@
 
 ghost use Rattle.std.specs.Prelude.{◌≡◌, ◌≢◌, ℕ, ◌<◌, List, [], ◌∷◌, ◌++◌, Some, None, true, false, is_some, ◌==◌};
 ghost use Rattle.std.specs.List.{list_any};
-ghost use Rattle.mip_binding.specs.Acceptance.{Acceptance, Binding, kept_until_of};
+ghost use Rattle.mip_binding.specs.Acceptance.{Acceptance, Binding};
+ghost use Rattle.mip_binding.specs.AcceptanceLaws.{kept_until_of};
 ghost use Rattle.mip_binding.specs.Rows.{RisesBy};
-ghost use Rattle.mip_binding.specs.Held.{held, held_under, holds, floor, homes_with_floor, LivesIn, HeldFrom, HeldUnder, FloorFrom};
+ghost use Rattle.mip_binding.specs.Held.{held, held_under, holds, floor, homes_with_floor};
+ghost use Rattle.mip_binding.specs.HeldLaws.{LivesIn, HeldFrom, HeldUnder, FloorFrom};
 
 /// What is held or kept was accepted.
 pub fn kept_was_accepted()

@@ -31,7 +31,7 @@ use Rattle.mip_rules_mobile.specs.Questions.{after}
 use Rattle.mip_rules_mobile.specs.Transitions.{Transition, begun, noted}
 use Rattle.mip_rules_mobile.specs.TrialRules.{each_row}
 use Rattle.mip_rules_mobile.specs.MovingRules.{releases, unbinds_with, unbinds, leaves, arrives_by, address_under, arrives, uses_prefix, leaves_first, attaches, registers_if_away, restarts}
-use Rattle.mip_rules_mobile.specs.Part.{is_restart}
+use Rattle.mip_rules_mobile.specs.PartLaws.{is_restart}
 use Rattle.mip_rules_mobile.specs.Answering.{stays_put}
 use Rattle.mip_rules_mobile.specs.Doing.{does, transition_of}
 use Rattle.mip_rules_mobile.specs.Fitting.{Fits, kind_of}

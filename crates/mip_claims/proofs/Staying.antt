@@ -58,7 +58,7 @@ use Rattle.mip_rules_mobile.specs.PeerRules.{tells_of_nonces, begins_at, meets, 
 use Rattle.mip_rules_mobile.specs.IcmpRules.{agents_named, is_matched, drops_icmp, finds, takes_discovery_reply, is_from_agent, learns, takes_prefix_reply, by_icmp, takes_icmp}
 use Rattle.mip_rules_mobile.specs.ReceivingRules.{acks_by, takes_ack, then_meets, takes_for_part, by_message, by_role, refuses, after_inner_checks, inner_standing, takes_inner, opens_with, opens_from, opens, after_checks, standing_of, receives, takes}
 use Rattle.mip_rules_mobile.specs.RingingRules.{renews_home, ends_home, ends_at, ends_row, rings_home, does_work, rings, rings_on, ticks, ticks_all}
-use Rattle.mip_rules_mobile.specs.Part.{is_restart}
+use Rattle.mip_rules_mobile.specs.PartLaws.{is_restart}
 use Rattle.mip_rules_mobile.specs.Answering.{stays_put}
 use Rattle.mip_rules_mobile.specs.Doing.{transmits_from, transmits, solicits_from, solicits, handles}
 use Rattle.mip_rules_mobile.proofs.Steady.{Notings}

@@ -4,7 +4,6 @@ use Rattle.mip_words.specs.declared.address.Address.{Address}
 use Rattle.mip_words.specs.declared.ids.NodeId.{NodeId}
 use Rattle.mip_frames.specs.declared.route.Route.{Route}
 use Rattle.mip_config.specs.declared.config.Config.{Config}
-use Rattle.mip_config.specs.declared.config_reading.Parts.{Parts}
 use Rattle.mip_config.specs.declared.payload.Payload.{Payload}
 use Rattle.mip_config.specs.declared.role.Role.{Role}
 
@@ -20,18 +19,6 @@ pub record Content : Type 0 where
 
 abbrev pub content : Config → Content
 content c = record {
-  seed = c.seed;
-  node = c.node;
-  port = c.port;
-  routes = c.routes;
-  fallback = c.fallback;
-  role = c.role;
-  serves = c.serves;
-  payloads = c.payloads;
-}
-
-abbrev pub parts_content : Parts → Content
-parts_content c = record {
   seed = c.seed;
   node = c.node;
   port = c.port;

@@ -1,5 +1,6 @@
 pub mod Facts
 pub mod Configs
+pub mod ConfigsLaws
 pub mod Rows
 pub mod Drafts
 pub mod Reading

@@ -2,7 +2,8 @@
 
 ghost use Rattle.std.specs.Prelude.{◌+◌, ◌<◌, ◌^◌, length};
 ghost use Rattle.mip_schedule.specs.Faults.{GivesText};
-ghost use Rattle.mip_config.specs.Configs.{content, parts_content};
+ghost use Rattle.mip_config.specs.Configs.{content};
+ghost use Rattle.mip_config.specs.ConfigsLaws.{parts_content};
 ghost use Rattle.mip_config.specs.Reading.{reading};
 
 use crate::config::Config;

@@ -8,7 +8,7 @@ use Rattle.mip_words.specs.Addresses.{address_bytes}
 use Rattle.mip_words.specs.Numbers.{number_bytes}
 use Rattle.mip_words.specs.declared.address.Address.{Address}
 use Rattle.mip_lines.specs.HexFields.{address_hex}
-use Rattle.mip_lines.specs.Lines.{is_plain, is_row}
+use Rattle.mip_lines.specs.LinesLaws.{is_plain, is_row}
 use Rattle.mip_lines.proofs.LineLaws.{decimal_plain, hex_plain, hex_text_plain}
 use Rattle.mip_symbols.specs.Spelled.{or_word}
 use Rattle.mip_frames.specs.declared.route.Route.{Route}

@@ -7,7 +7,7 @@ use Rattle.std.proofs.lemmas.Slice.Eq.{bytes_eq-Decides}
 use Rattle.mip_words.specs.declared.address.Address.{Address}
 use Rattle.mip_words.proofs.StepLaws.{bind_ok, ok_is}
 use Rattle.mip_lines.specs.HexFields.{address_hex}
-use Rattle.mip_lines.specs.Rows.{Spells}
+use Rattle.mip_lines.specs.RowsLaws.{Spells}
 use Rattle.mip_lines.proofs.RowLaws.{row1-spelled, row2-spelled, row4-spelled}
 use Rattle.mip_symbols.specs.Kinds as kinds
 use Rattle.mip_symbols.specs.Spelled.{or_word}

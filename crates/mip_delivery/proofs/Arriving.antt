@@ -18,7 +18,8 @@ use Rattle.mip_history.specs.Permitted.{run_of}
 use Rattle.mip_history.specs.Told.{present_in, careof_in}
 use Rattle.mip_history.specs.Settled.{is_held_right}
 use Rattle.mip_delivery.specs.Orderly.{IsOrderly}
-use Rattle.mip_delivery.specs.Stretches.{run_on, AreSingle}
+use Rattle.mip_delivery.specs.Stretches.{run_on}
+use Rattle.mip_delivery.specs.StretchesLaws.{AreSingle}
 use Rattle.mip_delivery.specs.Quiet.{Circle, circle_of, IsQuiet}
 use Rattle.mip_delivery.specs.Reached.{sending, AreSettledEnds, IsAllDelivered}
 use Rattle.mip_settled.proofs.AsTold.{found_as_told}

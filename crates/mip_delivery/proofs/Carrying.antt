@@ -4,7 +4,8 @@ use Rattle.std.specs.Prelude.{Option, Some, None, Ok, ◌==◌}
 use Rattle.std.proofs.lemmas.Bool.{cond-false, ne_eqb}
 use Rattle.mip_words.specs.declared.address.Address.{Address}
 use Rattle.mip_ipv6.specs.declared.head.Head.{Head}
-use Rattle.mip_ipv6.specs.Packet.{Packet, is_plain, IsInRange}
+use Rattle.mip_ipv6.specs.Packet.{Packet, is_plain}
+use Rattle.mip_ipv6.specs.PacketLaws.{IsInRange}
 use Rattle.mip_ipv6.specs.Reading.{packet_of}
 use Rattle.mip_ipv6.specs.Spelling.{routing_bytes, options_bytes, first_number, second_number, behind_bytes, fixed_bytes, packet_bytes}
 use Rattle.mip_ipv6.proofs.Canonical.{packet_back, length_fixed, length_behind, length_routing, length_options}
@@ -12,7 +13,8 @@ use Rattle.mip_entries.specs.declared.entry.Entry.{Entry}
 use Rattle.mip_packets.specs.Says.{innermost}
 use Rattle.mip_packets.proofs.Nesting.{within_if_read, innermost_is}
 use Rattle.mip_packets.specs.Packets.{data_packet}
-use Rattle.mip_ipv6.specs.Tunnel.{lowered, lowered_if_read, encapsulated}
+use Rattle.mip_ipv6.specs.Tunnel.{lowered, encapsulated}
+use Rattle.mip_ipv6.specs.TunnelLaws.{lowered_if_read}
 use Rattle.mip_ipv6.proofs.Tunnels.{packet_of_lowered, packet_of_encapsulated, length_lowered}
 use Rattle.mip_provenance.specs.Entries.{packet_in}
 use Rattle.mip_history.specs.Delivery.{handed_over}

@@ -19,7 +19,8 @@ use Rattle.mip_history.specs.Settled.{any_below, any_node, is_settled}
 use Rattle.mip_history.specs.Permitted.{run_of}
 use Rattle.mip_delivery.specs.Orderly.{IsOrderly}
 use Rattle.mip_delivery.specs.Quiet.{Circle, is_loud, circle_of, IsQuiet}
-use Rattle.mip_delivery.specs.Reached.{sending, is_heard, IsPayload, SendsStraight, AreSettledEnds}
+use Rattle.mip_delivery.specs.Reached.{sending, is_heard, IsPayload, AreSettledEnds}
+use Rattle.mip_delivery.specs.ReachedLaws.{SendsStraight}
 use Rattle.mip_delivery.proofs.Leaving.{correspondent_leaves}
 
 abbrev own : Address

@@ -19,8 +19,10 @@ use Rattle.mip_history.specs.Bound.{packet_in}
 use Rattle.mip_history.specs.Permitted.{happens, run_of}
 use Rattle.mip_history.proofs.Events.{run_passes}
 use Rattle.mip_history.proofs.Numbered.{packet_numbered}
-use Rattle.mip_delivery.specs.Stretches.{run_on, left_by, IsSingle, AreSingle}
-use Rattle.mip_delivery.specs.Answers.{IsReached, IsDelivered, Delivers}
+use Rattle.mip_delivery.specs.Stretches.{run_on, left_by}
+use Rattle.mip_delivery.specs.StretchesLaws.{IsSingle, AreSingle}
+use Rattle.mip_delivery.specs.Answers.{IsReached, IsDelivered}
+use Rattle.mip_delivery.specs.AnswersLaws.{Delivers}
 use Rattle.mip_delivery.proofs.Reaching.{is_reach, any_may, any_stand, reach_mild, Calm, reached_false, reached_by}
 use Rattle.mip_delivery.proofs.Growing.{post_stays}
 use Rattle.mip_delivery.proofs.Lasting.{run_append, past_begins, left_is}

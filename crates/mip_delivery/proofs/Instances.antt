@@ -8,7 +8,8 @@ use Rattle.mip_ipv6.specs.Spelling.{first_number, second_number, behind_bytes, f
 use Rattle.mip_ipv6.proofs.Canonical.{packet_back, length_fixed, length_behind, length_routing, length_options}
 use Rattle.mip_nonce.specs.Secrets.{Life}
 use Rattle.mip_packets.specs.Packets.{straight}
-use Rattle.mip_ipv6.specs.Tunnel.{lowered_packet, lowered_if_read, tunnel_packet, encapsulated}
+use Rattle.mip_ipv6.specs.Tunnel.{lowered_packet, tunnel_packet, encapsulated}
+use Rattle.mip_ipv6.specs.TunnelLaws.{lowered_if_read}
 use Rattle.mip_ipv6.proofs.Tunnels.{packet_of_lowered, packet_of_encapsulated, opened_tunnel}
 use Rattle.mip_reception.specs.declared.address_match.AddressMatch.{AddressMatch}
 use Rattle.mip_reception.specs.Checks.{checked}

@@ -18,7 +18,8 @@ use Rattle.mip_history.specs.Nodes.{acts}
 use Rattle.mip_history.specs.Delivery.{handed_over}
 use Rattle.mip_history.specs.Bound.{packet_in}
 use Rattle.mip_history.specs.Permitted.{happens, run_of}
-use Rattle.mip_delivery.specs.Stretches.{run_on, left_by, AreSingle}
+use Rattle.mip_delivery.specs.Stretches.{run_on, left_by}
+use Rattle.mip_delivery.specs.StretchesLaws.{AreSingle}
 use Rattle.mip_delivery.specs.Answers.{HasData, IsAnswer, DescendsBy}
 use Rattle.mip_delivery.specs.Reached.{IsHandedUp, IsAllDelivered}
 use Rattle.mip_delivery.proofs.Growing.{post_stays}

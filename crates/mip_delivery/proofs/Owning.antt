@@ -27,7 +27,8 @@ use Rattle.mip_history.specs.Setup.{Setup, Host}
 use Rattle.mip_history.specs.Setup.Kind.{Agent}
 use Rattle.mip_history.specs.Questions.{holder_says, holder_in}
 use Rattle.mip_history.specs.Knowing.{agent_of}
-use Rattle.mip_history.specs.Claims.{link_id, is_free_for}
+use Rattle.mip_history.specs.Claims.{link_id}
+use Rattle.mip_history.specs.ClaimsLaws.{is_free_for}
 use Rattle.mip_history.specs.Registered.{is_agent_host, is_agent_at}
 use Rattle.mip_history.specs.Permitted.{is_first_agent, anycast_at, claimed_entry, claims_of, claims_from, opening_claims, opened, run_of}
 use Rattle.mip_history.proofs.Runs.{Meets}

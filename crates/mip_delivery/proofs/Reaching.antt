@@ -51,8 +51,10 @@ use Rattle.mip_history.specs.Delivery.{delivered, carried_one, carried}
 use Rattle.mip_history.specs.Restarting.{homes_left, reborn_by_kind, reborn_by_host, restarted}
 use Rattle.mip_history.specs.Permitted.{happens}
 use Rattle.mip_history.proofs.Changes.{Delivers as Delivers_of, IsLeft, Change, left, comes, injects, drops, squats, yields, acted, moved, reborn, gives, renewed, happens_keeps}
-use Rattle.mip_delivery.specs.Stretches.{run_on, left_by as left_by_events, IsSingle}
-use Rattle.mip_delivery.specs.Answers.{IsReached, Delivers}
+use Rattle.mip_delivery.specs.Stretches.{run_on, left_by as left_by_events}
+use Rattle.mip_delivery.specs.StretchesLaws.{IsSingle}
+use Rattle.mip_delivery.specs.Answers.{IsReached}
+use Rattle.mip_delivery.specs.AnswersLaws.{Delivers}
 use Rattle.mip_delivery.proofs.Leaving.{drop_front}
 
 -- packet k was handed to a node, or nobody took it

@@ -9,7 +9,8 @@ use Rattle.mip_words.specs.Asked.{asked}
 use Rattle.mip_entries.specs.declared.entry.Entry.{Entry}
 use Rattle.mip_entries.specs.declared.entry.Entry.TheVariants as entries
 use Rattle.mip_binding.specs.Acceptance.{Acceptance}
-use Rattle.mip_history.specs.Bound.{accepted_by, is_restart_of, is_accepted_for}
+use Rattle.mip_history.specs.Bound.{accepted_by, is_restart_of}
+use Rattle.mip_history.specs.BoundLaws.{is_accepted_for}
 use Rattle.mip_history.specs.Questions.{holder_says, holder_in}
 use Rattle.mip_history.specs.Registered.{registration_says, last_registration}
 use Rattle.mip_history.specs.Told.{present_says, present_in, registration_told}

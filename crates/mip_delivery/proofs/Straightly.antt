@@ -6,7 +6,8 @@ use Rattle.std.proofs.lemmas.Option.{slice_get_within}
 use Rattle.mip_words.specs.Addresses.{is_routable}
 use Rattle.mip_words.specs.declared.address.Address.{Address}
 use Rattle.mip_ipv6.specs.declared.head.Head.{Head}
-use Rattle.mip_ipv6.specs.Packet.{names_no_body, is_routable_if_any, IsAddressIfAny}
+use Rattle.mip_ipv6.specs.Packet.{names_no_body, is_routable_if_any}
+use Rattle.mip_ipv6.specs.PacketLaws.{IsAddressIfAny}
 use Rattle.mip_binding.specs.Held.{held}
 use Rattle.mip_packets.specs.Packets.{data_packet}
 use Rattle.mip_links.specs.Table.{holder_outside}
@@ -34,9 +35,11 @@ use Rattle.mip_history.proofs.Histories.{run_held, part_held}
 use Rattle.mip_settled.proofs.AsTold.{found_as_told, registered_as_told, bound_as_told}
 use Rattle.mip_delivery.specs.Orderly.{IsOrderly}
 use Rattle.mip_delivery.specs.Legs.{CanBeSent, sends_from}
-use Rattle.mip_delivery.specs.Stretches.{run_on, left_by, split, AreSingle}
+use Rattle.mip_delivery.specs.Stretches.{run_on, left_by, split}
+use Rattle.mip_delivery.specs.StretchesLaws.{AreSingle}
 use Rattle.mip_delivery.specs.Quiet.{IsQuiet}
-use Rattle.mip_delivery.specs.Reached.{sending, SendsOne, IsHandedUp, IsAllDelivered, AreSettledEnds, IsPayload, SendsStraight, EachReachesStraight}
+use Rattle.mip_delivery.specs.Reached.{sending, SendsOne, IsHandedUp, IsAllDelivered, AreSettledEnds, IsPayload}
+use Rattle.mip_delivery.specs.ReachedLaws.{SendsStraight, EachReachesStraight}
 use Rattle.mip_delivery.proofs.Leaving.{correspondent_leaves, mobile_leaves}
 use Rattle.mip_delivery.proofs.Taking.{NoOther, no_other}
 use Rattle.mip_delivery.proofs.Lasting.{run_of_append}

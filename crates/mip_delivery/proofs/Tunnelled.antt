@@ -35,7 +35,7 @@ use Rattle.mip_history.specs.Runs.{Run, mobile_past_at}
 use Rattle.mip_history.specs.Questions.{holder_says, holder_in, declared_in}
 use Rattle.mip_history.specs.Knowing.{now_in, secrets_in, agent_known_in, mobile_known_in}
 use Rattle.mip_history.specs.Bound.{accepted_by}
-use Rattle.mip_history.specs.Claims.{is_free_for}
+use Rattle.mip_history.specs.ClaimsLaws.{is_free_for}
 use Rattle.mip_history.specs.Registered.{is_agent_host}
 use Rattle.mip_history.specs.Permitted.{opening_claims, opened, happens, permitted, run_of}
 use Rattle.mip_history.specs.Found.{address_of}
@@ -50,7 +50,8 @@ use Rattle.mip_settled.proofs.AsTold.{found_as_told, registered_as_told, bound_a
 use Rattle.mip_settled.proofs.OfKinds.{present_at_own}
 use Rattle.mip_delivery.specs.Orderly.{IsOrderly}
 use Rattle.mip_delivery.specs.Legs.{CanBeSent, sends_from}
-use Rattle.mip_delivery.specs.Stretches.{run_on, AreSingle}
+use Rattle.mip_delivery.specs.Stretches.{run_on}
+use Rattle.mip_delivery.specs.StretchesLaws.{AreSingle}
 use Rattle.mip_delivery.specs.Quiet.{Circle, has_node, is_loud, IsQuiet}
 use Rattle.mip_delivery.specs.Reached.{sending, IsHandedUp, IsAllDelivered, AreSettledEnds, IsPayload, EachReaches}
 use Rattle.mip_delivery.proofs.Leaving.{mobile_leaves}

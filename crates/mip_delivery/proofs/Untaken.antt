@@ -27,7 +27,7 @@ use Rattle.mip_rules_mobile.specs.MovingRules.{uses_prefix, releases, unbinds, l
 use Rattle.mip_rules_mobile.specs.Doing.{does, transition_of}
 use Rattle.mip_rules_mobile.proofs.Steady.{standing-noted}
 use Rattle.mip_rules_mobile.specs.Answering.{stays_put}
-use Rattle.mip_rules_mobile.specs.Part.{is_restart}
+use Rattle.mip_rules_mobile.specs.PartLaws.{is_restart}
 use Rattle.mip_links.specs.Table.{holder_outside}
 use Rattle.mip_schedule.specs.declared.event.Event.{Event}
 use Rattle.mip_history.specs.Setup.{Setup, is_mobile_host}

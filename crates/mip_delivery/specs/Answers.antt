@@ -10,8 +10,6 @@ use Rattle.mip_schedule.specs.declared.event.Event.{Event}
 use Rattle.mip_provenance.specs.Entries.{packet_in}
 use Rattle.mip_history.specs.Setup.{Setup}
 use Rattle.mip_history.specs.Runs.{Run}
-use Rattle.mip_history.specs.Delivery.{delivered}
-use Rattle.mip_history.specs.Permitted.{happens}
 use Rattle.mip_delivery.specs.Stretches.{run_on, IsLeftByOne}
 
 -- in this history packet k has data of this proto and with this payload, at any depth of tunnels
@@ -51,8 +49,3 @@ pub record IsDelivered (s : Setup) (run : Run) (events : List Event) (k : ℕ) :
   pub entries : List Entry
   pub one : IsLeftByOne s run events entries
   pub reached : IsReached entries k
-
--- an event delivers packet k, which then leaves the pool or stays there
-pub record Delivers (s : Setup) (run : Run) (event : Event) (k : ℕ) : Type 0 where
-  pub keep : Bool
-  pub is : happens s run event ≡ delivered s run k keep

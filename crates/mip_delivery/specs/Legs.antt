@@ -3,7 +3,8 @@ use Rattle.std.specs.Prelude.{◌≡◌, ◌≢◌, ℕ, ◌<◌, ◌≤◌, Lis
 use Rattle.mip_words.specs.Protocols.{ipv6, mobility_header}
 use Rattle.mip_words.specs.declared.address.Address.{Address}
 use Rattle.mip_ipv6.specs.declared.head.Head.{Head}
-use Rattle.mip_ipv6.specs.Packet.{Packet, is_plain, IsInRange, source_of, destination_of}
+use Rattle.mip_ipv6.specs.Packet.{Packet, is_plain, source_of, destination_of}
+use Rattle.mip_ipv6.specs.PacketLaws.{IsInRange}
 use Rattle.mip_ipv6.specs.Reading.{packet_of}
 use Rattle.mip_ipv6.specs.Spelling.{behind_bytes}
 use Rattle.mip_entries.specs.declared.answer.Answer.{Answer}

@@ -1,6 +1,9 @@
 pub mod Legs
 pub mod Stretches
+pub mod StretchesLaws
 pub mod Answers
+pub mod AnswersLaws
 pub mod Quiet
 pub mod Reached
+pub mod ReachedLaws
 pub mod Orderly

@@ -1,5 +1,5 @@
 -- What the theorem of delivery says of data between two settled ends.
-use Rattle.std.specs.Prelude.{◌≡◌, ◌⊎◌, ℕ, ◌≤◌, List, [], ◌∷◌, ◌++◌, length, Bool, true, false, Some, is_some, Contains, slice_get}
+use Rattle.std.specs.Prelude.{◌≡◌, ℕ, ◌≤◌, List, [], ◌∷◌, ◌++◌, length, Bool, true, false, Some, is_some, Contains, slice_get}
 use Rattle.std.specs.List.{list_all}
 use Rattle.std.specs.Option.{option_and_then}
 use Rattle.mip_words.specs.declared.address.Address.{Address}
@@ -14,8 +14,6 @@ use Rattle.mip_history.specs.Setup.{Setup, Host, part_room}
 use Rattle.mip_history.specs.Runs.{Run}
 use Rattle.mip_history.specs.Questions.{declared_in}
 use Rattle.mip_history.specs.Permitted.{run_of}
-use Rattle.mip_history.specs.Knowing.{now_in}
-use Rattle.mip_history.specs.Told.{present_in, is_bound_in}
 use Rattle.mip_history.specs.Settled.{is_settled}
 use Rattle.mip_delivery.specs.Stretches.{run_on, left_by, split}
 use Rattle.mip_delivery.specs.Answers.{DescendsBy, IsDelivered}
@@ -67,10 +65,6 @@ pub record IsPayload (proto : ℕ) (payload : List ℕ) : Type 0 where
   pub body : names_no_body proto ≡ false
   pub short : length payload ≤ 512
 
--- x is present at home, or has a binding with the other end: so it sends without a tunnel
-abbrev pub SendsStraight : Setup → Run → (x : ℕ) → (own to : Address) → Type 0
-SendsStraight s run x own to = (present_in run.past x own ≡ Some own) ⊎ (is_bound_in (now_in s run) run.past x to ≡ true)
-
 -- data from x to y, which these events follow: x sends one packet, numbered by how many were posted before; and if the stretch is
 -- quiet and each packet that descends from it is delivered there, y hands up the data in it, with home addresses restored
 pub record Reaches (s : Setup) (run : Run) (x y : ℕ) (own to : Address) (proto : ℕ) (payload : List ℕ) (more : List Event) : Type 0 where
@@ -84,11 +78,4 @@ abbrev pub EachReaches : Setup → List Event → Type 0
 EachReaches s events =
     (before more rest : List Event) (x y : ℕ) (own to : Address) (proto : ℕ) (payload : List ℕ)
     → split events ≡ before ++ (sending x to proto payload ∷ (more ++ rest)) → IsPayload proto payload
-    → AreSettledEnds s (run_of s before) x y own to → Reaches s (run_of s before) x y own to proto payload more
-
--- the same of data that its sender puts into no tunnel
-abbrev pub EachReachesStraight : Setup → List Event → Type 0
-EachReachesStraight s events =
-    (before more rest : List Event) (x y : ℕ) (own to : Address) (proto : ℕ) (payload : List ℕ)
-    → split events ≡ before ++ (sending x to proto payload ∷ (more ++ rest)) → IsPayload proto payload → SendsStraight s (run_of s before) x own to
     → AreSettledEnds s (run_of s before) x y own to → Reaches s (run_of s before) x y own to proto payload more

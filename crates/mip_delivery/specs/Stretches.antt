@@ -1,6 +1,6 @@
 -- A stretch of a history is what whole events leave, where each packet that is carried is an event of its own. So a stretch never
 -- ends between a packet that is handed over and what the node does about it.
-use Rattle.std.specs.Prelude.{◌≡◌, ⊤, List, [], ◌∷◌, ◌++◌, length, drop, fold, replicate}
+use Rattle.std.specs.Prelude.{◌≡◌, List, [], ◌∷◌, ◌++◌, length, drop, fold, replicate}
 use Rattle.mip_entries.specs.declared.entry.Entry.{Entry}
 use Rattle.mip_schedule.specs.declared.event.Event.{Event}
 use Rattle.mip_schedule.specs.declared.event.Event.TheVariants.{Carry}
@@ -29,13 +29,3 @@ pub record IsLeftByOne (s : Setup) (run : Run) (events : List Event) (entries : 
   pub after : List Event
   pub place : events ≡ before ++ event ∷ after
   pub is : entries ≡ left_by s (run_on s run before) (event ∷ [])
-
--- one packet is carried, and no more
-abbrev pub IsSingle : Event → Type 0
-IsSingle (Carry count) = count ≡ 1
-IsSingle _ = ⊤
-
--- so does each event of a list
-abbrev pub AreSingle : List Event → Type 0
-AreSingle [] = ⊤
-AreSingle (event ∷ events) = IsSingle event × AreSingle events

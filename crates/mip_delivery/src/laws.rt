@@ -50,10 +50,13 @@ ghost use Rattle.mip_history.specs.Delivery.{overheard_at, handed, arrival_link,
 ghost use Rattle.mip_history.specs.Knowing.{now_in, mobile_known_in};
 ghost use Rattle.mip_history.specs.Permitted.{run_of};
 ghost use Rattle.mip_delivery.specs.Orderly.{IsOrderly};
-ghost use Rattle.mip_delivery.specs.Stretches.{run_on, left_by, split, IsSingle};
-ghost use Rattle.mip_delivery.specs.Answers.{IsReached, Delivers};
+ghost use Rattle.mip_delivery.specs.Stretches.{run_on, left_by, split};
+ghost use Rattle.mip_delivery.specs.StretchesLaws.{IsSingle};
+ghost use Rattle.mip_delivery.specs.Answers.{IsReached};
+ghost use Rattle.mip_delivery.specs.AnswersLaws.{Delivers};
 ghost use Rattle.mip_delivery.specs.Quiet.{has_node, has_address, circle_of, IsQuiet};
-ghost use Rattle.mip_delivery.specs.Reached.{sending, SendsOne, IsPayload, EachReaches, EachReachesStraight};
+ghost use Rattle.mip_delivery.specs.Reached.{sending, SendsOne, IsPayload, EachReaches};
+ghost use Rattle.mip_delivery.specs.ReachedLaws.{EachReachesStraight};
 ghost use Rattle.mip_delivery.specs.Legs.{can_send, CanBeSent, up, BeginsWith, IsForHome, IsFromHome, IsDataHere, IsDataStraight, IsDataTunnelled};
 
 /// A correspondent sends data in one packet: to the care-of address that it holds for the destination, through the destination,

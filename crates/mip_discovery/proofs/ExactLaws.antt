@@ -7,7 +7,8 @@ use Rattle.std.proofs.lemmas.Bool.{or_parts}
 use Rattle.mip_words.specs.Last.{or_else}
 use Rattle.mip_discovery.specs.declared.agent.Agent.{Agent}
 use Rattle.mip_discovery.specs.Heard.{Heard, agent_of, is_live, is_of, is_again, renewed, stays, placed_by, entered_by}
-use Rattle.mip_discovery.specs.Listed.{Listed, Ledger, heard_by, ledger, listed, live_listed, live_as, last_heard}
+use Rattle.mip_discovery.specs.Listed.{Listed, Ledger, heard_by, ledger, listed, live_listed}
+use Rattle.mip_discovery.specs.ListedLaws.{live_as, last_heard}
 use Rattle.mip_discovery.proofs.ListLaws.{filter_alike, filter-filter}
 use Rattle.mip_discovery.proofs.ViewLaws.{map-filter}
 

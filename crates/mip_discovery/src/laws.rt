@@ -3,7 +3,8 @@
 ghost use Rattle.std.specs.Prelude.{◌≡◌, ℕ, ◌≤◌, List, map};
 ghost use Rattle.std.specs.List.{filter, AllByRecursion};
 ghost use Rattle.mip_discovery.specs.Heard.{Heard, is_of};
-ghost use Rattle.mip_discovery.specs.Listed.{IsBefore, InOrder, listed, live_listed, live_as, last_heard};
+ghost use Rattle.mip_discovery.specs.Listed.{listed, live_listed};
+ghost use Rattle.mip_discovery.specs.ListedLaws.{IsBefore, InOrder, live_as, last_heard};
 
 /// The list is by falling preference, ties in the order in which the agents arrived.
 pub fn list_is_in_order()

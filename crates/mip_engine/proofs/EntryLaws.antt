@@ -16,7 +16,7 @@ use Rattle.mip_history.specs.Questions.{moment_says, moment_in, listen_says, res
 use Rattle.mip_links.specs.Table.{link_of}
 use Rattle.mip_nodes.specs.Nodes.{NodeSeen, with_spot}
 use Rattle.mip_engine.specs.Engines.{EngineSeen, with_entry, with_node, stood, stood_by}
-use Rattle.mip_nodes.specs.Roles.{is_apart}
+use Rattle.mip_nodes.specs.RolesLaws.{is_apart}
 use Rattle.mip_engine.specs.Quiet.{IsNoClaim}
 use Rattle.mip_engine.proofs.NumberLaws.{numbered_apart}
 use Rattle.mip_engine.specs.Standing.{IsAt, role_in, node_in}

@@ -1,14 +1,11 @@
 -- The entries of a role, completed by its caller: the node's number, the link of an address, and the
 -- number that the next packet sent takes.
-use Rattle.std.specs.Prelude.{ℕ, ◌+◌, List, [], ◌∷◌, Option, Some, None, is_some}
-use Rattle.std.specs.Option.{option_map_or}
+use Rattle.std.specs.Prelude.{ℕ, Option, Some, None}
 use Rattle.mip_words.specs.declared.address.Address.{Address}
 use Rattle.mip_words.specs.declared.ids.NodeId.{NodeId}
 use Rattle.mip_words.specs.declared.ids.LinkId.{LinkId}
 use Rattle.mip_entries.specs.declared.entry.Entry.{Entry}
-use Rattle.mip_entries.specs.declared.entry.Entry.TheVariants.{Claimed, Released, Taken, Careof, Sent, Idle, Home, Registered, Unregistered, Refused, Chosen, Prefixes, Made, Bound, Unbound, Accepted, Denied, Dropped, Up, Unsent, Restarted, Row}
-use Rattle.mip_entries.specs.declared.answer.Answer.{Answer}
-use Rattle.mip_entries.specs.declared.answer.Answer.TheVariants.{Send, Note}
+use Rattle.mip_entries.specs.declared.entry.Entry.TheVariants.{Claimed, Released, Taken, Careof, Idle, Home, Registered, Unregistered, Refused, Chosen, Prefixes, Made, Bound, Unbound, Accepted, Denied, Dropped, Up, Unsent, Restarted, Row}
 
 abbrev pub node_id : ℕ → NodeId
 node_id n = record { 0 = n }
@@ -47,13 +44,3 @@ named n link next (Unsent node why) = Unsent (node_id n) why
 named n link next (Restarted node) = Restarted (node_id n)
 named n link next (Row node home binding careof sequence end kept) = Row (node_id n) home binding careof sequence end kept
 named n link next _ = Idle
-
--- the link of the address that an entry claims; 0 where it claims none
-abbrev pub link_for : (ℕ → ℕ) → Entry → ℕ
-link_for link entry = option_map_or (λ address. link address.0) (claim_in entry) 0
-
--- the entries of a node's answers, of which the first packet sent takes the next number
-abbrev pub completed : ℕ → (ℕ → ℕ) → ℕ → List Answer → List Entry
-completed n link next [] = []
-completed n link next (Note entry ∷ answers) = named n (link_for link entry) next entry ∷ completed n link next answers
-completed n link next (Send shield packet ∷ answers) = Sent next (node_id n) (is_some shield) packet ∷ completed n link (next + 1) answers

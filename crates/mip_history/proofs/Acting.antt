@@ -18,10 +18,11 @@ use Rattle.mip_rules_agent.specs.Doing as agent_doing
 use Rattle.mip_rules_agent.proofs.Answers.{call-whole}
 use Rattle.mip_outside.specs.Places.{claim_in}
 use Rattle.mip_rules_mobile.specs.MovingRules.{address_under}
-use Rattle.mip_rules_mobile.specs.Part.{is_restart}
+use Rattle.mip_rules_mobile.specs.PartLaws.{is_restart}
 use Rattle.mip_rules_mobile.specs.Calls as mobile_calls
 use Rattle.mip_rules_mobile.specs.Doing as mobile_doing
-use Rattle.mip_history.specs.Setup.{Setup, Host, Kind, is_correspondent_host}
+use Rattle.mip_history.specs.Setup.{Setup, Host, Kind}
+use Rattle.mip_history.specs.SetupLaws.{is_correspondent_host}
 use Rattle.mip_history.specs.Setup.Kind.{Correspondent, Agent, Mobile}
 use Rattle.mip_history.specs.Runs.{Run, note, agent_past_at, with_agent_past}
 use Rattle.mip_history.specs.Calls.{Call, Take, Send, Refresh, Tick, Plan, Hear, Attach, Leave, Ask, Restart, for_agent}

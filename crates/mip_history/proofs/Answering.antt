@@ -12,11 +12,13 @@ use Rattle.mip_entries.specs.Completed.{named}
 use Rattle.mip_provenance.specs.declared.mark.Mark.{Mark}
 use Rattle.mip_provenance.specs.declared.mark.Mark.TheVariants.{Origin, Forged}
 use Rattle.mip_provenance.specs.Entries.{mark_entry}
-use Rattle.mip_rules_correspondent.specs.Steps.{Step, Accepts, answer_of, answers_of, is_acceptance}
+use Rattle.mip_rules_correspondent.specs.Steps.{Step, Accepts, answer_of, answers_of}
+use Rattle.mip_rules_correspondent.specs.StepsLaws.{is_acceptance}
 use Rattle.mip_rules_agent.specs.Wholes as agents
 use Rattle.mip_rules_mobile.specs.Steps as mobiles
-use Rattle.mip_rules_mobile.specs.Part.{tells_of_acceptance, concerns_part}
-use Rattle.mip_history.specs.Setup.{Setup, is_correspondent_at}
+use Rattle.mip_rules_mobile.specs.PartLaws.{tells_of_acceptance, concerns_part}
+use Rattle.mip_history.specs.Setup.{Setup}
+use Rattle.mip_history.specs.SetupLaws.{is_correspondent_at}
 use Rattle.mip_history.specs.Runs.{Run}
 use Rattle.mip_history.specs.Nodes.{left_by, answered_one, answered}
 use Rattle.mip_history.specs.Bound.{is_accepted}

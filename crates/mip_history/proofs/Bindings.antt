@@ -8,7 +8,7 @@ use Rattle.mip_words.specs.declared.address.Address.{Address}
 use Rattle.mip_words.specs.EachAfter.{EachAfter}
 use Rattle.mip_words.proofs.EachLaws.{each_at}
 use Rattle.mip_binding.specs.Acceptance.{Acceptance, Binding}
-use Rattle.mip_binding.specs.Held.{HeldFrom}
+use Rattle.mip_binding.specs.HeldLaws.{HeldFrom}
 use Rattle.mip_binding.proofs.HeldLaws.{held_was_accepted, under_was_accepted}
 use Rattle.mip_entries.specs.declared.entry.Entry.{Entry}
 use Rattle.mip_entries.specs.declared.entry.Entry.TheVariants as entries

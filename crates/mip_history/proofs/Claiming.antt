@@ -8,7 +8,8 @@ use Rattle.mip_links.specs.Nets.{is_held_by}
 use Rattle.mip_history.specs.Setup.{Setup}
 use Rattle.mip_history.specs.Runs.{Run, note}
 use Rattle.mip_history.specs.Questions.{holder_in}
-use Rattle.mip_history.specs.Claims.{link_id, is_free_for, claim_entry, claimed_on, claims}
+use Rattle.mip_history.specs.Claims.{link_id, claim_entry, claimed_on, claims}
+use Rattle.mip_history.specs.ClaimsLaws.{is_free_for}
 use Rattle.mip_history.specs.Homes.{resident, passes_to, left_on, given_up_on, gives_up}
 use Rattle.mip_history.proofs.Effects.{released_holder, held_is}
 use Rattle.mip_history.proofs.Runs.{IsQuiet, quiet_same, quiet_then, quiet_one, quiet_notes}

@@ -27,7 +27,8 @@ use Rattle.mip_history.specs.Runs.{Run, note, notes, entered, without}
 use Rattle.mip_history.specs.Questions.{moment_says, holder_says, holder_in, hears_in, restarts, life_in}
 use Rattle.mip_history.specs.Calls.{Call, for_correspondent, for_agent, for_mobile}
 use Rattle.mip_history.specs.Knowing.{now_in, around_in}
-use Rattle.mip_history.specs.Claims.{link_id, is_free_for, claim_entry, claimed_on, claims}
+use Rattle.mip_history.specs.Claims.{link_id, claim_entry, claimed_on, claims}
+use Rattle.mip_history.specs.ClaimsLaws.{is_free_for}
 use Rattle.mip_history.specs.Homes.{resident, passes_to, left_on, given_up_on, gives_up}
 use Rattle.mip_history.specs.Posting.{heards, is_other, overheard, posted}
 use Rattle.mip_history.specs.Nodes.{marks_of, left_by, answered_one, answered, asks, by_kind, by_host, acts}

@@ -7,7 +7,8 @@ use Rattle.mip_words.specs.declared.address.Address.{Address}
 use Rattle.mip_ipv6.specs.declared.not_packet.NotPacket.{NotPacket}
 use Rattle.mip_ipv6.specs.Packet.{Packet}
 use Rattle.mip_ipv6.specs.Reading.{packet_of}
-use Rattle.mip_ipv6.specs.Tunnel.{lowered_packet, lowered_if_read}
+use Rattle.mip_ipv6.specs.Tunnel.{lowered_packet}
+use Rattle.mip_ipv6.specs.TunnelLaws.{lowered_if_read}
 use Rattle.mip_ipv6.proofs.Tunnels.{packet_of_lowered}
 use Rattle.mip_binding.specs.Acceptance.{Acceptance}
 use Rattle.mip_binding.specs.Held.{floor, is_full}
@@ -18,7 +19,8 @@ use Rattle.mip_entries.specs.Stamped.{Stamped}
 use Rattle.mip_nonce.specs.Secrets.{Life}
 use Rattle.mip_rules_correspondent.specs.declared.identity.Identity.{Identity}
 use Rattle.mip_reception.specs.declared.registration.Registration.{Registration}
-use Rattle.mip_rules_correspondent.specs.Steps.{Step, is_acceptance}
+use Rattle.mip_rules_correspondent.specs.Steps.{Step}
+use Rattle.mip_rules_correspondent.specs.StepsLaws.{is_acceptance}
 use Rattle.mip_rules_correspondent.specs.Questions.{known}
 use Rattle.mip_rules_correspondent.specs.Transitions.{Transition}
 use Rattle.mip_reception.specs.Registrations.{registration_in, home_of}
@@ -32,7 +34,8 @@ use Rattle.mip_rules_correspondent.proofs.Acceptances.{floor-answers, full-answe
 use Rattle.mip_rules_correspondent.proofs.Pasts.{known-numbers}
 use Rattle.mip_rules_correspondent.proofs.VerdictLaws.{sound}
 use Rattle.mip_links.specs.Table.{Post}
-use Rattle.mip_history.specs.Setup.{Setup, is_correspondent_host, is_correspondent_at}
+use Rattle.mip_history.specs.Setup.{Setup}
+use Rattle.mip_history.specs.SetupLaws.{is_correspondent_host, is_correspondent_at}
 use Rattle.mip_history.specs.Setup.Kind.{Correspondent}
 use Rattle.mip_history.specs.Runs.{Run, note, past_at}
 use Rattle.mip_history.specs.Questions.{moment_in, life_in}

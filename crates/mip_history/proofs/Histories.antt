@@ -22,15 +22,18 @@ use Rattle.mip_rules_mobile.specs.Questions.{part_room}
 use Rattle.mip_rules_mobile.proofs.PartLives.{part_is}
 use Rattle.mip_entries.specs.Stamped.{Stamped}
 use Rattle.mip_rules_correspondent.proofs.Acceptances.{held-answers, holds-answers, floor-answers, full-answers}
-use Rattle.mip_history.specs.Setup.{Setup, setup_of, is_correspondent_host}
+use Rattle.mip_history.specs.Setup.{Setup, setup_of}
+use Rattle.mip_history.specs.SetupLaws.{is_correspondent_host}
 use Rattle.mip_history.specs.Setup.Kind.{Correspondent, Mobile}
 use Rattle.mip_history.specs.Runs.{Run, past_at, mobile_past_at}
 use Rattle.mip_history.specs.Questions.{moment_in, life_in, holder_in}
-use Rattle.mip_history.specs.Claims.{is_free_for}
-use Rattle.mip_history.specs.Knowing.{known_in, now_in, secrets_in, mobile_known_in, part_in}
+use Rattle.mip_history.specs.ClaimsLaws.{is_free_for}
+use Rattle.mip_history.specs.Knowing.{known_in, now_in, secrets_in, mobile_known_in}
+use Rattle.mip_history.specs.KnowingLaws.{part_in}
 use Rattle.mip_history.specs.Permitted.{opening_claims, run_of, permitted}
 use Rattle.mip_history.specs.Passing.{waited_by, restarted_by}
-use Rattle.mip_history.specs.Bound.{accepted_by, held_in, held_under_in, packet_in, packets_of, is_accepted, HasAccepted, IsBound, IsBoundUnder}
+use Rattle.mip_history.specs.Bound.{accepted_by, held_in, held_under_in, packet_in, is_accepted, HasAccepted, IsBound, IsBoundUnder}
+use Rattle.mip_history.specs.BoundLaws.{packets_of}
 use Rattle.mip_history.specs.Shields.{is_shielded_in, IsHeardBare}
 use Rattle.mip_history.proofs.Runs.{Meets, IsPast}
 use Rattle.mip_history.proofs.Numbered.{packet_numbered}

@@ -11,7 +11,8 @@ use Rattle.mip_words.proofs.EachLaws.{each-append}
 use Rattle.mip_ipv6.specs.declared.not_packet.NotPacket.{NotPacket}
 use Rattle.mip_ipv6.specs.Packet.{Packet}
 use Rattle.mip_ipv6.specs.Reading.{packet_of}
-use Rattle.mip_ipv6.specs.Tunnel.{lowered_packet, lowered_if_read}
+use Rattle.mip_ipv6.specs.Tunnel.{lowered_packet}
+use Rattle.mip_ipv6.specs.TunnelLaws.{lowered_if_read}
 use Rattle.mip_ipv6.proofs.Tunnels.{packet_of_lowered}
 use Rattle.mip_outside.specs.declared.claim.Claim.{Claim}
 use Rattle.mip_entries.specs.declared.answer.Answer.{Answer}
@@ -26,7 +27,8 @@ use Rattle.mip_rules_agent.specs.declared.identity.Identity.{Identity}
 use Rattle.mip_rules_agent.specs.declared.home_binding.HomeBinding.{HomeBinding}
 use Rattle.mip_rules_agent.specs.Known as agent_known
 use Rattle.mip_rules_agent.specs.Calls as agent_calls
-use Rattle.mip_rules_agent.specs.Steps.{Step, Called, Sends, Registers, Claims, Releases, Denies, Drops, Rang, answers_of, is_registration}
+use Rattle.mip_rules_agent.specs.Steps.{Step, Called, Sends, Registers, Claims, Releases, Denies, Drops, Rang, answers_of}
+use Rattle.mip_rules_agent.specs.StepsLaws.{is_registration}
 use Rattle.mip_rules_agent.specs.Transitions as agent_transitions
 use Rattle.mip_rules_agent.specs.Questions.{known, binding_of, holds}
 use Rattle.mip_rules_agent.specs.Doing.{transition_of}
@@ -34,7 +36,8 @@ use Rattle.mip_rules_agent.specs.Rules.{bench, claim_with}
 use Rattle.mip_rules_agent.specs.Verdicts.{binding_for}
 use Rattle.mip_rules_agent.specs.Pasts.{is_one_of, is_registration_of}
 use Rattle.mip_rules_agent.specs.Soundness.{IsShielded, IsSound}
-use Rattle.mip_rules_agent.specs.Taken.{IsUpdateIn, IsUpdateTaken}
+use Rattle.mip_rules_agent.specs.Taken.{IsUpdateIn}
+use Rattle.mip_rules_agent.specs.TakenLaws.{IsUpdateTaken}
 use Rattle.mip_rules_agent.specs.Shielding.{ShieldNoUpdate}
 use Rattle.mip_rules_agent.specs.Granting.{IsBounded}
 use Rattle.mip_rules_agent.proofs.Granting.{accepted-bounded}

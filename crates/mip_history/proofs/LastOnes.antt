@@ -6,7 +6,8 @@ use Rattle.std.proofs.lemmas.List.{append_assoc}
 use Rattle.std.proofs.lemmas.List.Sums.{fold-append}
 use Rattle.std.proofs.lemmas.Bool.{or_parts, eqb-false}
 use Rattle.mip_words.specs.declared.address.Address.{Address}
-use Rattle.mip_binding.specs.Acceptance.{Acceptance, kept_until_of}
+use Rattle.mip_binding.specs.Acceptance.{Acceptance}
+use Rattle.mip_binding.specs.AcceptanceLaws.{kept_until_of}
 use Rattle.mip_binding.specs.Held.{held, floor}
 use Rattle.mip_binding.proofs.HeldLaws.{held-binds, held-deletes, held-other, floor-stands, floor-other}
 use Rattle.mip_bcache.specs.declared.accepted.Accepted.{Accepted}
@@ -15,7 +16,8 @@ use Rattle.mip_entries.specs.declared.entry.Entry.{Entry}
 use Rattle.mip_entries.specs.declared.entry.Entry.TheVariants as entries
 use Rattle.mip_history.specs.Setup.{Setup}
 use Rattle.mip_history.specs.Questions.{moment_in}
-use Rattle.mip_history.specs.Bound.{Lived, lived, accepted_by, accepted_entry, is_restart_of, is_accepted_for}
+use Rattle.mip_history.specs.Bound.{Lived, lived, accepted_by, accepted_entry, is_restart_of}
+use Rattle.mip_history.specs.BoundLaws.{is_accepted_for}
 use Rattle.mip_history.proofs.Places.{acceptance_at}
 use Rattle.mip_history.proofs.Transitions.{accepted_more}
 

@@ -10,7 +10,8 @@ use Rattle.mip_words.specs.EachAfter.{EachAfter}
 use Rattle.mip_entries.specs.declared.entry.Entry.{Entry}
 use Rattle.mip_entries.specs.declared.entry.Entry.TheVariants as entries
 use Rattle.mip_history.specs.Setup.{Setup}
-use Rattle.mip_history.specs.Bound.{packet_told, packet_in, packet_posted, packets_of}
+use Rattle.mip_history.specs.Bound.{packet_told, packet_in}
+use Rattle.mip_history.specs.BoundLaws.{packet_posted, packets_of}
 use Rattle.mip_history.proofs.Runs.{Meets}
 
 -- one item more

@@ -10,7 +10,7 @@ use Rattle.mip_links.specs.Table.{Post}
 use Rattle.mip_history.specs.Setup.{Setup}
 use Rattle.mip_history.specs.Runs.{Run}
 use Rattle.mip_history.specs.Permitted.{run_of}
-use Rattle.mip_history.specs.Bound.{packet_posted, packets_of}
+use Rattle.mip_history.specs.BoundLaws.{packet_posted, packets_of}
 use Rattle.mip_history.proofs.Effects.{IsSeen, IsPosting}
 use Rattle.mip_history.proofs.PostRecords.{IsBeside, Tells, run_tells}
 

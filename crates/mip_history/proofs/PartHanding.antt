@@ -21,14 +21,16 @@ use Rattle.mip_rules_mobile.specs.Calls.{Call, Take}
 use Rattle.mip_rules_mobile.specs.Known.{Known}
 use Rattle.mip_rules_mobile.specs.Questions.{part_room}
 use Rattle.mip_rules_mobile.specs.Doing.{transition_of}
-use Rattle.mip_rules_mobile.specs.Part.{PartLife, IsReadIn, Itself, Within, IsPartTaken}
+use Rattle.mip_rules_mobile.specs.Part.{IsReadIn, Itself, Within}
+use Rattle.mip_rules_mobile.specs.PartLaws.{PartLife, IsPartTaken}
 use Rattle.mip_rules_mobile.proofs.PartLives.{part_is}
 use Rattle.mip_rules_mobile.proofs.Trusts.{came-read}
 use Rattle.mip_links.specs.Table.{Post}
 use Rattle.mip_history.specs.Setup.{Setup}
 use Rattle.mip_history.specs.Setup.Kind.{Mobile}
 use Rattle.mip_history.specs.Runs.{Run, note, mobile_past_at}
-use Rattle.mip_history.specs.Knowing.{now_in, secrets_in, mobile_known_in, part_in}
+use Rattle.mip_history.specs.Knowing.{now_in, secrets_in, mobile_known_in}
+use Rattle.mip_history.specs.KnowingLaws.{part_in}
 use Rattle.mip_history.specs.Nodes.{after_mobile_transition}
 use Rattle.mip_history.specs.Delivery.{handed_over}
 use Rattle.mip_history.specs.Bound.{judge_in, IsAccepted}

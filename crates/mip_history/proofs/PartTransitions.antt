@@ -12,21 +12,24 @@ use Rattle.mip_entries.specs.declared.entry.Entry.{Entry}
 use Rattle.mip_entries.specs.Stamped.{Stamped, stamped}
 use Rattle.mip_rules_correspondent.specs.Calls as parts
 use Rattle.mip_rules_correspondent.specs.Steps as part_steps
+use Rattle.mip_rules_correspondent.specs.StepsLaws as part_steps_laws
 use Rattle.mip_rules_correspondent.specs.Seen.{CorrespondentSeen, transition_at}
 use Rattle.mip_rules_correspondent.proofs.Moments as part_moments
 use Rattle.mip_rules_mobile.specs.Calls.{Call, Restart}
 use Rattle.mip_rules_mobile.specs.Steps.{Step, Called, Parts, Notes, Restarts, answers_of}
 use Rattle.mip_rules_mobile.specs.Known.{Known}
 use Rattle.mip_rules_mobile.specs.Doing.{transition_of}
-use Rattle.mip_rules_mobile.specs.Part.{PartLife, part_of, part_goes_on, new_part, part_life, concerns_part, accepted_note, IsPartTaken, IsPartTransition, Silent, Asked, Accepting, is_restart, IsPartReborn}
+use Rattle.mip_rules_mobile.specs.PartLaws.{PartLife, part_of, part_goes_on, new_part, part_life, concerns_part, accepted_note, IsPartTaken, IsPartTransition, Silent, Asked, Accepting, is_restart, IsPartReborn}
 use Rattle.mip_rules_mobile.proofs.Calls.{call-now}
 use Rattle.mip_rules_mobile.proofs.PartLives.{part_is}
 use Rattle.mip_rules_mobile.proofs.PartTransitions.{call-part}
-use Rattle.mip_history.specs.Setup.{Setup, Host, is_correspondent_host, is_mobile_host}
+use Rattle.mip_history.specs.Setup.{Setup, Host, is_mobile_host}
+use Rattle.mip_history.specs.SetupLaws.{is_correspondent_host}
 use Rattle.mip_history.specs.Setup.Kind.{Mobile}
 use Rattle.mip_history.specs.Runs.{Run, mobile_past_at, with_mobile_past}
 use Rattle.mip_history.specs.Questions.{moment_in, life_in}
-use Rattle.mip_history.specs.Knowing.{now_in, secrets_in, mobile_known_in, part_in, stands_on}
+use Rattle.mip_history.specs.Knowing.{now_in, secrets_in, mobile_known_in, stands_on}
+use Rattle.mip_history.specs.KnowingLaws.{part_in}
 use Rattle.mip_history.specs.Nodes.{answered, after_mobile_transition}
 use Rattle.mip_history.specs.Bound.{accepted_by, accepted_entry, IsAccepted}
 use Rattle.mip_history.proofs.Runs.{IsKept, IsPart, past_stays, part_stays, IsRun, IsQuiet, Goes, goes_quietly, goes_then, quiet_then}
@@ -156,7 +159,7 @@ module _ (s : Setup) (n : ℕ) (home : Address) (agent : Option Address) (run : 
       let c = part_of home s.numbers p in
       ap (λ (at : ℕ). let q : PartLife = record { secrets = p.secrets; past = p.past ++ stamped at (part_transition call) } in q) (part_moments.call-now c.identity c.known now call)
 
-  asked_transition : (from : ℕ) (c : Call) (call : parts.Call) (rest : List Step) → list_any concerns_part rest ≡ false → list_any part_steps.is_acceptance (transition_at k.part now call).steps ≡ false
+  asked_transition : (from : ℕ) (c : Call) (call : parts.Call) (rest : List Step) → list_any concerns_part rest ≡ false → list_any part_steps_laws.is_acceptance (transition_at k.part now call).steps ≡ false
       → Goes s run (mobile_done s n from now (Called c ∷ Parts call ∷ rest) run)
   asked_transition from c call rest none calm =
       calm_transition from steps (subst (λ (q : PartLife). IsPart s run.past q n) (sym life) gone)
@@ -172,7 +175,7 @@ module _ (s : Setup) (n : ℕ) (home : Address) (agent : Option Address) (run : 
       gone = record {
         secrets = p_is.secrets;
         past = quiet_past s run.past p.past n (part_transition call)
-            (subst (λ (x : CorrespondentSeen). list_any part_steps.is_acceptance (transition_at x now call).steps ≡ false) known_part calm) p_is.past;
+            (subst (λ (x : CorrespondentSeen). list_any part_steps_laws.is_acceptance (transition_at x now call).steps ≡ false) known_part calm) p_is.past;
       }
 
   -- it accepts an update

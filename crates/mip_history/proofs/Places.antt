@@ -10,7 +10,8 @@ use Rattle.mip_words.specs.declared.ids.NodeId.{NodeId}
 use Rattle.mip_words.specs.declared.moment.Moment.{Moment}
 use Rattle.mip_binding.specs.Acceptance.{Acceptance}
 use Rattle.mip_words.specs.EachAfter.{EachAfter}
-use Rattle.mip_binding.specs.Held.{floor, Lives}
+use Rattle.mip_binding.specs.Held.{floor}
+use Rattle.mip_binding.specs.HeldLaws.{Lives}
 use Rattle.mip_binding.proofs.LifeLaws.{IsOutlived}
 use Rattle.mip_entries.specs.declared.entry.Entry.{Entry}
 use Rattle.mip_entries.specs.declared.entry.Entry.TheVariants as entries

@@ -19,7 +19,8 @@ use Rattle.mip_history.specs.Runs.{Run, note, notes, entered}
 use Rattle.mip_history.specs.Questions.{moment_says, restarts, hears_in}
 use Rattle.mip_history.specs.Posting.{heards, is_other, overheard, posted}
 use Rattle.mip_history.specs.Nodes.{answered_one, answered}
-use Rattle.mip_history.specs.Bound.{Lived, lived, accepted_by, packet_posted, packets_of}
+use Rattle.mip_history.specs.Bound.{Lived, lived, accepted_by}
+use Rattle.mip_history.specs.BoundLaws.{packet_posted, packets_of}
 use Rattle.mip_history.proofs.Quiet.{is_told, same_packets}
 use Rattle.mip_history.proofs.Runs.{Meets, IsQuiet, quiet_same, quiet_then, quiet_meeting, count_posts}
 

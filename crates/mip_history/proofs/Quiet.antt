@@ -9,7 +9,8 @@ use Rattle.std.proofs.lemmas.Bool.{or_parts}
 use Rattle.mip_entries.specs.declared.entry.Entry.{Entry}
 use Rattle.mip_entries.specs.declared.entry.Entry.TheVariants as entries
 use Rattle.mip_history.specs.Questions.{moment_says, moment_in, restarts, life_in}
-use Rattle.mip_history.specs.Bound.{Lived, lived, accepted_by, packet_posted, packets_of}
+use Rattle.mip_history.specs.Bound.{Lived, lived, accepted_by}
+use Rattle.mip_history.specs.BoundLaws.{packet_posted, packets_of}
 
 -- an entry that says something of these
 abbrev pub is_told : Entry → Bool

@@ -18,16 +18,19 @@ use Rattle.mip_rules_mobile.specs.Calls as mobiles
 use Rattle.mip_rules_mobile.specs.Steps as mobile_steps
 use Rattle.mip_rules_mobile.specs.Transitions.{Transition}
 use Rattle.mip_rules_mobile.specs.Doing.{transition_of}
-use Rattle.mip_rules_mobile.specs.Part.{PartLife, part_life, IsPartReborn}
+use Rattle.mip_rules_mobile.specs.PartLaws.{PartLife, part_life, IsPartReborn}
 use Rattle.mip_rules_mobile.proofs.Calls.{call-now}
 use Rattle.mip_rules_mobile.proofs.PartTransitions.{restart-part}
-use Rattle.mip_history.specs.Setup.{Setup, is_correspondent_at, is_mobile_host}
+use Rattle.mip_history.specs.Setup.{Setup, is_mobile_host}
+use Rattle.mip_history.specs.SetupLaws.{is_correspondent_at}
 use Rattle.mip_history.specs.Setup.Kind.{Mobile}
 use Rattle.mip_history.specs.Runs.{Run, note, past_at, mobile_past_at, with_past, with_mobile_past}
 use Rattle.mip_history.specs.Questions.{moment_says, moment_in, restarts, life_in}
-use Rattle.mip_history.specs.Knowing.{now_in, secrets_in, mobile_known_in, part_in, stands_on}
+use Rattle.mip_history.specs.Knowing.{now_in, secrets_in, mobile_known_in, stands_on}
+use Rattle.mip_history.specs.KnowingLaws.{part_in}
 use Rattle.mip_history.specs.Nodes.{after_mobile_transition}
-use Rattle.mip_history.specs.Bound.{Lived, lived, accepted_by, packet_posted, packets_of}
+use Rattle.mip_history.specs.Bound.{Lived, lived, accepted_by}
+use Rattle.mip_history.specs.BoundLaws.{packet_posted, packets_of}
 use Rattle.mip_history.proofs.Runs.{Meets, IsKept, IsPast, IsPart, past_stays, part_stays, IsRun, goes_quietly}
 use Rattle.mip_history.proofs.Answering.{differs}
 use Rattle.mip_history.proofs.PartTransitions.{mobile_apart, part_goes, mobile_done, reborn_life, quiet_reborn}

@@ -10,7 +10,8 @@ use Rattle.mip_entries.specs.declared.entry.Entry.TheVariants as entries
 use Rattle.mip_entries.specs.Completed.{node_id}
 use Rattle.mip_schedule.specs.declared.event.Event.{Event}
 use Rattle.mip_links.specs.Table.{Post, holder_outside}
-use Rattle.mip_history.specs.Setup.{Setup, Host, Kind, is_correspondent_host, is_mobile_host}
+use Rattle.mip_history.specs.Setup.{Setup, Host, Kind, is_mobile_host}
+use Rattle.mip_history.specs.SetupLaws.{is_correspondent_host}
 use Rattle.mip_history.specs.Setup.Kind.{Correspondent, Agent, Mobile}
 use Rattle.mip_history.specs.Runs.{Run, note, with_agent_past}
 use Rattle.mip_history.specs.Questions.{life_in}

@@ -16,16 +16,19 @@ use Rattle.mip_rules_correspondent.specs.Steps.{Step}
 use Rattle.mip_entries.specs.Pasts.{RisesFrom}
 use Rattle.mip_rules_correspondent.specs.Pasts.{accepted_in}
 use Rattle.mip_rules_mobile.specs.Steps as mobile_steps
-use Rattle.mip_rules_mobile.specs.Part.{PartLife, part_life}
+use Rattle.mip_rules_mobile.specs.PartLaws.{PartLife, part_life}
 use Rattle.mip_links.specs.Table.{Post}
-use Rattle.mip_history.specs.Setup.{Setup, is_correspondent_at}
+use Rattle.mip_history.specs.Setup.{Setup}
+use Rattle.mip_history.specs.SetupLaws.{is_correspondent_at}
 use Rattle.mip_history.specs.Setup.Kind.{Mobile}
 use Rattle.mip_history.specs.Runs.{Run, note, notes, past_at}
 use Rattle.mip_history.specs.Questions.{moment_in, life_in, holder_in}
-use Rattle.mip_history.specs.Knowing.{secrets_in, part_in}
-use Rattle.mip_history.specs.Claims.{is_free_for}
+use Rattle.mip_history.specs.Knowing.{secrets_in}
+use Rattle.mip_history.specs.KnowingLaws.{part_in}
+use Rattle.mip_history.specs.ClaimsLaws.{is_free_for}
 use Rattle.mip_history.specs.Permitted.{opening_claims}
-use Rattle.mip_history.specs.Bound.{accepted_by, packets_of, HasAccepted}
+use Rattle.mip_history.specs.Bound.{accepted_by, HasAccepted}
+use Rattle.mip_history.specs.BoundLaws.{packets_of}
 use Rattle.mip_history.proofs.Quiet.{is_told, same_accepted, same_moment, same_life, same_packets}
 
 -- what an entry meets of those before it

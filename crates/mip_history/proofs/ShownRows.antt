@@ -12,7 +12,8 @@ use Rattle.mip_words.proofs.EachLaws.{each_at}
 use Rattle.mip_binding.specs.Acceptance.{Acceptance, Binding}
 use Rattle.mip_binding.specs.Rows.{BindingRow, RisesBy, find_by, kept_by, add_found, found_by, all_numbers}
 use Rattle.mip_binding.specs.Homes.{HomeKept, home_key, until_key, number_key, home_after, homes, kept_homes, shown_in, shown_home, shown_rows as rows_of}
-use Rattle.mip_binding.specs.Held.{floor, sequence_in, LivesIn}
+use Rattle.mip_binding.specs.Held.{floor, sequence_in}
+use Rattle.mip_binding.specs.HeldLaws.{LivesIn}
 use Rattle.mip_binding.proofs.RowLaws.{all-kept, all-find}
 use Rattle.mip_binding.proofs.HomeLaws.{rises-homes, home_after-homes}
 use Rattle.mip_binding.proofs.LifeLaws.{AllLive, all-live}

@@ -9,10 +9,12 @@ use Rattle.mip_schedule.specs.declared.event.Event.{Event}
 use Rattle.mip_rules_correspondent.specs.Seen.{CorrespondentSeen}
 use Rattle.mip_rules_mobile.specs.Questions.{part_room}
 use Rattle.mip_rules_mobile.proofs.PartLives.{part_is}
-use Rattle.mip_history.specs.Setup.{Setup, is_correspondent_host}
+use Rattle.mip_history.specs.Setup.{Setup}
+use Rattle.mip_history.specs.SetupLaws.{is_correspondent_host}
 use Rattle.mip_history.specs.Setup.Kind.{Correspondent, Mobile}
 use Rattle.mip_history.specs.Runs.{past_at, mobile_past_at}
-use Rattle.mip_history.specs.Knowing.{known_in, now_in, secrets_in, mobile_known_in, part_in}
+use Rattle.mip_history.specs.Knowing.{known_in, now_in, secrets_in, mobile_known_in}
+use Rattle.mip_history.specs.KnowingLaws.{part_in}
 use Rattle.mip_history.specs.Nodes.{rows_by_kind}
 use Rattle.mip_history.specs.Permitted.{run_of}
 use Rattle.mip_history.specs.Bound.{accepted_by}

@@ -18,19 +18,22 @@ use Rattle.mip_entries.specs.Stamped.{Stamped, stamped}
 use Rattle.mip_links.specs.Table.{Post}
 use Rattle.mip_entries.proofs.PastLaws.{rises_transition}
 use Rattle.mip_rules_correspondent.specs.Calls.{Call}
-use Rattle.mip_rules_correspondent.specs.Steps.{Step, Called, Accepts, answers_of, is_acceptance}
+use Rattle.mip_rules_correspondent.specs.Steps.{Step, Called, Accepts, answers_of}
+use Rattle.mip_rules_correspondent.specs.StepsLaws.{is_acceptance}
 use Rattle.mip_rules_correspondent.specs.Pasts.{acceptance_in, accepted_in}
 use Rattle.mip_nonce.specs.Window.{index_of}
 use Rattle.mip_entries.specs.Completed.{node_id}
 use Rattle.mip_provenance.specs.declared.accepted_update.AcceptedUpdate.{AcceptedUpdate}
 use Rattle.mip_provenance.specs.Entries.{mark_entry}
 use Rattle.mip_provenance.specs.Marks.{mark_in}
-use Rattle.mip_history.specs.Setup.{Setup, is_correspondent_host, is_correspondent_at}
+use Rattle.mip_history.specs.Setup.{Setup}
+use Rattle.mip_history.specs.SetupLaws.{is_correspondent_host, is_correspondent_at}
 use Rattle.mip_history.specs.Runs.{Run, past_at, with_past}
 use Rattle.mip_history.specs.Questions.{moment_says, moment_in, restarts, life_in}
-use Rattle.mip_history.specs.Knowing.{part_in}
+use Rattle.mip_history.specs.KnowingLaws.{part_in}
 use Rattle.mip_history.specs.Nodes.{answered}
-use Rattle.mip_history.specs.Bound.{Lived, lived, accepted_by, packet_posted, packets_of, IsAccepted, accepted_entry}
+use Rattle.mip_history.specs.Bound.{Lived, lived, accepted_by, IsAccepted, accepted_entry}
+use Rattle.mip_history.specs.BoundLaws.{packet_posted, packets_of}
 use Rattle.mip_history.proofs.Runs.{Meets, IsKept, IsPast, past_stays, part_stays, IsRun, IsQuiet, Goes, goes_quietly, goes_then, quiet_then, quiet_notes}
 use Rattle.mip_history.proofs.Answering.{mark_quiet, differs, quiet_steps}
 

@@ -15,10 +15,12 @@ use Rattle.mip_history.specs.Setup.{Setup}
 use Rattle.mip_history.specs.Runs.{Run, note, past_at}
 use Rattle.mip_history.specs.Questions.{moment_says, moment_in, restarts, life_in}
 use Rattle.mip_history.specs.Calls.{Tick}
-use Rattle.mip_history.specs.Knowing.{now_in, secrets_in, part_in}
+use Rattle.mip_history.specs.Knowing.{now_in, secrets_in}
+use Rattle.mip_history.specs.KnowingLaws.{part_in}
 use Rattle.mip_history.specs.Nodes.{acts}
 use Rattle.mip_history.specs.Waiting.{Waiting, due_of, earliest, comes_to, is_due, ticks_one, ticked, works, works_on, works_until}
-use Rattle.mip_history.specs.Bound.{Lived, lived, accepted_by, packet_posted, packets_of}
+use Rattle.mip_history.specs.Bound.{Lived, lived, accepted_by}
+use Rattle.mip_history.specs.BoundLaws.{packet_posted, packets_of}
 use Rattle.mip_history.proofs.Runs.{Meets, IsPast, IsRun, Goes, goes_then}
 use Rattle.mip_history.proofs.Acting.{stays, acts_calmly}
 

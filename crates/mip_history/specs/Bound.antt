@@ -1,7 +1,7 @@
 -- What stands behind a binding: the update that made it, in the life of the node, with the verdict on its bytes.
 -- RFC 6275 sections 9.5.1 and 5.2
-use Rattle.std.specs.Prelude.{◌≡◌, ◌≢◌, ℕ, ◌<◌, List, [], ◌∷◌, ◌++◌, fold, Bool, false, true, ◌&&◌, ◌==◌, if◌then◌else◌, Option, Some, None, Ok, option_map, is_some, slice_get}
-use Rattle.std.specs.List.{list_any, filter_map}
+use Rattle.std.specs.Prelude.{◌≡◌, ◌≢◌, ℕ, ◌<◌, List, [], ◌∷◌, ◌++◌, fold, Bool, false, true, ◌==◌, if◌then◌else◌, Option, Some, None, Ok, option_map, is_some, slice_get}
+use Rattle.std.specs.List.{list_any}
 use Rattle.mip_words.specs.Last.{or_else}
 use Rattle.mip_words.specs.EachAfter.{EachAfter}
 use Rattle.mip_words.specs.declared.address.Address.{Address}
@@ -63,15 +63,6 @@ packet_told k _ = None
 -- the bytes of packet k, of its first `sent` or `injected`
 abbrev pub packet_in : List Entry → ℕ → Option (List ℕ)
 packet_in past k = fold (λ o e. or_else o (packet_told k e)) None past
-
-abbrev pub packet_posted : Entry → Option (List ℕ)
-packet_posted (entries.Sent number node shielded packet) = Some packet
-packet_posted (entries.Injected number outsider link packet) = Some packet
-packet_posted _ = None
-
--- the packets that were posted, in order
-abbrev pub packets_of : List Entry → List (List ℕ)
-packets_of past = filter_map packet_posted past
 
 -- node n as a judge at the end of a history: its secrets of this life, the moment, and what it keeps of a home
 abbrev pub judge_in : Setup → List Entry → ℕ → Address → ℕ → ℕ → Bench
@@ -136,10 +127,6 @@ pub record HasAccepted (s : Setup) (past : List Entry) (e : Entry) : Type 0 wher
 abbrev pub is_restart_of : ℕ → Entry → Bool
 is_restart_of n (entries.Restarted node) = n == node.0
 is_restart_of n _ = false
-
-abbrev pub is_accepted_for : ℕ → ℕ → Entry → Bool
-is_accepted_for n home (entries.Accepted node number h binding careof sequence end i j) = (n == node.0) && (h.0 == home)
-is_accepted_for n home _ = false
 
 -- a binding of a home outlives an entry behind this history, unless by it the node accepts for the same home an update that
 -- ends bindings, or one of the same number, or any while no sequence of the home is kept

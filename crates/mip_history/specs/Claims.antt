@@ -1,5 +1,5 @@
 -- Addresses are claimed and given up, by nodes and by outsiders.
-use Rattle.std.specs.Prelude.{ℕ, Bool, true, ◌==◌, if◌then◌else◌, Option, Some, None}
+use Rattle.std.specs.Prelude.{ℕ, ◌==◌, if◌then◌else◌, Option, Some, None}
 use Rattle.mip_words.specs.declared.address.Address.{Address}
 use Rattle.mip_words.specs.declared.ids.LinkId.{LinkId}
 use Rattle.mip_entries.specs.declared.entry.Entry.{Entry}
@@ -11,11 +11,6 @@ use Rattle.mip_history.specs.Questions.{holder_in}
 
 abbrev pub link_id : ℕ → LinkId
 link_id link = record { 0 = link }
-
--- nobody else holds it
-abbrev pub is_free_for : Option ℕ → ℕ → Bool
-is_free_for None who = true
-is_free_for (Some other) who = other == who
 
 -- the claim of a holder that asks for an address, by who holds it
 abbrev pub claim_entry : ℕ → Address → ℕ → Option ℕ → Entry

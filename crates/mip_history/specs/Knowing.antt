@@ -11,7 +11,6 @@ use Rattle.mip_rules_agent.specs.Known as agents
 use Rattle.mip_rules_agent.specs.Questions as agent_questions
 use Rattle.mip_rules_mobile.specs.Known as mobiles
 use Rattle.mip_rules_mobile.specs.Questions as mobile_questions
-use Rattle.mip_rules_mobile.specs.Part.{PartLife, part_life}
 use Rattle.mip_links.specs.Table.{link_of}
 use Rattle.mip_history.specs.Setup.{Setup}
 use Rattle.mip_history.specs.Runs.{Run, past_at, agent_past_at, mobile_past_at}
@@ -45,10 +44,6 @@ agent_known_in run n serves = agent_questions.known serves (agent_past_at run n)
 -- what mobile n knows, through all its lives
 abbrev pub mobile_known_in : Setup → Run → ℕ → (home : Address) → (agent : Option Address) → mobiles.Known
 mobile_known_in s run n home agent = mobile_questions.known home agent s.numbers (secrets_in s n 0) (mobile_past_at run n)
-
--- the correspondent part of mobile n, since it last restarted
-abbrev pub part_in : Setup → Run → ℕ → (home : Address) → PartLife
-part_in s run n home = part_life home s.numbers (secrets_in s n 0) (mobile_past_at run n)
 
 -- the link on which a mobile with this home stands
 abbrev pub stands_on : Setup → Run → ℕ → (home : Address) → Option ℕ

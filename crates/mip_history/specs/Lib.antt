@@ -1,9 +1,12 @@
 pub mod Setup
+pub mod SetupLaws
 pub mod Runs
 pub mod Questions
 pub mod Calls
 pub mod Claims
+pub mod ClaimsLaws
 pub mod Knowing
+pub mod KnowingLaws
 pub mod Homes
 pub mod Posting
 pub mod Nodes
@@ -14,10 +17,12 @@ pub mod Advertising
 pub mod Restarting
 pub mod Found
 pub mod Told
+pub mod ToldLaws
 pub mod Settled
 pub mod Permitted
 pub mod Passing
 pub mod Bound
+pub mod BoundLaws
 pub mod Again
 pub mod Registered
 pub mod Naming

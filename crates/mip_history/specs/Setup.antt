@@ -44,18 +44,6 @@ part_room (Correspondent room) = Some room
 part_room (Agent preference life room serves) = None
 part_room (Mobile agent) = Some mobiles.part_room
 
-abbrev pub is_correspondent_kind : Kind → Bool
-is_correspondent_kind (Correspondent room) = true
-is_correspondent_kind _ = false
-
-abbrev pub is_correspondent_host : Option Host → Bool
-is_correspondent_host None = false
-is_correspondent_host (Some host) = is_correspondent_kind host.kind
-
--- node n is a correspondent
-abbrev pub is_correspondent_at : Setup → ℕ → Bool
-is_correspondent_at s n = is_correspondent_host (slice_get s.hosts n)
-
 abbrev pub is_mobile_kind : Kind → Bool
 is_mobile_kind (Mobile agent) = true
 is_mobile_kind _ = false

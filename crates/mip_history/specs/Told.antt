@@ -1,6 +1,6 @@
 -- What the entries of a history tell of a mobile: the address at which it is present, its home registration, its bindings; of
 -- an agent, where a home is registered; and of any node, its own address. RFC 6275 sections 4.5, 9.1, 10.1 and 11.1
-use Rattle.std.specs.Prelude.{ℕ, List, Bool, true, ◌&&◌, ◌==◌, nat_lt, if◌then◌else◌, Option, Some, None, option_map}
+use Rattle.std.specs.Prelude.{ℕ, List, Bool, ◌&&◌, ◌==◌, if◌then◌else◌, Option, Some, None, option_map}
 use Rattle.mip_words.specs.declared.address.Address.{Address}
 use Rattle.mip_words.specs.declared.moment.Moment.{Moment}
 use Rattle.mip_words.specs.Asked.{asked}
@@ -47,11 +47,6 @@ binding_told n peer _ = None
 -- mobile n has a binding with a peer, whose end lies ahead
 abbrev pub is_bound_in : (now : ℕ) → List Entry → ℕ → (peer : Address) → Bool
 is_bound_in now past n peer = lies_ahead now (asked (binding_told n peer) None past)
-
--- a moment behind this one was told
-abbrev pub late_says : ℕ → Entry → Option Bool
-late_says u (entries.At moment) = if nat_lt u moment.0 then Some true else None
-late_says u _ = None
 
 -- the care-of address that agent g has registered for a home, while the end of the registration lies ahead
 abbrev pub careof_in : (now : ℕ) → List Entry → ℕ → (home : Address) → Option Address

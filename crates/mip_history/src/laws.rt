@@ -29,7 +29,7 @@ ghost use Rattle.mip_history.specs.Homes.{is_at_home, lives_at, gives_up};
 ghost use Rattle.mip_history.specs.Waiting.{works_until, waited, due_of, is_due};
 ghost use Rattle.mip_links.specs.Table.{link_of};
 ghost use Rattle.mip_history.specs.Permitted.{opening_claims, run_of, happens, permitted};
-ghost use Rattle.mip_history.specs.Claims.{is_free_for};
+ghost use Rattle.mip_history.specs.ClaimsLaws.{is_free_for};
 ghost use Rattle.mip_history.specs.Passing.{waited_by, restarted_by};
 ghost use Rattle.mip_history.specs.Again.{RepeatsAfterRounds};
 ghost use Rattle.mip_history.specs.Naming.{IsDeclared};
@@ -37,7 +37,8 @@ ghost use Rattle.mip_history.specs.Nodes.{rows_by_kind};
 ghost use Rattle.mip_history.specs.Shields.{is_shielded_in};
 ghost use Rattle.mip_history.specs.Shown.{kept_to, IsLastAcceptance};
 ghost use Rattle.mip_history.specs.Registered.{is_agent_at, registration_entry, last_registration, registered_in, IsRegistration, IsRegistered, HomeChange};
-ghost use Rattle.mip_history.specs.Bound.{accepted_by, held_in, held_under_in, packet_in, packets_of, accepted_entry, is_accepted, is_restart_of, is_accepted_for, HasAccepted, IsBound, IsBoundUnder};
+ghost use Rattle.mip_history.specs.Bound.{accepted_by, held_in, held_under_in, packet_in, accepted_entry, is_accepted, is_restart_of, HasAccepted, IsBound, IsBoundUnder};
+ghost use Rattle.mip_history.specs.BoundLaws.{packets_of, is_accepted_for};
 
 /// A schedule with one event more is run by letting that event happen last.
 pub fn event_after_event()

@@ -8,7 +8,8 @@ use Rattle.mip_ipv6.specs.Reading.{packet_of}
 use Rattle.mip_ipv6.specs.declared.not_packet.NotPacket.{NotPacket}
 use Rattle.mip_frames.specs.Framing.{Framed, frame_of}
 use Rattle.mip_hub.specs.Calls.{Sends, sent_by}
-use Rattle.mip_hub.specs.Passing.{Passed, Lost, To, to_port, packet_passed, frame_passed, passed, passed_calls, HasPort, sent_for}
+use Rattle.mip_hub.specs.Passing.{Passed, Lost, To, to_port, packet_passed, frame_passed, passed, passed_calls}
+use Rattle.mip_hub.specs.PassingLaws.{HasPort, sent_for}
 use Rattle.mip_hub.specs.Ports.{port_at}
 use Rattle.mip_hub.specs.declared.port_row.PortRow.{PortRow}
 

@@ -5,6 +5,8 @@ pub mod Calls
 pub mod Ports
 pub mod Adverts
 pub mod Passing
+pub mod PassingLaws
 pub mod Turns
 pub mod Served
+pub mod ServedLaws
 pub mod Judged

@@ -1,5 +1,5 @@
 -- What becomes of a datagram.
-use Rattle.std.specs.Prelude.{◌≡◌, ℕ, List, [], ◌∷◌, ◌==◌, if◌then◌else◌, Option, Some, None, Result, Ok, Err, codes, decimal, replicate}
+use Rattle.std.specs.Prelude.{ℕ, List, [], ◌∷◌, ◌==◌, if◌then◌else◌, Option, Some, None, Result, Ok, Err, codes, decimal, replicate}
 use Rattle.std.specs.List.{flat_map}
 use Rattle.mip_ipv6.specs.Packet.{Packet}
 use Rattle.mip_ipv6.specs.Reading.{packet_of}
@@ -7,7 +7,7 @@ use Rattle.mip_ipv6.specs.declared.not_packet.NotPacket.{NotPacket}
 use Rattle.mip_lines.specs.Lines.{line_text}
 use Rattle.mip_explain.specs.Words.{refusal_word}
 use Rattle.mip_frames.specs.Framing.{Framed, frame_of}
-use Rattle.mip_hub.specs.Calls.{Call, Sends, sent_by}
+use Rattle.mip_hub.specs.Calls.{Call, Sends}
 use Rattle.mip_hub.specs.Ports.{port_at}
 use Rattle.mip_hub.specs.declared.port_row.PortRow.{PortRow}
 
@@ -51,15 +51,3 @@ passed_text number (Dropped word) = line_text (codes "dropped" ∷ decimal numbe
 passed_text number Gone = line_text (codes "gone" ∷ decimal number ∷ codes "noholder" ∷ [])
 passed_text number Lost = line_text (codes "lost" ∷ decimal number ∷ [])
 passed_text number (To port count) = flat_map (to_text number) (replicate count port)
-
--- a datagram is a frame whose packet is read, and this port has its destination
-pub record HasPort (ports : List PortRow) (datagram : List ℕ) (port : ℕ) : Type 0 where
-  pub frame : Framed
-  pub packet : Packet
-  pub framed : frame_of datagram ≡ Some frame
-  pub read : packet_of frame.packet ≡ Ok packet
-  pub here : port_at ports packet.head.destination ≡ Some port
-
--- what is sent on for a datagram
-abbrev pub sent_for : List PortRow → (copies : ℕ) → List ℕ → List (ℕ × List ℕ)
-sent_for ports copies datagram = flat_map sent_by (passed_calls datagram (passed ports copies datagram))

@@ -1,5 +1,5 @@
 -- What a run of a hub leaves of its link and its sink.
-use Rattle.std.specs.Prelude.{◌≡◌, ℕ, zero, suc, ◌<◌, ◌≤◌, List, [], ◌∷◌, length, take, drop, true, Option, None, IfSome, option_map, Result, Ok, Err, slice_get}
+use Rattle.std.specs.Prelude.{◌≡◌, ℕ, zero, suc, ◌<◌, ◌≤◌, List, [], ◌∷◌, length, take, drop, true, Option, None, IfSome, option_map, slice_get}
 use Rattle.std.specs.Io.KnownBytes.{append_known}
 use Rattle.mip_frames.specs.declared.served.Served.{Served}
 use Rattle.mip_frames.specs.declared.served.Served.TheVariants.{Done, LinkFault, WriteFault, Memory}
@@ -53,11 +53,6 @@ pub record IsCut (end : Served) (calls : List Call) (before after : Outside) : T
 
 abbrev pub after_all : List Call → Outside → Outside
 after_all calls o = record { sent = sent_on calls o.sent; held = held_on calls o.held }
-
--- one turn
-abbrev pub Tells : {U : Type 0} → List Call → Result U Served → Outside → Outside → Type 0
-Tells calls (Ok u) before after = after ≡ after_all calls before
-Tells calls (Err end) before after = IsCut end calls before after
 
 -- a whole run
 abbrev pub Ran : Content → (turns : ℕ) → (seen : List Seen) → Served → Outside → Outside → Type 0

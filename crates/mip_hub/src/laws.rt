@@ -3,7 +3,7 @@
 ghost use Rattle.std.specs.Prelude.{◌≡◌, ℕ, List, [], ◌⊎◌, replicate};
 ghost use Rattle.mip_ipv6.specs.Packet as packets;
 ghost use Rattle.mip_frames.specs.Framing as framing;
-ghost use Rattle.mip_hub.specs.Passing.{sent_for, HasPort};
+ghost use Rattle.mip_hub.specs.PassingLaws.{sent_for, HasPort};
 ghost use Rattle.mip_hub.specs.declared.port_row.PortRow as rows;
 
 /// A law: a datagram that is a frame whose packet is none that is refused, and whose destination is at a port, goes to that port as

@@ -5,7 +5,8 @@ ghost use Rattle.std.specs.Option.{option_map};
 ghost use Rattle.mip_frames.specs.declared.served.Served.TheVariants as ends;
 ghost use Rattle.mip_outside.specs.Cause.{Rose};
 ghost use Rattle.mip_hub.specs.HubConfigs.{content};
-ghost use Rattle.mip_hub.specs.Served.{IsSeen, Saw, Tells, Ran, outside};
+ghost use Rattle.mip_hub.specs.Served.{IsSeen, Saw, Ran, outside};
+ghost use Rattle.mip_hub.specs.ServedLaws.{Tells};
 ghost use Rattle.mip_hub.specs.Turns.{Seen, told_calls, turn_done};
 
 use crate::hub::Hub;

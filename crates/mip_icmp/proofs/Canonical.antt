@@ -16,7 +16,8 @@ use Rattle.mip_icmp.specs.Fields.{least_size, is_agent_flag}
 use Rattle.mip_icmp.specs.Options.{prefix_at, interval_at, agent_at, preferred_among, IsOption, IsArea}
 use Rattle.mip_icmp.specs.Said.{Said, Parameter, Advertisement, DiscoverAsk, DiscoverReply, PrefixAsk, PrefixReply}
 use Rattle.mip_icmp.specs.Reading.{icmp_of}
-use Rattle.mip_icmp.specs.Spelling.{type_of, IsFields, IsIcmp, prefix_bytes, interval_bytes, agent_bytes, set_bytes, agent_flag, unsummed, icmp_bytes, IsWritable, FitsPrefix, FitsAgent, FitsSet, Fits}
+use Rattle.mip_icmp.specs.Spelling.{type_of, IsFields, IsIcmp, prefix_bytes, interval_bytes, agent_bytes, set_bytes, agent_flag, unsummed, icmp_bytes, IsWritable}
+use Rattle.mip_icmp.specs.SpellingLaws.{FitsPrefix, FitsAgent, FitsSet, Fits}
 use Rattle.mip_icmp.proofs.Choices.{preferred_one}
 use Rattle.mip_icmp.proofs.Messages.{icmp_again}
 

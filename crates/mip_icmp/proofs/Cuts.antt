@@ -5,7 +5,8 @@ use Rattle.std.specs.List.{flat_map, AllByRecursion}
 use Rattle.std.proofs.lemmas.Bool.{cond_both, cond-false, ltb-false, le-ltb, not-false, not_from_true, or_parts, or_from}
 use Rattle.std.proofs.lemmas.List.{get_or_append_left, get_or-take, length-take-le, drop_at}
 use Rattle.mip_words.proofs.StepLaws.{bind_ok, done, ok_is}
-use Rattle.mip_icmp.specs.Walk.{IsOptionOf, seen_by, option_by, options_by}
+use Rattle.mip_icmp.specs.Walk.{IsOptionOf, option_by, options_by}
+use Rattle.mip_icmp.specs.WalkLaws.{seen_by}
 use Rattle.mip_icmp.proofs.Walking.{goes_on}
 
 -- the byte at a place within an option, with other bytes behind it

@@ -1,5 +1,5 @@
 -- Which bytes spell an ICMPv6 message: all that a reader accepts, and those that a writer gives.
-use Rattle.std.specs.Prelude.{◌≡◌, ℕ, ◌%◌, ◌^◌, ◌<◌, ◌≤◌, List, [], ◌∷◌, ◌++◌, length, drop, Option, Some, None, IfSome, Bool, slice_index, if◌then◌else◌, ⊤}
+use Rattle.std.specs.Prelude.{◌≡◌, ℕ, ◌%◌, ◌≤◌, List, [], ◌∷◌, ◌++◌, length, drop, Option, Some, None, Bool, slice_index, if◌then◌else◌, ⊤}
 use Rattle.mip_words.specs.Numbers.{number_at, number_bytes}
 use Rattle.mip_words.specs.Addresses.{address_bytes}
 use Rattle.mip_words.specs.declared.address.Address.{Address}
@@ -76,26 +76,3 @@ abbrev pub IsWritable : Said → Type 0
 IsWritable (Parameter pointer quoted) = length quoted ≤ 65527
 IsWritable (DiscoverReply identifier agents) = (length agents ≤ 65527) × (length agents % 16 ≡ 0)
 IsWritable _ = ⊤
-
--- numbers that have a place in a message
-pub record FitsPrefix (p : PrefixInfo) : Type 0 where
-  pub valid : p.valid < 2 ^ 32
-  pub preferred : p.preferred < 2 ^ 32
-  pub address : p.address.0 < 2 ^ 128
-
-pub record FitsAgent (a : AgentInfo) : Type 0 where
-  pub preference : a.preference < 2 ^ 16
-  pub life : a.life < 2 ^ 16
-
-pub record FitsSet (set : IcmpSet) : Type 0 where
-  pub prefix : IfSome set.prefix FitsPrefix
-  pub interval : IfSome set.interval (λ n. n < 2 ^ 32)
-  pub agent : IfSome set.agent FitsAgent
-
-abbrev pub Fits : Said → Type 0
-Fits (Parameter pointer quoted) = pointer < 2 ^ 32
-Fits (Advertisement hop agent life options) = (life < 2 ^ 16) × FitsSet options
-Fits (DiscoverAsk identifier) = identifier < 2 ^ 16
-Fits (DiscoverReply identifier agents) = identifier < 2 ^ 16
-Fits (PrefixAsk identifier) = identifier < 2 ^ 16
-Fits (PrefixReply identifier options) = (identifier < 2 ^ 16) × FitsSet options

@@ -8,11 +8,6 @@ pub record IsOptionOf (has_units : ℕ → ℕ → Bool) (option : List ℕ) : T
   pub units : has_units (slice_index option 0) (slice_index option 1) ≡ true
   pub whole : length option ≡ 8 * slice_index option 1
 
--- what is seen after these options
-abbrev pub seen_by : {S : Type 0} → (S → List ℕ → S) → S → List (List ℕ) → S
-seen_by noted seen [] = seen
-seen_by noted seen (o ∷ options) = seen_by noted (noted seen o) options
-
 -- what was seen so far, with the option that begins these bytes, and how many bytes it takes; or its place is bad
 unfoldable pub option_by : {S F : Type 0} → (ℕ → ℕ → Bool) → (S → List ℕ → S) → (ℕ → F) → ℕ → S → List ℕ → Result (S × ℕ) F
 option_by has_units noted bad place seen bytes =

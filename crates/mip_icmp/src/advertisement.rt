@@ -5,7 +5,8 @@ ghost use Rattle.mip_words.specs.Steps.{Gives};
 ghost use Rattle.mip_icmp.specs.Said.{Advertisement, said, HasSpan};
 ghost use Rattle.mip_icmp.specs.Fields.{is_agent_flag};
 ghost use Rattle.mip_icmp.specs.Reading.{advertisement_in};
-ghost use Rattle.mip_icmp.specs.Spelling.{agent_flag, unsummed, FitsSet};
+ghost use Rattle.mip_icmp.specs.Spelling.{agent_flag, unsummed};
+ghost use Rattle.mip_icmp.specs.SpellingLaws.{FitsSet};
 
 use crate::area::read_area;
 use crate::fault::IcmpFault;

@@ -1,7 +1,8 @@
 //! The options of a message, as they are written.
 
 ghost use Rattle.std.specs.Prelude.{◌≡◌, ◌++◌, ◌<◌, ◌^◌, OnOk, IfSome};
-ghost use Rattle.mip_icmp.specs.Spelling.{prefix_bytes, interval_bytes, agent_bytes, set_bytes, FitsPrefix, FitsAgent, FitsSet};
+ghost use Rattle.mip_icmp.specs.Spelling.{prefix_bytes, interval_bytes, agent_bytes, set_bytes};
+ghost use Rattle.mip_icmp.specs.SpellingLaws.{FitsPrefix, FitsAgent, FitsSet};
 
 use crate::agent_info::AgentInfo;
 use crate::options::IcmpSet;

@@ -4,7 +4,8 @@ ghost use Rattle.std.specs.Prelude.{◌≡◌, ◌≤◌, ◌<◌, ◌^◌, ◌+
 ghost use Rattle.mip_words.specs.Steps.{Gives};
 ghost use Rattle.mip_icmp.specs.Said.{PrefixAsk, PrefixReply, said, HasSpan};
 ghost use Rattle.mip_icmp.specs.Reading.{prefixes_in};
-ghost use Rattle.mip_icmp.specs.Spelling.{unsummed, FitsSet};
+ghost use Rattle.mip_icmp.specs.Spelling.{unsummed};
+ghost use Rattle.mip_icmp.specs.SpellingLaws.{FitsSet};
 
 use crate::area::read_area;
 use crate::fault::IcmpFault;

@@ -2,7 +2,8 @@ ghost use Rattle.std.specs.Prelude.{◌≡◌, ◌≤◌, ◌++◌, length, Ok, 
 ghost use Rattle.mip_ipv6.specs.Sum.{is_right_sum};
 ghost use Rattle.mip_icmp.specs.Said.{said_plain};
 ghost use Rattle.mip_icmp.specs.Reading.{icmp_of};
-ghost use Rattle.mip_icmp.specs.Spelling.{unsummed, icmp_bytes, IsWritable, Fits, IsIcmp};
+ghost use Rattle.mip_icmp.specs.Spelling.{unsummed, icmp_bytes, IsWritable, IsIcmp};
+ghost use Rattle.mip_icmp.specs.SpellingLaws.{Fits};
 
 use crate::advertisement::put_advertisement;
 use crate::discovery::{put_discover_ask, put_discover_reply};

@@ -8,7 +8,8 @@ use Rattle.mip_words.specs.Addresses.{address_at, address_bytes}
 use Rattle.mip_words.specs.declared.address.Address.{Address}
 use Rattle.mip_words.proofs.Fields.{length-number_bytes, number_at-number_bytes, number_at-behind}
 use Rattle.mip_ipv6.specs.declared.head.Head.{Head}
-use Rattle.mip_ipv6.specs.Packet.{Packet, names_no_body, is_plain, is_routable_if_any, IsAddressIfAny, IsInRange}
+use Rattle.mip_ipv6.specs.Packet.{Packet, names_no_body, is_plain, is_routable_if_any}
+use Rattle.mip_ipv6.specs.PacketLaws.{IsAddressIfAny, IsInRange}
 use Rattle.mip_ipv6.specs.Reading.{packet_of}
 use Rattle.mip_ipv6.specs.Spelling.{Skipped, Home, IsRouting, IsOptions, IsPacket, routing_bytes, options_bytes, first_number, second_number, behind_bytes, fixed_bytes, packet_bytes}
 use Rattle.mip_ipv6.proofs.Packets.{packet_again}

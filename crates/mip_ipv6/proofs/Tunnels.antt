@@ -12,13 +12,15 @@ use Rattle.mip_words.proofs.StepLaws.{ok_is, done}
 use Rattle.mip_ipv6.specs.declared.head.Head.{Head}
 use Rattle.mip_ipv6.specs.declared.not_packet.NotPacket.{NotPacket}
 use Rattle.mip_ipv6.specs.declared.not_packet.NotPacket.TheVariants.{Short, Header}
-use Rattle.mip_ipv6.specs.Packet.{Packet, IsInRange, names_no_body}
+use Rattle.mip_ipv6.specs.Packet.{Packet, names_no_body}
+use Rattle.mip_ipv6.specs.PacketLaws.{IsInRange}
 use Rattle.mip_ipv6.specs.Reading.{Walk, packet_of, fixed_header, routing_header, options_header, head_of}
 use Rattle.mip_ipv6.specs.Spelling.{IsPacket, behind_bytes}
 use Rattle.mip_ipv6.proofs.OptionLaws.{number_at-take}
 use Rattle.mip_ipv6.proofs.Packets.{packet_takes}
 use Rattle.mip_ipv6.proofs.Canonical.{packet_back, length_behind, length_routing, length_options}
-use Rattle.mip_ipv6.specs.Tunnel.{hop_of, lowered, lowered_packet, lowered_if_read, outer_head, tunnel_packet, encapsulated, inner, opened}
+use Rattle.mip_ipv6.specs.Tunnel.{hop_of, lowered, lowered_packet, outer_head, tunnel_packet, encapsulated, inner, opened}
+use Rattle.mip_ipv6.specs.TunnelLaws.{lowered_if_read}
 
 -- what else of a packet is read, is the same in a lowered one
 pub length_lowered : (packet : List ℕ) → length (lowered packet) ≡ length packet

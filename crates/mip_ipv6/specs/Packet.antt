@@ -1,5 +1,5 @@
 -- A packet as a tree: the fields of its headers, and its body. RFC 8200 section 3, RFC 6275 sections 6.3 and 6.4
-use Rattle.std.specs.Prelude.{◌≡◌, ℕ, ◌^◌, ◌<◌, ◌≤◌, List, length, drop, Bool, true, not, ◌&&◌, ◌||◌, ◌==◌, nat_lt, Option, Some, None, IfSome, unwrap_or}
+use Rattle.std.specs.Prelude.{◌≡◌, ℕ, ◌^◌, ◌≤◌, List, length, drop, Bool, true, not, ◌&&◌, ◌||◌, ◌==◌, nat_lt, Option, Some, None, unwrap_or}
 use Rattle.mip_words.specs.Addresses.{is_routable}
 use Rattle.mip_words.specs.declared.address.Address.{Address}
 use Rattle.mip_ipv6.specs.declared.head.Head.{Head}
@@ -32,17 +32,6 @@ is_routable_if_any (Some address) = is_routable address.0
 abbrev pub is_plain : Head → Bool
 is_plain head =
     nat_lt head.flow (2 ^ 20) && not (names_no_body head.proto) && is_routable_if_any head.route && is_routable_if_any head.home
-
-abbrev pub IsAddressIfAny : Option Address → Type 0
-IsAddressIfAny address = IfSome address (λ a. a.0 < 2 ^ 128)
-
--- the numbers of a head that are not plain already are in range
-pub record IsInRange (head : Head) : Type 0 where
-  pub source : head.source.0 < 2 ^ 128
-  pub destination : head.destination.0 < 2 ^ 128
-  pub class : head.class < 256
-  pub route : IsAddressIfAny head.route
-  pub home : IsAddressIfAny head.home
 
 -- whom a packet is from, and whom it is for: home addresses where a Home Address option or a routing header has them.
 -- RFC 6275 sections 6.3 and 6.4

@@ -7,7 +7,6 @@ use Rattle.mip_words.specs.declared.address.Address.{Address}
 use Rattle.mip_ipv6.specs.declared.head.Head.{Head}
 use Rattle.mip_ipv6.specs.declared.not_packet.NotPacket.{NotPacket}
 use Rattle.mip_ipv6.specs.declared.not_packet.NotPacket.TheVariants.{Short, Version, Length, Header, Route, Option as BadOption}
-use Rattle.mip_ipv6.specs.declared.walked.Walked.{Walked}
 use Rattle.mip_ipv6.specs.Packet.{Packet, names_no_body}
 
 -- what a header that may be absent gave: its address, the next-header number behind it, and the bytes behind it
@@ -15,9 +14,6 @@ pub record Walk : Type 0 where
   pub found : Option Address
   pub next : ℕ
   pub rest : List ℕ
-
-abbrev pub walk : Walked → Walk
-walk w = record { found = w.found; next = w.next; rest = w.rest.now }
 
 -- the fixed header gives its next-header number
 unfoldable pub fixed_header : List ℕ → Result ℕ NotPacket

@@ -21,10 +21,6 @@ lowered packet = slice_set packet 7 (hop_of packet - 1)
 abbrev pub lowered_packet : Packet → Packet
 lowered_packet p = record { head = record p.head { hop = p.head.hop - 1 }; body = p.body }
 
-abbrev pub lowered_if_read : Result Packet NotPacket → Result Packet NotPacket
-lowered_if_read (Ok p) = Ok (lowered_packet p)
-lowered_if_read (Err fault) = Err fault
-
 -- the head of a tunnel packet. RFC 2473 section 5.1
 abbrev pub outer_head : Address → Address → Head
 outer_head entry exit = record {

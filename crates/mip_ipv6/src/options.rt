@@ -2,7 +2,8 @@
 
 ghost use Rattle.std.specs.Prelude.{◌≤◌, ◌<◌, ◌+◌, length, slice_index, IfOk, None};
 ghost use Rattle.mip_words.specs.Steps.{Gives};
-ghost use Rattle.mip_ipv6.specs.Reading.{walk, home_option, option_at, options_after, options_header};
+ghost use Rattle.mip_ipv6.specs.Reading.{home_option, option_at, options_after, options_header};
+ghost use Rattle.mip_ipv6.specs.ReadingLaws.{walk};
 
 use crate::not_packet::NotPacket;
 use crate::walked::Walked;

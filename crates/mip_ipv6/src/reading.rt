@@ -4,7 +4,8 @@ ghost use Rattle.std.specs.Prelude.{◌≡◌, ◌≤◌, ◌<◌, ◌-◌, ◌^
 ghost use Rattle.mip_words.specs.Steps.{Gives};
 ghost use Rattle.mip_ipv6.specs.Packet.{Packet, packet, IsAt, is_routable_if_any};
 ghost use Rattle.mip_ipv6.specs.Spelling.{IsPacket};
-ghost use Rattle.mip_ipv6.specs.Reading.{walk, fixed_header, routing_header, head_of, packet_of};
+ghost use Rattle.mip_ipv6.specs.Reading.{fixed_header, routing_header, head_of, packet_of};
+ghost use Rattle.mip_ipv6.specs.ReadingLaws.{walk};
 
 use crate::head::{Head, no_body};
 use crate::not_packet::NotPacket;

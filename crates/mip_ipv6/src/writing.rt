@@ -1,7 +1,8 @@
 //! Writing a packet.
 
 ghost use Rattle.std.specs.Prelude.{◌≡◌, ◌<◌, ◌≤◌, ◌^◌, ◌++◌, ◌↔◌, ℕ, length, IsTrue, IfOk, OnOk, Ok, Err};
-ghost use Rattle.mip_ipv6.specs.Packet.{is_plain, IsAddressIfAny, IsInRange};
+ghost use Rattle.mip_ipv6.specs.Packet.{is_plain};
+ghost use Rattle.mip_ipv6.specs.PacketLaws.{IsAddressIfAny, IsInRange};
 ghost use Rattle.mip_ipv6.specs.Reading.{packet_of};
 ghost use Rattle.mip_ipv6.specs.Spelling.{IsPacket, routing_bytes, options_bytes, first_number, second_number, behind_bytes, fixed_bytes, packet_bytes};
 

@@ -16,7 +16,8 @@ use Rattle.std.proofs.lemmas.List.Sums.{AllPass-from_list_all}
 use Rattle.mip_words.specs.Hex.{glyph, hex_of}
 use Rattle.mip_lines.specs.Cutting.{parts, fields_of, rows_of}
 use Rattle.mip_lines.specs.HexFields.{hex_text}
-use Rattle.mip_lines.specs.Lines.{spaced, line_text, lines_text, is_plain, is_row}
+use Rattle.mip_lines.specs.Lines.{spaced, line_text, lines_text}
+use Rattle.mip_lines.specs.LinesLaws.{is_plain, is_row}
 
 -- a line that was appended piece by piece, its last field apart
 pub appended_line : (o w : List ℕ) (fs : List (List ℕ)) (h : List ℕ) → ((((o ++ w) ++ spaced fs) ++ 32 ∷ []) ++ h) ++ 10 ∷ [] ≡ o ++ line_text (w ∷ (fs ++ h ∷ []))

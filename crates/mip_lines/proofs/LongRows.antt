@@ -1,7 +1,8 @@
 -- Rows with more fields than a line of their kind has.
 use Rattle.std.proofs.Common.{◌≡◌, ℕ, ◌<◌, List, [], ◌∷◌, length, refl, arith}
 use Rattle.std.specs.Prelude.{Result, Err}
-use Rattle.mip_lines.specs.Rows.{row1, row2, row3, row4, row5, row6, row7, row8, row9, row10, row11}
+use Rattle.mip_lines.specs.Rows.{row1, row2, row3, row4, row6, row10, row11}
+use Rattle.mip_lines.specs.RowsLaws.{row5, row7, row8, row9}
 
 pub row1-long : {A1 X E : Type 0} (e : E) (k1 : List ℕ → Result A1 E) (to : A1 → X) (fields : List (List ℕ)) → 1 < length fields → row1 e k1 to fields ≡ Err e
 row1-long e k1 to [] long = absurd (omega arith)

@@ -3,7 +3,8 @@ use Rattle.std.proofs.Common.{◌≡◌, ℕ, List, [], ◌∷◌, sym, ap, ◌�
 use Rattle.std.specs.Prelude.{Result, Ok}
 use Rattle.mip_words.specs.Steps.{◌>>=◌}
 use Rattle.mip_words.proofs.StepLaws.{bind_ok, ok_is}
-use Rattle.mip_lines.specs.Rows.{Spells, row1, row2, row3, row4, row5, row6, row7, row8, row9, row10, row11}
+use Rattle.mip_lines.specs.Rows.{row1, row2, row3, row4, row6, row10, row11}
+use Rattle.mip_lines.specs.RowsLaws.{Spells, row5, row7, row8, row9}
 
 -- a first step that was read, seen as its spelling
 taken : {A X E : Type 0} (r : List ℕ → Result A E) (t : A → List ℕ) → Spells r t → (f : List ℕ) (k : A → Result X E) (x : X) (P : List ℕ → Type 0)

@@ -1,7 +1,8 @@
 -- A row of fields that is spelled so is read.
 use Rattle.std.proofs.Common.{◌≡◌, ℕ, List, [], ◌∷◌, refl}
 use Rattle.std.specs.Prelude.{Result, Ok}
-use Rattle.mip_lines.specs.Rows.{row1, row2, row3, row4, row5, row6, row7, row8, row9, row10}
+use Rattle.mip_lines.specs.Rows.{row1, row2, row3, row4, row6, row10}
+use Rattle.mip_lines.specs.RowsLaws.{row5, row7, row8, row9}
 
 pub row1-again : {A1 X E : Type 0} (e : E)
     (k1 : List ℕ → Result A1 E)

@@ -2,4 +2,6 @@ pub mod Cutting
 pub mod Decimals
 pub mod HexFields
 pub mod Lines
+pub mod LinesLaws
 pub mod Rows
+pub mod RowsLaws

@@ -1,6 +1,6 @@
 -- Lines as they are written.
-use Rattle.std.specs.Prelude.{ℕ, List, [], ◌∷◌, ◌++◌, Bool, false, not, ◌&&◌, ◌==◌}
-use Rattle.std.specs.List.{flat_map, list_all}
+use Rattle.std.specs.Prelude.{ℕ, List, [], ◌∷◌, ◌++◌}
+use Rattle.std.specs.List.{flat_map}
 
 -- fields behind the first, each after a space
 abbrev pub spaced : List (List ℕ) → List ℕ
@@ -14,12 +14,3 @@ line_text (field ∷ fields) = field ++ (spaced fields ++ 10 ∷ [])
 -- lines one after another
 abbrev pub lines_text : List (List (List ℕ)) → List ℕ
 lines_text rows = flat_map line_text rows
-
--- no space and no line end: what a field may be made of
-abbrev pub is_plain : List ℕ → Bool
-is_plain field = list_all (λ c. not (c == 32) && not (c == 10)) field
-
--- one field or more, each plain
-abbrev pub is_row : List (List ℕ) → Bool
-is_row [] = false
-is_row (field ∷ fields) = list_all is_plain (field ∷ fields)

@@ -7,7 +7,7 @@ use Rattle.mip_words.specs.Numbers.{IsBytes}
 use Rattle.mip_words.specs.declared.address.Address.{Address}
 use Rattle.mip_words.specs.declared.ids.NodeId.{NodeId}
 use Rattle.mip_words.specs.declared.ids.LinkId.{LinkId}
-use Rattle.mip_lines.specs.Lines.{is_plain, is_row}
+use Rattle.mip_lines.specs.LinesLaws.{is_plain, is_row}
 use Rattle.mip_lines.proofs.LineLaws.{decimal_plain, hex_plain, hex_text_plain}
 use Rattle.mip_lines.proofs.RowReadings.{row1-again, row2-again, row4-again}
 use Rattle.mip_schedule.specs.EventRows.{wait_row, move_row, advertise_row, data_row, repeat_row, lose_row, carry_row, node_fields, packet_fields, outsider_fields, event_fields}

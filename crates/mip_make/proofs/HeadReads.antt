@@ -10,7 +10,7 @@ use Rattle.mip_words.specs.Steps.{◌>>=◌}
 use Rattle.mip_words.specs.declared.moment.Moment.{Moment}
 use Rattle.mip_lines.specs.Decimals.{number_in}
 use Rattle.mip_lines.specs.HexFields.{hex_number, address_in, address_hex}
-use Rattle.mip_lines.specs.Lines.{is_row}
+use Rattle.mip_lines.specs.LinesLaws.{is_row}
 use Rattle.mip_lines.proofs.LineLaws.{decimal_plain}
 use Rattle.mip_lines.proofs.RowReadings.{row4-again, row6-again}
 use Rattle.mip_schedule.specs.DeclarationRows.{link_row, agent_row, correspondent_row, mobile_row, serve_row, outsider_row, node_fields, declaration_fields}

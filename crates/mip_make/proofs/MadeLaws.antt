@@ -11,7 +11,7 @@ use Rattle.mip_words.specs.Numbers.{IsBytes}
 use Rattle.mip_words.specs.Steps.{◌>>=◌}
 use Rattle.mip_words.specs.declared.moment.Moment.{Moment}
 use Rattle.mip_lines.specs.Cutting.{rows_of}
-use Rattle.mip_lines.specs.Lines.{is_row}
+use Rattle.mip_lines.specs.LinesLaws.{is_row}
 use Rattle.mip_lines.proofs.LineLaws.{decimal_plain, hex_plain, text-again}
 use Rattle.mip_schedule.specs.EventTimes.{waited, carried, untimely, timed_line, event_line}
 use Rattle.mip_schedule.specs.DeclarationTimes.{judged}

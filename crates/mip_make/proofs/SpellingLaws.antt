@@ -5,7 +5,8 @@ use Rattle.std.proofs.lemmas.List.{flat_map_more, map-append}
 use Rattle.std.proofs.lemmas.List.FromFn.{map-range_with_len_more}
 use Rattle.mip_lines.specs.Lines.{line_text, lines_text}
 use Rattle.mip_schedule.specs.Spelling.{declaration_rows, event_text, head_rows, run_row, spelling}
-use Rattle.mip_make.specs.Made.{event_at, event_line, events_from, events_text, made}
+use Rattle.mip_make.specs.Made.{event_at, event_line, events_from, made}
+use Rattle.mip_make.specs.MadeLaws.{events_text}
 use Rattle.mip_make.specs.Network.{network}
 
 abbrev Row : Type 0

@@ -1,7 +1,7 @@
 -- The schedule that a seed and a count make.
 use Rattle.std.specs.Prelude.{ℕ, List, map, false}
 use Rattle.std.specs.List.{range_with_len}
-use Rattle.mip_lines.specs.Lines.{line_text, lines_text}
+use Rattle.mip_lines.specs.Lines.{line_text}
 use Rattle.mip_schedule.specs.Contents.{Content}
 use Rattle.mip_schedule.specs.declared.event.Event.{Event}
 use Rattle.mip_schedule.specs.Spelling.{event_text}
@@ -23,7 +23,3 @@ made seed count = record { version = 1; seed = seed; start = record { 0 = 0 }; d
 -- the line of an event
 abbrev pub event_line : Event → List ℕ
 event_line e = line_text (event_text false network e)
-
--- the lines of so many events
-abbrev pub events_text : List ℕ → ℕ → List ℕ
-events_text seed count = lines_text (map (event_text false network) (events_from seed 0 count))

@@ -2,7 +2,8 @@
 
 ghost use Rattle.std.specs.Prelude.{◌≡◌, ◌≤◌, ◌++◌, IfOk, OnOk};
 ghost use Rattle.mip_schedule.specs.Spelling.{spelling};
-ghost use Rattle.mip_make.specs.Made.{events_text, made};
+ghost use Rattle.mip_make.specs.Made.{made};
+ghost use Rattle.mip_make.specs.MadeLaws.{events_text};
 
 use crate::drawn_line::put_drawn;
 use crate::draws::Draws;

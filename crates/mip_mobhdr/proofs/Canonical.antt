@@ -13,7 +13,8 @@ use Rattle.mip_mobhdr.proofs.OptionsCanonical.{canonical_whole}
 use Rattle.mip_mobhdr.specs.Said.{Said}
 use Rattle.mip_mobhdr.specs.Said.Said.{Refresh, HomeInit, CareofInit, HomeTest, CareofTest, Update, Acknowledgement, Error}
 use Rattle.mip_mobhdr.specs.Reading.{least_of, has_bit}
-use Rattle.mip_mobhdr.specs.Spelling.{type_of, IsFields, IsMessage, options_said, flag, field_bytes, rest_bytes, unsummed, message_bytes, HasWidths, WritesOptions}
+use Rattle.mip_mobhdr.specs.Spelling.{type_of, IsFields, IsMessage, options_said, flag, field_bytes, rest_bytes, unsummed, message_bytes}
+use Rattle.mip_mobhdr.specs.SpellingLaws.{HasWidths, WritesOptions}
 
 -- each flag of four is read back from their byte
 record FourFlags (a h l k : Bool) (byte : ℕ) : Type 0 where

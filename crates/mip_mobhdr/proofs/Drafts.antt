@@ -9,7 +9,8 @@ use Rattle.mip_mobhdr.specs.OptionSpelling.{IsSpelled}
 use Rattle.mip_mobhdr.specs.OptionWriting.{canonical, AppendsOptions}
 use Rattle.mip_mobhdr.specs.Said.{Said}
 use Rattle.mip_mobhdr.specs.Reading.{message_of}
-use Rattle.mip_mobhdr.specs.Spelling.{IsMessage, type_of, options_said, field_bytes, front_bytes, rest_bytes, unsummed, message_bytes, HasWidths, WritesOptions}
+use Rattle.mip_mobhdr.specs.Spelling.{IsMessage, type_of, options_said, field_bytes, rest_bytes, unsummed, message_bytes}
+use Rattle.mip_mobhdr.specs.SpellingLaws.{front_bytes, HasWidths, WritesOptions}
 use Rattle.mip_mobhdr.proofs.Canonical.{message_canonical}
 use Rattle.mip_mobhdr.proofs.Messages.{message_read}
 

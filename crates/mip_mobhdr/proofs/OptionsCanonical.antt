@@ -6,7 +6,8 @@ use Rattle.std.specs.Prelude.{Option, Some, None, Result, Ok, Err, OnOk, replica
 use Rattle.std.specs.List.{flat_map}
 use Rattle.mip_words.specs.declared.address.Address.{Address}
 use Rattle.mip_mobhdr.specs.declared.indices.Indices.{Indices}
-use Rattle.mip_mobhdr.specs.OptionValues.{Values, nothing, IsInRange}
+use Rattle.mip_mobhdr.specs.OptionValues.{Values, nothing}
+use Rattle.mip_mobhdr.specs.OptionValuesLaws.{IsInRange}
 use Rattle.mip_mobhdr.specs.OptionSpelling.{Item, item_bytes, IsSkipped, IsNext, IsRun, IsSpelled}
 use Rattle.mip_mobhdr.specs.OptionSpelling.Item.{Pad, Advice, Alternate, Nonces, Number, Authorization, Skipped}
 use Rattle.mip_mobhdr.specs.OptionWriting.{gap, padding, aligned, with_advice, with_nonces, with_number, with_alternate, with_authorization, closed, canonical, AppendsOptions}

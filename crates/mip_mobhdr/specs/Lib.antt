@@ -1,7 +1,9 @@
 pub mod Said
 pub mod Reading
 pub mod Spelling
+pub mod SpellingLaws
 pub mod OptionValues
+pub mod OptionValuesLaws
 pub mod OptionReading
 pub mod OptionSpelling
 pub mod OptionWriting

@@ -4,7 +4,7 @@
 --   0              1              2              3              4              5
 --   Payload Proto  Header Len     MH Type        Reserved       Checksum
 --   6 on: the fields of the type, then mobility options
-use Rattle.std.specs.Prelude.{◌≡◌, ℕ, ◌+◌, ◌-◌, ◌*◌, ◌/◌, ◌^◌, ◌<◌, ◌≤◌, List, [], ◌∷◌, ◌++◌, length, take, drop, slice_index, Bool, IsTrue, IfSome, if◌then◌else◌}
+use Rattle.std.specs.Prelude.{◌≡◌, ℕ, ◌+◌, ◌-◌, ◌*◌, ◌/◌, ◌<◌, ◌≤◌, List, [], ◌∷◌, ◌++◌, length, take, drop, slice_index, Bool, IsTrue, IfSome, if◌then◌else◌}
 use Rattle.mip_words.specs.Numbers.{number_at, number_bytes}
 use Rattle.mip_words.specs.Addresses.{address_at, address_bytes}
 use Rattle.mip_words.specs.declared.address.Address.{Address}
@@ -86,10 +86,6 @@ field_bytes (Update s a h l k t o) =
 field_bytes (Acknowledgement s k q t o) = s ∷ flag 128 k ∷ (number_bytes 2 q ++ number_bytes 2 t)
 field_bytes (Error s h o) = s ∷ 0 ∷ address_bytes h
 
--- what stands before the options, with zero for Header Len and checksum
-abbrev pub front_bytes : Said → List ℕ
-front_bytes m = 59 ∷ 0 ∷ type_of m ∷ 0 ∷ 0 ∷ 0 ∷ field_bytes m
-
 -- fields and options
 unfoldable pub rest_bytes : Said → List ℕ
 rest_bytes m = field_bytes m ++ canonical (6 + length (field_bytes m)) (options_said m)
@@ -101,18 +97,3 @@ unsummed m = 59 ∷ ((6 + length (rest_bytes m)) / 8 - 1) ∷ type_of m ∷ 0 �
 -- the canonical spelling
 unfoldable pub message_bytes : Address → Address → Said → List ℕ
 message_bytes source destination m = with_number_at 4 (checksum_of source destination 135 (unsummed m) 4) (unsummed m)
-
--- each number fits its field
-abbrev pub HasWidths : Said → Type 0
-HasWidths (Refresh o) = Unit {0}
-HasWidths (HomeInit c o) = c < 2 ^ 64
-HasWidths (CareofInit c o) = c < 2 ^ 64
-HasWidths (HomeTest i c t o) = (i < 2 ^ 16) × (c < 2 ^ 64) × (length t ≡ 8)
-HasWidths (CareofTest i c t o) = (i < 2 ^ 16) × (c < 2 ^ 64) × (length t ≡ 8)
-HasWidths (Update s a h l k t o) = (s < 2 ^ 16) × (t < 2 ^ 16)
-HasWidths (Acknowledgement s k q t o) = (q < 2 ^ 16) × (t < 2 ^ 16)
-HasWidths (Error s h o) = h.0 < 2 ^ 128
-
--- the options are spelled where the writer puts them
-abbrev pub WritesOptions : Said → Type 0
-WritesOptions m = IsSpelled (options_said m) (canonical (6 + length (field_bytes m)) (options_said m))

@@ -3,7 +3,8 @@
 ghost use Rattle.std.specs.Prelude.{◌≡◌, ℕ, ◌+◌, ◌%◌, ◌^◌, ◌<◌, ◌≤◌, List, ◌++◌, length, IfSome, OnOk, OnErr};
 ghost use Rattle.mip_words.specs.declared.address.Address.{Address};
 ghost use Rattle.mip_mobhdr.specs.declared.indices.Indices.{Indices};
-ghost use Rattle.mip_mobhdr.specs.OptionValues.{set_values, IsInRange};
+ghost use Rattle.mip_mobhdr.specs.OptionValues.{set_values};
+ghost use Rattle.mip_mobhdr.specs.OptionValuesLaws.{IsInRange};
 ghost use Rattle.mip_mobhdr.specs.OptionWriting.{with_advice, with_nonces, with_number, with_alternate, with_authorization, closed, canonical, AppendsOptions};
 
 use crate::indices::Indices;

@@ -5,7 +5,8 @@ ghost use Rattle.mip_ipv6.specs.Sum.{with_number_at, checksum_of};
 ghost use Rattle.mip_mobhdr.specs.OptionValues.{set_values};
 ghost use Rattle.mip_mobhdr.specs.Said.{said_plain};
 ghost use Rattle.mip_mobhdr.specs.Reading.{message_of};
-ghost use Rattle.mip_mobhdr.specs.Spelling.{IsMessage, type_of, options_said, field_bytes, front_bytes, unsummed, message_bytes, HasNumber, HasWidths, WritesOptions};
+ghost use Rattle.mip_mobhdr.specs.Spelling.{IsMessage, type_of, options_said, field_bytes, unsummed, message_bytes, HasNumber};
+ghost use Rattle.mip_mobhdr.specs.SpellingLaws.{front_bytes, HasWidths, WritesOptions};
 
 use crate::acknowledgement::put_acknowledgement;
 use crate::address_test::put_test;

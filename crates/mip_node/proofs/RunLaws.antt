@@ -10,7 +10,8 @@ use Rattle.mip_config.specs.Configs.{Content}
 use Rattle.mip_node.specs.Nodes.{Running, Datagrams, Serving, serving}
 use Rattle.mip_node.specs.Seen.{Ahead, Coming, IsSeen, Sees, ahead_after, coming_after}
 use Rattle.mip_node.specs.Turns.{Seen, World, first_node, first_world, turned, turned_once, run}
-use Rattle.mip_node.specs.Runs.{Start, Stand, HasRun, TurnDone}
+use Rattle.mip_node.specs.Runs.{Start, Stand, HasRun}
+use Rattle.mip_node.specs.RunsLaws.{TurnDone}
 
 ahead_more : (seen : List Seen) (x : Seen) (ahead : Ahead) → ahead_after (seen ++ x ∷ []) ahead ≡ option_map moments_after (ahead_after seen ahead)
 ahead_more [] x ahead = refl

@@ -1,5 +1,5 @@
 -- What was sent and written where a call of the link or of the sink failed, or memory ran out.
-use Rattle.std.specs.Prelude.{◌≡◌, ℕ, ◌+◌, ◌<◌, ◌≤◌, ◌⊎◌, List, ◌++◌, drop, take, Option, None, IfSome, option_map}
+use Rattle.std.specs.Prelude.{◌≡◌, ℕ, ◌+◌, ◌<◌, ◌≤◌, ◌⊎◌, List, ◌++◌, drop, take, None, IfSome, option_map}
 use Rattle.std.specs.Io.KnownBytes.{append_known}
 use Rattle.mip_outside.specs.Cause.{Rose}
 use Rattle.mip_outside.specs.Moments.{IsAnswer, moments_after}
@@ -91,10 +91,6 @@ pub record WroteAfter (first : Start) (turns : ℕ) (last : Outside) : Type 0 wh
 -- the link failed: the node could not listen, or a turn was cut
 abbrev pub LinkFailed : (first : Start) → (turns : ℕ) → (last : Outside) → Type 0
 LinkFailed first turns last = DidNothing first last ⊎ BrokeAfter first turns last
-
--- memory ran out in a turn, which it cuts as a fault of the link or of the sink does
-abbrev pub CutPart : Content → (turn : ℕ) → (at : Stand) → (last : Outside) → Type 0
-CutPart c turn at last = BrokePart c turn at last ⊎ WrotePart c turn at last
 
 abbrev pub CutAfter : (first : Start) → (turns : ℕ) → (last : Outside) → Type 0
 CutAfter first turns last = BrokeAfter first turns last ⊎ WroteAfter first turns last

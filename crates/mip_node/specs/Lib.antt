@@ -5,4 +5,6 @@ pub mod Adverts
 pub mod Turns
 pub mod Seen
 pub mod Runs
+pub mod RunsLaws
 pub mod Faults
+pub mod FaultsLaws

@@ -1,12 +1,10 @@
 -- What a run of a node over a link did.
-use Rattle.std.specs.Prelude.{◌≡◌, ℕ, ◌≤◌, List, take, drop, length, Option, None, option_map}
+use Rattle.std.specs.Prelude.{◌≡◌, ℕ, ◌≤◌, List, take, length, Option, None}
 use Rattle.std.specs.Io.KnownBytes.{append_known}
-use Rattle.mip_outside.specs.Moments.{moments_after}
-use Rattle.mip_trace.specs.Lines.{trace_text}
 use Rattle.mip_config.specs.Configs.{Content}
-use Rattle.mip_node.specs.Nodes.{Running, Datagrams, serving}
-use Rattle.mip_node.specs.Seen.{Ahead, Coming, IsSeen, Sees, ahead_after, coming_after}
-use Rattle.mip_node.specs.Turns.{Seen, turned, run}
+use Rattle.mip_node.specs.Nodes.{Running, Datagrams}
+use Rattle.mip_node.specs.Seen.{Ahead, Coming, Sees, ahead_after, coming_after}
+use Rattle.mip_node.specs.Turns.{Seen, run}
 
 -- a run: its configuration, what its clock and its link tell at first, what the link had sent, and what the sink held
 pub record Start : Type 0 where
@@ -34,9 +32,6 @@ pub record Outside : Type 0 where
 abbrev pub start : Content → Ahead → Coming → Datagrams → Option (List ℕ) → Start
 start content ahead coming sent held = record { content = content; ahead = ahead; coming = coming; sent = sent; held = held }
 
-abbrev pub stand : Ahead → Coming → Running → Datagrams → Option (List ℕ) → Stand
-stand ahead coming node sent held = record { ahead = ahead; coming = coming; node = node; sent = sent; held = held }
-
 abbrev pub outside : Ahead → Coming → Datagrams → Option (List ℕ) → Outside
 outside ahead coming sent held = record { ahead = ahead; coming = coming; sent = sent; held = held }
 
@@ -50,15 +45,6 @@ pub record HasRun (first : Start) (turns : ℕ) (at : Stand) : Type 0 where
   pub node : at.node ≡ (run first.content seen first.sent).serving.node
   pub sent : at.sent ≡ (run first.content seen first.sent).serving.sent
   pub held : at.held ≡ append_known first.held (run first.content seen first.sent).text
-
--- a turn, by its number, was done, and its text was written
-pub record TurnDone (c : Content) (number : ℕ) (old new : Stand) : Type 0 where
-  pub seen : Seen
-  pub is : IsSeen old.ahead old.coming seen
-  pub serving : serving new.node new.sent ≡ turned c number seen (serving old.node old.sent)
-  pub ahead : new.ahead ≡ option_map moments_after old.ahead
-  pub coming : new.coming ≡ option_map (drop 1) old.coming
-  pub held : new.held ≡ append_known old.held (trace_text None new.node.entries)
 
 -- the text of turns that find this
 unfoldable pub node_text : Content → List Seen → List ℕ

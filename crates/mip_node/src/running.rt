@@ -1,8 +1,10 @@
 ghost use Rattle.std.specs.Prelude.{◌≡◌, Some, OnOk, OnErr, IsErrOf, option_map};
 ghost use Rattle.mip_config.specs.Configs.{content};
-ghost use Rattle.mip_node.specs.Faults.{CountsFaults, CountsBoth, BrokePart, WrotePart, CutPart, BrokeAfter, WroteAfter, CutAfter, LinkFailed, StoppedAfter};
+ghost use Rattle.mip_node.specs.Faults.{CountsFaults, CountsBoth, BrokePart, WrotePart, BrokeAfter, WroteAfter, CutAfter, LinkFailed, StoppedAfter};
+ghost use Rattle.mip_node.specs.FaultsLaws.{CutPart};
 ghost use Rattle.mip_node.specs.Roles.{IsBy};
-ghost use Rattle.mip_node.specs.Runs.{HasRun, TurnDone, Ran, WroteFront, start, stand, outside};
+ghost use Rattle.mip_node.specs.Runs.{HasRun, Ran, WroteFront, start, outside};
+ghost use Rattle.mip_node.specs.RunsLaws.{TurnDone, stand};
 ghost use Rattle.mip_node.specs.Settings.{said};
 ghost use Rattle.mip_node.specs.Turns.{first_node};
 

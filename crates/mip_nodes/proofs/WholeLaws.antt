@@ -33,7 +33,8 @@ use Rattle.mip_nodes.specs.declared.role.Role.{Role}
 use Rattle.mip_nodes.specs.declared.role.Role.TheVariants.{Correspondent, Agent, Mobile}
 use Rattle.mip_nodes.specs.Payloads.{is_payload}
 use Rattle.mip_nodes.specs.Calls.{asked, IsAskable, CanAsk}
-use Rattle.mip_nodes.specs.Roles.{IsWhole, is_apart, or_idle, answers_to}
+use Rattle.mip_nodes.specs.Roles.{or_idle, answers_to}
+use Rattle.mip_nodes.specs.RolesLaws.{IsWhole, is_apart}
 
 weaker : (P : Answer → Type 0) → ((a : Answer) → P a → IsWhole a) → (answers : List Answer) → AllByRecursion P answers → AllByRecursion IsWhole answers
 weaker P f [] all = tt

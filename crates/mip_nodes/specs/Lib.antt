@@ -3,6 +3,7 @@ pub mod Hosts
 pub mod Calls
 pub mod MobileRoles
 pub mod Roles
+pub mod RolesLaws
 pub mod Ends
 pub mod Nodes
 pub mod Places

@@ -1,12 +1,12 @@
 -- The role of a node, and what it does about a call.
-use Rattle.std.specs.Prelude.{◌≡◌, ◌≤◌, ℕ, List, [], ◌∷◌, length, map, Bool, true, false, ◌&&◌, ◌==◌, Option, Some, None, option_map, slice_get}
+use Rattle.std.specs.Prelude.{ℕ, List, [], ◌∷◌, map, Bool, true, false, ◌&&◌, ◌==◌, Option, Some, None, option_map, slice_get}
 use Rattle.mip_words.specs.declared.address.Address.{Address}
 use Rattle.mip_bcache.specs.Seen.{rows_at as cache_rows}
 use Rattle.mip_bulist.specs.Timers.{first_due}
 use Rattle.mip_entries.specs.declared.answer.Answer.{Answer}
-use Rattle.mip_entries.specs.declared.answer.Answer.TheVariants.{Send, Note}
+use Rattle.mip_entries.specs.declared.answer.Answer.TheVariants.{Note}
 use Rattle.mip_entries.specs.declared.entry.Entry.{Entry}
-use Rattle.mip_entries.specs.declared.entry.Entry.TheVariants.{Idle, Sent, Injected, Heard, Handed}
+use Rattle.mip_entries.specs.declared.entry.Entry.TheVariants.{Idle}
 use Rattle.mip_outside.specs.Places.{Around}
 use Rattle.mip_rules_correspondent.specs.Questions as correspondent_questions
 use Rattle.mip_rules_correspondent.specs.Seen as correspondents
@@ -92,16 +92,3 @@ new_role seed numbers n life own (OfCorrespondent room) =
 new_role seed numbers n life own (OfAgent preference seconds room serves) =
     Agent (record { identity = record { own = own; preference = preference; life = seconds; room = room }; known = agent_questions.fresh serves })
 new_role seed numbers n life own (OfMobile agent) = Mobile (mobile_questions.fresh own agent numbers (record { seed = seed; node = n; life = 0 }))
-
--- an entry that tells of no packet that is posted, heard or handed over: those are the network's
-abbrev pub is_apart : Entry → Bool
-is_apart (Sent number node shielded packet) = false
-is_apart (Injected number outsider link packet) = false
-is_apart (Heard number outsider) = false
-is_apart (Handed number node) = false
-is_apart _ = true
-
--- whatever a role answers is whole: a packet has its fixed header (RFC 8200 section 3), and an entry is none of the network's
-abbrev pub IsWhole : Answer → Type 0
-IsWhole (Send shield packet) = 40 ≤ length packet
-IsWhole (Note entry) = is_apart entry ≡ true

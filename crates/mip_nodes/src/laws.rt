@@ -29,7 +29,8 @@ ghost use Rattle.mip_history.specs.Calls.{Call};
 ghost use Rattle.mip_nodes.specs.Calls.{asked, IsAskable, CanAsk};
 ghost use Rattle.mip_nodes.specs.declared.call.Call as asks;
 ghost use Rattle.mip_nodes.specs.declared.role.Role.{Role};
-ghost use Rattle.mip_nodes.specs.Roles.{IsWhole, answers_to, last_of, new_role};
+ghost use Rattle.mip_nodes.specs.Roles.{answers_to, last_of, new_role};
+ghost use Rattle.mip_nodes.specs.RolesLaws.{IsWhole};
 
 /// Whatever a role answers is whole: a packet has its fixed header.
 #[tactic(auto, using(crate::proofs::WholeLaws::role_whole, crate::proofs::WholeLaws::can_ask))]

@@ -23,7 +23,8 @@ use Rattle.mip_rules_correspondent.specs.Steps as correspondent_steps
 use Rattle.mip_rules_correspondent.specs.Doing as correspondent_doing
 use Rattle.mip_rules_correspondent.specs.Seen.{CorrespondentSeen}
 use Rattle.mip_rules_agent.specs.Calls as agents
-use Rattle.mip_rules_agent.specs.Calls.{bytes_of, claim_for}
+use Rattle.mip_rules_agent.specs.Calls.{claim_for}
+use Rattle.mip_rules_agent.specs.CallsLaws.{bytes_of}
 use Rattle.mip_rules_agent.specs.Transitions as agent_transitions
 use Rattle.mip_rules_agent.specs.Steps as agent_steps
 use Rattle.mip_rules_agent.specs.Doing as agent_doing
@@ -37,7 +38,7 @@ use Rattle.mip_rules_mobile.specs.Questions.{part_after, after}
 use Rattle.mip_rules_mobile.specs.Doing.{transition_of}
 use Rattle.mip_rules_mobile.specs.Fitting.{EachFits}
 use Rattle.mip_rules_mobile.specs.Answering.{EachAnswer, SendsPlainData as SendsPlain, SaysRight}
-use Rattle.mip_rules_mobile.specs.Part.{PartLife, part_goes_on, part_life, concerns_part, IsPartTransition, Silent, Asked, Accepting, is_restart, IsPartReborn}
+use Rattle.mip_rules_mobile.specs.PartLaws.{PartLife, part_goes_on, part_life, concerns_part, IsPartTransition, Silent, Asked, Accepting, is_restart, IsPartReborn}
 use Rattle.mip_rules_mobile.proofs.Fits.{call-fits}
 use Rattle.mip_rules_mobile.proofs.Says.{call-says}
 use Rattle.mip_rules_mobile.proofs.PartLives.{part_is}
@@ -47,11 +48,13 @@ use Rattle.mip_history.specs.Setup.Kind.{Correspondent, Agent, Mobile}
 use Rattle.mip_history.specs.Runs.{Run, note, past_at, agent_past_at, mobile_past_at, with_past, with_agent_past, with_mobile_past}
 use Rattle.mip_history.specs.Questions.{restarts, life_in}
 use Rattle.mip_history.specs.Calls.{Call, Take, Send, Refresh, Tick, Plan, Hear, Attach, Leave, Ask, Restart, for_correspondent, for_agent, for_mobile}
-use Rattle.mip_history.specs.Knowing.{link_or_first, now_in, secrets_in, identity_in, known_in, agent_of, agent_known_in, mobile_known_in, part_in, stands_on, around_in}
+use Rattle.mip_history.specs.Knowing.{link_or_first, now_in, secrets_in, identity_in, known_in, agent_of, agent_known_in, mobile_known_in, stands_on, around_in}
+use Rattle.mip_history.specs.KnowingLaws.{part_in}
 use Rattle.mip_history.specs.Nodes.{after_transition, after_agent_transition, after_mobile_transition, asks, by_kind, by_host, acts}
 use Rattle.mip_history.proofs.PartTransitions.{goes_along, life_along, same_host, reborn_life}
 use Rattle.mip_origin.specs.OwnTests.{SendsPlainData}
-use Rattle.mip_origin.specs.OwnHistories.{life_of, kind_at, HasCome}
+use Rattle.mip_origin.specs.OwnHistories.{life_of}
+use Rattle.mip_origin.specs.OwnHistoriesLaws.{kind_at, HasCome}
 use Rattle.mip_origin.proofs.Own.{call-own-tests}
 use Rattle.mip_origin.proofs.Coming.{IsGiven, AreGiven, HasTaken, fits_given, all_both, set_keeps}
 use Rattle.mip_origin.proofs.Adding.{IsGood, HaveSecrets, Adds, adds_same, adds_then, adds_one}

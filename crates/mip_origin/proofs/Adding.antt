@@ -16,7 +16,7 @@ use Rattle.mip_entries.specs.declared.entry.Entry.TheVariants as entries
 use Rattle.mip_entries.specs.Stamped.{Stamped}
 use Rattle.mip_links.specs.Table.{Post}
 use Rattle.mip_rules_mobile.specs.Steps as mobile_steps
-use Rattle.mip_rules_mobile.specs.Part.{PartLife, part_life}
+use Rattle.mip_rules_mobile.specs.PartLaws.{PartLife, part_life}
 use Rattle.mip_provenance.specs.declared.accepted_update.AcceptedUpdate.{AcceptedUpdate}
 use Rattle.mip_provenance.specs.declared.mark.Mark.{Mark}
 use Rattle.mip_provenance.specs.declared.mark.Mark.TheVariants.{Origin, Forged}
@@ -26,11 +26,13 @@ use Rattle.mip_history.specs.Setup.{Setup}
 use Rattle.mip_history.specs.Setup.Kind.{Mobile}
 use Rattle.mip_history.specs.Runs.{Run, note, notes, mobile_past_at}
 use Rattle.mip_history.specs.Questions.{moment_says, moment_in, restarts, life_in}
-use Rattle.mip_history.specs.Knowing.{secrets_in, part_in}
+use Rattle.mip_history.specs.Knowing.{secrets_in}
+use Rattle.mip_history.specs.KnowingLaws.{part_in}
 use Rattle.mip_history.specs.Nodes.{marks_of, marked}
-use Rattle.mip_history.specs.Bound.{packet_posted, packets_of}
-use Rattle.mip_origin.specs.Marked.{IsFollowed, EachIsFollowed}
-use Rattle.mip_origin.specs.OwnHistories.{life_of, IsOwnEntry}
+use Rattle.mip_history.specs.BoundLaws.{packet_posted, packets_of}
+use Rattle.mip_origin.specs.MarkedLaws.{IsFollowed, EachIsFollowed}
+use Rattle.mip_origin.specs.OwnHistories.{life_of}
+use Rattle.mip_origin.specs.OwnHistoriesLaws.{IsOwnEntry}
 use Rattle.mip_origin.proofs.Coming.{AreGiven, all_given_more}
 use Rattle.mip_origin.proofs.Following.{is_busy, followed_idle, followed-append}
 

@@ -17,9 +17,10 @@ use Rattle.mip_history.specs.Setup.Kind.{Correspondent, Agent, Mobile}
 use Rattle.mip_history.specs.Runs.{Run}
 use Rattle.mip_history.specs.Questions.{moment_in}
 use Rattle.mip_history.specs.Nodes.{left_by, answered_one, answered}
-use Rattle.mip_history.specs.Bound.{packets_of}
+use Rattle.mip_history.specs.BoundLaws.{packets_of}
 use Rattle.mip_origin.specs.OwnTests.{IsOwnTest}
-use Rattle.mip_origin.specs.OwnHistories.{life_of, kind_at, is_agent_kind, HasCome, IsRightFrom}
+use Rattle.mip_origin.specs.OwnHistories.{life_of}
+use Rattle.mip_origin.specs.OwnHistoriesLaws.{kind_at, is_agent_kind, HasCome, IsRightFrom}
 use Rattle.mip_origin.proofs.Coming.{come_more, if_come_more, token_come_more}
 use Rattle.mip_origin.proofs.Adding.{IsGood, Adds, adds_moment, adds_life, adds_same, adds_then, adds_marked}
 use Rattle.mip_origin.proofs.Posting.{adds_posted, adds_claims, adds_gives_up}

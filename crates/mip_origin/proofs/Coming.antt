@@ -21,8 +21,8 @@ use Rattle.mip_rules_mobile.specs.Questions.{after}
 use Rattle.mip_rules_mobile.specs.Fitting.{Fits, EachFits}
 use Rattle.mip_rules_mobile.specs.Kept.{WasGiven, GivesHome, GivesCareof, HomeGiven, CareofGiven, CareofFrom, IsMadeFrom}
 use Rattle.mip_packets.specs.Says.{carried}
-use Rattle.mip_history.specs.Bound.{packet_posted, packets_of}
-use Rattle.mip_origin.specs.OwnHistories.{HasCome}
+use Rattle.mip_history.specs.BoundLaws.{packet_posted, packets_of}
+use Rattle.mip_origin.specs.OwnHistoriesLaws.{HasCome}
 
 get_front : {X : Type 0} (xs ys : List X) (k : ℕ) (x : X) → slice_get xs k ≡ Some x → slice_get (xs ++ ys) k ≡ Some x
 get_front [] ys k x e = absurd cc

@@ -8,7 +8,7 @@ use Rattle.mip_entries.specs.declared.entry.Entry.{Entry}
 use Rattle.mip_entries.specs.declared.entry.Entry.TheVariants as entries
 use Rattle.mip_provenance.specs.declared.accepted_update.AcceptedUpdate.{AcceptedUpdate}
 use Rattle.mip_provenance.specs.Entries.{update_accepted}
-use Rattle.mip_origin.specs.Marked.{IsFollowed, EachIsFollowed}
+use Rattle.mip_origin.specs.MarkedLaws.{IsFollowed, EachIsFollowed}
 
 -- an entry of which something is asked, that posts a packet, or that changes the moment or a life
 abbrev pub is_busy : Entry → Bool

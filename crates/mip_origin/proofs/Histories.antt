@@ -9,15 +9,17 @@ use Rattle.mip_words.specs.declared.address.Address.{Address}
 use Rattle.mip_entries.specs.declared.entry.Entry.{Entry}
 use Rattle.mip_entries.specs.Stamped.{Stamped}
 use Rattle.mip_rules_mobile.specs.Steps as mobiles
-use Rattle.mip_rules_mobile.specs.Part.{PartLife, part_life}
+use Rattle.mip_rules_mobile.specs.PartLaws.{PartLife, part_life}
 use Rattle.mip_schedule.specs.Contents.{Content}
 use Rattle.mip_schedule.specs.declared.event.Event.{Event}
 use Rattle.mip_history.specs.Setup.{Setup, Host, setup_of}
 use Rattle.mip_history.specs.Runs.{Run}
-use Rattle.mip_history.specs.Knowing.{secrets_in, part_in}
+use Rattle.mip_history.specs.Knowing.{secrets_in}
+use Rattle.mip_history.specs.KnowingLaws.{part_in}
 use Rattle.mip_history.specs.Permitted.{is_first_agent, claimed_entry, anycast_at, claims_of, claims_from, opening_claims, opened, happens, permitted}
-use Rattle.mip_origin.specs.Marked.{EachIsFollowed}
-use Rattle.mip_origin.specs.OwnHistories.{life_of, IsOwnEntry, IsPlainEvent, ArePlain}
+use Rattle.mip_origin.specs.MarkedLaws.{EachIsFollowed}
+use Rattle.mip_origin.specs.OwnHistories.{life_of}
+use Rattle.mip_origin.specs.OwnHistoriesLaws.{IsOwnEntry, IsPlainEvent, ArePlain}
 use Rattle.mip_origin.proofs.Coming.{AreGiven}
 use Rattle.mip_origin.proofs.Following.{is_busy, followed_idle}
 use Rattle.mip_origin.proofs.Adding.{all_untimed, no_packets, each_idle, HaveSecrets, untimed_life}

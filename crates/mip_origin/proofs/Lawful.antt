@@ -18,7 +18,7 @@ use Rattle.mip_provenance.specs.Lists.{first_some}
 use Rattle.mip_provenance.specs.Entries.{packet_told, packet_in}
 use Rattle.mip_provenance.specs.Sights.Sight.{Sent, Handed}
 use Rattle.mip_provenance.specs.Sights.{Sight, token_in, token_at, sight, sights}
-use Rattle.mip_provenance.specs.Reached.{says_token, carries, is_handed}
+use Rattle.mip_provenance.specs.ReachedLaws.{says_token, carries, is_handed}
 use Rattle.mip_provenance.specs.Names.{is_agent}
 use Rattle.mip_provenance.specs.Firsts.{is_post}
 use Rattle.mip_provenance.specs.Laws.{WasPosted, IsLawful, AreLawful}
@@ -28,10 +28,10 @@ use Rattle.mip_provenance.proofs.Plain.{packet_first}
 use Rattle.mip_history.specs.Setup.{Setup, Kind}
 use Rattle.mip_history.specs.Setup.Kind.{Agent}
 use Rattle.mip_history.specs.Bound as bound
-use Rattle.mip_history.specs.Bound.{packets_of}
+use Rattle.mip_history.specs.BoundLaws.{packets_of}
 use Rattle.mip_history.proofs.Runs.{Meets}
 use Rattle.mip_history.proofs.Numbered.{packet_numbered}
-use Rattle.mip_origin.specs.OwnHistories.{kind_at, is_agent_kind, HasCome, IsRightFrom, IsOwnEntry}
+use Rattle.mip_origin.specs.OwnHistoriesLaws.{kind_at, is_agent_kind, HasCome, IsRightFrom, IsOwnEntry}
 
 -- the packets of a history are found alike
 told_alike : (k : ℕ) (e : Entry) → bound.packet_told k e ≡ packet_told k e

@@ -15,8 +15,9 @@ use Rattle.mip_history.specs.Setup.{setup_of}
 use Rattle.mip_history.specs.Passing.{waited_by}
 use Rattle.mip_history.specs.Permitted.{permitted}
 use Rattle.mip_history.specs.Bound.{is_accepted}
-use Rattle.mip_origin.specs.OwnHistories.{ArePlain}
-use Rattle.mip_origin.specs.Marked.{IsFollowed, EachIsFollowed, Means, EachIsMarked}
+use Rattle.mip_origin.specs.OwnHistoriesLaws.{ArePlain}
+use Rattle.mip_origin.specs.Marked.{Means, EachIsMarked}
+use Rattle.mip_origin.specs.MarkedLaws.{IsFollowed, EachIsFollowed}
 use Rattle.mip_origin.proofs.Histories.{followed_permitted}
 use Rattle.mip_origin.proofs.Origins.{permitted_stands, permitted_origin}
 

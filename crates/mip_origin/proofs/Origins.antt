@@ -37,7 +37,8 @@ use Rattle.mip_history.proofs.Bindings.{each_rest}
 use Rattle.mip_history.proofs.Moments.{rises_from}
 use Rattle.mip_history.proofs.Histories.{permitted_each, permitted_accepted, permitted_waited}
 use Rattle.mip_origin.specs.OwnTests.{IsOwnTest}
-use Rattle.mip_origin.specs.OwnHistories.{life_of, kind_at, IsRightFrom, IsOwnEntry, ArePlain}
+use Rattle.mip_origin.specs.OwnHistories.{life_of}
+use Rattle.mip_origin.specs.OwnHistoriesLaws.{kind_at, IsRightFrom, IsOwnEntry, ArePlain}
 use Rattle.mip_origin.specs.Origins.{token_in_life, IsCareofToken, IsOriginOf}
 use Rattle.mip_origin.proofs.Histories.{own_permitted}
 use Rattle.mip_origin.proofs.Lawful.{lawful_sights}

@@ -32,8 +32,9 @@ use Rattle.mip_history.proofs.PartTransitions.{mobile_apart}
 use Rattle.mip_history.proofs.Keeping.{IsHanded}
 use Rattle.mip_history.proofs.Changes.{IsLeft, IsBy, Change, left, comes, injects, drops, squats, yields, acted, moved, reborn, gives, renewed, schedule_keeps}
 use Rattle.mip_history.proofs.Folds.{emptied_keeps}
-use Rattle.mip_origin.specs.Marked.{EachIsFollowed}
-use Rattle.mip_origin.specs.OwnHistories.{life_of, IsOwnEntry, IsPlainEvent}
+use Rattle.mip_origin.specs.MarkedLaws.{EachIsFollowed}
+use Rattle.mip_origin.specs.OwnHistories.{life_of}
+use Rattle.mip_origin.specs.OwnHistoriesLaws.{IsOwnEntry, IsPlainEvent}
 use Rattle.mip_origin.proofs.Following.{is_busy, followed-append}
 use Rattle.mip_origin.proofs.Adding.{IsGood, HaveSecrets, secrets_stay, Adds, adds_same, adds_then, adds_one, good_notes}
 use Rattle.mip_origin.proofs.Posting.{adds_entered, adds_claims, adds_gives_up}

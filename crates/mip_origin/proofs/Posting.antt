@@ -19,9 +19,9 @@ use Rattle.mip_history.specs.Questions.{holder_in, hears_in}
 use Rattle.mip_history.specs.Posting.{heards, is_other, overheard, posted}
 use Rattle.mip_history.specs.Claims.{link_id, claim_entry, claimed_on, claims}
 use Rattle.mip_history.specs.Homes.{resident, passes_to, left_on, given_up_on, gives_up}
-use Rattle.mip_history.specs.Bound.{packet_posted, packets_of}
-use Rattle.mip_origin.specs.Marked.{IsFollowed}
-use Rattle.mip_origin.specs.OwnHistories.{IsOwnEntry}
+use Rattle.mip_history.specs.BoundLaws.{packet_posted, packets_of}
+use Rattle.mip_origin.specs.MarkedLaws.{IsFollowed}
+use Rattle.mip_origin.specs.OwnHistoriesLaws.{IsOwnEntry}
 use Rattle.mip_origin.proofs.Coming.{all_given_more}
 use Rattle.mip_origin.proofs.Following.{is_busy}
 use Rattle.mip_origin.proofs.Adding.{is_timed, IsGood, secrets_stay, Adds, untimed_life, adds_same, adds_then, adds_notes, adds_one, adds_either}

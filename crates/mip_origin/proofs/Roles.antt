@@ -33,7 +33,8 @@ use Rattle.mip_history.specs.Setup.{Setup}
 use Rattle.mip_history.specs.Setup.Kind.{Correspondent, Agent, Mobile}
 use Rattle.mip_history.specs.Questions.{moment_in}
 use Rattle.mip_origin.specs.OwnTests.{IsOwnTest, SendsOwnTests}
-use Rattle.mip_origin.specs.OwnHistories.{life_of, kind_at, is_agent_kind, HasCome, IsRightFrom}
+use Rattle.mip_origin.specs.OwnHistories.{life_of}
+use Rattle.mip_origin.specs.OwnHistoriesLaws.{kind_at, is_agent_kind, HasCome, IsRightFrom}
 use Rattle.mip_origin.proofs.Own.{own_of_none, home_own, careof_own}
 use Rattle.mip_origin.proofs.Coming.{IsGiven, AreGiven, HasTaken, fit_given, made_home, made_careof, all_both}
 use Rattle.mip_origin.proofs.Answering.{IsNoted, IsRight}

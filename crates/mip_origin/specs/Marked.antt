@@ -1,5 +1,5 @@
 -- Each `accepted` of a history is followed by its mark.
-use Rattle.std.specs.Prelude.{◌≡◌, List, [], ◌∷◌, ◌++◌, true, Option, Some, None, ⊤}
+use Rattle.std.specs.Prelude.{◌≡◌, List, ◌∷◌, ◌++◌, true, Some, ⊤}
 use Rattle.mip_entries.specs.declared.entry.Entry.{Entry}
 use Rattle.mip_provenance.specs.declared.accepted_update.AcceptedUpdate.{AcceptedUpdate}
 use Rattle.mip_provenance.specs.declared.mark.Mark.{Mark}
@@ -10,16 +10,6 @@ use Rattle.mip_provenance.specs.Origins.{HasOrigin}
 use Rattle.mip_history.specs.Setup.{Setup}
 use Rattle.mip_history.specs.Bound.{is_accepted}
 use Rattle.mip_origin.specs.Origins.{IsOriginOf}
-
--- behind these entries an update was accepted, and its mark comes next
-abbrev pub IsFollowed : List Entry → Option AcceptedUpdate → List Entry → Type 0
-IsFollowed front None rest = Unit {0}
-IsFollowed front (Some a) rest = (more : List Entry) × (rest ≡ mark_entry (mark_in front a) ∷ more)
-
--- so is each of them
-abbrev pub EachIsFollowed : List Entry → List Entry → Type 0
-EachIsFollowed front [] = Unit {0}
-EachIsFollowed front (e ∷ rest) = IsFollowed front (update_accepted e) rest × EachIsFollowed (front ++ e ∷ []) rest
 
 -- what the mark says: an origin stands in the history, and its tokens are those of the nonces that were valid; a forged one says
 -- no more than its definition

@@ -18,9 +18,10 @@ ghost use Rattle.mip_words.specs.EachAfter.{EachAfter};
 ghost use Rattle.mip_history.specs.Passing.{waited_by};
 ghost use Rattle.mip_history.specs.Permitted.{permitted};
 ghost use Rattle.mip_origin.specs.OwnTests.{SendsOwnTests, SendsPlainData};
-ghost use Rattle.mip_origin.specs.OwnHistories.{IsOwnEntry, ArePlain};
+ghost use Rattle.mip_origin.specs.OwnHistoriesLaws.{IsOwnEntry, ArePlain};
 ghost use Rattle.mip_origin.specs.Origins.{IsOriginOf};
-ghost use Rattle.mip_origin.specs.Marked.{EachIsFollowed, EachIsMarked};
+ghost use Rattle.mip_origin.specs.Marked.{EachIsMarked};
+ghost use Rattle.mip_origin.specs.MarkedLaws.{EachIsFollowed};
 
 /// Each test that a correspondent sends is its own: it has the index of the newest nonce of this life, and the token for the
 /// address that it goes to (RFC 6275 sections 9.4.3 and 9.4.4).

@@ -11,7 +11,8 @@ use Rattle.mip_ipv6.specs.Reading.{packet_of}
 use Rattle.mip_mobhdr.specs.declared.fault.Fault.{Fault}
 use Rattle.mip_mobhdr.specs.Said.{Said}
 use Rattle.mip_mobhdr.specs.Reading.{message_of}
-use Rattle.mip_ipv6.specs.Tunnel.{lowered, lowered_packet, lowered_if_read, tunnel_packet, encapsulated, opened}
+use Rattle.mip_ipv6.specs.Tunnel.{lowered, lowered_packet, tunnel_packet, encapsulated, opened}
+use Rattle.mip_ipv6.specs.TunnelLaws.{lowered_if_read}
 use Rattle.mip_ipv6.specs.declared.exit_fault.ExitFault.{ExitFault}
 use Rattle.mip_ipv6.proofs.Tunnels.{packet_of_lowered, packet_of_encapsulated}
 use Rattle.mip_packets.specs.Says.{innermost, message_in, Carried, Other, said_by, says, carried}

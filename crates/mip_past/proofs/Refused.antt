@@ -25,6 +25,7 @@ use Rattle.mip_rules_agent.specs.Steps as agents
 use Rattle.mip_rules_agent.specs.Questions as agent_questions
 use Rattle.mip_rules_agent.specs.Transitions as agent_transitions
 use Rattle.mip_rules_agent.specs.Refusing as agent_refusing
+use Rattle.mip_rules_agent.specs.RefusingLaws as agent_refusing_laws
 use Rattle.mip_rules_agent.proofs.Pasts as agent_pasts
 use Rattle.mip_rules_agent.proofs.Calls as agent_stands
 use Rattle.mip_rules_agent.proofs.Refusals as agent_refusals
@@ -97,9 +98,9 @@ module _ (s : Setup) (run : Run) (n : ℕ) (h : Handed) where
           (correspondent_stands.call-stands room s.numbers (past_at run n) k (now_in s run) me taking (correspondent_pasts.known-stands room s.numbers (past_at run n) k refl)))
 
   agent_leaves : (own : Address) (preference life room : ℕ) (serves : List Address) → slice_get s.hosts n ≡ Some (record { address = own; kind = Agent preference life room serves })
-      → list_any agent_refusing.is_refusal (agent_transition s run n own preference life room serves h).steps ≡ true
+      → list_any agent_refusing_laws.is_refusal (agent_transition s run n own preference life room serves h).steps ≡ true
       → agent_refusing.KeepsTables (agent_known_in run n serves) (agent_known_in (taken_by s n h run) n serves)
-      × (list_any agent_refusing.is_claim (agent_transition s run n own preference life room serves h).steps ≡ false)
+      × (list_any agent_refusing_laws.is_claim (agent_transition s run n own preference life room serves h).steps ≡ false)
   agent_leaves own preference life room serves host refuses = (
     subst (λ (o : Option Host). agent_refusing.KeepsTables k (agent_known_in (by_host s n call run o) n serves)) (sym host)
         (subst (λ (l : List (List (Stamped agents.Step))). agent_refusing.KeepsTables k (agent_questions.known serves (slice_index_or l n []))) (sym pasts.1)
@@ -132,7 +133,7 @@ module _ (s : Setup) (run : Run) (n : ℕ) (h : Handed) where
       knows : agent_questions.known serves more ≡ transition.known
       knows = sym (agent_pasts.stands-known serves more transition.known (agent_stands.call-stands serves (agent_past_at run n) k (now_in s run) me taking (agent-stands serves (agent_past_at run n))))
 
-      keeps : (transition.known.homes ≡ k.homes) × (transition.known.ends ≡ k.ends) × (list_any agent_refusing.is_claim transition.steps ≡ false)
+      keeps : (transition.known.homes ≡ k.homes) × (transition.known.ends ≡ k.ends) × (list_any agent_refusing_laws.is_claim transition.steps ≡ false)
       keeps = agent_refusals.refused-keeps me k (now_in s run) h.number h.shield h.packet claim refuses
 
       kept : agent_refusing.KeepsTables k transition.known

@@ -20,7 +20,7 @@ use Rattle.mip_history.specs.Questions.{moment_in, holder_in, declared_in}
 use Rattle.mip_history.specs.Runs.{Run}
 use Rattle.mip_history.specs.Knowing.{known_in, now_in, agent_known_in, mobile_known_in}
 use Rattle.mip_history.specs.Permitted.{opening_claims, permitted}
-use Rattle.mip_history.specs.Claims.{is_free_for}
+use Rattle.mip_history.specs.ClaimsLaws.{is_free_for}
 use Rattle.mip_history.specs.Bound.{held_in, held_under_in, floor_in, IsBound, IsBoundUnder}
 use Rattle.mip_history.specs.Registered.{is_agent_at, registered_in, last_registration, IsRegistered}
 use Rattle.mip_history.specs.Told.{agent_in, is_bound_in}

@@ -2,7 +2,8 @@
 use Rattle.std.specs.Prelude.{◌≡◌, ℕ, List, Option, Some, None, option_and_then, not, ◌&&◌, nat_lt, ◌==◌, if◌then◌else◌}
 use Rattle.std.specs.List.{AllByRecursion}
 use Rattle.mip_words.specs.Last.{last_where}
-use Rattle.mip_binding.specs.Acceptance.{Acceptance, kept_until_of}
+use Rattle.mip_binding.specs.Acceptance.{Acceptance}
+use Rattle.mip_binding.specs.AcceptanceLaws.{kept_until_of}
 use Rattle.mip_binding.specs.Held.{held, floor}
 
 -- the last acceptance of a home

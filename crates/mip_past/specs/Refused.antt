@@ -11,6 +11,7 @@ use Rattle.mip_rules_correspondent.specs.Doing as correspondent_doing
 use Rattle.mip_rules_agent.specs.Calls as agents
 use Rattle.mip_rules_agent.specs.Transitions as agent_transitions
 use Rattle.mip_rules_agent.specs.Refusing as agent_refusing
+use Rattle.mip_rules_agent.specs.RefusingLaws as agent_refusing_laws
 use Rattle.mip_rules_agent.specs.Doing as agent_doing
 use Rattle.mip_rules_mobile.specs.Calls as mobiles
 use Rattle.mip_rules_mobile.specs.Transitions as mobile_transitions
@@ -53,9 +54,9 @@ pub record LeavesTables (s : Setup) (run : Run) (n : ℕ) : Type 0 where
       → list_any correspondent_refusing.is_refusal (correspondent_transition s run n own room h).steps ≡ true
       → (known_in s (taken_by s n h run) n room).cache ≡ (known_in s run n room).cache
   pub agent : (own : Address) (preference life room : ℕ) (serves : List Address) (h : Handed) → slice_get s.hosts n ≡ Some (record { address = own; kind = Agent preference life room serves })
-      → list_any agent_refusing.is_refusal (agent_transition s run n own preference life room serves h).steps ≡ true
+      → list_any agent_refusing_laws.is_refusal (agent_transition s run n own preference life room serves h).steps ≡ true
       → agent_refusing.KeepsTables (agent_known_in run n serves) (agent_known_in (taken_by s n h run) n serves)
-      × (list_any agent_refusing.is_claim (agent_transition s run n own preference life room serves h).steps ≡ false)
+      × (list_any agent_refusing_laws.is_claim (agent_transition s run n own preference life room serves h).steps ≡ false)
   pub mobile : (own : Address) (agent : Option Address) (h : Handed) → slice_get s.hosts n ≡ Some (record { address = own; kind = Mobile agent })
       → list_any mobile_refusing.is_refusal (mobile_transition s run n own agent h).steps ≡ true
       → mobile_refusing.tables_of (mobile_known_in s (taken_by s n h run) n own agent) ≡ mobile_refusing.tables_of (mobile_known_in s run n own agent)

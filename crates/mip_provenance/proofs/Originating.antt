@@ -12,7 +12,7 @@ use Rattle.mip_provenance.specs.Keys.{kbm_of_tokens}
 use Rattle.mip_provenance.specs.Lists.{until}
 use Rattle.mip_provenance.specs.Entries.{declared_in}
 use Rattle.mip_provenance.specs.Sights.{sight, sights}
-use Rattle.mip_provenance.specs.Reached.{reaches}
+use Rattle.mip_provenance.specs.ReachedLaws.{reaches}
 use Rattle.mip_provenance.specs.Names.{life_at}
 use Rattle.mip_provenance.specs.Firsts.{is_post}
 use Rattle.mip_provenance.specs.Marks.{mark_of, mark_in}

@@ -11,7 +11,8 @@ use Rattle.mip_provenance.specs.declared.maker.Maker.TheVariants.{Node, Outsider
 use Rattle.mip_provenance.specs.Lists.{first_some, until, if_passes}
 use Rattle.mip_provenance.specs.Sights.{Sight}
 use Rattle.mip_provenance.specs.Sights.Sight.{Heard, Made}
-use Rattle.mip_provenance.specs.Reached.{is_token, is_heard, is_handed, has_reached, values}
+use Rattle.mip_provenance.specs.Reached.{is_token, is_heard, values}
+use Rattle.mip_provenance.specs.ReachedLaws.{is_handed, has_reached}
 use Rattle.mip_provenance.specs.Firsts.{is_post}
 use Rattle.mip_provenance.specs.Pairs.{Pair, alone, both, made_with, as_asked, pair_made, first_with, first_pair, pair_by}
 use Rattle.mip_provenance.specs.Laws.{IsMadeBefore, IsLawful, AreLawful}

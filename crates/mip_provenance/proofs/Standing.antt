@@ -20,7 +20,7 @@ use Rattle.mip_provenance.specs.Lists.{first_some, until, along}
 use Rattle.mip_provenance.specs.Entries.{packet_told, packet_in, life_in}
 use Rattle.mip_provenance.specs.Sights.{Sight, token_in, token_at, sight, sights}
 use Rattle.mip_provenance.specs.Sights.Sight.{Sent, Heard, Handed}
-use Rattle.mip_provenance.specs.Reached.{reaches, has_reached}
+use Rattle.mip_provenance.specs.ReachedLaws.{reaches, has_reached}
 use Rattle.mip_provenance.specs.Names.{Name, Naming, is_agent, life_at, naming, namings, same_name, is_own}
 use Rattle.mip_provenance.specs.Firsts.{Post, post_with, post_at, is_post, number_of, key_in, key_at, same_key, carries_key, first_update}
 use Rattle.mip_provenance.specs.Origins.{IsTest, IsFirstOf, reaching, HasReached, WasSent}

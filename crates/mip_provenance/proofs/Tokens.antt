@@ -16,7 +16,8 @@ use Rattle.mip_provenance.specs.declared.maker.Maker.TheVariants.{Node, Outsider
 use Rattle.mip_provenance.specs.Lists.{along}
 use Rattle.mip_provenance.specs.Sights.{Sight}
 use Rattle.mip_provenance.specs.Sights.Sight.{Sent, Injected, Heard, Handed}
-use Rattle.mip_provenance.specs.Reached.{carries, is_token, is_heard, reaches, has_reached}
+use Rattle.mip_provenance.specs.Reached.{is_token, is_heard}
+use Rattle.mip_provenance.specs.ReachedLaws.{carries, reaches, has_reached}
 use Rattle.mip_provenance.specs.Names.{Name, Naming, is_agent, life_at, naming, namings, same_name, is_own, is_other, is_misnamed}
 use Rattle.mip_provenance.specs.Causes.{early, is_early}
 use Rattle.mip_provenance.specs.Laws.{WasPosted, IsLawful, AreLawful}

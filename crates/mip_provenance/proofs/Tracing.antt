@@ -11,7 +11,7 @@ use Rattle.mip_provenance.specs.declared.accepted_update.AcceptedUpdate.{Accepte
 use Rattle.mip_provenance.specs.declared.mark.Mark.TheVariants.{Origin, Forged}
 use Rattle.mip_provenance.specs.Lists.{until}
 use Rattle.mip_provenance.specs.Sights.{Sight}
-use Rattle.mip_provenance.specs.Reached.{reaches, has_reached}
+use Rattle.mip_provenance.specs.ReachedLaws.{reaches, has_reached}
 use Rattle.mip_provenance.specs.Names.{Naming, number_of_naming, life_at, is_misnamed, first_sent}
 use Rattle.mip_provenance.specs.Firsts.{Post, is_post, post_at, key_at, first_update}
 use Rattle.mip_provenance.specs.Pairs.{Pair, gives, pair_by}

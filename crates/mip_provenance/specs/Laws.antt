@@ -5,7 +5,7 @@ use Rattle.mip_words.specs.EachAfter.{EachAfter}
 use Rattle.mip_packets.specs.Says.Carried.{Test}
 use Rattle.mip_provenance.specs.Sights.{Sight}
 use Rattle.mip_provenance.specs.Sights.Sight.{Sent, Heard, Handed, Made}
-use Rattle.mip_provenance.specs.Reached.{carries, is_handed}
+use Rattle.mip_provenance.specs.ReachedLaws.{carries, is_handed}
 use Rattle.mip_provenance.specs.Names.{is_agent}
 use Rattle.mip_provenance.specs.Firsts.{is_post}
 

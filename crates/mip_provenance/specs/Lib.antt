@@ -3,6 +3,7 @@ pub mod Entries
 pub mod Keys
 pub mod Sights
 pub mod Reached
+pub mod ReachedLaws
 pub mod Names
 pub mod Firsts
 pub mod Pairs

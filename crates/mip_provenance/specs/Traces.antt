@@ -7,7 +7,7 @@ use Rattle.mip_provenance.specs.declared.maker.Maker.{Maker}
 use Rattle.mip_provenance.specs.declared.accepted_update.AcceptedUpdate.{AcceptedUpdate}
 use Rattle.mip_provenance.specs.Lists.{until}
 use Rattle.mip_provenance.specs.Sights.{Sight}
-use Rattle.mip_provenance.specs.Reached.{has_reached}
+use Rattle.mip_provenance.specs.ReachedLaws.{has_reached}
 use Rattle.mip_provenance.specs.Names.{Naming, life_at, namings, is_own}
 use Rattle.mip_provenance.specs.Firsts.{Post, is_post, post_at, key_at, first_update}
 use Rattle.mip_provenance.specs.Pairs.{Pair, gives}

@@ -16,7 +16,8 @@ use Rattle.mip_proxynd.specs.declared.neighbour.Neighbour.TheVariants.{Solicit, 
 use Rattle.mip_proxynd.specs.Fields.{is_group, has_flag, target_at, target_of}
 use Rattle.mip_proxynd.specs.Options.{layer_at, IsArea}
 use Rattle.mip_proxynd.specs.Reading.{neighbour_of}
-use Rattle.mip_proxynd.specs.Spelling.{type_of, IsFields, IsNeighbour, layer_bytes, flags_of, unsummed, neighbour_bytes, HasPlace, Fits}
+use Rattle.mip_proxynd.specs.Spelling.{type_of, IsFields, IsNeighbour, layer_bytes, flags_of, unsummed, neighbour_bytes}
+use Rattle.mip_proxynd.specs.SpellingLaws.{HasPlace, Fits}
 use Rattle.mip_proxynd.proofs.Messages.{neighbour_again}
 
 -- ---- sizes

@@ -3,7 +3,7 @@ use Rattle.std.proofs.Common.{◌≡◌, ℕ, true, false, eqb, List, [], ◌∷
 use Rattle.std.specs.Prelude.{map, slice_index}
 use Rattle.std.specs.Option.{option_to_list}
 use Rattle.std.proofs.lemmas.Bool.{cases_eq, eq-eqb, ne_eqb}
-use Rattle.mip_icmp.specs.Walk.{seen_by}
+use Rattle.mip_icmp.specs.WalkLaws.{seen_by}
 use Rattle.mip_icmp.proofs.Choices.{first_one, first_more}
 use Rattle.mip_proxynd.specs.declared.layers.Layers.{Layers}
 use Rattle.mip_proxynd.specs.Options.{layer_at, of_type, first_of, layers_from}

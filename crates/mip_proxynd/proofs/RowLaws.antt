@@ -10,7 +10,8 @@ use Rattle.mip_words.specs.declared.address.Address.{Address}
 use Rattle.mip_entries.specs.declared.entry.Entry.{Entry}
 use Rattle.mip_entries.specs.declared.entry.Entry.TheVariants as entries
 use Rattle.mip_proxynd.specs.declared.claim.Claim.{Claim}
-use Rattle.mip_proxynd.specs.Claims.{Rows, with_row, rows_after, rows_in, IsOwn, Rise}
+use Rattle.mip_proxynd.specs.Claims.{Rows, with_row, rows_after, rows_in}
+use Rattle.mip_proxynd.specs.ClaimsLaws.{IsOwn, Rise}
 use Rattle.mip_proxynd.specs.Fields.{is_group}
 
 -- how two numbers compare

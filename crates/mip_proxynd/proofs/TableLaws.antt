@@ -20,7 +20,8 @@ use Rattle.mip_proxynd.specs.Adverts.{layer_of, advert, heard_of, adverts_heard}
 use Rattle.mip_proxynd.specs.Claims.{claim_says, claim_in}
 use Rattle.mip_proxynd.specs.Fields.{is_group, target_of}
 use Rattle.mip_proxynd.specs.Options.{first_of}
-use Rattle.mip_proxynd.specs.Tables.{Heard, is_about, kept_in, told, tellings, is_over, kept_of, holder_of, TableRows, pair_cmp, kept_at, IsTable, kept_after}
+use Rattle.mip_proxynd.specs.Tables.{Heard, is_about, kept_in, told, tellings, is_over, kept_of, holder_of, TableRows, pair_cmp, kept_at, IsTable}
+use Rattle.mip_proxynd.specs.TablesLaws.{kept_after}
 
 -- the test of a map's key is the test of its numbers
 pub pair_is : (l a m b : ℕ) → is_at (pair_cmp (l, a)) (m, b) ≡ (l == m && a == b)

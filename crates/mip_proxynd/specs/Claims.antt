@@ -1,7 +1,6 @@
 -- Who holds which address: the claims that stand at the end of a history.
-use Rattle.std.specs.Prelude.{◌≡◌, ℕ, ◌<◌, List, [], ◌∷◌, IfSome, false, fold, ◌==◌, if◌then◌else◌, Option, Some, None, unwrap_or}
+use Rattle.std.specs.Prelude.{ℕ, List, fold, ◌==◌, if◌then◌else◌, Option, Some, None, unwrap_or}
 use Rattle.std.specs.BTreeMap.{insert_entry, is_at}
-use Rattle.std.specs.List.{AllByRecursion}
 use Rattle.std.specs.Map.{lookup}
 use Rattle.std.specs.Ordering.{nat_cmp}
 use Rattle.mip_words.specs.declared.address.Address.{Address}
@@ -40,12 +39,3 @@ rows_after rows _ = rows
 -- the rows behind these entries, after those before
 abbrev pub rows_in : Rows → List Entry → Rows
 rows_in rows entries = fold rows_after rows entries
-
--- addresses rise, so each has one row at most
-abbrev pub Rise : Rows → Type 0
-Rise [] = Unit {0}
-Rise (row ∷ rows) = AllByRecursion (λ other. row.0 < other.0) rows × Rise rows
-
--- the row of an address that is no multicast address, with a claim of this address or none
-abbrev pub IsOwn : ℕ × Option Claim → Type 0
-IsOwn row = (is_group (record { 0 = row.0 }) ≡ false) × IfSome row.1 (λ claim. claim.address.0 ≡ row.0)

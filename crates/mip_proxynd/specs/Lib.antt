@@ -2,8 +2,11 @@ pub mod Fields
 pub mod Options
 pub mod Reading
 pub mod Spelling
+pub mod SpellingLaws
 pub mod Claims
+pub mod ClaimsLaws
 pub mod Tables
+pub mod TablesLaws
 pub mod Adverts
 pub mod Packets
 pub mod Text

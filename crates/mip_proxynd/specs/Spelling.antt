@@ -1,5 +1,5 @@
 -- Which bytes spell a neighbour message: all that a reader accepts, and those that a writer gives.
-use Rattle.std.specs.Prelude.{◌≡◌, ℕ, ◌+◌, ◌%◌, ◌^◌, ◌<◌, ◌≤◌, List, [], ◌∷◌, ◌++◌, length, drop, Option, Some, None, IfSome, Bool, false, slice_index, if◌then◌else◌}
+use Rattle.std.specs.Prelude.{◌≡◌, ℕ, ◌+◌, ◌%◌, ◌≤◌, List, [], ◌∷◌, ◌++◌, length, drop, Option, Some, None, Bool, false, slice_index, if◌then◌else◌}
 use Rattle.mip_words.specs.Addresses.{address_bytes}
 use Rattle.mip_words.specs.declared.address.Address.{Address}
 use Rattle.mip_ipv6.specs.Sum.{message_sum, checksum_of, with_number_at}
@@ -54,11 +54,3 @@ unsummed (Advert router solicited over target layer) =
 -- the canonical spelling between two addresses
 unfoldable pub neighbour_bytes : Address → Address → Neighbour → List ℕ
 neighbour_bytes source destination m = with_number_at 2 (checksum_of source destination 58 (unsummed m) 2) (unsummed m)
-
--- a target and a link-layer address that have a place in a message
-abbrev pub HasPlace : Address → Option (List ℕ) → Type 0
-HasPlace target layer = (target.0 < 2 ^ 128) × IfSome layer (λ bytes. length bytes ≡ 6)
-
-abbrev pub Fits : Neighbour → Type 0
-Fits (Solicit target layer) = HasPlace target layer
-Fits (Advert router solicited over target layer) = HasPlace target layer

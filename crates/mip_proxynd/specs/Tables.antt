@@ -59,8 +59,3 @@ kept_at rows link address = lookup (is_at (pair_cmp (link, address))) rows
 -- the table is what these messages make of an empty one
 abbrev pub IsTable : TableRows → List Heard → Type 0
 IsTable rows heard = (link address : ℕ) → kept_at rows link address ≡ kept_of (tellings link address heard)
-
--- what is kept of an address once more is advertised of it
-abbrev pub kept_after : NeighbourEntry → Option NeighbourEntry → Option NeighbourEntry
-kept_after kept None = Some kept
-kept_after kept (Some earlier) = if kept.over then Some kept else Some earlier

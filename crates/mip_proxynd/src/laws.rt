@@ -3,7 +3,8 @@
 ghost use Rattle.std.specs.Prelude.{◌≡◌, [], false};
 ghost use Rattle.std.specs.List.{AllByRecursion};
 ghost use Rattle.mip_words.specs.declared.address.Address as addresses;
-ghost use Rattle.mip_proxynd.specs.Claims.{claim_in, row_of, rows_in, IsOwn, Rise};
+ghost use Rattle.mip_proxynd.specs.Claims.{claim_in, row_of, rows_in};
+ghost use Rattle.mip_proxynd.specs.ClaimsLaws.{IsOwn, Rise};
 ghost use Rattle.mip_proxynd.specs.Fields.{is_group};
 
 use mip_entries::Entry;

@@ -3,7 +3,8 @@ ghost use Rattle.mip_entries.specs.declared.entry.Entry as entries;
 ghost use Rattle.mip_proxynd.specs.Adverts.{layer_of, adverts_heard};
 ghost use Rattle.mip_proxynd.specs.Claims.{claim_in};
 ghost use Rattle.mip_proxynd.specs.Fields.{is_group};
-ghost use Rattle.mip_proxynd.specs.Tables.{Heard, IsTable, kept_at, kept_after, holder_of};
+ghost use Rattle.mip_proxynd.specs.Tables.{Heard, IsTable, kept_at, holder_of};
+ghost use Rattle.mip_proxynd.specs.TablesLaws.{kept_after};
 ghost use Rattle.mip_proxynd.specs.declared.claim.Claim as claims;
 
 use crate::neighbour::Neighbour;

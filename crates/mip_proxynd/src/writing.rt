@@ -4,7 +4,8 @@ ghost use Rattle.mip_ipv6.specs.Sum.{is_right_sum};
 ghost use Rattle.mip_proxynd.specs.declared.neighbour.Neighbour.TheVariants.{Solicit, Advert};
 ghost use Rattle.mip_proxynd.specs.Fields.{is_group, target_of};
 ghost use Rattle.mip_proxynd.specs.Reading.{neighbour_of};
-ghost use Rattle.mip_proxynd.specs.Spelling.{flag_worth, flags_of, layer_bytes, unsummed, neighbour_bytes, HasPlace, Fits, IsNeighbour};
+ghost use Rattle.mip_proxynd.specs.Spelling.{flag_worth, flags_of, layer_bytes, unsummed, neighbour_bytes, IsNeighbour};
+ghost use Rattle.mip_proxynd.specs.SpellingLaws.{HasPlace, Fits};
 
 use crate::fields::{ADVERT, OVERRIDE, ROUTER, SOLICIT, SOLICITED};
 use crate::neighbour::Neighbour;

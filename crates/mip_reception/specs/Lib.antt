@@ -6,6 +6,7 @@ pub mod Pointer
 pub mod Refusing
 pub mod Registrations
 pub mod Statuses
+pub mod StatusesLaws
 pub mod Acks
 pub use Rattle.mip_packets.specs.Says
 pub use Rattle.mip_packets.specs.Packets

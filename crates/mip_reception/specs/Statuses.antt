@@ -1,5 +1,5 @@
 -- The statuses of an acknowledgement. RFC 6275 section 6.1.8
-use Rattle.std.specs.Prelude.{ℕ, Bool, nat_lt, not, ◌&&◌, ◌==◌}
+use Rattle.std.specs.Prelude.{ℕ, Bool, nat_lt}
 
 -- Binding Update accepted
 abbrev pub accepted : ℕ
@@ -46,9 +46,3 @@ invalid_careof_address = 174
 -- those below 128 accept
 abbrev pub accepts_it : ℕ → Bool
 accepts_it status = nat_lt status 128
-
--- a correspondent's acknowledgement has an authenticator but for these, where no key could be made. RFC 6275 section 9.5.4
-abbrev pub is_authorized : ℕ → Bool
-is_authorized status =
-    not (status == home_registration_not_supported) && not (status == expired_home_nonce)
-    && not (status == expired_careof_nonce) && not (status == expired_nonces)

@@ -20,7 +20,7 @@ use Rattle.mip_rules_correspondent.specs.Rules.{is_data}
 use Rattle.mip_history.specs.Setup.{setup_of}
 use Rattle.mip_history.specs.Passing.{waited_by}
 use Rattle.mip_history.specs.Permitted.{permitted}
-use Rattle.mip_origin.specs.OwnHistories.{IsPlainEvent, ArePlain}
+use Rattle.mip_origin.specs.OwnHistoriesLaws.{IsPlainEvent, ArePlain}
 use Rattle.mip_origin.specs.Marked.{EachIsMarked}
 use Rattle.mip_engine.specs.Payloads.{is_payload}
 use Rattle.mip_replay.proofs.ReadyLaws.{payload_fits, waits_are}

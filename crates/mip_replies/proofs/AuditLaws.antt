@@ -10,7 +10,8 @@ use Rattle.mip_replay.specs.Setup.{setup_of}
 use Rattle.mip_replay.specs.Permitted.{permitted}
 use Rattle.mip_replay.specs.Marked.{EachIsMarked}
 use Rattle.mip_audit.specs.Cutting.{cut_text}
-use Rattle.mip_audit.specs.Differences.{difference, IsJudgedSo}
+use Rattle.mip_audit.specs.Differences.{difference}
+use Rattle.mip_audit.specs.DifferencesLaws.{IsJudgedSo}
 use Rattle.mip_replies.specs.Answers.{Answer, audit_answer, compared_answer, cut_answer, form_answer, input_answer, is_long_audit, long_answer, no_text, trace_of, uncut_answer, verdict_answer}
 use Rattle.mip_replies.specs.Audits.{IsSubmitted, IsSubmittedWithin, IsGenuine, IsApartAt, IsAudited}
 use Rattle.mip_replies.specs.Lengths.{event_lines, line_ends}

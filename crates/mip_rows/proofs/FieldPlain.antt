@@ -17,7 +17,7 @@ use Rattle.mip_icmp.specs.Reading.{icmp_of}
 use Rattle.mip_icmp.specs.Said as icmp
 use Rattle.mip_icmp.specs.declared.fault.IcmpFault.{IcmpFault}
 use Rattle.mip_packets.specs.Says.{message_in}
-use Rattle.mip_lines.specs.Lines.{is_plain}
+use Rattle.mip_lines.specs.LinesLaws.{is_plain}
 use Rattle.mip_lines.proofs.LineLaws.{decimal_plain, hex_plain, hex_text_plain}
 use Rattle.mip_symbols.specs.Names.{is_letter, is_name}
 use Rattle.mip_symbols.specs.Places.{AreFew, NamesFound, name_at}

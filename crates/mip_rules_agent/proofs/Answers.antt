@@ -5,7 +5,8 @@ use Rattle.mip_entries.specs.declared.answer.Answer.{Answer}
 use Rattle.mip_entries.proofs.ShowLaws.{answers-noted}
 use Rattle.mip_rules_agent.specs.declared.identity.Identity.{Identity}
 use Rattle.mip_rules_agent.specs.Known.{Known}
-use Rattle.mip_rules_agent.specs.Calls.{Call, bytes_of}
+use Rattle.mip_rules_agent.specs.Calls.{Call}
+use Rattle.mip_rules_agent.specs.CallsLaws.{bytes_of}
 use Rattle.mip_rules_agent.specs.Steps.{Step, Called, Sends, Registers, Claims, Releases, Denies, Drops, Rang, answer_of, answers_of}
 use Rattle.mip_rules_agent.specs.Questions.{after}
 use Rattle.mip_rules_agent.specs.Transitions.{Transition, begun, noted}

@@ -15,7 +15,7 @@ use Rattle.mip_rules_agent.specs.declared.identity.Identity.{Identity}
 use Rattle.mip_rules_agent.specs.declared.home_verdict.HomeVerdict.TheVariants.{Accept}
 use Rattle.mip_rules_agent.specs.Known.{Known}
 use Rattle.mip_rules_agent.specs.Calls.{Take}
-use Rattle.mip_rules_agent.specs.Steps.{is_registration}
+use Rattle.mip_rules_agent.specs.StepsLaws.{is_registration}
 use Rattle.mip_rules_agent.specs.Questions.{holds}
 use Rattle.mip_rules_agent.specs.Verdicts.{granted_of, verdict}
 use Rattle.mip_rules_agent.specs.Rules.{bench, claim_with}

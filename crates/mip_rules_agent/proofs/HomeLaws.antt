@@ -19,7 +19,8 @@ use Rattle.mip_rules_agent.specs.declared.identity.Identity.{Identity}
 use Rattle.mip_rules_agent.specs.Known.{Known}
 use Rattle.mip_rules_agent.specs.Calls as calls
 use Rattle.mip_rules_agent.specs.Calls.{Call}
-use Rattle.mip_rules_agent.specs.Steps.{Step, Called, Sends, Registers, Claims, Releases, Denies, Drops, Rang, is_registration}
+use Rattle.mip_rules_agent.specs.Steps.{Step, Called, Sends, Registers, Claims, Releases, Denies, Drops, Rang}
+use Rattle.mip_rules_agent.specs.StepsLaws.{is_registration}
 use Rattle.mip_rules_agent.specs.Questions.{bound_to, holding, after, served_at, is_served, binding_of, kept_of, if_standing, careof_at, holds, due_ends, rows_at}
 use Rattle.mip_rules_agent.specs.Transitions.{Transition, begun, noted}
 use Rattle.mip_rules_agent.specs.Verdicts.{binding_for}
@@ -27,7 +28,7 @@ use Rattle.mip_rules_agent.specs.Rules.{bench, claim_with, advertises}
 use Rattle.mip_rules_agent.specs.Doing.{releases_all, ticks, advertises_all, plans, does, transition_of}
 use Rattle.mip_rules_agent.specs.Pasts.{is_registration_of, registered_by}
 use Rattle.mip_rules_agent.specs.Soundness.{IsSound}
-use Rattle.mip_rules_agent.specs.Taken.{IsUpdateTaken, IsRegisteredBy}
+use Rattle.mip_rules_agent.specs.TakenLaws.{IsUpdateTaken, IsRegisteredBy}
 use Rattle.mip_rules_agent.proofs.Homes.{found_if}
 use Rattle.mip_rules_agent.proofs.Pasts.{row_after, served-after, served-same, binding_in, or_binding, binding-after}
 use Rattle.mip_rules_agent.proofs.VerdictLaws.{sound}

@@ -12,14 +12,16 @@ use Rattle.mip_rules_agent.specs.declared.identity.Identity.{Identity}
 use Rattle.mip_rules_agent.specs.Known.{Known}
 use Rattle.mip_rules_agent.specs.Calls as calls
 use Rattle.mip_rules_agent.specs.Calls.{Call}
-use Rattle.mip_rules_agent.specs.Steps.{Step, Called, Sends, Registers, Claims, Releases, Denies, Drops, Rang, answer_of, answers_of, is_call, is_registration}
+use Rattle.mip_rules_agent.specs.Steps.{Step, Called, Sends, Registers, Claims, Releases, Denies, Drops, Rang, answer_of, answers_of, is_call}
+use Rattle.mip_rules_agent.specs.StepsLaws.{is_registration}
 use Rattle.mip_rules_agent.specs.Questions.{agents_called, agents_after, plan_called, plan_after, after}
 use Rattle.mip_rules_agent.specs.Transitions.{Transition, begun, noted}
 use Rattle.mip_rules_agent.specs.Doing.{does, transition_of}
 use Rattle.mip_reception.specs.Refusing.{refuses}
 use Rattle.mip_rules_agent.specs.Claims.{claims_by}
-use Rattle.mip_rules_agent.specs.Refusing.{is_refusal, is_claim, KeepsTables}
-use Rattle.mip_rules_agent.specs.Taken.{IsUpdateTaken}
+use Rattle.mip_rules_agent.specs.Refusing.{KeepsTables}
+use Rattle.mip_rules_agent.specs.RefusingLaws.{is_refusal, is_claim}
+use Rattle.mip_rules_agent.specs.TakenLaws.{IsUpdateTaken}
 use Rattle.mip_rules_agent.proofs.Taken.{taken_is}
 use Rattle.mip_rules_agent.proofs.Walks.{every-handles}
 

@@ -4,7 +4,8 @@ use Rattle.std.specs.List.{AllByRecursion}
 use Rattle.mip_entries.proofs.TransitionLaws.{noted-steps}
 use Rattle.mip_rules_agent.specs.declared.identity.Identity.{Identity}
 use Rattle.mip_rules_agent.specs.Known.{Known}
-use Rattle.mip_rules_agent.specs.Calls.{Call, bytes_of}
+use Rattle.mip_rules_agent.specs.Calls.{Call}
+use Rattle.mip_rules_agent.specs.CallsLaws.{bytes_of}
 use Rattle.mip_rules_agent.specs.Steps.{Step, Called}
 use Rattle.mip_rules_agent.specs.Questions.{after}
 use Rattle.mip_rules_agent.specs.Transitions.{Transition, begun, noted}

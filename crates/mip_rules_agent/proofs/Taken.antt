@@ -33,14 +33,16 @@ use Rattle.mip_rules_agent.specs.declared.home_verdict.HomeVerdict.TheVariants.{
 use Rattle.mip_rules_agent.specs.Known.{Known}
 use Rattle.mip_rules_agent.specs.Calls as calls
 use Rattle.mip_rules_agent.specs.Messages.{shield_to}
-use Rattle.mip_rules_agent.specs.Steps.{Step, Called, Sends, Registers, Claims, Releases, Denies, Drops, is_registration}
-use Rattle.mip_rules_agent.specs.Refusing.{is_refusal, is_claim}
+use Rattle.mip_rules_agent.specs.Steps.{Step, Called, Sends, Registers, Claims, Releases, Denies, Drops}
+use Rattle.mip_rules_agent.specs.StepsLaws.{is_registration}
+use Rattle.mip_rules_agent.specs.RefusingLaws.{is_refusal, is_claim}
 use Rattle.mip_rules_agent.specs.Questions.{careof_at, holds, after}
 use Rattle.mip_rules_agent.specs.Transitions.{Transition, begun, noted}
 use Rattle.mip_rules_agent.specs.Verdicts.{is_from, verdict, binding_for}
 use Rattle.mip_rules_agent.specs.Rules.{Handing, intercepts, is_careof, opens, takes_tunnel, bench, claim_with, acknowledges, denies, claims_if, answers_if, accepts, judged, takes_update, names_agents, advertises, answers_solicitation, takes_icmp, by_proto, by_role, replies, refuses, standing_of, after_checks, place_in, by_destination, receives}
 use Rattle.mip_rules_agent.specs.Doing.{takes, handing, does, transition_of}
-use Rattle.mip_rules_agent.specs.Taken.{IsUpdateIn, IsUpdateTaken}
+use Rattle.mip_rules_agent.specs.Taken.{IsUpdateIn}
+use Rattle.mip_rules_agent.specs.TakenLaws.{IsUpdateTaken}
 
 module _ (me : Identity) (k : Known) (now number : ℕ) (shield : Option Shield) (bytes : List ℕ) (claim : Claim) where
   -- nothing is registered, claimed or given up, and the homes and their ends are as they were

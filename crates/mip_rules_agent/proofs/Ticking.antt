@@ -13,7 +13,7 @@ use Rattle.mip_rules_agent.specs.Steps.{Step, Called, Releases, Rang}
 use Rattle.mip_rules_agent.specs.Questions.{due_ends, ends_after, later_ends, after}
 use Rattle.mip_rules_agent.specs.Transitions.{Transition, begun, noted}
 use Rattle.mip_rules_agent.specs.Doing.{releases_all, ticks, does, transition_of}
-use Rattle.mip_rules_agent.specs.Refusing.{release_of, released}
+use Rattle.mip_rules_agent.specs.RefusingLaws.{release_of, released}
 
 abbrev homes_in : List Ending → List Address
 homes_in es = map (λ e. e.home) es

@@ -32,7 +32,8 @@ use Rattle.mip_rules_agent.specs.declared.home_verdict.HomeVerdict.TheVariants.{
 use Rattle.mip_rules_agent.specs.declared.ending.Ending.{Ending}
 use Rattle.mip_rules_agent.specs.Known.{Known}
 use Rattle.mip_rules_agent.specs.Calls as calls
-use Rattle.mip_rules_agent.specs.Calls.{Call, bytes_of}
+use Rattle.mip_rules_agent.specs.Calls.{Call}
+use Rattle.mip_rules_agent.specs.CallsLaws.{bytes_of}
 use Rattle.mip_rules_agent.specs.Steps.{Step, Called, Sends, Registers, Claims, Releases, Denies, Drops, Rang, is_call}
 use Rattle.mip_rules_agent.specs.Questions.{careof_at, holds, valid_at, preferred_at, rows_at, due_ends}
 use Rattle.mip_rules_agent.specs.Transitions.{Transition, noted}

@@ -1,5 +1,5 @@
 -- What a home agent can be asked: its calls.
-use Rattle.std.specs.Prelude.{ℕ, List, [], Option, Result, Ok, Err}
+use Rattle.std.specs.Prelude.{ℕ, List, Option, Result, Ok, Err}
 use Rattle.mip_words.specs.declared.address.Address.{Address}
 use Rattle.mip_words.specs.declared.shield.Shield.{Shield}
 use Rattle.mip_ipv6.specs.declared.not_packet.NotPacket.{NotPacket}
@@ -18,11 +18,6 @@ pub data Call : Type 0 where
   Plan : (valid preferred : ℕ) → Call
   -- another home agent advertised itself, with its preference and for so many seconds
   Hear : (agent : Address) (preference life : ℕ) → Call
-
--- the bytes that a call hands over
-abbrev pub bytes_of : Call → List ℕ
-bytes_of (Take number shield packet claim) = packet
-bytes_of _ = []
 
 -- the home address of a packet: its Home Address option, else its source
 abbrev pub home_in : Result Packet NotPacket → ℕ

@@ -9,7 +9,7 @@ use Rattle.mip_rules_agent.specs.declared.identity.Identity.{Identity}
 use Rattle.mip_rules_agent.specs.Known.{Known}
 use Rattle.mip_rules_agent.specs.Steps.{Step}
 use Rattle.mip_rules_agent.specs.Questions.{valid_at}
-use Rattle.mip_rules_agent.specs.Taken.{IsUpdateTaken}
+use Rattle.mip_rules_agent.specs.TakenLaws.{IsUpdateTaken}
 
 -- the time is in units of 4 s, the valid time in seconds; an update that ends the registration is granted none, and any other
 -- some

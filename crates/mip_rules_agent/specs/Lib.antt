@@ -1,9 +1,12 @@
 pub mod Calls
+pub mod CallsLaws
 pub mod Steps
+pub mod StepsLaws
 pub mod Known
 pub mod Questions
 pub mod Transitions
 pub mod Verdicts
+pub mod VerdictsLaws
 pub mod Messages
 pub mod Rules
 pub mod Doing
@@ -12,7 +15,9 @@ pub mod Sendings
 pub mod Wholes
 pub mod Soundness
 pub mod Refusing
+pub mod RefusingLaws
 pub mod Taken
+pub mod TakenLaws
 pub mod Granting
 pub mod Rights
 pub mod Pasts

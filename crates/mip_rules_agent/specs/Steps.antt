@@ -55,8 +55,3 @@ answers_of steps = answers_by answer_of steps
 abbrev pub is_call : Step → Bool
 is_call (Called call) = true
 is_call _ = false
-
--- a home registration that was accepted, or a deregistration
-abbrev pub is_registration : Step → Bool
-is_registration (Registers number home binding) = true
-is_registration _ = false

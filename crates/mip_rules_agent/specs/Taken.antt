@@ -1,24 +1,9 @@
 -- What a call registers: the update in the packet that was handed over, at once, with the verdict Accept.
-use Rattle.std.specs.Prelude.{◌≡◌, ℕ, List, ◌∷◌, true, false, Option, Some, Ok, slice_index}
-use Rattle.std.specs.List.{list_any}
-use Rattle.mip_words.specs.Sequence.{is_after}
-use Rattle.mip_words.specs.declared.address.Address.{Address}
-use Rattle.mip_words.specs.declared.shield.Shield.{Shield}
+use Rattle.std.specs.Prelude.{◌≡◌, ℕ, List, Some, Ok, slice_index}
 use Rattle.mip_ipv6.specs.Packet.{Packet}
 use Rattle.mip_ipv6.specs.Reading.{packet_of}
-use Rattle.mip_outside.specs.declared.claim.Claim.{Claim}
 use Rattle.mip_reception.specs.declared.registration.Registration.{Registration}
-use Rattle.mip_reception.specs.Registrations.{registration_in, home_of, registered_of}
-use Rattle.mip_rules_agent.specs.declared.identity.Identity.{Identity}
-use Rattle.mip_rules_agent.specs.declared.home_verdict.HomeVerdict.TheVariants.{Accept}
-use Rattle.mip_rules_agent.specs.Known.{Known}
-use Rattle.mip_rules_agent.specs.Calls.{Call, Take}
-use Rattle.mip_rules_agent.specs.Steps.{Step, Called, Registers, is_registration}
-use Rattle.mip_rules_agent.specs.Refusing.{is_refusal}
-use Rattle.mip_rules_agent.specs.Questions.{kept_of, holds, binding_of}
-use Rattle.mip_rules_agent.specs.Verdicts.{verdict, binding_for}
-use Rattle.mip_rules_agent.specs.Rules.{bench, claim_with}
-use Rattle.mip_rules_agent.specs.Doing.{transition_of}
+use Rattle.mip_reception.specs.Registrations.{registration_in}
 
 -- the packet has this update, a message of type 5
 pub record IsUpdateIn (bytes : List ℕ) (update : Registration) : Type 0 where
@@ -27,33 +12,3 @@ pub record IsUpdateIn (bytes : List ℕ) (update : Registration) : Type 0 where
   pub mobility : packet.head.proto ≡ 135
   pub of_type : slice_index packet.body 2 ≡ 5
   pub asks : registration_in packet.head.source packet.head.home packet.body ≡ Some update
-
--- the update in the packet is accepted at once, with this verdict
-pub record IsUpdateTaken (me : Identity) (k : Known) (now number : ℕ) (shield : Option Shield) (bytes : List ℕ) (claim : Claim) (steps : List Step) : Type 0 where
-  pub update : Registration
-  pub is_in : IsUpdateIn bytes update
-  pub home : Address
-  pub careof : Address
-  pub sequence : ℕ
-  pub granted : ℕ
-  pub verdict_is : verdict (bench me k now update) shield (claim_with (holds k (home_of update)) claim) update ≡ Accept home careof sequence granted
-  pub rest : List Step
-  pub steps_are : steps ≡ Called (Take number shield bytes claim) ∷ Registers number home (binding_for now careof sequence granted) ∷ rest
-  pub none : list_any is_registration rest ≡ false
-  pub kept : list_any is_refusal rest ≡ false
-
--- a call registers a home, or ends its registration: it hands over an update for that home, which came under its shield and
--- comes after the sequence that is kept
-pub record IsRegisteredBy (me : Identity) (k : Known) (now : ℕ) (c : Call) (home : Address) : Type 0 where
-  pub number : ℕ
-  pub shield : Shield
-  pub bytes : List ℕ
-  pub claim : Claim
-  pub called : c ≡ Take number (Some shield) bytes claim
-  pub from : shield.from.0 ≡ home.0
-  pub update : Registration
-  pub is_in : IsUpdateIn bytes update
-  pub of_home : (home_of update).0 ≡ home.0
-  pub newer : (last : ℕ) → kept_of k home ≡ Some last → is_after update.sequence last ≡ true
-  pub granted : ℕ
-  pub becomes : binding_of (transition_of me k now c).known home ≡ Some (binding_for now (registered_of update) update.sequence granted)

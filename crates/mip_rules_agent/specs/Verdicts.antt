@@ -1,6 +1,6 @@
 -- The verdict on a home registration, over its contents, its shield, what the place answers, and what the agent keeps:
 -- the first of these rows that applies. RFC 6275 sections 10.3.1 and 10.3.2
-use Rattle.std.specs.Prelude.{ℕ, ◌+◌, ◌*◌, ◌/◌, Bool, false, not, ◌&&◌, ◌||◌, ◌==◌, nat_lt, if◌then◌else◌, min, Option, Some, None, is_some, unwrap_or}
+use Rattle.std.specs.Prelude.{ℕ, ◌+◌, ◌*◌, ◌/◌, Bool, false, not, ◌&&◌, ◌||◌, ◌==◌, nat_lt, if◌then◌else◌, min, Option, Some, None, unwrap_or}
 use Rattle.std.specs.Option.{option_map_or}
 use Rattle.mip_words.specs.Constants.{lifetime_unit, max_home_lifetime}
 use Rattle.mip_words.specs.Addresses.{is_routable, prefix_of}
@@ -72,10 +72,6 @@ with_claim b r claim before = unwrap_or before (by_claim b r claim)
 
 unfoldable pub verdict : Bench → Option Shield → Claim → Registration → HomeVerdict
 verdict b shield claim r = with_claim b r claim (before_claim b shield r)
-
--- the verdict rests on the claim
-abbrev pub asks_claim : Bench → Option Shield → Registration → Bool
-asks_claim b shield r = not (is_some (before_claim b shield r))
 
 -- the binding of an accepted update: until 4 s later for each unit granted
 abbrev pub binding_for : ℕ → Address → (sequence granted : ℕ) → HomeBinding

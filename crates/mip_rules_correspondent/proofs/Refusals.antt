@@ -11,7 +11,8 @@ use Rattle.mip_entries.proofs.TransitionLaws.{noted-known, none-parts}
 use Rattle.mip_rules_correspondent.specs.declared.identity.Identity.{Identity}
 use Rattle.mip_rules_correspondent.specs.declared.known.Known.{Known}
 use Rattle.mip_rules_correspondent.specs.Calls.{Call, Take, Part, is_tick}
-use Rattle.mip_rules_correspondent.specs.Steps.{Step, Called, Sends, Accepts, answer_of, answers_of, is_acceptance, is_call}
+use Rattle.mip_rules_correspondent.specs.Steps.{Step, Called, Sends, Accepts, answer_of, answers_of, is_call}
+use Rattle.mip_rules_correspondent.specs.StepsLaws.{is_acceptance}
 use Rattle.mip_rules_correspondent.specs.Questions.{cache_after, after}
 use Rattle.mip_rules_correspondent.specs.Transitions.{Transition, begun, noted}
 use Rattle.mip_rules_correspondent.specs.Doing.{does, transition_of}

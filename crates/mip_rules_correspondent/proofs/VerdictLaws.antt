@@ -14,15 +14,18 @@ use Rattle.mip_mobhdr.specs.declared.indices.Indices.{Indices}
 use Rattle.mip_nonce.specs.Window.{current_of, behind, number_named, IsValidAt}
 use Rattle.mip_tokens.specs.Token.{authenticator_of, is_authentic}
 use Rattle.mip_tokens.specs.declared.kbm.Kbm.{Kbm}
-use Rattle.mip_bcache.specs.Acceptance.{Acceptance, kept_until_of}
+use Rattle.mip_bcache.specs.Acceptance.{Acceptance}
+use Rattle.mip_bcache.specs.AcceptanceLaws.{kept_until_of}
 use Rattle.mip_bcache.specs.declared.accepted.Accepted.{Accepted}
-use Rattle.mip_reception.specs.Statuses.{insufficient_resources, home_registration_not_supported, sequence_out_of_window, expired_home_nonce, expired_careof_nonce, expired_nonces, is_authorized}
+use Rattle.mip_reception.specs.Statuses.{insufficient_resources, home_registration_not_supported, sequence_out_of_window, expired_home_nonce, expired_careof_nonce, expired_nonces}
+use Rattle.mip_reception.specs.StatusesLaws.{is_authorized}
 use Rattle.mip_reception.specs.declared.registration.Registration.{Registration}
 use Rattle.mip_rules_correspondent.specs.declared.verdict.Verdict.{Verdict}
 use Rattle.mip_rules_correspondent.specs.declared.verdict.Verdict.TheVariants.{Refuse, Deny, Accept}
 use Rattle.mip_reception.specs.Registrations.{home_of, careof_of, deletes, registered_of}
 use Rattle.mip_rules_correspondent.specs.Verdicts.{Bench, granted_of, number_among, number_of, accepted_of, by_room, by_sequence, kbm_of, by_numbers, careof_number, by_indices, verdict}
-use Rattle.mip_rules_correspondent.specs.Soundness.{IsNonce, IsCareofNonce, IsGenuine, IsSound, IsBehind}
+use Rattle.mip_rules_correspondent.specs.Soundness.{IsNonce, IsCareofNonce, IsGenuine, IsSound}
+use Rattle.mip_rules_correspondent.specs.SoundnessLaws.{IsBehind}
 
 number_is : (x y : ℕ) → Some x ≡ Some y → x ≡ y
 number_is x y e = cc

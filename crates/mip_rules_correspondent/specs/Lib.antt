@@ -1,9 +1,11 @@
 pub mod Calls
 pub mod Steps
+pub mod StepsLaws
 pub mod Questions
 pub mod Transitions
 pub mod Verdicts
 pub mod Soundness
+pub mod SoundnessLaws
 pub mod Rows
 pub mod Rules
 pub mod Doing

@@ -47,8 +47,3 @@ pub record IsSound (b : Bench) (r : Registration) (message : List ℕ) (home : A
   pub asked : granted ≤ r.lifetime
   pub newer : (last : ℕ) → b.floor ≡ Some last → is_after r.sequence last ≡ true
   pub room : b.full ≡ false
-
--- it was denied for its sequence: it does not come after the one that is kept
-pub record IsBehind (b : Bench) (r : Registration) (last : ℕ) : Type 0 where
-  pub kept : b.floor ≡ Some last
-  pub behind : is_after r.sequence last ≡ false

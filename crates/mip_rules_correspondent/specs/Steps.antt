@@ -49,8 +49,3 @@ answers_of steps = answers_by answer_of steps
 abbrev pub is_call : Step → Bool
 is_call (Called call) = true
 is_call _ = false
-
--- an update that was accepted
-abbrev pub is_acceptance : Step → Bool
-is_acceptance (Accepts number home binding accepted) = true
-is_acceptance _ = false

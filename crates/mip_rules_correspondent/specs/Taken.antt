@@ -13,7 +13,8 @@ use Rattle.mip_rules_correspondent.specs.declared.known.Known.{Known}
 use Rattle.mip_reception.specs.declared.registration.Registration.{Registration}
 use Rattle.mip_rules_correspondent.specs.declared.verdict.Verdict.TheVariants.{Accept}
 use Rattle.mip_rules_correspondent.specs.Calls.{Take, Part}
-use Rattle.mip_rules_correspondent.specs.Steps.{Step, Called, Accepts, is_acceptance}
+use Rattle.mip_rules_correspondent.specs.Steps.{Step, Called, Accepts}
+use Rattle.mip_rules_correspondent.specs.StepsLaws.{is_acceptance}
 use Rattle.mip_rules_correspondent.specs.Refusing.{is_refusal}
 use Rattle.mip_reception.specs.Registrations.{registration_in}
 use Rattle.mip_rules_correspondent.specs.Verdicts.{verdict}

@@ -20,7 +20,7 @@ use Rattle.mip_rules_mobile.specs.Transitions.{Transition, begun, noted}
 use Rattle.mip_rules_mobile.specs.Fitting.{kind_of, OfAck, Steady}
 use Rattle.mip_rules_mobile.specs.MovingRules.{registers_if_away, restarts}
 use Rattle.mip_rules_mobile.specs.Answering.{EachAnswer, LeavesRight, LeavesFrom, IsElsewhere, AreFrom, stays_put}
-use Rattle.mip_rules_mobile.specs.Part.{is_restart}
+use Rattle.mip_rules_mobile.specs.PartLaws.{is_restart}
 use Rattle.mip_rules_mobile.specs.Doing.{does, handles, transition_of}
 use Rattle.mip_rules_mobile.proofs.Told.{home-kept}
 use Rattle.mip_rules_mobile.proofs.Steady.{Goes, Askings, Notings, standing-noted}

@@ -5,7 +5,7 @@ use Rattle.std.specs.List.{filter, list_any}
 use Rattle.std.proofs.Math.Nat.{mod-add-mod, mod-eq_of_lt, mod-mod}
 use Rattle.mip_words.specs.declared.address.Address.{Address}
 use Rattle.mip_nonce.specs.Secrets.{Life}
-use Rattle.mip_words.specs.Last.{since}
+use Rattle.mip_words.specs.LastLaws.{since}
 use Rattle.mip_words.proofs.LastLaws.{since-quiet}
 use Rattle.mip_entries.specs.Stamped.{Stamped}
 use Rattle.mip_bulist.specs.declared.aim.Aim.TheVariants.{Bind, Delete}
@@ -17,7 +17,7 @@ use Rattle.mip_rules_mobile.specs.HomeQuestions.{places_after, binding_number_of
 use Rattle.mip_rules_mobile.specs.RowQuestions.{cookies_after}
 use Rattle.mip_rules_mobile.specs.DiscoveryQuestions.{discoveries_after, solicitations_after}
 use Rattle.mip_rules_mobile.specs.Questions.{after, fresh, known}
-use Rattle.mip_rules_mobile.specs.Part.{part_life}
+use Rattle.mip_rules_mobile.specs.PartLaws.{part_life}
 use Rattle.mip_rules_mobile.specs.Counted.{is_loss, this_life, is_search, is_solicitation, is_place, cookies_in, cookies_drawn, how_many}
 use Rattle.mip_rules_mobile.proofs.PartLives.{part_is, HasPart, part-kept, fresh-part, part-numbers, part-home}
 

@@ -15,7 +15,7 @@ use Rattle.mip_rules_mobile.specs.Steps.{Step, Parts, Restarts}
 use Rattle.mip_rules_mobile.specs.Known.{Known}
 use Rattle.mip_rules_mobile.specs.HomeQuestions.{home_of, numbers_of}
 use Rattle.mip_rules_mobile.specs.Questions.{part_room, part_after, after, fresh, known}
-use Rattle.mip_rules_mobile.specs.Part.{PartLife, part_of, part_goes_on, new_part, part_life}
+use Rattle.mip_rules_mobile.specs.PartLaws.{PartLife, part_of, part_goes_on, new_part, part_life}
 
 -- a transition of the part leaves known what its past with the transition does
 transition_known : (home : Address) (numbers : ℕ) (p : PartLife) (at : ℕ) (call : parts.Call)

@@ -17,6 +17,7 @@ use Rattle.mip_entries.proofs.TransitionLaws.{noted-now, noted-known, noted-step
 use Rattle.mip_reception.specs.declared.refusal.Refusal.{Refusal}
 use Rattle.mip_rules_correspondent.specs.Calls as parts
 use Rattle.mip_rules_correspondent.specs.Steps as part_steps
+use Rattle.mip_rules_correspondent.specs.StepsLaws as part_steps_laws
 use Rattle.mip_rules_correspondent.specs.Questions.{held_of}
 use Rattle.mip_rules_correspondent.specs.Seen.{CorrespondentSeen, transition_at}
 use Rattle.mip_rules_correspondent.specs.Taken.{IsUpdateParted}
@@ -40,7 +41,7 @@ use Rattle.mip_rules_mobile.specs.RingingRules.{ticks_all}
 use Rattle.mip_rules_mobile.specs.Doing.{transmits_from, transmits, solicits_from, solicits, handles, does, transition_of}
 use Rattle.mip_rules_mobile.specs.Coming.{Came, IsOfTake, is_take}
 use Rattle.mip_rules_mobile.specs.Fitting.{Fits, OfAck, OfMove, Steady, kind_of}
-use Rattle.mip_rules_mobile.specs.Part.{tells_of_acceptance, concerns_part, accepted_note, IsPartTransition, Silent, Asked, Accepting, is_restart, IsPartReborn}
+use Rattle.mip_rules_mobile.specs.PartLaws.{tells_of_acceptance, concerns_part, accepted_note, IsPartTransition, Silent, Asked, Accepting, is_restart, IsPartReborn}
 use Rattle.mip_rules_mobile.proofs.Steady.{Goes, standing-noted}
 use Rattle.mip_rules_mobile.proofs.OutWalks.{every-replies}
 use Rattle.mip_rules_mobile.proofs.HomeWalks.{Acks, every-registers}
@@ -125,7 +126,7 @@ passes-behind c first [] all t b = b
 passes-behind c first (Send shield packet ∷ answers) all t b = passes-behind c first answers all.1 (goes_out (OfPart packet) t) (out-behind c first (OfPart packet) t b)
 passes-behind c first (Note entry ∷ answers) all t b = passes-behind c first answers all.1 (noted (Notes entry) t) (behind-noted first (Notes entry) t all.0 b)
 
-none-told : (steps : List part_steps.Step) → list_any part_steps.is_acceptance steps ≡ false → AllByRecursion TellsNone (part_steps.answers_of steps)
+none-told : (steps : List part_steps.Step) → list_any part_steps_laws.is_acceptance steps ≡ false → AllByRecursion TellsNone (part_steps.answers_of steps)
 none-told [] none = tt
 none-told (part_steps.Accepts number home binding accepted ∷ steps) none = absurd cc
 none-told (part_steps.Called call ∷ steps) none = none-told steps none
@@ -165,13 +166,13 @@ module _ (k : Known) (now : ℕ) (c : Call) (t : Transition) (called : t.steps �
       ap (λ (p : CorrespondentSeen). passes_all (answers_at p t.now call) (asked call)) part
       ∙ ap (λ (n : ℕ). passes_all (answers_at k.part n call) (asked call)) moment
 
-  asks-none : (call : parts.Call) → list_any part_steps.is_acceptance (transition_at k.part now call).steps ≡ false → IsBehind (Called c ∷ Parts call ∷ []) (asks_part call t)
+  asks-none : (call : parts.Call) → list_any part_steps_laws.is_acceptance (transition_at k.part now call).steps ≡ false → IsBehind (Called c ∷ Parts call ∷ []) (asks_part call t)
   asks-none call none =
       subst (IsBehind (Called c ∷ Parts call ∷ [])) (sym (asks-as call))
       (passes-behind c (Called c ∷ Parts call ∷ []) (answers_at k.part now call) (none-told (transition_at k.part now call).steps none) (asked call)
       (begins (Called c ∷ Parts call ∷ []) (asked call) (asked-steps call)))
 
-  of-none : (call : parts.Call) → list_any part_steps.is_acceptance (transition_at k.part now call).steps ≡ false → (u : Transition) → IsBehind (Called c ∷ Parts call ∷ []) u → Is u
+  of-none : (call : parts.Call) → list_any part_steps_laws.is_acceptance (transition_at k.part now call).steps ≡ false → (u : Transition) → IsBehind (Called c ∷ Parts call ∷ []) u → Is u
   of-none call none u b = Asked call b.more b.steps b.silent none
 
   refreshes : (home : Address) → Is (asks_part (parts.Refresh home) t)
@@ -245,10 +246,10 @@ module _ (k : Known) (now : ℕ) (c : Call) (t : Transition) (called : t.steps �
     unfolding takes_for_part
     parting = by (tunnelled && is_none message) found.1
       where
-        found : ((transition_at k.part now call).now ≡ now) × ((list_any part_steps.is_acceptance (transition_at k.part now call).steps ≡ false) ⊎ IsUpdateParted k.part.identity k.part.known now number packet (transition_at k.part now call).steps)
+        found : ((transition_at k.part now call).now ≡ now) × ((list_any part_steps_laws.is_acceptance (transition_at k.part now call).steps ≡ false) ⊎ IsUpdateParted k.part.identity k.part.known now number packet (transition_at k.part now call).steps)
         found = parted_is k.part.identity k.part.known now number packet
 
-        by : (m : Bool) → (list_any part_steps.is_acceptance (transition_at k.part now call).steps ≡ false) ⊎ IsUpdateParted k.part.identity k.part.known now number packet (transition_at k.part now call).steps
+        by : (m : Bool) → (list_any part_steps_laws.is_acceptance (transition_at k.part now call).steps ≡ false) ⊎ IsUpdateParted k.part.identity k.part.known now number packet (transition_at k.part now call).steps
             → Is (then_meets m packet (asks_part call t))
         by m (inl none) = of-none call none (then_meets m packet (asks_part call t)) (met (Called c ∷ Parts call ∷ []) m (asks_part call t) (asks-none call none))
         by m (inr x) = of-accepting x (then_meets m packet (asks_part call t)) (met (first x) m (asks_part call t) (accepting x))

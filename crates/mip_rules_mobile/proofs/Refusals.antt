@@ -28,6 +28,7 @@ use Rattle.mip_rules_correspondent.specs.Verdicts.{verdict}
 use Rattle.mip_rules_correspondent.specs.Cache.{CacheSeen}
 use Rattle.mip_rules_correspondent.specs.Seen.{called}
 use Rattle.mip_rules_correspondent.specs.Steps as part_steps
+use Rattle.mip_rules_correspondent.specs.StepsLaws as part_steps_laws
 use Rattle.mip_rules_correspondent.specs.Questions as part_questions
 use Rattle.mip_rules_correspondent.specs.Transitions as part_transitions
 use Rattle.mip_rules_correspondent.specs.Rules as part_rules
@@ -214,11 +215,11 @@ module _ (me : Identity) (k : kept.Known) (now number : ℕ) (packet : Packet) w
   AnswersOf u = AllByRecursion AnswersQuietly (part_steps.answers_of u.steps)
 
   abbrev Decides : part_transitions.Transition → Type 0
-  Decides u = (list_any part_steps.is_acceptance u.steps ≡ false) ⊎ AnswersOf u
+  Decides u = (list_any part_steps_laws.is_acceptance u.steps ≡ false) ⊎ AnswersOf u
 
   -- steps behind the call, none of them an acceptance
-  none : (steps : List part_steps.Step) → list_any part_steps.is_acceptance steps ≡ false → Decides (noted_all part_questions.after steps given)
-  none steps calm = inl (ap (λ (u : part_transitions.Transition). list_any part_steps.is_acceptance u.steps) (noted_all-is part_questions.after (call ∷ steps) (part_transitions.begun now k)) ∙ calm)
+  none : (steps : List part_steps.Step) → list_any part_steps_laws.is_acceptance steps ≡ false → Decides (noted_all part_questions.after steps given)
+  none steps calm = inl (ap (λ (u : part_transitions.Transition). list_any part_steps_laws.is_acceptance u.steps) (noted_all-is part_questions.after (call ∷ steps) (part_transitions.begun now k)) ∙ calm)
 
   -- steps behind the call, whose answers tell of no refusal
   told : (steps : List part_steps.Step) → AllByRecursion AnswersQuietly (part_steps.answers_of steps) → AnswersOf (noted_all part_questions.after steps given)
@@ -306,7 +307,7 @@ module _ (c : Call) (t : Transition) (quiet : IsQuiet t) where
           (every-meets c IsQuiet (goes-quiet c) (source_of packet.head) (passes_all (part_answers t call) first) (passes-quiet (part_answers t call) all first calm))
       met false all = quiet-keeps (passes_all (part_answers t call) first) (passes-quiet (part_answers t call) all first calm)
 
-      alone : (list_any part_steps.is_acceptance (part_doing.transition_of me t.known.part.known t.now call).steps ≡ false) ⊎ AllByRecursion AnswersQuietly (part_answers t call) → Keeps (passes_all (part_answers t call) first)
+      alone : (list_any part_steps_laws.is_acceptance (part_doing.transition_of me t.known.part.known t.now call).steps ≡ false) ⊎ AllByRecursion AnswersQuietly (part_answers t call) → Keeps (passes_all (part_answers t call) first)
       alone (inl none) some =
           ap tables_of (passes-same (part_answers t call) first)
           ∙ parted-tables call t (keeps-call me call (part_transitions.begun t.now t.known.part.known) refl none)

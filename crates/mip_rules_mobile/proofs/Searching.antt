@@ -7,7 +7,8 @@ use Rattle.std.proofs.lemmas.Bool.Decides.{nat_tests}
 use Rattle.std.proofs.lemmas.List.Sums.{fold-append}
 use Rattle.mip_words.specs.declared.address.Address.{Address}
 use Rattle.mip_nonce.specs.Secrets.{Life}
-use Rattle.mip_words.specs.Last.{or_else, last_where, since}
+use Rattle.mip_words.specs.Last.{or_else, last_where}
+use Rattle.mip_words.specs.LastLaws.{since}
 use Rattle.mip_words.proofs.LastLaws.{last_where-found}
 use Rattle.mip_entries.specs.Stamped.{Stamped}
 use Rattle.mip_discovery.specs.Retries.{DiscoverySeen, retried}

@@ -6,7 +6,8 @@ use Rattle.std.proofs.lemmas.Bool.{eqb-true, eqb-false}
 use Rattle.mip_words.specs.declared.address.Address.{Address}
 use Rattle.mip_words.specs.declared.moment.Moment.{Moment}
 use Rattle.mip_nonce.specs.Secrets.{Life}
-use Rattle.mip_words.specs.Last.{or_else, last_where, since}
+use Rattle.mip_words.specs.Last.{or_else, last_where}
+use Rattle.mip_words.specs.LastLaws.{since}
 use Rattle.mip_words.proofs.LastLaws.{last_where-found, since-quiet}
 use Rattle.mip_entries.specs.Stamped.{Stamped}
 use Rattle.mip_rules_correspondent.specs.Seen.{CorrespondentSeen}

@@ -20,7 +20,7 @@ use Rattle.mip_rules_mobile.specs.Steps.{Called, Sends, Unsends, Drops}
 use Rattle.mip_rules_mobile.specs.HomeQuestions.{home_of, registered_agent}
 use Rattle.mip_rules_mobile.specs.RowQuestions.{bound_row_of}
 use Rattle.mip_rules_mobile.specs.Transitions.{Transition, noted}
-use Rattle.mip_rules_mobile.specs.Part.{is_restart}
+use Rattle.mip_rules_mobile.specs.PartLaws.{is_restart}
 use Rattle.mip_rules_mobile.specs.Answering.{stays_put}
 use Rattle.mip_rules_mobile.specs.OutRules.{asks_part}
 use Rattle.mip_rules_mobile.specs.ReceivingRules.{then_meets, takes_for_part, refuses}

@@ -1,7 +1,7 @@
 -- The numbers that a mobile draws, and the places that it comes to, counted over the steps of its present life. RFC 6275 sections 5.2.5, 11.4.1 and 11.4.2
 use Rattle.std.specs.Prelude.{ℕ, ◌+◌, ◌==◌, List, [], ◌∷◌, Bool, true, false, not, length}
 use Rattle.std.specs.List.{filter}
-use Rattle.mip_words.specs.Last.{since}
+use Rattle.mip_words.specs.LastLaws.{since}
 use Rattle.mip_words.specs.declared.address.Address.{Address}
 use Rattle.mip_entries.specs.Stamped.{Stamped}
 use Rattle.mip_bulist.specs.declared.aim.Aim.TheVariants.{Bind, Delete}

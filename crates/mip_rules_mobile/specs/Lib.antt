@@ -24,6 +24,7 @@ pub mod ReceivingRules
 pub mod RingingRules
 pub mod Doing
 pub mod Part
+pub mod PartLaws
 pub mod Told
 pub mod Counted
 pub mod Wording

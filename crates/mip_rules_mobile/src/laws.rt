@@ -6,7 +6,7 @@ ghost use Rattle.mip_words.specs.declared.address.Address.{Address};
 ghost use Rattle.mip_words.specs.declared.shield.Shield.{Shield};
 ghost use Rattle.mip_nonce.specs.Secrets.{Life};
 ghost use Rattle.mip_outside.specs.declared.claim.Claim.{Claim};
-ghost use Rattle.mip_words.specs.Last.{since};
+ghost use Rattle.mip_words.specs.LastLaws.{since};
 ghost use Rattle.mip_bulist.specs.Timers.{AreDueFrom, AreInOrder};
 ghost use Rattle.mip_entries.specs.Stamped.{Stamped};
 ghost use Rattle.mip_rules_mobile.specs.declared.attachment.Attachment.TheVariants.{AtHome, Away};
@@ -31,7 +31,7 @@ ghost use Rattle.mip_rules_mobile.specs.Resting.{EachStep, IsAgentsAnswer, IsPee
 ghost use Rattle.mip_rules_mobile.specs.Leaving.{HasForgotten};
 ghost use Rattle.mip_rules_mobile.specs.Shielding.{AreShieldedFrom};
 ghost use Rattle.mip_rules_mobile.specs.Doing.{transition_of};
-ghost use Rattle.mip_rules_mobile.specs.Part.{part_of, part_life, IsPartTransition, is_restart, IsPartReborn};
+ghost use Rattle.mip_rules_mobile.specs.PartLaws.{part_of, part_life, IsPartTransition, is_restart, IsPartReborn};
 
 /// Whoever stands for a past knows what it leaves known.
 pub fn stands_for_what_is_known()

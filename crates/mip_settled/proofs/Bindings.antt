@@ -23,7 +23,7 @@ use Rattle.mip_rules_mobile.specs.HomeQuestions.{home_of}
 use Rattle.mip_rules_mobile.specs.RowQuestions.{lies_ahead}
 use Rattle.mip_rules_mobile.specs.Questions.{after, known}
 use Rattle.mip_rules_mobile.specs.MovingRules.{uses_prefix}
-use Rattle.mip_rules_mobile.specs.Part.{is_restart}
+use Rattle.mip_rules_mobile.specs.PartLaws.{is_restart}
 use Rattle.mip_rules_mobile.specs.Answering.{stays_put}
 use Rattle.mip_rules_mobile.specs.Doing.{transition_of}
 use Rattle.mip_rules_mobile.specs.Fitting.{EachFits}
@@ -43,7 +43,8 @@ use Rattle.mip_history.proofs.Opening.{nothing}
 use Rattle.mip_history.proofs.Keeping.{is_busy, IsCall, is_leave, is_rebirth, emptied, Keeps}
 use Rattle.mip_history.proofs.Folds.{emptied_keeps}
 use Rattle.mip_history.proofs.Walking.{walk_run}
-use Rattle.mip_history.specs.Told.{binding_told, late_says}
+use Rattle.mip_history.specs.Told.{binding_told}
+use Rattle.mip_history.specs.ToldLaws.{late_says}
 use Rattle.mip_settled.proofs.Answered.{IsQuiet, IsMute, tells, tells_push, tells_same, answers_mute}
 use Rattle.mip_settled.proofs.MobileTransitions.{Tells, staying_tells, restart_tells, using_tells, attaching_tells}
 use Rattle.mip_settled.proofs.Roaming.{IsFound, IsRoaming, acts_mute, others_acts, transition, middle, then_, home, known_then, acts_as, no_past, roaming_injects, roaming_keeps, roaming_nothing}

@@ -17,7 +17,7 @@ use Rattle.mip_history.specs.Permitted.{run_of}
 use Rattle.mip_history.proofs.Runs.{Meets}
 use Rattle.mip_history.proofs.Moments.{rises_from}
 use Rattle.mip_history.proofs.Events.{run_passes}
-use Rattle.mip_history.specs.Told.{late_says}
+use Rattle.mip_history.specs.ToldLaws.{late_says}
 
 module _ (s : Setup) (u : ℕ) where
   shifted : (front : List Entry) (e : Entry) (es : List Entry) → moment_in s.start (front ++ e ∷ es) ≤ u → moment_in s.start ((front ++ e ∷ []) ++ es) ≤ u

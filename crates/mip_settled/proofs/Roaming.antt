@@ -27,7 +27,7 @@ use Rattle.mip_rules_mobile.specs.Questions.{after, known}
 use Rattle.mip_rules_mobile.specs.Transitions.{Transition, begun, noted, with_transition}
 use Rattle.mip_rules_mobile.specs.TrialRules.{each_row}
 use Rattle.mip_rules_mobile.specs.MovingRules.{address_under, uses_prefix, releases, unbinds, leaves}
-use Rattle.mip_rules_mobile.specs.Part.{is_restart}
+use Rattle.mip_rules_mobile.specs.PartLaws.{is_restart}
 use Rattle.mip_rules_mobile.specs.Answering.{stays_put}
 use Rattle.mip_rules_mobile.specs.Doing.{does, transition_of}
 use Rattle.mip_rules_mobile.specs.Fitting.{Fits, EachFits, is_detached}

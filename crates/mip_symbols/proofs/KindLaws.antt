@@ -15,7 +15,7 @@ use Rattle.mip_words.specs.declared.ids.NodeId.{NodeId}
 use Rattle.mip_words.specs.declared.token.Cookie.{Cookie}
 use Rattle.mip_words.proofs.StepLaws.{bind_ok, ok_is}
 use Rattle.mip_lines.specs.HexFields.{hex_number, number_hex, address_in, address_hex, hex_text}
-use Rattle.mip_lines.specs.Rows.{Spells}
+use Rattle.mip_lines.specs.RowsLaws.{Spells}
 use Rattle.mip_lines.proofs.HexFieldLaws.{unhex_exact-spelled, hex_number-spelled, address_in-spelled, hex_field-spelled}
 use Rattle.mip_lines.proofs.Numbers.{number-spelled}
 use Rattle.mip_symbols.specs.Kinds as kinds

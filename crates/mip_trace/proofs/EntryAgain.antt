@@ -7,7 +7,7 @@ use Rattle.std.proofs.lemmas.Bool.{cond_both, cond-false, and_from, leb-true, ne
 use Rattle.std.proofs.lemmas.Slice.Eq.{bytes_eq-Decides}
 use Rattle.mip_words.specs.Steps.{◌>>=◌}
 use Rattle.mip_words.proofs.StepLaws.{bind_ok, ok_is}
-use Rattle.mip_lines.specs.Lines.{is_row}
+use Rattle.mip_lines.specs.LinesLaws.{is_row}
 use Rattle.mip_entries.specs.declared.entry.Entry.{Entry}
 use Rattle.mip_symbols.specs.Places.{AreFew, NamesFound}
 use Rattle.mip_symbols.specs.declared.declaration.Declaration.{Declaration}

@@ -2,7 +2,7 @@
 -- entry, and the line of a row's entry is the row.
 use Rattle.std.proofs.Common.{◌≡◌, ℕ, ◌+◌, List, [], length, true, nat_le, refl}
 use Rattle.std.specs.Prelude.{Some, None}
-use Rattle.mip_lines.specs.Lines.{is_plain}
+use Rattle.mip_lines.specs.LinesLaws.{is_plain}
 use Rattle.mip_entries.specs.declared.entry.Entry.{Entry}
 use Rattle.mip_entries.specs.declared.entry.Entry.TheVariants as entries
 use Rattle.mip_symbols.specs.declared.declaration.Declaration.{Declaration}

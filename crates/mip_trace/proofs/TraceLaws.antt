@@ -8,7 +8,8 @@ use Rattle.std.proofs.lemmas.List.{append-nil}
 use Rattle.mip_words.specs.Steps.{◌>>=◌}
 use Rattle.mip_words.proofs.StepLaws.{bind_ok, ok_is}
 use Rattle.mip_lines.specs.Cutting.{rows_of}
-use Rattle.mip_lines.specs.Lines.{is_row, lines_text}
+use Rattle.mip_lines.specs.Lines.{lines_text}
+use Rattle.mip_lines.specs.LinesLaws.{is_row}
 use Rattle.mip_lines.proofs.LineLaws.{text-spelled, text-again}
 use Rattle.mip_symbols.specs.Places.{AreFew, NamesFound}
 use Rattle.mip_symbols.specs.declared.declaration.Declaration.{Declaration}

@@ -1,6 +1,7 @@
 -- A holder and its number, both ways.
 use Rattle.std.proofs.Common.{◌≡◌, ℕ, arith}
-use Rattle.mip_words.specs.Holders.{holder_number, holder_at, IsHolder}
+use Rattle.mip_words.specs.Holders.{holder_number, holder_at}
+use Rattle.mip_words.specs.HoldersLaws.{IsHolder}
 use Rattle.mip_words.specs.declared.holder.Holder.{Holder}
 use Rattle.mip_words.specs.declared.holder.Holder.TheVariants.{Node, Outsider}
 

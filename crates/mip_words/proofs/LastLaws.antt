@@ -5,7 +5,8 @@ use Rattle.std.specs.List.{list_any, AllByRecursion}
 use Rattle.std.proofs.lemmas.List.{append_assoc, append-nil}
 use Rattle.std.proofs.lemmas.List.Folds.{list_any-append}
 use Rattle.std.proofs.lemmas.Bool.{or_parts}
-use Rattle.mip_words.specs.Last.{or_else, last_where, since, StandsLast, StandsFirst}
+use Rattle.mip_words.specs.Last.{or_else, last_where}
+use Rattle.mip_words.specs.LastLaws.{since, StandsLast, StandsFirst}
 
 -- one more item
 pub last_where-push : {X : Type 0} (p : X → Bool) (xs : List X) (x : X) → last_where p (xs ++ x ∷ []) ≡ (if p x then Some x else last_where p xs)

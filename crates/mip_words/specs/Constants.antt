@@ -39,10 +39,6 @@ initial_bindack_timeout_first_reg = 1500
 abbrev pub max_bindack_timeout : ℕ
 max_bindack_timeout = 32000
 
--- so many updates go to one peer within a second at most: for definitions outside this repository
-abbrev pub max_update_rate : ℕ
-max_update_rate = 3
-
 -- after this a discovery request is sent again for the first time, and how often
 abbrev pub initial_dhaad_timeout : ℕ
 initial_dhaad_timeout = 3000

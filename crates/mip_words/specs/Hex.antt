@@ -1,6 +1,6 @@
 -- Bytes as lower-case hexadecimal digits, two for each byte, the higher first.
 use Rattle.std.specs.Prelude.{ℕ, ◌+◌, ◌-◌, ◌*◌, ◌/◌, ◌%◌, List, [], ◌∷◌, length, Bool, ◌&&◌, ◌||◌, ◌==◌, nat_lt, nat_le, if◌then◌else◌, Option, Some, None}
-use Rattle.std.specs.List.{flat_map, list_all}
+use Rattle.std.specs.List.{flat_map}
 
 -- the digit of a number below 16
 abbrev pub glyph : ℕ → ℕ
@@ -16,10 +16,6 @@ hex_of bytes = flat_map hex_pair bytes
 -- 0 to 9 and a to f
 abbrev pub is_hex_digit : ℕ → Bool
 is_hex_digit c = (nat_le 48 c && nat_le c 57) || (nat_le 97 c && nat_le c 102)
-
--- a text of this many digits
-abbrev pub is_hex_text : ℕ → List ℕ → Bool
-is_hex_text n text = (length text == n) && list_all is_hex_digit text
 
 -- the number of a digit
 abbrev pub digit_value : ℕ → ℕ

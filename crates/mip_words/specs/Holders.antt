@@ -1,5 +1,5 @@
 -- Who holds an address, as a holder and as the number by which it is recorded.
-use Rattle.std.specs.Prelude.{ℕ, ◌+◌, ◌-◌, ◌<◌, nat_lt, if◌then◌else◌}
+use Rattle.std.specs.Prelude.{ℕ, ◌+◌, ◌-◌, nat_lt, if◌then◌else◌}
 use Rattle.mip_words.specs.declared.holder.Holder.{Holder}
 use Rattle.mip_words.specs.declared.holder.Holder.TheVariants.{Node, Outsider}
 
@@ -15,8 +15,3 @@ holder_number (Outsider outsider) = outsider + first_outsider
 -- the holder that has a number
 abbrev pub holder_at : ℕ → Holder
 holder_at number = if nat_lt number first_outsider then Node (record { 0 = number }) else Outsider (number - first_outsider)
-
--- a node is one of the first 32
-abbrev pub IsHolder : Holder → Type 0
-IsHolder (Node node) = node.0 < first_outsider
-IsHolder (Outsider outsider) = Unit {0}

@@ -1,11 +1,15 @@
 pub mod Numbers
 pub mod Addresses
 pub mod Hex
+pub mod HexLaws
 pub mod Sequence
 pub mod Steps
 pub mod Holders
+pub mod HoldersLaws
 pub mod Constants
+pub mod ConstantsLaws
 pub mod Protocols
 pub mod Asked
 pub mod Last
+pub mod LastLaws
 pub mod EachAfter

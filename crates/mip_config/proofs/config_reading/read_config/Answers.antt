@@ -1,4 +1,4 @@
-use Rattle.mip_config.specs.Configs.{parts_content}
+use Rattle.mip_config.specs.ConfigsLaws.{parts_content}
 use Rattle.mip_config.proofs.KeptLaws.{reading_keeps}
 use Rattle.mip_config.proofs.config_reading.read_config.Goals as goal
 

@@ -1,7 +1,8 @@
 use Rattle.std.proofs.Common.{◌≡◌, ◌∙◌, ◌+◌, ◌++◌, List, ℕ, ap}
 use Rattle.mip_make.specs.Draws.{Place, draw_of}
 use Rattle.mip_make.specs.Drawn.{drawn}
-use Rattle.mip_make.specs.Made.{event_line, events_text}
+use Rattle.mip_make.specs.Made.{event_line}
+use Rattle.mip_make.specs.MadeLaws.{events_text}
 use Rattle.mip_make.specs.declared.draw.Draw.{Draw}
 use Rattle.mip_make.proofs.SpellingLaws.{line_more}
 use Rattle.mip_make.proofs.spelling.put_events.Goals as goal

@@ -1,5 +1,5 @@
 use Rattle.std.proofs.Common.{◌≡◌, ◌++◌}
-use Rattle.mip_make.specs.Made.{events_text}
+use Rattle.mip_make.specs.MadeLaws.{events_text}
 use Rattle.mip_make.proofs.spelling.put_events.Given as goal
 
 abbrev pub invariant-loop-number : goal.invariant-loop-number

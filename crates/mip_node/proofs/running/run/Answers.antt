@@ -1,7 +1,8 @@
 use Rattle.std.proofs.Common.{inl, inr, refl}
 use Rattle.mip_config.specs.Configs.{content}
 use Rattle.mip_node.specs.Faults.{CutAfter}
-use Rattle.mip_node.specs.Runs.{Start, start, stand, outside}
+use Rattle.mip_node.specs.Runs.{Start, start, outside}
+use Rattle.mip_node.specs.RunsLaws.{stand}
 use Rattle.mip_node.specs.Settings.{said}
 use Rattle.mip_node.proofs.Ends.{start_on, ran_on}
 use Rattle.mip_node.proofs.running.run.Goals as goal

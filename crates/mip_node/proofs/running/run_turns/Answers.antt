@@ -1,6 +1,7 @@
 use Rattle.std.proofs.Common.{sym, subst, refl, ◌∙◌, arith}
 use Rattle.mip_node.specs.Nodes.{Running}
-use Rattle.mip_node.specs.Runs.{Start, Stand, HasRun, start, stand}
+use Rattle.mip_node.specs.Runs.{Start, Stand, HasRun, start}
+use Rattle.mip_node.specs.RunsLaws.{stand}
 use Rattle.mip_node.specs.Settings.{said}
 use Rattle.mip_node.proofs.RunLaws.{begins, one_more}
 use Rattle.mip_node.proofs.running.run_turns.Goals as goal

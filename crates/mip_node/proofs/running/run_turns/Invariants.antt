@@ -1,6 +1,7 @@
 use Rattle.std.proofs.Common.{◌≡◌, ◌≤◌}
 use Rattle.mip_node.specs.Roles.{IsBy}
-use Rattle.mip_node.specs.Runs.{HasRun, start, stand}
+use Rattle.mip_node.specs.Runs.{HasRun, start}
+use Rattle.mip_node.specs.RunsLaws.{stand}
 use Rattle.mip_node.specs.Settings.{said}
 use Rattle.mip_node.proofs.running.run_turns.Given as goal
 

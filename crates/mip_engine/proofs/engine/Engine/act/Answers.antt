@@ -7,7 +7,7 @@ use Rattle.mip_history.specs.Runs.{note}
 use Rattle.mip_history.specs.Nodes.{acts, answered}
 use Rattle.mip_nodes.specs.Calls.{asked}
 use Rattle.mip_nodes.specs.Nodes.{NodeSeen, around_node}
-use Rattle.mip_nodes.specs.Roles.{IsWhole}
+use Rattle.mip_nodes.specs.RolesLaws.{IsWhole}
 use Rattle.mip_nodes.proofs.WholeLaws.{role_whole, can_ask}
 use Rattle.std.proofs.lemmas.Result.{on_ok_weaker}
 use Rattle.mip_engine.specs.Engines.{EngineSeen, with_entry, station_of}

@@ -1,7 +1,8 @@
 use Rattle.std.proofs.Common.{◌≡◌, subst, ℕ}
 use Rattle.std.specs.Prelude.{◌==◌, ◌&&◌, if◌then◌else◌, Some}
 use Rattle.mip_words.specs.declared.address.Address.{Address}
-use Rattle.mip_proxynd.specs.Tables.{kept_at, kept_after, kept_in}
+use Rattle.mip_proxynd.specs.Tables.{kept_at, kept_in}
+use Rattle.mip_proxynd.specs.TablesLaws.{kept_after}
 use Rattle.mip_proxynd.proofs.TableLaws.{heard-kept, on_ok}
 use Rattle.mip_proxynd.proofs.table.Table.hear.Goals as goal
 

@@ -1,0 +1,9 @@
+-- Laws and invariants of Steps: only proofs stand on them.
+use Rattle.std.specs.Prelude.{Bool, true, false}
+use Rattle.mip_rules_correspondent.specs.Steps.{Step}
+use Rattle.mip_rules_correspondent.specs.Steps.Step.{Accepts}
+
+-- an update that was accepted
+abbrev pub is_acceptance : Step → Bool
+is_acceptance (Accepts number home binding accepted) = true
+is_acceptance _ = false
