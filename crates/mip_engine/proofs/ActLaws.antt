@@ -27,11 +27,11 @@ use Rattle.mip_history.specs.Runs.{Run, past_at, agent_past_at, mobile_past_at, 
 use Rattle.mip_history.specs.Calls.{Call, for_correspondent, for_agent, for_mobile}
 use Rattle.mip_history.specs.Knowing.{now_in, identity_in, known_in, agent_of, agent_known_in, mobile_known_in, secrets_in, stands_on, around_in}
 use Rattle.mip_history.specs.Nodes.{acts, by_host, by_kind, answered, after_transition, after_agent_transition, after_mobile_transition, asks}
-use Rattle.mip_nodes.specs.declared.role.Role.{Role}
-use Rattle.mip_nodes.specs.declared.role.Role.TheVariants.{Correspondent, Agent, Mobile}
-use Rattle.mip_nodes.specs.Roles.{or_idle, or_same, answers_to, after_call}
-use Rattle.mip_nodes.specs.Nodes.{NodeSeen, with_role, around_node, home_of_node}
-use Rattle.mip_nodes.proofs.RoleLaws.{knows_on, agent_knows_on, mobile_knows_on}
+use Rattle.mip_roles.specs.declared.role.Role.{Role}
+use Rattle.mip_roles.specs.declared.role.Role.TheVariants.{Correspondent, Agent, Mobile}
+use Rattle.mip_roles.specs.Roles.{or_idle, or_same, answers_to, after_call}
+use Rattle.mip_roles.specs.Nodes.{NodeSeen, with_role, around_node, home_of_node}
+use Rattle.mip_roles.proofs.RoleLaws.{knows_on, agent_knows_on, mobile_knows_on}
 use Rattle.mip_engine.specs.Engines.{EngineSeen, station_of}
 use Rattle.mip_engine.specs.Standing.{IsAt, node_in}
 use Rattle.mip_engine.proofs.HomeLaws.{home_in}

@@ -10,7 +10,7 @@ use Rattle.mip_links.specs.Table.{link_of}
 use Rattle.mip_history.specs.Setup.{Host, Kind}
 use Rattle.mip_history.specs.Setup.Kind.{Correspondent as OfCorrespondent, Agent as OfAgent, Mobile as OfMobile}
 use Rattle.mip_history.specs.Permitted.{is_same_link, is_agent_kind_on, is_agent_on, is_first_agent, anycast_at}
-use Rattle.mip_nodes.specs.Nodes.{NodeSeen, router_by}
+use Rattle.mip_roles.specs.Nodes.{NodeSeen, router_by}
 use Rattle.mip_engine.specs.Joining.{hosts_of, anycast_for}
 
 -- an agent, and on this link

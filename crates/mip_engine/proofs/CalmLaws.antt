@@ -2,11 +2,11 @@
 use Rattle.std.proofs.Common.{◌≡◌, ℕ, zero, suc, ◌<◌, ◌≤◌, ◌^◌, List, [], ◌∷◌, ◌++◌, length, subst, arith, length-set}
 use Rattle.std.specs.Prelude.{Some, slice_get, slice_set}
 use Rattle.std.proofs.lemmas.List.{length-append}
-use Rattle.mip_nodes.specs.declared.role.Role.{Role}
-use Rattle.mip_nodes.specs.declared.role.Role.TheVariants.{Correspondent, Agent, Mobile}
-use Rattle.mip_nodes.specs.Nodes.{NodeSeen, reborn, next_role}
-use Rattle.mip_nodes.specs.Roles.{last_of, new_role}
-use Rattle.mip_nodes.proofs.RoleLaws.{new_last}
+use Rattle.mip_roles.specs.declared.role.Role.{Role}
+use Rattle.mip_roles.specs.declared.role.Role.TheVariants.{Correspondent, Agent, Mobile}
+use Rattle.mip_roles.specs.Nodes.{NodeSeen, reborn, next_role}
+use Rattle.mip_roles.specs.Roles.{last_of, new_role}
+use Rattle.mip_roles.proofs.RoleLaws.{new_last}
 use Rattle.mip_engine.specs.Engines.{IsCalm}
 
 pub calm_set : (nodes : List NodeSeen) (now n : ℕ) (c : NodeSeen) → IsCalm nodes now → last_of c.role ≤ now → IsCalm (slice_set nodes n c) now

@@ -23,7 +23,7 @@ use Rattle.mip_engine.specs.Engines.{EngineSeen, with_entry, with_net, tried, cl
 use Rattle.mip_engine.specs.Standing.{IsAt}
 use Rattle.mip_engine.specs.Quiet.{IsQuiet, IsNoClaim, IsTimeless}
 use Rattle.mip_engine.proofs.QuietLaws.{holder-push, declared-push, hears-push, asked-same, hears-same, nodes-same, now-same, history-same, at_note, quiet_by}
-use Rattle.mip_nodes.specs.RolesLaws.{is_apart}
+use Rattle.mip_roles.specs.RolesLaws.{is_apart}
 use Rattle.mip_engine.proofs.NumberLaws.{numbered_apart}
 use Rattle.mip_engine.proofs.PostingLaws.{quiet_idle}
 

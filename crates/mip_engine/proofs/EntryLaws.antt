@@ -14,9 +14,9 @@ use Rattle.mip_history.specs.Setup.Kind.{Correspondent as OfCorrespondent, Agent
 use Rattle.mip_history.specs.Runs.{Run, note}
 use Rattle.mip_history.specs.Questions.{moment_says, moment_in, listen_says, restarts, life_in, moved_says, spot_in}
 use Rattle.mip_links.specs.Table.{link_of}
-use Rattle.mip_nodes.specs.Nodes.{NodeSeen, with_spot}
+use Rattle.mip_roles.specs.Nodes.{NodeSeen, with_spot}
 use Rattle.mip_engine.specs.Engines.{EngineSeen, with_entry, with_node, stood, stood_by}
-use Rattle.mip_nodes.specs.RolesLaws.{is_apart}
+use Rattle.mip_roles.specs.RolesLaws.{is_apart}
 use Rattle.mip_engine.specs.Quiet.{IsNoClaim}
 use Rattle.mip_engine.proofs.NumberLaws.{numbered_apart}
 use Rattle.mip_engine.specs.Standing.{IsAt, role_in, node_in}

@@ -32,8 +32,8 @@ use Rattle.mip_engine.proofs.HostLaws.{hosts_from-append, links_in-append, outsi
 use Rattle.mip_engine.proofs.RoutableLaws.{IsHost, read_routable}
 use Rattle.mip_engine.proofs.ShareLaws.{held_by_none, none_shares, none_anycast, others_share, first_alone, anycast_link, anycast_apart}
 use Rattle.mip_provenance.proofs.ListLaws.{each_before}
-use Rattle.mip_nodes.specs.Nodes.{NodeSeen}
-use Rattle.mip_nodes.specs.Hosts.{IsFit}
+use Rattle.mip_roles.specs.Nodes.{NodeSeen}
+use Rattle.mip_roles.specs.Hosts.{IsFit}
 use Rattle.mip_engine.specs.Engines.{IsFree}
 use Rattle.mip_words.specs.declared.address.Address.{Address}
 use Rattle.mip_words.specs.declared.ids.NodeId.{NodeId}

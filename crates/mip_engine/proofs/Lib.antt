@@ -22,4 +22,4 @@ pub mod ShareLaws
 pub mod OpenLaws
 pub mod JoinLaws
 pub mod ShareAllLaws
-pub use Rattle.mip_nodes.proofs.RoleLaws
+pub use Rattle.mip_roles.proofs.RoleLaws

@@ -9,8 +9,8 @@ use Rattle.mip_history.specs.Setup.{Setup, Host, Kind, is_mobile_kind, is_mobile
 use Rattle.mip_history.specs.Setup.Kind.{Correspondent as OfCorrespondent, Agent as OfAgent, Mobile as OfMobile}
 use Rattle.mip_history.specs.Runs.{Run, note}
 use Rattle.mip_history.specs.Permitted.{moves, moves_if}
-use Rattle.mip_nodes.specs.Nodes.{NodeSeen}
-use Rattle.mip_nodes.specs.Roles.{is_roaming}
+use Rattle.mip_roles.specs.Nodes.{NodeSeen}
+use Rattle.mip_roles.specs.Roles.{is_roaming}
 use Rattle.mip_engine.specs.Engines.{EngineSeen}
 use Rattle.mip_engine.specs.Standing.{IsAt, role_in, node_in}
 

@@ -23,9 +23,9 @@ use Rattle.mip_history.specs.Calls.{Call}
 use Rattle.mip_history.specs.Questions.{life_in, spot_in}
 use Rattle.mip_history.specs.Knowing.{other_than, around_in, stands_on}
 use Rattle.mip_history.specs.Nodes.{acts, by_host, answered, answered_one}
-use Rattle.mip_nodes.specs.declared.role.Role.{Role}
-use Rattle.mip_nodes.specs.Nodes.{NodeSeen, with_role}
-use Rattle.mip_nodes.specs.Places.{around_of}
+use Rattle.mip_roles.specs.declared.role.Role.{Role}
+use Rattle.mip_roles.specs.Nodes.{NodeSeen, with_role}
+use Rattle.mip_roles.specs.Places.{around_of}
 use Rattle.mip_engine.specs.Engines.{EngineSeen, with_node}
 use Rattle.mip_engine.specs.Standing.{IsAt, role_in, node_in}
 use Rattle.mip_engine.proofs.ItemLaws.{set_here, set_there, set_same, map_some, map_none}

@@ -15,7 +15,7 @@ use Rattle.mip_entries.specs.declared.entry.Entry.TheVariants.{Sent, Injected, H
 use Rattle.mip_links.specs.Table.{Post}
 use Rattle.mip_provenance.specs.Entries.{packet_in, packet_told}
 use Rattle.mip_provenance_index.specs.Stands.{number_posted}
-use Rattle.mip_nodes.specs.RolesLaws.{is_apart}
+use Rattle.mip_roles.specs.RolesLaws.{is_apart}
 use Rattle.mip_recorder.specs.Packets.{bytes_posted, number_reached, comes_next, ComesNext, IsInOrder}
 use Rattle.mip_recorder.proofs.Watching.{packet_more, or_none, told_none, told_here, told_there, get_front, get_seam}
 use Rattle.mip_engine.specs.Engines.{EngineSeen}

@@ -26,11 +26,11 @@ use Rattle.mip_rules_correspondent.specs.Questions.{known}
 use Rattle.mip_rules_agent.specs.Questions as agent_questions
 use Rattle.mip_rules_mobile.specs.Questions as mobile_questions
 use Rattle.mip_history.specs.Permitted.{claimed_entry, claims_of, claims_from, is_first_agent, anycast_at, opened}
-use Rattle.mip_nodes.specs.declared.role.Role.{Role}
-use Rattle.mip_nodes.specs.declared.role.Role.TheVariants.{Correspondent, Agent, Mobile}
-use Rattle.mip_nodes.specs.Nodes.{NodeSeen, new_node}
-use Rattle.mip_nodes.specs.Roles.{new_role}
-use Rattle.mip_nodes.proofs.RoleLaws.{known_first, agent_known_first, mobile_known_first}
+use Rattle.mip_roles.specs.declared.role.Role.{Role}
+use Rattle.mip_roles.specs.declared.role.Role.TheVariants.{Correspondent, Agent, Mobile}
+use Rattle.mip_roles.specs.Nodes.{NodeSeen, new_node}
+use Rattle.mip_roles.specs.Roles.{new_role}
+use Rattle.mip_roles.proofs.RoleLaws.{known_first, agent_known_first, mobile_known_first}
 use Rattle.mip_engine.specs.Engines.{EngineSeen, new_engine, joined, with_entry, with_net}
 use Rattle.mip_engine.specs.Openings.{with_hosts}
 use Rattle.mip_engine.specs.Standing.{IsAt, role_in, node_in}

@@ -19,8 +19,8 @@ use Rattle.mip_links.proofs.NetLaws.{holder-put}
 use Rattle.mip_links.specs.Nets.{NetSeen, refusal, holder_of, is_held_by, taken_by}
 use Rattle.mip_links.specs.Table.{Asked, link_of}
 use Rattle.mip_links.specs.declared.claim_fault.ClaimFault.TheVariants.{NoLink}
-use Rattle.mip_nodes.specs.Nodes.{NodeSeen}
-use Rattle.mip_nodes.specs.Roles.{lives_in}
+use Rattle.mip_roles.specs.Nodes.{NodeSeen}
+use Rattle.mip_roles.specs.Roles.{lives_in}
 use Rattle.mip_engine.specs.Engines.{EngineSeen, IsFree, lives_at, resident_of, released, with_entry, with_net}
 use Rattle.mip_engine.specs.Standing.{IsAt, node_in, role_in}
 use Rattle.mip_engine.proofs.HomeLaws.{home_in}

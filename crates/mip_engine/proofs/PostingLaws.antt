@@ -25,7 +25,7 @@ use Rattle.mip_engine.specs.Engines.{EngineSeen, with_entry, with_entries, with_
 use Rattle.mip_engine.specs.Standing.{IsAt}
 use Rattle.mip_engine.specs.Groups.{is_plain}
 use Rattle.mip_provenance_index.specs.Stands.{number_posted}
-use Rattle.mip_nodes.specs.RolesLaws.{is_apart}
+use Rattle.mip_roles.specs.RolesLaws.{is_apart}
 use Rattle.mip_recorder.specs.Packets.{bytes_posted}
 use Rattle.mip_engine.specs.Quiet.{IsSilent, IsQuiet}
 use Rattle.mip_engine.proofs.NumberLaws.{numbered_posted}

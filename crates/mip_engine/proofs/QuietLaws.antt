@@ -16,7 +16,7 @@ use Rattle.mip_history.specs.Runs.{Run, note}
 use Rattle.mip_links.specs.Table.{link_of}
 use Rattle.mip_provenance_index.specs.Stands.{number_posted}
 use Rattle.mip_recorder.specs.Packets.{number_reached}
-use Rattle.mip_nodes.specs.RolesLaws.{is_apart}
+use Rattle.mip_roles.specs.RolesLaws.{is_apart}
 use Rattle.mip_history.specs.Knowing.{stands_on}
 use Rattle.mip_history.specs.Questions.{moment_says, moment_in, holder_says, holder_in, claims, declared_in, listen_says, hears_in, restarts, life_in, moved_says, spot_in, asked_in}
 use Rattle.mip_engine.specs.Engines.{EngineSeen, with_entry}

@@ -26,8 +26,8 @@ use Rattle.mip_history.proofs.Registrations.{run_careof}
 use Rattle.mip_settled.proofs.AsTold.{found_as_told, registered_as_told, bound_as_told}
 use Rattle.mip_settled.proofs.Declared.{declared_of_run}
 use Rattle.mip_settled.proofs.OfKinds.{present_at_own, bound_to_none, agent_holds_none, registers_none}
-use Rattle.mip_nodes.specs.Ends.{present_of, agent_of, is_bound_to, held_by_role, careof_of}
-use Rattle.mip_nodes.specs.Nodes.{NodeSeen}
+use Rattle.mip_roles.specs.Ends.{present_of, agent_of, is_bound_to, held_by_role, careof_of}
+use Rattle.mip_roles.specs.Nodes.{NodeSeen}
 use Rattle.mip_engine.specs.Engines.{EngineSeen}
 use Rattle.mip_engine.specs.Standing.{IsAt, role_in, node_in}
 use Rattle.mip_engine.specs.Settling.{has_home, has_home_there, is_with_agent, is_placed, is_settled_there, is_settled_to, are_settled_by, are_settled}

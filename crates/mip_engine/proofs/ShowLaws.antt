@@ -14,10 +14,10 @@ use Rattle.mip_history.specs.Setup.Kind.{Correspondent as OfCorrespondent, Agent
 use Rattle.mip_history.specs.Runs.{Run, note, notes}
 use Rattle.mip_history.specs.Knowing.{now_in}
 use Rattle.mip_history.specs.Nodes.{row_entry, home_entry, rows_by_kind, rows_shown, shown}
-use Rattle.mip_nodes.specs.declared.role.Role.{Role}
-use Rattle.mip_nodes.specs.declared.role.Role.TheVariants.{Correspondent, Agent, Mobile}
-use Rattle.mip_nodes.specs.Nodes.{NodeSeen}
-use Rattle.mip_nodes.specs.Roles.{rows_of}
+use Rattle.mip_roles.specs.declared.role.Role.{Role}
+use Rattle.mip_roles.specs.declared.role.Role.TheVariants.{Correspondent, Agent, Mobile}
+use Rattle.mip_roles.specs.Nodes.{NodeSeen}
+use Rattle.mip_roles.specs.Roles.{rows_of}
 use Rattle.mip_engine.specs.Engines.{EngineSeen, with_entry, with_entries}
 use Rattle.mip_engine.specs.Quiet.{IsQuiet}
 use Rattle.mip_engine.specs.Standing.{IsAt, role_in}

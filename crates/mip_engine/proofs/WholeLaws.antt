@@ -3,7 +3,7 @@ use Rattle.std.proofs.Common.{◌≡◌, ℕ, zero, suc, List, [], ◌∷◌, su
 use Rattle.std.specs.Prelude.{Some, slice_get}
 use Rattle.std.specs.List.{AllByRecursion}
 use Rattle.mip_entries.specs.declared.answer.Answer.{Answer}
-use Rattle.mip_nodes.specs.RolesLaws.{IsWhole}
+use Rattle.mip_roles.specs.RolesLaws.{IsWhole}
 
 -- each answer of a list of whole ones
 pub whole_at : (answers : List Answer) (i : ℕ) (answer : Answer) → AllByRecursion IsWhole answers → slice_get answers i ≡ Some answer → IsWhole answer

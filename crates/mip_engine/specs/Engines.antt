@@ -13,9 +13,9 @@ use Rattle.mip_history.specs.Setup.{Host}
 use Rattle.mip_history.specs.Calls.{Call}
 use Rattle.mip_history.specs.Homes.{first_below}
 use Rattle.mip_history.specs.Posting.{heards, is_other}
-use Rattle.mip_nodes.specs.Roles.{last_of, after_call, answers_to, lives_in, is_roaming}
-use Rattle.mip_nodes.specs.Nodes as nodes
-use Rattle.mip_nodes.specs.Nodes.{NodeSeen, new_node, with_role, with_spot, around_node}
+use Rattle.mip_roles.specs.Roles.{last_of, after_call, answers_to, lives_in, is_roaming}
+use Rattle.mip_roles.specs.Nodes as nodes
+use Rattle.mip_roles.specs.Nodes.{NodeSeen, new_node, with_role, with_spot, around_node}
 
 pub record EngineSeen : Type 0 where
   pub seed : List ℕ

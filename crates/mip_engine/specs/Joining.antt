@@ -7,8 +7,8 @@ use Rattle.mip_links.specs.Table.{link_of}
 use Rattle.mip_schedule.specs.DeclarationTimes.{interface_of}
 use Rattle.mip_history.specs.Setup.{Host}
 use Rattle.mip_history.specs.Permitted.{is_first_agent, anycast_at}
-use Rattle.mip_nodes.specs.Nodes.{NodeSeen}
-use Rattle.mip_nodes.specs.Hosts.{IsFit}
+use Rattle.mip_roles.specs.Nodes.{NodeSeen}
+use Rattle.mip_roles.specs.Hosts.{IsFit}
 
 abbrev pub has_address : ℕ → Host → Bool
 has_address address host = address == host.address.0

@@ -7,6 +7,6 @@ pub mod Openings
 pub mod Groups
 pub mod Numbering
 pub mod Settling
-pub use Rattle.mip_nodes.specs.Nodes
-pub use Rattle.mip_nodes.specs.Payloads
-pub use Rattle.mip_nodes.specs.Roles
+pub use Rattle.mip_roles.specs.Nodes
+pub use Rattle.mip_roles.specs.Payloads
+pub use Rattle.mip_roles.specs.Roles

@@ -1,7 +1,7 @@
 -- Entries that say nothing to the questions of a run.
 use Rattle.std.specs.Prelude.{◌≡◌, ℕ, None, true}
 use Rattle.mip_entries.specs.declared.entry.Entry.{Entry}
-use Rattle.mip_nodes.specs.RolesLaws.{is_apart}
+use Rattle.mip_roles.specs.RolesLaws.{is_apart}
 use Rattle.mip_history.specs.Questions.{moment_says, holder_says, claims, listen_says, restarts, moved_says}
 
 -- an entry that says nothing of who holds what

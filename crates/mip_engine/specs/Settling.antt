@@ -6,8 +6,8 @@ use Rattle.mip_words.specs.declared.address.Address.{Address}
 use Rattle.mip_links.specs.Table.{is_address}
 use Rattle.mip_links.specs.Nets.{holder_of, is_held_by}
 use Rattle.mip_history.specs.Settled.{is_held_right, is_bound_right}
-use Rattle.mip_nodes.specs.Ends.{present_of, agent_of, is_bound_to, held_by_role, careof_of}
-use Rattle.mip_nodes.specs.Nodes.{NodeSeen}
+use Rattle.mip_roles.specs.Ends.{present_of, agent_of, is_bound_to, held_by_role, careof_of}
+use Rattle.mip_roles.specs.Nodes.{NodeSeen}
 use Rattle.mip_engine.specs.Engines.{EngineSeen}
 
 -- a node has a home registered

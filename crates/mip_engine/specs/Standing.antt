@@ -9,9 +9,9 @@ use Rattle.mip_history.specs.Questions.{moment_in, hears_in, life_in, asked_in}
 use Rattle.mip_schedule.specs.declared.event.Event.{Event}
 use Rattle.mip_history.specs.Permitted.{run_of}
 use Rattle.mip_history.specs.Knowing.{identity_in, known_in, agent_of, agent_known_in, mobile_known_in, stands_on}
-use Rattle.mip_nodes.specs.declared.role.Role.{Role}
-use Rattle.mip_nodes.specs.declared.role.Role.TheVariants.{Correspondent, Agent, Mobile}
-use Rattle.mip_nodes.specs.Nodes.{NodeSeen}
+use Rattle.mip_roles.specs.declared.role.Role.{Role}
+use Rattle.mip_roles.specs.declared.role.Role.TheVariants.{Correspondent, Agent, Mobile}
+use Rattle.mip_roles.specs.Nodes.{NodeSeen}
 use Rattle.mip_engine.specs.Engines.{EngineSeen}
 use Rattle.mip_engine.specs.Numbering.{IsNumbered}
 

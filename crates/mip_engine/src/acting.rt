@@ -5,15 +5,15 @@ ghost use Rattle.mip_history.specs.Setup.{Setup};
 ghost use Rattle.mip_history.specs.Runs.{Run};
 ghost use Rattle.mip_history.specs.Nodes.{acts, shown};
 ghost use Rattle.mip_history.specs.Permitted.{moves, moves_if};
-ghost use Rattle.mip_nodes.specs.Calls.{asked, IsAskable};
-ghost use Rattle.mip_nodes.specs.Nodes.{NodeSeen};
-ghost use Rattle.mip_nodes.specs.Roles.{rows_of};
+ghost use Rattle.mip_roles.specs.Calls.{asked, IsAskable};
+ghost use Rattle.mip_roles.specs.Nodes.{NodeSeen};
+ghost use Rattle.mip_roles.specs.Roles.{rows_of};
 ghost use Rattle.mip_engine.specs.Engines.{with_entries};
 ghost use Rattle.mip_engine.specs.Standing.{IsAt};
 
 use crate::engine::Engine;
 use mip_entries::Entry;
-use mip_nodes::Call;
+use mip_roles::Call;
 use mip_words::{LinkId, Memory, NodeId};
 use std::alloc::Global;
 

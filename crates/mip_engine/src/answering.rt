@@ -5,7 +5,7 @@ ghost use Rattle.std.specs.List.{AllByRecursion};
 ghost use Rattle.mip_history.specs.Setup.{Setup};
 ghost use Rattle.mip_history.specs.Runs.{Run};
 ghost use Rattle.mip_history.specs.Nodes.{answered, answered_one, left_by};
-ghost use Rattle.mip_nodes.specs.RolesLaws.{IsWhole, is_apart};
+ghost use Rattle.mip_roles.specs.RolesLaws.{IsWhole, is_apart};
 ghost use Rattle.mip_engine.specs.Groups.{is_plain};
 ghost use Rattle.mip_engine.specs.Standing.{IsAt};
 

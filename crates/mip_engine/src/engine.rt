@@ -15,9 +15,9 @@ mod settling;
 
 use mip_entries::{Entry, History};
 use mip_links::Net;
-use mip_nodes::Node;
 use mip_provenance::{AcceptedUpdate, Mark};
 use mip_recorder::Recorder;
+use mip_roles::Node;
 use mip_words::{Memory, Moment, Prefix};
 use std::alloc::Global;
 use std::marker::Model;

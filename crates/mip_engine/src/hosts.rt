@@ -6,7 +6,7 @@ ghost use Rattle.mip_symbols.specs.declared.declaration.Declaration.{Declaration
 ghost use Rattle.mip_history.specs.Setup.{addresses_in, served_by, hosts_from, hosts_in};
 ghost use Rattle.std.specs.Prelude.{slice_get, length};
 
-use mip_nodes::{Host, Kind};
+use mip_roles::{Host, Kind};
 use mip_schedule::Declaration;
 use mip_words::{Address, Memory, NodeId};
 use std::alloc::Global;

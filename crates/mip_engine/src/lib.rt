@@ -14,4 +14,4 @@ mod setup;
 
 pub use arrival::Arrival;
 pub use engine::Engine;
-pub use mip_nodes::{Call, HomeRow, Router};
+pub use mip_roles::{Call, HomeRow, Router};

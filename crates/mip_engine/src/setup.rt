@@ -7,7 +7,7 @@ ghost use Rattle.mip_links.specs.Table.{link_of};
 ghost use Rattle.mip_history.specs.Setup.{Setup, Host, links_in, outsiders_in, setup_of};
 ghost use Rattle.mip_history.specs.Runs.{Run, note};
 ghost use Rattle.mip_history.specs.Permitted.{opened, claimed_entry, is_same_link, is_agent_on};
-ghost use Rattle.mip_nodes.specs.Hosts.{IsFit};
+ghost use Rattle.mip_roles.specs.Hosts.{IsFit};
 ghost use Rattle.mip_schedule.specs.Lawful.{IsLawful};
 ghost use Rattle.mip_symbols.specs.Places.{AreFew};
 ghost use Rattle.mip_schedule.specs.Schedules.{content};
@@ -18,7 +18,7 @@ ghost use Rattle.mip_engine.specs.Openings.{with_hosts, CanShare};
 
 use crate::engine::Engine;
 use crate::hosts::hosts_in;
-use mip_nodes::{Host, Node};
+use mip_roles::{Host, Node};
 use mip_schedule::{Declaration, Schedule};
 use mip_words::{Address, Holder, LinkId, Memory, NodeId, Prefix};
 use std::alloc::Global;

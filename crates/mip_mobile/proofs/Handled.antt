@@ -17,8 +17,8 @@ use Rattle.mip_rules_mobile.specs.Doing.{transition_of}
 use Rattle.mip_rules_mobile.specs.Answering.{IsFrom, AreFrom}
 use Rattle.mip_rules_mobile.proofs.Away.{away-call}
 use Rattle.mip_rules_mobile.proofs.Calls.{call-stands, call-now}
-use Rattle.mip_mobility.specs.Seen.{ContextSeen, Shows}
-use Rattle.mip_mobility.proofs.Noted.{shows-known, shows-moment}
+use Rattle.mip_mobile_calls.specs.Seen.{ContextSeen, Shows}
+use Rattle.mip_mobile_calls.proofs.Noted.{shows-known, shows-moment}
 use Rattle.mip_transmission.specs.Putting.{after_put, Puts, PutsAll, PutsFront, Told, Answered, sends_of, puts_of}
 use Rattle.mip_mobile.specs.Handling.{Handles, BreaksOff, IsLeft}
 use Rattle.mip_rules_mobile.specs.Refusing.{tables_of}

@@ -17,7 +17,7 @@ use Rattle.mip_rules_mobile.specs.Known.{Known}
 use Rattle.mip_rules_mobile.specs.Refusing.{tells_of_refusal, tables_of}
 use Rattle.mip_rules_mobile.specs.Transitions.{Stands, with_transition}
 use Rattle.mip_rules_mobile.specs.Doing.{transition_of}
-use Rattle.mip_mobility.specs.Seen.{ContextSeen}
+use Rattle.mip_mobile_calls.specs.Seen.{ContextSeen}
 use Rattle.mip_transmission.specs.Putting.{PutsAll, Told, Answered, sends_of, puts_of}
 
 -- the moment of a call: what the clock says, or the moment of the last call where that is later

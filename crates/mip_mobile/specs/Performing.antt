@@ -12,7 +12,7 @@ use Rattle.mip_rules_mobile.specs.Calls.{Call}
 use Rattle.mip_rules_mobile.specs.Known.{Known}
 use Rattle.mip_rules_mobile.specs.Transitions.{Transition}
 use Rattle.mip_rules_mobile.specs.Doing.{transition_of}
-use Rattle.mip_mobility.specs.Seen.{Shows}
+use Rattle.mip_mobile_calls.specs.Seen.{Shows}
 use Rattle.mip_mobile.specs.declared.machine.Machine.{Machine}
 use Rattle.mip_mobile.specs.Handling.{Handles, BreaksOff, IsLeft, moment_of}
 

@@ -13,7 +13,7 @@ ghost use Rattle.mip_rules_mobile.specs.Calls.{Call};
 ghost use Rattle.mip_rules_mobile.specs.Steps.{Called};
 ghost use Rattle.mip_rules_mobile.specs.Questions.{fresh};
 ghost use Rattle.mip_rules_mobile.specs.Transitions.{begun, noted};
-ghost use Rattle.mip_mobility.specs.Seen.{Shows};
+ghost use Rattle.mip_mobile_calls.specs.Seen.{Shows};
 ghost use Rattle.mip_mobile.specs.Performing.{Performs, Finishes, moment_in, transition_in};
 ghost use Rattle.mip_mobile.specs.Stations.{with_clock, with_wire};
 ghost use Rattle.mip_mobile.specs.contracts.machine.Machine.{the_row};
@@ -21,7 +21,7 @@ ghost use Rattle.std.specs.Borrow.{Lends, sem};
 
 use mip_bcache::Row;
 use mip_entries::Answers;
-use mip_mobility::CallContext;
+use mip_mobile_calls::CallContext;
 use mip_nonce::Secrets;
 use mip_outside::{Clock, Wire};
 use mip_rules_mobile::Attachment;
@@ -175,7 +175,7 @@ impl<C: Clock + Drop, W: Wire + Drop> Machine<C, W> {
         ensures read { C.ahead self.new.clock ≡ option_map moments_after (C.ahead self.old.clock) }
     {
         self.begin(alloc)?;
-        mip_mobility::take(alloc, &mut self.context, number, shield, packet)
+        mip_mobile_calls::take(alloc, &mut self.context, number, shield, packet)
     }
 
     /// Time goes on, and due work is done.
@@ -196,7 +196,7 @@ impl<C: Clock + Drop, W: Wire + Drop> Machine<C, W> {
         ensures read { C.ahead self.new.clock ≡ option_map moments_after (C.ahead self.old.clock) }
     {
         self.begin(alloc)?;
-        mip_mobility::tick(alloc, &mut self.context)
+        mip_mobile_calls::tick(alloc, &mut self.context)
     }
 
     /// Sends data.
@@ -235,7 +235,7 @@ impl<C: Clock + Drop, W: Wire + Drop> Machine<C, W> {
         ensures read { C.ahead self.new.clock ≡ option_map moments_after (C.ahead self.old.clock) }
     {
         self.begin(alloc)?;
-        mip_mobility::send(alloc, &mut self.context, to, proto, payload)
+        mip_mobile_calls::send(alloc, &mut self.context, to, proto, payload)
     }
 
     /// Asks for a Binding Refresh Request to a home.
@@ -256,7 +256,7 @@ impl<C: Clock + Drop, W: Wire + Drop> Machine<C, W> {
         ensures read { C.ahead self.new.clock ≡ option_map moments_after (C.ahead self.old.clock) }
     {
         self.begin(alloc)?;
-        mip_mobility::refresh(alloc, &mut self.context, home)
+        mip_mobile_calls::refresh(alloc, &mut self.context, home)
     }
 
     /// Solicits the prefixes of its home link.
@@ -277,7 +277,7 @@ impl<C: Clock + Drop, W: Wire + Drop> Machine<C, W> {
         ensures read { C.ahead self.new.clock ≡ option_map moments_after (C.ahead self.old.clock) }
     {
         self.begin(alloc)?;
-        mip_mobility::ask(alloc, &mut self.context)
+        mip_mobile_calls::ask(alloc, &mut self.context)
     }
 
     /// Loses all that it keeps, and goes on with these secrets.
@@ -298,7 +298,7 @@ impl<C: Clock + Drop, W: Wire + Drop> Machine<C, W> {
         ensures read { C.ahead self.new.clock ≡ option_map moments_after (C.ahead self.old.clock) }
     {
         self.begin(alloc)?;
-        mip_mobility::restart(alloc, &mut self.context, secrets)
+        mip_mobile_calls::restart(alloc, &mut self.context, secrets)
     }
 
     /// Sends a packet from its home address.
@@ -325,6 +325,6 @@ impl<C: Clock + Drop, W: Wire + Drop> Machine<C, W> {
         ensures read { C.ahead self.new.clock ≡ option_map moments_after (C.ahead self.old.clock) }
     {
         self.begin(alloc)?;
-        mip_mobility::tunnel(alloc, &mut self.context, inner)
+        mip_mobile_calls::tunnel(alloc, &mut self.context, inner)
     }
 }

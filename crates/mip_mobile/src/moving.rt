@@ -7,7 +7,7 @@ ghost use Rattle.mip_outside.specs.Places.{Around, claim_in};
 ghost use Rattle.mip_rules_mobile.specs.declared.attachment.Attachment.TheVariants.{AtHome};
 ghost use Rattle.mip_rules_mobile.specs.HomeQuestions.{home_of};
 ghost use Rattle.mip_rules_mobile.specs.MovingRules.{address_under};
-ghost use Rattle.mip_mobility.specs.Seen.{Shows};
+ghost use Rattle.mip_mobile_calls.specs.Seen.{Shows};
 ghost use Rattle.mip_mobile.specs.Placing.{attach_at, leave_at, claims_attached, claims_after_leaving, AreAnswered};
 ghost use Rattle.mip_mobile.specs.Performing.{Performs, transition_in};
 
@@ -53,7 +53,7 @@ impl<C: Clock + Drop, W: Wire + Drop> Machine<C, W> {
     {
         let standing = self.context.standing();
         let home = self.context.home();
-        if mip_mobility::uses_prefix(standing, home, prefix) {
+        if mip_mobile_calls::uses_prefix(standing, home, prefix) {
             (Claim::Held, Claim::Held)
         } else {
             come(place, standing, home, prefix)
@@ -73,7 +73,7 @@ impl<C: Clock + Drop, W: Wire + Drop> Machine<C, W> {
         ensures read { C.ahead self.new.clock ≡ option_map moments_after (C.ahead self.old.clock) }
     {
         self.begin(alloc)?;
-        mip_mobility::attach(alloc, &mut self.context, prefix, of_home, of_address)
+        mip_mobile_calls::attach(alloc, &mut self.context, prefix, of_home, of_address)
     }
 
     /// The mobile leaves its link.
@@ -100,6 +100,6 @@ impl<C: Clock + Drop, W: Wire + Drop> Machine<C, W> {
         ensures read { C.ahead self.new.clock ≡ option_map moments_after (C.ahead self.old.clock) }
     {
         self.begin(alloc)?;
-        mip_mobility::leave(&mut self.context, of_home)
+        mip_mobile_calls::leave(&mut self.context, of_home)
     }
 }

@@ -8,7 +8,7 @@ ghost use Rattle.mip_rules_mobile.specs.declared.attachment.Attachment.TheVarian
 ghost use Rattle.mip_rules_mobile.specs.MovingRules.{address_under};
 ghost use Rattle.mip_mobile.specs.Placing.{claims_left, claims_come};
 
-use mip_mobility::address_under;
+use mip_mobile_calls::address_under;
 use mip_outside::{Claim, Place};
 use mip_rules_mobile::Attachment;
 use mip_words::{Address, Prefix};

@@ -7,11 +7,11 @@ use Rattle.mip_words.specs.Addresses.{is_routable}
 use Rattle.mip_words.specs.declared.address.Address.{Address}
 use Rattle.mip_schedule.specs.EventTimes.{is_reserved}
 use Rattle.mip_history.specs.Setup.{Kind}
-use Rattle.mip_nodes.specs.Hosts.{IsFitKind}
-use Rattle.mip_nodes.specs.Payloads.{is_payload}
-use Rattle.mip_nodes.specs.Roles.{last_of, new_role}
-use Rattle.mip_nodes.specs.declared.role.Role.{Role}
-use Rattle.mip_nodes.proofs.RoleLaws.{new_last}
+use Rattle.mip_roles.specs.Hosts.{IsFitKind}
+use Rattle.mip_roles.specs.Payloads.{is_payload}
+use Rattle.mip_roles.specs.Roles.{last_of, new_role}
+use Rattle.mip_roles.specs.declared.role.Role.{Role}
+use Rattle.mip_roles.proofs.RoleLaws.{new_last}
 use Rattle.mip_config.specs.Configs.{Content}
 use Rattle.mip_config.specs.Facts.{address_of, is_home, is_sendable}
 use Rattle.mip_config.specs.declared.payload.Payload.{Payload}

@@ -4,8 +4,8 @@ use Rattle.std.specs.Prelude.{Result, IfOk, OnOk}
 use Rattle.mip_entries.specs.declared.answer.Answer.{Answer}
 use Rattle.mip_outside.specs.Places.{Around, free}
 use Rattle.mip_history.specs.Calls.{Call}
-use Rattle.mip_nodes.specs.declared.role.Role.{Role}
-use Rattle.mip_nodes.specs.Roles.{answers_to, after_call}
+use Rattle.mip_roles.specs.declared.role.Role.{Role}
+use Rattle.mip_roles.specs.Roles.{answers_to, after_call}
 use Rattle.mip_node.specs.Roles.{answers_at, role_after}
 
 pub answers_alone : {E : Type 0} (r : Result (List Answer) E) (around : Around) (role : Role) (now : ℕ) (call : Call) → around ≡ free

@@ -12,7 +12,7 @@ use Rattle.mip_outside.specs.declared.put.Put.{Put}
 use Rattle.mip_outside.specs.declared.put.Put.TheVariants as puts
 use Rattle.mip_frames.specs.Routing.{put_for, sent_for}
 use Rattle.mip_history.specs.Calls.{Call}
-use Rattle.mip_nodes.specs.declared.role.Role.{Role}
+use Rattle.mip_roles.specs.declared.role.Role.{Role}
 use Rattle.mip_config.specs.Configs.{Content}
 use Rattle.mip_node.specs.Roles.{answers_at, role_after}
 

@@ -7,8 +7,8 @@ use Rattle.mip_history.specs.Calls.{Call, Leave}
 use Rattle.mip_history.specs.Setup.{Kind}
 use Rattle.mip_history.specs.Setup.Kind.{Correspondent as OfCorrespondent, Agent as OfAgent, Mobile as OfMobile}
 use Rattle.mip_history.specs.Waiting.{is_due}
-use Rattle.mip_nodes.specs.declared.role.Role.{Role}
-use Rattle.mip_nodes.specs.Roles.{answers_to, after_call, due_of, last_of, new_role, is_roaming}
+use Rattle.mip_roles.specs.declared.role.Role.{Role}
+use Rattle.mip_roles.specs.Roles.{answers_to, after_call, due_of, last_of, new_role, is_roaming}
 use Rattle.mip_config.specs.declared.role.Role.{Role as Named}
 use Rattle.mip_config.specs.declared.role.Role.TheVariants.{Correspondent, Agent, Mobile}
 use Rattle.mip_config.specs.Configs.{Content}

@@ -1,7 +1,7 @@
 //! A node is asked something: it answers, and its answers are carried out.
 
 ghost use Rattle.std.specs.Prelude.{◌≡◌, ◌<◌, ◌^◌, true, OnOk, OnErr, IsErrOf};
-ghost use Rattle.mip_nodes.specs.Calls.{asked, IsAskable};
+ghost use Rattle.mip_roles.specs.Calls.{asked, IsAskable};
 ghost use Rattle.mip_config.specs.Facts.{is_sendable};
 ghost use Rattle.mip_node.specs.Faults.{CountsFaults, Between};
 ghost use Rattle.mip_node.specs.Roles.{IsBy};
@@ -13,8 +13,8 @@ use crate::node::Node;
 use crate::sending::answer_all;
 use crate::setting::Setting;
 use mip_config::Payload;
-use mip_nodes::Call;
 use mip_outside::{Link, PutFault};
+use mip_roles::Call;
 use mip_words::Moment;
 
 /// The node is asked something.

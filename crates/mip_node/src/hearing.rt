@@ -16,8 +16,8 @@ use crate::sending::HERE;
 use crate::setting::Setting;
 use mip_entries::Entry;
 use mip_frames::{Frame, read_frame_for};
-use mip_nodes::Call;
 use mip_outside::{Link, PutFault};
+use mip_roles::Call;
 use mip_words::{Moment, Prefix, Why};
 
 /// A mobile is told of a router on its link.

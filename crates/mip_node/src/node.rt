@@ -1,5 +1,5 @@
 ghost use Rattle.std.specs.Prelude.{◌≡◌, ◌<◌, ◌^◌, option_map, IfOk, OnOk, OnErr};
-ghost use Rattle.mip_nodes.specs.Calls.{asked, IsAskable};
+ghost use Rattle.mip_roles.specs.Calls.{asked, IsAskable};
 ghost use Rattle.mip_node.specs.Roles.{answers_at, role_after, has_due, IsBy};
 ghost use Rattle.mip_node.specs.Nodes.{noted, counted, with_role, is_at, begun, after_put};
 ghost use Rattle.mip_entries.specs.declared.entry.Entry.TheVariants.{Sent};
@@ -9,8 +9,8 @@ ghost use Rattle.mip_node.specs.Turns.{first_node};
 use crate::role::{act, first_role, has_due};
 use crate::setting::Setting;
 use mip_entries::{Answers, Entry};
-use mip_nodes::{Call, Role};
 use mip_outside::Put;
+use mip_roles::{Call, Role};
 use mip_words::{Bytes, Memory, Moment, NodeId, Why};
 use std::marker::Model;
 

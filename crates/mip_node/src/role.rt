@@ -1,8 +1,8 @@
 //! The role of a node that is run by itself.
 
 ghost use Rattle.std.specs.Prelude.{◌≡◌, ◌<◌, ◌^◌, IfOk, OnOk};
-ghost use Rattle.mip_nodes.specs.Calls.{asked, IsAskable};
-ghost use Rattle.mip_nodes.specs.Hosts.{kind_of};
+ghost use Rattle.mip_roles.specs.Calls.{asked, IsAskable};
+ghost use Rattle.mip_roles.specs.Hosts.{kind_of};
 ghost use Rattle.mip_config.specs.Facts.{address_of};
 ghost use Rattle.mip_node.specs.Roles.{answers_at, role_after, has_due, IsBy, kind_in, is_mobile, new_role_of, detached, first_role};
 ghost use Rattle.mip_node.specs.Settings.{said};
@@ -10,7 +10,7 @@ ghost use Rattle.mip_node.specs.Settings.{said};
 use crate::setting::Setting;
 use mip_config::Role as Named;
 use mip_entries::Answers;
-use mip_nodes::{Call, Kind, Role};
+use mip_roles::{Call, Kind, Role};
 use mip_words::{Address, Memory, Moment};
 
 /// The address that a node is known by: the home address of a mobile.

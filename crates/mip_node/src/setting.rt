@@ -1,12 +1,12 @@
 ghost use Rattle.std.specs.Prelude.{◌≡◌, [], IfOk};
 ghost use Rattle.mip_links.specs.Nets.{new_net};
 ghost use Rattle.mip_outside.specs.Places.{free};
-ghost use Rattle.mip_nodes.specs.Places.{around_seen};
+ghost use Rattle.mip_roles.specs.Places.{around_seen};
 ghost use Rattle.mip_config.specs.Configs.{content};
 
 use mip_config::Config;
 use mip_links::Net;
-use mip_nodes::NetPlace;
+use mip_roles::NetPlace;
 use mip_words::Memory;
 use std::alloc::Global;
 

@@ -20,8 +20,8 @@ use Rattle.mip_rules_correspondent.specs.Rules.{is_data}
 use Rattle.mip_history.specs.Setup.{setup_of}
 use Rattle.mip_history.specs.Passing.{waited_by}
 use Rattle.mip_history.specs.Permitted.{permitted}
-use Rattle.mip_origin.specs.OwnHistoriesLaws.{IsPlainEvent, ArePlain}
-use Rattle.mip_origin.specs.Marked.{EachIsMarked}
+use Rattle.mip_law_origin.specs.OwnHistoriesLaws.{IsPlainEvent, ArePlain}
+use Rattle.mip_law_origin.specs.Marked.{EachIsMarked}
 use Rattle.mip_engine.specs.Payloads.{is_payload}
 use Rattle.mip_replay.proofs.ReadyLaws.{payload_fits, waits_are}
 use Rattle.mip_replay.proofs.BindingLaws.{AreShort}

@@ -5,7 +5,7 @@ pub mod Ready
 pub mod Groups
 pub mod Renewals
 pub mod Pieces
-pub use Rattle.mip_origin.specs.Marked
-pub use Rattle.mip_delivery.specs.Reached
+pub use Rattle.mip_law_origin.specs.Marked
+pub use Rattle.mip_law_delivery.specs.Reached
 pub use Rattle.mip_history.specs.Setup
 pub use Rattle.mip_history.specs.Permitted

@@ -5,7 +5,7 @@ ghost use Rattle.mip_schedule.specs.Contents.{Content};
 ghost use Rattle.mip_schedule.specs.Reading.{reading};
 ghost use Rattle.mip_history.specs.Setup.{setup_of};
 ghost use Rattle.mip_history.specs.Permitted.{permitted};
-ghost use Rattle.mip_origin.specs.Marked.{EachIsMarked};
+ghost use Rattle.mip_law_origin.specs.Marked.{EachIsMarked};
 ghost use Rattle.mip_replay.specs.Bindings.{EachIsBound, EachRepeatIsLate};
 ghost use Rattle.mip_replay.specs.Homes.{HomesAreSent};
 
@@ -13,7 +13,7 @@ use mip_history::{
     accepted_was_handed, held_was_accepted, homes_change_by_updates_or_time, registered_was_sent,
     repeats_come_after_rounds,
 };
-use mip_origin::acceptances_are_marked;
+use mip_law_origin::acceptances_are_marked;
 use mip_schedule::waits_are_short;
 
 /// At each place of the permitted history of every schedule each care-of address that a node holds has its accepted update, and

@@ -6,21 +6,21 @@ ghost use Rattle.mip_history.specs.Permitted.{permitted, run_of};
 ghost use Rattle.mip_schedule.specs.Lawful.{IsLawful};
 ghost use Rattle.mip_symbols.specs.Places.{AreFew};
 ghost use Rattle.mip_schedule.specs.Schedules.{content};
-ghost use Rattle.mip_origin.specs.Marked.{EachIsMarked};
-ghost use Rattle.mip_delivery.specs.Reached.{EachReaches};
+ghost use Rattle.mip_law_origin.specs.Marked.{EachIsMarked};
+ghost use Rattle.mip_law_delivery.specs.Reached.{EachReaches};
 ghost use Rattle.mip_replay.specs.Bindings.{EachIsBound, EachRepeatIsLate};
 ghost use Rattle.mip_replay.specs.Homes.{HomesAreSent};
 ghost use Rattle.mip_engine.specs.Standing.{IsAt};
 
 use crate::happening::happen;
-use mip_delivery::each_delivery_arrives;
 use mip_engine::Engine;
 use mip_entries::History;
 use mip_history::{
     accepted_was_handed, held_was_accepted, homes_change_by_updates_or_time, lives_are_restarts,
     moments_rise, registered_was_sent, repeats_come_after_rounds,
 };
-use mip_origin::acceptances_are_marked;
+use mip_law_delivery::each_delivery_arrives;
+use mip_law_origin::acceptances_are_marked;
 use mip_schedule::{Schedule, few, lawful, spelling_read, waits_are_short};
 use mip_words::Memory;
 use std::alloc::Global;

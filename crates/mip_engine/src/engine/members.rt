@@ -4,17 +4,17 @@ ghost use Rattle.std.specs.Prelude.{◌≡◌, ◌+◌, ◌<◌, ◌^◌, true, 
 ghost use Rattle.std.specs.Option.{option_map_or};
 ghost use Rattle.mip_links.specs.Table.{link_of};
 ghost use Rattle.mip_links.specs.Nets.{holder_of};
-ghost use Rattle.mip_nodes.specs.Calls.{asked, IsAskable};
-ghost use Rattle.mip_nodes.specs.Hosts.{IsFit};
-ghost use Rattle.mip_nodes.specs.Roles.{due_of, homes_of, is_roaming, rows_of};
-ghost use Rattle.mip_nodes.specs.Nodes.{NodeSeen, router_of, seen_router};
+ghost use Rattle.mip_roles.specs.Calls.{asked, IsAskable};
+ghost use Rattle.mip_roles.specs.Hosts.{IsFit};
+ghost use Rattle.mip_roles.specs.Roles.{due_of, homes_of, is_roaming, rows_of};
+ghost use Rattle.mip_roles.specs.Nodes.{NodeSeen, router_of, seen_router};
 ghost use Rattle.mip_engine.specs.Engines.{answers_of, acted, reborn, stood, joined, station_of, lives_at};
 
 use crate::claims::claim_own;
 use crate::engine::Engine;
 use mip_entries::{Answers, Entry};
-use mip_nodes::{Call, HomeRow, Host, Node, Router};
 use mip_nonce::Secrets;
+use mip_roles::{Call, HomeRow, Host, Node, Router};
 use mip_schedule::numbers_of;
 use mip_words::{Address, Holder, LinkId, Memory, Moment, NodeId};
 use std::alloc::Global;

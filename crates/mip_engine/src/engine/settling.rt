@@ -10,14 +10,14 @@ ghost use Rattle.mip_schedule.specs.declared.event.Event.{Event};
 ghost use Rattle.mip_history.specs.Setup.{Setup};
 ghost use Rattle.mip_history.specs.Permitted.{run_of};
 ghost use Rattle.mip_history.specs.Settled.{is_held_right, is_bound_right, is_settled};
-ghost use Rattle.mip_nodes.specs.Roles.{last_of};
+ghost use Rattle.mip_roles.specs.Roles.{last_of};
 ghost use Rattle.mip_engine.specs.Engines.{with_entry};
 ghost use Rattle.mip_engine.specs.Settling.{has_home, has_home_there, is_with_agent, is_placed, is_settled_there, is_settled_to, are_settled};
 ghost use Rattle.mip_engine.specs.Standing.{IsAt};
 
 use crate::engine::Engine;
 use mip_entries::Entry;
-use mip_nodes::Node;
+use mip_roles::Node;
 use mip_words::{Address, Holder, Memory, Moment, NodeId};
 
 /// There is an address, and it is this one.

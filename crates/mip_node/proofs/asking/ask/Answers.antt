@@ -1,4 +1,4 @@
-use Rattle.mip_nodes.specs.Calls.{asked}
+use Rattle.mip_roles.specs.Calls.{asked}
 use Rattle.mip_node.specs.Nodes.{serving}
 use Rattle.mip_node.specs.Settings.{said}
 use Rattle.mip_node.proofs.Growing.{err_any, err_on, not_yet, asked_grew, asked_between}

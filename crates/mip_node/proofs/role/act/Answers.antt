@@ -1,5 +1,5 @@
-use Rattle.mip_nodes.specs.Calls.{asked}
-use Rattle.mip_nodes.specs.Places.{around_seen}
+use Rattle.mip_roles.specs.Calls.{asked}
+use Rattle.mip_roles.specs.Places.{around_seen}
 use Rattle.mip_node.proofs.Placing.{answers_alone, after_alone}
 use Rattle.mip_node.proofs.role.act.Goals as goal
 

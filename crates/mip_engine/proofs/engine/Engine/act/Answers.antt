@@ -5,10 +5,10 @@ use Rattle.mip_entries.specs.declared.answer.Answer.{Answer}
 use Rattle.mip_entries.specs.declared.entry.Entry.TheVariants.{Idle}
 use Rattle.mip_history.specs.Runs.{note}
 use Rattle.mip_history.specs.Nodes.{acts, answered}
-use Rattle.mip_nodes.specs.Calls.{asked}
-use Rattle.mip_nodes.specs.Nodes.{NodeSeen, around_node}
-use Rattle.mip_nodes.specs.RolesLaws.{IsWhole}
-use Rattle.mip_nodes.proofs.WholeLaws.{role_whole, can_ask}
+use Rattle.mip_roles.specs.Calls.{asked}
+use Rattle.mip_roles.specs.Nodes.{NodeSeen, around_node}
+use Rattle.mip_roles.specs.RolesLaws.{IsWhole}
+use Rattle.mip_roles.proofs.WholeLaws.{role_whole, can_ask}
 use Rattle.std.proofs.lemmas.Result.{on_ok_weaker}
 use Rattle.mip_engine.specs.Engines.{EngineSeen, with_entry, station_of}
 use Rattle.mip_engine.proofs.ItemLaws.{map_some, map_none}

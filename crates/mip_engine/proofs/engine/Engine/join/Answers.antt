@@ -1,7 +1,7 @@
 use Rattle.std.proofs.Common.{◌≡◌, ℕ, List, ◌++◌, [], ◌∷◌, length, ◌<◌, sym, ap, ◌∙◌, subst, arith}
-use Rattle.mip_nodes.specs.Nodes.{NodeSeen}
-use Rattle.mip_nodes.specs.Roles.{last_of}
-use Rattle.mip_nodes.proofs.RoleLaws.{new_last}
+use Rattle.mip_roles.specs.Nodes.{NodeSeen}
+use Rattle.mip_roles.specs.Roles.{last_of}
+use Rattle.mip_roles.proofs.RoleLaws.{new_last}
 use Rattle.mip_engine.specs.Engines.{EngineSeen, IsCalm}
 use Rattle.mip_engine.proofs.CalmLaws.{calm_push}
 use Rattle.mip_engine.proofs.engine.Engine.join.Goals as goal

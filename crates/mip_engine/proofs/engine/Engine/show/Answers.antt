@@ -3,8 +3,8 @@ use Rattle.std.specs.Prelude.{slice_get}
 use Rattle.mip_entries.specs.declared.entry.Entry.TheVariants.{Idle}
 use Rattle.mip_history.specs.Runs.{note, notes}
 use Rattle.mip_history.specs.Nodes.{shown}
-use Rattle.mip_nodes.specs.Nodes.{NodeSeen}
-use Rattle.mip_nodes.specs.Roles.{rows_of}
+use Rattle.mip_roles.specs.Nodes.{NodeSeen}
+use Rattle.mip_roles.specs.Roles.{rows_of}
 use Rattle.mip_engine.specs.Engines.{with_entry, with_entries, station_of}
 use Rattle.mip_engine.proofs.ItemLaws.{map_some, map_none}
 use Rattle.mip_engine.proofs.QuietLaws.{at_note, at_ok, at_ok_run}

@@ -1,7 +1,7 @@
 use Rattle.std.proofs.Common.{◌≡◌, List, sym, ap, ◌∙◌}
 use Rattle.std.specs.Prelude.{slice_get, Some}
 use Rattle.mip_entries.specs.declared.entry.Entry.{Entry}
-use Rattle.mip_nodes.specs.Roles.{rows_of}
+use Rattle.mip_roles.specs.Roles.{rows_of}
 use Rattle.mip_engine.specs.Engines.{EngineSeen, with_entry, with_entries}
 use Rattle.mip_engine.proofs.ShowLaws.{rows_more, all_taken}
 use Rattle.mip_engine.proofs.engine.Engine.show_rows.Goals as goal

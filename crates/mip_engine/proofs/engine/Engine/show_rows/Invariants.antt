@@ -1,6 +1,6 @@
 use Rattle.std.specs.Prelude.{◌≡◌, take, Some, slice_get}
-use Rattle.mip_nodes.specs.Nodes.{NodeSeen}
-use Rattle.mip_nodes.specs.Roles.{rows_of}
+use Rattle.mip_roles.specs.Nodes.{NodeSeen}
+use Rattle.mip_roles.specs.Roles.{rows_of}
 use Rattle.mip_engine.specs.Engines.{with_entries}
 use Rattle.mip_engine.proofs.engine.Engine.show_rows.Given as goal
 

@@ -1,7 +1,7 @@
 use Rattle.std.proofs.Common.{◌≡◌, ◌++◌, subst, ap, rules}
 use Rattle.std.specs.Prelude.{OnOk, option_map}
 use Rattle.mip_rules_mobile.specs.Doing.{transition_of}
-use Rattle.mip_mobility.specs.Seen.{ContextSeen, Shows}
+use Rattle.mip_mobile_calls.specs.Seen.{ContextSeen, Shows}
 use Rattle.mip_transmission.specs.Putting.{PutsAll, PutsFront, puts_of, sends_of}
 use Rattle.mip_mobile.specs.Handling.{Handles, BreaksOff}
 use Rattle.mip_transmission.proofs.PutLaws.{on-err}

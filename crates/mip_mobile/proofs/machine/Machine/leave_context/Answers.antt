@@ -5,7 +5,7 @@ use Rattle.mip_rules_mobile.specs.Steps.{Called}
 use Rattle.mip_rules_mobile.specs.Known.{Known}
 use Rattle.mip_rules_mobile.specs.HomeQuestions.{home_of}
 use Rattle.mip_rules_mobile.specs.Transitions.{Transition, begun, noted}
-use Rattle.mip_mobility.specs.Seen.{Shows}
+use Rattle.mip_mobile_calls.specs.Seen.{Shows}
 use Rattle.mip_mobile.specs.Placing.{leave_at}
 use Rattle.mip_mobile.specs.Handling.{moment_of}
 use Rattle.mip_mobile.proofs.Placed.{leave-transition}

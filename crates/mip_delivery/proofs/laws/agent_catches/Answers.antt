@@ -1,5 +1,0 @@
-use Rattle.mip_delivery.proofs.Passing.{caught}
-use Rattle.mip_delivery.proofs.laws.agent_catches.Goals as goal
-
-pub returns : goal.returns
-returns c = caught

@@ -1,5 +1,0 @@
-use Rattle.mip_delivery.proofs.Sending.{sent_by_correspondent}
-use Rattle.mip_delivery.proofs.laws.correspondent_sends.Goals as goal
-
-pub returns : goal.returns
-returns c = sent_by_correspondent

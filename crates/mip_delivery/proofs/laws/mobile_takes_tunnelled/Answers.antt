@@ -1,5 +1,0 @@
-use Rattle.mip_delivery.proofs.Taking.{taken_tunnelled}
-use Rattle.mip_delivery.proofs.laws.mobile_takes_tunnelled.Goals as goal
-
-pub returns : goal.returns
-returns c = taken_tunnelled

@@ -1,5 +1,0 @@
-use Rattle.mip_delivery.proofs.Ordering.{orderly_of}
-use Rattle.mip_delivery.proofs.laws.schedules_are_orderly.Goals as goal
-
-pub returns : goal.returns
-returns c = orderly_of

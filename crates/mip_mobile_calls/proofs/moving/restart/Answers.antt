@@ -1,0 +1,16 @@
+use Rattle.std.proofs.Common.{subst, OnOk}
+use Rattle.mip_rules_mobile.specs.declared.attachment.Attachment.{Attachment}
+use Rattle.mip_mobile_calls.proofs.Contexts.{transition_at, from-context}
+use Rattle.mip_mobile_registration.specs.Seen.{Shows}
+use Rattle.mip_rules_mobile.specs.Transitions.{noted}
+use Rattle.mip_rules_mobile.specs.Steps.{Restarts}
+use Rattle.mip_rules_mobile.specs.MovingRules.{registers_if_away, restarts}
+use Rattle.mip_mobile_calls.proofs.moving.restart.Goals as goal
+
+pub returns : goal.returns
+unfolding restarts
+returns c =
+    let d = c.args.context.now in
+    from-context d (λ t. OnOk c.register_if_away.result (Shows c.register_if_away.new.context (restarts c.args.secrets t)))
+    (λ steps shows. subst (λ (s : Attachment). OnOk c.register_if_away.result (Shows c.register_if_away.new.context (registers_if_away s (noted (Restarts c.args.secrets) (transition_at d steps))))) c.standing-standing.ensures
+    (c.register_if_away.ensures _ (c.in_ok-restart.ensures (transition_at d steps) shows)))

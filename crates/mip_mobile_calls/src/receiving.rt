@@ -1,0 +1,135 @@
+//! What a mobile does about a packet that it is handed (RFC 6275 sections 9.2, 9.3.1 and 11.3.3).
+
+ghost use Rattle.std.specs.Prelude.{◌≡◌, ◌≤◌, ◌<◌, ◌-◌, ◌^◌, List, ℕ, length, OnOk, IsTrue, false, Ok, option_map};
+ghost use Rattle.mip_ipv6.specs.Packet.{packet as tree, is_routable_if_any};
+ghost use Rattle.mip_mobhdr.specs.Said.{said};
+ghost use Rattle.mip_packets.specs.Says.{message_in};
+ghost use Rattle.mip_reception.specs.Checks.{checked};
+ghost use Rattle.mip_rules_correspondent.specs.Rules.{place_in};
+ghost use Rattle.mip_rules_mobile.specs.ReceivingRules.{after_checks, is_address_of, is_routed, takes_route, standing_of, takes};
+ghost use Rattle.mip_rules_mobile.specs.Transitions.{Transition};
+ghost use Rattle.mip_mobile_registration.specs.Seen.{Shows};
+
+use crate::handed::Handed;
+use crate::roles::take_role;
+use crate::tunnelled::{open, refuse};
+use mip_ipv6::{Head, PacketRef, read_packet};
+use mip_mobhdr::Message;
+use mip_mobile_registration::call_context::CallContext;
+use mip_reception::{AddressMatch, check, packet_why};
+use mip_rules_mobile::Attachment;
+use mip_words::protocol::IPV6;
+use mip_words::{Address, Memory, u16_at};
+use std::alloc::Global;
+
+/// The mobile's address: the home address at home, the care-of address away.
+fn is_address_of(standing: Attachment, home: Address, address: Address) -> bool
+    ensures { result ≡ is_address_of standing home address }
+{
+    match standing {
+        Attachment::Detached => false,
+        Attachment::AtHome => address.0 == home.0,
+        Attachment::Away { careof } => address.0 == careof.0,
+    }
+}
+
+fn is_routed(home: Address, route: Option<Address>) -> bool
+    ensures { result ≡ is_routed home route }
+{
+    match route {
+        Some(route) => route.0 == home.0,
+        None => false,
+    }
+}
+
+/// Away, a routing header may name the home address.
+fn takes_route(standing: Attachment, home: Address, route: Option<Address>) -> bool
+    ensures { result ≡ takes_route standing home route }
+{
+    match standing {
+        Attachment::Detached => false,
+        Attachment::AtHome => false,
+        Attachment::Away { .. } => is_routed(home, route),
+    }
+}
+
+/// What a packet's addresses are to the mobile.
+fn standing_of(context: &CallContext, head: &Head) -> AddressMatch
+    ensures { result ≡ standing_of context.now.known context.now.moment head.now }
+{
+    let standing = context.standing();
+    let home = context.home();
+    AddressMatch {
+        is_mine: is_address_of(standing, home, head.destination),
+        takes_route: takes_route(standing, home, head.route),
+        holds: context.holds_option(head.source, head.home),
+    }
+}
+
+/// A packet that passed the checks: a tunnel is opened.
+fn take_passed(
+    alloc: Global,
+    context: &mut CallContext,
+    handed: &Handed,
+    packet: &PacketRef<'_>,
+    message: &Option<Message<'_>>,
+) -> Result<(), Memory>
+    requires plain { IsTrue (is_routable_if_any packet.now.head.home) }
+    requires short { length packet.now.body.now ≤ 65535 }
+    requires read { message_in (tree packet.now) ≡ option_map said message.now }
+    requires straight { handed.now.tunnelled ≡ false }
+    ensures { (bytes : List ℕ) (t : Transition) → Shows context.old t
+        → OnOk result (Shows context.new (after_checks handed.now.number handed.now.shield bytes (tree packet.now) (Ok (option_map said message.now)) t)) }
+{
+    if packet.head.proto == IPV6 {
+        open(alloc, context, handed, packet)
+    } else {
+        take_role(alloc, context, handed, packet, message)
+    }
+}
+
+/// A packet that was read is checked.
+fn take_packet(
+    alloc: Global,
+    context: &mut CallContext,
+    handed: &Handed,
+    bytes: &[u8],
+    packet: &PacketRef<'_>,
+) -> Result<(), Memory>
+    requires plain { IsTrue (is_routable_if_any packet.now.head.home) }
+    requires short { length packet.now.body.now ≤ 65535 }
+    requires placed { packet.now.place ≡ place_in bytes.now (tree packet.now) }
+    requires near { packet.now.place < 2 ^ 32 - 1 }
+    requires straight { handed.now.tunnelled ≡ false }
+    ensures { (t : Transition) → Shows context.old t → OnOk result (Shows context.new
+        (after_checks handed.now.number handed.now.shield bytes.now (tree packet.now)
+        (checked (standing_of context.old.known context.old.moment packet.now.head) (place_in bytes.now (tree packet.now)) (tree packet.now)) t)) }
+{
+    match check(packet, standing_of(context, &packet.head)) {
+        Err(refusal) => refuse(
+            alloc,
+            context,
+            handed.number,
+            bytes,
+            packet.head.source,
+            refusal,
+        ),
+        Ok(message) => take_passed(alloc, context, handed, packet, &message),
+    }
+}
+
+/// A packet is handed to it.
+pub fn take_bytes(
+    alloc: Global,
+    context: &mut CallContext,
+    handed: &Handed,
+    bytes: &[u8],
+) -> Result<(), Memory>
+    requires straight { handed.now.tunnelled ≡ false }
+    ensures { (t : Transition) → Shows context.old t → OnOk result (Shows context.new (takes handed.now.number handed.now.shield bytes.now t)) }
+{
+    match read_packet(bytes) {
+        Err(fault) => context.drop_packet(handed.number, packet_why(fault)),
+        Ok(packet) => take_packet(alloc, context, handed, bytes, &packet),
+    }
+}

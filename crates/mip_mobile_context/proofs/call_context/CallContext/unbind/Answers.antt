@@ -1,0 +1,19 @@
+use Rattle.std.proofs.Common.{ap, ◌∙◌, List}
+use Rattle.mip_bulist.specs.Lists.{ListSeen}
+use Rattle.mip_bulist.specs.Timers.{without_timer}
+use Rattle.mip_bulist.specs.declared.work.Work.TheVariants as works
+use Rattle.mip_rules_mobile.specs.declared.peer.Peer.{Peer}
+use Rattle.mip_rules_mobile.specs.RowQuestions.{with_peer, unbound}
+use Rattle.mip_rules_mobile.specs.Questions.{after}
+use Rattle.mip_rules_mobile.specs.Steps.{Unbinds}
+use Rattle.mip_mobile_state.specs.Seen.{seen}
+use Rattle.mip_mobile_context.proofs.Noted.{shown}
+use Rattle.mip_mobile_context.proofs.call_context.CallContext.unbind.Goals as goal
+
+pub returns : goal.returns
+unfolding after
+returns c = λ t shows.
+    shown (Unbinds c.args.row c.args.peer) c.args.self.now c.self.inside.moment.0 (seen c.self.inside.known) _ c.self.inside.answers c.push.new.self t c.self.view_is c.in_ok-push.ensures.ok
+    (ap (λ (p : List Peer). record (seen c.self.inside.known) { list = c.stop-ending.new.self; peers = p }) c.unbind.ensures
+    ∙ ap (λ (l : ListSeen). record (seen c.self.inside.known) { list = l; peers = with_peer c.args.row unbound c.self.inside.known.peers })
+    (c.stop-ending.ensures.list ∙ ap (λ (l : ListSeen). record { rows = l.rows; timers = without_timer (works.End c.args.row) l.timers }) c.stop-renewing.ensures.list)) shows

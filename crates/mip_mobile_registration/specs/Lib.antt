@@ -1,0 +1,1 @@
+pub use Rattle.mip_mobile_context.specs.Seen

@@ -1,6 +1,0 @@
-pub mod Contexts
-pub mod Rounds
-pub mod Named
-pub mod Inner
-pub mod Fails
-pub use Rattle.mip_registration.proofs.Noted

@@ -1,3 +1,0 @@
-pub mod Inners
-pub mod Rounds
-pub use Rattle.mip_registration.specs.Seen

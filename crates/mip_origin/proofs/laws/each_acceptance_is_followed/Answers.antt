@@ -1,5 +1,0 @@
-use Rattle.mip_origin.proofs.Histories.{followed_permitted}
-use Rattle.mip_origin.proofs.laws.each_acceptance_is_followed.Goals as goal
-
-pub returns : goal.returns
-returns c = λ content. followed_permitted content

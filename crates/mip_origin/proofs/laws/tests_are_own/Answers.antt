@@ -1,5 +1,0 @@
-use Rattle.mip_origin.proofs.Own.{call-own-tests}
-use Rattle.mip_origin.proofs.laws.tests_are_own.Goals as goal
-
-pub returns : goal.returns
-returns c = λ me k now call plain. call-own-tests me k now call plain

@@ -1,1 +1,0 @@
-pub use Rattle.mip_call_context.specs.Seen
