@@ -4,8 +4,10 @@
 mod command;
 mod draft;
 mod forms;
+mod given;
 mod parsing;
 
 pub use command::Command;
 pub use draft::Draft;
+pub use given::words;
 pub use parsing::parse;

@@ -1,6 +1,6 @@
 -- Laws and invariants of Configs: only proofs stand on them.
 use Rattle.mip_config.specs.declared.config_reading.Parts.{Parts}
-use Rattle.mip_config.specs.Configs.{Content}
+use Rattle.mip_config.specs.Contents.{Content}
 
 abbrev pub parts_content : Parts → Content
 parts_content c = record {

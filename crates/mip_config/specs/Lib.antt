@@ -1,4 +1,5 @@
 pub mod Facts
+pub mod Contents
 pub mod Configs
 pub mod ConfigsLaws
 pub mod Rows

@@ -7,7 +7,7 @@ use Rattle.mip_symbols.specs.Kinds as kinds
 use Rattle.mip_schedule.specs.Faults.{Wrong}
 use Rattle.mip_schedule.specs.Reading.{bad_form, head_line, version_line, seed_line}
 use Rattle.mip_drafts.specs.Walk.{Walked, walk}
-use Rattle.mip_config.specs.Configs.{Content}
+use Rattle.mip_config.specs.Contents.{Content}
 use Rattle.mip_config.specs.Drafts.{nothing, line_onto}
 use Rattle.mip_config.specs.Rows.{port}
 use Rattle.mip_config.specs.declared.config_draft.ConfigDraft.{ConfigDraft}

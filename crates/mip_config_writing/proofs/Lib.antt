@@ -9,3 +9,4 @@ pub mod TextReadings
 pub mod RowsWithin
 pub mod GrammarLaws
 pub mod ShortLaws
+pub mod ReadSet

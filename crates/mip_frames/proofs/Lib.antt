@@ -1,1 +1,3 @@
 mod FrameLaws
+mod SendingLaws
+pub mod Listening

@@ -20,11 +20,11 @@ port_or fallback (Some route) = Some route.port
 abbrev pub port_to : List Route → Option ℕ → ℕ → Option ℕ
 port_to routes fallback prefix = port_or fallback (find (is_route_to prefix) routes)
 
--- the port that a packet goes to: its destination is in the bytes 24 to 39 of its header (RFC 8200 section 3). Fewer bytes have no
--- destination, and no port
+-- the port that a packet goes to: its destination is in the bytes 24 to 39 of its header (RFC 8200 section 3). Fewer bytes than a
+-- header has name no destination, so no route is for them, and they go to the fallback
 unfoldable pub port_of : List Route → Option ℕ → List ℕ → Option ℕ
 port_of routes fallback packet =
-    if nat_lt (length packet) 40 then None
+    if nat_lt (length packet) 40 then fallback
     else port_to routes fallback (prefix_of (address_at 24 packet).0)
 
 -- what becomes of a frame that goes to this port: one of more than 4,096 bytes is not sent

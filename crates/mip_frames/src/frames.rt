@@ -1,13 +1,16 @@
-ghost use Rattle.std.specs.Prelude.{◌≡◌, ◌≤◌, false, true, None, [], Ok, IfOk, OnOk, OnErr, IsErrOf};
+ghost use Rattle.std.specs.Prelude.{◌≡◌, ◌≤◌, ◌++◌, false, true, [], Ok, IfOk, OnOk, OnErr, IsErrOf};
 ghost use Rattle.std.proofs.Common.{◌∙◌, refl};
 ghost use Rattle.std.specs.Borrow.{sem, Lends};
 ghost use Rattle.std.specs.Option.{option_map};
 ghost use mir.Syntax.{named};
 ghost use Rattle.mip_outside.specs.Cause.{Rose};
+ghost use Rattle.mip_outside.specs.LinkCalls.{granted};
 ghost use Rattle.mip_outside.specs.Wires.{is_sent};
+ghost use Rattle.mip_frames.specs.Framing.{IsInRange};
 ghost use Rattle.mip_frames.specs.contracts.frames.Frames.{the_row};
 ghost use Rattle.mip_frames.specs.Routing.{put_for, sent_for};
 ghost use Rattle.mip_frames.specs.Lending.{IsSameWire, with_link};
+ghost use Rattle.mip_frames.specs.Sending.{asked_by, AsksOnce, packets_of};
 
 use crate::routes::Routes;
 use crate::sending::send_frame;
@@ -65,6 +68,9 @@ impl<'a, L: Link> Frames<'a, L> {
         ensures sent { OnOk result (L.sent self.new.link.now
             ≡ option_map (sent_for self.old.routes.now self.old.fallback shield packet.now) (L.sent self.old.link.now)) }
         ensures err { OnErr result (L.sent self.new.link.now ≡ L.sent self.old.link.now) }
+        ensures asked { IfOk result (λ put. L.calls self.new.link.now ≡ L.calls self.old.link.now ++ granted (asked_by put)) }
+        ensures ends { AsksOnce (IsErrOf result PutFault.Failed) (IsErrOf result PutFault.Memory) (L.calls self.old.link.now) (L.calls self.new.link.now) }
+        ensures range { IsInRange shield }
         ensures kept { (L.coming self.new.link.now ≡ L.coming self.old.link.now) × (L.port self.new.link.now ≡ L.port self.old.link.now) }
         ensures no_fewer { L.faults self.old.link.now ≤ L.faults self.new.link.now }
         ensures cause { IsErrOf result PutFault.Failed → Rose (L.faults self.old.link.now) (L.faults self.new.link.now) }
@@ -85,7 +91,7 @@ impl<'a, L: Link> Frames<'a, L> {
 impl<'a, L: Link> Wire for Frames<'a, L> {
     ghost gives = { λ _. true };
 
-    ghost out = { λ _. None };
+    ghost out = { λ f. packets_of (L.sent f.link.now) };
 
     ghost answered = { λ f. f.answered.items };
 
@@ -97,6 +103,7 @@ impl<'a, L: Link> Wire for Frames<'a, L> {
 
     ghost same_since = { λ _ _ _ first next. (next.0 ∙ first.0, next.1 ∙ first.1, next.2 ∙ first.2) };
 
+    #[tactic(auto, using(crate::proofs::SendingLaws::out_told))]
     fn put(&mut self, shield: Option<Shield>, packet: &[u8]) -> Result<Put, PutFault> {
         let answer = self.send(shield, packet);
         self.answered = self.answered.with(&answer);

@@ -4,7 +4,7 @@ ghost use Rattle.mip_frames.specs.Failing.{FailingLink};
 
 use crate::calls::Calls;
 use crate::faults::Faults;
-use mip_outside::{Failed, Link, PutFault, SureLink};
+use mip_outside::{Asked, Failed, Link, PutFault, SureLink};
 use mip_words::Memory;
 use std::alloc::Global;
 use std::marker::Model;
@@ -40,7 +40,7 @@ impl ListLink {
         receives: &[u64],
     ) -> Result<ListLink, Memory>
         ensures { IfOk result (λ link. link ≡ record {
-          traffic = record { sent = []; coming = []; port = None };
+          traffic = record { sent = []; coming = []; port = None; calls = [] };
           faults = 0;
           listens = record { made = 0; fails = listens.now };
           sends = record { made = 0; fails = sends.now };
@@ -82,10 +82,13 @@ impl Link for ListLink {
 
     ghost port = { λ link. Some link.traffic.port };
 
+    ghost calls = { λ link. link.traffic.calls };
+
     ghost faults = { λ link. link.faults };
 
     fn listen_on(&mut self, to: u16) -> Result<(), Failed> {
         if self.listens.next_fails() {
+            self.link.tell(Asked::Listen, Some(PutFault::Failed));
             return Err(self.faults.raise());
         }
         self.link.listen_on(to)
@@ -93,6 +96,7 @@ impl Link for ListLink {
 
     fn send(&mut self, to: u16, datagram: &[u8]) -> Result<(), PutFault> {
         if self.sends.next_fails() {
+            self.link.tell(Asked::Send, Some(PutFault::Failed));
             self.faults.raise();
             return Err(PutFault::Failed);
         }
@@ -101,6 +105,7 @@ impl Link for ListLink {
 
     fn receive(&mut self, into: &mut [u8], wait_ms: u64) -> Result<Option<usize>, Failed> {
         if self.receives.next_fails() {
+            self.link.tell(Asked::Receive, Some(PutFault::Failed));
             return Err(self.faults.raise());
         }
         self.link.receive(into, wait_ms)

@@ -60,14 +60,14 @@ impl Routes {
         self.list.get(place)
     }
 
-    /// The port that a packet goes to: that of the first route with its destination's prefix, else the fallback. What is too
-    /// short to have a destination has none.
+    /// The port that a packet goes to: that of the first route with its destination's prefix, else the fallback. No route is for
+    /// what is too short to have a destination.
     #[tactic(auto, unfolding(crate::specs::Routing::port_of))]
     pub fn port_of(&self, fallback: Option<u16>, packet: &[u8]) -> Option<u16>
         ensures { result ≡ port_of self.now fallback packet.now }
     {
         if packet.len() < HEADER {
-            return None;
+            return fallback;
         }
         let destination = Address::at(packet, DESTINATION);
         port_to(&self.list, fallback, destination.prefix())

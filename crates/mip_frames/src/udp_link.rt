@@ -1,7 +1,10 @@
-ghost use Rattle.std.specs.Prelude.{◌≡◌, ◌≤◌, ℕ, None, length, IfOk, IfSome};
+ghost use Rattle.std.specs.Prelude.{◌≡◌, ◌≤◌, ◌∷◌, ◌++◌, [], None, Some, length, IfOk, IfSome};
+ghost use Rattle.mip_outside.specs.Cause.{Rose};
+ghost use Rattle.mip_outside.specs.LinkCalls.{called};
 
 use crate::faults::Faults;
-use mip_outside::{Failed, Link, PutFault};
+use mip_ghost_log::GhostLog;
+use mip_outside::{Asked, Failed, Link, LinkCall, PutFault};
 use std::io;
 use std::io::ErrorKind;
 use std::marker::Model;
@@ -15,23 +18,44 @@ pub struct UdpLink<N: Net + Drop> {
     net: N,
     socket: Option<UdpSocket>,
     faults: Faults,
+    calls: GhostLog<LinkCall>,
 }
 
 impl<N: Net + Drop> Model for UdpLink<N> {
-    ghost Value = { ℕ };
+    ghost use Rattle.mip_frames.specs.Failing.{Untold};
 
-    ghost view = { λ l. l.faults.0 };
+    ghost Value = { Untold };
+
+    ghost view = { λ l. record { faults = l.faults.0; calls = l.calls.items } };
 }
 
 impl<N: Net + Drop> UdpLink<N> {
     pub fn new(net: N) -> UdpLink<N>
-        ensures { result ≡ 0 }
+        ensures { result ≡ record { faults = 0; calls = [] } }
     {
         UdpLink {
             net,
             socket: None,
             faults: Faults(0),
+            calls: GhostLog::new(),
         }
+    }
+
+    /// Tells a call and its answer.
+    fn tell(&mut self, asked: Asked, fault: Option<PutFault>)
+        ensures { self.new ≡ record self.old { calls = self.old.calls ++ called asked fault ∷ [] } }
+    {
+        self.calls = self.calls.with(&LinkCall { asked, fault });
+    }
+
+    /// Tells a call that failed, and counts it.
+    fn fail(&mut self, asked: Asked) -> Failed
+        ensures calls { self.new.calls ≡ self.old.calls ++ called asked (Some PutFault.Failed) ∷ [] }
+        ensures rose { Rose self.old.faults self.new.faults }
+        ensures no_fewer { self.old.faults ≤ self.new.faults }
+    {
+        self.tell(asked, Some(PutFault::Failed));
+        self.faults.raise()
     }
 }
 
@@ -42,30 +66,37 @@ impl<N: Net + Drop> Link for UdpLink<N> {
 
     ghost port = { λ _. None };
 
-    ghost faults = { λ faults. faults };
+    ghost calls = { λ link. link.calls };
+
+    ghost faults = { λ link. link.faults };
 
     fn listen_on(&mut self, to: u16) -> Result<(), Failed> {
         match UdpSocket::bind(&self.net, here(to)) {
             Ok(socket) => {
                 self.socket = Some(socket);
+                self.tell(Asked::Listen, None);
                 Ok(())
             }
-            Err(_) => Err(self.faults.raise()),
+            Err(_) => Err(self.fail(Asked::Listen)),
         }
     }
 
     fn send(&mut self, to: u16, datagram: &[u8]) -> Result<(), PutFault> {
         if is_sent(&self.socket, to, datagram) {
+            self.tell(Asked::Send, None);
             return Ok(());
         }
-        self.faults.raise();
+        self.fail(Asked::Send);
         Err(PutFault::Failed)
     }
 
     fn receive(&mut self, into: &mut [u8], wait_ms: u64) -> Result<Option<usize>, Failed> {
         match received(&self.socket, into, wait_ms) {
-            Ok(answer) => Ok(answer),
-            Err(_) => Err(self.faults.raise()),
+            Ok(answer) => {
+                self.tell(Asked::Receive, None);
+                Ok(answer)
+            }
+            Err(_) => Err(self.fail(Asked::Receive)),
         }
     }
 }

@@ -1,6 +1,6 @@
 -- A call to a node keeps a run.
-use Rattle.std.proofs.Common.{◌≡◌, ℕ, List, [], ◌∷◌, Bool, true, false, refl, sym, ap, ◌∙◌, length-set}
-use Rattle.std.specs.Prelude.{Option, Some, None, slice_get, ◌||◌}
+use Rattle.std.proofs.Common.{◌≡◌, ℕ, List, Bool, true, false, refl, sym, ap, ◌∙◌, length-set}
+use Rattle.std.specs.Prelude.{Option, Some, None, slice_get}
 use Rattle.std.proofs.lemmas.Option.{slice_get_within}
 use Rattle.mip_words.specs.declared.address.Address.{Address}
 use Rattle.mip_entries.specs.declared.entry.Entry.{Entry}
@@ -28,7 +28,8 @@ use Rattle.mip_history.specs.Runs.{Run, note, agent_past_at, with_agent_past}
 use Rattle.mip_history.specs.Calls.{Call, Take, Send, Refresh, Tick, Plan, Hear, Attach, Leave, Ask, Restart, for_agent}
 use Rattle.mip_history.specs.Knowing.{link_or_first, now_in, identity_in, known_in, agent_of, agent_known_in, mobile_known_in, around_in}
 use Rattle.mip_history.specs.Nodes.{after_agent_transition, after_mobile_transition, asks, by_kind, by_host, acts}
-use Rattle.mip_history.proofs.Runs.{IsRun, IsQuiet, Goes, quiet_same, quiet_then, quiet_notes, is_met, goes_quietly}
+use Rattle.mip_history.proofs.Quiet.{is_told}
+use Rattle.mip_history.proofs.Runs.{IsRun, IsQuiet, Goes, quiet_same, quiet_then, quiet_one, goes_quietly}
 use Rattle.mip_history.proofs.Answering.{quiet_whole}
 use Rattle.mip_history.proofs.Handing.{after_quiet_transition}
 use Rattle.mip_history.proofs.PartTransitions.{mobile_transition}
@@ -37,8 +38,8 @@ use Rattle.mip_history.proofs.PartTransitions.{mobile_transition}
 pub stays : (s : Setup) (run : Run) → IsRun s run → Goes s run run
 stays s run is = goes_quietly s run run is (quiet_same s run)
 
-pub noted_goes : (s : Setup) (run : Run) (e : Entry) → IsRun s run → is_met e ≡ false → Goes s run (note e run)
-noted_goes s run e is quiet = goes_quietly s run (note e run) is (quiet_notes s (e ∷ []) run (ap (λ (b : Bool). b || false) quiet))
+pub noted_goes : (s : Setup) (run : Run) (e : Entry) → IsRun s run → is_told e ≡ false → Goes s run (note e run)
+noted_goes s run e is quiet = goes_quietly s run (note e run) is (quiet_one s run e quiet)
 
 -- the pasts of agents are nothing to correspondents and mobiles
 pub quiet_agent_past : (s : Setup) (n : ℕ) (past : List (Stamped agents.Step)) (run : Run) → IsQuiet s run (with_agent_past n past run)
@@ -61,7 +62,7 @@ quiet_agent_transition s n own me k now c run =
 
 -- what is nothing to a node leaves `idle`
 quiet_asks : {C : Type 0} (s : Setup) (does : C → Run → Run) (call : Option C) (run : Run) → ((c : C) → IsQuiet s run (does c run)) → IsQuiet s run (asks does call run)
-quiet_asks s does None run quiet = quiet_notes s (entries.Idle ∷ []) run refl
+quiet_asks s does None run quiet = quiet_one s run entries.Idle refl
 quiet_asks s does (Some call) run quiet = quiet call
 
 module _ (s : Setup) (n : ℕ) (call : Call) (run : Run) (is : IsRun s run) where

@@ -1,6 +1,6 @@
 -- What a node does is quiet, unless it accepts an update.
 use Rattle.std.proofs.Common.{◌≡◌, ◌≢◌, ℕ, List, [], ◌∷◌, Bool, true, false, refl, sym, ap, ◌∙◌}
-use Rattle.std.specs.Prelude.{is_some, length, ◌||◌}
+use Rattle.std.specs.Prelude.{None, is_some, length, ◌||◌}
 use Rattle.std.specs.List.{list_any, AllByRecursion}
 use Rattle.std.proofs.lemmas.List.Folds.{list_any-append}
 use Rattle.std.proofs.lemmas.Bool.{or_parts}
@@ -8,7 +8,7 @@ use Rattle.mip_entries.specs.declared.answer.Answer.{Answer}
 use Rattle.mip_entries.specs.declared.answer.Answer.TheVariants.{Send, Note}
 use Rattle.mip_entries.specs.declared.entry.Entry.{Entry}
 use Rattle.mip_entries.specs.declared.entry.Entry.TheVariants as entries
-use Rattle.mip_entries.specs.Completed.{named}
+use Rattle.mip_entries.specs.Completed.{node_id, named}
 use Rattle.mip_provenance.specs.declared.mark.Mark.{Mark}
 use Rattle.mip_provenance.specs.declared.mark.Mark.TheVariants.{Origin, Forged}
 use Rattle.mip_provenance.specs.Entries.{mark_entry}
@@ -22,12 +22,11 @@ use Rattle.mip_history.specs.SetupLaws.{is_correspondent_at}
 use Rattle.mip_history.specs.Runs.{Run}
 use Rattle.mip_history.specs.Nodes.{left_by, answered_one, answered}
 use Rattle.mip_history.specs.Bound.{is_accepted}
-use Rattle.mip_history.proofs.Runs.{IsQuiet, quiet_same, quiet_then, quiet_notes, is_met}
-use Rattle.mip_history.proofs.Posts.{quiet_sent}
-use Rattle.mip_history.proofs.Claiming.{quiet_claims, quiet_gives_up}
+use Rattle.mip_history.proofs.Quiet.{is_told}
+use Rattle.mip_history.proofs.Runs.{IsQuiet, quiet_same, quiet_then, quiet_one, quiet_posted, quiet_claims, quiet_gives_up}
 
 -- a mark says nothing of all this
-pub mark_quiet : (m : Mark) → is_met (mark_entry m) ≡ false
+pub mark_quiet : (m : Mark) → is_told (mark_entry m) ≡ false
 mark_quiet (Origin hot cot update) = refl
 mark_quiet (Forged cause) = refl
 
@@ -45,7 +44,7 @@ quiet_left s n run (entries.Taken who link address holder) none = quiet_claims s
 quiet_left s n run (entries.Released who link address) none = quiet_gives_up s n address run
 quiet_left s n run (entries.Restarted node) none = quiet_same s run
 quiet_left s n run (entries.Accepted node number home binding careof sequence end i j) none = absurd cc
-quiet_left s n run entry none = quiet_notes s (named n 0 (length run.posts) entry ∷ []) run refl
+quiet_left s n run entry none = quiet_one s run (named n 0 (length run.posts) entry) refl
 
 -- an answer by which an update is accepted
 abbrev pub is_accepting : Answer → Bool
@@ -53,7 +52,8 @@ is_accepting (Send shield packet) = false
 is_accepting (Note entry) = is_accepted entry
 
 quiet_answer : (s : Setup) (n from : ℕ) (run : Run) (answer : Answer) → is_accepting answer ≡ false → IsQuiet s run (answered_one s n from run answer)
-quiet_answer s n from run (Send shield packet) none = quiet_sent s (record { from = from; shield = shield; packet = packet }) n (is_some shield) run
+quiet_answer s n from run (Send shield packet) none =
+    quiet_posted s (record { from = from; shield = shield; packet = packet }) None (entries.Sent (length run.posts) (node_id n) (is_some shield) packet) run refl
 quiet_answer s n from run (Note entry) none = quiet_left s n run entry none
 
 pub quiet_answers : (s : Setup) (n from : ℕ) (run : Run) (answers : List Answer) → list_any is_accepting answers ≡ false

@@ -2,7 +2,7 @@
 use Rattle.std.proofs.Common.{◌≡◌, ℕ, zero, suc, ◌+◌, ◌<◌, ◌≤◌, List, [], ◌∷◌, ◌++◌, Bool, true, false, length, max, ◌⊎◌, inl, inr, refl, sym, ap, ◌∙◌, subst, arith}
 use Rattle.std.specs.Prelude.{fold, map, not, Option, Some, None, unwrap_or, is_some, ◌==◌, ◌&&◌, nat_lt, if◌then◌else◌, slice_get, slice_index_or, slice_set}
 use Rattle.std.specs.List.{AllByRecursion}
-use Rattle.std.proofs.lemmas.Bool.{cond_both}
+use Rattle.std.proofs.lemmas.Bool.{cond_both, and_parts, eqb-true}
 use Rattle.std.proofs.lemmas.Bool.Decides.{nat_tests}
 use Rattle.std.proofs.lemmas.List.{append_assoc, append-nil}
 use Rattle.std.proofs.lemmas.List.Sums.{fold-append}
@@ -187,14 +187,12 @@ later a b = omega arith
 not_later : (target due : ℕ) → nat_lt target due ≡ false → due ≤ target
 not_later target due test = grind (arith, nat_tests, test)
 
-comes_now : (s : Setup) (m : ℕ) (w : Waiting) (target : ℕ) → now_in s w.run ≤ target → m ≤ target → now_in s (comes_to s m w).run ≤ target
-comes_now s m w target early within = by (w.told && (now_in s w.run == m))
+pub comes_now : (s : Setup) (m : ℕ) (w : Waiting) → now_in s (comes_to s m w).run ≡ m
+comes_now s m w = by (w.told && (now_in s w.run == m)) refl
   where
-    by : (b : Bool) → now_in s (let x : Waiting = (if b then w else record { run = note (entries.At (record { 0 = m })) w.run; told = true }) in x.run) ≤ target
-    by true = early
-    by false =
-        subst (λ (t : ℕ). t ≤ target)
-        (sym (fold-append (λ (at : ℕ) (x : Entry). unwrap_or (moment_says x) at) s.start w.run.past (entries.At (record { 0 = m }) ∷ []))) within
+    by : (b : Bool) → (w.told && (now_in s w.run == m)) ≡ b → now_in s (let x : Waiting = (if b then w else record { run = note (entries.At (record { 0 = m })) w.run; told = true }) in x.run) ≡ m
+    by true test = eqb-true (now_in s w.run) m (and_parts w.told (now_in s w.run == m) test).1
+    by false test = fold-append (λ (at : ℕ) (x : Entry). unwrap_or (moment_says x) at) s.start w.run.past (entries.At (record { 0 = m }) ∷ [])
 
 ticks_now : (s : Setup) (n : ℕ) (run : Run) → now_in s (ticks_one s n run) ≡ now_in s run
 ticks_now s n run = by (is_due (due_of s run n) (now_in s run))
@@ -211,7 +209,7 @@ ticked_now s (suc n) run = ticks_now s n (ticked s n run) ∙ ticked_now s n run
 works_early : (s : Setup) (due target : ℕ) (w : Waiting) → now_in s w.run ≤ target → due ≤ target → now_in s (works s due w).run ≤ target
 works_early s due target w early within =
     subst (λ (t : ℕ). t ≤ target) (sym (ticked_now s (length s.hosts) (comes_to s (max (now_in s w.run) due) w).run))
-    (comes_now s (max (now_in s w.run) due) w target early (both (now_in s w.run) due early within))
+    (subst (λ (t : ℕ). t ≤ target) (sym (comes_now s (max (now_in s w.run) due) w)) (both (now_in s w.run) due early within))
   where
     both : (a b : ℕ) → a ≤ target → b ≤ target → max a b ≤ target
     both a b one two = omega (arith, one, two)

@@ -32,6 +32,7 @@ use Rattle.mip_history.specs.ClaimsLaws.{is_free_for}
 use Rattle.mip_history.specs.Homes.{resident, passes_to, left_on, given_up_on, gives_up}
 use Rattle.mip_history.specs.Posting.{heards, is_other, overheard, posted}
 use Rattle.mip_history.specs.Nodes.{marks_of, left_by, answered_one, answered, asks, by_kind, by_host, acts}
+use Rattle.mip_history.specs.Receivers.{IsForIt}
 use Rattle.mip_history.proofs.Reasons.{all_append}
 
 -- an outsider hears a packet that was posted without a shield
@@ -40,18 +41,13 @@ pub record IsBare (run : Run) (k : ℕ) : Type 0 where
   pub posted : slice_get run.posts k ≡ Some post
   pub bare : post.shield ≡ None
 
--- a packet that was posted
-pub record IsPosted (run : Run) (k : ℕ) : Type 0 where
-  pub post : Post
-  pub posted : slice_get run.posts k ≡ Some post
-
 -- an entry that posts nothing and tells of no time and no life: who claims, gives up or finds an address taken, and which packets are heard and handed over
 abbrev pub IsSeen : Run → Entry → Type 0
 IsSeen run (entries.Claimed who link address) = is_free_for (holder_in run.past address.0) who ≡ true
 IsSeen run (entries.Released who link address) = holder_in run.past address.0 ≡ Some who
 IsSeen run (entries.Taken who link address holder) = holder_in run.past address.0 ≡ Some holder
 IsSeen run (entries.Heard number outsider) = IsBare run number
-IsSeen run (entries.Handed number node) = IsPosted run number
+IsSeen run (entries.Handed number node) = IsForIt run.posts run.past number node
 IsSeen run (entries.Sent number node shielded packet) = ⊥
 IsSeen run (entries.Injected number outsider link packet) = ⊥
 IsSeen run (entries.At moment) = ⊥

@@ -1,8 +1,7 @@
 -- Every schedule keeps a run, takes the time of its waits, and begins a life of a node as often as it restarts it.
-use Rattle.std.proofs.Common.{◌≡◌, ℕ, suc, ◌+◌, List, [], ◌∷◌, Bool, true, false, refl, ap, ◌∙◌, arith}
-use Rattle.std.specs.Prelude.{fold, Option, Some, None, unwrap_or, ◌==◌, ◌&&◌, if◌then◌else◌, slice_get}
+use Rattle.std.proofs.Common.{◌≡◌, ℕ, suc, ◌+◌, List, [], ◌∷◌, false, refl, ap, ◌∙◌, arith}
+use Rattle.std.specs.Prelude.{fold, Option, Some, None, unwrap_or, slice_get}
 use Rattle.std.specs.List.{sum_by}
-use Rattle.std.proofs.lemmas.Bool.{and_parts, eqb-true}
 use Rattle.std.proofs.lemmas.List.Sums.{fold-append, sum_by-cons}
 use Rattle.mip_entries.specs.declared.entry.Entry.{Entry}
 use Rattle.mip_entries.specs.declared.entry.Entry.TheVariants as entries
@@ -17,27 +16,21 @@ use Rattle.mip_history.specs.Questions.{moment_says, restarts, life_in}
 use Rattle.mip_history.specs.Calls as calls
 use Rattle.mip_history.specs.Knowing.{now_in, secrets_in, agent_known_in}
 use Rattle.mip_history.specs.Homes.{gives_up}
-use Rattle.mip_history.specs.Waiting.{Waiting, comes_to, works_until, waited}
+use Rattle.mip_history.specs.Waiting.{works_until, waited}
 use Rattle.mip_history.specs.Restarting.{homes_left, reborn_by_kind, reborn_by_host, restarted}
 use Rattle.mip_history.specs.Permitted.{opened, happens, run_of}
 use Rattle.mip_history.specs.Passing.{waited_by, restarted_by}
 use Rattle.mip_history.proofs.Effects.{Effect, h-gives_up, h-acts, effect_now, effect_life}
-use Rattle.mip_history.proofs.Changes.{IsWait, is_restart, alive, happens_keeps, all_keep}
+use Rattle.mip_history.proofs.Changes.{IsWait, is_restart, alive, comes_now, happens_keeps, all_keep}
 use Rattle.mip_history.proofs.Folds.{change_effects}
 use Rattle.mip_history.proofs.Runs.{IsRun, quiet_run}
 use Rattle.mip_history.proofs.Restarting.{again, born_life}
 use Rattle.mip_history.proofs.Opening.{nothing, nothing_is, quiet_opened}
 use Rattle.mip_history.proofs.Passes.{Passes}
+use Rattle.mip_history.proofs.Numbers.{AreNumbered, numbers_change, run_numbers}
 use Rattle.mip_history.proofs.RunChanges.{run_change}
 
 -- a wait comes to its end
-comes_now : (s : Setup) (m : ℕ) (w : Waiting) → now_in s (comes_to s m w).run ≡ m
-comes_now s m w = by (w.told && (now_in s w.run == m)) refl
-  where
-    by : (b : Bool) → (w.told && (now_in s w.run == m)) ≡ b → now_in s (let x : Waiting = (if b then w else record { run = note (entries.At (record { 0 = m })) w.run; told = true }) in x.run) ≡ m
-    by true test = eqb-true (now_in s w.run) m (and_parts w.told (now_in s w.run == m) test).1
-    by false test = fold-append (λ (at : ℕ) (x : Entry). unwrap_or (moment_says x) at) s.start w.run.past (entries.At (record { 0 = m }) ∷ [])
-
 waited_now : (s : Setup) (run : Run) (ms : ℕ) → now_in s (waited s run ms) ≡ now_in s run + ms
 unfolding waited
 waited_now s run ms = comes_now s (now_in s run + ms) (works_until s (now_in s run + ms) (suc ms) (record { run = run; told = false }))
@@ -109,7 +102,8 @@ life_all s n run (event ∷ events) =
 pub run_passes : (s : Setup) (events : List Event) → Passes s (nothing s) (run_of s events) (sum_by waited_by events) (λ n. sum_by (restarted_by n) events)
 run_passes s events =
     let quiet = quiet_opened s in record {
-      run = all_keep s (λ (run : Run). IsRun s run) (run_change s) (opened s) events (quiet_run s (nothing s) (opened s) quiet (nothing_is s));
+      run = (all_keep s (λ (run : Run). IsRun s run × AreNumbered s run) (λ event a b change is. (run_change s event a b change is.1 is.0, numbers_change s event a b change is.1)) (opened s) events
+          (quiet_run s (nothing s) (opened s) quiet (nothing_is s), run_numbers s [])).0;
       moment = now_all s (opened s) events ∙ ap (λ (m : ℕ). m + sum_by waited_by events) quiet.moment;
       life = λ n. life_all s n (opened s) events ∙ ap (λ (m : ℕ). m + sum_by (restarted_by n) events) (quiet.life n);
     }

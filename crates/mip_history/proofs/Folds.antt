@@ -1,32 +1,29 @@
 -- What each effect keeps, and a moment and a life that begins, every schedule keeps.
-use Rattle.std.proofs.Common.{◌≡◌, ℕ, ◌≤◌, List, [], ◌∷◌, ◌++◌, Bool, true, false, length, refl, sym, subst}
-use Rattle.std.specs.Prelude.{fold, Option, Some, None, unwrap_or, if◌then◌else◌, slice_get}
-use Rattle.std.proofs.lemmas.List.{append_assoc, append-nil}
-use Rattle.mip_words.specs.declared.address.Address.{Address}
-use Rattle.mip_words.specs.declared.ids.LinkId.{LinkId}
+use Rattle.std.proofs.Common.{◌≡◌, ℕ, ◌≤◌, List, [], length, refl}
+use Rattle.std.specs.Prelude.{fold, Option, Some, None, slice_get}
 use Rattle.mip_words.specs.declared.ids.NodeId.{NodeId}
 use Rattle.mip_entries.specs.declared.entry.Entry.{Entry}
 use Rattle.mip_entries.specs.declared.entry.Entry.TheVariants as entries
 use Rattle.mip_schedule.specs.declared.event.Event.{Event}
 use Rattle.mip_schedule.specs.declared.event.Event.TheVariants.{Restart as Restarts}
-use Rattle.mip_links.specs.Table.{link_of, holder_outside}
+use Rattle.mip_links.specs.Table.{holder_outside}
 use Rattle.mip_history.specs.Setup.{Setup, Host, Kind}
 use Rattle.mip_history.specs.Setup.Kind.{Correspondent, Agent, Mobile}
-use Rattle.mip_history.specs.Runs.{Run, note, notes, with_past, with_agent_past}
+use Rattle.mip_history.specs.Runs.{Run, note, with_past, with_agent_past}
 use Rattle.mip_history.specs.Calls.{Leave, Restart}
 use Rattle.mip_history.specs.Knowing.{now_in}
 use Rattle.mip_history.specs.Nodes.{acts}
-use Rattle.mip_history.specs.Permitted.{is_first_agent, anycast_at, claimed_entry, claims_of, claims_from, opened, happens, run_of}
-use Rattle.mip_history.proofs.Opening.{nothing}
+use Rattle.mip_history.specs.Permitted.{happens}
 use Rattle.mip_history.proofs.Keeping.{emptied_by_kind, emptied_by_host, emptied}
 use Rattle.mip_history.proofs.Effects.{IsSeen, Effect, notes-it, enters, goes, learns, h-claims, h-gives_up, h-acts}
+use Rattle.mip_history.proofs.Fates.{fate_named}
 use Rattle.mip_history.proofs.Changes.{IsWait, IsLeft, Change, left, comes, injects, drops, squats, yields, acted, moved, reborn, gives, renewed, all_keep}
 
 -- an entry that no node leaves posts nothing
 pub left_seen : (s : Setup) (event : Event) (run : Run) (e : Entry) → IsLeft s event run e → IsSeen run e
 left_seen s event run entries.Idle is = tt
 left_seen s event run (entries.Heard k o) is = is.bare
-left_seen s event run (entries.Handed k node) is = record { post = is.post; posted = is.posted }
+left_seen s event run (entries.Handed k node) is = record { post = is.post; posted = is.posted; named = fate_named s event run k node is }
 left_seen s event run (entries.Gone k why) is = tt
 left_seen s event run (entries.Lost k) is = tt
 left_seen s event run (entries.Listening o link) is = tt
@@ -80,27 +77,3 @@ module _ (s : Setup) (P : Run → Type 0) (step : (a b : Run) → Effect s a b �
     (born : (run : Run) (node : NodeId) → P run → P (note (entries.Restarted node) run)) where
   pub schedule_effects : (run : Run) (events : List Event) → P run → P (fold (λ run event. happens s run event) run events)
   schedule_effects run events p = all_keep s P (λ event a b change p. change_effects s P step event (λ run m wait early p. timed run m early p) (λ run node so p. born run node p) a b change p) run events p
-
-  -- from before the opening claims
-  module _ (claims : (run : Run) (who : ℕ) (link : LinkId) (address : Address) → P run → P (note (entries.Claimed who link address) run)) where
-    host_claims : (before : List Host) (host : Host) (run : Run) → P run → P (notes (claims_of s.links before host) run)
-    host_claims before host run p = by (is_first_agent s.links before host.address host.kind)
-      where
-        own : Entry
-        own = claimed_entry s.links (length before) host.address
-
-        by : (b : Bool) → P (notes (claimed_entry s.links (length before) host.address ∷ (if b then claimed_entry s.links (length before) (anycast_at host.address) ∷ [] else [])) run)
-        by true =
-            subst (λ (l : List Entry). P (record run { past = l })) (append_assoc run.past (own ∷ []) (claimed_entry s.links (length before) (anycast_at host.address) ∷ []))
-            (claims (note own run) (length before) (record { 0 = unwrap_or (link_of s.links (anycast_at host.address).0) 0 }) (anycast_at host.address)
-            (claims run (length before) (record { 0 = unwrap_or (link_of s.links host.address.0) 0 }) host.address p))
-        by false = claims run (length before) (record { 0 = unwrap_or (link_of s.links host.address.0) 0 }) host.address p
-
-    hosts_claim : (before hosts : List Host) (run : Run) → P run → P (notes (claims_from s.links before hosts) run)
-    hosts_claim before [] run p = subst (λ (l : List Entry). P (record run { past = l })) (sym (append-nil run.past)) p
-    hosts_claim before (host ∷ hosts) run p =
-        subst (λ (l : List Entry). P (record run { past = l })) (append_assoc run.past (claims_of s.links before host) (claims_from s.links (before ++ host ∷ []) hosts))
-        (hosts_claim (before ++ host ∷ []) hosts (notes (claims_of s.links before host) run) (host_claims before host run p))
-
-    pub run_effects : (events : List Event) → P (nothing s) → P (run_of s events)
-    run_effects events p = schedule_effects (opened s) events (hosts_claim [] s.hosts (nothing s) p)

@@ -1,8 +1,8 @@
 -- Deliveries: a packet that is handed to a node is the one that was posted, but for its hop limit.
 use Rattle.std.proofs.Common.{◌≡◌, ℕ, ◌<◌, List, [], ◌∷◌, ◌++◌, Bool, true, false, length, ◌⊎◌, inl, inr, refl, sym, ap, ◌∙◌, subst}
-use Rattle.std.specs.Prelude.{Option, Some, None, option_map, Result, Ok, Err, slice_get}
+use Rattle.std.specs.Prelude.{Option, Some, None, Result, Ok, Err, slice_get}
 use Rattle.std.specs.List.{list_any}
-use Rattle.std.proofs.lemmas.Option.{slice_get-map, slice_get_within}
+use Rattle.std.proofs.lemmas.Option.{slice_get_within}
 use Rattle.mip_words.specs.declared.address.Address.{Address}
 use Rattle.mip_ipv6.specs.declared.not_packet.NotPacket.{NotPacket}
 use Rattle.mip_ipv6.specs.Packet.{Packet}
@@ -43,7 +43,6 @@ use Rattle.mip_history.specs.Knowing.{link_or_first, secrets_in, identity_in, kn
 use Rattle.mip_history.specs.Nodes.{after_transition}
 use Rattle.mip_history.specs.Delivery.{handed_over}
 use Rattle.mip_history.specs.Bound.{accepted_by, packet_in, judge_in, IsAccepted}
-use Rattle.mip_history.proofs.Numbered.{packet_numbered}
 use Rattle.mip_history.proofs.Runs.{IsPast, IsRun, Goes}
 use Rattle.mip_history.proofs.Transitions.{done, quiet_transition, accepting_transition}
 use Rattle.mip_rules_correspondent.proofs.Taken.{accepted_home, taken_is}
@@ -101,15 +100,8 @@ judge_same s past n own secrets room steps mine p r home same =
     (known-numbers room s.numbers steps)
 
 -- a packet is handed over to a node
-module _ (s : Setup) (k n : ℕ) (post : Post) (before : Run) (is : IsRun s (note (entries.Handed k (node_id n)) before)) (posted : slice_get before.posts k ≡ Some post) where
-  pub handed_packet : packet_in (before.past ++ entries.Handed k (node_id n) ∷ []) k ≡ Some post.packet
-  handed_packet =
-      packet_numbered s (before.past ++ entries.Handed k (node_id n) ∷ []) k is.kept.each
-      ∙ ap (λ (l : List (List ℕ)). slice_get l k) is.kept.packets
-      ∙ slice_get-map (λ (p : Post). p.packet) before.posts k
-      ∙ ap (λ (o : Option Post). option_map (λ p. p.packet) o) posted
-
-module _ (s : Setup) (k n : ℕ) (post : Post) (link : Option ℕ) (before : Run) (is : IsRun s (note (entries.Handed k (node_id n)) before)) (posted : slice_get before.posts k ≡ Some post) (own : Address) (room : ℕ)
+module _ (s : Setup) (k n : ℕ) (post : Post) (link : Option ℕ) (before : Run) (is : IsRun s (note (entries.Handed k (node_id n)) before))
+    (posted : packet_in (before.past ++ entries.Handed k (node_id n) ∷ []) k ≡ Some post.packet) (own : Address) (room : ℕ)
     (host_is : slice_get s.hosts n ≡ Some (record { address = own; kind = Correspondent room })) where
   abbrev pub run : Run
   run = note (entries.Handed k (node_id n)) before
@@ -149,7 +141,7 @@ module _ (s : Setup) (k n : ℕ) (post : Post) (link : Option ℕ) (before : Run
         earlier = before.past;
         handed = refl;
         bytes = post.packet;
-        posted = handed_packet s k n post before is posted;
+        posted = posted;
         packet = as_posted.packet;
         read = as_posted.read;
         mobility = sym as_posted.proto ∙ u.mobility;

@@ -36,9 +36,9 @@ use Rattle.mip_history.specs.Bound.{accepted_by, held_in, held_under_in, packet_
 use Rattle.mip_history.specs.BoundLaws.{packets_of}
 use Rattle.mip_history.specs.Shields.{is_shielded_in, IsHeardBare}
 use Rattle.mip_history.proofs.Runs.{Meets, IsPast}
-use Rattle.mip_history.proofs.Numbered.{packet_numbered}
+use Rattle.mip_history.proofs.Numbered.{IsNumbered, packet_numbered}
 use Rattle.mip_history.proofs.Events.{run_passes}
-use Rattle.mip_history.proofs.Numbers.{IsNumbered, run_numbers}
+use Rattle.mip_history.proofs.Numbers.{run_numbers}
 use Rattle.mip_history.proofs.Shields.{heard_bare}
 use Rattle.mip_history.proofs.Bindings.{held_is_bound, under_is_bound}
 
@@ -49,15 +49,19 @@ each-front P front (x ∷ xs) ys each = (each.0, each-front P (front ++ x ∷ []
 
 pub permitted_each : (c : Content) → EachAfter (Meets (setup_of c)) [] (permitted c)
 unfolding permitted
-permitted_each c = (run_passes (setup_of c) c.events).run.kept.each
+permitted_each c = (run_passes (setup_of c) c.events).run.kept
 
 meets_at : (c : Content) (before : List Entry) (e : Entry) (after : List Entry) → permitted c ≡ before ++ e ∷ after → Meets (setup_of c) before e
 meets_at c before e after whole =
     each_at (Meets (setup_of c)) [] before e after (subst (λ (l : List Entry). EachAfter (Meets (setup_of c)) [] l) whole (permitted_each c))
 
-numbered_at : (c : Content) (before : List Entry) (e : Entry) (after : List Entry) → permitted c ≡ before ++ e ∷ after → IsNumbered before e
+pub permitted_numbered : (c : Content) → EachAfter (IsNumbered (setup_of c)) [] (permitted c)
 unfolding permitted
-numbered_at c before e after whole = each_at IsNumbered [] before e after (subst (λ (l : List Entry). EachAfter IsNumbered [] l) whole (run_numbers (setup_of c) c.events).each)
+permitted_numbered c = (run_numbers (setup_of c) c.events).each
+
+numbered_at : (c : Content) (before : List Entry) (e : Entry) (after : List Entry) → permitted c ≡ before ++ e ∷ after → IsNumbered (setup_of c) before e
+numbered_at c before e after whole =
+    each_at (IsNumbered (setup_of c)) [] before e after (subst (λ (l : List Entry). EachAfter (IsNumbered (setup_of c)) [] l) whole (permitted_numbered c))
 
 pub permitted_heard_bare : (c : Content) (before : List Entry) (number outsider : ℕ) (after : List Entry) → permitted c ≡ before ++ entries.Heard number outsider ∷ after → is_shielded_in before number ≡ Some false
 unfolding permitted
@@ -93,7 +97,7 @@ pub permitted_injected : (c : Content) (before : List Entry) (number outsider : 
 permitted_injected c before number outsider link packet after whole = numbered_at c before (entries.Injected number outsider link packet) after whole
 
 pub permitted_found : (c : Content) (k : ℕ) → packet_in (permitted c) k ≡ slice_get (packets_of (permitted c)) k
-permitted_found c k = packet_numbered (setup_of c) (permitted c) k (permitted_each c)
+permitted_found c k = packet_numbered (setup_of c) (permitted c) k (permitted_numbered c)
 
 pub permitted_waited : (c : Content) → moment_in (setup_of c).start (permitted c) ≡ c.start.0 + sum_by waited_by c.events
 unfolding permitted
@@ -113,15 +117,15 @@ permitted_handed c before number node after whole = numbered_at c before (entrie
 -- addresses are claimed when they are free
 pub permitted_claimed : (c : Content) (before : List Entry) (who : ℕ) (link : LinkId) (address : Address) (after : List Entry) → permitted c ≡ before ++ entries.Claimed who link address ∷ after
     → length (opening_claims (setup_of c)) ≤ length before → is_free_for (holder_in before address.0) who ≡ true
-permitted_claimed c before who link address after whole behind = meets_at c before (entries.Claimed who link address) after whole behind
+permitted_claimed c before who link address after whole behind = numbered_at c before (entries.Claimed who link address) after whole behind
 
 pub permitted_released : (c : Content) (before : List Entry) (who : ℕ) (link : LinkId) (address : Address) (after : List Entry) → permitted c ≡ before ++ entries.Released who link address ∷ after
     → holder_in before address.0 ≡ Some who
-permitted_released c before who link address after whole = meets_at c before (entries.Released who link address) after whole
+permitted_released c before who link address after whole = numbered_at c before (entries.Released who link address) after whole
 
 pub permitted_taken : (c : Content) (before : List Entry) (who : ℕ) (link : LinkId) (address : Address) (holder : ℕ) (after : List Entry) → permitted c ≡ before ++ entries.Taken who link address holder ∷ after
     → holder_in before address.0 ≡ Some holder
-permitted_taken c before who link address holder after whole = meets_at c before (entries.Taken who link address holder) after whole
+permitted_taken c before who link address holder after whole = numbered_at c before (entries.Taken who link address holder) after whole
 
 -- what a node keeps
 module _ (s : Setup) (events : List Event) (n : ℕ) (own : Address) (room : ℕ) (home : Address) (is : slice_get s.hosts n ≡ Some (record { address = own; kind = Correspondent room })) where

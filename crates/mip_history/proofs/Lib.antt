@@ -1,7 +1,6 @@
 mod Quiet
+pub mod Keeping
 pub mod Runs
-pub mod Posts
-mod Claiming
 mod Residents
 mod Answering
 pub mod Effects
@@ -26,12 +25,14 @@ pub mod Moments
 mod Kept
 mod SameUpdates
 mod Repeats
-pub mod Keeping
 pub mod Changes
+mod Fates
 pub mod Folds
 mod PostRecords
-mod Numbers
+pub mod Numbers
 mod Shields
+mod Receivers
+mod Refused
 pub mod Walking
 mod Homed
 mod Homing

@@ -1,6 +1,6 @@
 -- Deliveries to mobiles: what the correspondent part reads is the packet that was posted, but for its hop limit, or the one within
 -- its tunnel.
-use Rattle.std.proofs.Common.{◌≡◌, ℕ, List, [], refl, sym, ap, ◌∙◌, subst}
+use Rattle.std.proofs.Common.{◌≡◌, ℕ, List, [], ◌∷◌, ◌++◌, refl, sym, ap, ◌∙◌, subst}
 use Rattle.std.specs.Prelude.{Option, Some, Result, Ok, Err, not, ◌==◌, if◌then◌else◌, slice_get}
 use Rattle.mip_words.specs.declared.address.Address.{Address}
 use Rattle.mip_ipv6.specs.Packet.{Packet}
@@ -33,9 +33,9 @@ use Rattle.mip_history.specs.Knowing.{now_in, secrets_in, mobile_known_in}
 use Rattle.mip_history.specs.KnowingLaws.{part_in}
 use Rattle.mip_history.specs.Nodes.{after_mobile_transition}
 use Rattle.mip_history.specs.Delivery.{handed_over}
-use Rattle.mip_history.specs.Bound.{judge_in, IsAccepted}
+use Rattle.mip_history.specs.Bound.{packet_in, judge_in, IsAccepted}
 use Rattle.mip_history.proofs.Runs.{IsPart, IsRun, Goes}
-use Rattle.mip_history.proofs.Handing.{reads_as, judge_same, handed_packet}
+use Rattle.mip_history.proofs.Handing.{reads_as, judge_same}
 use Rattle.mip_history.proofs.PartTransitions.{mobile_transition}
 
 -- what is handed over has in it what was posted
@@ -83,7 +83,8 @@ abbrev bytes_in : Call → List ℕ
 bytes_in (Take number shield packet) = packet
 bytes_in _ = []
 
-module _ (s : Setup) (k n : ℕ) (post : Post) (link : Option ℕ) (before : Run) (is : IsRun s (note (entries.Handed k (node_id n)) before)) (posted : slice_get before.posts k ≡ Some post) (own : Address) (agent : Option Address)
+module _ (s : Setup) (k n : ℕ) (post : Post) (link : Option ℕ) (before : Run) (is : IsRun s (note (entries.Handed k (node_id n)) before))
+    (posted : packet_in (before.past ++ entries.Handed k (node_id n) ∷ []) k ≡ Some post.packet) (own : Address) (agent : Option Address)
     (host_is : slice_get s.hosts n ≡ Some (record { address = own; kind = Mobile agent })) where
   abbrev run : Run
   run = note (entries.Handed k (node_id n)) before
@@ -137,7 +138,7 @@ module _ (s : Setup) (k n : ℕ) (post : Post) (link : Option ℕ) (before : Run
       earlier = before.past;
       handed = refl;
       bytes = post.packet;
-      posted = handed_packet s k n post before is posted;
+      posted = posted;
       packet = as_posted.packet;
       read = as_posted.read;
       mobility = sym as_posted.proto ∙ x.taken.mobility;

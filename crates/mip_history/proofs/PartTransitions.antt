@@ -7,6 +7,7 @@ use Rattle.std.proofs.lemmas.List.Sums.{fold-append}
 use Rattle.std.proofs.lemmas.Option.{slice_get_within}
 use Rattle.std.proofs.lemmas.Bool.{or_parts, cases_eq}
 use Rattle.mip_words.specs.declared.address.Address.{Address}
+use Rattle.mip_words.specs.EachAfter.{EachAfter}
 use Rattle.mip_nonce.specs.Secrets.{Life}
 use Rattle.mip_entries.specs.declared.entry.Entry.{Entry}
 use Rattle.mip_entries.specs.Stamped.{Stamped, stamped}
@@ -32,7 +33,7 @@ use Rattle.mip_history.specs.Knowing.{now_in, secrets_in, mobile_known_in, stand
 use Rattle.mip_history.specs.KnowingLaws.{part_in}
 use Rattle.mip_history.specs.Nodes.{answered, after_mobile_transition}
 use Rattle.mip_history.specs.Bound.{accepted_by, accepted_entry, IsAccepted}
-use Rattle.mip_history.proofs.Runs.{IsKept, IsPart, past_stays, part_stays, IsRun, IsQuiet, Goes, goes_quietly, goes_then, quiet_then}
+use Rattle.mip_history.proofs.Runs.{Meets, IsPart, past_stays, part_stays, IsRun, IsQuiet, Goes, goes_quietly, goes_then, quiet_then}
 use Rattle.mip_history.proofs.Answering.{clash, differs, quiet_answers, mobile_silence}
 use Rattle.mip_history.proofs.Transitions.{quiet_past, accepting_past, accepted_moment, accepted_lives, accepted_kept, accepted_other, at_past, marked_with, quiet_mark}
 
@@ -79,7 +80,7 @@ module _ (s : Setup) (n : ℕ) (home : Address) (agent : Option Address) (before
       → ((m : ℕ) → m ≢ n → accepted_by s.start past m ≡ accepted_by s.start before.past m)
       → moment_in s.start past ≡ moment_in s.start before.past
       → ((m : ℕ) → m ≢ n → life_in past m ≡ life_in before.past m)
-      → IsKept s past before.posts
+      → EachAfter (Meets s) [] past
       → IsRun s (at_past past (with_mobile_past n next before))
   part_goes past next mine others moment lives kept = record {
     nodes = is.nodes;
@@ -216,7 +217,7 @@ module _ (s : Setup) (n : ℕ) (home : Address) (agent : Option Address) (run : 
         part_goes s n home agent run is host_is past (old ++ stamped now taken) (subst (λ (q : PartLife). IsPart s past q n) (sym taken_life) mine)
         (λ m other. accepted_other s.start m n x.number run.past x.taken.home x.taken.binding x.taken.accepted other)
         (accepted_moment s.start n x.number run.past x.taken.home x.taken.binding x.taken.accepted) (λ m other. accepted_lives n x.number run.past x.taken.home x.taken.binding x.taken.accepted m)
-        (accepted_kept s run.past run.posts n x.number x.taken.home x.taken.binding x.taken.accepted stands is.kept)
+        (accepted_kept s run.past n x.number x.taken.home x.taken.binding x.taken.accepted stands is.kept)
 
     taken_transition : Goes s run (mobile_done s n from now taken run)
     unfolding answered

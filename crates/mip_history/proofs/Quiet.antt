@@ -1,22 +1,17 @@
--- Entries that say nothing of moments, lives, acceptances and packets.
+-- Entries that say nothing of moments, lives and acceptances.
 use Rattle.std.proofs.Common.{◌≡◌, ℕ, List, [], ◌∷◌, ◌++◌, Bool, true, false, refl, ap, ◌∙◌}
-use Rattle.std.specs.Prelude.{fold, Option, None, unwrap_or}
-use Rattle.std.specs.List.{list_any, cons_option}
-use Rattle.std.proofs.lemmas.List.{append-nil}
+use Rattle.std.specs.Prelude.{fold, unwrap_or}
+use Rattle.std.specs.List.{list_any}
 use Rattle.std.proofs.lemmas.List.Sums.{fold-append}
-use Rattle.std.proofs.lemmas.List.Elements.{filter_map-append}
 use Rattle.std.proofs.lemmas.Bool.{or_parts}
 use Rattle.mip_entries.specs.declared.entry.Entry.{Entry}
 use Rattle.mip_entries.specs.declared.entry.Entry.TheVariants as entries
 use Rattle.mip_history.specs.Questions.{moment_says, moment_in, restarts, life_in}
 use Rattle.mip_history.specs.Bound.{Lived, lived, accepted_by}
-use Rattle.mip_history.specs.BoundLaws.{packet_posted, packets_of}
 
 -- an entry that says something of these
 abbrev pub is_told : Entry → Bool
 is_told (entries.At moment) = true
-is_told (entries.Sent number node shielded packet) = true
-is_told (entries.Injected number outsider link packet) = true
 is_told (entries.Accepted node number home binding careof sequence end i j) = true
 is_told (entries.Restarted node) = true
 is_told _ = false
@@ -34,11 +29,6 @@ moment_quiet at _ quiet = refl
 life_quiet : (n count : ℕ) (e : Entry) → is_told e ≡ false → restarts n count e ≡ count
 life_quiet n count (entries.Restarted node) quiet = absurd cc
 life_quiet n count _ quiet = refl
-
-posted_quiet : (e : Entry) → is_told e ≡ false → packet_posted e ≡ None
-posted_quiet (entries.Sent number node shielded packet) quiet = absurd cc
-posted_quiet (entries.Injected number outsider link packet) quiet = absurd cc
-posted_quiet _ quiet = refl
 
 -- what none of the entries changes
 fold_quiet : {S : Type 0} (f : S → Entry → S) → ((s : S) (e : Entry) → is_told e ≡ false → f s e ≡ s) → (s : S) (es : List Entry) → list_any is_told es ≡ false → fold f s es ≡ s
@@ -60,12 +50,3 @@ module _ (past es : List Entry) (quiet : list_any is_told es ≡ false) where
 
   pub same_life : (n : ℕ) → life_in (past ++ es) n ≡ life_in past n
   same_life n = fold_same (restarts n) (life_quiet n) 0 past es quiet
-
-no_packets : (es : List Entry) → list_any is_told es ≡ false → packets_of es ≡ []
-no_packets [] quiet = refl
-no_packets (e ∷ es) quiet =
-    let parts = or_parts (is_told e) (list_any is_told es) quiet in
-    ap (λ (o : Option (List ℕ)). cons_option o (packets_of es)) (posted_quiet e parts.0) ∙ no_packets es parts.1
-
-pub same_packets : (past es : List Entry) → list_any is_told es ≡ false → packets_of (past ++ es) ≡ packets_of past
-same_packets past es quiet = filter_map-append packet_posted past es ∙ ap (λ (ps : List (List ℕ)). packets_of past ++ ps) (no_packets es quiet) ∙ append-nil (packets_of past)

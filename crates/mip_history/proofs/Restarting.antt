@@ -1,11 +1,11 @@
 -- A node begins its next life.
 use Rattle.std.proofs.Common.{◌≡◌, ◌≢◌, ℕ, suc, ◌+◌, ◌<◌, List, [], ◌∷◌, ◌++◌, Bool, true, false, length, inl, inr, refl, sym, ap, ◌∙◌, subst, arith, length-set}
 use Rattle.std.specs.Prelude.{Option, Some, unwrap_or, ◌==◌, if◌then◌else◌, slice_get, slice_set, slice_index_or}
-use Rattle.std.proofs.lemmas.List.{append-nil, get_or-set_same, get_or-set_other}
+use Rattle.std.proofs.lemmas.List.{get_or-set_same, get_or-set_other}
 use Rattle.std.proofs.lemmas.List.Sums.{fold-append}
-use Rattle.std.proofs.lemmas.List.Elements.{filter_map-append}
 use Rattle.std.proofs.lemmas.Bool.{cases_eq, eq-eqb, ne_eqb}
 use Rattle.mip_words.specs.declared.address.Address.{Address}
+use Rattle.mip_words.specs.EachAfter.{EachAfter}
 use Rattle.mip_words.proofs.EachLaws.{each-append}
 use Rattle.mip_entries.specs.declared.entry.Entry.{Entry}
 use Rattle.mip_entries.specs.declared.entry.Entry.TheVariants as entries
@@ -30,8 +30,7 @@ use Rattle.mip_history.specs.Knowing.{now_in, secrets_in, mobile_known_in, stand
 use Rattle.mip_history.specs.KnowingLaws.{part_in}
 use Rattle.mip_history.specs.Nodes.{after_mobile_transition}
 use Rattle.mip_history.specs.Bound.{Lived, lived, accepted_by}
-use Rattle.mip_history.specs.BoundLaws.{packet_posted, packets_of}
-use Rattle.mip_history.proofs.Runs.{Meets, IsKept, IsPast, IsPart, past_stays, part_stays, IsRun, goes_quietly}
+use Rattle.mip_history.proofs.Runs.{Meets, IsPast, IsPart, past_stays, part_stays, IsRun, goes_quietly}
 use Rattle.mip_history.proofs.Answering.{differs}
 use Rattle.mip_history.proofs.PartTransitions.{mobile_apart, part_goes, mobile_done, reborn_life, quiet_reborn}
 use Rattle.mip_history.proofs.Passes.{Passes, passes_before}
@@ -61,11 +60,8 @@ module _ (s : Setup) (run : Run) (n : ℕ) (is : IsRun s run) where
   life_then : (m : ℕ) → life_in past m ≡ life_in run.past m + again n m
   life_then m = born_life run.past n m
 
-  kept_then : IsKept s past run.posts
-  kept_then = record {
-    packets = filter_map-append packet_posted run.past (entries.Restarted (node_id n) ∷ []) ∙ append-nil (packets_of run.past) ∙ is.kept.packets;
-    each = each-append (Meets s) [] run.past (entries.Restarted (node_id n) ∷ []) is.kept.each (tt, tt);
-  }
+  kept_then : EachAfter (Meets s) [] (run.past ++ entries.Restarted (node_id n) ∷ [])
+  kept_then = each-append (Meets s) [] run.past (entries.Restarted (node_id n) ∷ []) is.kept (tt, tt)
 
   -- what another node has accepted counts on
   accepted_apart : (m : ℕ) → m ≢ n → accepted_by s.start past m ≡ accepted_by s.start run.past m

@@ -9,7 +9,7 @@ use Rattle.mip_entries.specs.declared.entry.Entry.{Entry}
 use Rattle.mip_entries.specs.declared.entry.Entry.TheVariants as entries
 use Rattle.mip_entries.specs.Completed.{node_id}
 use Rattle.mip_schedule.specs.declared.event.Event.{Event}
-use Rattle.mip_links.specs.Table.{Post, holder_outside}
+use Rattle.mip_links.specs.Table.{holder_outside}
 use Rattle.mip_history.specs.Setup.{Setup, Host, Kind, is_mobile_host}
 use Rattle.mip_history.specs.SetupLaws.{is_correspondent_host}
 use Rattle.mip_history.specs.Setup.Kind.{Correspondent, Agent, Mobile}
@@ -20,31 +20,19 @@ use Rattle.mip_history.specs.Calls.{Call, Take}
 use Rattle.mip_history.specs.Knowing.{secrets_in}
 use Rattle.mip_history.specs.Nodes.{by_host, acts}
 use Rattle.mip_history.specs.Delivery.{handed_over}
+use Rattle.mip_history.specs.Bound.{packet_in}
 use Rattle.mip_history.proofs.Keeping.{IsHanded, emptied_by_host}
-use Rattle.mip_history.proofs.Changes.{IsLeft, IsBy, Change, left, comes, injects, drops, squats, yields, acted, moved, reborn, gives, renewed}
-use Rattle.mip_history.proofs.Runs.{IsRun, IsQuiet, quiet_run, quiet_notes, quiet_heard, quiet_handed}
-use Rattle.mip_history.proofs.Posts.{quiet_entered}
-use Rattle.mip_history.proofs.Claiming.{quiet_claims, quiet_gives_up}
+use Rattle.mip_history.proofs.Changes.{IsBy, Change, left, comes, injects, drops, squats, yields, acted, moved, reborn, gives, renewed}
+use Rattle.mip_history.proofs.Walking.{left_idle}
+use Rattle.mip_history.proofs.Numbers.{AreNumbered, posted_is}
+use Rattle.mip_history.proofs.Runs.{IsRun, quiet_same, quiet_run, quiet_idle, quiet_entered, quiet_claims, quiet_gives_up}
 use Rattle.mip_history.proofs.Handing.{handed_to}
 use Rattle.mip_history.proofs.PartHanding.{handed_to_part}
 use Rattle.mip_history.proofs.Acting.{noted_goes, quiet_agent_past, acts_goes, acts_calmly}
 use Rattle.mip_history.proofs.Waiting.{at_comes}
 use Rattle.mip_history.proofs.Restarting.{other_reborn, correspondent_reborn, mobile_reborn}
 
-left_quiet : (s : Setup) (event : Event) (run : Run) (e : Entry) → IsLeft s event run e → IsQuiet s run (note e run)
-left_quiet s event run (entries.Heard k o) is = quiet_heard s k o run (slice_get_within run.posts k is.bare.post is.bare.posted)
-left_quiet s event run (entries.Handed k node) is = quiet_handed s k node run (slice_get_within run.posts k is.post is.posted)
-left_quiet s event run entries.Idle is = quiet_notes s (entries.Idle ∷ []) run refl
-left_quiet s event run (entries.Gone k why) is = quiet_notes s (entries.Gone k why ∷ []) run refl
-left_quiet s event run (entries.Lost k) is = quiet_notes s (entries.Lost k ∷ []) run refl
-left_quiet s event run (entries.Listening o link) is = quiet_notes s (entries.Listening o link ∷ []) run refl
-left_quiet s event run (entries.Deafened o link) is = quiet_notes s (entries.Deafened o link ∷ []) run refl
-left_quiet s event run (entries.Settled a b value) is = quiet_notes s (entries.Settled a b value ∷ []) run refl
-left_quiet s event run (entries.Advertised node link router) is = quiet_notes s (entries.Advertised node link router ∷ []) run refl
-left_quiet s event run (entries.Row node home number careof sequence end kept) is = quiet_notes s (entries.Row node home number careof sequence end kept ∷ []) run refl
-left_quiet s event run _ is = absurd is
-
-module _ (s : Setup) (run : Run) (is : IsRun s run) where
+module _ (s : Setup) (run : Run) (is : IsRun s run) (numbered : AreNumbered s run) where
   -- a packet is handed over
   handed_keeps : (n k : ℕ) (shield : Option Shield) (packet : List ℕ) → IsHanded run n k shield packet → IsRun s (acts s n (Take k shield packet) run)
   handed_keeps n k shield packet h =
@@ -58,9 +46,12 @@ module _ (s : Setup) (run : Run) (is : IsRun s run) where
       here : IsRun s (note (entries.Handed k (node_id n)) (record run { past = h.earlier }))
       here = subst (λ (past : List Entry). IsRun s (record run { past = past })) h.told is
 
+      found : packet_in (h.earlier ++ entries.Handed k (node_id n) ∷ []) k ≡ Some h.post.packet
+      found = subst (λ (past : List Entry). packet_in past k ≡ Some h.post.packet) h.told (posted_is s run k h.post numbered h.posted)
+
       goes : IsRun s (acts s n (Take k h.post.shield (handed_over h.post.packet h.link)) (note (entries.Handed k (node_id n)) (record run { past = h.earlier })))
       goes = (acts_goes s n (Take k h.post.shield (handed_over h.post.packet h.link)) (note (entries.Handed k (node_id n)) before) here
-          (λ own room e. handed_to s k n h.post h.link before here h.posted own room e) (λ own agent e. handed_to_part s k n h.post h.link before here h.posted own agent e)).run
+          (λ own room e. handed_to s k n h.post h.link before here found own room e) (λ own agent e. handed_to_part s k n h.post h.link before here found own agent e)).run
 
   called : (event : Event) (n : ℕ) (call : Call) → IsBy s event run n call → IsRun s (acts s n call run)
   called event n (Take k shield packet) by = handed_keeps n k shield packet by.1
@@ -92,19 +83,17 @@ module _ (s : Setup) (run : Run) (is : IsRun s run) where
       of_kind own (Mobile agent) e mobile =
           subst (λ (l : Life). IsRun s (by_host s n (calls.Restart l) (note (entries.Restarted (node_id n)) run) (Some (record { address = own; kind = Mobile agent })))) (sym so) (mobile_reborn s run n is own agent e).run
 
-pub run_change : (s : Setup) (event : Event) (a b : Run) → Change s event a b → IsRun s a → IsRun s b
-run_change s event _ _ (left run e is) r = quiet_run s run (note e run) (left_quiet s event run e is) r
-run_change s event _ _ (comes run m wait early) r = (at_comes s run m r early).run
-run_change s event _ _ (injects run o link packet is) r =
-    let post : Post = record { from = link.0; shield = None; packet = packet } in
-    quiet_run s run _ (quiet_entered s post (entries.Injected (length run.posts) o link packet) run
-    (record { lives = λ m l. refl; moment = λ at. refl; life = λ m count. refl; posts = refl; meets = λ front same. same })) r
-run_change s event _ _ (drops run k) r = record { nodes = r.nodes; agents = r.agents; mobiles = r.mobiles; kept = r.kept; pasts = r.pasts; parts = r.parts }
-run_change s event _ _ (squats run o address so) r = quiet_run s run _ (quiet_claims s (holder_outside o) address run) r
-run_change s event _ _ (yields run o address so) r = quiet_run s run _ (quiet_gives_up s (holder_outside o) address run) r
-run_change s event _ _ (acted run n call by) r = called s run r event n call by
-run_change s event _ _ (moved run node link so is) r =
+pub run_change : (s : Setup) (event : Event) (a b : Run) → Change s event a b → AreNumbered s a → IsRun s a → IsRun s b
+run_change s event _ _ (left run e is) numbered r = quiet_run s run (note e run) (quiet_idle s run run e (left_idle s event run e is) (quiet_same s run)) r
+run_change s event _ _ (comes run m wait early) numbered r = (at_comes s run m r early).run
+run_change s event _ _ (injects run o link packet is) numbered r =
+    quiet_run s run _ (quiet_entered s (record { from = link.0; shield = None; packet = packet }) (entries.Injected (length run.posts) o link packet) run refl) r
+run_change s event _ _ (drops run k) numbered r = record { nodes = r.nodes; agents = r.agents; mobiles = r.mobiles; kept = r.kept; pasts = r.pasts; parts = r.parts }
+run_change s event _ _ (squats run o address so) numbered r = quiet_run s run _ (quiet_claims s (holder_outside o) address run) r
+run_change s event _ _ (yields run o address so) numbered r = quiet_run s run _ (quiet_gives_up s (holder_outside o) address run) r
+run_change s event _ _ (acted run n call by) numbered r = called s run r numbered event n call by
+run_change s event _ _ (moved run node link so is) numbered r =
     let gone = acts_calmly s node.0 calls.Leave run r refl in (noted_goes s (acts s node.0 calls.Leave run) (entries.Moved node link) gone.run refl).run
-run_change s event _ _ (reborn run node so is) r = reborn_keeps s run r node.0 (slice_get s.hosts node.0) refl is
-run_change s event _ _ (gives run node address so is) r = quiet_run s run _ (quiet_gives_up s node.0 address run) r
-run_change s event _ _ (renewed run node secrets so is life) r = renewed_keeps s run r node.0 secrets life (slice_get s.hosts node.0) refl is
+run_change s event _ _ (reborn run node so is) numbered r = reborn_keeps s run r numbered node.0 (slice_get s.hosts node.0) refl is
+run_change s event _ _ (gives run node address so is) numbered r = quiet_run s run _ (quiet_gives_up s node.0 address run) r
+run_change s event _ _ (renewed run node secrets so is life) numbered r = renewed_keeps s run r numbered node.0 secrets life (slice_get s.hosts node.0) refl is

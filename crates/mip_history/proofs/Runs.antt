@@ -1,12 +1,10 @@
--- What every run keeps: packets are numbered by their places, moments do not fall, every acceptance has its update, and the past of
--- each correspondent, and of each mobile's correspondent part, holds what the history has of it.
-use Rattle.std.proofs.Common.{◌≡◌, ℕ, ◌<◌, ◌≤◌, List, [], ◌∷◌, ◌++◌, Bool, true, false, length, refl, sym, ap, ◌∙◌, subst}
-use Rattle.std.specs.Prelude.{map, slice_get, slice_index_or, Option, Some, ◌||◌}
-use Rattle.std.proofs.lemmas.List.{length-map}
+-- What every run keeps: moments do not fall, every acceptance has its update, and the past of each correspondent, and of each
+-- mobile's correspondent part, holds what the history has of it.
+use Rattle.std.proofs.Common.{◌≡◌, ℕ, ◌≤◌, List, [], ◌∷◌, ◌++◌, Bool, true, false, length, refl, sym, ap, ◌∙◌, subst}
+use Rattle.std.specs.Prelude.{slice_get, slice_index_or, Option, Some, ◌||◌}
 use Rattle.std.proofs.lemmas.Bool.{or_parts}
 use Rattle.std.specs.List.{list_any, AllByRecursion}
 use Rattle.mip_words.specs.declared.address.Address.{Address}
-use Rattle.mip_words.specs.declared.ids.NodeId.{NodeId}
 use Rattle.mip_words.specs.EachAfter.{EachAfter}
 use Rattle.mip_words.proofs.EachLaws.{each-append}
 use Rattle.mip_entries.specs.declared.entry.Entry.{Entry}
@@ -21,43 +19,23 @@ use Rattle.mip_links.specs.Table.{Post}
 use Rattle.mip_history.specs.Setup.{Setup}
 use Rattle.mip_history.specs.SetupLaws.{is_correspondent_at}
 use Rattle.mip_history.specs.Setup.Kind.{Mobile}
-use Rattle.mip_history.specs.Runs.{Run, note, notes, past_at}
-use Rattle.mip_history.specs.Questions.{moment_in, life_in, holder_in}
+use Rattle.mip_history.specs.Runs.{Run, note, notes, entered, past_at}
+use Rattle.mip_history.specs.Questions.{moment_in, life_in}
 use Rattle.mip_history.specs.Knowing.{secrets_in}
 use Rattle.mip_history.specs.KnowingLaws.{part_in}
-use Rattle.mip_history.specs.ClaimsLaws.{is_free_for}
-use Rattle.mip_history.specs.Permitted.{opening_claims}
+use Rattle.mip_history.specs.Claims.{claims}
+use Rattle.mip_history.specs.Homes.{gives_up}
+use Rattle.mip_history.specs.Posting.{posted}
 use Rattle.mip_history.specs.Bound.{accepted_by, HasAccepted}
-use Rattle.mip_history.specs.BoundLaws.{packets_of}
-use Rattle.mip_history.proofs.Quiet.{is_told, same_accepted, same_moment, same_life, same_packets}
+use Rattle.mip_history.proofs.Quiet.{is_told, same_accepted, same_moment, same_life}
+use Rattle.mip_history.proofs.Keeping.{is_busy, keeps_overheard, keeps_claims, keeps_gives_up}
 
--- what an entry meets of those before it
+-- what an entry meets of those before it: no moment is told that is earlier, and what is accepted has its update
 abbrev pub Meets : Setup → List Entry → Entry → Type 0
 Meets s front (entries.At moment) = moment_in s.start front ≤ moment.0
-Meets s front (entries.Sent number node shielded packet) = number ≡ length (packets_of front)
-Meets s front (entries.Injected number outsider link packet) = number ≡ length (packets_of front)
 Meets s front (entries.Accepted node number home binding careof sequence end i j) =
     HasAccepted s front (entries.Accepted node number home binding careof sequence end i j)
-Meets s front (entries.Claimed who link address) = length (opening_claims s) ≤ length front → is_free_for (holder_in front address.0) who ≡ true
-Meets s front (entries.Released who link address) = holder_in front address.0 ≡ Some who
-Meets s front (entries.Taken who link address holder) = holder_in front address.0 ≡ Some holder
-Meets s front (entries.Heard number outsider) = number < length (packets_of front)
-Meets s front (entries.Handed number node) = number < length (packets_of front)
 Meets s front _ = Unit {0}
-
--- an entry of which more is known, or that changes what is known
-abbrev pub is_met : Entry → Bool
-is_met (entries.Claimed who link address) = true
-is_met (entries.Released who link address) = true
-is_met (entries.Taken who link address holder) = true
-is_met (entries.Heard number outsider) = true
-is_met (entries.Handed number node) = true
-is_met e = is_told e
-
--- the packets of a history are those of a pool, and its entries meet what they should
-pub record IsKept (s : Setup) (past : List Entry) (posts : List Post) : Type 0 where
-  pub packets : packets_of past ≡ map (λ p. p.packet) posts
-  pub each : EachAfter (Meets s) [] past
 
 -- the past of a correspondent holds what the history has accepted in its present life, at moments that do not fall
 pub record IsPast (s : Setup) (past : List Entry) (steps : List (Stamped Step)) (n : ℕ) : Type 0 where
@@ -90,7 +68,7 @@ pub record IsRun (s : Setup) (run : Run) : Type 0 where
   pub nodes : length run.pasts ≡ length s.hosts
   pub agents : length run.agent_pasts ≡ length s.hosts
   pub mobiles : length run.mobile_pasts ≡ length s.hosts
-  pub kept : IsKept s run.past run.posts
+  pub kept : EachAfter (Meets s) [] run.past
   pub pasts : (n : ℕ) → is_correspondent_at s n ≡ true → IsPast s run.past (past_at run n) n
   pub parts : (n : ℕ) (home : Address) (agent : Option Address) → slice_get s.hosts n ≡ Some (record { address = home; kind = Mobile agent }) → IsPart s run.past (part_in s run n home) n
 
@@ -102,7 +80,7 @@ pub record IsQuiet (s : Setup) (before after : Run) : Type 0 where
   pub accepted : (n : ℕ) → accepted_by s.start after.past n ≡ accepted_by s.start before.past n
   pub moment : moment_in s.start after.past ≡ moment_in s.start before.past
   pub life : (n : ℕ) → life_in after.past n ≡ life_in before.past n
-  pub kept : IsKept s before.past before.posts → IsKept s after.past after.posts
+  pub kept : EachAfter (Meets s) [] before.past → EachAfter (Meets s) [] after.past
 
 pub quiet_same : (s : Setup) (run : Run) → IsQuiet s run run
 quiet_same s run = record { pasts = refl; agents = refl; mobiles = refl; accepted = λ n. refl; moment = refl; life = λ n. refl; kept = λ k. k }
@@ -137,71 +115,57 @@ quiet_run s a b quiet run = record {
     by : (n : ℕ) → IsPast s a.past (past_at a n) n → IsPast s b.past (past_at b n) n
     by n p = subst (λ (l : List (Stamped Step)). IsPast s b.past l n) (sym (at n)) (past_stays s a.past b.past (past_at a n) n (quiet.accepted n) quiet.moment p)
 
--- entries that say nothing of moments, lives, acceptances and packets, and meet what they should
-pub quiet_meeting : (s : Setup) (es : List Entry) (run : Run) → list_any is_told es ≡ false → (IsKept s run.past run.posts → EachAfter (Meets s) run.past es) → IsQuiet s run (notes es run)
-quiet_meeting s es run quiet meets = record {
+-- entries that say nothing of moments, lives and acceptances
+meets_quiet : (s : Setup) (front : List Entry) (e : Entry) → is_told e ≡ false → Meets s front e
+meets_quiet s front (entries.At moment) quiet = absurd cc
+meets_quiet s front (entries.Accepted node number home binding careof sequence end i j) quiet = absurd cc
+meets_quiet s front _ quiet = tt
+
+each_quiet : (s : Setup) (front es : List Entry) → list_any is_told es ≡ false → EachAfter (Meets s) front es
+each_quiet s front [] quiet = tt
+each_quiet s front (e ∷ es) quiet =
+    let parts = or_parts (is_told e) (list_any is_told es) quiet in
+    (meets_quiet s front e parts.0, each_quiet s (front ++ e ∷ []) es parts.1)
+
+pub quiet_notes : (s : Setup) (es : List Entry) (run : Run) → list_any is_told es ≡ false → IsQuiet s run (notes es run)
+quiet_notes s es run quiet = record {
   pasts = refl;
   agents = refl;
   mobiles = refl;
   accepted = λ n. same_accepted run.past es quiet s.start n;
   moment = same_moment run.past es quiet s.start;
   life = λ n. same_life run.past es quiet n;
-  kept = λ k. record {
-    packets = same_packets run.past es quiet ∙ k.packets;
-    each = each-append (Meets s) [] run.past es k.each (meets k);
-  };
+  kept = λ k. each-append (Meets s) [] run.past es k (each_quiet s run.past es quiet);
 }
 
--- one entry more that says nothing of these, and meets what it should
-pub quiet_one : (s : Setup) (run : Run) (e : Entry) → is_told e ≡ false → Meets s run.past e → IsQuiet s run (note e run)
-quiet_one s run e quiet meets = quiet_meeting s (e ∷ []) run (ap (λ (b : Bool). b || false) quiet) (λ kept. (meets, tt))
+pub quiet_one : (s : Setup) (run : Run) (e : Entry) → is_told e ≡ false → IsQuiet s run (note e run)
+quiet_one s run e quiet = quiet_notes s (e ∷ []) run (ap (λ (b : Bool). b || false) quiet)
 
-meets_quiet : (s : Setup) (front : List Entry) (e : Entry) → is_met e ≡ false → Meets s front e
-meets_quiet s front (entries.At moment) quiet = absurd cc
-meets_quiet s front (entries.Sent number node shielded packet) quiet = absurd cc
-meets_quiet s front (entries.Injected number outsider link packet) quiet = absurd cc
-meets_quiet s front (entries.Accepted node number home binding careof sequence end i j) quiet = absurd cc
-meets_quiet s front (entries.Claimed who link address) quiet = absurd cc
-meets_quiet s front (entries.Released who link address) quiet = absurd cc
-meets_quiet s front (entries.Taken who link address holder) quiet = absurd cc
-meets_quiet s front (entries.Heard number outsider) quiet = absurd cc
-meets_quiet s front (entries.Handed number node) quiet = absurd cc
-meets_quiet s front _ quiet = tt
+-- so are a packet that is posted, and claims of addresses that come to whatever they may
+untold : (e : Entry) → is_busy e ≡ false → is_told e ≡ false
+untold (entries.At moment) idle = absurd cc
+untold (entries.Accepted node number home binding careof sequence end i j) idle = absurd cc
+untold (entries.Restarted node) idle = absurd cc
+untold _ idle = refl
 
-not_told : (e : Entry) → is_met e ≡ false → is_told e ≡ false
-not_told (entries.Claimed who link address) quiet = absurd cc
-not_told (entries.Released who link address) quiet = absurd cc
-not_told (entries.Taken who link address holder) quiet = absurd cc
-not_told (entries.Heard number outsider) quiet = absurd cc
-not_told (entries.Handed number node) quiet = absurd cc
-not_told _ quiet = quiet
+module _ (s : Setup) (before : Run) where
+  pub quiet_idle : (run : Run) (e : Entry) → is_busy e ≡ false → IsQuiet s before run → IsQuiet s before (note e run)
+  quiet_idle run e idle quiet = quiet_then s before run (note e run) quiet (quiet_one s run e (untold e idle))
 
-none_told : (es : List Entry) → list_any is_met es ≡ false → list_any is_told es ≡ false
-none_told [] quiet = refl
-none_told (e ∷ es) quiet =
-    let parts = or_parts (is_met e) (list_any is_met es) quiet in
-    ap (λ (b : Bool). b || list_any is_told es) (not_told e parts.0) ∙ none_told es parts.1
+pub quiet_entered : (s : Setup) (post : Post) (e : Entry) (run : Run) → is_told e ≡ false → IsQuiet s run (entered post (note e run))
+quiet_entered s post e run quiet =
+    let q = quiet_one s run e quiet in record { pasts = q.pasts; agents = q.agents; mobiles = q.mobiles; accepted = q.accepted; moment = q.moment; life = q.life; kept = q.kept }
 
-each_quiet : (s : Setup) (front es : List Entry) → list_any is_met es ≡ false → EachAfter (Meets s) front es
-each_quiet s front [] quiet = tt
-each_quiet s front (e ∷ es) quiet =
-    let parts = or_parts (is_met e) (list_any is_met es) quiet in
-    (meets_quiet s front e parts.0, each_quiet s (front ++ e ∷ []) es parts.1)
+pub quiet_posted : (s : Setup) (post : Post) (by : Option ℕ) (e : Entry) (run : Run) → is_told e ≡ false → IsQuiet s run (posted s post by e run)
+quiet_posted s post by e run quiet =
+    keeps_overheard s (IsQuiet s run) (quiet_idle s run) post.from post.shield by (length run.posts) (entered post (note e run)) (quiet_entered s post e run quiet)
 
--- entries of which nothing is known
-pub quiet_notes : (s : Setup) (es : List Entry) (run : Run) → list_any is_met es ≡ false → IsQuiet s run (notes es run)
-quiet_notes s es run quiet = quiet_meeting s es run (none_told es quiet) (λ k. each_quiet s run.past es quiet)
+pub quiet_claims : (s : Setup) (who : ℕ) (address : Address) (run : Run) → IsQuiet s run (claims s who address run)
+quiet_claims s who address run =
+    keeps_claims s (IsQuiet s run) (quiet_idle s run) who address run (λ link holder. quiet_one s run (entries.Taken who link address holder) refl) (quiet_same s run)
 
--- as many packets as were posted
-pub count_posts : (s : Setup) (run : Run) → IsKept s run.past run.posts → length (packets_of run.past) ≡ length run.posts
-count_posts s run k = ap (λ (l : List (List ℕ)). length l) k.packets ∙ length-map run.posts (λ (p : Post). p.packet)
-
--- a packet that was posted is heard, or handed over
-pub quiet_heard : (s : Setup) (k o : ℕ) (run : Run) → k < length run.posts → IsQuiet s run (note (entries.Heard k o) run)
-quiet_heard s k o run posted = quiet_meeting s (entries.Heard k o ∷ []) run refl (λ kept. (subst (λ (n : ℕ). k < n) (sym (count_posts s run kept)) posted, tt))
-
-pub quiet_handed : (s : Setup) (k : ℕ) (node : NodeId) (run : Run) → k < length run.posts → IsQuiet s run (note (entries.Handed k node) run)
-quiet_handed s k node run posted = quiet_meeting s (entries.Handed k node ∷ []) run refl (λ kept. (subst (λ (n : ℕ). k < n) (sym (count_posts s run kept)) posted, tt))
+pub quiet_gives_up : (s : Setup) (who : ℕ) (address : Address) (run : Run) → IsQuiet s run (gives_up s who address run)
+quiet_gives_up s who address run = keeps_gives_up s (IsQuiet s run) (quiet_idle s run) who address run (quiet_same s run)
 
 -- a run goes on, no time passes, and nobody restarts
 pub record Goes (s : Setup) (before after : Run) : Type 0 where

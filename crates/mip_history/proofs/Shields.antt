@@ -1,5 +1,5 @@
 -- Outsiders hear no packet that was posted under a shield.
-use Rattle.std.proofs.Common.{◌≡◌, List, [], Bool, refl, sym, ap, ◌∙◌}
+use Rattle.std.proofs.Common.{◌≡◌, List, [], Bool, false, refl, sym, ap, ◌∙◌}
 use Rattle.std.specs.Prelude.{map, Option, Some, None, is_some, option_map, slice_get}
 use Rattle.std.specs.List.{filter_map}
 use Rattle.std.proofs.lemmas.Option.{slice_get-map}
@@ -14,7 +14,8 @@ use Rattle.mip_history.specs.Runs.{Run}
 use Rattle.mip_history.specs.Permitted.{run_of}
 use Rattle.mip_history.specs.Shields.{shield_posted, IsHeardBare}
 use Rattle.mip_history.proofs.Effects.{IsSeen, IsPosting}
-use Rattle.mip_history.proofs.PostRecords.{IsBeside, Tells, run_tells}
+use Rattle.mip_history.proofs.Opening.{is_other}
+use Rattle.mip_history.proofs.PostRecords.{IsBeside, run_tells}
 
 abbrev is_under : Post → Bool
 is_under post = is_some post.shield
@@ -37,10 +38,12 @@ posting run post _ is posts = absurd is
 beside : (past : List Entry) (e : Entry) → IsBeside e → IsHeardBare past e × (shield_posted e ≡ None)
 beside past (entries.At moment) is = (tt, refl)
 beside past (entries.Restarted node) is = (tt, refl)
-beside past (entries.Claimed who link address) is = (tt, refl)
 beside past _ is = absurd is
+
+opens : (past : List Entry) (e : Entry) → is_other e ≡ false → IsHeardBare past e × (shield_posted e ≡ None)
+opens past (entries.Claimed who link address) claim = (tt, refl)
+opens past _ claim = absurd cc
 
 pub heard_bare : (s : Setup) (events : List Event) → EachAfter IsHeardBare [] (run_of s events).past
 heard_bare s events =
-    let all : Tells shield_posted is_under IsHeardBare (run_of s events) = run_tells shield_posted is_under IsHeardBare (record { seen = seen; posting = posting; beside = beside }) s events in
-    all.each
+    let all = run_tells s shield_posted is_under IsHeardBare (record { seen = seen; posting = posting; beside = beside; opens = λ past e claim short. opens past e claim }) events in all.each

@@ -27,7 +27,7 @@ module _ (s : Setup) (events : List Event) (n : ℕ) (own : Address) (room : ℕ
   run_table = past_rows s (run_of s events).past (past_at (run_of s events) n) n room ((run_passes s events).run.pasts n (ap is_correspondent_host is))
 
   pub run_rows : AllByRecursion (IsLastAcceptance s (run_of s events).past n) (rows_by_kind s n own (run_of s events) (Correspondent room))
-  run_rows = shown_rows s (run_of s events).past ((run_passes s events).run.kept.each) n (rows_at (known_in s (run_of s events) n room).cache (now_in s (run_of s events))) run_table
+  run_rows = shown_rows s (run_of s events).past (run_passes s events).run.kept n (rows_at (known_in s (run_of s events) n room).cache (now_in s (run_of s events))) run_table
 
 module _ (s : Setup) (events : List Event) (n : ℕ) (own : Address) (agent : Option Address) (is : slice_get s.hosts n ≡ Some (record { address = own; kind = Mobile agent })) where
   pub part_table : map seen_row (rows_at (mobile_known_in s (run_of s events) n own agent).part.known.cache (now_in s (run_of s events)))
@@ -39,4 +39,4 @@ module _ (s : Setup) (events : List Event) (n : ℕ) (own : Address) (agent : Op
 
   pub part_rows : AllByRecursion (IsLastAcceptance s (run_of s events).past n) (rows_by_kind s n own (run_of s events) (Mobile agent))
   part_rows =
-      shown_rows s (run_of s events).past ((run_passes s events).run.kept.each) n (rows_at (mobile_known_in s (run_of s events) n own agent).part.known.cache (now_in s (run_of s events))) part_table
+      shown_rows s (run_of s events).past (run_passes s events).run.kept n (rows_at (mobile_known_in s (run_of s events) n own agent).part.known.cache (now_in s (run_of s events))) part_table

@@ -1,13 +1,13 @@
 -- A transition of a correspondent keeps a run, whether an update is accepted in it or not.
 use Rattle.std.proofs.Common.{◌≡◌, ◌≢◌, ℕ, ◌<◌, ◌≤◌, List, [], ◌∷◌, ◌++◌, Bool, true, false, length, inl, inr, refl, sym, ap, ◌∙◌, subst, arith, length-set}
-use Rattle.std.specs.Prelude.{fold, unwrap_or, option_map, ◌||◌, ◌==◌, if◌then◌else◌}
+use Rattle.std.specs.Prelude.{fold, unwrap_or, option_map, ◌==◌, if◌then◌else◌}
 use Rattle.std.specs.List.{list_any, AllByRecursion}
 use Rattle.std.proofs.lemmas.List.{append-nil, append_assoc, get_or-set_same, get_or-set_other}
 use Rattle.std.proofs.lemmas.List.Concat.{flat_map-append}
 use Rattle.std.proofs.lemmas.List.Sums.{fold-append}
-use Rattle.std.proofs.lemmas.List.Elements.{filter_map-append}
 use Rattle.std.proofs.lemmas.Bool.{or_parts, cases_eq, eq-eqb, ne_eqb}
 use Rattle.mip_words.specs.declared.address.Address.{Address}
+use Rattle.mip_words.specs.EachAfter.{EachAfter}
 use Rattle.mip_words.proofs.EachLaws.{each-append}
 use Rattle.mip_binding.specs.Acceptance.{Acceptance}
 use Rattle.mip_bcache.specs.declared.accepted.Accepted.{Accepted}
@@ -15,7 +15,6 @@ use Rattle.mip_bcache.specs.Seen.{acceptance}
 use Rattle.mip_entries.specs.declared.entry.Entry.{Entry}
 use Rattle.mip_entries.specs.declared.entry.Entry.TheVariants as entries
 use Rattle.mip_entries.specs.Stamped.{Stamped, stamped}
-use Rattle.mip_links.specs.Table.{Post}
 use Rattle.mip_entries.proofs.PastLaws.{rises_transition}
 use Rattle.mip_rules_correspondent.specs.Calls.{Call}
 use Rattle.mip_rules_correspondent.specs.Steps.{Step, Called, Accepts, answers_of}
@@ -33,8 +32,7 @@ use Rattle.mip_history.specs.Questions.{moment_says, moment_in, restarts, life_i
 use Rattle.mip_history.specs.KnowingLaws.{part_in}
 use Rattle.mip_history.specs.Nodes.{answered}
 use Rattle.mip_history.specs.Bound.{Lived, lived, accepted_by, IsAccepted, accepted_entry}
-use Rattle.mip_history.specs.BoundLaws.{packet_posted, packets_of}
-use Rattle.mip_history.proofs.Runs.{Meets, IsKept, IsPast, past_stays, part_stays, IsRun, IsQuiet, Goes, goes_quietly, goes_then, quiet_then, quiet_notes}
+use Rattle.mip_history.proofs.Runs.{Meets, IsPast, past_stays, part_stays, IsRun, IsQuiet, Goes, goes_quietly, goes_then, quiet_then, quiet_one}
 use Rattle.mip_history.proofs.Answering.{mark_quiet, differs, quiet_steps}
 
 -- the moment that goes along with the acceptances is the moment
@@ -108,13 +106,12 @@ accepted_moment start n k past home binding a = fold-append (λ (at : ℕ) (x : 
 pub accepted_lives : (n k : ℕ) (past : List Entry) (home : Address) (binding : ℕ) (a : Accepted) (m : ℕ) → life_in (past ++ accepted_entry n k home binding a ∷ []) m ≡ life_in past m
 accepted_lives n k past home binding a m = fold-append (restarts m) 0 past (accepted_entry n k home binding a ∷ [])
 
--- and its packets are the same
-pub accepted_kept : (s : Setup) (past : List Entry) (posts : List Post) (n k : ℕ) (home : Address) (binding : ℕ) (a : Accepted) → IsAccepted s past n k home binding a → IsKept s past posts → IsKept s (past ++ accepted_entry n k home binding a ∷ []) posts
-accepted_kept s past posts n k home binding a stands kept = record {
-  packets = filter_map-append packet_posted past (accepted_entry n k home binding a ∷ []) ∙ append-nil (packets_of past) ∙ kept.packets;
-  each = each-append (Meets s) [] past (accepted_entry n k home binding a ∷ []) kept.each
-      (record { node = n; number = k; home = home; binding = binding; accepted = a; is = refl; stands = stands }, tt);
-}
+-- and it meets what it should
+pub accepted_kept : (s : Setup) (past : List Entry) (n k : ℕ) (home : Address) (binding : ℕ) (a : Accepted) → IsAccepted s past n k home binding a
+    → EachAfter (Meets s) [] past → EachAfter (Meets s) [] (past ++ accepted_entry n k home binding a ∷ [])
+accepted_kept s past n k home binding a stands kept =
+    each-append (Meets s) [] past (accepted_entry n k home binding a ∷ []) kept
+    (record { node = n; number = k; home = home; binding = binding; accepted = a; is = refl; stands = stands }, tt)
 
 pub accepted_other : (start m n k : ℕ) (past : List Entry) (home : Address) (binding : ℕ) (a : Accepted) → m ≢ n
     → accepted_by start (past ++ accepted_entry n k home binding a ∷ []) m ≡ accepted_by start past m
@@ -165,7 +162,7 @@ quiet_mark s n number home binding a past run is =
     let mark : Entry = mark_of_accepted n number home a past in
     let update : AcceptedUpdate = record { node = node_id n; number = number; home = home; careof = a.careof; home_index = index_of a.home_nonce; careof_index = option_map index_of a.careof_nonce } in
     subst (λ (l : List Entry). IsQuiet s run (at_past l run)) (ap (λ (l : List Entry). l ++ mark ∷ []) is ∙ append_assoc past (accepted_entry n number home binding a ∷ []) (mark ∷ []))
-    (quiet_notes s (mark ∷ []) run (ap (λ (b : Bool). b || false) (mark_quiet (mark_in past update))))
+    (quiet_one s run mark (mark_quiet (mark_in past update)))
 
 module _ (s : Setup) (n from : ℕ) (run : Run) (is : IsRun s run) (inside : n < length s.hosts) (corresponds : is_correspondent_at s n ≡ true) where
   here : (past : List (Stamped Step)) → past_at (with_past n past run) n ≡ past
@@ -183,7 +180,7 @@ module _ (s : Setup) (n from : ℕ) (run : Run) (is : IsRun s run) (inside : n <
       → ((m : ℕ) → m ≢ n → accepted_by s.start past m ≡ accepted_by s.start run.past m)
       → moment_in s.start past ≡ moment_in s.start run.past
       → ((m : ℕ) → life_in past m ≡ life_in run.past m)
-      → IsKept s past run.posts
+      → EachAfter (Meets s) [] past
       → IsRun s (at_past past (with_past n (past_at run n ++ stamped (moment_in s.start run.past) steps) run))
   goes_on steps past mine others moment lives kept = record {
     nodes = count next;
@@ -225,7 +222,7 @@ module _ (s : Setup) (n from : ℕ) (run : Run) (is : IsRun s run) (inside : n <
       (accepting_past s run.past (past_at run n) n number home binding a call rest none (is.pasts n corresponds))
       (λ m other. accepted_other s.start m n number run.past home binding a other)
       (accepted_moment s.start n number run.past home binding a) (accepted_lives n number run.past home binding a)
-      (accepted_kept s run.past run.posts n number home binding a stands is.kept))
+      (accepted_kept s run.past n number home binding a stands is.kept))
       (accepted_moment s.start n number run.past home binding a) (accepted_lives n number run.past home binding a)
       (quiet_then s middle (marked_with n number home binding a middle run.past) (answered s n from (marked_with n number home binding a middle run.past) (answers_of rest))
       (quiet_mark s n number home binding a run.past middle refl)

@@ -2,9 +2,7 @@
 use Rattle.std.proofs.Common.{◌≡◌, ℕ, zero, suc, ◌+◌, ◌≤◌, List, [], ◌∷◌, ◌++◌, Bool, true, false, length, ltb, refl, sym, ap, ◌∙◌, subst, arith}
 use Rattle.std.specs.Prelude.{max, Option, Some, None, unwrap_or, ◌==◌, ◌&&◌, if◌then◌else◌}
 use Rattle.std.specs.List.{AllByRecursion}
-use Rattle.std.proofs.lemmas.List.{append-nil}
 use Rattle.std.proofs.lemmas.List.Sums.{fold-append}
-use Rattle.std.proofs.lemmas.List.Elements.{filter_map-append}
 use Rattle.std.proofs.lemmas.Bool.{and_parts, eqb-true, ltb-false}
 use Rattle.mip_words.proofs.EachLaws.{each-append}
 use Rattle.mip_entries.specs.declared.entry.Entry.{Entry}
@@ -20,7 +18,6 @@ use Rattle.mip_history.specs.KnowingLaws.{part_in}
 use Rattle.mip_history.specs.Nodes.{acts}
 use Rattle.mip_history.specs.Waiting.{Waiting, due_of, earliest, comes_to, is_due, ticks_one, ticked, works, works_on, works_until}
 use Rattle.mip_history.specs.Bound.{Lived, lived, accepted_by}
-use Rattle.mip_history.specs.BoundLaws.{packet_posted, packets_of}
 use Rattle.mip_history.proofs.Runs.{Meets, IsPast, IsRun, Goes, goes_then}
 use Rattle.mip_history.proofs.Acting.{stays, acts_calmly}
 
@@ -47,10 +44,7 @@ at_comes s run m is later = record {
     nodes = is.nodes;
     agents = is.agents;
     mobiles = is.mobiles;
-    kept = record {
-      packets = filter_map-append packet_posted run.past (e ∷ []) ∙ append-nil (packets_of run.past) ∙ is.kept.packets;
-      each = each-append (Meets s) [] run.past (e ∷ []) is.kept.each (later, tt);
-    };
+    kept = each-append (Meets s) [] run.past (e ∷ []) is.kept (later, tt);
     pasts = λ n mine. goes_later n (past_at run n) (is.pasts n mine);
     parts = λ n home agent host. let q = is.parts n home agent host in record {
       secrets = q.secrets ∙ ap (λ (l : ℕ). secrets_in s n l) (sym (life n));

@@ -1,38 +1,22 @@
 -- What is kept by each thing that can happen is kept by every event, and by a whole schedule.
-use Rattle.std.proofs.Common.{◌≡◌, ℕ, List, [], ◌∷◌, ◌++◌, Bool, true, false, length, refl, ap, ◌∙◌}
-use Rattle.std.specs.Prelude.{fold, ◌||◌, if◌then◌else◌}
-use Rattle.std.specs.List.{list_any}
-use Rattle.std.proofs.lemmas.List.Folds.{list_any-append}
+use Rattle.std.proofs.Common.{◌≡◌, ℕ, List, [], false, refl}
+use Rattle.std.specs.Prelude.{fold}
 use Rattle.mip_entries.specs.declared.entry.Entry.{Entry}
 use Rattle.mip_entries.specs.declared.entry.Entry.TheVariants as entries
 use Rattle.mip_schedule.specs.declared.event.Event.{Event}
 use Rattle.mip_links.specs.Table.{holder_outside}
-use Rattle.mip_history.specs.Setup.{Setup, Host}
+use Rattle.mip_history.specs.Setup.{Setup}
 use Rattle.mip_history.specs.Runs.{Run, note}
 use Rattle.mip_history.specs.Calls as calls
 use Rattle.mip_history.specs.Calls.{Call, Take}
 use Rattle.mip_history.specs.Nodes.{acts}
-use Rattle.mip_history.specs.Permitted.{is_first_agent, anycast_at, claimed_entry, claims_of, claims_from, opening_claims, opened, happens, run_of}
-use Rattle.mip_history.proofs.Opening.{nothing}
+use Rattle.mip_history.specs.Permitted.{opening_claims, opened, happens, run_of}
+use Rattle.mip_history.proofs.Opening.{claims_none, nothing}
 use Rattle.mip_history.proofs.Keeping.{is_busy, Keeps, keeps_notes, keeps_claims, keeps_gives_up}
 use Rattle.mip_history.proofs.Changes.{IsLeft, IsBy, Change, left, comes, injects, drops, squats, yields, acted, moved, reborn, gives, renewed, all_keep}
 
--- opening claims
-host_idle : (links : List ℕ) (before : List Host) (host : Host) → list_any is_busy (claims_of links before host) ≡ false
-host_idle links before host = by (is_first_agent links before host.address host.kind)
-  where
-    by : (b : Bool) → list_any is_busy (claimed_entry links (length before) host.address ∷ (if b then claimed_entry links (length before) (anycast_at host.address) ∷ [] else [])) ≡ false
-    by true = refl
-    by false = refl
-
-claims_idle : (links : List ℕ) (before hosts : List Host) → list_any is_busy (claims_from links before hosts) ≡ false
-claims_idle links before [] = refl
-claims_idle links before (host ∷ hosts) =
-    list_any-append is_busy (claims_of links before host) (claims_from links (before ++ host ∷ []) hosts)
-    ∙ ap (λ (b : Bool). b || list_any is_busy (claims_from links (before ++ host ∷ []) hosts)) (host_idle links before host)
-    ∙ claims_idle links (before ++ host ∷ []) hosts
-
-left_idle : (s : Setup) (event : Event) (run : Run) (e : Entry) → IsLeft s event run e → is_busy e ≡ false
+-- an entry that no node leaves
+pub left_idle : (s : Setup) (event : Event) (run : Run) (e : Entry) → IsLeft s event run e → is_busy e ≡ false
 left_idle s event run entries.Idle is = refl
 left_idle s event run (entries.Heard k o) is = refl
 left_idle s event run (entries.Handed k node) is = refl
@@ -75,4 +59,4 @@ module _ (s : Setup) (P : Run → Type 0) (keeps : Keeps s P) where
   -- from before the opening claims
   pub walk_run : (events : List Event) → P (nothing s) → P (run_of s events)
   walk_run events p =
-      walk_all (opened s) events (keeps_notes s P one (opening_claims s) (nothing s) (claims_idle s.links [] s.hosts) p)
+      walk_all (opened s) events (keeps_notes s P one (opening_claims s) (nothing s) (claims_none is_busy (λ who link address. refl) s.links [] s.hosts) p)

@@ -28,3 +28,5 @@ pub mod Registered
 pub mod Naming
 pub mod Shown
 pub mod Shields
+pub mod Receivers
+pub mod Refused

@@ -35,6 +35,8 @@ ghost use Rattle.mip_history.specs.Again.{RepeatsAfterRounds};
 ghost use Rattle.mip_history.specs.Naming.{IsDeclared};
 ghost use Rattle.mip_history.specs.Nodes.{rows_by_kind};
 ghost use Rattle.mip_history.specs.Shields.{is_shielded_in};
+ghost use Rattle.mip_history.specs.Receivers.{IsForIt};
+ghost use Rattle.mip_history.specs.Refused.{RefusalsLeaveTables};
 ghost use Rattle.mip_history.specs.Shown.{kept_to, IsLastAcceptance};
 ghost use Rattle.mip_history.specs.Registered.{is_agent_at, registration_entry, last_registration, registered_in, IsRegistration, IsRegistered, HomeChange};
 ghost use Rattle.mip_history.specs.Bound.{accepted_by, held_in, held_under_in, packet_in, accepted_entry, is_accepted, is_restart_of, HasAccepted, IsBound, IsBoundUnder};
@@ -175,6 +177,14 @@ pub fn outsiders_hear_no_shielded_packet()
         → is_shielded_in before number ≡ Some false }
 {}
 
+/// Who is handed a packet that was posted under a shield is the node whose own address, the one that it claimed first, the shield
+/// names (RFC 6275 section 5.1).
+pub fn shields_name_who_is_handed()
+    ensures { (s : Setup) (events : List Event) (before : List Entry) (k : ℕ) (node : NodeId) (after : List Entry)
+        → (run_of s events).past ≡ before ++ Handed k node ∷ after
+        → IsForIt (run_of s events).posts before k node }
+{}
+
 /// A node begins a new life as often as the schedule restarts it, and never otherwise.
 pub fn lives_are_restarts()
     ensures { (c : Content) (n : ℕ) → life_in (permitted c) n ≡ sum_by (restarted_by n) c.events }
@@ -258,4 +268,10 @@ pub fn agents_keep_what_was_registered()
 pub fn a_wait_leaves_nothing_due()
     ensures { (s : Setup) (events : List Event) (ms n : ℕ)
         → is_due (due_of s (waited s (run_of s events) ms) n) (now_in s (waited s (run_of s events) ms)) ≡ false }
+{}
+
+/// Whatever the run, a packet that a node drops, or whose update it denies, leaves the node's tables as they were: a correspondent's
+/// cache, all tables of an agent, which claims and gives up no address, and of a mobile all but the moments of its last calls.
+pub fn refused_packets_leave_the_tables()
+    ensures { (s : Setup) → RefusalsLeaveTables s }
 {}

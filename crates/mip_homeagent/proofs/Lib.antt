@@ -6,3 +6,4 @@ pub mod Befores
 pub mod Roles
 pub mod Sounds
 pub mod CallTransitions
+pub mod Registers

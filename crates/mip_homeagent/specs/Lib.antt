@@ -4,3 +4,4 @@ pub mod Changes
 pub mod Showing
 pub mod Contexts
 pub mod Endings
+pub mod Registering

@@ -1,4 +1,4 @@
-ghost use Rattle.std.specs.Prelude.{◌≡◌, ◌≤◌, ◌<◌, ◌^◌, List, [], true, IfOk, OnOk, OnErr, IsSomeAnd, slice_get};
+ghost use Rattle.std.specs.Prelude.{◌≡◌, ℕ, ◌≤◌, ◌<◌, ◌^◌, List, [], true, IfOk, OnOk, OnErr, IsSomeAnd, slice_get};
 ghost use Rattle.std.specs.List.{AllByRecursion, list_any};
 ghost use Rattle.std.specs.Option.{option_map};
 ghost use Rattle.mip_words.specs.Addresses.{is_routable};
@@ -17,6 +17,7 @@ ghost use Rattle.mip_rules_agent.specs.Refusing.{KeepsTables};
 ghost use Rattle.mip_reception.specs.Refusing.{refuses};
 ghost use Rattle.mip_rules_agent.specs.Seen.{transition_at, called};
 ghost use Rattle.mip_homeagent.specs.Changes.{ChangesClaims};
+ghost use Rattle.mip_homeagent.specs.Registering.{IsOwnUpdate, ChangesByUpdate};
 ghost use Rattle.mip_homeagent.specs.Soundness.{IsReady};
 
 use crate::agent_state::AgentState;
@@ -144,6 +145,7 @@ impl HomeAgent {
             OnOk result (Stands serves (with_transition past (transition_at self.old now.0 calls.Tick)) self.new.known) }
         ensures place { ChangesClaims result (λ _. claims_by (transition_at self.old now.0 calls.Tick).steps)
             (P.around place.old) (P.around place.new) (P.claims place.old) (P.claims place.new) (P.is_same place.old place.new) }
+        ensures registered { (home : Address) (later : ℕ) → OnOk result (careof_at self.new.known later home ≡ careof_at self.old.known later home) }
         ensures last { OnOk result (self.new.known.last ≡ now.0) }
         ensures err { OnErr result (self.new ≡ self.old) }
     {
@@ -169,7 +171,8 @@ impl HomeAgent {
     }
 
     /// What becomes of a home registration, where its place answers so to a claim of its home address: the first row that
-    /// applies (RFC 6275 sections 10.3.1 and 10.3.2). It changes nothing.
+    /// applies (RFC 6275 sections 10.3.1 and 10.3.2). It changes nothing. What is accepted is the home's own update, under its
+    /// shield, after the sequence that is kept.
     pub fn judge_home(
         &self,
         now: Moment,
@@ -179,8 +182,10 @@ impl HomeAgent {
     ) -> HomeVerdict
         requires later { self.now.known.last ≤ now.0 }
         requires update { IsUpdate update.now.message.now }
-        ensures { IsSomeAnd (registration_in update.now.source update.now.home update.now.message.now)
+        ensures found { IsSomeAnd (registration_in update.now.source update.now.home update.now.message.now)
             (λ r. result ≡ verdict (bench self.now.identity self.now.known now.0 r) shield claim r) }
+        ensures accepts { (home careof : Address) (sequence granted : ℕ) → result ≡ HomeVerdict.Accept home careof sequence granted →
+            IsSomeAnd (registration_in update.now.source update.now.home update.now.message.now) (λ r. IsOwnUpdate self.now.known shield r home) }
     {
         let registration = registration_in(update);
         let bench = self.known.bench(&self.identity, now, &registration);
@@ -189,7 +194,8 @@ impl HomeAgent {
 
     /// Takes a packet that was handed to the agent, by its number and shield, and gives what it does about it, in order.
     /// After want of memory the agent is as it was, and so are the claims of its place. A packet that it drops, and an
-    /// update that it denies, change none of its tables and no claim.
+    /// update that it denies, change none of its tables and no claim. The address that is registered for a home changes only by an
+    /// update of that home, which came under its shield and comes after the sequence that is kept; or by the end of its time.
     pub fn take<P: Place>(
         &mut self,
         alloc: Global,
@@ -209,6 +215,8 @@ impl HomeAgent {
             (λ _. claims_by (transition_at self.old now.0 (calls.Take number shield packet.now (claim_for (P.around place.old) packet.now))).steps)
             (P.around place.old) (P.around place.new) (P.claims place.old) (P.claims place.new) (P.is_same place.old place.new) }
         ensures refused { IfOk result (λ a. list_any refuses a ≡ true → KeepsTables self.old.known self.new.known × (P.claims place.new ≡ P.claims place.old)) }
+        ensures registered { OnOk result (ChangesByUpdate self.old.identity self.old.known now.0
+            (calls.Take number shield packet.now (claim_for (P.around place.old) packet.now)) self.new.known) }
         ensures last { OnOk result (self.new.known.last ≡ now.0) }
         ensures err { OnErr result (self.new ≡ self.old) }
     {

@@ -1,12 +1,15 @@
 -- Calls one after another.
-use Rattle.std.proofs.Common.{◌≡◌, ℕ, ◌-◌, zero, suc, ◌+◌, ◌<◌, ◌≤◌, List, [], ◌∷◌, ◌++◌, length, take, true, refl, sym, ap, ◌∙◌, subst, arith, length-append, append_assoc, append-nil}
-use Rattle.std.specs.Prelude.{Option, Some, None, Result, Ok, Err, option_map, slice_get, OnOk, OnErr, replicate}
+use Rattle.std.proofs.Common.{◌≡◌, ℕ, ◌-◌, zero, suc, ◌+◌, ◌<◌, ◌≤◌, List, [], ◌∷◌, ◌++◌, length, take, true, refl, sym, ap, ◌∙◌, subst, arith, length-append, append_assoc, append-nil, inl, inr}
+use Rattle.std.specs.Prelude.{◌⊎◌, Option, Some, None, Result, Ok, Err, option_map, slice_get, OnOk, OnErr, replicate}
 use Rattle.std.specs.List.{flat_map}
 use Rattle.std.proofs.Math.Seq.{take-append-add}
 use Rattle.std.proofs.lemmas.List.{take-append-le, replicate-append-replicate}
 use Rattle.std.proofs.lemmas.Grind.{flat_map-append}
+use Rattle.mip_outside.specs.LinkCalls.{Granted, Refused, EndsAtFault}
+use Rattle.mip_outside.specs.declared.link_call.LinkCall.{LinkCall}
 use Rattle.mip_outside.specs.declared.put_fault.PutFault.{PutFault}
 use Rattle.mip_outside.specs.declared.put_fault.PutFault.TheVariants.{Failed, Memory}
+use Rattle.mip_outside.proofs.Calling.{granted_on, refused_on}
 use Rattle.mip_hub.specs.Calls.{Call, Sends, sent_by, sent_on, is_link, IsCutAt, Stops, Goes}
 
 abbrev Known : Type 0
@@ -110,3 +113,18 @@ texts_more f n x first before after is next =
     next ∙ ap (λ (l : List ℕ). l ++ f x) is ∙ append_assoc first (flat_map f (replicate n x)) (f x)
     ∙ ap (λ (l : List ℕ). first ++ l)
     (ap (λ (l : List ℕ). flat_map f (replicate n x) ++ l) (sym (append-nil (f x))) ∙ sym (flat_map-append f (replicate n x) (x ∷ [])) ∙ ap (flat_map f) (replicate-append-replicate n 1 x))
+
+-- ---- faults of calls
+
+-- memory ran out behind calls that were granted
+pub lost_on : (a b d : List LinkCall) → Granted a b → Granted b d ⊎ Refused Memory b d → Granted a d ⊎ Refused Memory a d
+lost_on a b d first (inl granted) = inl (granted_on a b d first granted)
+lost_on a b d first (inr refused) = inr (refused_on Memory a b d first refused)
+
+-- calls that were granted, then others
+pub ends_on : {ok failed memory : Type 0} (a b d : List LinkCall) → Granted a b → EndsAtFault ok failed memory b d → EndsAtFault ok failed memory a d
+ends_on a b d first next = record {
+  whole = λ e. granted_on a b d first (next.whole e);
+  cut = λ e. refused_on Failed a b d first (next.cut e);
+  lost = λ e. lost_on a b d first (next.lost e);
+}

@@ -5,3 +5,4 @@ mod LineLaws
 mod TurnLaws
 pub mod RunLaws
 mod PassingLaws
+mod HubRules

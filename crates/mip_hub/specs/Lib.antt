@@ -10,3 +10,4 @@ pub mod Turns
 pub mod Served
 pub mod ServedLaws
 pub mod Judged
+pub mod TurnsLaws

@@ -23,5 +23,7 @@ pub use hub_config::HubConfig;
 pub use hub_line::HubLine;
 pub use hub_lines::HubLines;
 pub use hub_reading::read_hub;
-pub use laws::frames_pass_as_they_came;
+pub use laws::{
+    frames_go_once, frames_pass_as_they_came, last_lines_count, routers_are_advertised,
+};
 pub use serving::serve_hub;

@@ -2,7 +2,9 @@
 
 ghost use Rattle.std.specs.Prelude.{◌≡◌, ◌≤◌, ◌++◌, IfOk, OnOk, IsErrOf, replicate};
 ghost use Rattle.std.specs.List.{flat_map};
+ghost use Rattle.std.specs.Result.{IsOk};
 ghost use Rattle.mip_outside.specs.Cause.{Rose};
+ghost use Rattle.mip_outside.specs.LinkCalls.{EndsAtFault};
 ghost use Rattle.mip_hub.specs.Calls.{Goes};
 ghost use Rattle.mip_hub.specs.Judged.{judged};
 ghost use Rattle.mip_hub.specs.Ports.{port_at};
@@ -85,10 +87,11 @@ fn tell(hub: &mut Hub, copies: u8, datagram: &[u8]) -> Result<Passing, Memory>
 }
 
 /// The bytes of a datagram go to the port that has its destination.
-#[tactic(auto, unfolding(crate::specs::Passing::passed_calls), using(crate::proofs::CallLaws::same_sent))]
+#[tactic(auto, unfolding(crate::specs::Passing::passed_calls), using(mip_outside::proofs::Calling::granted_none, crate::proofs::CallLaws::same_sent))]
 fn send_on<L: Link>(link: &mut L, passing: Passing, datagram: &[u8]) -> Result<(), PutFault>
     ensures goes { Goes (passed_calls datagram.now (judged passing)) result (L.sent link.old) (L.sent link.new) }
     ensures kept { (L.coming link.new ≡ L.coming link.old) × (L.port link.new ≡ L.port link.old) }
+    ensures calls { EndsAtFault (IsOk result) (IsErrOf result PutFault.Failed) (IsErrOf result PutFault.Memory) (L.calls link.old) (L.calls link.new) }
     ensures no_fewer { L.faults link.old ≤ L.faults link.new }
     ensures cause { IsErrOf result PutFault.Failed → Rose (L.faults link.old) (L.faults link.new) }
 {
@@ -99,7 +102,7 @@ fn send_on<L: Link>(link: &mut L, passing: Passing, datagram: &[u8]) -> Result<(
 }
 
 /// Passes a datagram on.
-#[tactic(auto, using(crate::proofs::CallLaws::stays))]
+#[tactic(auto, using(mip_outside::proofs::Calling::granted_none, crate::proofs::CallLaws::stays))]
 pub fn pass<L: Link>(
     hub: &mut Hub,
     link: &mut L,
@@ -109,6 +112,7 @@ pub fn pass<L: Link>(
     ensures hub { OnOk result (hub.new ≡ datagram_done copies datagram.now hub.old) }
     ensures goes { Goes (passed_calls datagram.now (passed hub.old.ports copies datagram.now)) result (L.sent link.old) (L.sent link.new) }
     ensures kept { (L.coming link.new ≡ L.coming link.old) × (L.port link.new ≡ L.port link.old) }
+    ensures calls { EndsAtFault (IsOk result) (IsErrOf result PutFault.Failed) (IsErrOf result PutFault.Memory) (L.calls link.old) (L.calls link.new) }
     ensures no_fewer { L.faults link.old ≤ L.faults link.new }
     ensures cause { IsErrOf result PutFault.Failed → Rose (L.faults link.old) (L.faults link.new) }
 {

@@ -3,7 +3,7 @@ use Rattle.std.proofs.Common.{◌≡◌, ℕ, zero, suc, ◌+◌, ◌-◌, ◌*�
 use Rattle.std.proofs.lemmas.List.{drop-drop}
 use Rattle.std.proofs.lemmas.Bool.{eqb-true, eqb-false, cond_both, eq-eqb}
 use Rattle.std.specs.Prelude.{◌==◌, true}
-use Rattle.mip_words.specs.Numbers.{number_bytes}
+use Rattle.mip_words.specs.Numbers.{IsBytes, number_at, number_bytes}
 use Rattle.mip_words.specs.Addresses.{address_bytes}
 use Rattle.mip_words.specs.declared.address.Address.{Address}
 use Rattle.mip_words.proofs.Fields.{length-number_bytes}
@@ -26,6 +26,32 @@ word_sum_two [] rest bytes two e = absurd (omega (arith, two))
 word_sum_two (a ∷ []) rest bytes two e = absurd (omega (arith, two))
 word_sum_two (a ∷ b ∷ []) rest bytes two e = ap word_sum (sym e)
 word_sum_two (a ∷ b ∷ c ∷ more) rest bytes two e = absurd (omega (arith, two))
+
+-- eight bytes more
+pub word_sum_front : (front rest bytes : List ℕ) → length front ≡ 8 → front ++ rest ≡ bytes → word_sum bytes ≡ word_sum front + word_sum rest
+word_sum_front front rest bytes eight e = ap word_sum (sym e) ∙ word_sum-append 4 front rest eight
+
+-- eight bytes as one number, which is the number of four words
+eight_is : (a b c d e f g h n : ℕ) → a < 256 → b < 256 → c < 256 → d < 256 → e < 256 → f < 256 → g < 256 → h < 256
+    → n ≡ (((256 * a + b) * 65536 + (256 * c + d)) * 65536 + (256 * e + f)) * 65536 + (256 * g + h)
+    → n / 281474976710656 + n / 4294967296 % 65536 + n / 65536 % 65536 + n % 65536 ≡ 256 * a + b + (256 * c + d + (256 * e + f + (256 * g + h)))
+eight_is a b c d e f g h n a' b' c' d' e' f' g' h' is = omega (arith, is, a', b', c', d', e', f', g', h')
+
+pub four_words : (bytes : List ℕ) → IsBytes bytes → length bytes ≡ 8
+    → number_at 8 0 bytes / 281474976710656 + number_at 8 0 bytes / 4294967296 % 65536 + number_at 8 0 bytes / 65536 % 65536 + number_at 8 0 bytes % 65536 ≡ word_sum bytes
+unfolding word_sum number_at
+four_words [] are eight = absurd (omega (arith, eight))
+four_words (a ∷ []) are eight = absurd (omega (arith, eight))
+four_words (a ∷ b ∷ []) are eight = absurd (omega (arith, eight))
+four_words (a ∷ b ∷ c ∷ []) are eight = absurd (omega (arith, eight))
+four_words (a ∷ b ∷ c ∷ d ∷ []) are eight = absurd (omega (arith, eight))
+four_words (a ∷ b ∷ c ∷ d ∷ e ∷ []) are eight = absurd (omega (arith, eight))
+four_words (a ∷ b ∷ c ∷ d ∷ e ∷ f ∷ []) are eight = absurd (omega (arith, eight))
+four_words (a ∷ b ∷ c ∷ d ∷ e ∷ f ∷ g ∷ []) are eight = absurd (omega (arith, eight))
+four_words (a ∷ b ∷ c ∷ d ∷ e ∷ f ∷ g ∷ h ∷ []) are eight =
+    let e8 = eight_is a b c d e f g h (number_at 8 0 (a ∷ b ∷ c ∷ d ∷ e ∷ f ∷ g ∷ h ∷ [])) (are 0) (are 1) (are 2) (are 3) (are 4) (are 5) (are 6) (are 7) (omega arith) in
+    omega (arith, e8)
+four_words (a ∷ b ∷ c ∷ d ∷ e ∷ f ∷ g ∷ h ∷ i ∷ more) are eight = absurd (omega (arith, eight))
 
 -- the end of the list
 pub word_sum_none : (bytes : List ℕ) → length bytes ≡ 0 → word_sum bytes ≡ 0

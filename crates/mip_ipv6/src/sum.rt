@@ -1,11 +1,41 @@
 ghost use Rattle.std.specs.Prelude.{◌≡◌, ◌+◌, ◌*◌, ◌%◌, ◌≤◌, length, IsTrue};
 ghost use Rattle.mip_ipv6.specs.Sum.{word_sum, pseudo_header, is_right_sum, with_number_at, folded, checksum_of};
 
-use mip_words::{Address, u32_bytes};
+use mip_words::{Address, u32_bytes, u64_at};
+
+/// The sum of the four words in eight bytes, which are read as one number.
+fn sum_of_eight(bytes: &[u8]) -> u64
+    requires { length bytes.now ≡ 8 }
+    ensures value { result ≡ word_sum bytes.now }
+    ensures small { result ≤ 65535 * 8 }
+{
+    let number = u64_at(bytes, 0);
+    number / 0x1_0000_0000_0000
+        + number / 0x1_0000_0000 % 0x1_0000
+        + number / 0x1_0000 % 0x1_0000
+        + number % 0x1_0000
+}
 
 /// The plain sum of the 16-bit words.
-#[tactic(auto, using(crate::proofs::Sums::word_sum_two, crate::proofs::Sums::word_sum_one, crate::proofs::Sums::word_sum_none))]
+#[tactic(auto, using(crate::proofs::Sums::word_sum_front))]
 fn sum_of(bytes: &[u8]) -> u64
+    requires { length bytes.now ≤ 65535 }
+    ensures value { result ≡ word_sum bytes.now }
+    ensures small { result ≤ 65535 * length bytes.now }
+{
+    let mut sum = 0u64;
+    let mut rest = bytes;
+    while rest.len() >= 8 {
+        let (eight, after) = rest.split_at(8);
+        sum += sum_of_eight(eight);
+        rest = after;
+    }
+    sum + sum_of_few(rest)
+}
+
+/// The same a word at a time.
+#[tactic(auto, using(crate::proofs::Sums::word_sum_two, crate::proofs::Sums::word_sum_one, crate::proofs::Sums::word_sum_none))]
+fn sum_of_few(bytes: &[u8]) -> u64
     requires { length bytes.now ≤ 65535 }
     ensures value { result ≡ word_sum bytes.now }
     ensures small { result ≤ 65535 * length bytes.now }

@@ -32,7 +32,7 @@ use Rattle.mip_rules_agent.specs.Calls.{claim_for}
 use Rattle.mip_rules_agent.specs.Steps.{Step, Called, Sends, Registers, Claims, Releases, Denies, Drops, Rang, answers_of}
 use Rattle.mip_rules_agent.specs.Questions.{key_of, after, known, served_at, is_served, holds, due_ends, later_ends, ends_with, rows_at}
 use Rattle.mip_rules_agent.specs.Pasts.{is_one_of}
-use Rattle.mip_rules_agent.specs.RefusingLaws.{is_claim}
+use Rattle.mip_rules_agent.specs.Refusing.{is_claim}
 use Rattle.mip_rules_agent.specs.Rules.{bench, claim_with, advertises}
 use Rattle.mip_rules_agent.specs.Soundness.{IsSound}
 use Rattle.mip_rules_agent.specs.Transitions as agent_transitions

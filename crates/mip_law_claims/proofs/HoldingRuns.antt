@@ -1,12 +1,10 @@
 -- In every run a mobile holds the care-of address that it uses.
-use Rattle.std.proofs.Common.{◌≡◌, ◌≢◌, ℕ, zero, suc, ◌<◌, List, [], ◌∷◌, ◌++◌, Bool, true, false, inl, inr, length, refl, sym, ap, ◌∙◌, subst, arith, length-set}
-use Rattle.std.specs.Prelude.{Option, Some, None, unwrap_or, ◌==◌, if◌then◌else◌, slice_get, slice_set, slice_index_or, map}
-use Rattle.std.proofs.lemmas.List.{length-map, get_or-set_same, get_or-set_other}
-use Rattle.std.proofs.lemmas.Option.{slice_get_within}
+use Rattle.std.proofs.Common.{◌≡◌, ◌≢◌, ℕ, zero, suc, List, [], ◌∷◌, ◌++◌, Bool, true, false, inl, inr, length, refl, sym, ap, ◌∙◌, subst, length-set}
+use Rattle.std.specs.Prelude.{Option, Some, None, unwrap_or, ◌==◌, if◌then◌else◌, slice_get, slice_index_or, map}
+use Rattle.std.proofs.lemmas.List.{length-map, get_or-set_other}
 use Rattle.std.proofs.lemmas.Bool.{cases_eq, eqb-true, eq-eqb, ne_eqb}
 use Rattle.mip_words.specs.declared.address.Address.{Address}
 use Rattle.mip_words.specs.declared.ids.LinkId.{LinkId}
-use Rattle.mip_outside.specs.Places.{claim_in}
 use Rattle.mip_entries.specs.declared.answer.Answer.{Answer}
 use Rattle.mip_entries.specs.declared.answer.Answer.TheVariants.{Send, Note}
 use Rattle.mip_entries.specs.declared.entry.Entry.{Entry}
@@ -18,8 +16,7 @@ use Rattle.mip_rules_mobile.specs.Known.{Known}
 use Rattle.mip_rules_mobile.specs.Calls as mobiles
 use Rattle.mip_rules_mobile.specs.HomeQuestions.{home_of}
 use Rattle.mip_rules_mobile.specs.Questions.{known}
-use Rattle.mip_rules_mobile.specs.MovingRules.{address_under}
-use Rattle.mip_rules_mobile.specs.Steps.{Step, answers_of}
+use Rattle.mip_rules_mobile.specs.Steps.{Step}
 use Rattle.mip_rules_mobile.specs.Transitions.{Transition, Stands, with_transition}
 use Rattle.mip_rules_mobile.specs.Doing.{transition_of}
 use Rattle.mip_rules_mobile.proofs.Shielding.{past-home}
@@ -30,17 +27,17 @@ use Rattle.mip_schedule.specs.declared.event.Event.{Event}
 use Rattle.mip_history.specs.Setup.{Setup, Host, is_mobile_host}
 use Rattle.mip_history.specs.Setup.Kind.{Agent, Mobile}
 use Rattle.mip_history.specs.Runs.{Run, note, entered, mobile_past_at, with_mobile_past}
-use Rattle.mip_history.specs.Calls.{Call, Take, Send as SendsTo, Refresh, Tick, Plan, Hear, Attach, Leave, Ask, Restart}
+use Rattle.mip_history.specs.Calls.{Call}
 use Rattle.mip_history.specs.Questions.{holder_in}
 use Rattle.mip_history.specs.Claims.{link_id, claims}
 use Rattle.mip_history.specs.Homes.{resident, passes_to, left_on, given_up_on, gives_up}
-use Rattle.mip_history.specs.Knowing.{now_in, secrets_in, mobile_known_in, stands_on, around_in}
-use Rattle.mip_history.specs.Nodes.{left_by, answered_one, answered, after_mobile_transition, by_kind, by_host, acts}
+use Rattle.mip_history.specs.Knowing.{now_in, secrets_in, mobile_known_in, stands_on}
+use Rattle.mip_history.specs.Nodes.{left_by, answered_one, answered, after_mobile_transition, acts}
 use Rattle.mip_history.specs.Permitted.{opened, run_of}
 use Rattle.mip_law_claims.specs.Holdings.{HoldsWhatItUses}
 use Rattle.mip_law_claims.proofs.Noting.{is_claiming, left_kept, sent_kept}
-use Rattle.mip_history.proofs.Effects.{released_holder, held_is, answers_pasts}
-use Rattle.mip_law_claims.proofs.Acting.{acts_kept}
+use Rattle.mip_history.proofs.Effects.{released_holder, held_is}
+use Rattle.mip_law_claims.proofs.Acting.{acts_kept, own_past, own_acts}
 use Rattle.mip_law_claims.proofs.Walking.{KeepsClaims, walk_run}
 use Rattle.mip_law_claims.proofs.Tables.{holder_push, IsSafe, safe_other, safe_claimed, safe_released, other_holder, not_held, other_claims}
 use Rattle.mip_law_claims.proofs.Holding.{Holds, staying_holds, restarting_holds, leaving_holds, attaching_holds}
@@ -178,45 +175,24 @@ module _ (s : Setup) (m : ℕ) (own : Address) (agent : Option Address) (host : 
 
     finish : (c : mobiles.Call) → Holds s m own agent host from (middle c) (transition c) → IsHolding (after_mobile_transition s m own (transition c) run)
     finish c holds =
-        let new : List (Stamped Step) = with_transition past (transition c) in
-        let final : Run = after_mobile_transition s m own (transition c) run in
-        let pasts : final.mobile_pasts ≡ slice_set run.mobile_pasts m new = (answers_pasts s m from (answers_of (transition c).steps) (middle c)).2 in
-        let inside : m < length s.hosts = slice_get_within s.hosts m (record { address = own; kind = Mobile agent }) host in
-        let long : length run.mobile_pasts ≡ length s.hosts = h.long in
-        let here : mobile_past_at final m ≡ new =
-        ap (λ (l : List (List (Stamped Step))). slice_index_or l m []) pasts ∙ get_or-set_same run.mobile_pasts m new [] (omega (arith, long, inside)) in
+        let then_ = own_past s m own agent host run h.long c in
         record {
-          long = ap (λ (l : List (List (Stamped Step))). length l) pasts ∙ length-set run.mobile_pasts m new ∙ long;
+          long = ap (λ (l : List (List (Stamped Step))). length l) then_.0 ∙ length-set run.mobile_pasts m (with_transition past (transition c)) ∙ h.long;
           held =
               λ careof away on. holds careof
-              (ap (λ (x : Known). x.standing) (known_then c ∙ ap knows (sym here)) ∙ away) on;
+              (ap (λ (x : Known). x.standing) (known_then c ∙ ap knows (sym then_.1)) ∙ away) on;
         }
 
-    own_kind : (call : Call) → IsHolding (by_kind s m own call run (Mobile agent))
-    own_kind (Take number shield packet) = let c = mobiles.Take number shield packet in finish c (staying_holds s m own agent host from (middle c) k (now_in s run) h.held c refl refl)
-    own_kind (SendsTo to proto payload) = let c = mobiles.Send to proto payload in finish c (staying_holds s m own agent host from (middle c) k (now_in s run) h.held c refl refl)
-    own_kind (Refresh to) = let c = mobiles.Refresh to in finish c (staying_holds s m own agent host from (middle c) k (now_in s run) h.held c refl refl)
-    own_kind Tick = let c = mobiles.Tick in finish c (staying_holds s m own agent host from (middle c) k (now_in s run) h.held c refl refl)
-    own_kind Ask = let c = mobiles.Ask in finish c (staying_holds s m own agent host from (middle c) k (now_in s run) h.held c refl refl)
-    own_kind (Restart secrets) = let c = mobiles.Restart secrets in finish c (restarting_holds s m own agent host from (middle c) k (now_in s run) h.held secrets)
-    own_kind Leave =
-        let of_home = claim_in (around_in run m (Some own.0)) own.0 in
-        let c = mobiles.Leave of_home in finish c (leaving_holds s m own agent host from (middle c) k (now_in s run) h.held of_home)
-    own_kind (Attach prefix) =
-        let around = around_in run m (Some own.0) in
-        let of_home = claim_in around own.0 in
-        let of_address = claim_in around (address_under own prefix).0 in
-        let c = mobiles.Attach prefix of_home of_address in
-        finish c (attaching_holds s m own agent host from (middle c) k (now_in s run) h.held prefix of_home of_address home refl)
-    own_kind (Plan valid preferred) = holding_other run entries.Idle refl h
-    own_kind (Hear other preference life) = holding_other run entries.Idle refl h
-
-    own_acts : (call : Call) → IsHolding (acts s m call run)
-    own_acts call = subst (λ (o : Option Host). IsHolding (by_host s m call run o)) (sym host) (own_kind call)
+    acts_itself : (call : Call) → IsHolding (acts s m call run)
+    acts_itself =
+        own_acts s m own agent host run IsHolding (holding_other run entries.Idle refl h) (λ c stays lives. finish c (staying_holds s m own agent host from (middle c) k (now_in s run) h.held c stays lives))
+        (λ secrets. finish _ (restarting_holds s m own agent host from (middle _) k (now_in s run) h.held secrets))
+        (finish _ (leaving_holds s m own agent host from (middle _) k (now_in s run) h.held _))
+        (λ prefix. finish _ (attaching_holds s m own agent host from (middle _) k (now_in s run) h.held prefix _ _ home refl))
 
   pub acts_holding : (run : Run) (n : ℕ) (call : Call) → IsHolding run → IsHolding (acts s n call run)
   acts_holding run n call h = elim (cases_eq m n) as (λ _. IsHolding (acts s n call run)) [
-    | inl e ↦ subst (λ (x : ℕ). IsHolding (acts s x call run)) e (own_acts run h call)
+    | inl e ↦ subst (λ (x : ℕ). IsHolding (acts s x call run)) e (acts_itself run h call)
     | inr other ↦ other_acts n other run h call
   ]
 

@@ -1,14 +1,12 @@
 -- Every run tells which addresses its mobiles claim and find taken.
-use Rattle.std.proofs.Common.{◌≡◌, ◌≢◌, ℕ, zero, suc, ◌+◌, ◌<◌, List, [], ◌∷◌, ◌++◌, Bool, true, false, inl, inr, length, refl, sym, ap, ◌∙◌, subst, arith, length-set, length-append}
-use Rattle.std.specs.Prelude.{Option, Some, None, unwrap_or, ◌==◌, if◌then◌else◌, slice_get, slice_set, slice_index_or, map}
+use Rattle.std.proofs.Common.{◌≡◌, ◌≢◌, ℕ, zero, suc, ◌+◌, List, [], ◌∷◌, ◌++◌, Bool, true, false, inl, inr, length, refl, sym, ap, ◌∙◌, subst, arith, length-set, length-append}
+use Rattle.std.specs.Prelude.{Option, Some, None, unwrap_or, ◌==◌, if◌then◌else◌, slice_get, slice_index_or, map}
 use Rattle.std.specs.List.{filter_map, cons_option}
-use Rattle.std.proofs.lemmas.List.{length-map, get_or-set_same, get_or-set_other}
+use Rattle.std.proofs.lemmas.List.{length-map, get_or-set_other}
 use Rattle.std.proofs.lemmas.List.Elements.{filter_map-append}
-use Rattle.std.proofs.lemmas.Option.{slice_get_within}
 use Rattle.std.proofs.lemmas.Bool.{cases_eq, eqb-true, eq-eqb, ne_eqb}
 use Rattle.mip_words.specs.declared.address.Address.{Address}
 use Rattle.mip_words.specs.declared.ids.LinkId.{LinkId}
-use Rattle.mip_outside.specs.Places.{claim_in}
 use Rattle.mip_entries.specs.declared.answer.Answer.{Answer}
 use Rattle.mip_entries.specs.declared.entry.Entry.{Entry}
 use Rattle.mip_entries.specs.declared.entry.Entry.TheVariants as entries
@@ -16,8 +14,7 @@ use Rattle.mip_entries.specs.Stamped.{Stamped, stamped}
 use Rattle.mip_rules_mobile.specs.Known.{Known}
 use Rattle.mip_rules_mobile.specs.Calls as mobiles
 use Rattle.mip_rules_mobile.specs.HomeQuestions.{home_of}
-use Rattle.mip_rules_mobile.specs.MovingRules.{address_under}
-use Rattle.mip_rules_mobile.specs.Steps.{Step, answers_of}
+use Rattle.mip_rules_mobile.specs.Steps.{Step}
 use Rattle.mip_rules_mobile.specs.Transitions.{Transition, with_transition}
 use Rattle.mip_rules_mobile.specs.Doing.{transition_of}
 use Rattle.mip_rules_mobile.proofs.Shielding.{past-home}
@@ -26,13 +23,12 @@ use Rattle.mip_schedule.specs.declared.event.Event.{Event}
 use Rattle.mip_history.specs.Setup.{Setup, Host}
 use Rattle.mip_history.specs.Setup.Kind.{Mobile}
 use Rattle.mip_history.specs.Runs.{Run, note, entered, mobile_past_at, with_mobile_past}
-use Rattle.mip_history.specs.Calls.{Call, Take, Send, Refresh, Tick, Plan, Hear, Attach, Leave, Ask, Restart}
-use Rattle.mip_history.specs.Knowing.{now_in, secrets_in, mobile_known_in, stands_on, around_in}
-use Rattle.mip_history.specs.Nodes.{answered, after_mobile_transition, by_kind, by_host, acts}
+use Rattle.mip_history.specs.Calls.{Call}
+use Rattle.mip_history.specs.Knowing.{now_in, secrets_in, mobile_known_in, stands_on}
+use Rattle.mip_history.specs.Nodes.{answered, after_mobile_transition, acts}
 use Rattle.mip_history.specs.Permitted.{is_first_agent, anycast_at, claimed_entry, claims_of, claims_from, opened, run_of}
 use Rattle.mip_law_claims.specs.Claimings.{Claiming, search_told, searches_told, mobile_search, mobile_searches}
-use Rattle.mip_history.proofs.Effects.{answers_pasts}
-use Rattle.mip_law_claims.proofs.Acting.{acts_kept}
+use Rattle.mip_law_claims.proofs.Acting.{acts_kept, own_past, own_acts}
 use Rattle.mip_law_claims.proofs.Walking.{KeepsClaims, walk_run}
 use Rattle.mip_law_claims.proofs.Searches.{search_same, silent_other, silent_claimed, silent_home, gives_up_silent, claims_silent, answers_silent}
 use Rattle.mip_law_claims.proofs.Mobiles.{Told, staying_told, restarting_told, leaving_told, attaching_told}
@@ -88,47 +84,26 @@ module _ (s : Setup) (m : ℕ) (own : Address) (agent : Option Address) (host : 
 
     finish : (c : mobiles.Call) → Told s m own agent host from (middle c) (transition c) → IsTelling (after_mobile_transition s m own (transition c) run)
     finish c told =
-        let new : List (Stamped Step) = with_transition past (transition c) in
-        let final : Run = after_mobile_transition s m own (transition c) run in
-        let pasts : final.mobile_pasts ≡ slice_set run.mobile_pasts m new = (answers_pasts s m from (answers_of (transition c).steps) (middle c)).2 in
-        let inside : m < length s.hosts = slice_get_within s.hosts m (record { address = own; kind = Mobile agent }) host in
-        let long : length run.mobile_pasts ≡ length s.hosts = h.long in
-        let here : mobile_past_at final m ≡ new =
-        ap (λ (l : List (List (Stamped Step))). slice_index_or l m []) pasts ∙ get_or-set_same run.mobile_pasts m new [] (omega (arith, long, inside)) in
+        let then_ = own_past s m own agent host run h.long c in
         record {
-          long = ap (λ (l : List (List (Stamped Step))). length l) pasts ∙ length-set run.mobile_pasts m new ∙ long;
+          long = ap (λ (l : List (List (Stamped Step))). length l) then_.0 ∙ length-set run.mobile_pasts m (with_transition past (transition c)) ∙ h.long;
           told =
               told ∙ ap (λ (l : List Claiming). l ++ filter_map (mobile_search s.links own) (transition c).steps) h.told
               ∙ ap (λ (l : List Claiming). mobile_searches s.links own past ++ l) (sym (stamped_searches (transition c).now (transition c).steps))
               ∙ sym (filter_map-append (λ (x : Stamped Step). mobile_search s.links own x.step) past (stamped (transition c).now (transition c).steps))
-              ∙ ap (mobile_searches s.links own) (sym here);
+              ∙ ap (mobile_searches s.links own) (sym then_.1);
         }
 
-    own_kind : (call : Call) → IsTelling (by_kind s m own call run (Mobile agent))
-    own_kind (Take number shield packet) = let c = mobiles.Take number shield packet in finish c (staying_told s m own agent host from (middle c) k (now_in s run) c refl refl)
-    own_kind (Send to proto payload) = let c = mobiles.Send to proto payload in finish c (staying_told s m own agent host from (middle c) k (now_in s run) c refl refl)
-    own_kind (Refresh to) = let c = mobiles.Refresh to in finish c (staying_told s m own agent host from (middle c) k (now_in s run) c refl refl)
-    own_kind Tick = let c = mobiles.Tick in finish c (staying_told s m own agent host from (middle c) k (now_in s run) c refl refl)
-    own_kind Ask = let c = mobiles.Ask in finish c (staying_told s m own agent host from (middle c) k (now_in s run) c refl refl)
-    own_kind (Restart secrets) = let c = mobiles.Restart secrets in finish c (restarting_told s m own agent host from (middle c) k (now_in s run) secrets)
-    own_kind Leave =
-        let of_home = claim_in (around_in run m (Some own.0)) own.0 in
-        let c = mobiles.Leave of_home in finish c (leaving_told s m own agent host from (middle c) k (now_in s run) of_home)
-    own_kind (Attach prefix) =
-        let around = around_in run m (Some own.0) in
-        let of_home = claim_in around own.0 in
-        let of_address = claim_in around (address_under own prefix).0 in
-        let c = mobiles.Attach prefix of_home of_address in
-        finish c (attaching_told s m own agent host from (middle c) prefix k (now_in s run) of_home of_address home refl)
-    own_kind (Plan valid preferred) = telling_silent run entries.Idle refl h
-    own_kind (Hear other preference life) = telling_silent run entries.Idle refl h
-
-    own_acts : (call : Call) → IsTelling (acts s m call run)
-    own_acts call = subst (λ (o : Option Host). IsTelling (by_host s m call run o)) (sym host) (own_kind call)
+    acts_itself : (call : Call) → IsTelling (acts s m call run)
+    acts_itself =
+        own_acts s m own agent host run IsTelling (telling_silent run entries.Idle refl h) (λ c stays lives. finish c (staying_told s m own agent host from (middle c) k (now_in s run) c stays lives))
+        (λ secrets. finish _ (restarting_told s m own agent host from (middle _) k (now_in s run) secrets))
+        (finish _ (leaving_told s m own agent host from (middle _) k (now_in s run) _))
+        (λ prefix. finish _ (attaching_told s m own agent host from (middle _) prefix k (now_in s run) _ _ home refl))
 
   acts_telling : (run : Run) (n : ℕ) (call : Call) → IsTelling run → IsTelling (acts s n call run)
   acts_telling run n call h = elim (cases_eq m n) as (λ _. IsTelling (acts s n call run)) [
-    | inl e ↦ subst (λ (x : ℕ). IsTelling (acts s x call run)) e (own_acts run h call)
+    | inl e ↦ subst (λ (x : ℕ). IsTelling (acts s x call run)) e (acts_itself run h call)
     | inr other ↦ other_acts n other run h call
   ]
 

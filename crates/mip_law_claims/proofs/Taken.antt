@@ -35,7 +35,7 @@ use Rattle.mip_rules_agent.specs.Steps as agents
 use Rattle.mip_rules_agent.specs.declared.ending.Ending.{Ending}
 use Rattle.mip_rules_agent.specs.declared.home_row.HomeRow.{HomeRow}
 use Rattle.mip_rules_agent.specs.Questions.{holds, after, due_ends, rows_at}
-use Rattle.mip_rules_agent.specs.RefusingLaws.{is_claim}
+use Rattle.mip_rules_agent.specs.Refusing.{is_claim}
 use Rattle.mip_rules_agent.specs.Rules.{bench, claim_with, advertises}
 use Rattle.mip_rules_agent.specs.Verdicts.{binding_for}
 use Rattle.mip_rules_agent.specs.Soundness.{IsSound}

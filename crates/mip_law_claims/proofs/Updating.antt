@@ -33,7 +33,7 @@ use Rattle.mip_rules_agent.specs.Calls as calls
 use Rattle.mip_rules_agent.specs.Calls.{home_in}
 use Rattle.mip_rules_agent.specs.Messages.{shield_to}
 use Rattle.mip_rules_agent.specs.Steps.{Step, Called, Sends, Registers, Claims, Releases, Denies, Drops}
-use Rattle.mip_rules_agent.specs.RefusingLaws.{is_claim}
+use Rattle.mip_rules_agent.specs.Refusing.{is_claim}
 use Rattle.mip_rules_agent.specs.Questions.{careof_at, holds, after}
 use Rattle.mip_rules_agent.specs.Transitions.{Transition, begun, noted}
 use Rattle.mip_rules_agent.specs.Verdicts.{is_from, verdict, binding_for}

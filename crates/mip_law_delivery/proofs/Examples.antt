@@ -23,19 +23,19 @@ use Rattle.mip_law_delivery.specs.Reached.{sending, is_heard, IsPayload, AreSett
 use Rattle.mip_law_delivery.specs.ReachedLaws.{SendsStraight}
 use Rattle.mip_law_delivery.proofs.Leaving.{correspondent_leaves}
 
-abbrev own : Address
+abbrev pub own : Address
 own = record { 0 = 18446744073709551626 }
 
-abbrev to : Address
+abbrev pub to : Address
 to = record { 0 = 18446744073709551627 }
 
-abbrev host : Address → Host
+abbrev pub host : Address → Host
 host a = record { address = a; kind = Correspondent 4 }
 
-abbrev s : Setup
+abbrev pub s : Setup
 s = record { seed = []; start = 0; links = 1 ∷ []; hosts = host own ∷ host to ∷ []; outsiders = 0; numbers = 1 }
 
-abbrev run : Run
+abbrev pub run : Run
 run = run_of s []
 
 -- what both nodes have, each has
@@ -82,7 +82,7 @@ orderly = record {
   unserved = λ n a preference life room serves is. absurd (not_agent n a preference life room serves is);
 }
 
-settled : is_settled 0 run.past 0 1 ≡ true
+pub settled : is_settled 0 run.past 0 1 ≡ true
 unfolding is_settled any_node any_below held accepted_by
 settled = refl
 

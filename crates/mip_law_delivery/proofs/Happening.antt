@@ -1,6 +1,6 @@
 -- A packet that was delivered in a stretch of a run: one event handed it over, and what it left stands in the stretch.
-use Rattle.std.proofs.Common.{◌≡◌, ℕ, zero, suc, ◌<◌, ◌≤◌, List, [], ◌∷◌, ◌++◌, Bool, true, false, length, refl, sym, ap, ◌∙◌, subst, arith, length-append}
-use Rattle.std.specs.Prelude.{map, Option, Some, None, Ok, Contains, if◌then◌else◌, slice_get, slice_index_or}
+use Rattle.std.proofs.Common.{◌≡◌, ℕ, ◌<◌, ◌≤◌, List, [], ◌∷◌, ◌++◌, Bool, true, false, length, refl, sym, ap, ◌∙◌, subst, arith, length-append}
+use Rattle.std.specs.Prelude.{Option, Some, None, Ok, Contains, if◌then◌else◌, slice_get, slice_index_or}
 use Rattle.std.proofs.lemmas.List.{append_assoc}
 use Rattle.mip_ipv6.specs.Packet.{Packet}
 use Rattle.mip_ipv6.specs.Reading.{packet_of}
@@ -17,8 +17,7 @@ use Rattle.mip_history.specs.Nodes.{acts}
 use Rattle.mip_history.specs.Delivery.{handed_over, overheard_at, handed, arrival_link, arrived, delivered}
 use Rattle.mip_history.specs.Bound.{packet_in}
 use Rattle.mip_history.specs.Permitted.{happens, run_of}
-use Rattle.mip_history.proofs.Events.{run_passes}
-use Rattle.mip_history.proofs.Numbered.{packet_numbered}
+use Rattle.mip_history.proofs.Numbers.{posted_is, run_numbers}
 use Rattle.mip_law_delivery.specs.Stretches.{run_on, left_by}
 use Rattle.mip_law_delivery.specs.StretchesLaws.{IsSingle, AreSingle}
 use Rattle.mip_law_delivery.specs.Answers.{IsReached, IsDelivered}
@@ -158,12 +157,4 @@ module _ (s : Setup) (from : Run) (events : List Event) (single : AreSingle even
 
 -- in a run a packet is found by its number, as it was posted
 pub packet_found : (s : Setup) (events : List Event) (k : ℕ) (post : Post) → slice_get (run_of s events).posts k ≡ Some post → packet_in (run_of s events).past k ≡ Some post.packet
-packet_found s events k post posted =
-    let run : Run = run_of s events in
-    let kept = (run_passes s events).run.kept in
-    packet_numbered s run.past k kept.each ∙ ap (λ (l : List (List ℕ)). slice_get l k) kept.packets ∙ get_map run.posts k posted
-  where
-    get_map : (posts : List Post) (i : ℕ) → slice_get posts i ≡ Some post → slice_get (map (λ (x : Post). x.packet) posts) i ≡ Some post.packet
-    get_map [] i is = absurd cc
-    get_map (x ∷ posts) zero is = let same : x ≡ post = cc in ap (λ (y : Post). Some y.packet) same
-    get_map (x ∷ posts) (suc i) is = get_map posts i is
+packet_found s events k post posted = posted_is s (run_of s events) k post (run_numbers s events) posted

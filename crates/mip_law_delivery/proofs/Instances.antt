@@ -27,11 +27,11 @@ use Rattle.mip_rules_mobile.specs.ReceivingRules as mobiles
 use Rattle.mip_law_delivery.specs.Legs.{CanBeSent, IsFromHome, IsDataHere, IsDataStraight, IsDataTunnelled}
 use Rattle.mip_law_delivery.proofs.Passing.{data_passed}
 
-abbrev address : ℕ → Address
+abbrev pub address : ℕ → Address
 address n = record { 0 = n }
 
 -- data without a payload, from one address to another
-abbrev data_from : ℕ → ℕ → Packet
+abbrev pub data_from : ℕ → ℕ → Packet
 data_from a b = record { head = straight (address a) (address b) 17; body = [] }
 
 bytes_from : ℕ → ℕ → List ℕ
@@ -40,7 +40,7 @@ bytes_from a b = packet_bytes (data_from a b)
 behind_from : (a b : ℕ) → length (behind_bytes (data_from a b)) ≡ 0
 behind_from a b = length_behind (data_from a b) ∙ omega (arith, length_routing None 17, length_options None 17)
 
-can_from : (a b : ℕ) → a < 2 ^ 128 → b < 2 ^ 128 → CanBeSent (straight (address a) (address b) 17) []
+pub can_from : (a b : ℕ) → a < 2 ^ 128 → b < 2 ^ 128 → CanBeSent (straight (address a) (address b) 17) []
 can_from a b source destination = record {
   plain = refl;
   range = record { source = source; destination = destination; class = omega arith; route = tt; home = tt };
@@ -59,7 +59,7 @@ length_from a b =
     let first : ℕ = first_number p.head.route (second_number p.head.home p.head.proto) in
     omega (arith, length-append (fixed_bytes p.head first (length (behind_bytes p))) (behind_bytes p), length_fixed p.head first (length (behind_bytes p)), behind_from a b)
 
-passes_from : (s : AddressMatch) (place a b : ℕ) → s.is_mine ≡ true → checked s place (data_from a b) ≡ Ok None
+pub passes_from : (s : AddressMatch) (place a b : ℕ) → s.is_mine ≡ true → checked s place (data_from a b) ≡ Ok None
 passes_from s place a b mine = data_passed s place (data_from a b) (λ e. omega (arith, e)) mine (λ e. absurd cc) (λ e. absurd cc)
 
 module _ (secrets : Life) (now : ℕ) where

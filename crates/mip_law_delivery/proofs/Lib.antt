@@ -29,3 +29,5 @@ pub mod Serving
 pub mod Agents
 pub mod Owning
 pub mod Sendable
+mod Loud
+mod OneDelivery

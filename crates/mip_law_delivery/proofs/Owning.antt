@@ -7,6 +7,7 @@ use Rattle.std.proofs.lemmas.List.Sums.{fold-append}
 use Rattle.std.proofs.lemmas.Bool.{cases_eq, or_parts, eqb-true, eq-eqb, ne_eqb}
 use Rattle.std.proofs.lemmas.Option.{slice_get_within}
 use Rattle.mip_words.specs.declared.address.Address.{Address}
+use Rattle.mip_words.specs.declared.ids.LinkId.{LinkId}
 use Rattle.mip_words.specs.EachAfter.{EachAfter}
 use Rattle.mip_entries.specs.declared.entry.Entry.{Entry}
 use Rattle.mip_entries.specs.declared.entry.Entry.TheVariants as entries
@@ -31,13 +32,47 @@ use Rattle.mip_history.specs.Claims.{link_id}
 use Rattle.mip_history.specs.ClaimsLaws.{is_free_for}
 use Rattle.mip_history.specs.Registered.{is_agent_host, is_agent_at}
 use Rattle.mip_history.specs.Permitted.{is_first_agent, anycast_at, claimed_entry, claims_of, claims_from, opening_claims, opened, run_of}
-use Rattle.mip_history.proofs.Runs.{Meets}
-use Rattle.mip_history.proofs.Events.{run_passes}
+use Rattle.mip_history.proofs.Numbered.{IsNumbered}
+use Rattle.mip_history.proofs.Numbers.{run_numbers}
 use Rattle.mip_history.proofs.Bindings.{each_rest}
 use Rattle.mip_law_delivery.specs.Orderly.{IsOrderly}
 use Rattle.mip_law_delivery.proofs.Reaching.{is_special, MayAnswer, IsMild, all_may, events_calm}
 use Rattle.mip_law_delivery.proofs.Serving.{homes_by}
 use Rattle.mip_law_delivery.proofs.Agents.{may, IsApart, transition_good, rows_good}
+
+-- who holds an address holds it on, where no entry is such as its holder gives it up by
+module _ (s : Setup) (g a : ℕ) (gives : Entry → Bool) (told : (who : ℕ) (link : LinkId) (address : Address) → who ≡ g → address.0 ≡ a → gives (entries.Released who link address) ≡ true) where
+  some_same : (m n : ℕ) → (let o : Option ℕ = Some m in o) ≡ Some n → m ≡ n
+  some_same m n e = cc
+
+  push : (front : List Entry) (e : Entry) → holder_in (front ++ e ∷ []) a ≡ unwrap_or (holder_says a e) (holder_in front a)
+  push front e = fold-append (λ (x : Option ℕ) (y : Entry). unwrap_or (holder_says a y) x) None front (e ∷ [])
+
+  said : (front : List Entry) (e : Entry) → length (opening_claims s) ≤ length front → IsNumbered s front e → gives e ≡ false → holder_in front a ≡ Some g → unwrap_or (holder_says a e) (holder_in front a) ≡ Some g
+  said front (entries.Claimed who link address) long meets none is = by (a == address.0) refl
+    where
+      same : holder_in front address.0 ≡ Some g → g ≡ who
+      same there = eqb-true g who (sym (ap (λ (o : Option ℕ). is_free_for o who) there) ∙ meets long)
+
+      by : (b : Bool) → (a == address.0) ≡ b → unwrap_or (if b then Some (Some who) else None) (holder_in front a) ≡ Some g
+      by true e = ap (λ (n : ℕ). Some n) (sym (same (ap (holder_in front) (sym (eqb-true a address.0 e)) ∙ is)))
+      by false e = is
+  said front (entries.Released who link address) long meets none is = by (a == address.0) refl
+    where
+      by : (b : Bool) → (a == address.0) ≡ b → unwrap_or (if b then Some None else None) (holder_in front a) ≡ Some g
+      by true e =
+          let at : a ≡ address.0 = eqb-true a address.0 e in
+          let one : g ≡ who = some_same g who (sym is ∙ ap (holder_in front) at ∙ meets) in
+          absurd (let both : true ≡ false = sym (told who link address (sym one) (sym at)) ∙ none in cc)
+      by false e = is
+  said front _ long meets none is = is
+
+  pub holder_along : (front es : List Entry) → length (opening_claims s) ≤ length front → EachAfter (IsNumbered s) front es → list_any gives es ≡ false → holder_in front a ≡ Some g → holder_in (front ++ es) a ≡ Some g
+  holder_along front [] long each none is = ap (λ (l : List Entry). holder_in l a) (append-nil front) ∙ is
+  holder_along front (e ∷ es) long each none is =
+      let parts = or_parts (gives e) (list_any gives es) none in
+      ap (λ (l : List Entry). holder_in l a) (sym (append_assoc front (e ∷ []) es))
+      ∙ holder_along (front ++ e ∷ []) es (omega (arith, long, length-append front (e ∷ []))) each.1 parts.1 (push front e ∙ said front e long each.0 parts.0 is)
 
 module _ (s : Setup) (orderly : IsOrderly s) (g : ℕ) (own : Address) (preference life room : ℕ) (serves : List Address)
     (host : slice_get s.hosts g ≡ Some (record { address = own; kind = Agent preference life room serves })) where
@@ -206,39 +241,6 @@ module _ (s : Setup) (orderly : IsOrderly s) (g : ℕ) (own : Address) (preferen
   holds_first : holder_in (opening_claims s) own.0 ≡ Some g
   holds_first = claims_come [] s.hosts refl g refl (omega arith) None
 
-  -- and nobody takes it from the agent, which does not give it up
-  some_same : (m n : ℕ) → (let o : Option ℕ = Some m in o) ≡ Some n → m ≡ n
-  some_same m n e = cc
-
-  push : (front : List Entry) (e : Entry) → holder_in (front ++ e ∷ []) own.0 ≡ unwrap_or (holder_says own.0 e) (holder_in front own.0)
-  push front e = fold-append (λ (x : Option ℕ) (y : Entry). unwrap_or (holder_says own.0 y) x) None front (e ∷ [])
-
-  said : (front : List Entry) (e : Entry) → length (opening_claims s) ≤ length front → Meets s front e → is_own_release e ≡ false → holder_in front own.0 ≡ Some g → unwrap_or (holder_says own.0 e) (holder_in front own.0) ≡ Some g
-  said front (entries.Claimed who link address) long meets none is = by (own.0 == address.0) refl
-    where
-      same : holder_in front address.0 ≡ Some g → g ≡ who
-      same there = eqb-true g who (sym (ap (λ (o : Option ℕ). is_free_for o who) there) ∙ meets long)
-
-      by : (b : Bool) → (own.0 == address.0) ≡ b → unwrap_or (if b then Some (Some who) else None) (holder_in front own.0) ≡ Some g
-      by true e = ap (λ (n : ℕ). Some n) (sym (same (ap (holder_in front) (sym (eqb-true own.0 address.0 e)) ∙ is)))
-      by false e = is
-  said front (entries.Released who link address) long meets none is = by (own.0 == address.0) refl
-    where
-      by : (b : Bool) → (own.0 == address.0) ≡ b → unwrap_or (if b then Some None else None) (holder_in front own.0) ≡ Some g
-      by true e =
-          let at : own.0 ≡ address.0 = eqb-true own.0 address.0 e in
-          let one : g ≡ who = some_same g who (sym is ∙ ap (holder_in front) at ∙ meets) in
-          absurd (let both : true ≡ false = sym (ap (λ (b : Bool). b && (address.0 == own.0)) (eq-eqb who g (sym one)) ∙ eq-eqb address.0 own.0 (sym at)) ∙ none in cc)
-      by false e = is
-  said front _ long meets none is = is
-
-  kept_along : (front es : List Entry) → length (opening_claims s) ≤ length front → EachAfter (Meets s) front es → list_any is_own_release es ≡ false → holder_in front own.0 ≡ Some g → holder_in (front ++ es) own.0 ≡ Some g
-  kept_along front [] long each none is = ap (λ (l : List Entry). holder_in l own.0) (append-nil front) ∙ is
-  kept_along front (e ∷ es) long each none is =
-      let parts = or_parts (is_own_release e) (list_any is_own_release es) none in
-      ap (λ (l : List Entry). holder_in l own.0) (sym (append_assoc front (e ∷ []) es))
-      ∙ kept_along (front ++ e ∷ []) es (omega (arith, long, length-append front (e ∷ []))) each.1 parts.1 (push front e ∙ said front e long each.0 parts.0 is)
-
   stands_first : Stand (opened s).agent_pasts
   stands_first = record {
     nodes = length-map s.hosts (λ host. []);
@@ -255,6 +257,10 @@ module _ (s : Setup) (orderly : IsOrderly s) (g : ℕ) (own : Address) (preferen
   own_held events =
       let c = events_calm s is_own_release (may g own) Stand own_mild (opening_claims s) (λ number. record { handed = λ n. refl; gone = λ why. refl }) (opened s) events
       (record { rest = []; whole = sym (append-nil (opening_claims s)); calm = refl; stands = stands_first }) in
-      let kept = (run_passes s events).run.kept in
+      let numbered = run_numbers s events in
       ap (λ (l : List Entry). holder_in l own.0) c.whole
-      ∙ kept_along (opening_claims s) c.rest (omega arith) (each_rest (Meets s) [] (opening_claims s) c.rest (subst (λ (l : List Entry). EachAfter (Meets s) [] l) c.whole kept.each)) c.calm holds_first
+      ∙ holder_along s g own.0 is_own_release gives (opening_claims s) c.rest (omega arith)
+      (each_rest (IsNumbered s) [] (opening_claims s) c.rest (subst (λ (l : List Entry). EachAfter (IsNumbered s) [] l) c.whole numbered.each)) c.calm holds_first
+    where
+      gives : (who : ℕ) (link : LinkId) (address : Address) → who ≡ g → address.0 ≡ own.0 → is_own_release (entries.Released who link address) ≡ true
+      gives who link address mine at = ap (λ (b : Bool). b && (address.0 == own.0)) (eq-eqb who g mine) ∙ eq-eqb address.0 own.0 at

@@ -1,11 +1,8 @@
 -- Data that its sender puts into the tunnel to its agent arrives.
 use Rattle.std.proofs.Common.{◌≡◌, ◌≢◌, ℕ, ◌<◌, ◌≤◌, ◌^◌, List, [], ◌∷◌, ◌++◌, Bool, true, false, length, ◌⊎◌, inl, inr, refl, sym, ap, ◌∙◌, subst, arith, length-append}
-use Rattle.std.specs.Prelude.{Option, Some, None, is_some, option_map, unwrap_or, not, ◌||◌, ◌==◌, if◌then◌else◌, slice_get}
-use Rattle.std.specs.List.{list_any}
+use Rattle.std.specs.Prelude.{Option, Some, None, is_some, option_map, not, ◌==◌, slice_get}
 use Rattle.std.specs.Option.{option_map_or}
-use Rattle.std.proofs.lemmas.List.{append_assoc, append-nil}
-use Rattle.std.proofs.lemmas.List.Sums.{fold-append}
-use Rattle.std.proofs.lemmas.Bool.{and_parts, or_parts, eq-eqb, eqb-true}
+use Rattle.std.proofs.lemmas.Bool.{and_parts, or_left, eq-eqb, eqb-true}
 use Rattle.std.proofs.lemmas.Option.{slice_get_within}
 use Rattle.mip_words.specs.Addresses.{is_routable}
 use Rattle.mip_words.specs.declared.address.Address.{Address}
@@ -13,7 +10,6 @@ use Rattle.mip_ipv6.specs.declared.head.Head.{Head}
 use Rattle.mip_words.specs.EachAfter.{EachAfter}
 use Rattle.mip_binding.specs.Held.{held as held_by}
 use Rattle.mip_entries.specs.declared.entry.Entry.{Entry}
-use Rattle.mip_entries.specs.declared.entry.Entry.TheVariants as entries
 use Rattle.mip_packets.specs.Packets.{data_packet}
 use Rattle.mip_ipv6.specs.Tunnel.{encapsulated}
 use Rattle.mip_links.specs.Table.{holder_outside}
@@ -32,17 +28,16 @@ use Rattle.mip_schedule.specs.declared.event.Event.{Event}
 use Rattle.mip_history.specs.Setup.{Setup, is_mobile_host, setup_of}
 use Rattle.mip_history.specs.Setup.Kind.{Mobile}
 use Rattle.mip_history.specs.Runs.{Run, mobile_past_at}
-use Rattle.mip_history.specs.Questions.{holder_says, holder_in, declared_in}
+use Rattle.mip_history.specs.Questions.{holder_in, declared_in}
 use Rattle.mip_history.specs.Knowing.{now_in, secrets_in, agent_known_in, mobile_known_in}
 use Rattle.mip_history.specs.Bound.{accepted_by}
-use Rattle.mip_history.specs.ClaimsLaws.{is_free_for}
 use Rattle.mip_history.specs.Registered.{is_agent_host}
 use Rattle.mip_history.specs.Permitted.{opening_claims, opened, happens, permitted, run_of}
 use Rattle.mip_history.specs.Found.{address_of}
 use Rattle.mip_history.specs.Told.{is_bound_in, careof_in}
 use Rattle.mip_history.specs.Settled.{is_held_right}
-use Rattle.mip_history.proofs.Runs.{Meets}
-use Rattle.mip_history.proofs.Events.{run_passes}
+use Rattle.mip_history.proofs.Numbered.{IsNumbered}
+use Rattle.mip_history.proofs.Numbers.{run_numbers}
 use Rattle.mip_history.proofs.Bindings.{each_rest}
 use Rattle.mip_history.proofs.Histories.{part_held}
 use Rattle.mip_history.proofs.Registrations.{permitted_registered, run_careof}
@@ -52,7 +47,7 @@ use Rattle.mip_law_delivery.specs.Orderly.{IsOrderly}
 use Rattle.mip_law_delivery.specs.Legs.{CanBeSent, sends_from}
 use Rattle.mip_law_delivery.specs.Stretches.{run_on}
 use Rattle.mip_law_delivery.specs.StretchesLaws.{AreSingle}
-use Rattle.mip_law_delivery.specs.Quiet.{Circle, has_node, is_loud, IsQuiet}
+use Rattle.mip_law_delivery.specs.Quiet.{Circle, has_node, has_address, is_loud, IsQuiet}
 use Rattle.mip_law_delivery.specs.Reached.{sending, IsHandedUp, IsAllDelivered, AreSettledEnds, IsPayload, EachReaches}
 use Rattle.mip_law_delivery.proofs.Leaving.{mobile_leaves}
 use Rattle.mip_law_delivery.proofs.Taking.{NoOther, no_other}
@@ -65,47 +60,10 @@ use Rattle.mip_law_delivery.proofs.Happening.{FindsHolder}
 use Rattle.mip_law_delivery.proofs.Ends.{PassesOn, agent_passes}
 use Rattle.mip_law_delivery.proofs.Receiving.{IsAgentAt, agent_kind, address_is, stands_away}
 use Rattle.mip_law_delivery.proofs.Posting.{Posts, posted_stays, tunnel_posts}
-use Rattle.mip_law_delivery.proofs.Owning.{own_held}
+use Rattle.mip_law_delivery.proofs.Owning.{holder_along, own_held}
 use Rattle.mip_law_delivery.proofs.Joining.{handed_up_is, passed_arrives}
 use Rattle.mip_law_delivery.proofs.Arriving.{parts as arriving_parts, until, c, at_front, holds_on, arrives_plain, arrives_routed}
 use Rattle.mip_law_delivery.proofs.Straightly.{plain_of, way_to, at_home_is, sent_can, sent_carries, kind_of, held_range, GoesOut, straight_goes_out, split_single, singles_behind, singles_front}
-
--- who holds an address and is of the circle holds it all through a quiet stretch
-module _ (s : Setup) (circle : Circle) (g : ℕ) (inside : has_node circle g ≡ true) (a : ℕ) where
-  some_same : (m n : ℕ) → (let o : Option ℕ = Some m in o) ≡ Some n → m ≡ n
-  some_same m n e = cc
-
-  push : (front : List Entry) (e : Entry) → holder_in (front ++ e ∷ []) a ≡ unwrap_or (holder_says a e) (holder_in front a)
-  push front e = fold-append (λ (x : Option ℕ) (y : Entry). unwrap_or (holder_says a y) x) None front (e ∷ [])
-
-  first_false : (p q : Bool) → (p || q) ≡ false → p ≡ false
-  first_false true q is = absurd cc
-  first_false false q is = refl
-
-  said : (front : List Entry) (e : Entry) → length (opening_claims s) ≤ length front → Meets s front e → is_loud circle e ≡ false → holder_in front a ≡ Some g → unwrap_or (holder_says a e) (holder_in front a) ≡ Some g
-  said front (entries.Claimed who link address) long meets quiet is = by (a == address.0) refl
-    where
-      free : holder_in front address.0 ≡ Some g → g ≡ who
-      free there = eqb-true g who (sym (ap (λ (o : Option ℕ). is_free_for o who) there) ∙ meets long)
-
-      by : (b : Bool) → (a == address.0) ≡ b → unwrap_or (if b then Some (Some who) else None) (holder_in front a) ≡ Some g
-      by true same = ap (λ (n : ℕ). Some n) (sym (free (ap (holder_in front) (sym (eqb-true a address.0 same)) ∙ is)))
-      by false other = is
-  said front (entries.Released who link address) long meets quiet is = by (a == address.0) refl
-    where
-      by : (b : Bool) → (a == address.0) ≡ b → unwrap_or (if b then Some None else None) (holder_in front a) ≡ Some g
-      by true same =
-          let one : g ≡ who = some_same g who (sym is ∙ ap (holder_in front) (eqb-true a address.0 same) ∙ meets) in
-          absurd (let both : true ≡ false = sym inside ∙ ap (λ (n : ℕ). has_node circle n) one ∙ first_false _ _ quiet in cc)
-      by false other = is
-  said front _ long meets quiet is = is
-
-  pub holder_kept_by : (front es : List Entry) → length (opening_claims s) ≤ length front → EachAfter (Meets s) front es → list_any (is_loud circle) es ≡ false → holder_in front a ≡ Some g → holder_in (front ++ es) a ≡ Some g
-  holder_kept_by front [] long each quiet is = ap (λ (l : List Entry). holder_in l a) (append-nil front) ∙ is
-  holder_kept_by front (e ∷ es) long each quiet is =
-      let parts = or_parts (is_loud circle e) (list_any (is_loud circle) es) quiet in
-      ap (λ (l : List Entry). holder_in l a) (sym (append_assoc front (e ∷ []) es))
-      ∙ holder_kept_by (front ++ e ∷ []) es (omega (arith, long, length-append front (e ∷ []))) each.1 parts.1 (push front e ∙ said front e long each.0 parts.0 is)
 
 -- no agent has its own address registered
 abbrev pub AreHomeless : Setup → Type 0
@@ -184,10 +142,14 @@ module _ (s : Setup) (orderly : IsOrderly s) (homeless : AreHomeless s) (before 
               let evs : List Event = until s orderly before more single x y own to proto payload ends m in
               let opening = past_begins s (opened s) before in
               let long : length (opening_claims s) ≤ length start.past = omega (arith, ap length opening.whole, length-append (opening_claims s) opening.rest) in
-              let kept = (run_passes s evs).run.kept in
-              let each : EachAfter (Meets s) start.past st.es = each_rest (Meets s) [] start.past st.es (subst (λ (l : List Entry). EachAfter (Meets s) [] l) st.whole kept.each) in
+              let numbered = run_numbers s evs in
+              let each : EachAfter (IsNumbered s) start.past st.es = each_rest (IsNumbered s) [] start.past st.es (subst (λ (l : List Entry). EachAfter (IsNumbered s) [] l) st.whole numbered.each) in
               ap (λ (l : List Entry). holder_in l away.agent.0) st.whole
-              ∙ holder_kept_by s (c s orderly before more single x y own to proto payload ends) away.g node away.agent.0 start.past st.es long each st.silent held
+              ∙ holder_along s away.g away.agent.0 (is_loud circle) (λ who link address mine at. or_left (has_node circle who) (has_address circle address) (ap (has_node circle) mine ∙ node))
+              start.past st.es long each st.silent held
+            where
+              circle : Circle
+              circle = c s orderly before more single x y own to proto payload ends
 
       -- and sends on what comes out of the tunnel
       agent_passes_all : (w : Way) → is_data w.proto ≡ true → NoOther w.proto → w.source ≡ own → w.destination.0 ≢ away.agent.0 → (m : List Event)

@@ -4,6 +4,7 @@ pub mod StretchesLaws
 pub mod Answers
 pub mod AnswersLaws
 pub mod Quiet
+pub mod QuietLaws
 pub mod Reached
 pub mod ReachedLaws
 pub mod Orderly

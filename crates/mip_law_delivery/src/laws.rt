@@ -1,10 +1,11 @@
 //! The laws, each the contract of a function that does nothing.
 
-ghost use Rattle.std.specs.Prelude.{◌≡◌, ◌≢◌, ℕ, ◌<◌, ◌≤◌, List, [], ◌∷◌, ◌++◌, length, Bool, true, Option, Some, None, is_some, Ok, if◌then◌else◌, slice_get};
+ghost use Rattle.std.specs.Prelude.{◌≡◌, ◌≢◌, ℕ, ◌<◌, ◌≤◌, List, [], ◌∷◌, ◌++◌, length, Bool, true, false, Option, Some, None, is_some, Ok, if◌then◌else◌, slice_get};
 ghost use Rattle.mip_words.specs.Protocols.{mobility_header};
 ghost use Rattle.mip_words.specs.declared.address.Address.{Address};
 ghost use Rattle.mip_words.specs.declared.ids.NodeId.{NodeId};
 ghost use Rattle.mip_words.specs.declared.shield.Shield.{Shield};
+ghost use Rattle.mip_entries.specs.declared.entry.Entry.{Entry};
 ghost use Rattle.mip_ipv6.specs.Packet.{Packet};
 ghost use Rattle.mip_ipv6.specs.Reading.{packet_of};
 ghost use Rattle.mip_entries.specs.declared.answer.Answer.TheVariants.{Send};
@@ -54,7 +55,8 @@ ghost use Rattle.mip_law_delivery.specs.Stretches.{run_on, left_by, split};
 ghost use Rattle.mip_law_delivery.specs.StretchesLaws.{IsSingle};
 ghost use Rattle.mip_law_delivery.specs.Answers.{IsReached};
 ghost use Rattle.mip_law_delivery.specs.AnswersLaws.{Delivers};
-ghost use Rattle.mip_law_delivery.specs.Quiet.{has_node, has_address, circle_of, IsQuiet};
+ghost use Rattle.mip_law_delivery.specs.Quiet.{Circle, has_node, has_address, circle_of, is_loud, IsQuiet};
+ghost use Rattle.mip_law_delivery.specs.QuietLaws.{is_change, HasQuietDelivery};
 ghost use Rattle.mip_law_delivery.specs.Reached.{sending, SendsOne, IsPayload, EachReaches};
 ghost use Rattle.mip_law_delivery.specs.ReachedLaws.{EachReachesStraight};
 ghost use Rattle.mip_law_delivery.specs.Legs.{can_send, CanBeSent, up, BeginsWith, IsForHome, IsFromHome, IsDataHere, IsDataStraight, IsDataTunnelled};
@@ -204,6 +206,18 @@ pub fn quiet_stretch_keeps_the_circle()
         → has_node (circle_of (run_of s before).past x y) n ≡ true
         → careof_in (now_in s (run_on s (run_of s before) first)) (run_on s (run_of s before) first).past n home
         ≡ careof_in (now_in s (run_of s before)) (run_of s before).past n home }
+{}
+
+/// Deliveries leave a stretch quiet: of all entries only those by which something changes of where a node is, who holds an address,
+/// or what is registered or bound can be loud, and none is loud for nobody.
+pub fn only_changes_are_loud()
+    ensures kinds { (c : Circle) (e : Entry) → is_change e ≡ false → is_loud c e ≡ false }
+    ensures nobody { (e : Entry) → is_loud (record { nodes = []; addresses = [] }) e ≡ false }
+{}
+
+/// There is a stretch that is quiet, in which data between two settled ends is handed over, and all is delivered that comes of it.
+pub fn a_delivery_can_be_quiet()
+    ensures { HasQuietDelivery }
 {}
 
 /// In a setup that a schedule gives, an address that somebody holds is on a link.

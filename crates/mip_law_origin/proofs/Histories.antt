@@ -1,9 +1,8 @@
 -- Each entry in the history of a run is right, and each `accepted` is followed by its mark.
-use Rattle.std.proofs.Common.{◌≡◌, ℕ, zero, suc, List, [], ◌∷◌, ◌++◌, Bool, true, false, length, refl, sym, ap, ◌∙◌}
-use Rattle.std.specs.Prelude.{fold, map, ◌||◌, if◌then◌else◌, slice_index_or}
+use Rattle.std.proofs.Common.{◌≡◌, ℕ, zero, suc, List, [], ◌∷◌, false, refl, sym, ap, ◌∙◌}
+use Rattle.std.specs.Prelude.{fold, map, slice_index_or}
 use Rattle.std.specs.List.{list_any, AllByRecursion}
 use Rattle.std.proofs.lemmas.List.{length-map}
-use Rattle.std.proofs.lemmas.List.Folds.{list_any-append}
 use Rattle.mip_words.specs.EachAfter.{EachAfter}
 use Rattle.mip_words.specs.declared.address.Address.{Address}
 use Rattle.mip_entries.specs.declared.entry.Entry.{Entry}
@@ -16,7 +15,8 @@ use Rattle.mip_history.specs.Setup.{Setup, Host, setup_of}
 use Rattle.mip_history.specs.Runs.{Run}
 use Rattle.mip_history.specs.Knowing.{secrets_in}
 use Rattle.mip_history.specs.KnowingLaws.{part_in}
-use Rattle.mip_history.specs.Permitted.{is_first_agent, claimed_entry, anycast_at, claims_of, claims_from, opening_claims, opened, happens, permitted}
+use Rattle.mip_history.specs.Permitted.{opening_claims, opened, happens, permitted}
+use Rattle.mip_history.proofs.Opening.{claims_none}
 use Rattle.mip_law_origin.specs.MarkedLaws.{EachIsFollowed}
 use Rattle.mip_law_origin.specs.OwnHistories.{life_of}
 use Rattle.mip_law_origin.specs.OwnHistoriesLaws.{IsOwnEntry, IsPlainEvent, ArePlain}
@@ -30,20 +30,6 @@ all_if Q F [] all = tt
 all_if Q F (event ∷ events) all = (λ q. (all q).0, all_if Q F events (λ q. (all q).1))
 
 -- before the first event
-host_idle : (links : List ℕ) (before : List Host) (host : Host) → list_any is_busy (claims_of links before host) ≡ false
-host_idle links before host = by (is_first_agent links before host.address host.kind)
-  where
-    by : (b : Bool) → list_any is_busy (if b then claimed_entry links (length before) (anycast_at host.address) ∷ [] else []) ≡ false
-    by true = refl
-    by false = refl
-
-claims_idle : (links : List ℕ) (before hosts : List Host) → list_any is_busy (claims_from links before hosts) ≡ false
-claims_idle links before [] = refl
-claims_idle links before (host ∷ hosts) =
-    list_any-append is_busy (claims_of links before host) (claims_from links (before ++ host ∷ []) hosts)
-    ∙ ap (λ (b : Bool). b || list_any is_busy (claims_from links (before ++ host ∷ []) hosts)) (host_idle links before host)
-    ∙ claims_idle links (before ++ host ∷ []) hosts
-
 none_given : (front : List Entry) (m : ℕ) (hosts : List Host) (n : ℕ) → AreGiven front m (slice_index_or (map (λ (host : Host). []) hosts) n [])
 none_given front m [] n = tt
 none_given front m (h ∷ hosts) zero = tt
@@ -63,7 +49,7 @@ first_secrets s = (
 )
   where
     quiet : list_any is_busy (opening_claims s) ≡ false
-    quiet = claims_idle s.links [] s.hosts
+    quiet = claims_none is_busy (λ who link address. refl) s.links [] s.hosts
 
     first : (n : ℕ) (home : Address) → (part_in s (opened s) n home).secrets ≡ life_of s (opened s).past n
     first n home =
@@ -74,7 +60,7 @@ first_secrets s = (
 run_is_own : (c : Content) → IsOwnRun (setup_of c) (ArePlain c) (let r : Run = fold (λ run event. happens (setup_of c) run event) (opened (setup_of c)) c.events in r)
 run_is_own c =
     let s = setup_of c in
-    let quiet : list_any is_busy (opening_claims s) ≡ false = claims_idle s.links [] s.hosts in
+    let quiet : list_any is_busy (opening_claims s) ≡ false = claims_none is_busy (λ who link address. refl) s.links [] s.hosts in
     own_all s (ArePlain c) (opened s) c.events (all_if (ArePlain c) IsPlainEvent c.events (λ q. q))
     (record {
       own = λ q. each_idle s [] (opening_claims s) quiet;

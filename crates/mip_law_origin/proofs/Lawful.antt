@@ -29,8 +29,7 @@ use Rattle.mip_history.specs.Setup.{Setup, Kind}
 use Rattle.mip_history.specs.Setup.Kind.{Agent}
 use Rattle.mip_history.specs.Bound as bound
 use Rattle.mip_history.specs.BoundLaws.{packets_of}
-use Rattle.mip_history.proofs.Runs.{Meets}
-use Rattle.mip_history.proofs.Numbered.{packet_numbered}
+use Rattle.mip_history.proofs.Numbered.{IsNumbered, packet_numbered}
 use Rattle.mip_law_origin.specs.OwnHistoriesLaws.{kind_at, is_agent_kind, HasCome, IsRightFrom, IsOwnEntry}
 
 -- the packets of a history are found alike
@@ -130,9 +129,9 @@ module _ (past : List Entry) where
   any_middle p [] x after is = or_left (p x) (list_any p after) is
   any_middle p (y ∷ before) x after is = or_right (p y) (list_any p (before ++ x ∷ after)) (any_middle p before x after is)
 
-  module _ (s : Setup) (each : EachAfter (Meets s) [] past) (own : EachAfter (IsOwnEntry s) [] past) where
-    met_before : (front rest : List Entry) → past ≡ front ++ rest → EachAfter (Meets s) [] front
-    met_before front rest whole = each_before (Meets s) [] front rest (subst (λ (l : List Entry). EachAfter (Meets s) [] l) whole each)
+  module _ (s : Setup) (each : EachAfter (IsNumbered s) [] past) (own : EachAfter (IsOwnEntry s) [] past) where
+    met_before : (front rest : List Entry) → past ≡ front ++ rest → EachAfter (IsNumbered s) [] front
+    met_before front rest whole = each_before (IsNumbered s) [] front rest (subst (λ (l : List Entry). EachAfter (IsNumbered s) [] l) whole each)
 
     -- the first packet with a number is found there
     first_is : (front rest : List Entry) → past ≡ front ++ rest → (number : ℕ) (o : Option (List ℕ)) → slice_get (packets_of front) number ≡ o → first_some (packet_told number) front ≡ o
@@ -176,7 +175,7 @@ module _ (past : List Entry) where
     own_before : (front rest : List Entry) → past ≡ front ++ rest → EachAfter (IsOwnEntry s) [] front
     own_before front rest whole = each_before (IsOwnEntry s) [] front rest (subst (λ (l : List Entry). EachAfter (IsOwnEntry s) [] l) whole own)
 
-    law_here : (front rest : List Entry) (e : Entry) → past ≡ front ++ rest → Meets s front e → IsOwnEntry s front e → IsLawful (seen front) (sight past e)
+    law_here : (front rest : List Entry) (e : Entry) → past ≡ front ++ rest → IsNumbered s front e → IsOwnEntry s front e → IsLawful (seen front) (sight past e)
     law_here front rest (entries.Sent number node shielded packet) whole meets owned = by (carried packet) refl
       where
         by : (c : Carried) → carried packet ≡ c → IsLawful (seen front) (Sent number node.0 c)
@@ -200,7 +199,7 @@ module _ (past : List Entry) where
     lawful_from front (e ∷ rest) whole =
         let next : past ≡ (front ++ e ∷ []) ++ rest = whole ∙ sym (append_assoc front (e ∷ []) rest) in (
           law_here front (e ∷ rest) e whole
-              (each_at (Meets s) [] front e rest (subst (λ (l : List Entry). EachAfter (Meets s) [] l) whole each))
+              (each_at (IsNumbered s) [] front e rest (subst (λ (l : List Entry). EachAfter (IsNumbered s) [] l) whole each))
               (each_at (IsOwnEntry s) [] front e rest (subst (λ (l : List Entry). EachAfter (IsOwnEntry s) [] l) whole own)),
           subst (λ (l : List Sight). EachAfter IsLawful l (seen rest)) (map-append (sight past) front (e ∷ [])) (lawful_from (front ++ e ∷ []) rest next),
         )

@@ -33,9 +33,10 @@ use Rattle.mip_history.specs.Passing.{waited_by}
 use Rattle.mip_history.specs.Permitted.{permitted}
 use Rattle.mip_history.specs.Bound.{IsAccepted, HasAccepted, accepted_entry, is_accepted}
 use Rattle.mip_history.proofs.Runs.{Meets}
+use Rattle.mip_history.proofs.Numbered.{IsNumbered}
 use Rattle.mip_history.proofs.Bindings.{each_rest}
 use Rattle.mip_history.proofs.Moments.{rises_from}
-use Rattle.mip_history.proofs.Histories.{permitted_each, permitted_accepted, permitted_waited}
+use Rattle.mip_history.proofs.Histories.{permitted_each, permitted_numbered, permitted_accepted, permitted_waited}
 use Rattle.mip_law_origin.specs.OwnTests.{IsOwnTest}
 use Rattle.mip_law_origin.specs.OwnHistories.{life_of}
 use Rattle.mip_law_origin.specs.OwnHistoriesLaws.{kind_at, IsRightFrom, IsOwnEntry, ArePlain}
@@ -140,12 +141,12 @@ is_acceptance _ a told = absurd cc
 
 -- the origin of one acceptance
 origin_at : (s : Setup) (past : List Entry) (n k : ℕ) (home : Address) (binding : ℕ) (accepted : Accepted) (hot : ℕ) (cot : Option ℕ) (update : ℕ)
-    → EachAfter (Meets s) [] past → EachAfter (IsOwnEntry s) [] past → moment_in s.start past ≤ s.start + 36000000 → IsAccepted s past n k home binding accepted
+    → EachAfter (Meets s) [] past → EachAfter (IsNumbered s) [] past → EachAfter (IsOwnEntry s) [] past → moment_in s.start past ≤ s.start + 36000000 → IsAccepted s past n k home binding accepted
     → mark_in past (update_of n k home accepted) ≡ Origin hot cot update
     → IsOriginOf s past (accepted_entry n k home binding accepted) (update_of n k home accepted) hot cot update
-origin_at s past n k home binding accepted hot cot update each own short stands mark =
+origin_at s past n k home binding accepted hot cot update each numbered own short stands mark =
     let a : AcceptedUpdate = update_of n k home accepted in
-    let origin : HasOrigin past a hot cot update = origin_stands past a hot cot update (lawful_sights past s each own) mark in
+    let origin : HasOrigin past a hot cot update = origin_stands past a hot cot update (lawful_sights past s numbered own) mark in
     let genuine = stands.sound.genuine in
     let tested : AreTested s n = accepted_tests s n stands.own stands.kind stands.room stands.is_host stands.has_room in
     record {
@@ -164,9 +165,9 @@ pub permitted_stands : (c : Content) → ArePlain c → (before : List Entry) (e
     → (a : AcceptedUpdate) (hot : ℕ) (cot : Option ℕ) (update : ℕ) → mark_in before a ≡ Origin hot cot update → HasOrigin before a hot cot update
 permitted_stands c plain before e after whole a hot cot update mark =
     let s = setup_of c in
-    let each : EachAfter (Meets s) [] before = each_before (Meets s) [] before (e ∷ after) (subst (λ (l : List Entry). EachAfter (Meets s) [] l) whole (permitted_each c)) in
+    let numbered : EachAfter (IsNumbered s) [] before = each_before (IsNumbered s) [] before (e ∷ after) (subst (λ (l : List Entry). EachAfter (IsNumbered s) [] l) whole (permitted_numbered c)) in
     let own : EachAfter (IsOwnEntry s) [] before = each_before (IsOwnEntry s) [] before (e ∷ after) (subst (λ (l : List Entry). EachAfter (IsOwnEntry s) [] l) whole (own_permitted c plain)) in
-    origin_stands before a hot cot update (lawful_sights before s each own) mark
+    origin_stands before a hot cot update (lawful_sights before s numbered own) mark
 
 -- and those tokens are the ones of the nonces that were valid
 pub permitted_origin : (c : Content) → ArePlain c → sum_by waited_by c.events ≤ 36000000 → (before : List Entry) (e : Entry) (after : List Entry) → permitted c ≡ before ++ e ∷ after
@@ -176,19 +177,20 @@ permitted_origin c plain short before e after whole a told hot cot update mark =
     let s = setup_of c in
     let split : EachAfter (Meets s) [] (before ++ e ∷ after) = subst (λ (l : List Entry). EachAfter (Meets s) [] l) whole (permitted_each c) in
     let each : EachAfter (Meets s) [] before = each_before (Meets s) [] before (e ∷ after) split in
+    let numbered : EachAfter (IsNumbered s) [] before = each_before (IsNumbered s) [] before (e ∷ after) (subst (λ (l : List Entry). EachAfter (IsNumbered s) [] l) whole (permitted_numbered c)) in
     let own : EachAfter (IsOwnEntry s) [] before = each_before (IsOwnEntry s) [] before (e ∷ after) (subst (λ (l : List Entry). EachAfter (IsOwnEntry s) [] l) whole (own_permitted c plain)) in
     let ended : moment_in s.start before ≤ moment_in s.start (permitted c) =
     subst (λ (l : List Entry). moment_in s.start before ≤ moment_in s.start l) (sym whole)
     (rises_from s (moment_in s.start before) before (e ∷ after) (each_rest (Meets s) [] before (e ∷ after) split) (omega arith)).1 in
     let within : moment_in s.start before ≤ s.start + 36000000 = omega (arith, ended, permitted_waited c, short) in
-    by each own within (permitted_accepted c before e after whole (is_acceptance e a told))
+    by each numbered own within (permitted_accepted c before e after whole (is_acceptance e a told))
   where
-    by : EachAfter (Meets (setup_of c)) [] before → EachAfter (IsOwnEntry (setup_of c)) [] before → moment_in (setup_of c).start before ≤ (setup_of c).start + 36000000
+    by : EachAfter (Meets (setup_of c)) [] before → EachAfter (IsNumbered (setup_of c)) [] before → EachAfter (IsOwnEntry (setup_of c)) [] before → moment_in (setup_of c).start before ≤ (setup_of c).start + 36000000
         → HasAccepted (setup_of c) before e → IsOriginOf (setup_of c) before e a hot cot update
-    by each own within h =
+    by each numbered own within h =
         let u : AcceptedUpdate = update_of h.node h.number h.home h.accepted in
         let same : u ≡ a = same_update u a (sym (ap update_accepted h.is) ∙ told) in
         let here : IsOriginOf (setup_of c) before (accepted_entry h.node h.number h.home h.binding h.accepted) u hot cot update =
-        origin_at (setup_of c) before h.node h.number h.home h.binding h.accepted hot cot update each own within h.stands (ap (mark_in before) same ∙ mark) in
+        origin_at (setup_of c) before h.node h.number h.home h.binding h.accepted hot cot update each numbered own within h.stands (ap (mark_in before) same ∙ mark) in
         subst (λ (x : Entry). IsOriginOf (setup_of c) before x a hot cot update) (sym h.is)
         (subst (λ (v : AcceptedUpdate). IsOriginOf (setup_of c) before (accepted_entry h.node h.number h.home h.binding h.accepted) v hot cot update) same here)

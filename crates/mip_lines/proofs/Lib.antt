@@ -1,4 +1,5 @@
 pub mod Parts
+pub mod Runs
 pub mod Numbers
 pub mod RowLaws
 pub mod LineLaws

@@ -1,13 +1,14 @@
 -- What is known of the parts of a text.
-use Rattle.std.proofs.Common.{◌≡◌, ℕ, ◌+◌, ◌<◌, ◌≤◌, List, [], ◌∷◌, ◌++◌, ◌-◌, length, take, drop, Bool, true, false, not, refl, sym, ap, ◌∙◌, subst, inl, inr, arith, nat_lt}
-use Rattle.std.specs.Prelude.{Option, Some, None, ◌==◌, slice_index}
-use Rattle.std.specs.List.{count_by, slice_split, onto_first, position, position_or_len}
-use Rattle.std.proofs.lemmas.Bool.{cond_both, cond-true, cond-false, cases_Bool, ltb-true, ltb-false, not_from_true, not_from_false, ne_eqb}
-use Rattle.std.proofs.lemmas.List.{append-nil, append_assoc, take_more, drop_more, get_or-drop, length-drop, drop_all}
+use Rattle.std.proofs.Common.{◌≡◌, ℕ, ◌+◌, ◌<◌, ◌≤◌, List, [], ◌∷◌, ◌++◌, ◌-◌, length, length-append, take, drop, Bool, true, false, not, refl, sym, ap, ◌∙◌, subst, inl, inr, arith, nat_lt}
+use Rattle.std.specs.Prelude.{Option, Some, None, ◌==◌, if◌then◌else◌, slice_index}
+use Rattle.std.specs.List.{count_by, slice_split, onto_first, position, position_or_len, prefix_len}
+use Rattle.std.proofs.lemmas.Bool.{cond_both, cond-true, cond-false, cases_Bool, ltb-true, ltb-false, not_from_true, not_from_false}
+use Rattle.std.proofs.lemmas.List.{append_assoc, length-drop, drop-drop, take_all}
 use Rattle.std.proofs.lemmas.List.Splits.{length-slice_split, slice_split-cons_no, slice_split_first}
 use Rattle.std.proofs.lemmas.List.Sums.{position_or_len_is}
 use Rattle.memchr.specs.Find.{IsFirstByte, is_byte}
 use Rattle.mip_lines.specs.Cutting.{parts, fields_of}
+use Rattle.mip_lines.specs.Spaces.{is_plain, end_of}
 
 -- what is not true is false
 false_if_not : (b : Bool) → ¬ (b ≡ true) → b ≡ false
@@ -72,73 +73,50 @@ fields_counted line = length-slice_split (λ b. b == 32) line
 pub some_field : (line : List ℕ) → 0 < length (parts 32 line)
 some_field line = let e = fields_counted line in omega (arith, e)
 
--- the parts with these bytes in front of the first
-abbrev pub glued : List ℕ → List (List ℕ) → List (List ℕ)
-glued front [] = front ∷ []
-glued front (part ∷ rest) = (front ++ part) ∷ rest
+-- the first space is where the run of other bytes ends
+space_at : (line : List ℕ) → position_or_len (λ b. b == 32) line ≡ prefix_len is_plain line
+space_at [] = refl
+space_at (b ∷ line) = ap (λ (n : ℕ). if is_plain b then 1 + n else 0) (space_at line)
 
--- one byte more, which is no space
-pub glued_more : (front rest : List ℕ) (b : ℕ) → (b == 32) ≡ false → glued front (parts 32 (b ∷ rest)) ≡ glued (front ++ b ∷ []) (parts 32 rest)
+-- a space ends the field that begins at a place
+field_cut : (line : List ℕ) (start end : ℕ) → end ≡ end_of start line → start ≤ length line → end < length line
+    → parts 32 (drop start line) ≡ take (end - start) (drop start line) ∷ parts 32 (drop (end + 1) line)
 unfolding parts
-glued_more front rest b other =
-    ap (glued front) (slice_split-cons_no (λ c. c == 32) b rest other) ∙ by (slice_split (λ c. c == 32) rest)
-  where
-    by : (ps : List (List ℕ)) → glued front (onto_first b ps) ≡ glued (front ++ b ∷ []) ps
-    by [] = refl
-    by (part ∷ ps) = ap (λ (l : List ℕ). l ∷ ps) (sym (append_assoc front (b ∷ []) part))
+field_cut line start end is within inside =
+    let rest = drop start line in
+    let at = space_at rest in
+    let gone : end - start ≡ position_or_len (λ b. b == 32) rest = omega (arith, is, at) in
+    let near : position_or_len (λ b. b == 32) rest < length rest = omega (arith, is, at, inside, within, length-drop start line) in
+    let there : start + (position_or_len (λ b. b == 32) rest + 1) ≡ end + 1 = omega (arith, is, at) in
+    slice_split_first (λ b. b == 32) rest 0 near
+    ∙ ap (λ (n : ℕ). take n rest ∷ slice_split (λ b. b == 32) (drop (position_or_len (λ b. b == 32) rest + 1) rest)) (sym gone)
+    ∙ ap (λ (l : List ℕ). take (end - start) rest ∷ slice_split (λ b. b == 32) l) (drop-drop (position_or_len (λ b. b == 32) rest + 1) start line ∙ ap (λ (n : ℕ). drop n line) there)
 
--- nothing in front
-pub glued_nil : (line : List ℕ) → glued [] (parts 32 line) ≡ parts 32 line
-glued_nil line = by (parts 32 line) (some_field line)
-  where
-    by : (ps : List (List ℕ)) → 0 < length ps → glued [] ps ≡ ps
-    by [] some = absurd (omega (arith, some))
-    by (part ∷ ps) some = refl
-
--- a space ends the first part
-pub glued_end : (front rest : List ℕ) → glued front (parts 32 (32 ∷ rest)) ≡ front ∷ glued [] (parts 32 rest)
+-- where no space is left, the field goes on to the end of the line
+field_left : (line : List ℕ) (start end : ℕ) → end ≡ end_of start line → start ≤ length line → length line ≤ end
+    → parts 32 (drop start line) ≡ take (length line - start) (drop start line) ∷ []
 unfolding parts
-glued_end front rest = ap (λ (l : List ℕ). l ∷ parts 32 rest) (append-nil front) ∙ ap (λ (ps : List (List ℕ)). front ∷ ps) (sym (glued_nil rest))
+field_left line start end is within past =
+    let rest = drop start line in
+    let far : length rest ≤ position_or_len (λ b. b == 32) rest = omega (arith, is, space_at rest, past, within, length-drop start line) in
+    whole (λ b. b == 32) rest far ∙ ap (λ (l : List ℕ). l ∷ []) (sym (take_all (length line - start) rest (omega (arith, length-drop start line))))
 
--- nothing is left
-pub glued_none : (front : List ℕ) → glued front (parts 32 []) ≡ front ∷ []
-unfolding parts
-glued_none front = ap (λ (l : List ℕ). l ∷ []) (append-nil front)
-
--- a line that is cut up to a place goes on to the next
-pub glued_on : (line : List ℕ) (start place : ℕ) → start ≤ place → place < length line → (slice_index line place ≡ 32 → ⊥)
-    → glued (take (place + 1 - start) (drop start line)) (parts 32 (drop (place + 1) line)) ≡ glued (take (place - start) (drop start line)) (parts 32 (drop place line))
-glued_on line start place before inside other =
-    let front = take (place - start) (drop start line) in
-    let b = slice_index line place in
-    let long : place + 1 - start ≡ place - start + 1 = omega (arith, before) in
-    let here : start + (place - start) ≡ place = omega (arith, before) in
-    let room : place - start < length (drop start line) = omega (arith, before, inside, length-drop start line) in
-    let more : take (place + 1 - start) (drop start line) ≡ front ++ b ∷ [] =
-    ap (λ (n : ℕ). take n (drop start line)) long
-    ∙ take_more (drop start line) (place - start) 0 room
-    ∙ ap (λ (x : ℕ). front ++ x ∷ []) (get_or-drop start line (place - start) 0 ∙ ap (λ (n : ℕ). slice_index line n) here) in
-    ap (λ (l : List ℕ). glued l (parts 32 (drop (place + 1) line))) more
-    ∙ sym (glued_more front (drop (place + 1) line) b (ne_eqb b 32 other))
-    ∙ ap (λ (l : List ℕ). glued front (parts 32 l)) (sym (drop_more line place 0 inside))
-
--- a space is passed, and one part more is cut
-pub cut_on : (fs whole : List (List ℕ)) (front line : List ℕ) (place : ℕ) → place < length line → slice_index line place ≡ 32 → fs ++ glued front (parts 32 (drop place line)) ≡ whole
-    → (fs ++ front ∷ []) ++ glued (take (place + 1 - (place + 1)) (drop (place + 1) line)) (parts 32 (drop (place + 1) line)) ≡ whole
-cut_on fs whole front line place inside space so_far =
-    let rest = drop (place + 1) line in
-    let none : place + 1 - (place + 1) ≡ 0 = omega arith in
-    let here : drop place line ≡ 32 ∷ rest = drop_more line place 0 inside ∙ ap (λ (b : ℕ). b ∷ rest) space in
-    append_assoc fs (front ∷ []) (glued (take (place + 1 - (place + 1)) rest) (parts 32 rest))
-    ∙ ap (λ (n : ℕ). fs ++ front ∷ glued (take n rest) (parts 32 rest)) none
-    ∙ ap (λ (ps : List (List ℕ)). fs ++ ps) (sym (ap (λ (l : List ℕ). glued front (parts 32 l)) here ∙ glued_end front rest))
+-- one field more is cut
+pub cut_next : (fs whole : List (List ℕ)) (line : List ℕ) (start end : ℕ) → end ≡ end_of start line → start ≤ length line → end < length line → fs ++ parts 32 (drop start line) ≡ whole
+    → (fs ++ take (end - start) (drop start line) ∷ []) ++ parts 32 (drop (end + 1) line) ≡ whole
+cut_next fs whole line start end is within inside so_far =
+    let field = take (end - start) (drop start line) in
+    append_assoc fs (field ∷ []) (parts 32 (drop (end + 1) line))
+    ∙ ap (λ (ps : List (List ℕ)). fs ++ ps) (sym (field_cut line start end is within inside))
     ∙ so_far
 
--- at the end of the line the last part is cut
-pub cut_last : (fs whole : List (List ℕ)) (line : List ℕ) (start place : ℕ) → place ≡ length line → fs ++ glued (take (place - start) (drop start line)) (parts 32 (drop place line)) ≡ whole
+-- the last one is
+pub cut_last : (fs whole : List (List ℕ)) (line : List ℕ) (start end : ℕ) → end ≡ end_of start line → start ≤ length line → length line ≤ end → fs ++ parts 32 (drop start line) ≡ whole
     → fs ++ take (length line - start) (drop start line) ∷ [] ≡ whole
-cut_last fs whole line start place end so_far =
-    let last = take (length line - start) (drop start line) in
-    let none : drop place line ≡ [] = drop_all place line (omega (arith, end)) in
-    sym (ap (λ (n : ℕ). fs ++ glued (take (n - start) (drop start line)) (parts 32 (drop place line))) end ∙ ap (λ (l : List ℕ). fs ++ glued last (parts 32 l)) none ∙ ap (λ (ps : List (List ℕ)). fs ++ ps) (glued_none last))
-    ∙ so_far
+cut_last fs whole line start end is within past so_far =
+    ap (λ (ps : List (List ℕ)). fs ++ ps) (sym (field_left line start end is within past)) ∙ so_far
+
+-- behind twelve fields there is one more
+pub too_many : (fs whole : List (List ℕ)) (line : List ℕ) (start : ℕ) → length fs ≡ 12 → fs ++ parts 32 (drop start line) ≡ whole → 12 < length whole
+too_many fs whole line start twelve so_far =
+    subst (λ (l : List (List ℕ)). 12 < length l) so_far (omega (arith, twelve, some_field (drop start line), length-append fs (parts 32 (drop start line))))

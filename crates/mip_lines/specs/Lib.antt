@@ -1,4 +1,5 @@
 pub mod Cutting
+pub mod Spaces
 pub mod Decimals
 pub mod HexFields
 pub mod Lines

@@ -1,13 +1,16 @@
 //! Texts cut at a byte.
 
-ghost use Rattle.std.specs.Prelude.{◌≡◌, ◌==◌, ◌+◌, ◌<◌, ◌≤◌, [], ◌∷◌, length, MatchOption, IfSome, IfOk};
+ghost use Rattle.std.specs.Prelude.{◌≡◌, ◌==◌, ◌+◌, ◌<◌, ◌≤◌, [], ◌∷◌, length, map, MatchOption, IfSome, IfOk};
 ghost use Rattle.std.specs.List.{count_by, position};
+ghost use Rattle.std.specs.Simd.Lanes.{mask_l};
 ghost use Rattle.mip_lines.specs.Cutting.{parts, fields_of, texts};
+ghost use Rattle.mip_lines.specs.Spaces.{is_space, end_of};
 
 use arrayvec::ArrayVec;
 use memchr::memchr;
 use mip_words::Memory;
 use std::alloc::Global;
+use std::simd::prelude::*;
 
 /// The most fields that are kept without memory being taken for them.
 const FEW: usize = 12;
@@ -88,20 +91,55 @@ pub fn fields_up_to(alloc: Global, most: usize, line: &[u8]) -> Result<Option<Ve
     Ok(Some(fields_in_room(alloc, count, line)?))
 }
 
+/// Which of sixteen bytes are spaces, the first in the lowest bit.
+fn spaces_in(bytes: u8x16) -> u64
+    ensures { result ≡ mask_l (map is_space bytes) }
+{
+    bytes.simd_eq(u8x16::splat(b' ')).to_bitmask()
+}
+
+/// Where the first space stands from a place on, or the line ends.
+fn slow_end(line: &[u8], from: usize) -> usize
+    requires { from ≤ length line.now }
+    ensures { result ≡ end_of from line.now }
+{
+    let mut place = from;
+    while place < line.len() && line[place] != b' ' {
+        place += 1;
+    }
+    place
+}
+
+/// The same, sixteen bytes at a time.
+fn end_of(line: &[u8], from: usize) -> usize
+    requires { from ≤ length line.now }
+    ensures { result ≡ end_of from line.now }
+{
+    let mut place = from;
+    while line.len() - place >= 16 {
+        let found = spaces_in(u8x16::from_slice(&line[place..]));
+        if found != 0 {
+            return place + found.trailing_zeros() as usize;
+        }
+        place += 16;
+    }
+    slow_end(line, place)
+}
+
 /// The fields of a line that has at most twelve; none where it has more. No memory is taken for them.
 pub fn few_fields(line: &[u8]) -> Option<FewFields<'_>>
     ensures { MatchOption result (12 < length (fields_of line.now)) (λ v. texts v.items ≡ fields_of line.now) }
 {
     let mut fields = FewFields::new();
     let mut start = 0;
-    for place in 0..line.len() {
-        if line[place] == b' ' {
-            if fields.is_full() {
-                return None;
-            }
-            fields.push(&line[start..place]);
-            start = place + 1;
+    let mut end = end_of(line, 0);
+    while end < line.len() {
+        if fields.is_full() {
+            return None;
         }
+        fields.push(&line[start..end]);
+        start = end + 1;
+        end = end_of(line, start);
     }
     if fields.is_full() {
         return None;

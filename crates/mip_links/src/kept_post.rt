@@ -1,9 +1,8 @@
 use crate::kept_flight::KeptFlight;
 
-/// Where the bytes of a posted packet stand among those of all, and how it was sent.
-#[derive(Drop)]
+/// How a posted packet was sent, and where its bytes end among those of all: 12 bytes. They begin where those of the packet before end.
+#[derive(Clone, Copy)]
 pub(crate) struct KeptPost {
     pub(crate) flight: KeptFlight,
-    pub(crate) start: usize,
-    pub(crate) end: usize,
+    pub(crate) end: u32,
 }

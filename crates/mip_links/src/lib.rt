@@ -12,6 +12,7 @@ mod places;
 mod posted;
 mod posts;
 mod rows;
+mod shields;
 
 pub use claim_fault::ClaimFault;
 pub use delivery::Delivery;

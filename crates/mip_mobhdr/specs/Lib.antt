@@ -7,3 +7,4 @@ pub mod OptionValuesLaws
 pub mod OptionReading
 pub mod OptionSpelling
 pub mod OptionWriting
+pub mod Pointer

@@ -1,4 +1,5 @@
-ghost use Rattle.std.specs.Prelude.{◌≡◌};
+ghost use Rattle.std.specs.Prelude.{◌≡◌, ◌<◌, ◌-◌, ◌^◌};
+ghost use Rattle.mip_mobhdr.specs.Pointer.{pointer_of};
 
 use crate::bad_option::BadOption;
 
@@ -17,6 +18,21 @@ pub enum Fault {
     HeaderLen,
     /// The mobility option at this place may not stand there.
     Option { place: usize },
+}
+
+impl Fault {
+    /// The place of the field at fault, which a Parameter Problem points to, of a message that begins at this place of its packet
+    /// (RFC 6275 section 9.2). No other fault than that of Payload Proto and of Header Len has one.
+    pub fn pointer(&self, place: usize) -> Option<usize>
+        requires { place < 2 ^ 64 - 1 }
+        ensures { result ≡ pointer_of place self.now }
+    {
+        match self {
+            Fault::Proto => Some(place),
+            Fault::HeaderLen => Some(place + 1),
+            Fault::Size | Fault::Checksum | Fault::Unknown(_) | Fault::Option { .. } => None,
+        }
+    }
 }
 
 impl From<BadOption> for Fault {

@@ -1,4 +1,5 @@
 pub mod Handling
 pub mod Performing
 pub mod Placing
+pub mod Claiming
 pub mod Stations

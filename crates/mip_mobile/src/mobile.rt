@@ -12,6 +12,7 @@ ghost use Rattle.mip_rules_mobile.specs.Questions.{fresh};
 ghost use Rattle.mip_rules_mobile.specs.MovingRules.{address_under};
 ghost use Rattle.mip_mobile.specs.Performing.{Performs};
 ghost use Rattle.mip_mobile.specs.Placing.{attach_at, leave_at, claims_attached, claims_after_leaving};
+ghost use Rattle.mip_mobile.specs.Claiming.{AreLeftAsTold};
 ghost use Rattle.mip_mobile.specs.Stations.{machine_of, IsTyped, with_clock_in, with_wire_in};
 ghost use Rattle.mip_mobile.specs.contracts.mobile.Mobile.{the_row};
 
@@ -151,6 +152,7 @@ impl<C: Clock + Drop, W: Wire + Drop> Mobile<C, W> {
         ensures typed { IsTyped result.0 }
         ensures claims { (machine_of self).fault ≡ None → P.claims place.new
             ≡ option_map (claims_attached (P.around place.old) (machine_of self).context.known prefix.0) (P.claims place.old) }
+        ensures told { IfOk result.1 (λ answers. AreLeftAsTold (P.claims place.old) answers (P.claims place.new)) }
         ensures place { (P.around place.new ≡ P.around place.old) × P.is_same place.old place.new }
     {
         let mut machine = self.into_machine();
@@ -167,6 +169,7 @@ impl<C: Clock + Drop, W: Wire + Drop> Mobile<C, W> {
         ensures typed { IsTyped result.0 }
         ensures claims { (machine_of self).fault ≡ None → P.claims place.new
             ≡ option_map (claims_after_leaving (P.around place.old) (machine_of self).context.known) (P.claims place.old) }
+        ensures told { IfOk result.1 (λ answers. AreLeftAsTold (P.claims place.old) answers (P.claims place.new)) }
         ensures place { (P.around place.new ≡ P.around place.old) × P.is_same place.old place.new }
     {
         let mut machine = self.into_machine();

@@ -87,9 +87,9 @@ unfolding asked_at
 asked_grew c now call s = answered-grew c (answers_at s.node.role now call) _
 
 -- the answers so far are the first of all, and stay so with the next one
-first-more : (all : List Answer) (xs : List Answer) (a : Answer) → take (length xs) all ≡ xs → (length xs < length all) × (a ≡ get_or all (length xs) a)
+pub first_more : (all : List Answer) (xs : List Answer) (a : Answer) → take (length xs) all ≡ xs → (length xs < length all) × (a ≡ get_or all (length xs) a)
     → take (length (xs ++ a ∷ [])) all ≡ xs ++ a ∷ []
-first-more all xs a first yielded =
+first_more all xs a first yielded =
     ap (λ (n : ℕ). take n all) (length_push xs a) ∙ take_more all (length xs) a yielded.0 ∙ ap (λ (l : List Answer). l ++ get_or all (length xs) a ∷ []) first ∙ ap (λ (b : Answer). xs ++ b ∷ []) (sym yielded.1)
 
 -- after so many answers the next one was not carried out, or its packet was sent
@@ -105,7 +105,7 @@ stopped_at c all xs a s t sent first yielded done (inr is) =
     let f : Serving → Answer → Serving = answered_one c in (
       length (xs ++ a ∷ []),
       is ∙ ap (λ (u : Serving). (f u a).sent) done ∙ sym (ap (λ (u : Serving). u.sent) (fold_push f s xs a))
-          ∙ sym (ap (λ (l : List Answer). (fold f s l).sent) (first-more all xs a first yielded)),
+          ∙ sym (ap (λ (l : List Answer). (fold f s l).sent) (first_more all xs a first yielded)),
     )
 
 -- so many answers of a call were carried out
@@ -143,17 +143,23 @@ paid-grew : (c : Content) (turn now : ℕ) (ps : List Payload) (s : Serving) →
 unfolding paid
 paid-grew c turn now ps s = fold-grew (paid_one c turn now) (paid_one_grew c turn now) ps s
 
+-- one payload more
+pub paid_more : (c : Content) (turn now : ℕ) (ps items : List Payload) (i : ℕ) (p : Payload) (s t : Serving) → items ≡ ps → i < length items → p ≡ get_or items i p
+    → t ≡ fold (paid_one c turn now) s (take i ps) → paid_one c turn now t p ≡ fold (paid_one c turn now) s (take (i + 1) ps)
+paid_more c turn now ps items i p s t all inside item so =
+    let f : Serving → Payload → Serving = paid_one c turn now in
+    let within : i < length ps = subst (λ (l : List Payload). i < length l) all inside in
+    let is : p ≡ get_or ps i p = subst (λ (l : List Payload). p ≡ get_or l i p) all item in
+    ap (f t) is ∙ ap (λ (x : Serving). f x (get_or ps i p)) so ∙ sym (fold_push f s (take i ps) (get_or ps i p)) ∙ sym (ap (λ (l : List Payload). fold f s l) (take_more ps i p within))
+
 -- in the payload at a place
 pub paid_between : (c : Content) (turn now : ℕ) (ps items : List Payload) (i : ℕ) (p : Payload) (s t : Serving) (sent : Datagrams) → items ≡ ps → i < length items → p ≡ get_or items i p
     → t ≡ fold (paid_one c turn now) s (take i ps) → Between t.sent sent (paid_one c turn now t p).sent → Between s.sent sent (paid c turn now ps s).sent
 unfolding paid
 paid_between c turn now ps items i p s t sent all inside item so cut =
     let f : Serving → Payload → Serving = paid_one c turn now in
-    let within : i < length ps = subst (λ (l : List Payload). i < length l) all inside in
-    let is : p ≡ get_or ps i p = subst (λ (l : List Payload). p ≡ get_or l i p) all item in
     let before : Grew s.sent t.sent = subst (λ (x : Serving). Grew s.sent x.sent) (sym so) (fold-grew f (paid_one_grew c turn now) (take i ps) s) in
-    let next : fold f s (take (i + 1) ps) ≡ f t p =
-    ap (λ (l : List Payload). fold f s l) (take_more ps i p within) ∙ fold_push f s (take i ps) (get_or ps i p) ∙ ap (λ (x : Serving). f x (get_or ps i p)) (sym so) ∙ ap (f t) (sym is) in
+    let next : fold f s (take (i + 1) ps) ≡ f t p = sym (paid_more c turn now ps items i p s t all inside item so) in
     let last : Between s.sent (fold f s (take (i + 1) ps)).sent (fold f s ps).sent = front-between f (paid_one_grew c turn now) ps (i + 1) s in
     let after : Grew (f t p).sent (fold f s ps).sent = subst (λ (x : Serving). Grew x.sent (fold f s ps).sent) next last.until in
     record {

@@ -7,3 +7,5 @@ pub mod Apart
 pub mod Ends
 pub mod Told
 pub mod Placing
+mod Calling
+mod Steps

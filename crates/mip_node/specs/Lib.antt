@@ -3,6 +3,7 @@ pub mod Settings
 pub mod Nodes
 pub mod Adverts
 pub mod Turns
+pub mod TurnsLaws
 pub mod Seen
 pub mod Runs
 pub mod RunsLaws

@@ -3,6 +3,8 @@
 ghost use Rattle.std.specs.Prelude.{◌≡◌, ◌<◌, ◌^◌, true, OnOk, OnErr, IsErrOf};
 ghost use Rattle.mip_roles.specs.Calls.{asked, IsAskable};
 ghost use Rattle.mip_config.specs.Facts.{is_sendable};
+ghost use Rattle.std.specs.Result.{IsOk};
+ghost use Rattle.mip_outside.specs.LinkCalls.{EndsAtFault};
 ghost use Rattle.mip_node.specs.Faults.{CountsFaults, Between};
 ghost use Rattle.mip_node.specs.Roles.{IsBy};
 ghost use Rattle.mip_node.specs.Nodes.{serving, asked_at};
@@ -18,7 +20,7 @@ use mip_roles::Call;
 use mip_words::Moment;
 
 /// The node is asked something.
-#[tactic(auto, unfolding(crate::specs::Nodes::asked_at))]
+#[tactic(auto, unfolding(crate::specs::Nodes::asked_at), using(mip_outside::proofs::Calling::granted_none))]
 pub fn ask<L: Link>(
     node: &mut Node,
     setting: &Setting<'_>,
@@ -34,6 +36,7 @@ pub fn ask<L: Link>(
         (asked_at (said setting.now) now.0 (asked call.entry) (serving node.old (L.sent link.old))).sent) }
     ensures timely { IsBy node.new.role now.0 }
     ensures kept { (L.coming link.new ≡ L.coming link.old) × (L.port link.new ≡ L.port link.old) }
+    ensures calls { EndsAtFault (IsOk result) (IsErrOf result PutFault.Failed) (IsErrOf result PutFault.Memory) (L.calls link.old) (L.calls link.new) }
     ensures faults { CountsFaults (IsErrOf result PutFault.Failed) (L.faults link.old) (L.faults link.new) }
 {
     let answers = node.act(setting, now, call)?;
@@ -41,7 +44,7 @@ pub fn ask<L: Link>(
 }
 
 /// Due work is done.
-#[tactic(auto, unfolding(crate::specs::Turns::worked))]
+#[tactic(auto, unfolding(crate::specs::Turns::worked), using(mip_outside::proofs::Calling::granted_none))]
 fn work<L: Link>(
     node: &mut Node,
     setting: &Setting<'_>,
@@ -55,6 +58,7 @@ fn work<L: Link>(
         (worked (said setting.now) now.0 (serving node.old (L.sent link.old))).sent) }
     ensures timely { IsBy node.new.role now.0 }
     ensures kept { (L.coming link.new ≡ L.coming link.old) × (L.port link.new ≡ L.port link.old) }
+    ensures calls { EndsAtFault (IsOk result) (IsErrOf result PutFault.Failed) (IsErrOf result PutFault.Memory) (L.calls link.old) (L.calls link.new) }
     ensures faults { CountsFaults (IsErrOf result PutFault.Failed) (L.faults link.old) (L.faults link.new) }
 {
     if node.has_due(now) {
@@ -65,7 +69,7 @@ fn work<L: Link>(
 }
 
 /// A payload is sent, where this is its turn.
-#[tactic(auto, unfolding(crate::specs::Turns::paid_one), using(crate::proofs::Configured::askable))]
+#[tactic(auto, unfolding(crate::specs::Turns::paid_one), using(mip_outside::proofs::Calling::granted_none, crate::proofs::Configured::askable))]
 fn pay_one<L: Link>(
     node: &mut Node,
     setting: &Setting<'_>,
@@ -82,6 +86,7 @@ fn pay_one<L: Link>(
         (paid_one (said setting.now) turn now.0 (serving node.old (L.sent link.old)) payload.now).sent) }
     ensures timely { IsBy node.new.role now.0 }
     ensures kept { (L.coming link.new ≡ L.coming link.old) × (L.port link.new ≡ L.port link.old) }
+    ensures calls { EndsAtFault (IsOk result) (IsErrOf result PutFault.Failed) (IsErrOf result PutFault.Memory) (L.calls link.old) (L.calls link.new) }
     ensures faults { CountsFaults (IsErrOf result PutFault.Failed) (L.faults link.old) (L.faults link.new) }
 {
     if payload.turn != turn {
@@ -96,7 +101,7 @@ fn pay_one<L: Link>(
 }
 
 /// The payloads of a turn are sent, in order.
-#[tactic(auto, unfolding(crate::specs::Turns::paid), using(mip_outside::proofs::Known::Rose_since))]
+#[tactic(auto, unfolding(crate::specs::Turns::paid), using(mip_outside::proofs::Calling::granted_none, mip_outside::proofs::Known::Rose_since))]
 fn pay<L: Link>(
     node: &mut Node,
     setting: &Setting<'_>,
@@ -112,6 +117,7 @@ fn pay<L: Link>(
         (paid (said setting.now) turn now.0 (said setting.now).payloads (serving node.old (L.sent link.old))).sent) }
     ensures timely { IsBy node.new.role now.0 }
     ensures kept { (L.coming link.new ≡ L.coming link.old) × (L.port link.new ≡ L.port link.old) }
+    ensures calls { EndsAtFault (IsOk result) (IsErrOf result PutFault.Failed) (IsErrOf result PutFault.Memory) (L.calls link.old) (L.calls link.new) }
     ensures faults { CountsFaults (IsErrOf result PutFault.Failed) (L.faults link.old) (L.faults link.new) }
 {
     for payload in setting.config.payloads.as_slice() {
@@ -121,7 +127,7 @@ fn pay<L: Link>(
 }
 
 /// What a node does in a turn before it listens: the turn begins, due work, payloads.
-#[tactic(auto, unfolding(crate::specs::Turns::before), using(mip_outside::proofs::Known::Rose_since))]
+#[tactic(auto, unfolding(crate::specs::Turns::before), using(mip_outside::proofs::Calling::granted_none, mip_outside::proofs::Known::Rose_since))]
 pub fn act_first<L: Link>(
     node: &mut Node,
     setting: &Setting<'_>,
@@ -136,6 +142,7 @@ pub fn act_first<L: Link>(
         (before (said setting.now) turn now.0 (serving node.old (L.sent link.old))).sent) }
     ensures timely { IsBy node.new.role now.0 }
     ensures kept { (L.coming link.new ≡ L.coming link.old) × (L.port link.new ≡ L.port link.old) }
+    ensures calls { EndsAtFault (IsOk result) (IsErrOf result PutFault.Failed) (IsErrOf result PutFault.Memory) (L.calls link.old) (L.calls link.new) }
     ensures faults { CountsFaults (IsErrOf result PutFault.Failed) (L.faults link.old) (L.faults link.new) }
 {
     node.begin(now)?;

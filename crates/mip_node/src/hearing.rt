@@ -2,6 +2,8 @@
 
 ghost use Rattle.std.specs.Prelude.{◌≡◌, ◌<◌, ◌^◌, option_map, OnOk, OnErr, IsErrOf};
 ghost use Rattle.mip_frames.specs.Framing.{framed};
+ghost use Rattle.std.specs.Result.{IsOk};
+ghost use Rattle.mip_outside.specs.LinkCalls.{EndsAtFault};
 ghost use Rattle.mip_node.specs.Faults.{CountsFaults, Between};
 ghost use Rattle.mip_node.specs.Roles.{IsBy};
 ghost use Rattle.mip_node.specs.Nodes.{serving};
@@ -21,6 +23,7 @@ use mip_roles::Call;
 use mip_words::{Moment, Prefix, Why};
 
 /// A mobile is told of a router on its link.
+#[tactic(auto, using(mip_outside::proofs::Calling::granted_none))]
 fn attach<L: Link>(
     node: &mut Node,
     setting: &Setting<'_>,
@@ -35,6 +38,7 @@ fn attach<L: Link>(
         (told_of_router (said setting.now) now.0 prefix.0 (serving node.old (L.sent link.old))).sent) }
     ensures timely { IsBy node.new.role now.0 }
     ensures kept { (L.coming link.new ≡ L.coming link.old) × (L.port link.new ≡ L.port link.old) }
+    ensures calls { EndsAtFault (IsOk result) (IsErrOf result PutFault.Failed) (IsErrOf result PutFault.Memory) (L.calls link.old) (L.calls link.new) }
     ensures faults { CountsFaults (IsErrOf result PutFault.Failed) (L.faults link.old) (L.faults link.new) }
 {
     node.note(Entry::Advertised {
@@ -74,6 +78,7 @@ fn give<L: Link>(
         (given (said setting.now) now.0 number (framed frame.entry) (option_map (λ p. p.0) prefix) (serving node.old (L.sent link.old))).sent) }
     ensures timely { IsBy node.new.role now.0 }
     ensures kept { (L.coming link.new ≡ L.coming link.old) × (L.port link.new ≡ L.port link.old) }
+    ensures calls { EndsAtFault (IsOk result) (IsErrOf result PutFault.Failed) (IsErrOf result PutFault.Memory) (L.calls link.old) (L.calls link.new) }
     ensures faults { CountsFaults (IsErrOf result PutFault.Failed) (L.faults link.old) (L.faults link.new) }
 {
     match prefix {
@@ -90,7 +95,7 @@ fn give<L: Link>(
 }
 
 /// A frame is handed to the node.
-#[tactic(auto, unfolding(crate::specs::Turns::taken))]
+#[tactic(auto, unfolding(crate::specs::Turns::taken), using(mip_outside::proofs::Calling::granted_none))]
 fn take<L: Link>(
     node: &mut Node,
     setting: &Setting<'_>,
@@ -107,6 +112,7 @@ fn take<L: Link>(
         (taken (said setting.now) now.0 number (framed frame.entry) (serving node.old (L.sent link.old))).sent) }
     ensures timely { IsBy node.new.role now.0 }
     ensures kept { (L.coming link.new ≡ L.coming link.old) × (L.port link.new ≡ L.port link.old) }
+    ensures calls { EndsAtFault (IsOk result) (IsErrOf result PutFault.Failed) (IsErrOf result PutFault.Memory) (L.calls link.old) (L.calls link.new) }
     ensures faults { CountsFaults (IsErrOf result PutFault.Failed) (L.faults link.old) (L.faults link.new) }
 {
     node.note(Entry::Handed {
@@ -118,7 +124,7 @@ fn take<L: Link>(
 }
 
 /// A datagram takes a number. What is a frame for the node is handed to it.
-#[tactic(auto, unfolding(crate::specs::Turns::heard))]
+#[tactic(auto, unfolding(crate::specs::Turns::heard), using(mip_outside::proofs::Calling::granted_none))]
 pub fn hear<L: Link>(
     node: &mut Node,
     setting: &Setting<'_>,
@@ -133,6 +139,7 @@ pub fn hear<L: Link>(
         (heard (said setting.now) now.0 datagram.now (serving node.old (L.sent link.old))).sent) }
     ensures timely { IsBy node.new.role now.0 }
     ensures kept { (L.coming link.new ≡ L.coming link.old) × (L.port link.new ≡ L.port link.old) }
+    ensures calls { EndsAtFault (IsOk result) (IsErrOf result PutFault.Failed) (IsErrOf result PutFault.Memory) (L.calls link.old) (L.calls link.new) }
     ensures faults { CountsFaults (IsErrOf result PutFault.Failed) (L.faults link.old) (L.faults link.new) }
 {
     let number = node.next();

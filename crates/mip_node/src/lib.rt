@@ -14,5 +14,7 @@ mod setting;
 mod telling;
 mod turn;
 
-pub use laws::told_turns_are_one;
+pub use laws::{
+    datagrams_leave_entries, shields_end_at_their_node, told_turns_are_one, turns_take_their_steps,
+};
 pub use running::serve;

@@ -1,5 +1,9 @@
-ghost use Rattle.std.specs.Prelude.{◌≡◌, Some, OnOk, OnErr, IsErrOf, option_map};
+ghost use Rattle.std.specs.Prelude.{◌≡◌, ◌∷◌, ◌++◌, [], Some, OnOk, OnErr, IsErrOf, option_map};
 ghost use Rattle.mip_config.specs.Configs.{content};
+ghost use Rattle.std.specs.Result.{IsOk};
+ghost use Rattle.mip_outside.specs.LinkCalls.{called};
+ghost use Rattle.mip_outside.specs.declared.asked.Asked.TheVariants.{Listen};
+ghost use Rattle.mip_frames.specs.Calling.{listening, EndsTurns, EndsRun};
 ghost use Rattle.mip_node.specs.Faults.{CountsFaults, CountsBoth, BrokePart, WrotePart, BrokeAfter, WroteAfter, CutAfter, LinkFailed, StoppedAfter};
 ghost use Rattle.mip_node.specs.FaultsLaws.{CutPart};
 ghost use Rattle.mip_node.specs.Roles.{IsBy};
@@ -23,6 +27,8 @@ fn listen<L: Link>(link: &mut L, port: u16) -> Result<(), Ended>
     ensures ok { OnOk result (L.port link.new ≡ option_map (λ _. Some port) (L.port link.old)) }
     ensures kept { (L.sent link.new ≡ L.sent link.old) × (L.coming link.new ≡ L.coming link.old) }
     ensures only { OnErr result (result ≡ Err Ended.Link) }
+    ensures listens { OnOk result (L.calls link.new ≡ listening (L.calls link.old)) }
+    ensures refused { OnErr result (L.calls link.new ≡ L.calls link.old ++ called Listen (Some PutFault.Failed) ∷ []) }
     ensures faults { CountsFaults (IsErrOf result Ended.Link) (L.faults link.old) (L.faults link.new) }
 {
     match link.listen_on(port) {
@@ -54,6 +60,7 @@ fn turn_told<C: Clock, L: Link, K: Sink>(
         (stand (C.ahead clock.old) (L.coming link.old) node.old (L.sent link.old) (K.held sink.old))
         (outside (C.ahead clock.new) (L.coming link.new) (L.sent link.new) (K.held sink.new)) }
     ensures kept { IsBy node.new.role (C.last clock.new) × (L.port link.new ≡ L.port link.old) }
+    ensures calls { EndsTurns (IsOk result) (IsErrOf result Ended.Sink) (IsErrOf result Ended.Link) (IsErrOf result Ended.Memory) (L.calls link.old) (L.calls link.new) }
     ensures faults { CountsBoth (IsErrOf result Ended.Link) (IsErrOf result Ended.Sink)
         (L.faults link.old) (L.faults link.new) (K.faults sink.old) (K.faults sink.new) }
 {
@@ -89,6 +96,7 @@ fn run_turns<C: Clock, L: Link, K: Sink>(
         (start (said setting.now) (C.ahead clock.old) (L.coming link.old) (L.sent link.old) (K.held sink.old)) turns
         (outside (C.ahead clock.new) (L.coming link.new) (L.sent link.new) (K.held sink.new)) }
     ensures port { L.port link.new ≡ L.port link.old }
+    ensures calls { EndsTurns (IsOk result) (IsErrOf result Ended.Sink) (IsErrOf result Ended.Link) (IsErrOf result Ended.Memory) (L.calls link.old) (L.calls link.new) }
     ensures faults { CountsBoth (IsErrOf result Ended.Link) (IsErrOf result Ended.Sink)
         (L.faults link.old) (L.faults link.new) (K.faults sink.old) (K.faults sink.new) }
 {
@@ -121,6 +129,7 @@ fn run<C: Clock, L: Link, K: Sink>(
     ensures memory { IsErrOf result Ended.Memory → StoppedAfter
         (start (content config.now) (C.ahead clock.old) (L.coming link.old) (L.sent link.old) (K.held sink.old)) turns
         (outside (C.ahead clock.new) (L.coming link.new) (L.sent link.new) (K.held sink.new)) }
+    ensures calls { EndsRun (IsOk result) (IsErrOf result Ended.Sink) (IsErrOf result Ended.Link) (IsErrOf result Ended.Memory) (L.calls link.old) (L.calls link.new) }
     ensures faults { CountsBoth (IsErrOf result Ended.Link) (IsErrOf result Ended.Sink)
         (L.faults link.old) (L.faults link.new) (K.faults sink.old) (K.faults sink.new) }
 {
@@ -156,6 +165,7 @@ pub fn serve<C: Clock, L: Link, K: Sink>(
         (start (content config.now) (C.ahead clock.old) (L.coming link.old) (L.sent link.old) (K.held sink.old)) turns
         (outside (C.ahead clock.new) (L.coming link.new) (L.sent link.new) (K.held sink.new)) }
     ensures front { WroteFront (start (content config.now) (C.ahead clock.old) (L.coming link.old) (L.sent link.old) (K.held sink.old)) turns (K.held sink.new) }
+    ensures calls { EndsRun (result ≡ Served.Done) (result ≡ Served.WriteFault) (result ≡ Served.LinkFault) (result ≡ Served.Memory) (L.calls link.old) (L.calls link.new) }
     ensures faults { CountsBoth (result ≡ Served.LinkFault) (result ≡ Served.WriteFault)
         (L.faults link.old) (L.faults link.new) (K.faults sink.old) (K.faults sink.new) }
 {

@@ -3,6 +3,8 @@
 ghost use Rattle.std.specs.Prelude.{◌≡◌, ◌⊎◌, ℕ, take, OnOk, OnErr, IsErrOf};
 ghost use Rattle.mip_node.specs.Nodes.{serving, put_on, answered_one, answered};
 ghost use Rattle.mip_node.specs.Settings.{said};
+ghost use Rattle.std.specs.Result.{IsOk};
+ghost use Rattle.mip_outside.specs.LinkCalls.{EndsAtFault};
 ghost use Rattle.mip_node.specs.Faults.{CountsFaults};
 
 use crate::node::Node;
@@ -16,7 +18,7 @@ use mip_words::{Bytes, LinkId, Shield};
 pub const HERE: LinkId = LinkId(0);
 
 /// A packet is sent in a frame to the port of its route.
-#[tactic(auto, unfolding(crate::specs::Nodes::put_on))]
+#[tactic(auto, unfolding(crate::specs::Nodes::put_on), using(crate::proofs::Calling::put_granted, crate::proofs::Calling::put_lost, mip_outside::proofs::Calling::send_refused))]
 fn put<L: Link>(
     node: &mut Node,
     setting: &Setting<'_>,
@@ -29,6 +31,7 @@ fn put<L: Link>(
         ⊎ (L.sent link.new ≡ (put_on (said setting.now) shield packet (serving node.old (L.sent link.old))).sent)) }
     ensures role { node.new.role ≡ node.old.role }
     ensures kept { (L.coming link.new ≡ L.coming link.old) × (L.port link.new ≡ L.port link.old) }
+    ensures calls { EndsAtFault (IsOk result) (IsErrOf result PutFault.Failed) (IsErrOf result PutFault.Memory) (L.calls link.old) (L.calls link.new) }
     ensures faults { CountsFaults (IsErrOf result PutFault.Failed) (L.faults link.old) (L.faults link.new) }
 {
     let config = setting.config;
@@ -46,7 +49,7 @@ fn put<L: Link>(
 }
 
 /// One answer is carried out: a packet is sent, and an entry stands from here on.
-#[tactic(auto, unfolding(crate::specs::Nodes::answered_one))]
+#[tactic(auto, unfolding(crate::specs::Nodes::answered_one), using(mip_outside::proofs::Calling::granted_none))]
 fn answer_one<L: Link>(
     node: &mut Node,
     setting: &Setting<'_>,
@@ -58,6 +61,7 @@ fn answer_one<L: Link>(
         ⊎ (L.sent link.new ≡ (answered_one (said setting.now) (serving node.old (L.sent link.old)) answer).sent)) }
     ensures role { node.new.role ≡ node.old.role }
     ensures kept { (L.coming link.new ≡ L.coming link.old) × (L.port link.new ≡ L.port link.old) }
+    ensures calls { EndsAtFault (IsOk result) (IsErrOf result PutFault.Failed) (IsErrOf result PutFault.Memory) (L.calls link.old) (L.calls link.new) }
     ensures faults { CountsFaults (IsErrOf result PutFault.Failed) (L.faults link.old) (L.faults link.new) }
 {
     match answer {
@@ -71,7 +75,7 @@ fn answer_one<L: Link>(
 }
 
 /// All answers are carried out, in order.
-#[tactic(auto, unfolding(crate::specs::Nodes::answered), using(mip_outside::proofs::Known::Rose_since))]
+#[tactic(auto, unfolding(crate::specs::Nodes::answered), using(mip_outside::proofs::Calling::granted_none, mip_outside::proofs::Known::Rose_since))]
 pub fn answer_all<L: Link>(
     node: &mut Node,
     setting: &Setting<'_>,
@@ -83,6 +87,7 @@ pub fn answer_all<L: Link>(
         × (L.sent link.new ≡ (answered (said setting.now) (take count answers) (serving node.old (L.sent link.old))).sent)) }
     ensures role { node.new.role ≡ node.old.role }
     ensures kept { (L.coming link.new ≡ L.coming link.old) × (L.port link.new ≡ L.port link.old) }
+    ensures calls { EndsAtFault (IsOk result) (IsErrOf result PutFault.Failed) (IsErrOf result PutFault.Memory) (L.calls link.old) (L.calls link.new) }
     ensures faults { CountsFaults (IsErrOf result PutFault.Failed) (L.faults link.old) (L.faults link.new) }
 {
     for answer in answers.into_vec() {

@@ -2,6 +2,8 @@
 
 ghost use Rattle.std.specs.Prelude.{◌≡◌, ◌<◌, ◌^◌, ◌⊎◌, IfOk, IfSome, OnOk, OnErr, IsErrOf, drop, option_map};
 ghost use Rattle.mip_outside.specs.Moments.{moments_after};
+ghost use Rattle.std.specs.Result.{IsOk};
+ghost use Rattle.mip_outside.specs.LinkCalls.{EndsAtFault};
 ghost use Rattle.mip_node.specs.Faults.{CountsFaults, Between, Broke};
 ghost use Rattle.mip_node.specs.Roles.{IsBy};
 ghost use Rattle.mip_node.specs.Nodes.{serving};
@@ -24,12 +26,14 @@ const ROOM: usize = 4097;
 const WAIT: u64 = 20;
 
 /// The next datagram of a link, or none where none came in time.
+#[tactic(auto, using(mip_outside::proofs::Calling::receive_granted, mip_outside::proofs::Calling::receive_refused))]
 fn next_datagram<L: Link>(alloc: Global, link: &mut L) -> Result<Option<Bytes>, PutFault>
     ensures came { IfOk result (λ item. IfSome (L.coming link.old) (λ items. IsNext items item)) }
     ensures ok { OnOk result (L.coming link.new ≡ option_map (drop 1) (L.coming link.old)) }
     ensures failed { IsErrOf result PutFault.Failed → L.coming link.new ≡ L.coming link.old }
     ensures left { OnErr result ((L.coming link.new ≡ L.coming link.old) ⊎ (L.coming link.new ≡ option_map (drop 1) (L.coming link.old))) }
     ensures kept { (L.sent link.new ≡ L.sent link.old) × (L.port link.new ≡ L.port link.old) }
+    ensures calls { EndsAtFault (IsOk result) (IsErrOf result PutFault.Failed) (IsErrOf result PutFault.Memory) (L.calls link.old) (L.calls link.new) }
     ensures faults { CountsFaults (IsErrOf result PutFault.Failed) (L.faults link.old) (L.faults link.new) }
 {
     let mut room = [0; ROOM];
@@ -44,7 +48,7 @@ fn next_datagram<L: Link>(alloc: Global, link: &mut L) -> Result<Option<Bytes>, 
 }
 
 /// A node is handed the datagram that came, if one did.
-#[tactic(auto, unfolding(crate::specs::Turns::received))]
+#[tactic(auto, unfolding(crate::specs::Turns::received), using(mip_outside::proofs::Calling::granted_none))]
 fn receive<L: Link>(
     node: &mut Node,
     setting: &Setting<'_>,
@@ -59,6 +63,7 @@ fn receive<L: Link>(
         (received (said setting.now) now.0 datagram (serving node.old (L.sent link.old))).sent) }
     ensures timely { IsBy node.new.role now.0 }
     ensures kept { (L.coming link.new ≡ L.coming link.old) × (L.port link.new ≡ L.port link.old) }
+    ensures calls { EndsAtFault (IsOk result) (IsErrOf result PutFault.Failed) (IsErrOf result PutFault.Memory) (L.calls link.old) (L.calls link.new) }
     ensures faults { CountsFaults (IsErrOf result PutFault.Failed) (L.faults link.old) (L.faults link.new) }
 {
     match datagram {
@@ -85,6 +90,7 @@ pub fn turn<C: Clock, L: Link>(
     ensures ahead { C.ahead clock.new ≡ option_map moments_after (C.ahead clock.old) }
     ensures coming { OnOk result (L.coming link.new ≡ option_map (drop 1) (L.coming link.old)) }
     ensures port { L.port link.new ≡ L.port link.old }
+    ensures calls { EndsAtFault (IsOk result) (IsErrOf result PutFault.Failed) (IsErrOf result PutFault.Memory) (L.calls link.old) (L.calls link.new) }
     ensures faults { CountsFaults (IsErrOf result PutFault.Failed) (L.faults link.old) (L.faults link.new) }
 {
     let now = Moment(clock.now());

@@ -1,6 +1,7 @@
 -- The datagrams of a link: those sent, with their ports, and those to come, with gaps between them.
 use Rattle.std.specs.Prelude.{◌≡◌, ℕ, List, [], ◌∷◌, length, take, min, None, Some}
 use Rattle.std.specs.declared.option.Option.{Option}
+use Rattle.mip_outside.specs.declared.link_call.LinkCall.{LinkCall}
 
 -- what `receive` answers where these are to come, and what then stands in its slice: nothing for a gap
 -- or where nothing is left, else the datagram, cut to the slice
@@ -15,3 +16,4 @@ pub record Traffic : Type 0 where
   pub sent : List (ℕ × List ℕ)
   pub coming : List (Option (List ℕ))
   pub port : Option ℕ
+  pub calls : List LinkCall

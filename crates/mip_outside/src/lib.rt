@@ -2,12 +2,14 @@
 //! with forms in memory. Source, sink and clock have real ones too.
 #![tactic(auto)]
 
+mod asked;
 mod buffered;
 mod claim;
 mod clock;
 mod failed;
 mod faults;
 mod link;
+mod link_call;
 mod memory;
 mod place;
 mod put;
@@ -17,11 +19,13 @@ mod sink;
 mod source;
 mod wire;
 
+pub use asked::Asked;
 pub use buffered::Buffered;
 pub use claim::Claim;
 pub use clock::Clock;
 pub use failed::Failed;
 pub use link::Link;
+pub use link_call::LinkCall;
 pub use memory::{
     FreePlace, Outbox, SetClock, SureLink, SureSink, SureSource, TextSink, TextSource,
 };

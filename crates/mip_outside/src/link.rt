@@ -3,6 +3,9 @@ ghost use Rattle.std.specs.Option.{option_map};
 ghost use Rattle.std.specs.declared.option.Option.{Option};
 ghost use Rattle.mip_outside.specs.Cause.{Rose};
 ghost use Rattle.mip_outside.specs.Datagrams.{IsReceived};
+ghost use Rattle.mip_outside.specs.LinkCalls.{called, fault_of, failure_of};
+ghost use Rattle.mip_outside.specs.declared.asked.Asked.TheVariants.{Listen, Send, Receive};
+ghost use Rattle.mip_outside.specs.declared.link_call.LinkCall.{LinkCall};
 
 use crate::failed::Failed;
 use crate::put_fault::PutFault;
@@ -18,6 +21,9 @@ pub trait Link {
     /// The port of the last `listen_on` that was granted, where it is told.
     ghost port: { Self → Option (Option ℕ) };
 
+    /// Its calls, oldest first.
+    ghost calls: { Self → List LinkCall };
+
     /// How many calls failed.
     ghost faults: { Self → ℕ };
 
@@ -27,6 +33,7 @@ pub trait Link {
         ensures err { OnErr result (port self.new ≡ port self.old) }
         ensures sent { sent self.new ≡ sent self.old }
         ensures coming { coming self.new ≡ coming self.old }
+        ensures calls { calls self.new ≡ calls self.old ++ called Listen (failure_of result) ∷ [] }
         ensures no_fewer { faults self.old ≤ faults self.new }
         ensures cause { OnErr result (Rose (faults self.old) (faults self.new)) };
 
@@ -36,6 +43,7 @@ pub trait Link {
         ensures err { OnErr result (sent self.new ≡ sent self.old) }
         ensures coming { coming self.new ≡ coming self.old }
         ensures port { port self.new ≡ port self.old }
+        ensures calls { calls self.new ≡ calls self.old ++ called Send (fault_of result) ∷ [] }
         ensures no_fewer { faults self.old ≤ faults self.new }
         ensures cause { IsErrOf result PutFault.Failed → Rose (faults self.old) (faults self.new) };
 
@@ -48,6 +56,7 @@ pub trait Link {
         ensures err { OnErr result (coming self.new ≡ coming self.old) }
         ensures sent { sent self.new ≡ sent self.old }
         ensures port { port self.new ≡ port self.old }
+        ensures calls { calls self.new ≡ calls self.old ++ called Receive (failure_of result) ∷ [] }
         ensures no_fewer { faults self.old ≤ faults self.new }
         ensures cause { OnErr result (Rose (faults self.old) (faults self.new)) };
 }

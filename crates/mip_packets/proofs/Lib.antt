@@ -4,6 +4,7 @@ pub mod Longs
 pub mod Nesting
 pub mod Sayings
 pub mod Updates
+pub mod Silences
 pub mod WrittenPackets
 pub mod WrittenMessages
 pub mod WrittenSayings

@@ -1,6 +1,6 @@
 -- What a packet says, through any depth of tunnels: a test, an update with an authenticator, or nothing of the kind.
 -- RFC 2473; RFC 6275 sections 5.2.5, 6.1.5, 6.1.6 and 6.1.7
-use Rattle.std.specs.Prelude.{ℕ, zero, suc, ◌-◌, List, [], ◌∷◌, length, ◌==◌, if◌then◌else◌, Option, Some, None, unwrap_or, Result, Ok, Err}
+use Rattle.std.specs.Prelude.{ℕ, zero, suc, ◌-◌, List, [], ◌∷◌, length, Bool, ◌==◌, ◌||◌, if◌then◌else◌, Option, Some, None, unwrap_or, Result, Ok, Err}
 use Rattle.std.specs.Option.{option_map_or}
 use Rattle.std.specs.Result.{result_ok}
 use Rattle.mip_words.specs.declared.address.Address.{Address}
@@ -62,6 +62,10 @@ update_said source home body options (Some authenticator) = Update (record {
   message = authenticated body;
   authenticator = authenticator;
 })
+
+-- the types of a Home Test, a Care-of Test and an update
+abbrev pub is_telling : ℕ → Bool
+is_telling type = type == 3 || type == 4 || type == 5
 
 -- what a message says, in a packet from this source and this home address to this destination
 abbrev pub said_by : Address → Address → Address → List ℕ → Said → Carried

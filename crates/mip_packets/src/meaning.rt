@@ -1,9 +1,9 @@
 //! What a packet says.
 
-ghost use Rattle.std.specs.Prelude.{◌≡◌};
+ghost use Rattle.std.specs.Prelude.{◌≡◌, slice_index};
 ghost use Rattle.mip_ipv6.specs.Packet.{packet as tree, source_of};
 ghost use Rattle.mip_mobhdr.specs.OptionValues.{values};
-ghost use Rattle.mip_packets.specs.Says.{carried, carried_of, says, update_said};
+ghost use Rattle.mip_packets.specs.Says.{carried, carried_of, is_telling, says, update_said};
 
 use crate::carried::Carried;
 use crate::inner::{innermost, message_in};
@@ -29,11 +29,24 @@ fn update<'a>(packet: &PacketRef<'a>, options: &Options<'a>) -> Carried<'a>
     }
 }
 
-/// What a packet says whose body is no packet.
-#[tactic(auto, unfolding(crate::specs::Says::says))]
+/// Whether the third byte of a body, which is the type of a message, is that of a test or an update.
+fn is_telling(body: &[u8]) -> bool
+    ensures { result ≡ is_telling (slice_index body.now 2) }
+{
+    match body.get(2) {
+        Some(kind) => matches!(*kind, 3 | 4 | 5),
+        None => false,
+    }
+}
+
+/// What a packet says whose body is no packet. A message of another type is not read.
+#[tactic(auto, unfolding(crate::specs::Says::says), using(crate::proofs::Silences::silent))]
 pub fn saying<'a>(packet: &PacketRef<'a>) -> Carried<'a>
     ensures { carried_of result ≡ says (tree packet.now) }
 {
+    if !is_telling(packet.body) {
+        return Carried::Other;
+    }
     match message_in(packet) {
         Some(Message::HomeTest { index, token, .. }) => Carried::Test {
             kind: TestKind::Home,

@@ -2,4 +2,3 @@ pub mod Recalling
 pub mod AtPlaces
 pub mod Examples
 pub mod OneNumber
-pub mod Refused

@@ -3,4 +3,3 @@ pub mod Places
 pub mod AsAsked
 pub mod Recalling
 pub mod OneNumber
-pub mod Refused

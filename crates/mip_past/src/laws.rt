@@ -1,14 +1,12 @@
-//! The laws, each the contract of a function that does nothing; `specs/AsAsked` has their statements, but for the last two. The first four speak of the
+//! The laws, each the contract of a function that does nothing; `specs/AsAsked` has their statements, but for the last. The first four speak of the
 //! places behind the entries of the first k events, since what a node knows is stated between two events.
 
 ghost use Rattle.std.specs.Prelude.{ℕ, List};
 ghost use Rattle.mip_schedule.specs.Contents.{Content};
 ghost use Rattle.mip_schedule.specs.declared.event.Event.{Event};
 ghost use Rattle.mip_history.specs.Setup.{Setup};
-ghost use Rattle.mip_history.specs.Runs.{Run};
 ghost use Rattle.mip_past.specs.AsAsked.{IsFront, IsPermittedFront, AreKeepersAsAsked, AreAgentsAsAsked, AreMobilesAsAsked, IsHolderFound, IsHeldBound, AreRegistered};
 ghost use Rattle.mip_past.specs.OneNumber.{IsOfTheLast};
-ghost use Rattle.mip_past.specs.Refused.{LeavesTables};
 
 /// A history only grows. So what lies before the place behind some first events is what these leave, at their moment; and each
 /// node has its own address there.
@@ -54,10 +52,4 @@ pub fn answers_have_their_update()
 /// alone, to the end of that, and the sequence of that acceptance is kept. No earlier one counts.
 pub fn one_number_leaves_the_last()
     ensures { (home now : ℕ) → IsOfTheLast home now }
-{}
-
-/// Whatever the run, a packet that a node drops, or whose update it denies, leaves the node's tables as they were: a correspondent's
-/// cache, all tables of an agent, which claims and gives up no address, and of a mobile all but the moments of its last calls.
-pub fn refused_packets_leave_the_tables()
-    ensures { (s : Setup) (run : Run) (n : ℕ) → LeavesTables s run n }
 {}

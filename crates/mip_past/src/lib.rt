@@ -15,6 +15,5 @@ mod recall;
 pub use laws::{
     agents_are_as_asked, answers_have_their_update, keepers_are_as_asked, mobiles_are_as_asked,
     one_holder_is_found, one_number_leaves_the_last, places_are_fronts,
-    refused_packets_leave_the_tables,
 };
 pub use past::Past;

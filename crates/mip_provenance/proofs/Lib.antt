@@ -5,4 +5,5 @@ pub mod Tracing
 pub mod Plain
 pub mod Standing
 pub mod Originating
+mod Means
 pub mod Covered

@@ -34,17 +34,17 @@ pub record FirstStands (past : List Entry) (key : UpdateIdentity) (update : ℕ)
   pub front : until (is_post update) (sights past) ≡ map (sight past) earlier
   pub first : IsFirstOf past key update maker earlier
 
-key_of_test : (seen : List Sight) (key : UpdateIdentity) (k : ℕ) → carries_key seen key k ≡ true → key_at seen k ≡ Some key
+pub key_of_test : (seen : List Sight) (key : UpdateIdentity) (k : ℕ) → carries_key seen key k ≡ true → key_at seen k ≡ Some key
 key_of_test seen key k e = by (key_at seen k) refl e
   where
     by : (o : Option UpdateIdentity) → key_at seen k ≡ o → option_map_or (same_key key) o false ≡ true → key_at seen k ≡ Some key
     by None is e = absurd cc
     by (Some x) is e = is ∙ ap Some (sym (key_same key x e))
 
-test_of_key : (seen : List Sight) (key : UpdateIdentity) (k : ℕ) → key_at seen k ≡ Some key → carries_key seen key k ≡ true
+pub test_of_key : (seen : List Sight) (key : UpdateIdentity) (k : ℕ) → key_at seen k ≡ Some key → carries_key seen key k ≡ true
 test_of_key seen key k e = ap (λ (o : Option UpdateIdentity). option_map_or (same_key key) o false) e ∙ same_self key
 
-post_of_key : (seen : List Sight) (key : UpdateIdentity) (k : ℕ) → key_at seen k ≡ Some key → list_any (λ x. x == k) (filter_map number_of seen) ≡ true
+pub post_of_key : (seen : List Sight) (key : UpdateIdentity) (k : ℕ) → key_at seen k ≡ Some key → list_any (λ x. x == k) (filter_map number_of seen) ≡ true
 post_of_key seen key k e = by (post_at seen k) refl e
   where
     by : (o : Option Post) → post_at seen k ≡ o → key_at seen k ≡ Some key → list_any (λ x. x == k) (filter_map number_of seen) ≡ true

@@ -13,3 +13,4 @@ pub mod Seen
 pub mod Traces
 pub mod Laws
 pub mod Origins
+pub mod Means

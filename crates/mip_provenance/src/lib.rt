@@ -22,7 +22,7 @@ mod whole_history;
 
 pub use accepted_update::AcceptedUpdate;
 pub use claim::Claim;
-pub use laws::unforged_has_its_origin;
+pub use laws::{forged_marks_have_their_cause, unforged_has_its_origin};
 pub use maker::Maker;
 pub use mark::Mark;
 pub use name::Name;

@@ -7,3 +7,4 @@ pub mod TableLaws
 pub mod RowLaws
 pub mod PacketLaws
 pub mod TellingLaws
+mod Standing

@@ -10,3 +10,4 @@ pub mod TablesLaws
 pub mod Adverts
 pub mod Packets
 pub mod Text
+pub mod TextLaws

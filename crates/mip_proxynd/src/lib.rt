@@ -20,7 +20,7 @@ mod writing;
 pub use address_claims::AddressClaims;
 pub use claim::Claim;
 pub use fault::NeighbourFault;
-pub use laws::claims_stand_by_their_last_entries;
+pub use laws::{claims_are_told, claims_stand_by_their_last_entries};
 pub use neighbour::Neighbour;
 pub use packets::{layer_of, write_neighbour_packet};
 pub use reading::read_neighbour;

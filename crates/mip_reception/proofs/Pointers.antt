@@ -4,7 +4,7 @@ use Rattle.std.specs.Prelude.{Option, Some, ◌↔◌}
 use Rattle.mip_words.specs.declared.address.Address.{Address}
 use Rattle.mip_mobhdr.specs.declared.fault.Fault.{Fault}
 use Rattle.mip_mobhdr.specs.declared.fault.Fault.TheVariants as faults
-use Rattle.mip_reception.specs.Pointer.{pointer_of}
+use Rattle.mip_mobhdr.specs.Pointer.{pointer_of}
 use Rattle.mip_reception.specs.declared.reply.Reply.TheVariants.{ParameterProblem}
 use Rattle.mip_reception.specs.Checks.{fault_reply}
 

@@ -2,7 +2,6 @@ pub mod Words
 pub mod Checks
 pub mod Replies
 pub mod Passing
-pub mod Pointer
 pub mod Refusing
 pub mod Registrations
 pub mod Statuses

@@ -28,18 +28,21 @@ fn silent(why: Why) -> Refusal
 }
 
 /// What goes back for a message that cannot be read, which begins at a place of the packet (RFC 6275 section 9.2).
-fn fault_reply(place: u32, home: Option<Address>, fault: Fault) -> Reply
+fn fault_reply(place: usize, home: Option<Address>, fault: Fault) -> Reply
     requires { place < 2 ^ 32 - 1 }
     ensures { result ≡ fault_reply place home fault }
 {
-    match fault {
-        Fault::Unknown(_) => Reply::BindingError {
+    if let Fault::Unknown(_) = fault {
+        return Reply::BindingError {
             status: 2,
             home: home.unwrap_or(Address(0)),
+        };
+    }
+    match fault.pointer(place) {
+        Some(pointer) => Reply::ParameterProblem {
+            pointer: pointer as u32,
         },
-        Fault::Proto => Reply::ParameterProblem { pointer: place },
-        Fault::HeaderLen => Reply::ParameterProblem { pointer: place + 1 },
-        Fault::Size | Fault::Checksum | Fault::Option { .. } => Reply::Nothing,
+        None => Reply::Nothing,
     }
 }
 
@@ -58,7 +61,7 @@ fn message_at<'a>(packet: &PacketRef<'a>) -> Result<Option<Message<'a>>, Refusal
         Ok(message) => Ok(Some(message)),
         Err(fault) => Err(Refusal {
             why: message_why(fault),
-            reply: fault_reply(packet.place as u32, packet.head.home, fault),
+            reply: fault_reply(packet.place, packet.head.home, fault),
         }),
     }
 }

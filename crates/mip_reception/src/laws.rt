@@ -5,7 +5,7 @@ ghost use Rattle.mip_words.specs.declared.address.Address.{Address};
 ghost use Rattle.mip_ipv6.specs.Packet.{Packet};
 ghost use Rattle.mip_mobhdr.specs.declared.fault.Fault.{Fault};
 ghost use Rattle.mip_mobhdr.specs.Said.{Said};
-ghost use Rattle.mip_reception.specs.Pointer.{pointer_of};
+ghost use Rattle.mip_mobhdr.specs.Pointer.{pointer_of};
 ghost use Rattle.mip_reception.specs.declared.address_match.AddressMatch.{AddressMatch};
 ghost use Rattle.mip_reception.specs.declared.reply.Reply.TheVariants.{ParameterProblem};
 ghost use Rattle.mip_reception.specs.Checks.{fault_reply, is_probe, is_update, checked};

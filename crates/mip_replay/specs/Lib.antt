@@ -9,3 +9,4 @@ pub use Rattle.mip_law_origin.specs.Marked
 pub use Rattle.mip_law_delivery.specs.Reached
 pub use Rattle.mip_history.specs.Setup
 pub use Rattle.mip_history.specs.Permitted
+pub use Rattle.mip_history.specs.Refused

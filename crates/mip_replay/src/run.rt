@@ -8,6 +8,7 @@ ghost use Rattle.mip_symbols.specs.Places.{AreFew};
 ghost use Rattle.mip_schedule.specs.Schedules.{content};
 ghost use Rattle.mip_law_origin.specs.Marked.{EachIsMarked};
 ghost use Rattle.mip_law_delivery.specs.Reached.{EachReaches};
+ghost use Rattle.mip_history.specs.Refused.{RefusalsLeaveTables};
 ghost use Rattle.mip_replay.specs.Bindings.{EachIsBound, EachRepeatIsLate};
 ghost use Rattle.mip_replay.specs.Homes.{HomesAreSent};
 ghost use Rattle.mip_engine.specs.Standing.{IsAt};
@@ -17,7 +18,7 @@ use mip_engine::Engine;
 use mip_entries::History;
 use mip_history::{
     accepted_was_handed, held_was_accepted, homes_change_by_updates_or_time, lives_are_restarts,
-    moments_rise, registered_was_sent, repeats_come_after_rounds,
+    moments_rise, refused_packets_leave_the_tables, registered_was_sent, repeats_come_after_rounds,
 };
 use mip_law_delivery::each_delivery_arrives;
 use mip_law_origin::acceptances_are_marked;
@@ -63,6 +64,9 @@ fn run_whole(alloc: Global, schedule: &Schedule) -> Result<History, Memory>
 /// A care-of address is registered at an agent only by an update that the mobile with that home had sent under its shield, in
 /// sequence after what was kept. Within an agent's life it changes only by such an update, or by the end of its time.
 ///
+/// A packet that a node drops, or whose update it denies, leaves the tables of that node as they were, at each place and in every
+/// other run: the cache of a correspondent, all tables of an agent, and of a mobile all but the moments of its last calls.
+///
 /// Each accepted update is followed by the mark of its origin. Where that is not `forged`, both tokens had reached
 /// whoever made the update, before its first packet was posted.
 ///
@@ -73,6 +77,7 @@ pub fn replay(alloc: Global, schedule: &Schedule) -> Result<History, Memory>
     ensures bound { IfOk result (λ h. EachIsBound (setup_of (content schedule.now)) h) }
     ensures repeats { IfOk result (λ h. EachRepeatIsLate (setup_of (content schedule.now)) h) }
     ensures homes { IfOk result (λ h. HomesAreSent (setup_of (content schedule.now)) h) }
+    ensures refused { RefusalsLeaveTables (setup_of (content schedule.now)) }
     ensures marked { IfOk result (λ h. EachIsMarked (setup_of (content schedule.now)) h) }
     ensures delivered { EachReaches (setup_of (content schedule.now)) schedule.now.events }
 {
@@ -81,6 +86,7 @@ pub fn replay(alloc: Global, schedule: &Schedule) -> Result<History, Memory>
     repeats_come_after_rounds();
     registered_was_sent();
     homes_change_by_updates_or_time();
+    refused_packets_leave_the_tables();
     acceptances_are_marked();
     each_delivery_arrives();
     waits_are_short();

@@ -8,5 +8,6 @@ pub use Rattle.mip_replay.specs.Bindings
 pub use Rattle.mip_replay.specs.Homes
 pub use Rattle.mip_replay.specs.Marked
 pub use Rattle.mip_replay.specs.Reached
+pub use Rattle.mip_replay.specs.Refused
 pub use Rattle.mip_replay.specs.Setup
 pub use Rattle.mip_replay.specs.Permitted

@@ -19,16 +19,19 @@ mod text;
 mod told_run;
 mod tracing;
 
+pub use auditing::audited;
 pub use input::{answer_input, tell_bad};
 pub use input_form::InputForm;
 pub use laws::each_audit_is_right;
 pub use making::tell_made;
 pub use mip_replay::{
     each_acceptance_is_marked, each_delivery_arrives, each_home_is_sent, each_is_bound,
-    each_repeat_is_late,
+    each_repeat_is_late, refused_packets_leave_the_tables,
 };
 pub use product::Product;
 pub use reading::{LIMIT, ReadFault, read_input};
+pub use reply::Reply;
+pub use scheduling::bad;
 pub use status::Status;
-pub use telling::tell;
+pub use telling::{tell, tell_reply};
 pub use told_run::ToldRun;

@@ -18,3 +18,6 @@ pub mod Shielding
 pub mod Granting
 pub mod Rights
 pub mod Ticking
+pub mod RowLaws
+pub mod Placed
+pub mod Answered

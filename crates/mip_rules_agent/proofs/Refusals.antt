@@ -20,7 +20,7 @@ use Rattle.mip_rules_agent.specs.Doing.{does, transition_of}
 use Rattle.mip_reception.specs.Refusing.{refuses}
 use Rattle.mip_rules_agent.specs.Claims.{claims_by}
 use Rattle.mip_rules_agent.specs.Refusing.{KeepsTables}
-use Rattle.mip_rules_agent.specs.RefusingLaws.{is_refusal, is_claim}
+use Rattle.mip_rules_agent.specs.Refusing.{is_refusal, is_claim}
 use Rattle.mip_rules_agent.specs.TakenLaws.{IsUpdateTaken}
 use Rattle.mip_rules_agent.proofs.Taken.{taken_is}
 use Rattle.mip_rules_agent.proofs.Walks.{every-handles}

@@ -15,7 +15,7 @@ use Rattle.mip_entries.proofs.TransitionLaws.{noted-now, noted-known}
 use Rattle.mip_rules_agent.specs.declared.identity.Identity.{Identity}
 use Rattle.mip_rules_agent.specs.Known.{Known}
 use Rattle.mip_rules_agent.specs.Calls.{Call, Take}
-use Rattle.mip_rules_agent.specs.Steps.{Step, Called, Sends, Drops}
+use Rattle.mip_rules_agent.specs.Steps.{Step, Called, Sends, Denies, Drops}
 use Rattle.mip_rules_agent.specs.Questions.{careof_at, after}
 use Rattle.mip_rules_agent.specs.Transitions.{Transition, begun, noted}
 use Rattle.mip_rules_agent.specs.Rules.{Handing, shield_for, intercepts, by_destination, receives}
@@ -25,32 +25,37 @@ use Rattle.mip_rules_agent.specs.Rights.{IsRightful, SendsRightly, IsTunnelled}
 use Rattle.mip_rules_agent.proofs.Sendings.{all-noted}
 use Rattle.mip_rules_agent.proofs.Walks.{every-take}
 
-module _ (me : Identity) (k : Known) (now : ℕ) (shield : Option Shield) (bytes : List ℕ) (c : Call) where
+module _ (me : Identity) (k : Known) (now number : ℕ) (shield : Option Shield) (bytes : List ℕ) (claim : Claim) where
+  abbrev c : Call
+  c = Take number shield bytes claim
+
   abbrev first : Transition
   first = noted (Called c) (begun now k)
 
   -- a call that begins changes no right
-  rightful-called : (x : Sending) → IsRightful me (after k (record { at = now; step = Called c })) now shield x → IsRightful me k now shield x
+  rightful-called : (x : Sending) → IsRightful me (after k (record { at = now; step = Called c })) now shield bytes claim x → IsRightful me k now shield bytes claim x
   unfolding after
   rightful-called (SendsInto home careof proto) is = is
   rightful-called (SendsOut outer inner) is = record { careof = is.careof; registered = is.registered; from = is.from; onward = is.onward; shielded = is.shielded }
-  rightful-called (SendsAck update status sequence lifetime) is = is
+  rightful-called (SendsAck update status sequence lifetime) is = record { shielded = is.shielded; is_in = is.is_in; tells = is.tells }
   rightful-called (SendsReply source reply) is = tt
   rightful-called (SendsAgents to identifier agents) is = tt
   rightful-called (SendsPrefix home careof identifier valid preferred) is = is
 
-  rightly-called : (step : Step) → SendsRightly me (after k (record { at = now; step = Called c })) now shield bytes step → SendsRightly me k now shield bytes step
+  rightly-called : (step : Step) → SendsRightly me (after k (record { at = now; step = Called c })) now shield bytes claim step → SendsRightly me k now shield bytes claim step
+  unfolding after
   rightly-called (Sends under packet) right = (right.0, right.1, rightful-called right.0 right.2)
+  rightly-called (Denies denied status) right = record { update = right.update; is_in = right.is_in; last = right.last; verdict_is = right.verdict_is }
   rightly-called (Drops number why) right = right
   rightly-called _ right = tt
 
-  pub rightly-before : (step : Step) → SendsRightly me first.known first.now shield bytes step → SendsRightly me k now shield bytes step
+  pub rightly-before : (step : Step) → SendsRightly me first.known first.now shield bytes claim step → SendsRightly me k now shield bytes claim step
   rightly-before step right =
       rightly-called step
-      (subst (λ (l : Known). SendsRightly me l now shield bytes step) (noted-known after (Called c) (begun now k))
-      (subst (λ (n : ℕ). SendsRightly me first.known n shield bytes step) (noted-now after (Called c) (begun now k)) right))
+      (subst (λ (l : Known). SendsRightly me l now shield bytes claim step) (noted-known after (Called c) (begun now k))
+      (subst (λ (n : ℕ). SendsRightly me first.known n shield bytes claim step) (noted-now after (Called c) (begun now k)) right))
 
-  careof-before : (home : Address) → careof_at first.known first.now home ≡ careof_at k now home
+  pub careof-before : (home : Address) → careof_at first.known first.now home ≡ careof_at k now home
   unfolding after
   careof-before home =
       ap (λ (l : Known). careof_at l first.now home) (noted-known after (Called c) (begun now k))
@@ -66,12 +71,12 @@ module _ (me : Identity) (k : Known) (now number : ℕ) (shield : Option Shield)
   abbrev h : Handing
   h = handing me given.now given.known number shield bytes claim
 
-  pub call-rightly : AllByRecursion (SendsRightly me k now shield bytes) (transition_of me k now (Take number shield bytes claim)).steps
+  pub call-rightly : AllByRecursion (SendsRightly me k now shield bytes claim) (transition_of me k now (Take number shield bytes claim)).steps
   unfolding does
   call-rightly =
-      let R : Step → Type 0 = SendsRightly me k now shield bytes in
+      let R : Step → Type 0 = SendsRightly me k now shield bytes claim in
       every-take h (λ (t : Transition). AllByRecursion R t.steps)
-      (λ step t quiet right all. all-noted R step t (rightly-before me k now shield bytes call step right) all)
+      (λ step t quiet right all. all-noted R step t (rightly-before me k now number shield bytes claim step right) all)
       given (all-noted R (Called call) (begun now k) tt tt)
 
   pub keeps-shield : (p : Packet) (careof : Address) → packet_of bytes ≡ Ok p → careof_at k now p.head.destination ≡ Some careof
@@ -79,7 +84,7 @@ module _ (me : Identity) (k : Known) (now number : ℕ) (shield : Option Shield)
   unfolding does takes intercepts
   keeps-shield p careof read at =
       subst (λ (r : Result Packet NotPacket). AllOf (receives h r given)) (sym read)
-      (subst (λ (o : Option Address). AllOf (by_destination h p o given)) (sym (careof-before me k now shield bytes call p.head.destination ∙ at))
+      (subst (λ (o : Option Address). AllOf (by_destination h p o given)) (sym (careof-before me k now number shield bytes claim p.head.destination ∙ at))
       (either (nat_lt (hop_of bytes) 2) _ _ (dropped whys.Hop)
       (either (nat_lt 65535 (length bytes)) _ _ (dropped whys.Size) sent)))
     where

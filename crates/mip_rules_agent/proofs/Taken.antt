@@ -1,6 +1,6 @@
 -- What a home agent does about a packet that it is handed: it registers nothing, or at once the update in the packet, with
 -- the verdict Accept; where it registers nothing, its homes and their ends stay.
-use Rattle.std.proofs.Common.{◌≡◌, ℕ, List, [], ◌∷◌, Bool, true, false, ◌⊎◌, inl, inr, refl, sym, ap, subst, length}
+use Rattle.std.proofs.Common.{◌≡◌, ℕ, List, [], ◌∷◌, ◌++◌, Bool, true, false, ◌⊎◌, inl, inr, refl, sym, ap, ◌∙◌, subst, length}
 use Rattle.std.specs.Prelude.{Option, Some, None, Result, Ok, Err, not, ◌==◌, ◌&&◌, nat_lt, if◌then◌else◌}
 use Rattle.std.specs.List.{list_any}
 use Rattle.mip_words.specs.declared.address.Address.{Address}
@@ -22,9 +22,9 @@ use Rattle.mip_entries.proofs.TransitionLaws.{noted_all, noted_all-is}
 use Rattle.mip_reception.specs.declared.refusal.Refusal.{Refusal}
 use Rattle.mip_reception.specs.Checks.{message_at, checked}
 use Rattle.mip_reception.specs.Replies.{reply_packet}
-use Rattle.mip_reception.proofs.CheckedMessages.{checked_message, message_read, message_proto, update_read, update_type}
+use Rattle.mip_reception.proofs.CheckedMessages.{checked_message}
 use Rattle.mip_reception.specs.declared.registration.Registration.{Registration}
-use Rattle.mip_reception.specs.Registrations.{registration, registration_said, home_of, deletes}
+use Rattle.mip_reception.specs.Registrations.{registration, home_of, deletes}
 use Rattle.mip_reception.specs.Acks.{ack_packet}
 use Rattle.mip_reception.specs.Statuses as statuses
 use Rattle.mip_rules_agent.specs.declared.identity.Identity.{Identity}
@@ -35,14 +35,15 @@ use Rattle.mip_rules_agent.specs.Calls as calls
 use Rattle.mip_rules_agent.specs.Messages.{shield_to}
 use Rattle.mip_rules_agent.specs.Steps.{Step, Called, Sends, Registers, Claims, Releases, Denies, Drops}
 use Rattle.mip_rules_agent.specs.StepsLaws.{is_registration}
-use Rattle.mip_rules_agent.specs.RefusingLaws.{is_refusal, is_claim}
+use Rattle.mip_rules_agent.specs.Refusing.{is_refusal, is_claim}
 use Rattle.mip_rules_agent.specs.Questions.{careof_at, holds, after}
 use Rattle.mip_rules_agent.specs.Transitions.{Transition, begun, noted}
 use Rattle.mip_rules_agent.specs.Verdicts.{is_from, verdict, binding_for}
 use Rattle.mip_rules_agent.specs.Rules.{Handing, intercepts, is_careof, opens, takes_tunnel, bench, claim_with, acknowledges, denies, claims_if, answers_if, accepts, judged, takes_update, names_agents, advertises, answers_solicitation, takes_icmp, by_proto, by_role, replies, refuses, standing_of, after_checks, place_in, by_destination, receives}
 use Rattle.mip_rules_agent.specs.Doing.{takes, handing, does, transition_of}
 use Rattle.mip_rules_agent.specs.Taken.{IsUpdateIn}
-use Rattle.mip_rules_agent.specs.TakenLaws.{IsUpdateTaken}
+use Rattle.mip_rules_agent.specs.TakenLaws.{claims_behind, IsUpdateTaken}
+use Rattle.mip_rules_agent.proofs.Walks.{update_in}
 
 module _ (me : Identity) (k : Known) (now number : ℕ) (shield : Option Shield) (bytes : List ℕ) (claim : Claim) where
   -- nothing is registered, claimed or given up, and the homes and their ends are as they were
@@ -87,9 +88,16 @@ module _ (me : Identity) (k : Known) (now number : ℕ) (shield : Option Shield)
     abbrev first : Transition
     first = noted (Registers number home (binding_for now careof sequence granted)) given
 
+    abbrev tells : Step
+    tells = Sends (shield_to me.own (home_of update)) (ack_packet me.own update statuses.accepted update.sequence granted None)
+
+    abbrev told : Bool → List Step
+    told ack = if ack then tells ∷ [] else []
+
     -- behind it, steps that register and refuse nothing
-    taken : (rest : List Step) → list_any is_registration rest ≡ false → list_any is_refusal rest ≡ false → Is (noted_all after rest first)
-    taken rest none kept = inr (record {
+    taken : (rest : List Step) → rest ≡ claims_behind (holds k (home_of update)) (deletes update) home ++ told update.ack → list_any is_registration rest ≡ false → list_any is_refusal rest ≡ false
+        → Is (noted_all after rest first)
+    taken rest behind none kept = inr (record {
       update = update;
       is_in = is_in;
       home = home;
@@ -99,26 +107,30 @@ module _ (me : Identity) (k : Known) (now number : ℕ) (shield : Option Shield)
       verdict_is = is;
       rest = rest;
       steps_are = ap (λ (t : Transition). t.steps) (noted_all-is after (call ∷ Registers number home (binding_for now careof sequence granted) ∷ rest) (begun now k));
+      behind = behind;
       none = none;
       kept = kept;
     })
 
-    abbrev tells : Step
-    tells = Sends (shield_to me.own (home_of update)) (ack_packet me.own update statuses.accepted update.sequence granted None)
-
     abbrev behind : (held ends ack : Bool) → Transition
     behind held ends ack = answers_if ack me update granted (claims_if held ends home first)
 
-    answered : (held ends ack : Bool) → Is (behind held ends ack)
+    -- what stands behind it
+    rest_is : (held ends ack : Bool) → holds k (home_of update) ≡ held → deletes update ≡ ends → update.ack ≡ ack
+        → claims_behind held ends home ++ told ack ≡ claims_behind (holds k (home_of update)) (deletes update) home ++ told update.ack
+    rest_is held ends ack h e a =
+        sym (ap (λ (x : Bool). claims_behind x (deletes update) home ++ told update.ack) h ∙ ap (λ (x : Bool). claims_behind held x home ++ told update.ack) e ∙ ap (λ (x : Bool). claims_behind held ends home ++ told x) a)
+
+    answered : (held ends ack : Bool) → holds k (home_of update) ≡ held → deletes update ≡ ends → update.ack ≡ ack → Is (behind held ends ack)
     unfolding acknowledges
-    answered true true true = taken (Releases home ∷ tells ∷ []) refl refl
-    answered true true false = taken (Releases home ∷ []) refl refl
-    answered true false true = taken (tells ∷ []) refl refl
-    answered true false false = taken [] refl refl
-    answered false true true = taken (tells ∷ []) refl refl
-    answered false true false = taken [] refl refl
-    answered false false true = taken (Claims home ∷ tells ∷ []) refl refl
-    answered false false false = taken (Claims home ∷ []) refl refl
+    answered true true true h e a = taken (Releases home ∷ tells ∷ []) (rest_is true true true h e a) refl refl
+    answered true true false h e a = taken (Releases home ∷ []) (rest_is true true false h e a) refl refl
+    answered true false true h e a = taken (tells ∷ []) (rest_is true false true h e a) refl refl
+    answered true false false h e a = taken [] (rest_is true false false h e a) refl refl
+    answered false true true h e a = taken (tells ∷ []) (rest_is false true true h e a) refl refl
+    answered false true false h e a = taken [] (rest_is false true false h e a) refl refl
+    answered false false true h e a = taken (Claims home ∷ tells ∷ []) (rest_is false false true h e a) refl refl
+    answered false false false h e a = taken (Claims home ∷ []) (rest_is false false false h e a) refl refl
 
   of_verdict : (r : Registration) → IsUpdateIn bytes r → (v : HomeVerdict)
       → verdict (bench me k now r) shield (claim_with (holds k (home_of r)) claim) r ≡ v → Is (judged opened r (holds k (home_of r)) v given)
@@ -126,7 +138,7 @@ module _ (me : Identity) (k : Known) (now number : ℕ) (shield : Option Shield)
   of_verdict r is_in (Refuse why) is = dropped why
   of_verdict r is_in (Deny status last) is = two (Denies number status) (Sends (shield_to me.own (home_of r)) (ack_packet me.own r status last 0 None)) (refl, refl, refl, refl)
   of_verdict r is_in (Accept home careof sequence granted) is =
-      answered r is_in home careof sequence granted is (holds k (home_of r)) (deletes r) r.ack
+      answered r is_in home careof sequence granted is (holds k (home_of r)) (deletes r) r.ack refl refl refl
 
   of_update : (r : Registration) → IsUpdateIn bytes r → Is (takes_update h r given)
   unfolding takes_update after
@@ -169,14 +181,7 @@ module _ (me : Identity) (k : Known) (now number : ℕ) (shield : Option Shield)
   of_role : (p : Packet) (place : ℕ) (m : Option Said) → packet_of bytes ≡ Ok p → message_at place p ≡ Ok m → Is (by_role h p m given)
   of_role p place None read is = of_proto p
   of_role p place (Some (Update s a f l key t o)) read is =
-      of_update (registration p.head.source p.head.home s a f t o) (record {
-        packet = p;
-        read = read;
-        mobility = message_proto place p (Update s a f l key t o) is;
-        of_type = update_type p.body s a f l key t o (source_of p.head) (destination_of p.head) (message_read place p (Update s a f l key t o) is);
-        asks = ap (registration_said p.head.source p.head.home)
-            (update_read p.body s a f l key t o (source_of p.head) (destination_of p.head) (message_read place p (Update s a f l key t o) is));
-      })
+      of_update (registration p.head.source p.head.home s a f t o) (update_in bytes p place s a f l key t o read is)
   of_role p place (Some _) read is = dropped _
 
   of_reply : (reply : Option (List ℕ)) (why : Why) → Is (replies reply (noted (Drops number why) given))

@@ -25,3 +25,6 @@ pub mod Ends
 pub mod Claims
 pub mod Sayings
 pub mod Shielding
+pub mod Answering
+pub mod Placing
+pub mod Rows

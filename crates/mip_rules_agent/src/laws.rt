@@ -1,16 +1,20 @@
 //! The laws by which a home agent stands for a past, those of its registrations, and those of verdicts.
 
-ghost use Rattle.std.specs.Prelude.{◌≡◌, ◌⊎◌, ℕ, ◌≤◌, List, Option, Some, None, Ok, true, false, not, nat_lt, unwrap_or, option_map, map, filter};
+ghost use Rattle.std.specs.Prelude.{◌≡◌, ◌⊎◌, ℕ, ◌≤◌, List, Bool, Option, Some, None, Ok, true, false, is_some, not, nat_lt, unwrap_or, option_map, map, filter};
 ghost use Rattle.std.specs.List.{list_any, AllByRecursion};
 ghost use Rattle.mip_words.specs.declared.address.Address.{Address};
 ghost use Rattle.mip_words.specs.declared.shield.Shield.{Shield};
 ghost use Rattle.mip_ipv6.specs.Packet.{Packet};
 ghost use Rattle.mip_ipv6.specs.Reading.{packet_of};
+ghost use Rattle.mip_mobhdr.specs.OptionValues.{Values};
+ghost use Rattle.mip_mobhdr.specs.Said.Said.{Update};
 ghost use Rattle.mip_words.specs.Last.{last_where};
 ghost use Rattle.mip_outside.specs.declared.claim.Claim.{Claim};
 ghost use Rattle.mip_discovery.specs.Listed.{StandsFor};
 ghost use Rattle.mip_entries.specs.Stamped.{Stamped};
 ghost use Rattle.mip_reception.specs.declared.registration.Registration.{Registration};
+ghost use Rattle.mip_reception.specs.Registrations.{registration};
+ghost use Rattle.mip_reception.specs.Checks.{checked};
 ghost use Rattle.mip_rules_agent.specs.declared.bench.Bench.{Bench};
 ghost use Rattle.mip_rules_agent.specs.declared.identity.Identity.{Identity};
 ghost use Rattle.mip_rules_agent.specs.declared.home_binding.HomeBinding.{HomeBinding};
@@ -22,6 +26,7 @@ ghost use Rattle.mip_rules_agent.specs.Steps.{Step, answers_of, is_call};
 ghost use Rattle.mip_rules_agent.specs.StepsLaws.{is_registration};
 ghost use Rattle.mip_rules_agent.specs.Questions.{known, is_served, binding_of, holds, is_standing, careof_at, agents_called, plan_called};
 ghost use Rattle.mip_rules_agent.specs.Transitions.{Stands, with_transition};
+ghost use Rattle.mip_rules_agent.specs.Rules.{standing_of, place_in};
 ghost use Rattle.mip_rules_agent.specs.Doing.{transition_of};
 ghost use Rattle.mip_rules_agent.specs.Verdicts.{verdict};
 ghost use Rattle.mip_rules_agent.specs.Soundness.{IsSound, IsBehind};
@@ -29,10 +34,15 @@ ghost use Rattle.mip_rules_agent.specs.Sendings.{SendsOwn};
 ghost use Rattle.mip_rules_agent.specs.Sayings.{SaysNoOther};
 ghost use Rattle.mip_rules_agent.specs.Wholes.{IsWhole};
 ghost use Rattle.mip_rules_agent.specs.Shielding.{ShieldNoUpdate};
-ghost use Rattle.mip_rules_agent.specs.RefusingLaws.{is_refusal, is_claim, released};
+ghost use Rattle.mip_rules_agent.specs.Refusing.{is_refusal, is_claim};
+ghost use Rattle.mip_rules_agent.specs.RefusingLaws.{released};
 ghost use Rattle.mip_rules_agent.specs.Granting.{IsBounded, IsGranted};
 ghost use Rattle.mip_rules_agent.specs.Rights.{SendsRightly, IsTunnelled};
-ghost use Rattle.mip_rules_agent.specs.TakenLaws.{IsUpdateTaken, IsRegisteredBy};
+ghost use Rattle.mip_rules_agent.specs.Taken.{IsUpdateIn};
+ghost use Rattle.mip_rules_agent.specs.TakenLaws.{IsUpdateTaken, IsRegisteredBy, HoldsBehind};
+ghost use Rattle.mip_rules_agent.specs.Answering.{IsOfUpdate};
+ghost use Rattle.mip_rules_agent.specs.Placing.{RegistersInPlace};
+ghost use Rattle.mip_rules_agent.specs.Rows.{JudgesInOrder};
 ghost use Rattle.mip_rules_agent.specs.Pasts.{is_one_of, last_binding, is_claimed, last_plan, all_heard};
 ghost use Rattle.mip_rules_agent.specs.Ends.{AreInOrder, IsEndOf, has_end, AreUntil};
 
@@ -202,9 +212,10 @@ pub fn what_is_intercepted_keeps_its_shield()
 
 /// A packet goes on out of a tunnel only where that came from the care-of address of its home, and a mobility message only under
 /// the home's shield. An update is acknowledged, and a solicitation answered, only under the shield of the home that it is for.
+/// An acknowledgement is of the update that was handed over, with the status, sequence and lifetime of its verdict.
 pub fn each_packet_goes_by_right()
     ensures { (me : Identity) (k : Known) (now number : ℕ) (shield : Option Shield) (bytes : List ℕ) (claim : Claim)
-        → AllByRecursion (SendsRightly me k now shield bytes) (transition_of me k now (Take number shield bytes claim)).steps }
+        → AllByRecursion (SendsRightly me k now shield bytes claim) (transition_of me k now (Take number shield bytes claim)).steps }
 {}
 
 /// A tick gives up the address of each home whose registration has ended, in order of their ends, and no other; what is left
@@ -213,4 +224,54 @@ pub fn a_tick_releases_what_ends()
     ensures released { (me : Identity) (k : Known) (now : ℕ)
         → released (transition_of me k now Tick).steps ≡ map (λ e. e.home) (filter (λ e. not (nat_lt now e.end.0)) k.ends) }
     ensures left { (me : Identity) (k : Known) (now : ℕ) → (transition_of me k now Tick).known.ends ≡ filter (λ e. nat_lt now e.end.0) k.ends }
+{}
+
+/// Each verdict comes where its row says, and no row before it applies.
+pub fn verdicts_in_order()
+    ensures { (b : Bench) (shield : Option Shield) (claim : Claim) (r : Registration) → JudgesInOrder b shield claim r }
+{}
+
+/// An update that no tunnel catches and that passes the checks is answered by its verdict: what is refused is dropped in silence,
+/// what is denied is told and acknowledged, and what is accepted is registered, and acknowledged where flag A asks.
+pub fn updates_are_answered_by_their_verdict()
+    ensures { (me : Identity) (k : Known) (now number : ℕ) (shield : Option Shield) (bytes : List ℕ) (claim : Claim) (p : Packet)
+        (s : ℕ) (a f l key : Bool) (t : ℕ) (o : Values)
+        → packet_of bytes ≡ Ok p
+        → careof_at k now p.head.destination ≡ None
+        → checked (standing_of me k now p.head) (place_in bytes p) p ≡ Ok (Some (Update s a f l key t o))
+        → IsOfUpdate me k now number shield bytes claim (registration p.head.source p.head.home s a f t o)
+        (transition_of me k now (Take number shield bytes claim)).steps }
+{}
+
+/// A home is registered only that is of the agent's link and served, for a routable care-of address of another link, after the
+/// sequence that is kept, where it is registered already or fewer homes are than there is room for, and for an hour at most.
+pub fn each_registration_is_in_its_place()
+    ensures { (me : Identity) (k : Known) (now : ℕ) (c : Call) → AllByRecursion (RegistersInPlace me k now) (transition_of me k now c).steps }
+{}
+
+/// Behind a call that registers a home its address is held; behind one that ends its registration it is not.
+pub fn what_is_registered_is_held()
+    ensures { (me : Identity) (k : Known) (now : ℕ) (c : Call)
+        → AllByRecursion (HoldsBehind (transition_of me k now c).known) (transition_of me k now c).steps }
+{}
+
+/// A packet with a Home Address option that is caught by no tunnel, and is neither dropped nor an update, comes from the registered
+/// care-of address of that home.
+pub fn a_home_option_needs_its_binding()
+    ensures { (me : Identity) (k : Known) (now number : ℕ) (shield : Option Shield) (bytes : List ℕ) (claim : Claim) (p : Packet) (home : Address)
+        → packet_of bytes ≡ Ok p
+        → careof_at k now p.head.destination ≡ None
+        → p.head.home ≡ Some home
+        → ((update : Registration) → IsUpdateIn bytes update → ⊥)
+        → list_any is_refusal (transition_of me k now (Take number shield bytes claim)).steps ≡ false
+        → (careof : Address) × (careof_at k now home ≡ Some careof) × (careof.0 ≡ p.head.source.0) }
+{}
+
+/// A home agent takes no routing header.
+pub fn routing_headers_are_refused()
+    ensures { (me : Identity) (k : Known) (now number : ℕ) (shield : Option Shield) (bytes : List ℕ) (claim : Claim) (p : Packet)
+        → packet_of bytes ≡ Ok p
+        → careof_at k now p.head.destination ≡ None
+        → is_some p.head.route ≡ true
+        → list_any is_refusal (transition_of me k now (Take number shield bytes claim)).steps ≡ true }
 {}

@@ -12,3 +12,5 @@ pub mod Moments
 pub mod Taken
 pub mod Parted
 pub mod Answers
+pub mod MeaningLaws
+pub mod Answered

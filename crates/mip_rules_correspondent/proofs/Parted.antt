@@ -41,7 +41,7 @@ some_result : (r : Result Said Fault) (m : Said) → result_ok r ≡ Some m → 
 some_result (Ok message) m e = cc
 some_result (Err fault) m e = absurd cc
 
-parted_read : (p : Packet) (m : Said) → message_in p ≡ Some m → message_of (source_of p.head) (destination_of p.head) p.body ≡ Ok m
+pub parted_read : (p : Packet) (m : Said) → message_in p ≡ Some m → message_of (source_of p.head) (destination_of p.head) p.body ≡ Ok m
 parted_read p m e = by (p.head.proto == 135) e
   where
     by : (b : Bool) → (if b then result_ok (message_of (source_of p.head) (destination_of p.head) p.body) else None) ≡ Some m → message_of (source_of p.head) (destination_of p.head) p.body ≡ Ok m

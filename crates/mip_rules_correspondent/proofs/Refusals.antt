@@ -16,7 +16,8 @@ use Rattle.mip_rules_correspondent.specs.StepsLaws.{is_acceptance}
 use Rattle.mip_rules_correspondent.specs.Questions.{cache_after, after}
 use Rattle.mip_rules_correspondent.specs.Transitions.{Transition, begun, noted}
 use Rattle.mip_rules_correspondent.specs.Doing.{does, transition_of}
-use Rattle.mip_rules_correspondent.specs.Refusing.{is_refusal, hands_over}
+use Rattle.mip_rules_correspondent.specs.Refusing.{is_refusal}
+use Rattle.mip_rules_correspondent.specs.StepsLaws.{hands_over}
 use Rattle.mip_rules_correspondent.proofs.Taken.{taken_is}
 use Rattle.mip_rules_correspondent.proofs.Parted.{parted_is}
 use Rattle.mip_rules_correspondent.proofs.Walks.{every-handles}

@@ -16,3 +16,6 @@ pub mod Taken
 pub mod Pasts
 pub mod Wholes
 pub mod Cache
+pub mod Meanings
+pub mod Figures
+pub mod Answering

@@ -1,10 +1,13 @@
 //! The laws by which a role stands for a past, and its cache for the updates accepted in it; and those of verdicts.
 
-ghost use Rattle.std.specs.Prelude.{◌≡◌, ℕ, ◌≤◌, List, ◌<◌, Option, Some, true, false, unwrap_or, option_map, is_some};
+ghost use Rattle.std.specs.Prelude.{◌≡◌, ◌⊎◌, ℕ, ◌≤◌, List, ◌<◌, Bool, Option, Some, None, Ok, true, false, unwrap_or, option_map, is_some};
 ghost use Rattle.std.specs.List.{list_any, AllByRecursion};
 ghost use Rattle.mip_words.specs.declared.address.Address.{Address};
 ghost use Rattle.mip_words.specs.declared.shield.Shield.{Shield};
 ghost use Rattle.mip_ipv6.specs.Packet.{Packet};
+ghost use Rattle.mip_ipv6.specs.Reading.{packet_of};
+ghost use Rattle.mip_mobhdr.specs.OptionValues.{Values};
+ghost use Rattle.mip_mobhdr.specs.Said.Said.{Update};
 ghost use Rattle.mip_tokens.specs.declared.kbm.Kbm.{Kbm};
 ghost use Rattle.mip_words.specs.Last.{last_where};
 ghost use Rattle.mip_nonce.specs.Window.{IsValidAt};
@@ -19,6 +22,9 @@ ghost use Rattle.mip_rules_correspondent.specs.declared.known.Known.{Known};
 ghost use Rattle.mip_reception.specs.Statuses.{sequence_out_of_window};
 ghost use Rattle.mip_reception.specs.StatusesLaws.{is_authorized};
 ghost use Rattle.mip_reception.specs.declared.registration.Registration.{Registration};
+ghost use Rattle.mip_reception.specs.Registrations.{registration_in};
+ghost use Rattle.mip_reception.specs.Checks.{checked};
+ghost use Rattle.mip_reception.specs.Says.{message_in};
 ghost use Rattle.mip_rules_correspondent.specs.declared.verdict.Verdict.TheVariants.{Deny, Accept};
 ghost use Rattle.mip_rules_correspondent.specs.Soundness.{IsGenuine, IsSound};
 ghost use Rattle.mip_rules_correspondent.specs.SoundnessLaws.{IsBehind};
@@ -31,9 +37,12 @@ ghost use Rattle.mip_rules_correspondent.specs.StepsLaws.{is_acceptance};
 ghost use Rattle.mip_rules_correspondent.specs.Questions.{known, held_of, holds_for, floor_of, is_full_for};
 ghost use Rattle.mip_rules_correspondent.specs.Transitions.{Transition, Stands, with_transition};
 ghost use Rattle.mip_rules_correspondent.specs.Pasts.{accepted_in};
+ghost use Rattle.mip_rules_correspondent.specs.Rules.{standing_of, place_in};
 ghost use Rattle.mip_rules_correspondent.specs.Doing.{does, transition_of};
+ghost use Rattle.mip_rules_correspondent.specs.Answering.{IsOfUpdate, IsPlain, AcceptsInPlace};
 ghost use Rattle.mip_rules_correspondent.specs.Sendings.{SendsOwn};
-ghost use Rattle.mip_rules_correspondent.specs.Refusing.{is_refusal, hands_over};
+ghost use Rattle.mip_rules_correspondent.specs.Refusing.{is_refusal};
+ghost use Rattle.mip_rules_correspondent.specs.StepsLaws.{hands_over};
 ghost use Rattle.mip_rules_correspondent.specs.Taken.{IsUpdateTaken, IsUpdateParted};
 ghost use Rattle.mip_rules_correspondent.specs.Wholes.{IsWhole};
 
@@ -159,4 +168,44 @@ pub fn keyed_denial_is_genuine()
     ensures { (b : Bench) (r : Registration) (message : List ℕ) (status last : ℕ) (kbm : Kbm)
         → verdict b r message ≡ Deny status last (Some kbm)
         → (i : ℕ) × (j : Option ℕ) × IsGenuine b r message i j kbm }
+{}
+
+/// An update that passes the checks is answered by its verdict: what is refused is dropped in silence, what is denied is told
+/// and acknowledged, and what is accepted is acknowledged where flag A asks. Nothing else that a call sends is an
+/// acknowledgement, and nothing else is accepted or denied.
+pub fn updates_are_answered_by_their_verdict()
+    ensures taken { (me : Identity) (k : Known) (now number : ℕ) (shield : Option Shield) (bytes : List ℕ) (p : Packet)
+        (s : ℕ) (a h l key : Bool) (t : ℕ) (o : Values)
+        → packet_of bytes ≡ Ok p
+        → checked (standing_of me k now p.head) (place_in bytes p) p ≡ Ok (Some (Update s a h l key t o))
+        → IsOfUpdate me k now (Take number shield bytes) (transition_of me k now (Take number shield bytes)).steps }
+    ensures parted { (me : Identity) (k : Known) (now number : ℕ) (p : Packet) (s : ℕ) (a h l key : Bool) (t : ℕ) (o : Values)
+        → message_in p ≡ Some (Update s a h l key t o)
+        → IsOfUpdate me k now (Part number p) (transition_of me k now (Part number p)).steps }
+    ensures only { (me : Identity) (k : Known) (now : ℕ) (c : Call)
+        → AllByRecursion (IsPlain me c now) (transition_of me k now c).steps ⊎ IsOfUpdate me k now c (transition_of me k now c).steps }
+{}
+
+/// An update is accepted after the sequence that is kept of its home, under a home nonce that is valid then, where there is room
+/// for the home, and for 420 s at most.
+pub fn each_acceptance_is_in_its_place()
+    ensures { (me : Identity) (k : Known) (now : ℕ) (c : Call) → AllByRecursion (AcceptsInPlace k now) (transition_of me k now c).steps }
+{}
+
+/// A packet with a Home Address option that is neither dropped nor an update comes from an address that is held for that home.
+pub fn a_home_option_needs_its_binding()
+    ensures { (me : Identity) (k : Known) (now number : ℕ) (shield : Option Shield) (bytes : List ℕ) (p : Packet) (home : Address)
+        → packet_of bytes ≡ Ok p
+        → p.head.home ≡ Some home
+        → registration_in p.head.source p.head.home p.body ≡ None
+        → list_any is_refusal (transition_of me k now (Take number shield bytes)).steps ≡ false
+        → holds_for k now home p.head.source ≡ true }
+{}
+
+/// A correspondent takes no routing header.
+pub fn routing_headers_are_refused()
+    ensures { (me : Identity) (k : Known) (now number : ℕ) (shield : Option Shield) (bytes : List ℕ) (p : Packet)
+        → packet_of bytes ≡ Ok p
+        → is_some p.head.route ≡ true
+        → list_any is_refusal (transition_of me k now (Take number shield bytes)).steps ≡ true }
 {}

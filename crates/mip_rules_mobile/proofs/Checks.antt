@@ -1,6 +1,6 @@
 -- What passes the checks is the message of the packet, and what comes out of a tunnel stands in it.
 use Rattle.std.proofs.Common.{◌≡◌, ℕ, Bool, true, false}
-use Rattle.std.specs.Prelude.{Option, Some, None, Result, Ok, Err, not, ◌==◌, ◌||◌, ◌&&◌, if◌then◌else◌, is_some}
+use Rattle.std.specs.Prelude.{Option, Some, None, Result, Ok, Err, not, ◌==◌, if◌then◌else◌}
 use Rattle.std.specs.Result.{result_ok}
 use Rattle.std.proofs.lemmas.Bool.{cond_both, eqb-true}
 use Rattle.mip_words.specs.Protocols.{mobility_header}
@@ -13,27 +13,9 @@ use Rattle.mip_mobhdr.specs.Said.{Said}
 use Rattle.mip_mobhdr.specs.Reading.{message_of}
 use Rattle.mip_ipv6.specs.Tunnel.{inner, opened}
 use Rattle.mip_reception.specs.Says.{message_in}
-use Rattle.mip_reception.specs.declared.refusal.Refusal.{Refusal}
 use Rattle.mip_reception.specs.declared.address_match.AddressMatch.{AddressMatch}
-use Rattle.mip_reception.specs.Checks.{message_or_refusal, message_at, then_home, is_probe, is_update, checked}
-
--- whichever way a choice goes
-either : {X Q : Type 0} (u : X) (b : Bool) (x y : X) → (x ≡ u → Q) → (y ≡ u → Q) → (if b then x else y) ≡ u → Q
-either u true x y first second e = first e
-either u false x y first second e = second e
-
-passes_home : (holds : Bool) (home : Option Address) (r : Result (Option Said) Refusal) (m : Option Said) → then_home holds home r ≡ Ok m → r ≡ Ok m
-passes_home holds home (Err refusal) m e = absurd cc
-passes_home holds None (Ok message) m e = e
-passes_home holds (Some home) (Ok message) m e =
-    either (Ok m) (is_probe message) _ _ (λ e. absurd cc) (either (Ok m) (is_update message || holds) _ _ (λ e. e) (λ e. absurd cc)) e
-
-checked_message : (standing : AddressMatch) (place : ℕ) (p : Packet) (m : Option Said) → checked standing place p ≡ Ok m → message_at place p ≡ Ok m
-unfolding checked
-checked_message standing place p m =
-    either (Ok m) (not standing.is_mine) _ _ (λ e. absurd cc)
-    (either (Ok m) (is_some p.head.route && not standing.takes_route) _ _ (λ e. absurd cc)
-    (passes_home standing.holds p.head.home (message_at place p) m))
+use Rattle.mip_reception.specs.Checks.{message_or_refusal, message_at, checked}
+use Rattle.mip_reception.proofs.CheckedMessages.{either, checked_message}
 
 -- what passes is the message of the packet
 read-in : (place : ℕ) (p : Packet) (r : Result Said Fault) (m : Option Said) → message_or_refusal place p.head.home r ≡ Ok m → result_ok r ≡ m

@@ -31,7 +31,7 @@ module _ (c : Call) (now : ℕ) where
     pub known : t.known ≡ known_along k now t.steps
     pub each : EachFits c now k t.steps
 
-  along-noted : (k : Known) (step : Step) (t : Transition) → Fits c t.now t.known step → IsAlong k t → IsAlong k (noted step t)
+  pub along-noted : (k : Known) (step : Step) (t : Transition) → Fits c t.now t.known step → IsAlong k t → IsAlong k (noted step t)
   along-noted k step t fits is = record {
     moment = noted-now after step t ∙ is.moment;
     known =

@@ -26,6 +26,9 @@ pub mod Sources
 pub mod Says
 pub mod Kept
 pub mod Refusals
+pub mod Taken
+pub mod Sent
+pub mod Ending
 pub mod Away
 pub mod PartLives
 pub mod PartTransitions

@@ -39,7 +39,7 @@ use Rattle.mip_rules_mobile.specs.MovingRules.{leaves, attaches, registers_if_aw
 use Rattle.mip_rules_mobile.specs.ReceivingRules.{then_meets, takes_for_part, refuses}
 use Rattle.mip_rules_mobile.specs.RingingRules.{ticks_all}
 use Rattle.mip_rules_mobile.specs.Doing.{transmits_from, transmits, solicits_from, solicits, handles, does, transition_of}
-use Rattle.mip_rules_mobile.specs.Coming.{Came, IsOfTake, is_take}
+use Rattle.mip_rules_mobile.specs.Coming.{Came, IsOfTake}
 use Rattle.mip_rules_mobile.specs.Fitting.{Fits, OfAck, OfMove, Steady, kind_of}
 use Rattle.mip_rules_mobile.specs.PartLaws.{tells_of_acceptance, concerns_part, accepted_note, IsPartTransition, Silent, Asked, Accepting, is_restart, IsPartReborn}
 use Rattle.mip_rules_mobile.proofs.Steady.{Goes, standing-noted}
@@ -320,7 +320,7 @@ module _ (k : Known) (now : ℕ) (c : Call) (t : Transition) (called : t.steps �
           silent (attaches prefix of_home of_address t) (every-attaches c Calm (goes c (Called c ∷ [])) quiet prefix of_home of_address t calm)
       by (calls.Leave of_home) is = silent (leaves of_home t) (every-leaves c Calm (goes c (Called c ∷ [])) quiet of_home t calm)
       by (calls.Take number shield packet) is = takes-one number shield packet is
-      by calls.Tick is = silent (ticks_all t) (every-ticks_all c Calm (goes c (Called c ∷ [])) (ap is_take is) t calm)
+      by calls.Tick is = silent (ticks_all t) (every-ticks_all c Calm (goes c (Called c ∷ [])) is t calm)
       by (calls.Send to proto payload) is = sends-data to proto payload
       by (calls.Refresh home) is = refreshes home
       by calls.Ask is = solicits-one

@@ -1,8 +1,11 @@
 -- What steady steps and acknowledgements keep, the rules for a peer's messages keep; a message that is not taken is dropped at
 -- once.
-use Rattle.std.proofs.Common.{◌≡◌, ℕ, List, refl, arith}
-use Rattle.std.specs.Prelude.{Option, Some, None, Bool, true, false, ◌==◌, ◌&&◌, not, is_some, if◌then◌else◌, Result, Ok, Err}
+use Rattle.std.proofs.Common.{◌≡◌, ℕ, ◌+◌, List, refl, sym, ap, arith}
+use Rattle.std.specs.Prelude.{◌≢◌, ◌*◌, Option, Some, None, Bool, true, false, ◌==◌, ◌&&◌, not, is_some, if◌then◌else◌, Result, Ok, Err}
+use Rattle.std.specs.Option.{option_map_or}
+use Rattle.std.proofs.lemmas.Bool.{eqb-false}
 use Rattle.mip_words.specs.declared.address.Address.{Address}
+use Rattle.mip_words.specs.declared.moment.Moment.{Moment}
 use Rattle.mip_words.specs.declared.why.Why.{Why}
 use Rattle.mip_words.specs.declared.why.Why.TheVariants as whys
 use Rattle.mip_entries.specs.Reasons.{is_dropped_why}
@@ -14,22 +17,24 @@ use Rattle.mip_bulist.specs.declared.tested.Test.{Test}
 use Rattle.mip_bulist.specs.declared.trial.Trial.{Trial}
 use Rattle.mip_bulist.specs.declared.work.Work.TheVariants.{Resend}
 use Rattle.mip_bulist.specs.Rows.{given_row}
-use Rattle.mip_words.specs.Constants.{initial_bindack_timeout}
+use Rattle.mip_words.specs.Constants.{initial_bindack_timeout, lifetime_unit}
+use Rattle.mip_rules_mobile.specs.Timing.{refresh_unit}
 use Rattle.mip_reception.specs.Statuses.{accepts_it, sequence_out_of_window}
 use Rattle.mip_rules_mobile.specs.Calls.{Call}
-use Rattle.mip_rules_mobile.specs.Trials.{HomeTest, CareofTest, Resequence, Acknowledge, Rest, binds_to, is_idle}
+use Rattle.mip_rules_mobile.specs.Trials.{HomeTest, CareofTest, Resequence, Acknowledge, Rest, binds_to, sent_at, is_idle}
 use Rattle.mip_rules_mobile.specs.Steps.{Step, Drops, Meets, Tries, Forgets, Unbinds, Stops}
 use Rattle.mip_rules_mobile.specs.HomeQuestions.{home_of, registration_of}
 use Rattle.mip_rules_mobile.specs.RowQuestions.{row_of, trial_of, is_bound_row, bound_row_of}
+use Rattle.mip_rules_mobile.specs.TimerQuestions.{later}
 use Rattle.mip_rules_mobile.specs.Transitions.{Transition, noted}
 use Rattle.mip_rules_mobile.specs.TrialRules.{starts, updates}
 use Rattle.mip_rules_mobile.specs.PeerRules.{tells_of_nonces, begins_at, meets, comes_right, test_at, cookie, home_row, careof_row, keeps_home, keeps_careof, takes_home_test, takes_careof_test, acknowledges, binds_from, ends_for, is_granted, rests, takes_peer_ack, acks_trial, acks_row, takes_ack_of, loses, takes_error, renews, takes_refresh}
 use Rattle.mip_rules_mobile.specs.Trusting.{IsAcknowledged}
-use Rattle.mip_rules_mobile.specs.Resting.{last_step}
+use Rattle.mip_rules_mobile.specs.Resting.{last_sent, IsBoundBehind, last_step}
 use Rattle.mip_rules_mobile.specs.Fitting.{IsHanded}
 use Rattle.mip_rules_mobile.proofs.Trusts.{last-noted, acknowledged-stops}
 use Rattle.mip_rules_mobile.proofs.Steady.{Goes}
-use Rattle.mip_rules_mobile.proofs.Peers.{trial-granted, bound-placed}
+use Rattle.mip_rules_mobile.proofs.Peers.{trial-granted, sent-granted, bound-placed}
 use Rattle.mip_rules_mobile.proofs.TrialWalks.{every-starts, every-updates}
 use Rattle.mip_rules_mobile.proofs.HomeWalks.{Acks}
 
@@ -54,7 +59,7 @@ module _ (c : Call) (P : Transition → Type 0) (more : Goes c P) where
 
   pub every-rests : (row : ℕ) (t : Transition) → P t → P (rests row t)
   unfolding rests
-  every-rests row t p = more (Tries row Rest) (noted (Stops (Resend row)) t) refl tt (more (Stops (Resend row)) t refl tt p)
+  every-rests row t p = more (Tries row Rest) (noted (Stops (Resend row)) t) refl tt (more (Stops (Resend row)) t refl refl p)
 
   module _ (acks : Acks c P) where
     every-granted : (row : ℕ) (u : Trial pending.Pending) (sequence lifetime : ℕ) (t : Transition) → trial_of t.known row ≡ Some (Pending u) → IsAcknowledged c t.known t.now row sequence lifetime → P t
@@ -69,18 +74,31 @@ module _ (c : Call) (P : Transition → Type 0) (more : Goes c P) where
         first = noted step (noted (Stops (Resend row)) t)
 
         q : P first
-        q = more step (noted (Stops (Resend row)) t) refl (acknowledged-stops c (Resend row) row sequence lifetime t acknowledged) (more (Stops (Resend row)) t refl tt p)
+        q = more step (noted (Stops (Resend row)) t) refl (acknowledged-stops c (Resend row) row sequence lifetime t acknowledged) (more (Stops (Resend row)) t refl refl p)
 
-        led : (sequence : ℕ) × (granted : ℕ) × (last_step None first.steps ≡ Some (Tries row (Acknowledge sequence granted)))
-        led = (sequence, lifetime, last-noted step (noted (Stops (Resend row)) t))
+        sent : ℕ
+        sent = option_map_or (λ (m : Moment). m.0) (sent_at u) first.now
 
-        if-none : (none : Bool) → P (if none then first else binds_from u row lifetime first)
-        if-none true = q
-        if-none false = acks _ first refl (trial-granted row u sequence lifetime t pending) led q
+        same : sent ≡ option_map_or (λ (m : Moment). m.0) (last_sent (trial_of first.known row)) first.now
+        same = ap (λ (o : Option Moment). option_map_or (λ (m : Moment). m.0) o first.now) (sym (sent-granted row u sequence lifetime t pending))
+
+        led : lifetime ≢ 0 → IsBoundBehind first.known first.now (last_step None first.steps) row (later sent (lifetime_unit * lifetime)) (later sent (refresh_unit * lifetime))
+        led some = record {
+          sequence = sequence;
+          granted = lifetime;
+          behind = last-noted step (noted (Stops (Resend row)) t);
+          some = some;
+          ends = ap (λ (n : ℕ). n + 4000 * lifetime) same;
+          renews = ap (λ (n : ℕ). n + 3000 * lifetime) same;
+        }
+
+        if-none : (none : Bool) → (lifetime == 0) ≡ none → P (if none then first else binds_from u row lifetime first)
+        if-none true is = q
+        if-none false is = acks _ first refl (trial-granted row u sequence lifetime t pending) (led (λ none. eqb-false lifetime 0 is none)) q
 
         by : (to : Option Address) → P (ends_for to u row lifetime first)
         by None = more (Forgets row) first refl tt q
-        by (Some careof) = if-none (lifetime == 0)
+        by (Some careof) = if-none (lifetime == 0) refl
 
     every-peer_ack : (row : ℕ) (u : Trial pending.Pending) (status sequence lifetime : ℕ) (t : Transition) → trial_of t.known row ≡ Some (Pending u)
         → (accepts_it status ≡ true → IsAcknowledged c t.known t.now row sequence lifetime) → P t → P (takes_peer_ack row u status sequence lifetime t)

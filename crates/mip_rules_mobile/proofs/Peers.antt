@@ -29,6 +29,7 @@ use Rattle.mip_rules_mobile.specs.RowQuestions.{row_of, peer_of_row, trial_of, i
 use Rattle.mip_rules_mobile.specs.Questions.{after}
 use Rattle.mip_rules_mobile.specs.Transitions.{Transition, noted}
 use Rattle.mip_rules_mobile.specs.Fitting.{IsTrialOf}
+use Rattle.mip_rules_mobile.specs.Resting.{last_sent}
 
 -- what a kept test leaves
 weighed-own : (t : Trial probing.Probing) → peer_of_any (after_probe (Ok (weighed t))) ≡ t.peer
@@ -133,6 +134,28 @@ trial-granted row u sequence lifetime t is =
     let first : Transition = noted (Stops (Resend row)) t in
     subst (λ (o : Option Any). IsTrialOf o u.peer) (sym (trial-changed row (Acknowledge sequence lifetime) first (Pending u) (trial-stopped row t ∙ is)))
     (changed-own (record { 0 = first.now }) (Acknowledge sequence lifetime) (Pending u))
+
+-- and it was sent when its update was
+ended-sent : (sequence granted : ℕ) (now : Moment) (u : Trial pending.Pending) → last_sent (Some (changed now (Acknowledge sequence granted) (Pending u))) ≡ u.recent.newest
+unfolding changed
+ended-sent sequence granted now u = by (not (u.peer.0 == u.peer.0)) (not (sequence == u.state.last)) u.state.tested
+  where
+    ended : (to : Address) (none : Bool) → last_sent (Some (after_end (Ok (if none then ends.Deleted (in_state (record {}) u) else ends.Bound (in_state (record { aim = Bind to }) u))))) ≡ u.recent.newest
+    ended to true = refl
+    ended to false = refl
+
+    by : (other wrong : Bool) (tested : Tested) → last_sent (Some (after_end (if other then Err (u, refused.NotMine) else if wrong then Err (u, refused.NotMine) else Ok (ended_with granted tested u)))) ≡ u.recent.newest
+    by true wrong tested = refl
+    by false true tested = refl
+    by false false (Both to home careof) = ended to (granted == 0)
+    by false false (Home home) = refl
+
+pub sent-granted : (row : ℕ) (u : Trial pending.Pending) (sequence lifetime : ℕ) (t : Transition) → trial_of t.known row ≡ Some (Pending u)
+    → last_sent (trial_of (noted (Tries row (Acknowledge sequence lifetime)) (noted (Stops (Resend row)) t)).known row) ≡ u.recent.newest
+sent-granted row u sequence lifetime t is =
+    let first : Transition = noted (Stops (Resend row)) t in
+    ap last_sent (trial-changed row (Acknowledge sequence lifetime) first (Pending u) (trial-stopped row t ∙ is))
+    ∙ ended-sent sequence lifetime (record { 0 = first.now }) u
 
 found : (b : Bool) (x y : ℕ) → b ≡ true → cond b (Some x) None ≡ Some y → x ≡ y
 found true x y is e = cc

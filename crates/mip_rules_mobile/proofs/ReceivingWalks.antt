@@ -81,7 +81,7 @@ module _ (c : Call) (P : Transition → Type 0) (more : Goes c P) (acks : Acks c
           let at3 = at-noted (Away careof) (home_of t.known) (Chooses agent) two refl at2 in
           done (registers careof (noted (Chooses agent) two))
           (every-registers c P more careof (noted (Chooses agent) two) at3.0
-          (more (Chooses agent) two refl tt (more (Stops seeking) one refl tt (more (Finds (agent ∷ others)) t refl tt p))))
+          (more (Chooses agent) two refl tt (more (Stops seeking) one refl refl (more (Finds (agent ∷ others)) t refl tt p))))
       by true (Away careof) [] here = drops number whys.Icmp refl
       by true Detached list here = drops number whys.Icmp refl
       by true AtHome list here = drops number whys.Icmp refl

@@ -11,7 +11,7 @@ use Rattle.mip_rules_mobile.specs.Transitions.{Transition, begun, noted}
 use Rattle.mip_rules_mobile.specs.Doing.{transition_of}
 use Rattle.mip_rules_mobile.specs.Resting.{EachStep, IsAgentsAnswer, IsPeersAnswer, IsTestTunnelled, IsLed, AreLed, last_step}
 use Rattle.mip_rules_mobile.specs.Fitting.{Fits, EachFits, kind_of, OfMove, Steady}
-use Rattle.mip_rules_mobile.proofs.Fits.{call-fits}
+use Rattle.mip_rules_mobile.proofs.Fits.{known_along, IsAlong, along-noted, call-fits}
 use Rattle.mip_rules_mobile.proofs.Walks.{every-call}
 
 -- what follows of each step that fits holds of each
@@ -45,29 +45,44 @@ pub call-tests : (k : Known) (now : ℕ) (c : Call) → EachStep (IsTestTunnelle
 call-tests k now c = each-step (IsTestTunnelled c now) c now (test-tunnelled c now) k (transition_of k now c).steps (call-fits k now c)
 
 -- one step more
-led-push : (before : Option Step) (steps : List Step) (step : Step) → IsLed (last_step before steps) step → AreLed before steps → AreLed before (steps ++ step ∷ [])
-led-push before [] step led are = (led, tt)
-led-push before (s ∷ steps) step led are = (are.0, led-push (Some s) steps step led are.1)
+led-push : (now : ℕ) (k : Known) (before : Option Step) (steps : List Step) (step : Step) → IsLed now (known_along k now steps) (last_step before steps) step → AreLed now k before steps
+    → AreLed now k before (steps ++ step ∷ [])
+led-push now k before [] step led are = (led, tt)
+led-push now k before (s ∷ steps) step led are = (are.0, led-push now (after k (record { at = now; step = s })) (Some s) steps step led are.1)
 
-led-noted : (step : Step) (t : Transition) → IsLed (last_step None t.steps) step → AreLed None t.steps → AreLed None (noted step t).steps
-led-noted step t led are = subst (AreLed None) (sym (noted-steps after step t)) (led-push None t.steps step led are)
+module _ (c : Call) (now : ℕ) (k : Known) where
+  -- a transition at this moment, whose steps stand behind what leads to them
+  record IsLedAlong (t : Transition) : Type 0 where
+    along : IsAlong c now k t
+    led : AreLed now k None t.steps
 
-steady-led : (before : Option Step) (step : Step) → kind_of step ≡ Steady → IsLed before step
-steady-led before (Binds row peer end renew) is = absurd cc
-steady-led before _ is = tt
+  led-noted : (step : Step) (t : Transition) → Fits c t.now t.known step → IsLed t.now t.known (last_step None t.steps) step → IsLedAlong t → IsLedAlong (noted step t)
+  led-noted step t fits led is = record {
+    along = along-noted c now k step t fits is.along;
+    led =
+        subst (AreLed now k None) (sym (noted-steps after step t))
+        (led-push now k None t.steps step
+        (subst (λ (l : Known). IsLed now l (last_step None t.steps) step) is.along.known (subst (λ (n : ℕ). IsLed n t.known (last_step None t.steps) step) is.along.moment led)) is.led);
+  }
 
-move-led : (before : Option Step) (step : Step) → kind_of step ≡ OfMove → IsLed before step
-move-led before (Binds row peer end renew) is = absurd cc
-move-led before _ is = tt
+steady-led : (now : ℕ) (k : Known) (before : Option Step) (step : Step) → kind_of step ≡ Steady → IsLed now k before step
+steady-led now k before (Binds row peer end renew) is = absurd cc
+steady-led now k before _ is = tt
 
-pub call-led : (k : Known) (now : ℕ) (c : Call) → AreLed None (transition_of k now c).steps
+move-led : (now : ℕ) (k : Known) (before : Option Step) (step : Step) → kind_of step ≡ OfMove → IsLed now k before step
+move-led now k before (Binds row peer end renew) is = absurd cc
+move-led now k before _ is = tt
+
+pub call-led : (k : Known) (now : ℕ) (c : Call) → AreLed now k None (transition_of k now c).steps
 call-led k now c =
-    every-call c (λ (t : Transition). AreLed None t.steps)
-    (λ step t steady fits are. led-noted step t (steady-led (last_step None t.steps) step steady) are)
-    (λ call t are. led-noted (Parts call) t tt are)
-    (λ entry t own are. led-noted (Notes entry) t tt are)
-    (λ step t ack fits led are. led-noted step t led are)
-    (λ step t move fits are. led-noted step t (move-led (last_step None t.steps) step move) are)
-    (λ number why t right are. led-noted (Drops number why) t tt are)
-    (λ t are. led-noted (Called c) t tt are)
-    (begun now k) tt
+    let whole : IsLedAlong c now k (transition_of k now c) =
+    every-call c (IsLedAlong c now k)
+    (λ step t steady fits is. led-noted c now k step t fits (steady-led t.now t.known (last_step None t.steps) step steady) is)
+    (λ call t is. led-noted c now k (Parts call) t tt tt is)
+    (λ entry t own is. led-noted c now k (Notes entry) t own tt is)
+    (λ step t ack fits led is. led-noted c now k step t fits led is)
+    (λ step t move fits is. led-noted c now k step t fits (move-led t.now t.known (last_step None t.steps) step move) is)
+    (λ number why t right is. led-noted c now k (Drops number why) t right tt is)
+    (λ t is. led-noted c now k (Called c) t refl tt is)
+    (begun now k) (record { along = record { moment = refl; known = refl; each = tt }; led = tt }) in
+    whole.led

@@ -1,5 +1,5 @@
 -- What steady steps keep, due work keeps, in a call that hands over no packet.
-use Rattle.std.proofs.Common.{◌≡◌, ℕ, zero, suc, length, refl, sym, ◌∙◌}
+use Rattle.std.proofs.Common.{◌≡◌, ℕ, zero, suc, length, refl, sym, ap, ◌∙◌}
 use Rattle.std.specs.Prelude.{Option, Some, None, Bool, true, false, if◌then◌else◌}
 use Rattle.mip_words.specs.declared.address.Address.{Address}
 use Rattle.mip_bulist.specs.declared.home_timer.HomeTimer.{HomeTimer}
@@ -10,6 +10,7 @@ use Rattle.mip_bulist.specs.Timers.{due_work}
 use Rattle.mip_rules_mobile.specs.declared.attachment.Attachment.{Attachment}
 use Rattle.mip_rules_mobile.specs.declared.attachment.Attachment.TheVariants.{Detached, AtHome, Away}
 use Rattle.mip_rules_mobile.specs.declared.registered.Registered.{Registered}
+use Rattle.mip_rules_mobile.specs.Calls as calls
 use Rattle.mip_rules_mobile.specs.Calls.{Call}
 use Rattle.mip_rules_mobile.specs.Coming.{is_take}
 use Rattle.mip_rules_mobile.specs.Trials.{Rest, is_bound}
@@ -61,9 +62,10 @@ module _ (c : Call) (P : Transition → Type 0) (more : Goes c P) (other : is_ta
   every-work (End row) t p = every-ends_row row t p
   every-work (Home timer) t p = every-rings_home timer t p
 
+module _ (c : Call) (P : Transition → Type 0) (more : Goes c P) (tick : c ≡ calls.Tick) where
   pub every-rings : (work : Work) (t : Transition) → P t → P (rings work t)
   unfolding rings
-  every-rings work t p = every-work work (noted (Rings work) t) (more (Rings work) t refl tt p)
+  every-rings work t p = every-work c P more (ap is_take tick) work (noted (Rings work) t) (more (Rings work) t refl tick p)
 
   pub every-ticks : (n : ℕ) (t : Transition) → P t → P (ticks n t)
   unfolding ticks

@@ -179,7 +179,7 @@ late-kept c now k (Unbinds row peer) ts is fits =
     let one : late now (without_timer (works.Renew row) ts) ≤ late now ts = filter_late (λ t. not (is_of (works.Renew row) t)) now ts in
     let two : late now (without_timer (works.End row) (without_timer (works.Renew row) ts)) ≤ late now (without_timer (works.Renew row) ts) = filter_late (λ t. not (is_of (works.End row) t)) now (without_timer (works.Renew row) ts) in
     omega (arith, one, two)
-late-kept c now k (Waits work wait) ts is fits = let positive : 0 < wait = fits in with_late now (later now wait) work ts (omega (arith, positive))
+late-kept c now k (Waits work wait) ts is fits = let positive : 0 < wait = fits.0 in with_late now (later now wait) work ts (omega (arith, positive))
 late-kept c now k (Stops work) ts is fits = filter_late (λ t. not (is_of work t)) now ts
 late-kept c now k (Rings work) ts is fits = due_less now ts
 

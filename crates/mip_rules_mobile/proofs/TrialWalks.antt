@@ -53,7 +53,7 @@ module _ (c : Call) (P : Transition → Type 0) (more : Goes c P) where
       from peer Detached here = p
       from peer AtHome here =
           let first = noted (Tries row (Start Delete home home)) t in
-          more (Waits (Resend row) 1000) (goes_out (AsksHome peer home.0) first) refl (omega arith)
+          more (Waits (Resend row) 1000) (goes_out (AsksHome peer home.0) first) refl (omega arith, refl)
           (every-goes_out c P more (AsksHome peer home.0) first tt (more (Tries row (Start Delete home home)) t refl tt p))
       from peer (Away careof) here =
           let start : Step = Tries row (Start (Bind careof) home other) in
@@ -62,7 +62,7 @@ module _ (c : Call) (P : Transition → Type 0) (more : Goes c P) where
           let q = every-goes_out c P more (AsksHome peer home.0) first tt (more start t refl tt p) in
           let s = out-stays c t.known.standing t.known.part.identity t.now (AsksHome peer home.0) first tt
           (stays-noted t.known.standing t.known.part.identity t.now start t refl (stays-here t)) in
-          more (Waits (Resend row) 1000) (noted (Sends (AsksCareof careof peer other.0)) second) refl (omega arith)
+          more (Waits (Resend row) 1000) (noted (Sends (AsksCareof careof peer other.0)) second) refl (omega arith, refl)
           (more (Sends (AsksCareof careof peer other.0)) second refl (let both : second.known.standing ≡ Away careof = cc (s.standing, here) in both) q)
 
       by : (peer : Option Address) → P (starts_at peer row t)
@@ -80,7 +80,7 @@ module _ (c : Call) (P : Transition → Type 0) (more : Goes c P) where
   sends None row peer made wait t positive of_row of_trial from p = p
   sends (Some source) row peer made wait t positive of_row of_trial from p =
       let u : PeerUpdate = record { home = home_of t.known; source = source; peer = peer; number = binding_number_of t.known; made = made } in
-      more (Waits (Resend row) wait) (noted (Updates row u) t) refl positive
+      more (Waits (Resend row) wait) (noted (Updates row u) t) refl (positive, refl)
       (more (Updates row u) t refl (record { home = refl; peer = of_row; number = refl; made = of_trial; source = from }) p)
 
   pub every-updates : (row wait : ℕ) (t : Transition) → 0 < wait → P t → P (updates row wait t)
@@ -91,7 +91,7 @@ module _ (c : Call) (P : Transition → Type 0) (more : Goes c P) where
       of peer is None made = p
       of peer is (Some (Ok made)) is_made = sends (source_for t.known.standing (home_of t.known) made) row peer made wait t positive is is_made refl p
       of peer is (Some (Err refused.Old)) made = every-starts c P more row t p
-      of peer is (Some (Err refused.TooSoon)) made = more (Waits (Resend row) wait) t refl positive p
+      of peer is (Some (Err refused.TooSoon)) made = more (Waits (Resend row) wait) t refl (positive, refl) p
       of peer is (Some (Err refused.Cookie)) made = p
       of peer is (Some (Err refused.NotMine)) made = p
 
@@ -123,7 +123,7 @@ module _ (c : Call) (P : Transition → Type 0) (more : Goes c P) where
 
   going_on : (o : Option Any) (row : ℕ) (peer : Address) (wait : ℕ) (t : Transition) → 0 < wait → P t → P (goes_on o row peer wait t)
   going_on (Some (Probing u)) row peer wait t positive p =
-      more (Waits (Resend row) wait) (asks_again row peer u t) refl positive (every-asks_again row peer u t p)
+      more (Waits (Resend row) wait) (asks_again row peer u t) refl (positive, refl) (every-asks_again row peer u t p)
   going_on (Some (Proved u)) row peer wait t positive p = every-updates c P more row wait t positive p
   going_on (Some (Pending u)) row peer wait t positive p = every-updates c P more row wait t positive p
   going_on _ row peer wait t positive p = p

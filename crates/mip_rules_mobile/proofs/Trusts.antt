@@ -70,7 +70,7 @@ straight-not : (b : Bool) → not b ≡ false → b ≡ true
 straight-not true is = refl
 straight-not false is = absurd cc
 
-opened-source : (agent : Address) (p q : Packet) → opened agent p ≡ Ok q → p.head.source.0 ≡ agent.0
+pub opened-source : (agent : Address) (p q : Packet) → opened agent p ≡ Ok q → p.head.source.0 ≡ agent.0
 unfolding opened
 opened-source agent p q =
     cond_both (not (p.head.proto == 41)) _ _ (λ (r : Result Packet ExitFault). r ≡ Ok q → p.head.source.0 ≡ agent.0) (λ is e. absurd cc)
@@ -149,6 +149,7 @@ pub record Counts (s : Attachment) (tunnelled : Bool) (shield : Option Shield) (
   pub from : source.0 ≡ u.agent.0
   pub answers : (sequence ≡ u.sequence) ⊎ (status ≡ 135)
   pub there : is_detached s ≡ false
+  pub undone : s ≡ AtHome → u.deletes ≡ true
 
 not-true : (b : Bool) → not b ≡ true → b ≡ false
 not-true false is = refl
@@ -158,6 +159,11 @@ answered-there : (s : Attachment) (u : HomeUpdate) → is_answered_at s u ≡ tr
 answered-there Detached u is = absurd cc
 answered-there AtHome u is = refl
 answered-there (Away careof) u is = refl
+
+answered-home : (s : Attachment) (u : HomeUpdate) → is_answered_at s u ≡ true → s ≡ AtHome → u.deletes ≡ true
+answered-home Detached u is home = absurd cc
+answered-home AtHome u is home = is
+answered-home (Away careof) u is home = absurd cc
 
 pub answer-counts : (s : Attachment) (tunnelled : Bool) (shield : Option Shield) (source : Address) (status sequence : ℕ) (o : Option HomeUpdate) (u : HomeUpdate)
     → answered_by s tunnelled shield source status sequence o ≡ Some u → Counts s tunnelled shield source status sequence o u
@@ -174,6 +180,7 @@ answer-counts s tunnelled shield source status sequence (Some v) u is =
       from = subst (λ (x : HomeUpdate). source.0 ≡ x.agent.0) same (eqb-true source.0 v.agent.0 d);
       answers = subst (λ (x : HomeUpdate). (sequence ≡ x.sequence) ⊎ (status ≡ 135)) same answers;
       there = answered-there s v there;
+      undone = subst (λ (x : HomeUpdate). s ≡ AtHome → x.deletes ≡ true) same (answered-home s v there);
     }
 
     by : (a b d e f g : Bool) → not tunnelled ≡ a → is_some shield ≡ b → (source.0 == v.agent.0) ≡ d → (sequence == v.sequence) ≡ e → (status == sequence_out_of_window) ≡ f → is_answered_at s v ≡ g
@@ -190,13 +197,13 @@ answer-counts s tunnelled shield source status sequence (Some v) u is =
 -- so an acknowledgement that counts is the agent's answer
 pub answer-is : (c : Call) (k : Known) (now number : ℕ) (tunnelled : Bool) (shield : Option Shield) (packet : Packet) → IsOfTake c k now number tunnelled shield packet
     → (status : ℕ) (key : Bool) (sequence lifetime : ℕ) (options : Values) → message_in packet ≡ Some (Acknowledgement status key sequence lifetime options)
-    → (u : HomeUpdate) → Counts k.standing tunnelled shield (source_of packet.head) status sequence k.latest u → IsAnswered c k.latest u.agent status sequence
+    → (u : HomeUpdate) → Counts k.standing tunnelled shield (source_of packet.head) status sequence k.latest u → IsAnswered c k.latest u status sequence lifetime
 answer-is c k now number tunnelled shield packet of status key sequence lifetime options says u counts = by shield refl
   where
     read : packet_of of.bytes ≡ Ok packet
     read = subst (λ (b : Bool). Came k now b shield of.bytes packet) counts.straight of.came
 
-    by : (o : Option Shield) → shield ≡ o → IsAnswered c k.latest u.agent status sequence
+    by : (o : Option Shield) → shield ≡ o → IsAnswered c k.latest u status sequence lifetime
     by None bare = absurd (let both : false ≡ true = sym (ap (λ (s : Option Shield). is_some s) bare) ∙ counts.shielded in cc)
     by (Some s) under = record {
       number = number;
@@ -206,12 +213,9 @@ answer-is c k now number tunnelled shield packet of status key sequence lifetime
       packet = packet;
       read = read;
       key = key;
-      lifetime = lifetime;
       options = options;
       says = says;
-      update = u;
       last = counts.last;
-      to = refl;
       from = counts.from;
       answers = counts.answers;
     }

@@ -1,5 +1,5 @@
 -- What each step of a rule keeps, a whole call keeps.
-use Rattle.std.proofs.Common.{◌≡◌, ℕ, List, refl, ap}
+use Rattle.std.proofs.Common.{◌≡◌, ℕ, List, refl}
 use Rattle.std.specs.Prelude.{Option, Some, None, Bool, true, false, ◌&&◌, is_none}
 use Rattle.mip_words.specs.declared.address.Address.{Address}
 use Rattle.mip_words.specs.declared.why.Why.{Why}
@@ -14,7 +14,6 @@ use Rattle.mip_rules_mobile.specs.declared.attachment.Attachment.{Attachment}
 use Rattle.mip_rules_mobile.specs.declared.attachment.Attachment.TheVariants.{Detached, AtHome, Away}
 use Rattle.mip_rules_mobile.specs.Calls as calls
 use Rattle.mip_rules_mobile.specs.Calls.{Call}
-use Rattle.mip_rules_mobile.specs.Coming.{is_take}
 use Rattle.mip_rules_mobile.specs.Sendings.{Given, SendsData, Solicits}
 use Rattle.mip_rules_mobile.specs.Steps.{Called, Sends, Unsends, Drops}
 use Rattle.mip_rules_mobile.specs.HomeQuestions.{home_of, registered_agent}
@@ -90,7 +89,7 @@ module _ (c : Call) (P : Transition → Type 0) (more : Goes c P) (asks : Asking
       (λ number bytes source refusal right. every-refuses number bytes source refusal t right p)
       (λ number tunnelled shield packet message of read mine. every-for_part c P more asks notes number tunnelled packet message t p)
       number shield packet is
-  every-staying t p calls.Tick is stays lives = every-ticks_all c P more (ap is_take is) t p
+  every-staying t p calls.Tick is stays lives = every-ticks_all c P more is t p
   every-staying t p (calls.Send to proto payload) is stays lives = every-transmits c P more asks notes to proto payload is t p
   every-staying t p (calls.Refresh home) is stays lives = every-asks_part c P more asks notes (parts.Refresh home) tt t p
   every-staying t p calls.Ask is stays lives = every-solicits c P more asks notes t p

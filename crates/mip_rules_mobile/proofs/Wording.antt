@@ -32,7 +32,7 @@ length-with at f peers = by (slice_get peers at)
     by None = refl
     by (Some p) = length-set peers at (f p)
 
-length-after : (peers : List Peer) (step : Step) → length peers ≡ 16 → length (peers_after peers step) ≡ 16
+pub length-after : (peers : List Peer) (step : Step) → length peers ≡ 16 → length (peers_after peers step) ≡ 16
 length-after peers (Updates at update) whole = length-with at touched peers ∙ whole
 length-after peers (Forgets at) whole = length-with at forgotten peers ∙ whole
 length-after peers (Binds at peer end renew) whole = length-with at (bound_until end) peers ∙ whole
@@ -95,7 +95,7 @@ module _ {X : Type 0} (part : Peer → X) (none : X) (row : ℕ) where
   each f peers inside =
       ap (λ (o : Option Peer). option_map_or part o none) (slice_get-map f peers row ∙ ap (λ (o : Option Peer). option_map f o) (slice_get-get_or peers row fresh_peer inside))
 
-  lost : row < 16 → of fresh_peers ≡ part fresh_peer
+  pub lost : row < 16 → of fresh_peers ≡ part fresh_peer
   lost inside = of-is fresh_peers inside ∙ ap part (get_or-replicate 16 row fresh_peer fresh_peer inside)
 
 module _ (row : ℕ) (inside : row < 16) where
@@ -111,7 +111,7 @@ module _ (row : ℕ) (inside : row < 16) where
   touched-row peers (Waits (Resend at) wait) whole = same (λ (p : Peer). p.touched) false row at (waiting wait) peers (omega (arith, whole, inside)) (λ p. refl)
   touched-row peers _ whole = refl
 
-  bound-row : (peers : List Peer) (step : Step) → length peers ≡ 16 → of (λ (p : Peer). p.bound) None row (peers_after peers step) ≡ unwrap_or (bound_said row step) (of (λ (p : Peer). p.bound) None row peers)
+  pub bound-row : (peers : List Peer) (step : Step) → length peers ≡ 16 → of (λ (p : Peer). p.bound) None row (peers_after peers step) ≡ unwrap_or (bound_said row step) (of (λ (p : Peer). p.bound) None row peers)
   bound-row peers (Updates at update) whole = same (λ (p : Peer). p.bound) None row at touched peers (omega (arith, whole, inside)) (λ p. refl)
   bound-row peers (Forgets at) whole = same (λ (p : Peer). p.bound) None row at forgotten peers (omega (arith, whole, inside)) (λ p. refl)
   bound-row peers (Binds at peer end renew) whole = said (λ (p : Peer). p.bound) None row at (bound_until end) (Some end) peers (omega (arith, whole, inside)) (λ p. refl)

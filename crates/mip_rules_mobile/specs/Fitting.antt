@@ -8,6 +8,9 @@ use Rattle.mip_words.specs.declared.shield.Shield.{Shield}
 use Rattle.mip_reception.specs.Says.{carried, Test as Told}
 use Rattle.mip_bulist.specs.declared.any.Any.{Any}
 use Rattle.mip_bulist.specs.declared.tested.Test.{Test}
+use Rattle.mip_bulist.specs.declared.home_timer.HomeTimer.TheVariants as home_timers
+use Rattle.mip_bulist.specs.declared.work.Work.{Work}
+use Rattle.mip_bulist.specs.declared.work.Work.TheVariants.{Resend, Renew, End, Home}
 use Rattle.mip_bulist.specs.Rows.{peer_of_any}
 use Rattle.mip_entries.specs.Reasons.{is_dropped_why, is_unsent_why}
 use Rattle.mip_rules_correspondent.specs.declared.identity.Identity.{Identity}
@@ -19,10 +22,10 @@ use Rattle.mip_rules_mobile.specs.declared.attachment.Attachment.TheVariants.{De
 use Rattle.mip_rules_mobile.specs.Calls as calls
 use Rattle.mip_rules_mobile.specs.Calls.{Call}
 use Rattle.mip_rules_mobile.specs.Coming.{is_take}
-use Rattle.mip_rules_mobile.specs.Trusting.{IsAnswered, IsAgreed, IsDeclined, IsAcknowledged, ComesByTunnel}
+use Rattle.mip_rules_mobile.specs.Trusting.{IsRegistered, IsUnregistered, IsDeclined, IsBehind, IsAcknowledged, ComesByTunnel}
 use Rattle.mip_rules_mobile.specs.Trials.{Change, HomeTest, CareofTest, Acknowledge, makes}
 use Rattle.mip_rules_mobile.specs.Sendings.{Inner, OfPart, AsksHome, Given, Sending, FromHome, ByTunnel, AsksCareof, RegistersHome, DeregistersHome, SendsData, Discovers, Solicits, PeerUpdate}
-use Rattle.mip_rules_mobile.specs.Steps.{Step, Called, Parts, Notes, Sends, Unsends, Drops, Claims, FindsTaken, Arrives, Detaches, Restarts, Registers, Unregisters, IsRefused, Resequences, Tries, Updates, Binds, Unbinds, Waits}
+use Rattle.mip_rules_mobile.specs.Steps.{Step, Called, Parts, Notes, Sends, Unsends, Drops, Claims, FindsTaken, Arrives, Detaches, Restarts, Registers, Unregisters, IsRefused, Resequences, Tries, Updates, Binds, Unbinds, Waits, Stops, Rings}
 use Rattle.mip_rules_mobile.specs.Known.{Known}
 use Rattle.mip_rules_mobile.specs.HomeQuestions.{home_of, binding_number_of}
 use Rattle.mip_rules_mobile.specs.RowQuestions.{peer_of_row, trial_of}
@@ -100,6 +103,16 @@ abbrev pub IsTrialOf : Option Any → Address → Type 0
 IsTrialOf None peer = ⊥
 IsTrialOf (Some any) peer = peer_of_any any ≡ peer
 
+-- work by which a registration or a binding ends: it is set by its acknowledgement alone
+abbrev pub is_end : Work → Bool
+is_end (Resend row) = false
+is_end (Renew row) = false
+is_end (End row) = true
+is_end (Home home_timers.Resend) = false
+is_end (Home home_timers.Renew) = false
+is_end (Home home_timers.End) = true
+is_end (Home home_timers.Discover) = false
+
 -- a step is taken in a call, at a moment, where this is known
 abbrev pub Fits : Call → ℕ → Known → Step → Type 0
 Fits c now k (Called call) = c ≡ call
@@ -110,13 +123,15 @@ Fits c now k (Unsends why) = is_unsent_why why ≡ true
 Fits c now k (Drops number why) = is_dropped_why why ≡ true
 Fits c now k (Updates row update) = IsUpdateOf now k row update
 Fits c now k (Tries row change) = IsChangedBy c now k row change
-Fits c now k (Registers agent end renew) = (is_detached k.standing ≡ false) × IsAgreed c k.latest agent
-Fits c now k (Unregisters agent) = is_take c ≡ true → IsAgreed c k.latest agent
+Fits c now k (Registers agent end renew) = (is_detached k.standing ≡ false) × IsRegistered c k.latest agent end renew
+Fits c now k (Unregisters agent) = is_take c ≡ true → IsUnregistered c k.latest agent
 Fits c now k (IsRefused status) = IsDeclined c k.latest status
-Fits c now k (Resequences agent last) = IsAnswered c k.latest agent 135 last
+Fits c now k (Resequences agent last) = IsBehind c k.latest agent last
 Fits c now k (Binds row peer end renew) = IsTrialOf (trial_of k row) peer
 Fits c now k (Unbinds row peer) = peer_of_row k row ≡ Some peer
-Fits c now k (Waits work wait) = 0 < wait
+Fits c now k (Waits work wait) = (0 < wait) × (is_end work ≡ false)
+Fits c now k (Stops work) = is_end work ≡ false
+Fits c now k (Rings work) = c ≡ calls.Tick
 Fits c now k _ = Unit {0}
 
 -- each step fits where it is taken

@@ -33,4 +33,7 @@ pub mod Kept
 pub mod Fitting
 pub mod Answering
 pub mod Refusing
+pub mod TakenLaws
+pub mod SentLaws
+pub mod EndingLaws
 pub mod Shielding

@@ -1,7 +1,8 @@
 -- Whose word a mobile takes, and how it came: its agent's acknowledgements, a peer's acknowledgements, and away a Home Test.
 -- RFC 6275 sections 5.1, 5.2, 11.6.2 and 11.7.3
-use Rattle.std.specs.Prelude.{◌≡◌, ℕ, ◌<◌, List, Bool, true, ◌⊎◌, Option, Some, Ok, is_some, unwrap_or}
+use Rattle.std.specs.Prelude.{◌≡◌, ◌≢◌, ℕ, ◌+◌, ◌*◌, ◌<◌, List, Bool, true, false, ◌⊎◌, Option, Some, Ok, is_some, unwrap_or}
 use Rattle.mip_words.specs.declared.address.Address.{Address}
+use Rattle.mip_words.specs.declared.moment.Moment.{Moment}
 use Rattle.mip_words.specs.declared.shield.Shield.{Shield}
 use Rattle.mip_ipv6.specs.Packet.{Packet, source_of}
 use Rattle.mip_ipv6.specs.Reading.{packet_of}
@@ -23,7 +24,7 @@ use Rattle.mip_rules_mobile.specs.RowQuestions.{row_of, trial_of}
 
 -- an acknowledgement of the last home registration or deregistration: handed over under a shield and in no tunnel, from the
 -- agent to which that was sent, with its sequence, or with the status that the sequence is out of the window
-pub record IsAnswered (c : Call) (latest : Option HomeUpdate) (agent : Address) (status sequence : ℕ) : Type 0 where
+pub record IsAnswered (c : Call) (latest : Option HomeUpdate) (update : HomeUpdate) (status sequence lifetime : ℕ) : Type 0 where
   pub number : ℕ
   pub shield : Shield
   pub bytes : List ℕ
@@ -31,22 +32,41 @@ pub record IsAnswered (c : Call) (latest : Option HomeUpdate) (agent : Address) 
   pub packet : Packet
   pub read : packet_of bytes ≡ Ok packet
   pub key : Bool
-  pub lifetime : ℕ
   pub options : Values
   pub says : message_in packet ≡ Some (Acknowledgement status key sequence lifetime options)
-  pub update : HomeUpdate
   pub last : latest ≡ Some update
-  pub to : update.agent ≡ agent
-  pub from : (source_of packet.head).0 ≡ agent.0
+  pub from : (source_of packet.head).0 ≡ update.agent.0
   pub answers : (sequence ≡ update.sequence) ⊎ (status ≡ 135)
 
--- one that accepts
-abbrev pub IsAgreed : Call → Option HomeUpdate → Address → Type 0
-IsAgreed c latest agent = (status : ℕ) × (sequence : ℕ) × IsAnswered c latest agent status sequence × (status < 128)
+-- one that accepts a registration, or a deregistration
+pub record IsAgreed (c : Call) (latest : Option HomeUpdate) (deletes : Bool) (agent : Address) : Type 0 where
+  pub update : HomeUpdate
+  pub status : ℕ
+  pub sequence : ℕ
+  pub lifetime : ℕ
+  pub answered : IsAnswered c latest update status sequence lifetime
+  pub accepts : status < 128
+  pub kind : update.deletes ≡ deletes
+  pub to : update.agent ≡ agent
+
+-- one that registers: the end lies 4 s for each unit granted behind the sending, and the renewal three quarters of that
+pub record IsRegistered (c : Call) (latest : Option HomeUpdate) (agent : Address) (end renew : Moment) : Type 0 where
+  pub agreed : IsAgreed c latest false agent
+  pub some : agreed.lifetime ≢ 0
+  pub ends : end.0 ≡ agreed.update.at.0 + 4000 * agreed.lifetime
+  pub renews : renew.0 ≡ agreed.update.at.0 + 3000 * agreed.lifetime
+
+-- one that ends a registration
+abbrev pub IsUnregistered : Call → Option HomeUpdate → Address → Type 0
+IsUnregistered c latest agent = IsAgreed c latest true agent
 
 -- one that refuses
 abbrev pub IsDeclined : Call → Option HomeUpdate → ℕ → Type 0
-IsDeclined c latest status = (agent : Address) × (sequence : ℕ) × IsAnswered c latest agent status sequence
+IsDeclined c latest status = (update : HomeUpdate) × (sequence : ℕ) × (lifetime : ℕ) × IsAnswered c latest update status sequence lifetime
+
+-- one with status 135, from an agent, with a sequence to go on from
+abbrev pub IsBehind : Call → Option HomeUpdate → Address → (sequence : ℕ) → Type 0
+IsBehind c latest agent sequence = (update : HomeUpdate) × (lifetime : ℕ) × IsAnswered c latest update 135 sequence lifetime × (update.agent ≡ agent)
 
 -- an acknowledgement that accepts the last update of a row's trial: from the row's peer, with the sequence of that update, and
 -- with an authenticator under its key, between the address that it binds, where it deletes the home address, and the peer

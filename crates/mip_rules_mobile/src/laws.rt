@@ -1,18 +1,24 @@
 //! The laws by which a mobile stands for a past, and by which its steps, packets and timers are as they should be.
 
-ghost use Rattle.std.specs.Prelude.{◌≡◌, ℕ, ◌<◌, ◌+◌, ◌%◌, ◌^◌, List, [], ◌∷◌, ◌++◌, Option, Some, None, true, false, is_some, length, filter, if◌then◌else◌};
-ghost use Rattle.std.specs.List.{list_any};
+ghost use Rattle.std.specs.Prelude.{◌≡◌, ℕ, ◌<◌, ◌+◌, ◌%◌, ◌^◌, List, [], ◌∷◌, ◌++◌, Bool, Option, Some, None, Ok, true, false, is_some, length, filter, if◌then◌else◌};
+ghost use Rattle.std.specs.List.{list_any, AllByRecursion};
 ghost use Rattle.mip_words.specs.declared.address.Address.{Address};
 ghost use Rattle.mip_words.specs.declared.shield.Shield.{Shield};
+ghost use Rattle.mip_ipv6.specs.Packet.{Packet, source_of, destination_of};
+ghost use Rattle.mip_ipv6.specs.Reading.{packet_of};
+ghost use Rattle.mip_mobhdr.specs.Said.{Said};
+ghost use Rattle.mip_icmp.specs.Said as icmp;
+ghost use Rattle.mip_icmp.specs.Reading.{icmp_of};
 ghost use Rattle.mip_nonce.specs.Secrets.{Life};
+ghost use Rattle.mip_reception.specs.Says.{message_in};
 ghost use Rattle.mip_outside.specs.declared.claim.Claim.{Claim};
 ghost use Rattle.mip_words.specs.LastLaws.{since};
 ghost use Rattle.mip_bulist.specs.Timers.{AreDueFrom, AreInOrder};
 ghost use Rattle.mip_entries.specs.Stamped.{Stamped};
 ghost use Rattle.mip_rules_mobile.specs.declared.attachment.Attachment.TheVariants.{AtHome, Away};
 ghost use Rattle.mip_rules_mobile.specs.Calls.{Call, Leave, Take, Tick, Restart};
-ghost use Rattle.mip_rules_mobile.specs.Sendings.{PeerUpdate};
-ghost use Rattle.mip_rules_mobile.specs.Steps.{Step, Detaches, Seeks, is_call, answers_of};
+ghost use Rattle.mip_rules_mobile.specs.Sendings.{PeerUpdate, Inner, ByTunnel, RegistersHome, DeregistersHome, Solicits, inner_packet};
+ghost use Rattle.mip_rules_mobile.specs.Steps.{Step, Sends, Detaches, Restarts, Seeks, is_call, answer_of, answers_of};
 ghost use Rattle.mip_rules_mobile.specs.Known.{Known};
 ghost use Rattle.mip_rules_mobile.specs.HomeQuestions.{home_of, binding_number_of, standing_said, registered_said, latest_said, agent_said, owes_said, next_said, next_to};
 ghost use Rattle.mip_rules_mobile.specs.DiscoveryQuestions.{found_said, chosen_said, is_choice};
@@ -29,7 +35,10 @@ ghost use Rattle.mip_rules_mobile.specs.Refusing.{is_refusal, tables_of};
 ghost use Rattle.mip_rules_mobile.specs.Answering.{EachAnswer, CanBeAsked, SendsPlainData, IsWhole, LeavesRight, IsElsewhere, AreFrom, stays_put, SaysRight};
 ghost use Rattle.mip_rules_mobile.specs.Resting.{EachStep, IsAgentsAnswer, IsPeersAnswer, IsTestTunnelled, AreLed};
 ghost use Rattle.mip_rules_mobile.specs.Leaving.{HasForgotten};
+ghost use Rattle.mip_rules_mobile.specs.TakenLaws.{AreRefusingUnless, IsFor, IsOfTunnel, IsHandled, IsHeeded, IsIcmpHeeded};
 ghost use Rattle.mip_rules_mobile.specs.Shielding.{AreShieldedFrom};
+ghost use Rattle.mip_rules_mobile.specs.SentLaws.{IsShieldedTo, is_home_update, ends_home_update};
+ghost use Rattle.mip_rules_mobile.specs.EndingLaws.{AreTimed, LieAhead};
 ghost use Rattle.mip_rules_mobile.specs.Doing.{transition_of};
 ghost use Rattle.mip_rules_mobile.specs.PartLaws.{part_of, part_life, IsPartTransition, is_restart, IsPartReborn};
 
@@ -165,21 +174,74 @@ pub fn shields_are_from_its_home()
 
 /// What an agent answers is taken only of an acknowledgement that came under a shield and in no tunnel, from the agent to
 /// which the last home registration or deregistration was sent, with its sequence: a registration, a refusal, a sequence to go
-/// on from; and the end of a registration, unless it ends by itself.
+/// on from; and the end of a registration, unless it ends by itself. A registration ends 4 s for each unit granted after its sending.
 pub fn home_answers_are_shielded()
     ensures { (k : Known) (now : ℕ) (c : Call) → EachStep (IsAgentsAnswer c) now k (transition_of k now c).steps }
 {}
 
 /// An update is acknowledged only by its peer's acknowledgement, authentic under the key of the update that was made last and
-/// with its sequence; and a binding is told right behind that, for the same row.
+/// with its sequence; and a binding is told right behind that, for the same row. It ends 4 s for each unit granted after the
+/// update was sent.
 pub fn bindings_are_acknowledged()
     ensures acknowledged { (k : Known) (now : ℕ) (c : Call) → EachStep (IsPeersAnswer c now) now k (transition_of k now c).steps }
-    ensures bound { (k : Known) (now : ℕ) (c : Call) → AreLed None (transition_of k now c).steps }
+    ensures bound { (k : Known) (now : ℕ) (c : Call) → AreLed now k None (transition_of k now c).steps }
 {}
 
 /// Away, a Home Test is kept only of what came under a shield in a tunnel from the mobile's agent.
 pub fn home_tests_come_by_the_tunnel()
     ensures { (k : Known) (now : ℕ) (c : Call) → EachStep (IsTestTunnelled c now) now k (transition_of k now c).steps }
+{}
+
+/// A packet that is handed to a mobile is refused, unless it is for the mobile where that stands (`address`); in a tunnel it is
+/// refused, unless that is from the mobile's agent (`tunnel`). A message in the packet, or in the one within its tunnel, is refused
+/// unless it counts by right (`message`), and so is an ICMPv6 message (`icmp`).
+pub fn each_packet_counts_by_right()
+    ensures address { (k : Known) (now number : ℕ) (shield : Option Shield) (bytes : List ℕ) (packet : Packet) → packet_of bytes ≡ Ok packet
+        → AreRefusingUnless (transition_of k now (Take number shield bytes)).steps (IsFor (home_of k) k.standing packet.head) }
+    ensures tunnel { (k : Known) (now number : ℕ) (shield : Option Shield) (bytes : List ℕ) (packet : Packet) → packet_of bytes ≡ Ok packet → packet.head.proto ≡ 41
+        → AreRefusingUnless (transition_of k now (Take number shield bytes)).steps (IsOfTunnel (home_of k) k.registered k.agent now shield packet) }
+    ensures message { (k : Known) (now number : ℕ) (shield : Option Shield) (bytes : List ℕ) (tunnelled : Bool) (packet : Packet) (m : Said)
+        → IsHandled bytes packet tunnelled → message_in packet ≡ Some m
+        → AreRefusingUnless (transition_of k now (Take number shield bytes)).steps (IsHeeded k now tunnelled shield packet m) }
+    ensures icmp { (k : Known) (now number : ℕ) (shield : Option Shield) (bytes : List ℕ) (tunnelled : Bool) (packet : Packet) (m : icmp.Said)
+        → IsHandled bytes packet tunnelled → packet.head.proto ≡ 58 → icmp_of (source_of packet.head) (destination_of packet.head) packet.body ≡ Ok m
+        → AreRefusingUnless (transition_of k now (Take number shield bytes)).steps (IsIcmpHeeded k now shield m) }
+{}
+
+/// What goes to the agent goes under the shield from the home address to the agent: each home registration and deregistration, each
+/// solicitation of prefixes, and each tunnel packet in which a mobility message stands.
+pub fn what_goes_to_the_agent_is_shielded()
+    ensures registers { (home careof agent : Address) (sequence : ℕ) → AllByRecursion (IsShieldedTo home agent) (answer_of (Sends (RegistersHome home careof agent sequence))) }
+    ensures deregisters { (home agent : Address) (sequence : ℕ) → AllByRecursion (IsShieldedTo home agent) (answer_of (Sends (DeregistersHome home agent sequence))) }
+    ensures solicits { (home careof agent : Address) (identifier : ℕ) → AllByRecursion (IsShieldedTo home agent) (answer_of (Sends (Solicits home careof agent identifier))) }
+    ensures tunnels { (home careof agent : Address) (inner : Inner) (packet : Packet) → packet_of (inner_packet home inner) ≡ Ok packet → packet.head.proto ≡ 135
+        → AllByRecursion (IsShieldedTo home agent) (answer_of (Sends (ByTunnel home careof agent inner))) }
+{}
+
+/// The last home registration or deregistration counts from its sending, until the next one is sent or the mobile restarts: with
+/// its agent, its sequence and its moment.
+pub fn a_home_update_counts_until_a_restart()
+    ensures registers { (home : Address) (declared : Option Address) (numbers : ℕ) (secrets : Life) (before : List (Stamped Step)) (at : ℕ) (later : List (Stamped Step))
+        → list_any (λ s. ends_home_update s.step) later ≡ false → (own careof agent : Address) (sequence : ℕ)
+        → (known home declared numbers secrets (before ++ record { at = at; step = Sends (RegistersHome own careof agent sequence) } ∷ later)).latest
+        ≡ Some (record { agent = agent; sequence = sequence; at = record { 0 = at }; deletes = false }) }
+    ensures deregisters { (home : Address) (declared : Option Address) (numbers : ℕ) (secrets : Life) (before : List (Stamped Step)) (at : ℕ) (later : List (Stamped Step))
+        → list_any (λ s. ends_home_update s.step) later ≡ false → (own agent : Address) (sequence : ℕ)
+        → (known home declared numbers secrets (before ++ record { at = at; step = Sends (DeregistersHome own agent sequence) } ∷ later)).latest
+        ≡ Some (record { agent = agent; sequence = sequence; at = record { 0 = at }; deletes = true }) }
+    ensures restarts { (home : Address) (declared : Option Address) (numbers : ℕ) (secrets : Life) (before : List (Stamped Step)) (at : ℕ) (later : List (Stamped Step))
+        → list_any (λ s. ends_home_update s.step) later ≡ false → (next : Life)
+        → (known home declared numbers secrets (before ++ record { at = at; step = Restarts next } ∷ later)).latest ≡ None }
+    ensures none { (home : Address) (declared : Option Address) (numbers : ℕ) (secrets : Life) (past : List (Stamped Step))
+        → list_any (λ s. is_home_update s.step) past ≡ false → (known home declared numbers secrets past).latest ≡ None }
+{}
+
+/// A timer is set for the end of the registration, and for the end of each binding, from its acknowledgement on (`born`, `kept`), and a
+/// tick leaves no registration and no binding behind its end (`ends`).
+pub fn what_is_over_ends()
+    ensures born { (home : Address) (declared : Option Address) (numbers : ℕ) (secrets : Life) → AreTimed (known home declared numbers secrets []) }
+    ensures kept { (k : Known) (now : ℕ) (c : Call) → AreTimed k → AreTimed (transition_of k now c).known }
+    ensures ends { (k : Known) (now : ℕ) → AreInOrder k.list.timers → AreTimed k → LieAhead now (transition_of k now Tick).known }
 {}
 
 /// A mobile that left uses no address, is not registered and bound to no peer, and has no timer and no discovery.

@@ -41,7 +41,7 @@ module _ (s : Setup) (u : ℕ) where
 
   -- in a run no moment was told that is behind its last one
   pub early_run : (events : List Event) → now_in s (run_of s events) ≤ u → asked (late_says u) false (run_of s events).past ≡ false
-  early_run events le = let p = run_passes s events in none_late [] (run_of s events).past p.run.kept.each le
+  early_run events le = let p = run_passes s events in none_late [] (run_of s events).past p.run.kept le
 
   pub started_run : (events : List Event) → now_in s (run_of s events) ≤ u → s.start ≤ u
-  started_run events le = let p = run_passes s events in let r = rises_from s s.start [] (run_of s events).past p.run.kept.each (omega arith) in let first = r.1 in omega (arith, first, le)
+  started_run events le = let p = run_passes s events in let r = rises_from s s.start [] (run_of s events).past p.run.kept (omega arith) in let first = r.1 in omega (arith, first, le)

@@ -3,16 +3,16 @@
 ghost use Rattle.std.specs.Prelude.{◌≡◌, ℕ, List, [], map, string_bytes, IfSome, IfOk, OnErr, IsErr};
 ghost use Rattle.std.specs.Io.KnownBytes.{prepend_known};
 ghost use Rattle.mip_commands.specs.Commands.{command_of};
+ghost use Rattle.mip_commands.specs.Given.{words_behind, LacksMemory};
 ghost use Rattle.mip_outside.specs.Waiting.{held_by};
 ghost use Rattle.mip_replies.specs.Told.{IsConclusive, Says, HasWrittenFront};
 ghost use Rattle.mip_top.specs.Answers.{answer_of};
 ghost use Rattle.mip_top.specs.Endings.{Ends, objects};
-ghost use Rattle.mip_top.specs.Given.{words_behind, LacksMemory};
 ghost use Rattle.mip_top.specs.Obeyed.{ObeysFlushed};
 ghost use Rattle.mip_top.specs.Serving.{outside};
 
 use crate::ending::mip_flushed;
-use crate::given::words;
+use mip_commands::words;
 use mip_outside::{Buffered, Clock, Link, Sink, Source};
 use mip_replies::Status;
 use mip_words::Memory;

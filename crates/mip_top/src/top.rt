@@ -12,6 +12,7 @@ ghost use Rattle.mip_replies.specs.Bindings.{EachIsBound, EachRepeatIsLate};
 ghost use Rattle.mip_replies.specs.Homes.{HomesAreSent};
 ghost use Rattle.mip_replies.specs.Marked.{EachIsMarked};
 ghost use Rattle.mip_replies.specs.Reached.{EachReaches};
+ghost use Rattle.mip_replies.specs.Refused.{RefusalsLeaveTables};
 ghost use Rattle.mip_top.specs.Endings.{Ends, objects};
 ghost use Rattle.mip_top.specs.Obeyed.{IsObeyed, Obeys};
 ghost use Rattle.mip_top.specs.Serving.{outside};
@@ -23,7 +24,7 @@ use mip_outside::{Clock, Link, Sink, Source};
 use mip_replies::{
     InputForm, Product, Status, ToldRun, answer_input, each_acceptance_is_marked,
     each_audit_is_right, each_delivery_arrives, each_home_is_sent, each_is_bound,
-    each_repeat_is_late, tell, tell_made,
+    each_repeat_is_late, refused_packets_leave_the_tables, tell, tell_made,
 };
 use std::alloc::Global;
 
@@ -55,6 +56,8 @@ pub fn mip<S: Source, K: Sink, C: Clock, L: Link>(
     // In it the mobile with that home had sent the update of each registered care-of address under its shield; it changes only
     // by such an update, or by the end of its time.
     ensures homes { IfSome (S.left source.old) (λ bytes. IfOk (reading bytes) (λ c. HomesAreSent (setup_of c) (permitted c))) }
+    // A packet that a node drops, or whose update it denies, leaves the tables of that node as they were, in every run.
+    ensures refused { IfSome (S.left source.old) (λ bytes. IfOk (reading bytes) (λ c. RefusalsLeaveTables (setup_of c))) }
     // In it each accepted update is followed by its mark. Where that is an origin, both tokens had reached whoever made
     // the update before its first packet was posted.
     ensures marked { IfSome (S.left source.old) (λ bytes. IfOk (reading bytes) (λ c. EachIsMarked (setup_of c) (permitted c))) }
@@ -77,6 +80,7 @@ pub fn mip<S: Source, K: Sink, C: Clock, L: Link>(
     each_is_bound();
     each_repeat_is_late();
     each_home_is_sent();
+    refused_packets_leave_the_tables();
     each_acceptance_is_marked();
     each_delivery_arrives();
     each_audit_is_right();

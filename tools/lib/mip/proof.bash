@@ -1,6 +1,6 @@
 # shellcheck shell=bash
 # Part of ./mip: which program is proved from the sources that stand here, and how one is proved and built.
-# It reads `top`, `program`, `kept`, `stamp`, `log` and `installed` of ./mip.
+# It reads `top`, `program`, `past`, `kept`, `stamp`, `log` and `installed` of ./mip.
 # shellcheck disable=SC2154
 
 need_rt() {
@@ -109,4 +109,6 @@ keep_of_gate() {
     [ "$(sources)" = "$1" ] || fail 'a source has changed since the gate began'
     mkdir -p "$kept"
     keep "$1"
+    # the second program of the gate, which tools/past runs
+    if [ -x "$past" ]; then echo "$1 $(sha256sum <"$past")" >"$kept/past.proved"; fi
 }

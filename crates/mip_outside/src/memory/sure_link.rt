@@ -1,11 +1,15 @@
-ghost use Rattle.std.specs.Prelude.{◌≡◌, [], ◌∷◌, ◌++◌, None, Some, IfOk, OnOk, OnErr, slice_get};
+ghost use Rattle.std.specs.Prelude.{◌≡◌, [], ◌∷◌, ◌++◌, None, Some, IfOk, IfErr, OnOk, OnErr, slice_get};
 ghost use Rattle.std.specs.Option.{option_map};
 ghost use Rattle.mip_outside.specs.Datagrams.{Traffic};
+ghost use Rattle.mip_outside.specs.LinkCalls.{called};
 
 use super::copying::copy_front;
+use crate::asked::Asked;
 use crate::failed::Failed;
 use crate::link::Link;
+use crate::link_call::LinkCall;
 use crate::put_fault::PutFault;
+use mip_ghost_log::GhostLog;
 use mip_words::{Bytes, Memory};
 use std::alloc::Global;
 use std::collections::VecDeque;
@@ -18,23 +22,25 @@ pub struct SureLink {
     sent: Vec<(u16, Bytes)>,
     coming: VecDeque<Option<Bytes>>,
     port: Option<u16>,
+    calls: GhostLog<LinkCall>,
 }
 
 impl Model for SureLink {
     ghost Value = { Traffic };
 
-    ghost view = { λ s. record { sent = s.sent.items; coming = s.coming.items; port = s.port } };
+    ghost view = { λ s. record { sent = s.sent.items; coming = s.coming.items; port = s.port; calls = s.calls.items } };
 }
 
 impl SureLink {
     pub fn new(alloc: Global) -> Result<SureLink, Memory>
-        ensures { IfOk result (λ link. link ≡ record { sent = []; coming = []; port = None }) }
+        ensures { IfOk result (λ link. link ≡ record { sent = []; coming = []; port = None; calls = [] }) }
     {
         Ok(SureLink {
             alloc,
             sent: Vec::new(alloc),
             coming: VecDeque::new(alloc),
             port: None,
+            calls: GhostLog::new(),
         })
     }
 
@@ -49,6 +55,26 @@ impl SureLink {
         };
         self.coming.push_back(item)?;
         Ok(())
+    }
+
+    /// Tells a call and its answer, which a form around this one gave.
+    pub fn tell(&mut self, asked: Asked, fault: Option<PutFault>)
+        ensures { self.new ≡ record self.old { calls = self.old.calls ++ called asked fault ∷ [] } }
+    {
+        self.calls = self.calls.with(&LinkCall { asked, fault });
+    }
+
+    /// Keeps a datagram that is sent, behind those before.
+    fn keep(&mut self, to: u16, datagram: &[u8]) -> Result<(), PutFault>
+        ensures ok { OnOk result (self.new ≡ record self.old { sent = self.old.sent ++ (to, datagram.now) ∷ [] }) }
+        ensures err { OnErr result (self.new ≡ self.old) }
+        ensures memory { IfErr result (λ fault. fault ≡ PutFault.Memory) }
+    {
+        let datagram = Bytes::copy(self.alloc, datagram)?;
+        match self.sent.push((to, datagram)) {
+            Ok(()) => Ok(()),
+            Err(_) => Err(PutFault::Memory),
+        }
     }
 
     /// The datagram sent at a place, counted from 0, and the port that it was sent to.
@@ -67,22 +93,24 @@ impl Link for SureLink {
 
     ghost port = { λ link. Some link.port };
 
+    ghost calls = { λ link. link.calls };
+
     ghost faults = { λ _. 0 };
 
     fn listen_on(&mut self, to: u16) -> Result<(), Failed> {
+        self.tell(Asked::Listen, None);
         self.port = Some(to);
         Ok(())
     }
 
     fn send(&mut self, to: u16, datagram: &[u8]) -> Result<(), PutFault> {
-        let datagram = Bytes::copy(self.alloc, datagram)?;
-        match self.sent.push((to, datagram)) {
-            Ok(()) => Ok(()),
-            Err(_) => Err(PutFault::Memory),
-        }
+        let answer = self.keep(to, datagram);
+        self.tell(Asked::Send, answer.err());
+        answer
     }
 
     fn receive(&mut self, into: &mut [u8], _wait_ms: u64) -> Result<Option<usize>, Failed> {
+        self.tell(Asked::Receive, None);
         match self.coming.pop_front() {
             Some(Some(datagram)) => Ok(Some(copy_front(into, datagram.as_slice()))),
             Some(None) | None => Ok(None),

@@ -14,10 +14,10 @@ const HOME_TEST: &[u8] =
 const HOME_TEST_CLAIM: &[u8] = b"claimed c n2 20010db8000200000000000000000002\n";
 
 /// An audit of the trace of nobody, to whom nothing happens: a yes.
-const NOTHING_AUDITED: &[u8] =
+pub const NOTHING_AUDITED: &[u8] =
     b"mip 1\nseed 000102030405060708090a0b0c0d0e0f101112131415161718191a1b1c1d1e1f\nstart 0\nrun\ntrace\n";
 
-fn owned(alloc: Global, words: &[&str]) -> Result<Vec<String>, Memory> {
+pub fn owned(alloc: Global, words: &[&str]) -> Result<Vec<String>, Memory> {
     let mut owned = Vec::new(alloc);
     for word in words {
         owned.push(String::from_str(alloc, word)?)?;

@@ -6,6 +6,7 @@ pub invariant_of-result : goal.invariant_of-result
 invariant_of-result c =
     let kept = reading_keeps c.args.text.now (parts_content c.in-Ok.parts) c.in-Ok.ensures in
     record {
+      read = ∣ (c.args.text.now, c.in-Ok.ensures) ∣₁;
       routable = kept.routable;
       homes = kept.homes;
       sendable = kept.sendable;

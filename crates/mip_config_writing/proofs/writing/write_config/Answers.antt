@@ -1,7 +1,9 @@
 use Rattle.std.proofs.Common.{ap, ◌∙◌}
+use Rattle.std.proofs.Math.Logic.{∥∥₁_elim}
 use Rattle.mip_config.specs.Configs.{content}
 use Rattle.mip_config.specs.Reading.{reading}
-use Rattle.mip_config_writing.proofs.TextReadings.{spelling_read}
+use Rattle.mip_config_writing.proofs.ReadSet.{read_set}
+use Rattle.mip_config_writing.proofs.TextLaws.{spelling_again}
 use Rattle.mip_config_writing.proofs.WritingLaws.{parts_text}
 use Rattle.mip_config_writing.proofs.writing.write_config.Goals as goal
 
@@ -11,4 +13,4 @@ returns-clause-spelled c =
     (parts_text (content c.args.config.now))
 
 pub returns-clause-back : goal.returns-clause-back
-returns-clause-back c = λ is. ap reading (returns-clause-spelled c) ∙ spelling_read (content c.args.config.now) is
+returns-clause-back c = ap reading (returns-clause-spelled c) ∙ ∥∥₁_elim c.args.config.now.read (read_set _ _) (λ read. spelling_again read.0 (content c.args.config.now) read.1)

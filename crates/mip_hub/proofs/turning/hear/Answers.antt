@@ -1,5 +1,7 @@
 use Rattle.std.proofs.Common.{refl}
 use Rattle.std.specs.Prelude.{Some, None}
+use Rattle.mip_outside.proofs.Calling.{receive_granted}
+use Rattle.mip_hub.proofs.CallLaws.{ends_on}
 use Rattle.mip_hub.proofs.TurnLaws.{next_of, next_seen, some_seen, none_seen, received, deaf, heard}
 use Rattle.mip_hub.proofs.turning.hear.Goals as goal
 
@@ -16,3 +18,6 @@ returns-in-Ok-None-clause-seen g c = (None, none_seen _ c.receive.new.into (rw c
 
 pub returns-in-Err-clause-seen : goal.returns-in-Err-clause-seen
 returns-in-Err-clause-seen g c = (next_of _, next_seen _, deaf _ _ _ c.in-Err.ensures.sent, tt)
+
+pub returns-in-Ok-Some-clause-calls : goal.returns-in-Ok-Some-clause-calls
+returns-in-Ok-Some-clause-calls g c = ends_on _ _ _ (receive_granted _ _ c.in-Ok-Some.ensures.calls) c.pass.ensures.calls

@@ -1,5 +1,7 @@
+use Rattle.std.proofs.Common.{refl}
 use Rattle.mip_node.specs.Nodes.{serving}
 use Rattle.mip_node.specs.Settings.{said}
+use Rattle.mip_node.proofs.Calling.{ends_on}
 use Rattle.mip_node.proofs.Growing.{err_any, err_on, not_yet, before_grew, worked_between, paying_between}
 use Rattle.mip_node.proofs.asking.act_first.Goals as goal
 
@@ -19,3 +21,6 @@ returns-clause-cut g c =
     (paying_between (said c.args.setting.now) c.args.turn c.args.now.0 c.args.node.now c.begin.new.self (g.L.Link.sent c.args.link.now)
     (serving c.work.new.node (g.L.Link.sent c.work.new.link)) (g.L.Link.sent c.pay.new.link) c.in_ok-begin.ensures.ok c.in_ok-work.ensures.ok)
     c.pay.ensures.cut
+
+pub returns-clause-calls : goal.returns-clause-calls
+returns-clause-calls g c = ends_on _ _ _ (c.in_ok-work.ensures.calls.whole refl) c.pay.ensures.calls

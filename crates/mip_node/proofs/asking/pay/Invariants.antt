@@ -1,4 +1,5 @@
 use Rattle.std.proofs.Common.{◌≡◌, ◌≤◌, take, fold}
+use Rattle.mip_outside.specs.LinkCalls.{Granted}
 use Rattle.mip_node.specs.Roles.{IsBy}
 use Rattle.mip_node.specs.Nodes.{serving}
 use Rattle.mip_node.specs.Settings.{said}
@@ -12,5 +13,6 @@ invariant-loop-payload g l = record {
   timely : IsBy l.node.role l.now.0;
   coming : g.L.Link.coming l.link ≡ g.L.Link.coming l.fn.link;
   port : g.L.Link.port l.link ≡ g.L.Link.port l.fn.link;
+  calls : Granted (g.L.Link.calls l.fn.link) (g.L.Link.calls l.link);
   faults : g.L.Link.faults l.fn.link ≤ g.L.Link.faults l.link;
 }

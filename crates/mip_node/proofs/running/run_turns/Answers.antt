@@ -1,8 +1,10 @@
-use Rattle.std.proofs.Common.{sym, subst, refl, ◌∙◌, arith}
+use Rattle.std.proofs.Common.{sym, subst, refl, ◌∙◌, arith, rules}
+use Rattle.mip_outside.proofs.Calling.{granted_none, granted_on}
 use Rattle.mip_node.specs.Nodes.{Running}
 use Rattle.mip_node.specs.Runs.{Start, Stand, HasRun, start}
 use Rattle.mip_node.specs.RunsLaws.{stand}
 use Rattle.mip_node.specs.Settings.{said}
+use Rattle.mip_node.proofs.Calling.{turns_on}
 use Rattle.mip_node.proofs.RunLaws.{begins, one_more}
 use Rattle.mip_node.proofs.running.run_turns.Goals as goal
 
@@ -17,6 +19,7 @@ loop-done-init g c =
       ran = subst (λ (n : Running). HasRun first 0 (stand ahead coming n sent held)) (sym c.requires.first) (begins first);
       timely = c.requires.later;
       port = refl;
+      calls = granted_none _ _ refl;
       link_faults = omega arith;
       sink_faults = omega arith;
     }
@@ -32,6 +35,10 @@ loop-done-preserved g c =
       ran = one_more first c.loop-done.done old new inv.ran c.in_ok-turn_told.ensures.ok;
       timely = c.turn_told.ensures.kept.0;
       port = c.turn_told.ensures.kept.1 ∙ inv.port;
+      calls = granted_on _ _ _ inv.calls (c.in_ok-turn_told.ensures.calls.whole refl);
       link_faults = omega (arith, inv.link_faults, grew.0);
       sink_faults = omega (arith, inv.sink_faults, grew.1);
     }
+
+pub returns-in_err-turn_told-clause-calls : goal.returns-in_err-turn_told-clause-calls
+returns-in_err-turn_told-clause-calls g c = turns_on _ _ _ c.loop-done.invariant.calls (search rules)

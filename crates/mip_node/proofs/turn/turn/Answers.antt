@@ -1,5 +1,8 @@
+use Rattle.std.proofs.Common.{refl, rules}
+use Rattle.mip_outside.proofs.Calling.{granted_on}
 use Rattle.mip_node.specs.Nodes.{serving}
 use Rattle.mip_node.specs.Settings.{said}
+use Rattle.mip_node.proofs.Calling.{ends_on}
 use Rattle.mip_node.proofs.Growing.{err_any, err_on}
 use Rattle.mip_node.proofs.TurnLaws.{turn_done, early_broke, receive_broke, answer_broke}
 use Rattle.mip_node.proofs.turn.turn.Goals as goal
@@ -39,3 +42,10 @@ returns-clause-broke g c =
     (serving c.args.node.now (sent c.args.link.now)) c.act_first.new.node (sent c.act_first.new.link) (sent c.next_datagram.new.link) (sent c.receive.new.link)
     c.now.ensures.told c.act_first.ensures.kept.0 c.in_ok-datagram.ensures.came c.in_ok-datagram.ensures.ok c.receive.ensures.kept.0 c.in_ok-act_first.ensures.ok c.next_datagram.ensures.kept.0)
     c.receive.ensures.cut
+
+pub returns-in_err-datagram-clause-calls : goal.returns-in_err-datagram-clause-calls
+returns-in_err-datagram-clause-calls g c = ends_on _ _ _ (c.in_ok-act_first.ensures.calls.whole refl) (search rules)
+
+pub returns-clause-calls : goal.returns-clause-calls
+returns-clause-calls g c =
+    ends_on _ _ _ (granted_on _ _ _ (c.in_ok-act_first.ensures.calls.whole refl) (c.in_ok-datagram.ensures.calls.whole refl)) c.receive.ensures.calls

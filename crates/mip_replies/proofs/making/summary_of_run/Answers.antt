@@ -1,7 +1,9 @@
-use Rattle.std.proofs.Common.{◌++◌, List, refl, sym, ap, ◌∙◌}
+use Rattle.std.proofs.Common.{◌≡◌, ◌++◌, List, IfOk, refl, sym, ap, subst, ◌∙◌}
 use Rattle.mip_entries.specs.declared.entry.Entry.{Entry}
 use Rattle.mip_schedule.specs.Schedules.{content}
-use Rattle.mip_replies.proofs.TraceTold.{told_more, less_left}
+use Rattle.mip_make.specs.Summaries.{summary_text}
+use Rattle.mip_replay.specs.Permitted.{permitted}
+use Rattle.mip_replies.proofs.TraceTold.{told_more, told_last, less_left}
 use Rattle.mip_replies.proofs.making.summary_of_run.Goals as goal
 
 pub loop-run-smaller : goal.loop-run-smaller
@@ -16,3 +18,11 @@ loop-run-preserved c = record {
   counted = c.take.ensures ∙ ap (λ (l : List Entry). l ++ c.in-Some.piece) c.loop-run.invariant.counted
       ∙ sym (told_more c.next.new.self.told c.loop-run.run.told c.in-Some.piece c.in-Some.piece c.in_ok-piece.field-0 c.in_ok-piece.ensures.piece c.in-Some.is refl);
 }
+
+pub returns : goal.returns
+returns c =
+    let s = content c.args.schedule.now in
+    let all : c.loop-run.tally ≡ permitted s =
+    c.loop-run.invariant.counted
+    ∙ told_last c.next.new.self.told c.loop-run.run.told (permitted s) c.in_ok-piece.field-0 c.in_ok-piece.ensures.piece c.in_default.is c.in_ok-piece.ensures.end in
+    subst (λ (l : List Entry). IfOk c.text.result (λ text. text ≡ summary_text c.args.schedule.now.events l)) all c.text.ensures

@@ -1,5 +1,5 @@
 use Rattle.std.proofs.Common.{rules, ◌≡◌}
-use Rattle.mip_top.specs.Given.{words_behind}
+use Rattle.mip_commands.specs.Given.{words_behind}
 use Rattle.mip_top.proofs.process.attempt.Goals as goal
 
 pub returns-clause-obeyed : goal.returns-clause-obeyed

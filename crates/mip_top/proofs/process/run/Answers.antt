@@ -8,7 +8,7 @@ use Rattle.mip_outside.proofs.Known.{prepend_none}
 use Rattle.mip_replies.specs.Answers.{Answer}
 use Rattle.mip_replies.specs.Told.{HasWrittenFront, Says}
 use Rattle.mip_top.specs.Answers.{answer_of}
-use Rattle.mip_top.specs.Given.{words_behind}
+use Rattle.mip_commands.specs.Given.{words_behind}
 use Rattle.mip_top.specs.Endings.{objects}
 use Rattle.mip_top.specs.Obeyed.{ObeysFlushed}
 use Rattle.mip_top.specs.Serving.{Outside, outside}

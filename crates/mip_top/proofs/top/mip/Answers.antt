@@ -1,6 +1,7 @@
 use Rattle.std.proofs.Common.{arith, inr, sym, refl, [], map, string_bytes}
 use Rattle.mip_outside.proofs.Known.{prepend_none}
 use Rattle.mip_commands.specs.Commands.{command_of}
+use Rattle.mip_replies.specs.Setup.{setup_of}
 use Rattle.mip_top.specs.Serving.{Outside, outside}
 use Rattle.mip_top.proofs.AuditedLaws.{audited}
 use Rattle.mip_top.proofs.Bound.{if_told}
@@ -40,6 +41,9 @@ returns-in-Ok-clause-repeats g c = if_told _ c.each_repeat_is_late.ensures (g.S.
 pub returns-in-Ok-clause-homes : goal.returns-in-Ok-clause-homes
 returns-in-Ok-clause-homes g c = if_told _ (λ text x read. c.each_home_is_sent.ensures x) (g.S.Source.left c.args.source.now)
 
+pub returns-in-Ok-clause-refused : goal.returns-in-Ok-clause-refused
+returns-in-Ok-clause-refused g c = if_told _ (λ text x read. c.refused_packets_leave_the_tables.ensures (setup_of x)) (g.S.Source.left c.args.source.now)
+
 pub returns-in-Ok-clause-marked : goal.returns-in-Ok-clause-marked
 returns-in-Ok-clause-marked g c = if_told _ c.each_acceptance_is_marked.ensures (g.S.Source.left c.args.source.now)
 
@@ -54,6 +58,9 @@ returns-in-Err-clause-repeats g c = if_told _ c.each_repeat_is_late.ensures (g.S
 
 pub returns-in-Err-clause-homes : goal.returns-in-Err-clause-homes
 returns-in-Err-clause-homes g c = if_told _ (λ text x read. c.each_home_is_sent.ensures x) (g.S.Source.left c.args.source.now)
+
+pub returns-in-Err-clause-refused : goal.returns-in-Err-clause-refused
+returns-in-Err-clause-refused g c = if_told _ (λ text x read. c.refused_packets_leave_the_tables.ensures (setup_of x)) (g.S.Source.left c.args.source.now)
 
 pub returns-in-Err-clause-marked : goal.returns-in-Err-clause-marked
 returns-in-Err-clause-marked g c = if_told _ c.each_acceptance_is_marked.ensures (g.S.Source.left c.args.source.now)

@@ -1,5 +1,5 @@
 use Rattle.std.proofs.Common.{rules, List, ap, sym, subst, ◌∙◌}
-use Rattle.std.specs.Prelude.{true, ◌≡◌}
+use Rattle.std.specs.Prelude.{true, ◌≡◌, ◌⊎◌}
 use Rattle.std.specs.List.{list_any}
 use Rattle.mip_entries.specs.declared.answer.Answer.{Answer}
 use Rattle.mip_ipv6.specs.Reading.{packet_of}
@@ -12,6 +12,9 @@ use Rattle.mip_rules_agent.specs.Doing.{handing}
 use Rattle.mip_rules_agent.specs.Seen.{AgentSeen, transition_at}
 use Rattle.mip_rules_agent.proofs.Calls.{call-stands}
 use Rattle.mip_rules_agent.proofs.Moments.{call-last}
+use Rattle.mip_rules_agent.specs.Questions.{careof_at}
+use Rattle.mip_rules_agent.specs.TakenLaws.{IsRegisteredBy}
+use Rattle.mip_rules_agent.proofs.HomeLaws.{careof-changes}
 use Rattle.mip_rules_agent.proofs.Refusals.{refused-call}
 use Rattle.mip_rules_agent.specs.Refusing.{KeepsTables}
 use Rattle.mip_rules_agent.specs.Claims.{claims_by}
@@ -71,3 +74,9 @@ returns-clause-refused g c = λ told.
       subst (λ (s' : AgentSeen). KeepsTables s.known s'.known) (sym (ended g c).after) keeps.0,
       c.in_ok-change.ensures.place.claims ∙ claims_told (g.P.Place.claims c.args.place.now) _ _ (ended g c).claimed ∙ claims_told (g.P.Place.claims c.args.place.now) (claims_by (transition_at s c.args.now.0 (call g c)).steps) unclaimed (λ claims. sym (keeps.1 claims)) ∙ sym (unchanged (g.P.Place.claims c.args.place.now)),
     )
+
+pub returns-clause-registered : goal.returns-clause-registered
+returns-clause-registered g c = λ home later.
+    let s = c.args.self.now in
+    let changes = careof-changes s.identity s.known c.args.now.0 home (call g c) later in
+    subst (λ (a : AgentSeen). (careof_at a.known later home ≡ careof_at s.known later home) ⊎ IsRegisteredBy s.identity s.known c.args.now.0 (call g c) home) (sym (ended g c).after) changes

@@ -1,16 +1,18 @@
-use Rattle.std.proofs.Common.{rules, List, ap, sym, subst, ◌∙◌}
+use Rattle.std.proofs.Common.{rules, ◌≡◌, List, ap, sym, subst, ◌∙◌}
 use Rattle.mip_rules_agent.specs.Known.{Known}
 use Rattle.mip_rules_agent.specs.Calls as calls
 use Rattle.mip_rules_agent.specs.Calls.{Call}
 use Rattle.mip_rules_agent.specs.Transitions.{Stands, with_transition}
 use Rattle.mip_rules_agent.specs.Seen.{AgentSeen, transition_at}
 use Rattle.mip_rules_agent.proofs.Calls.{call-stands}
+use Rattle.mip_rules_agent.specs.Questions.{careof_at}
 use Rattle.mip_rules_agent.proofs.Moments.{call-last}
 use Rattle.std.specs.Option.{option_map}
 use Rattle.mip_entries.specs.declared.answer.Answer.{Answer}
 use Rattle.mip_rules_agent.specs.declared.ending.Ending.{Ending}
 use Rattle.mip_homeagent.specs.Showing.{Shows}
 use Rattle.mip_homeagent.specs.Endings.{answers_released, claims_released, given_up}
+use Rattle.mip_homeagent.proofs.Registers.{tick-careof}
 use Rattle.mip_homeagent.proofs.Befores.{claims_told}
 use Rattle.mip_homeagent.proofs.CallTransitions.{Ends, ends_shown, tick_shown}
 use Rattle.mip_homeagent.proofs.agent.HomeAgent.tick.Given.{Over}
@@ -50,3 +52,8 @@ pub returns-clause-last : goal.returns-clause-last
 returns-clause-last g c =
     let s = c.args.self.now in
     ap (λ (s : AgentSeen). s.known.last) (ended g c).after ∙ call-last s.identity s.known c.args.now.0 (calls.Tick)
+
+pub returns-clause-registered : goal.returns-clause-registered
+returns-clause-registered g c = λ home later.
+    let s = c.args.self.now in
+    subst (λ (a : AgentSeen). careof_at a.known later home ≡ careof_at s.known later home) (sym (ended g c).after) (tick-careof s.identity s.known c.args.now.0 home later)

@@ -1,0 +1,100 @@
+-- What the calls of a correspondent that C holds tell, and what they make of it.
+use Rattle.std.specs.Prelude.{◌≡◌, ◌⊎◌, ℕ, suc, ◌*◌, ◌^◌, List, [], length, slice_get, Bool, true, false, not, ◌&&◌, ◌||◌, nat_lt, if◌then◌else◌, Option, Some, None}
+use Rattle.mip_words.specs.Addresses.{address_bytes}
+use Rattle.mip_words.specs.declared.address.Address.{Address}
+use Rattle.mip_ipv6.specs.Packet.{names_no_body}
+use Rattle.mip_nonce.specs.Secrets.{Life}
+use Rattle.mip_bcache.specs.Seen.{rows_at}
+use Rattle.mip_bcache.specs.declared.row.Row.{Row}
+use Rattle.mip_entries.specs.declared.answer.Answer.{Answer}
+use Rattle.mip_rules_correspondent.specs.Calls.{Call}
+use Rattle.mip_rules_correspondent.specs.Calls.Call.{Tick}
+use Rattle.mip_rules_correspondent.specs.Questions.{fresh, held_of}
+use Rattle.mip_rules_correspondent.specs.Rules.{is_data}
+use Rattle.mip_rules_correspondent.specs.Seen.{transition_at, called}
+use Rattle.mip_rules_correspondent.specs.Steps.{answers_of}
+use Rattle.mip_c.specs.declared.answer_fields.AnswerFields.{AnswerFields}
+use Rattle.mip_c.specs.declared.row_fields.RowFields.{RowFields}
+use Rattle.mip_c.specs.declared.station.Station.{Station}
+use Rattle.mip_c.specs.Answered.{fields_of, bytes_of}
+use Rattle.mip_c.specs.Giving.{Keeps, Tells}
+use Rattle.mip_c.specs.Rows.{fields_of as row_fields_of}
+
+-- a moment before that of the last call, or too far off
+abbrev pub is_late : ℕ → ℕ → Bool
+is_late last now = nat_lt now last || not (nat_lt now (2 ^ 62))
+
+-- data that can be sent: of a protocol that carries data, with a body, and short
+abbrev pub is_sendable : ℕ → List ℕ → Bool
+is_sendable proto payload = is_data proto && not (names_no_body proto) && not (nat_lt 512 (length payload))
+
+-- a call was answered: the node is what the call makes of it, and its answers are those of the call
+abbrev pub IsAnswered : Station → Station → ℕ → Call → Type 0
+IsAnswered s t now call =
+    (t.node ≡ called s.node now call) × (t.answers ≡ answers_of (transition_at s.node now call).steps) × (t.given ≡ 0)
+    × (t.last.0 ≡ now)
+
+-- 12 where the moment is late, 14 where what is asked for can't be, 5 where memory has run out, each with nothing changed;
+-- else the call was answered
+abbrev pub AnswersIf : Bool → Bool → Station → Station → ℕ → Call → ℕ → Type 0
+AnswersIf true fit s t now call status = (status ≡ 12) × (t ≡ s)
+AnswersIf false false s t now call status = (status ≡ 14) × (t ≡ s)
+AnswersIf false true s t now call status = ((status ≡ 5) × (t ≡ s)) ⊎ ((status ≡ 0) × IsAnswered s t now call)
+
+abbrev pub Answers : Bool → Station → Station → ℕ → Call → ℕ → Type 0
+Answers fit s t now call status = AnswersIf (is_late s.last.0 now) fit s t now call status
+
+-- time goes on, where its moment is not late: no answer is left
+abbrev pub TicksIf : Bool → Station → Station → ℕ → ℕ → Type 0
+TicksIf true s t now status = (status ≡ 12) × (t ≡ s)
+TicksIf false s t now status =
+    ((status ≡ 5) × (t ≡ s))
+    ⊎ ((status ≡ 0) × (t.node ≡ called s.node now Tick) × (t.answers ≡ []) × (t.given ≡ 0) × (t.last.0 ≡ now))
+
+abbrev pub Ticks : Station → Station → ℕ → ℕ → Type 0
+Ticks s t now status = TicksIf (is_late s.last.0 now) s t now status
+
+-- the same station, but for how many answers were fetched
+abbrev pub HasGiven : Station → Station → ℕ → Type 0
+HasGiven s t given = (t.node ≡ s.node) × (t.last ≡ s.last) × (t.answers ≡ s.answers) × (t.given ≡ given)
+
+-- how many answers were fetched after one that had room, or had not
+abbrev pub given_after : List ℕ → List ℕ → ℕ → ℕ
+given_after text room given = if nat_lt (length room) (length text) then given else suc given
+
+-- the next answer is told, or that none is left
+abbrev pub TellsNext : Option Answer → Station → Station → ℕ → AnswerFields → AnswerFields → List ℕ → List ℕ → ℕ → ℕ → Type 0
+TellsNext None s t status fields_old fields_new old new size_old size_new =
+    (status ≡ 15) × (t ≡ s) × (fields_new ≡ fields_old) × Keeps old new size_old size_new
+TellsNext (Some a) s t status fields_old fields_new old new size_old size_new =
+    (fields_new ≡ fields_of a) × Tells 0 (bytes_of a) status old new size_new
+    × HasGiven s t (given_after (bytes_of a) old s.given)
+
+-- the care-of address that is held for a home is told
+abbrev pub TellsHeld : Bool → Option Address → ℕ → List ℕ → List ℕ → Type 0
+TellsHeld true held status old new = (status ≡ 12) × (new ≡ old)
+TellsHeld false None status old new = (status ≡ 15) × (new ≡ old)
+TellsHeld false (Some a) status old new = (status ≡ 0) × (new ≡ address_bytes a)
+
+abbrev pub TellsRoute : Station → ℕ → Address → ℕ → List ℕ → List ℕ → Type 0
+TellsRoute s now peer status old new = TellsHeld (is_late s.last.0 now) (held_of s.node.known now peer) status old new
+
+-- the row at a place is told
+abbrev pub TellsRowIf : Bool → Option Row → ℕ → RowFields → RowFields → Type 0
+TellsRowIf true row status old new = (status ≡ 12) × (new ≡ old)
+TellsRowIf false None status old new = (status ≡ 15) × (new ≡ old)
+TellsRowIf false (Some r) status old new = (status ≡ 0) × (new ≡ row_fields_of r)
+
+abbrev pub TellsRow : Station → ℕ → ℕ → ℕ → RowFields → RowFields → Type 0
+TellsRow s now place status old new =
+    TellsRowIf (is_late s.last.0 now) (slice_get (rows_at s.node.known.cache now) place) status old new
+
+-- a station that begins: a node with this address, these secrets and this room, which was asked for nothing yet
+abbrev pub IsFresh : Address → Life → ℕ → ℕ → Station → Type 0
+IsFresh own secrets room numbers s =
+    (s.node ≡ record { identity = record { own = own; secrets = secrets; room = room }; known = fresh room numbers })
+    × (s.last.0 ≡ 0) × (s.answers ≡ []) × (s.given ≡ 0)
+
+-- numbers of bindings and of homes that a node can have
+abbrev pub has_room : ℕ → ℕ → Bool
+has_room room numbers = not (nat_lt numbers 1) && not (nat_lt 8 numbers) && nat_lt (room * numbers) (2 ^ 32)

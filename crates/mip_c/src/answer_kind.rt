@@ -1,0 +1,23 @@
+//! What an answer of a node is.
+
+/// An answer that no call for C gives.
+pub const OTHER: u8 = 0;
+
+/// The node sends a packet: the bytes are its.
+pub const SEND: u8 = 1;
+
+/// The node accepted the update in a packet: `number`, `home`, `binding`, `careof`, `sequence`, `end`, `home_index`,
+/// `careof_index`.
+pub const ACCEPTED: u8 = 2;
+
+/// The node denied the update in a packet: `number`, `status`.
+pub const DENIED: u8 = 3;
+
+/// The node dropped a packet: `number`, `why`.
+pub const DROPPED: u8 = 4;
+
+/// The node hands data up: `number`, `source`, `destination`, `proto`; the bytes are the payload.
+pub const UP: u8 = 5;
+
+/// What was asked for can't be, and the call changed nothing.
+pub const IDLE: u8 = 6;

@@ -1,5 +1,0 @@
-use Rattle.mip_past.proofs.Refused.{leaves_tables}
-use Rattle.mip_past.proofs.laws.refused_packets_leave_the_tables.Goals as goal
-
-pub returns : goal.returns
-returns c = leaves_tables

@@ -1,0 +1,7 @@
+use Rattle.std.proofs.Common.{◌≡◌, ◌++◌, ℕ}
+use Rattle.mip_past_text.specs.Fronts.{front_of}
+use Rattle.mip_past_text.specs.Text.{nodes_known}
+use Rattle.mip_past_text.proofs.text.put_nodes.Given as goal
+
+abbrev pub invariant-loop-number : goal.invariant-loop-number
+invariant-loop-number l = l.out ≡ l.fn.out ++ nodes_known l.declarations (front_of l.past) l.number
