@@ -3,44 +3,107 @@ use Rattle.std.proofs.Common.{◌≡◌, ℕ, ◌-◌, zero, suc, ◌+◌, ◌<�
 use Rattle.std.specs.Prelude.{◌⊎◌, Option, Some, None, Result, Ok, Err, option_map, slice_get, OnOk, OnErr, replicate}
 use Rattle.std.specs.List.{flat_map}
 use Rattle.std.proofs.Math.Seq.{take-append-add}
-use Rattle.std.proofs.lemmas.List.{take-append-le, replicate-append-replicate}
+use Rattle.std.proofs.lemmas.List.{map-append, take-append-le, replicate-append-replicate}
 use Rattle.std.proofs.lemmas.Grind.{flat_map-append}
-use Rattle.mip_outside.specs.LinkCalls.{Granted, Refused, EndsAtFault}
+use Rattle.mip_outside.specs.LinkCalls.{called, fault_of, failure_of, granted}
+use Rattle.mip_outside.specs.declared.asked.Asked.{Asked}
+use Rattle.mip_outside.specs.declared.asked.Asked.TheVariants.{Listen, Send, Receive}
 use Rattle.mip_outside.specs.declared.link_call.LinkCall.{LinkCall}
 use Rattle.mip_outside.specs.declared.put_fault.PutFault.{PutFault}
 use Rattle.mip_outside.specs.declared.put_fault.PutFault.TheVariants.{Failed, Memory}
-use Rattle.mip_outside.proofs.Calling.{granted_on, refused_on}
-use Rattle.mip_hub.specs.Calls.{Call, Sends, sent_by, sent_on, is_link, IsCutAt, Stops, Goes}
+use Rattle.mip_hub.specs.Calls.{Call, Listens, Sends, Receives, sent_by, sent_on, asked_by, LinkState, link_state, made_on, asked_on, is_link, IsCutAt, IsEndedBy, Stops, Goes}
 
 abbrev Known : Type 0
 Known = Option (List (ℕ × List ℕ))
 
-pub nothing_sent : (known : Known) → known ≡ sent_on [] known
+nothing_sent : (known : Known) → known ≡ sent_on [] known
 unfolding sent_on
 nothing_sent None = refl
 nothing_sent (Some items) = ap (λ (l : List (ℕ × List ℕ)). Some l) (sym (append-nil items))
 
-pub same_sent : (after before : Known) → after ≡ before → after ≡ sent_on [] before
-same_sent after before e = e ∙ nothing_sent before
-
-pub sent_more : (xs ys : List Call) (known : Known) → sent_on ys (sent_on xs known) ≡ sent_on (xs ++ ys) known
+sent_more : (xs ys : List Call) (known : Known) → sent_on ys (sent_on xs known) ≡ sent_on (xs ++ ys) known
 unfolding sent_on
 sent_more xs ys None = refl
 sent_more xs ys (Some items) =
     ap (λ (l : List (ℕ × List ℕ)). Some l) (append_assoc items (flat_map sent_by xs) (flat_map sent_by ys) ∙ ap (λ (l : List (ℕ × List ℕ)). items ++ l) (sym (flat_map-append sent_by xs ys)))
 
+granted_more : (xs ys : List Asked) → granted xs ++ granted ys ≡ granted (xs ++ ys)
+unfolding granted
+granted_more xs ys = sym (map-append (λ a. called a None) xs ys)
+
+no_calls : (calls : List LinkCall) → calls ≡ calls ++ granted []
+unfolding granted
+no_calls calls = sym (append-nil calls)
+
+calls_more : (xs ys : List Call) (calls : List LinkCall) → (calls ++ granted (flat_map asked_by xs)) ++ granted (flat_map asked_by ys) ≡ calls ++ granted (flat_map asked_by (xs ++ ys))
+calls_more xs ys calls =
+    append_assoc calls (granted (flat_map asked_by xs)) (granted (flat_map asked_by ys))
+    ∙ ap (λ (l : List LinkCall). calls ++ l) (granted_more (flat_map asked_by xs) (flat_map asked_by ys) ∙ ap granted (sym (flat_map-append asked_by xs ys)))
+
+pub both : {s t : Known} {c d : List LinkCall} → s ≡ t → c ≡ d → link_state s c ≡ link_state t d
+both e f = cc
+
+pub nothing_made : (link : LinkState) → link ≡ made_on [] link
+nothing_made link = both (nothing_sent link.sent) (no_calls link.calls)
+
+pub nothing_asked : (link : LinkState) → link ≡ asked_on [] link
+nothing_asked link = both refl (sym (append-nil link.calls))
+
+pub same_link : (after before : LinkState) → after ≡ before → after ≡ made_on [] before
+same_link after before e = e ∙ nothing_made before
+
+pub made_twice : (xs ys : List Call) (link : LinkState) → made_on ys (made_on xs link) ≡ made_on (xs ++ ys) link
+made_twice xs ys link = both (sent_more xs ys link.sent) (calls_more xs ys link.calls)
+
+-- a call that sends nothing was refused before any other was made
+pub refused_first : (known sent : Known) (calls calls1 last : List LinkCall) → sent ≡ known → calls1 ≡ calls ++ last
+    → link_state sent calls1 ≡ asked_on last (made_on [] (link_state known calls))
+refused_first known sent calls calls1 last same is =
+    both (same ∙ nothing_sent known) (is ∙ ap (λ (l : List LinkCall). l ++ last) (no_calls calls))
+
 -- no call was made, and memory ran out
-pub stays : (calls : List Call) (before after : Known) → after ≡ before → Stops Memory calls before after
-stays calls before after e = (0, omega arith, e ∙ nothing_sent before)
+pub stays : (calls : List Call) (before after : LinkState) → after ≡ before → Stops Memory calls before after
+stays calls before after e = record {
+  count = 0;
+  cut = omega arith;
+  last = [];
+  ended = inl refl;
+  left = e ∙ nothing_made before ∙ nothing_asked (made_on [] before);
+}
 
 -- one datagram was sent, or the call failed
-pub sends : {U : Type 0} (port : ℕ) (datagram : List ℕ) (r : Result U PutFault) (before after : Known)
-    → OnOk r (after ≡ option_map (λ items. items ++ (port, datagram) ∷ []) before) → OnErr r (after ≡ before)
-    → Goes (Sends port datagram ∷ []) r before after
-unfolding sent_on
-sends port datagram (Ok u) before after ok err = ok
-sends port datagram (Err Failed) before after ok err = (0, refl, err ∙ nothing_sent before)
-sends port datagram (Err Memory) before after ok err = (0, omega arith, err ∙ nothing_sent before)
+pub sends : {U : Type 0} (port : ℕ) (datagram : List ℕ) (r : Result U PutFault) (sent sent1 : Known) (calls calls1 : List LinkCall)
+    → OnOk r (sent1 ≡ option_map (λ items. items ++ (port, datagram) ∷ []) sent) → OnErr r (sent1 ≡ sent) → calls1 ≡ calls ++ called Send (fault_of r) ∷ []
+    → Goes (Sends port datagram ∷ []) r (link_state sent calls) (link_state sent1 calls1)
+unfolding sent_on granted
+sends port datagram (Ok u) sent sent1 calls calls1 ok err is = both ok is
+sends port datagram (Err Failed) sent sent1 calls calls1 ok err is =
+    record { count = 0; cut = refl; last = called Send (Some Failed) ∷ []; ended = refl; left = refused_first sent sent1 calls calls1 _ err is }
+sends port datagram (Err Memory) sent sent1 calls calls1 ok err is =
+    record { count = 0; cut = omega arith; last = called Send (Some Memory) ∷ []; ended = inr refl; left = refused_first sent sent1 calls calls1 _ err is }
+
+-- a port was listened on
+pub listened : (port : ℕ) (sent sent1 : Known) (calls calls1 : List LinkCall) → sent1 ≡ sent → calls1 ≡ calls ++ called Listen None ∷ []
+    → link_state sent1 calls1 ≡ made_on (Listens port ∷ []) (link_state sent calls)
+unfolding sent_on granted
+listened port sent sent1 calls calls1 same is = both (same ∙ nothing_sent sent) is
+
+-- it was waited for a datagram
+pub received : {U E : Type 0} (r : Result U E) (sent sent1 : Known) (calls calls1 : List LinkCall) → sent1 ≡ sent → calls1 ≡ calls ++ called Receive (failure_of r) ∷ []
+    → failure_of r ≡ None → link_state sent1 calls1 ≡ made_on (Receives ∷ []) (link_state sent calls)
+unfolding sent_on granted
+received r sent sent1 calls calls1 same is well = both (same ∙ nothing_sent sent) (is ∙ ap (λ (f : Option PutFault). calls ++ called Receive f ∷ []) well)
+
+-- the link was to be waited on, and failed
+pub deaf : {U E : Type 0} (calls : List Call) (r : Result U E) (sent sent1 : Known) (calls0 calls1 : List LinkCall) → sent1 ≡ sent → calls1 ≡ calls0 ++ called Receive (failure_of r) ∷ []
+    → failure_of r ≡ Some Failed → Stops Failed (Receives ∷ calls) (link_state sent calls0) (link_state sent1 calls1)
+deaf calls r sent sent1 calls0 calls1 same is failed = record {
+  count = 0;
+  cut = refl;
+  last = called Receive (Some Failed) ∷ [];
+  ended = refl;
+  left = refused_first sent sent1 calls0 calls1 _ same (is ∙ ap (λ (f : Option PutFault). calls0 ++ called Receive f ∷ []) failed);
+}
 
 pub get_behind : {X : Type 0} (xs ys : List X) (k n : ℕ) → n ≡ length xs + k → slice_get (xs ++ ys) n ≡ slice_get ys k
 get_behind [] ys k n e = let same : n ≡ k = omega (arith, e) in ap (slice_get ys) same
@@ -69,32 +132,54 @@ pub cut_off : (fault : PutFault) (xs ys : List Call) (count : ℕ) → IsCutAt f
 cut_off Failed xs ys count cut = ap is_link (get_front xs ys count (link_within xs count cut)) ∙ cut
 cut_off Memory xs ys count cut = omega (arith, length-append xs ys, cut)
 
+ended_on : (fault : PutFault) (xs ys : List Call) (count : ℕ) (last : List LinkCall) → IsEndedBy fault (slice_get ys count) last
+    → IsEndedBy fault (slice_get (xs ++ ys) (length xs + count)) last
+ended_on fault xs ys count last ended = subst (λ (c : Option Call). IsEndedBy fault c last) (sym (get_behind xs ys count (length xs + count) refl)) ended
+
+-- memory ran out in front of a call, or in it
+pub lost_off : (xs ys : List Call) (count : ℕ) (last : List LinkCall) → IsEndedBy Memory (slice_get xs count) last → IsEndedBy Memory (slice_get (xs ++ ys) count) last
+lost_off [] ys count last (inl none) = inl none
+lost_off [] ys count last (inr none) = inl none
+lost_off (x ∷ xs) ys zero last ended = ended
+lost_off (x ∷ xs) ys (suc n) last ended = lost_off xs ys n last ended
+
+pub ended_off : (fault : PutFault) (xs ys : List Call) (count : ℕ) (last : List LinkCall) → IsCutAt fault xs count → IsEndedBy fault (slice_get xs count) last
+    → IsEndedBy fault (slice_get (xs ++ ys) count) last
+ended_off Failed xs ys count last cut ended = subst (λ (c : Option Call). IsEndedBy Failed c last) (sym (get_front xs ys count (link_within xs count cut))) ended
+ended_off Memory xs ys count last cut ended = lost_off xs ys count last ended
+
 -- more calls behind those that were made
-pub goes_on : {U : Type 0} (xs ys : List Call) (r : Result U PutFault) (before mid after : Known) → mid ≡ sent_on xs before → Goes ys r mid after → Goes (xs ++ ys) r before after
-goes_on xs ys (Ok u) before mid after is goes = goes ∙ ap (sent_on ys) is ∙ sent_more xs ys before
-goes_on xs ys (Err fault) before mid after is goes = (
-  length xs + goes.0,
-  cut_on fault xs ys goes.0 goes.1,
-  goes.2 ∙ ap (sent_on (take goes.0 ys)) is ∙ sent_more xs (take goes.0 ys) before ∙ ap (λ (c : List Call). sent_on c before) (sym (take-append-add xs ys goes.0)),
-)
+pub goes_on : {U : Type 0} (xs ys : List Call) (r : Result U PutFault) (before mid after : LinkState) → mid ≡ made_on xs before → Goes ys r mid after → Goes (xs ++ ys) r before after
+goes_on xs ys (Ok u) before mid after is goes = goes ∙ ap (made_on ys) is ∙ made_twice xs ys before
+goes_on xs ys (Err fault) before mid after is goes = record {
+  count = length xs + goes.count;
+  cut = cut_on fault xs ys goes.count goes.cut;
+  last = goes.last;
+  ended = ended_on fault xs ys goes.count goes.last goes.ended;
+  left = goes.left
+      ∙ ap (asked_on goes.last)
+      (ap (made_on (take goes.count ys)) is ∙ made_twice xs (take goes.count ys) before ∙ ap (λ (c : List Call). made_on c before) (sym (take-append-add xs ys goes.count)));
+}
 
 -- calls behind one that failed are not made
-pub goes_off : (xs ys : List Call) (fault : PutFault) (before after : Known) → Stops fault xs before after → Stops fault (xs ++ ys) before after
-goes_off xs ys fault before after goes = (
-  goes.0,
-  cut_off fault xs ys goes.0 goes.1,
-  goes.2 ∙ ap (λ (c : List Call). sent_on c before) (sym (take-append-le goes.0 xs ys (cut_within fault xs goes.0 goes.1))),
-)
+pub goes_off : (xs ys : List Call) (fault : PutFault) (before after : LinkState) → Stops fault xs before after → Stops fault (xs ++ ys) before after
+goes_off xs ys fault before after goes = record {
+  count = goes.count;
+  cut = cut_off fault xs ys goes.count goes.cut;
+  last = goes.last;
+  ended = ended_off fault xs ys goes.count goes.last goes.cut goes.ended;
+  left = goes.left ∙ ap (λ (c : List Call). asked_on goes.last (made_on c before)) (sym (take-append-le goes.count xs ys (cut_within fault xs goes.count goes.cut)));
+}
 
 -- one call more, that failed: none of those behind it is made
-pub stops_in : (xs one rest whole : List Call) (fault : PutFault) (before mid after : Known) → whole ≡ xs ++ (one ++ rest) → mid ≡ sent_on xs before → Stops fault one mid after → Stops fault whole before after
+pub stops_in : (xs one rest whole : List Call) (fault : PutFault) (before mid after : LinkState) → whole ≡ xs ++ (one ++ rest) → mid ≡ made_on xs before → Stops fault one mid after → Stops fault whole before after
 stops_in xs one rest whole fault before mid after is made goes =
     subst (λ (c : List Call). Stops fault c before after) (sym is)
     (goes_on {U = Unit {0}} xs (one ++ rest) (Err fault) before mid after made (goes_off one rest fault mid after goes))
 
 -- one call more
-pub made_more : (xs one : List Call) (before mid after : Known) → mid ≡ sent_on xs before → after ≡ sent_on one mid → after ≡ sent_on (xs ++ one) before
-made_more xs one before mid after made next = next ∙ ap (sent_on one) made ∙ sent_more xs one before
+pub made_more : (xs one : List Call) (before mid after : LinkState) → mid ≡ made_on xs before → after ≡ made_on one mid → after ≡ made_on (xs ++ one) before
+made_more xs one before mid after made next = next ∙ ap (made_on one) made ∙ made_twice xs one before
 
 -- copies
 pub one_copy : (n : ℕ) (call : Call) → replicate n call ++ call ∷ [] ≡ replicate (n + 1) call
@@ -114,17 +199,3 @@ texts_more f n x first before after is next =
     ∙ ap (λ (l : List ℕ). first ++ l)
     (ap (λ (l : List ℕ). flat_map f (replicate n x) ++ l) (sym (append-nil (f x))) ∙ sym (flat_map-append f (replicate n x) (x ∷ [])) ∙ ap (flat_map f) (replicate-append-replicate n 1 x))
 
--- ---- faults of calls
-
--- memory ran out behind calls that were granted
-pub lost_on : (a b d : List LinkCall) → Granted a b → Granted b d ⊎ Refused Memory b d → Granted a d ⊎ Refused Memory a d
-lost_on a b d first (inl granted) = inl (granted_on a b d first granted)
-lost_on a b d first (inr refused) = inr (refused_on Memory a b d first refused)
-
--- calls that were granted, then others
-pub ends_on : {ok failed memory : Type 0} (a b d : List LinkCall) → Granted a b → EndsAtFault ok failed memory b d → EndsAtFault ok failed memory a d
-ends_on a b d first next = record {
-  whole = λ e. granted_on a b d first (next.whole e);
-  cut = λ e. refused_on Failed a b d first (next.cut e);
-  lost = λ e. lost_on a b d first (next.lost e);
-}

@@ -12,8 +12,11 @@ use Rattle.std.proofs.lemmas.List.Sums.{fold-append}
 use Rattle.mip_frames.specs.declared.served.Served.{Served}
 use Rattle.mip_frames.specs.declared.served.Served.TheVariants.{Done, LinkFault, WriteFault, Memory}
 use Rattle.mip_outside.proofs.Known.{append_more, append_none}
+use Rattle.mip_outside.specs.LinkCalls.{called, failure_of}
+use Rattle.mip_outside.specs.declared.asked.Asked.TheVariants.{Listen}
+use Rattle.mip_outside.specs.declared.link_call.LinkCall.{LinkCall}
 use Rattle.mip_outside.specs.declared.put_fault.PutFault.TheVariants as put_faults
-use Rattle.mip_hub.specs.Calls.{Call, Sends, Receives, Gives, given_by, sent_on, held_on, text_at, Stops}
+use Rattle.mip_hub.specs.Calls.{Call, Listens, Sends, Receives, Gives, given_by, LinkState, link_state, made_on, asked_on, held_on, text_at, IsEndedBy, Stops}
 use Rattle.mip_hub.specs.Reading.{Content}
 use Rattle.mip_hub.specs.Served.{next_in, IsSeen, came, Saw, Outside, outside, IsFaultAt, after_part, IsCut, after_all, Ran}
 use Rattle.mip_hub.specs.Passing.{Passed, Dropped, Gone, Lost, To, passed, passed_calls}
@@ -21,7 +24,7 @@ use Rattle.mip_hub.specs.Turns.{Seen, Run, fresh, begun, turn_of, line_calls, ca
 use Rattle.mip_hub.specs.declared.hub.Hub.{Hub}
 use Rattle.mip_hub.specs.declared.hub_line.HubLine.{HubLine}
 use Rattle.mip_hub.specs.declared.hub_line.HubLine.TheVariants.{Claim, Release, Advertise, Copies}
-use Rattle.mip_hub.proofs.CallLaws.{nothing_sent, sent_more, get_behind, cut_off, cut_within}
+use Rattle.mip_hub.proofs.CallLaws.{nothing_made, nothing_asked, made_twice, refused_first, listened, get_behind, cut_off, cut_within, ended_off, lost_off}
 
 nothing_held : (known : Option (List ℕ)) → known ≡ held_on [] known
 unfolding held_on
@@ -33,17 +36,18 @@ held_more xs ys known =
     append_more known (append_known known (flat_map given_by xs)) _ (flat_map given_by xs) (flat_map given_by ys) refl refl
     ∙ ap (append_known known) (sym (flat_map-append given_by xs ys))
 
-both : {s t : Option (List (ℕ × List ℕ))} {h k : Option (List ℕ)} → s ≡ t → h ≡ k → outside s h ≡ outside t k
+both : {s t : LinkState} {h k : Option (List ℕ)} → s ≡ t → h ≡ k → outside s h ≡ outside t k
 both e f = cc
 
 all_more : (xs ys : List Call) (o : Outside) → after_all ys (after_all xs o) ≡ after_all (xs ++ ys) o
-all_more xs ys o = both (sent_more xs ys o.sent) (held_more xs ys o.held)
+all_more xs ys o = both (made_twice xs ys o.link) (held_more xs ys o.held)
 
-part_more : (xs ys : List Call) (count part : ℕ) (o : Outside) → after_part ys count part (after_all xs o) ≡ after_part (xs ++ ys) (length xs + count) part o
-part_more xs ys count part o =
+part_more : (xs ys : List Call) (count part : ℕ) (last : List LinkCall) (o : Outside)
+    → after_part ys count part last (after_all xs o) ≡ after_part (xs ++ ys) (length xs + count) part last o
+part_more xs ys count part last o =
     let front : xs ++ take count ys ≡ take (length xs + count) (xs ++ ys) = sym (take-append-add xs ys count) in
     let call : slice_get ys count ≡ slice_get (xs ++ ys) (length xs + count) = sym (get_behind xs ys count (length xs + count) refl) in
-    both (sent_more xs (take count ys) o.sent ∙ ap (λ (c : List Call). sent_on c o.sent) front)
+    both (ap (asked_on last) (made_twice xs (take count ys) o.link ∙ ap (λ (c : List Call). made_on c o.link) front))
     (ap (λ (h : Option (List ℕ)). append_known h (take part (text_at (slice_get ys count)))) (held_more xs (take count ys) o.held ∙ ap (λ (c : List Call). held_on c o.held) front)
     ∙ ap (λ (c : Option Call). append_known (held_on (take (length xs + count) (xs ++ ys)) o.held) (take part (text_at c))) call)
 
@@ -52,8 +56,9 @@ cut_more : (end : Served) (xs ys : List Call) (before mid after : Outside) → m
 cut_more end xs ys before mid after made cut = record {
   count = length xs + cut.count;
   part = cut.part;
-  fault = subst (λ (c : Option Call). IsFaultAt end c cut.part) (sym (get_behind xs ys cut.count (length xs + cut.count) refl)) cut.fault;
-  left = cut.left ∙ ap (after_part ys cut.count cut.part) made ∙ part_more xs ys cut.count cut.part before;
+  last = cut.last;
+  fault = subst (λ (c : Option Call). IsFaultAt end c cut.part cut.last) (sym (get_behind xs ys cut.count (length xs + cut.count) refl)) cut.fault;
+  left = cut.left ∙ ap (after_part ys cut.count cut.part cut.last) made ∙ part_more xs ys cut.count cut.part cut.last before;
 }
 
 -- calls that give no text
@@ -120,59 +125,62 @@ quiet_held : (calls : List Call) (held : Option (List ℕ)) → IsQuiet calls �
 unfolding held_on
 quiet_held calls held e = append_none held held refl ∙ ap (append_known held) (sym e)
 
-given_sent : (text : List ℕ) (known : Option (List (ℕ × List ℕ))) → known ≡ sent_on (Gives text ∷ []) known
-unfolding sent_on
-given_sent text known = nothing_sent known
+-- a text asks nothing of the link
+given_made : (text : List ℕ) (link : LinkState) → link ≡ made_on (Gives text ∷ []) link
+given_made text link = nothing_made link
 
 given_held : (text : List ℕ) (known : Option (List ℕ)) → append_known known text ≡ held_on (Gives text ∷ []) known
 unfolding held_on
 given_held text known = ap (append_known known) (sym (append-nil text))
 
 -- all calls of the link were made, and the text was given
-pub told_all : (calls : List Call) (text : List ℕ) (sent sent1 : Option (List (ℕ × List ℕ))) (held held1 : Option (List ℕ)) → flat_map given_by calls ≡ []
-    → sent1 ≡ sent_on calls sent → held1 ≡ append_known held text → outside sent1 held1 ≡ after_all (calls ++ Gives text ∷ []) (outside sent held)
-told_all calls text sent sent1 held held1 quiet made told =
-    both (made ∙ given_sent text (sent_on calls sent)) (told ∙ ap (λ (h : Option (List ℕ)). append_known h text) (quiet_held calls held quiet) ∙ given_held text (held_on calls held))
-    ∙ all_more calls (Gives text ∷ []) (outside sent held)
+pub told_all : (calls : List Call) (text : List ℕ) (link link1 : LinkState) (held held1 : Option (List ℕ)) → flat_map given_by calls ≡ []
+    → link1 ≡ made_on calls link → held1 ≡ append_known held text → outside link1 held1 ≡ after_all (calls ++ Gives text ∷ []) (outside link held)
+told_all calls text link link1 held held1 quiet made told =
+    both (made ∙ given_made text (made_on calls link)) (told ∙ ap (λ (h : Option (List ℕ)). append_known h text) (quiet_held calls held quiet) ∙ given_held text (held_on calls held))
+    ∙ all_more calls (Gives text ∷ []) (outside link held)
 
 -- all calls of the link were made, and some of the text was taken
-pub told_part : (end : Served) (calls : List Call) (text : List ℕ) (part : ℕ) (sent sent1 : Option (List (ℕ × List ℕ))) (held held1 : Option (List ℕ)) → flat_map given_by calls ≡ []
-    → sent1 ≡ sent_on calls sent → IsFaultAt end (Some (Gives text)) part → held1 ≡ append_known held (take part text)
-    → IsCut end (calls ++ Gives text ∷ []) (outside sent held) (outside sent1 held1)
-told_part end calls text part sent sent1 held held1 quiet made fault told =
-    cut_more end calls (Gives text ∷ []) (outside sent held) (outside sent1 held) (outside sent1 held1) (both made (quiet_held calls held quiet))
+pub told_part : (end : Served) (calls : List Call) (text : List ℕ) (part : ℕ) (link link1 : LinkState) (held held1 : Option (List ℕ)) → flat_map given_by calls ≡ []
+    → link1 ≡ made_on calls link → IsFaultAt end (Some (Gives text)) part [] → held1 ≡ append_known held (take part text)
+    → IsCut end (calls ++ Gives text ∷ []) (outside link held) (outside link1 held1)
+told_part end calls text part link link1 held held1 quiet made fault told =
+    cut_more end calls (Gives text ∷ []) (outside link held) (outside link1 held) (outside link1 held1) (both made (quiet_held calls held quiet))
     (record {
       count = 0;
       part = part;
+      last = [];
       fault = fault;
-      left = both (nothing_sent sent1) (told ∙ ap (λ (h : Option (List ℕ)). append_known h (take part text)) (nothing_held held));
+      left = both (nothing_made link1 ∙ nothing_asked (made_on [] link1)) (told ∙ ap (λ (h : Option (List ℕ)). append_known h (take part text)) (nothing_held held));
     })
 
 -- a call of the link was not made
-left_off : (calls : List Call) (text : List ℕ) (count : ℕ) (sent sent1 : Option (List (ℕ × List ℕ))) (held held1 : Option (List ℕ)) → flat_map given_by calls ≡ []
-    → count ≤ length calls → sent1 ≡ sent_on (take count calls) sent → held1 ≡ held
-    → outside sent1 held1 ≡ after_part (calls ++ Gives text ∷ []) count 0 (outside sent held)
-left_off calls text count sent sent1 held held1 quiet within made same =
+left_off : (calls : List Call) (text : List ℕ) (count : ℕ) (last : List LinkCall) (link link1 : LinkState) (held held1 : Option (List ℕ)) → flat_map given_by calls ≡ []
+    → count ≤ length calls → link1 ≡ asked_on last (made_on (take count calls) link) → held1 ≡ held
+    → outside link1 held1 ≡ after_part (calls ++ Gives text ∷ []) count 0 last (outside link held)
+left_off calls text count last link link1 held held1 quiet within made same =
     let front : take count calls ≡ take count (calls ++ Gives text ∷ []) = sym (take-append-le count calls (Gives text ∷ []) within) in
-    both (made ∙ ap (λ (c : List Call). sent_on c sent) front)
+    both (made ∙ ap (λ (c : List Call). asked_on last (made_on c link)) front)
     (same ∙ quiet_held (take count calls) held (quiet_take count calls quiet) ∙ ap (λ (c : List Call). held_on c held) front ∙ append_none _ _ refl)
 
-pub link_cut : (calls : List Call) (text : List ℕ) (sent sent1 : Option (List (ℕ × List ℕ))) (held held1 : Option (List ℕ)) → flat_map given_by calls ≡ []
-    → Stops put_faults.Failed calls sent sent1 → held1 ≡ held → IsCut LinkFault (calls ++ Gives text ∷ []) (outside sent held) (outside sent1 held1)
-link_cut calls text sent sent1 held held1 quiet goes same = record {
-  count = goes.0;
+pub link_cut : (calls : List Call) (text : List ℕ) (link link1 : LinkState) (held held1 : Option (List ℕ)) → flat_map given_by calls ≡ []
+    → Stops put_faults.Failed calls link link1 → held1 ≡ held → IsCut LinkFault (calls ++ Gives text ∷ []) (outside link held) (outside link1 held1)
+link_cut calls text link link1 held held1 quiet goes same = record {
+  count = goes.count;
   part = 0;
-  fault = (cut_off put_faults.Failed calls (Gives text ∷ []) goes.0 goes.1, refl);
-  left = left_off calls text goes.0 sent sent1 held held1 quiet (cut_within put_faults.Failed calls goes.0 goes.1) goes.2 same;
+  last = goes.last;
+  fault = (cut_off put_faults.Failed calls (Gives text ∷ []) goes.count goes.cut, (refl, ended_off put_faults.Failed calls (Gives text ∷ []) goes.count goes.last goes.cut goes.ended));
+  left = left_off calls text goes.count goes.last link link1 held held1 quiet (cut_within put_faults.Failed calls goes.count goes.cut) goes.left same;
 }
 
-pub memory_cut : (calls : List Call) (text : List ℕ) (sent sent1 : Option (List (ℕ × List ℕ))) (held held1 : Option (List ℕ)) → flat_map given_by calls ≡ []
-    → Stops put_faults.Memory calls sent sent1 → held1 ≡ held → IsCut Memory (calls ++ Gives text ∷ []) (outside sent held) (outside sent1 held1)
-memory_cut calls text sent sent1 held held1 quiet goes same = record {
-  count = goes.0;
+pub memory_cut : (calls : List Call) (text : List ℕ) (link link1 : LinkState) (held held1 : Option (List ℕ)) → flat_map given_by calls ≡ []
+    → Stops put_faults.Memory calls link link1 → held1 ≡ held → IsCut Memory (calls ++ Gives text ∷ []) (outside link held) (outside link1 held1)
+memory_cut calls text link link1 held held1 quiet goes same = record {
+  count = goes.count;
   part = 0;
-  fault = tt;
-  left = left_off calls text goes.0 sent sent1 held held1 quiet goes.1 goes.2 same;
+  last = goes.last;
+  fault = lost_off calls (Gives text ∷ []) goes.count goes.last goes.ended;
+  left = left_off calls text goes.count goes.last link link1 held held1 quiet goes.cut goes.left same;
 }
 
 -- so many turns were done
@@ -217,17 +225,29 @@ unfolding came
 none_saw None = tt
 none_saw (Some items) = refl
 
+-- the port was listened on
+heard : {U E : Type 0} (port : ℕ) (r : Result U E) (sent sent1 : Option (List (ℕ × List ℕ))) (calls calls1 : List LinkCall) → sent1 ≡ sent → is_err r ≡ false
+    → calls1 ≡ calls ++ called Listen (failure_of r) ∷ [] → link_state sent1 calls1 ≡ made_on (Listens port ∷ []) (link_state sent calls)
+heard port (Ok u) sent sent1 calls calls1 same well listens = listened port sent sent1 calls calls1 same listens
+heard port (Err x) sent sent1 calls calls1 same well listens = absurd cc
+
+no_text : (port : ℕ) (held : Option (List ℕ)) → held ≡ held_on (Listens port ∷ []) held
+unfolding held_on
+no_text port held = nothing_held held
+
 -- no turn yet, the port is listened on
-pub begins : (content : Content) (hub : Hub) (coming left : Option (List (Option (List ℕ)))) (sent sent1 : Option (List (ℕ × List ℕ))) (held held1 : Option (List ℕ))
-    → hub ≡ fresh → left ≡ coming → sent1 ≡ sent → held1 ≡ held → Reached content 0 hub coming left (outside sent held) (outside sent1 held1)
-unfolding run_of sent_on held_on
-begins content hub coming left sent sent1 held held1 new same sends holds = record {
+pub begins : {U E : Type 0} (content : Content) (hub : Hub) (r : Result U E) (coming left : Option (List (Option (List ℕ)))) (sent sent1 : Option (List (ℕ × List ℕ)))
+    (calls calls1 : List LinkCall) (held held1 : Option (List ℕ))
+    → hub ≡ fresh → left ≡ coming → sent1 ≡ sent → is_err r ≡ false → calls1 ≡ calls ++ called Listen (failure_of r) ∷ [] → held1 ≡ held
+    → Reached content 0 hub coming left (outside (link_state sent calls) held) (outside (link_state sent1 calls1) held1)
+unfolding run_of
+begins content hub r coming left sent sent1 calls calls1 held held1 new same sends well listens holds = record {
   seen = [];
   many = refl;
   saw = none_saw coming;
   next = refl;
   same = new;
-  made = both (sends ∙ nothing_sent sent) (holds ∙ nothing_held held);
+  made = both (heard content.port r sent sent1 calls calls1 sends well listens) (holds ∙ no_text content.port held);
   gone = same ∙ all coming;
 }
   where
@@ -286,11 +306,25 @@ pub is_done : (content : Content) (turns : ℕ) (hub : Hub) (coming left : Optio
 is_done content turns hub coming left before after r = (r.seen, r.saw, (r.many, r.made))
 
 -- the port could not be listened on
-pub not_begun : (content : Content) (turns : ℕ) (coming : Option (List (Option (List ℕ)))) (sent sent1 : Option (List (ℕ × List ℕ))) (held held1 : Option (List ℕ))
-    → sent1 ≡ sent → held1 ≡ held → (seen : List Seen) × Saw coming seen × Ran content turns seen LinkFault (outside sent held) (outside sent1 held1)
+pub not_begun : {U E : Type 0} (content : Content) (turns : ℕ) (r : Result U E) (coming : Option (List (Option (List ℕ)))) (sent sent1 : Option (List (ℕ × List ℕ)))
+    (calls calls1 : List LinkCall) (held held1 : Option (List ℕ)) → sent1 ≡ sent → is_err r ≡ true → calls1 ≡ calls ++ called Listen (failure_of r) ∷ [] → held1 ≡ held
+    → (seen : List Seen) × Saw coming seen × Ran content turns seen LinkFault (outside (link_state sent calls) held) (outside (link_state sent1 calls1) held1)
 unfolding run_of
-not_begun content turns coming sent sent1 held held1 sends holds =
-    ([], none_saw coming, (omega arith, record { count = 0; part = 0; fault = (refl, refl); left = both (sends ∙ nothing_sent sent) (holds ∙ nothing_held held ∙ append_none _ _ refl) }))
+not_begun content turns (Ok u) coming sent sent1 calls calls1 held held1 sends bad listens holds = absurd cc
+not_begun content turns (Err x) coming sent sent1 calls calls1 held held1 sends bad listens holds = (
+  [],
+  none_saw coming,
+  (
+    omega arith,
+    record {
+      count = 0;
+      part = 0;
+      last = called Listen (Some put_faults.Failed) ∷ [];
+      fault = (refl, (refl, refl));
+      left = both (refused_first sent sent1 calls calls1 _ sends listens) (holds ∙ nothing_held held ∙ append_none _ _ refl);
+    },
+  ),
+)
 
 -- what holds where a call was granted
 pub granted : {U E P : Type 0} (r : Result U E) → is_err r ≡ false → OnOk r P → P

@@ -4,11 +4,10 @@ use Rattle.std.specs.Prelude.{Option, Some, None, IfSome, Result, min}
 use Rattle.std.proofs.lemmas.List.{take_min}
 use Rattle.mip_outside.specs.Datagrams.{IsReceived}
 use Rattle.mip_outside.specs.declared.put_fault.PutFault.{PutFault}
-use Rattle.mip_outside.specs.declared.put_fault.PutFault.TheVariants.{Failed}
-use Rattle.mip_hub.specs.Calls.{Call, Receives, sent_on, Stops, Goes}
+use Rattle.mip_hub.specs.Calls.{Call, Receives, LinkState, made_on, Goes}
 use Rattle.mip_hub.specs.Served.{next_in, IsSeen}
 use Rattle.mip_hub.specs.Turns.{Seen}
-use Rattle.mip_hub.proofs.CallLaws.{nothing_sent, goes_on}
+use Rattle.mip_hub.proofs.CallLaws.{goes_on}
 
 -- what would be received next
 abbrev pub next_of : Option (List (Option (List ℕ))) → Seen
@@ -44,14 +43,6 @@ none_seen (Some []) into came = refl
 none_seen (Some (None ∷ items)) into came = refl
 none_seen (Some (Some x ∷ items)) into came = absurd (let e = came.0 in cc)
 
-pub received : (after before : Option (List (ℕ × List ℕ))) → after ≡ before → after ≡ sent_on (Receives ∷ []) before
-unfolding sent_on
-received after before e = e ∙ nothing_sent before
-
--- the link was to be waited on, and failed
-pub deaf : (calls : List Call) (after before : Option (List (ℕ × List ℕ))) → after ≡ before → Stops Failed (Receives ∷ calls) before after
-deaf calls after before e = (0, refl, e ∙ nothing_sent before)
-
 -- what was received is passed on
-pub heard : {U : Type 0} (calls : List Call) (r : Result U PutFault) (before mid after : Option (List (ℕ × List ℕ))) → mid ≡ before → Goes calls r mid after → Goes (Receives ∷ calls) r before after
-heard calls r before mid after e goes = goes_on (Receives ∷ []) calls r before mid after (received mid before e) goes
+pub heard : {U : Type 0} (calls : List Call) (r : Result U PutFault) (before mid after : LinkState) → mid ≡ made_on (Receives ∷ []) before → Goes calls r mid after → Goes (Receives ∷ calls) r before after
+heard calls r before mid after e goes = goes_on (Receives ∷ []) calls r before mid after e goes

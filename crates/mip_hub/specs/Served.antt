@@ -3,7 +3,9 @@ use Rattle.std.specs.Prelude.{◌≡◌, ℕ, zero, suc, ◌<◌, ◌≤◌, Lis
 use Rattle.std.specs.Io.KnownBytes.{append_known}
 use Rattle.mip_frames.specs.declared.served.Served.{Served}
 use Rattle.mip_frames.specs.declared.served.Served.TheVariants.{Done, LinkFault, WriteFault, Memory}
-use Rattle.mip_hub.specs.Calls.{Call, sent_on, held_on, is_link, text_at}
+use Rattle.mip_outside.specs.declared.link_call.LinkCall.{LinkCall}
+use Rattle.mip_outside.specs.declared.put_fault.PutFault.TheVariants as put_faults
+use Rattle.mip_hub.specs.Calls.{Call, LinkState, made_on, asked_on, refused_by, IsEndedBy, held_on, is_link, text_at}
 use Rattle.mip_hub.specs.Reading.{Content}
 use Rattle.mip_hub.specs.Turns.{Seen, run_of}
 
@@ -23,36 +25,38 @@ came (suc n) items = next_in items ∷ came n (drop 1 items)
 abbrev pub Saw : Option (List (Option (List ℕ))) → List Seen → Type 0
 Saw coming seen = IfSome coming (λ items. seen ≡ came (length seen) items)
 
--- what a link that is told has sent, and what a sink that is told holds
+-- a hub's link, and what a sink that is told holds
 pub record Outside : Type 0 where
-  pub sent : Option (List (ℕ × List ℕ))
+  pub link : LinkState
   pub held : Option (List ℕ)
 
-abbrev pub outside : Option (List (ℕ × List ℕ)) → Option (List ℕ) → Outside
-outside sent held = record { sent = sent; held = held }
+abbrev pub outside : LinkState → Option (List ℕ) → Outside
+outside link held = record { link = link; held = held }
 
--- the call behind so many others failed, and so much of the text that it gave was taken
-abbrev pub IsFaultAt : Served → Option Call → (part : ℕ) → Type 0
-IsFaultAt Done call part = ⊥
-IsFaultAt LinkFault call part = (is_link call ≡ true) × (part ≡ 0)
-IsFaultAt WriteFault call part = part < length (text_at call)
-IsFaultAt Memory call part = Unit {0}
+-- the call behind so many others failed, so much of the text that it gave was taken, and these were the link's last calls: a fault of the link is that of
+-- the call that it refused last, where the sink failed it granted each, and where memory ran out each, or all but the one in which it did
+abbrev pub IsFaultAt : Served → Option Call → (part : ℕ) → (last : List LinkCall) → Type 0
+IsFaultAt Done call part last = ⊥
+IsFaultAt LinkFault call part last = (is_link call ≡ true) × ((part ≡ 0) × (last ≡ refused_by put_faults.Failed call))
+IsFaultAt WriteFault call part last = (part < length (text_at call)) × (last ≡ [])
+IsFaultAt Memory call part last = IsEndedBy put_faults.Memory call last
 
-abbrev pub after_part : List Call → (count part : ℕ) → Outside → Outside
-after_part calls count part o = record {
-  sent = sent_on (take count calls) o.sent;
+abbrev pub after_part : List Call → (count part : ℕ) → (last : List LinkCall) → Outside → Outside
+after_part calls count part last o = record {
+  link = asked_on last (made_on (take count calls) o.link);
   held = append_known (held_on (take count calls) o.held) (take part (text_at (slice_get calls count)));
 }
 
--- the calls were cut: all calls in front of one were made, and that one failed, or memory ran out
+-- the calls were cut: all calls in front of one were made, and that one failed, or memory ran out; none was made behind it
 pub record IsCut (end : Served) (calls : List Call) (before after : Outside) : Type 0 where
   pub count : ℕ
   pub part : ℕ
-  pub fault : IsFaultAt end (slice_get calls count) part
-  pub left : after ≡ after_part calls count part before
+  pub last : List LinkCall
+  pub fault : IsFaultAt end (slice_get calls count) part last
+  pub left : after ≡ after_part calls count part last before
 
 abbrev pub after_all : List Call → Outside → Outside
-after_all calls o = record { sent = sent_on calls o.sent; held = held_on calls o.held }
+after_all calls o = record { link = made_on calls o.link; held = held_on calls o.held }
 
 -- a whole run
 abbrev pub Ran : Content → (turns : ℕ) → (seen : List Seen) → Served → Outside → Outside → Type 0

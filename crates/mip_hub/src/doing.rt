@@ -1,11 +1,9 @@
 //! The lines of a turn.
 
 ghost use Rattle.std.specs.Prelude.{◌≡◌, ◌≤◌, ◌∷◌, IfOk, OnOk, IsErrOf};
-ghost use Rattle.std.specs.Result.{IsOk};
 ghost use Rattle.mip_outside.specs.Cause.{Rose};
-ghost use Rattle.mip_outside.specs.LinkCalls.{EndsAtFault};
 ghost use Rattle.mip_hub.specs.Adverts.{advert_packet};
-ghost use Rattle.mip_hub.specs.Calls.{Goes};
+ghost use Rattle.mip_hub.specs.Calls.{link_state, Goes};
 ghost use Rattle.mip_hub.specs.Turns.{turn_of, line_done, line_calls, step_in, calls_in, lines_done, lines_calls};
 ghost use Rattle.mip_hub.specs.declared.hub_line.HubLine.TheVariants as lines;
 
@@ -59,7 +57,7 @@ fn prepare(
 }
 
 /// Sends the advertisement of a router.
-#[tactic(auto, unfolding(crate::specs::Turns::line_calls), using(mip_outside::proofs::Calling::granted_none))]
+#[tactic(auto, unfolding(crate::specs::Turns::line_calls))]
 fn advertise<L: Link>(
     hub: &mut Hub,
     alloc: Global,
@@ -70,9 +68,8 @@ fn advertise<L: Link>(
     port: u16,
 ) -> Result<(), PutFault>
     ensures hub { OnOk result (hub.new ≡ line_done hub.old (lines.Advertise turn prefix agent port)) }
-    ensures goes { Goes (line_calls (lines.Advertise turn prefix agent port)) result (L.sent link.old) (L.sent link.new) }
+    ensures goes { Goes (line_calls (lines.Advertise turn prefix agent port)) result (link_state (L.sent link.old) (L.calls link.old)) (link_state (L.sent link.new) (L.calls link.new)) }
     ensures kept { (L.coming link.new ≡ L.coming link.old) × (L.port link.new ≡ L.port link.old) }
-    ensures calls { EndsAtFault (IsOk result) (IsErrOf result PutFault.Failed) (IsErrOf result PutFault.Memory) (L.calls link.old) (L.calls link.new) }
     ensures no_fewer { L.faults link.old ≤ L.faults link.new }
     ensures cause { IsErrOf result PutFault.Failed → Rose (L.faults link.old) (L.faults link.new) }
 {
@@ -83,7 +80,7 @@ fn advertise<L: Link>(
 }
 
 /// Does a line.
-#[tactic(auto, unfolding(crate::specs::Turns::line_calls, crate::specs::Turns::line_done), using(mip_outside::proofs::Calling::granted_none, crate::proofs::CallLaws::stays, crate::proofs::CallLaws::same_sent))]
+#[tactic(auto, unfolding(crate::specs::Turns::line_calls, crate::specs::Turns::line_done), using(crate::proofs::CallLaws::stays, crate::proofs::CallLaws::same_link))]
 fn do_line<L: Link>(
     hub: &mut Hub,
     alloc: Global,
@@ -91,9 +88,8 @@ fn do_line<L: Link>(
     line: &HubLine,
 ) -> Result<(), PutFault>
     ensures hub { OnOk result (hub.new ≡ line_done hub.old line.now) }
-    ensures goes { Goes (line_calls line.now) result (L.sent link.old) (L.sent link.new) }
+    ensures goes { Goes (line_calls line.now) result (link_state (L.sent link.old) (L.calls link.old)) (link_state (L.sent link.new) (L.calls link.new)) }
     ensures kept { (L.coming link.new ≡ L.coming link.old) × (L.port link.new ≡ L.port link.old) }
-    ensures calls { EndsAtFault (IsOk result) (IsErrOf result PutFault.Failed) (IsErrOf result PutFault.Memory) (L.calls link.old) (L.calls link.new) }
     ensures no_fewer { L.faults link.old ≤ L.faults link.new }
     ensures cause { IsErrOf result PutFault.Failed → Rose (L.faults link.old) (L.faults link.new) }
 {
@@ -131,7 +127,7 @@ fn turn_of(line: &HubLine) -> u32
 }
 
 /// Does a line, where it is one of this turn.
-#[tactic(auto, using(mip_outside::proofs::Calling::granted_none, crate::proofs::CallLaws::same_sent))]
+#[tactic(auto, using(crate::proofs::CallLaws::same_link))]
 fn do_in_turn<L: Link>(
     hub: &mut Hub,
     alloc: Global,
@@ -140,9 +136,8 @@ fn do_in_turn<L: Link>(
     turn: u32,
 ) -> Result<(), PutFault>
     ensures hub { OnOk result (hub.new ≡ step_in turn hub.old line.now) }
-    ensures goes { Goes (calls_in turn line.now) result (L.sent link.old) (L.sent link.new) }
+    ensures goes { Goes (calls_in turn line.now) result (link_state (L.sent link.old) (L.calls link.old)) (link_state (L.sent link.new) (L.calls link.new)) }
     ensures kept { (L.coming link.new ≡ L.coming link.old) × (L.port link.new ≡ L.port link.old) }
-    ensures calls { EndsAtFault (IsOk result) (IsErrOf result PutFault.Failed) (IsErrOf result PutFault.Memory) (L.calls link.old) (L.calls link.new) }
     ensures no_fewer { L.faults link.old ≤ L.faults link.new }
     ensures cause { IsErrOf result PutFault.Failed → Rose (L.faults link.old) (L.faults link.new) }
 {
@@ -163,9 +158,8 @@ pub fn do_lines<L: Link>(
     turn: u32,
 ) -> Result<(), PutFault>
     ensures hub { OnOk result (hub.new ≡ lines_done lines.now turn hub.old) }
-    ensures goes { Goes (lines_calls lines.now turn) result (L.sent link.old) (L.sent link.new) }
+    ensures goes { Goes (lines_calls lines.now turn) result (link_state (L.sent link.old) (L.calls link.old)) (link_state (L.sent link.new) (L.calls link.new)) }
     ensures kept { (L.coming link.new ≡ L.coming link.old) × (L.port link.new ≡ L.port link.old) }
-    ensures calls { EndsAtFault (IsOk result) (IsErrOf result PutFault.Failed) (IsErrOf result PutFault.Memory) (L.calls link.old) (L.calls link.new) }
     ensures no_fewer { L.faults link.old ≤ L.faults link.new }
     ensures cause { IsErrOf result PutFault.Failed → Rose (L.faults link.old) (L.faults link.new) }
 {

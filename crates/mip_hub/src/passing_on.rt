@@ -2,10 +2,8 @@
 
 ghost use Rattle.std.specs.Prelude.{◌≡◌, ◌≤◌, ◌++◌, IfOk, OnOk, IsErrOf, replicate};
 ghost use Rattle.std.specs.List.{flat_map};
-ghost use Rattle.std.specs.Result.{IsOk};
 ghost use Rattle.mip_outside.specs.Cause.{Rose};
-ghost use Rattle.mip_outside.specs.LinkCalls.{EndsAtFault};
-ghost use Rattle.mip_hub.specs.Calls.{Goes};
+ghost use Rattle.mip_hub.specs.Calls.{link_state, Goes};
 ghost use Rattle.mip_hub.specs.Judged.{judged};
 ghost use Rattle.mip_hub.specs.Ports.{port_at};
 ghost use Rattle.mip_hub.specs.Passing.{to_port, passed, passed_calls, passed_text, to_text};
@@ -87,11 +85,10 @@ fn tell(hub: &mut Hub, copies: u8, datagram: &[u8]) -> Result<Passing, Memory>
 }
 
 /// The bytes of a datagram go to the port that has its destination.
-#[tactic(auto, unfolding(crate::specs::Passing::passed_calls), using(mip_outside::proofs::Calling::granted_none, crate::proofs::CallLaws::same_sent))]
+#[tactic(auto, unfolding(crate::specs::Passing::passed_calls), using(crate::proofs::CallLaws::same_link))]
 fn send_on<L: Link>(link: &mut L, passing: Passing, datagram: &[u8]) -> Result<(), PutFault>
-    ensures goes { Goes (passed_calls datagram.now (judged passing)) result (L.sent link.old) (L.sent link.new) }
+    ensures goes { Goes (passed_calls datagram.now (judged passing)) result (link_state (L.sent link.old) (L.calls link.old)) (link_state (L.sent link.new) (L.calls link.new)) }
     ensures kept { (L.coming link.new ≡ L.coming link.old) × (L.port link.new ≡ L.port link.old) }
-    ensures calls { EndsAtFault (IsOk result) (IsErrOf result PutFault.Failed) (IsErrOf result PutFault.Memory) (L.calls link.old) (L.calls link.new) }
     ensures no_fewer { L.faults link.old ≤ L.faults link.new }
     ensures cause { IsErrOf result PutFault.Failed → Rose (L.faults link.old) (L.faults link.new) }
 {
@@ -102,7 +99,7 @@ fn send_on<L: Link>(link: &mut L, passing: Passing, datagram: &[u8]) -> Result<(
 }
 
 /// Passes a datagram on.
-#[tactic(auto, using(mip_outside::proofs::Calling::granted_none, crate::proofs::CallLaws::stays))]
+#[tactic(auto, using(crate::proofs::CallLaws::stays))]
 pub fn pass<L: Link>(
     hub: &mut Hub,
     link: &mut L,
@@ -110,9 +107,8 @@ pub fn pass<L: Link>(
     datagram: &[u8],
 ) -> Result<(), PutFault>
     ensures hub { OnOk result (hub.new ≡ datagram_done copies datagram.now hub.old) }
-    ensures goes { Goes (passed_calls datagram.now (passed hub.old.ports copies datagram.now)) result (L.sent link.old) (L.sent link.new) }
+    ensures goes { Goes (passed_calls datagram.now (passed hub.old.ports copies datagram.now)) result (link_state (L.sent link.old) (L.calls link.old)) (link_state (L.sent link.new) (L.calls link.new)) }
     ensures kept { (L.coming link.new ≡ L.coming link.old) × (L.port link.new ≡ L.port link.old) }
-    ensures calls { EndsAtFault (IsOk result) (IsErrOf result PutFault.Failed) (IsErrOf result PutFault.Memory) (L.calls link.old) (L.calls link.new) }
     ensures no_fewer { L.faults link.old ≤ L.faults link.new }
     ensures cause { IsErrOf result PutFault.Failed → Rose (L.faults link.old) (L.faults link.new) }
 {

@@ -1,19 +1,15 @@
 //! Calls of the link that send.
 
 ghost use Rattle.std.specs.Prelude.{◌≡◌, ◌≤◌, ◌∷◌, [], replicate, IsErrOf};
-ghost use Rattle.std.specs.Result.{IsOk};
 ghost use Rattle.mip_outside.specs.Cause.{Rose};
-ghost use Rattle.mip_outside.specs.LinkCalls.{EndsAtFault};
-ghost use Rattle.mip_hub.specs.Calls.{Sends, Goes};
+ghost use Rattle.mip_hub.specs.Calls.{Sends, link_state, Goes};
 
 use mip_outside::{Link, PutFault};
 
 /// Sends a datagram.
-#[tactic(auto, using(mip_outside::proofs::Calling::send_granted, mip_outside::proofs::Calling::send_refused))]
 pub fn send<L: Link>(link: &mut L, port: u16, datagram: &[u8]) -> Result<(), PutFault>
-    ensures goes { Goes (Sends port datagram.now ∷ []) result (L.sent link.old) (L.sent link.new) }
+    ensures goes { Goes (Sends port datagram.now ∷ []) result (link_state (L.sent link.old) (L.calls link.old)) (link_state (L.sent link.new) (L.calls link.new)) }
     ensures kept { (L.coming link.new ≡ L.coming link.old) × (L.port link.new ≡ L.port link.old) }
-    ensures calls { EndsAtFault (IsOk result) (IsErrOf result PutFault.Failed) (IsErrOf result PutFault.Memory) (L.calls link.old) (L.calls link.new) }
     ensures no_fewer { L.faults link.old ≤ L.faults link.new }
     ensures cause { IsErrOf result PutFault.Failed → Rose (L.faults link.old) (L.faults link.new) }
 {
@@ -28,9 +24,8 @@ pub fn send_copies<L: Link>(
     count: u8,
     datagram: &[u8],
 ) -> Result<(), PutFault>
-    ensures goes { Goes (replicate count (Sends port datagram.now)) result (L.sent link.old) (L.sent link.new) }
+    ensures goes { Goes (replicate count (Sends port datagram.now)) result (link_state (L.sent link.old) (L.calls link.old)) (link_state (L.sent link.new) (L.calls link.new)) }
     ensures kept { (L.coming link.new ≡ L.coming link.old) × (L.port link.new ≡ L.port link.old) }
-    ensures calls { EndsAtFault (IsOk result) (IsErrOf result PutFault.Failed) (IsErrOf result PutFault.Memory) (L.calls link.old) (L.calls link.new) }
     ensures no_fewer { L.faults link.old ≤ L.faults link.new }
     ensures cause { IsErrOf result PutFault.Failed → Rose (L.faults link.old) (L.faults link.new) }
 {

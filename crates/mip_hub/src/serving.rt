@@ -3,9 +3,8 @@
 ghost use Rattle.std.specs.Prelude.{◌≡◌, ◌≤◌, List, drop, Err, OnOk, IsErrOf, Some};
 ghost use Rattle.std.specs.Option.{option_map};
 ghost use Rattle.mip_frames.specs.declared.served.Served.TheVariants as ends;
-ghost use Rattle.std.specs.Result.{IsOk};
 ghost use Rattle.mip_outside.specs.Cause.{Rose};
-ghost use Rattle.mip_frames.specs.Calling.{EndsTurns, EndsRun};
+ghost use Rattle.mip_hub.specs.Calls.{link_state};
 ghost use Rattle.mip_hub.specs.HubConfigs.{content};
 ghost use Rattle.mip_hub.specs.Served.{IsSeen, Saw, Ran, outside};
 ghost use Rattle.mip_hub.specs.ServedLaws.{Tells};
@@ -30,11 +29,10 @@ fn turn_told<L: Link, K: Sink>(
     number: u32,
 ) -> Result<(), Served>
     ensures seen { (seen : Seen) × IsSeen (L.coming link.old) seen
-        × Tells (told_calls lines.now number seen hub.old) result (outside (L.sent link.old) (K.held sink.old)) (outside (L.sent link.new) (K.held sink.new))
+        × Tells (told_calls lines.now number seen hub.old) result (outside (link_state (L.sent link.old) (L.calls link.old)) (K.held sink.old)) (outside (link_state (L.sent link.new) (L.calls link.new)) (K.held sink.new))
         × OnOk result (hub.new ≡ turn_done lines.now number seen hub.old) }
     ensures coming { OnOk result (L.coming link.new ≡ option_map (drop 1) (L.coming link.old)) }
     ensures port { L.port link.new ≡ L.port link.old }
-    ensures calls { EndsTurns (IsOk result) (IsErrOf result Served.WriteFault) (IsErrOf result Served.LinkFault) (IsErrOf result Served.Memory) (L.calls link.old) (L.calls link.new) }
     ensures never { IsErrOf result Served.Done → ⊥ }
     ensures no_fewer { (L.faults link.old ≤ L.faults link.new) × (K.faults sink.old ≤ K.faults sink.new) }
     ensures link_cause { IsErrOf result Served.LinkFault → Rose (L.faults link.old) (L.faults link.new) }
@@ -63,10 +61,9 @@ pub fn serve_hub<L: Link, K: Sink>(
     turns: u32,
 ) -> Served
     ensures run { (seen : List Seen) × Saw (L.coming link.old) seen
-        × Ran (content config.now) turns seen result (outside (L.sent link.old) (K.held sink.old)) (outside (L.sent link.new) (K.held sink.new)) }
+        × Ran (content config.now) turns seen result (outside (link_state (L.sent link.old) (L.calls link.old)) (K.held sink.old)) (outside (link_state (L.sent link.new) (L.calls link.new)) (K.held sink.new)) }
     ensures coming { result ≡ ends.Done → L.coming link.new ≡ option_map (drop turns) (L.coming link.old) }
     ensures port { result ≡ ends.Done → L.port link.new ≡ option_map (λ _. Some config.now.port) (L.port link.old) }
-    ensures calls { EndsRun (result ≡ ends.Done) (result ≡ ends.WriteFault) (result ≡ ends.LinkFault) (result ≡ ends.Memory) (L.calls link.old) (L.calls link.new) }
     ensures no_fewer { (L.faults link.old ≤ L.faults link.new) × (K.faults sink.old ≤ K.faults sink.new) }
     ensures link_cause { result ≡ ends.LinkFault → Rose (L.faults link.old) (L.faults link.new) }
     ensures write_cause { result ≡ ends.WriteFault → Rose (K.faults sink.old) (K.faults sink.new) }

@@ -3,10 +3,8 @@
 ghost use Rattle.std.specs.Prelude.{◌≡◌, ◌≤◌, ◌∷◌, drop, OnOk, IsErrOf};
 ghost use Rattle.std.specs.List.{find};
 ghost use Rattle.std.specs.Option.{option_copied, option_map};
-ghost use Rattle.std.specs.Result.{IsOk};
 ghost use Rattle.mip_outside.specs.Cause.{Rose};
-ghost use Rattle.mip_outside.specs.LinkCalls.{EndsAtFault};
-ghost use Rattle.mip_hub.specs.Calls.{Receives, Goes};
+ghost use Rattle.mip_hub.specs.Calls.{Receives, link_state, Goes};
 ghost use Rattle.mip_hub.specs.Reading.{is_copies};
 ghost use Rattle.mip_hub.specs.Served.{IsSeen};
 ghost use Rattle.mip_hub.specs.Turns.{Seen, copies_of, seen_calls, seen_done, turn_calls, turn_done};
@@ -43,14 +41,13 @@ fn copies_of(lines: &[HubLine], turn: u32) -> u8
 }
 
 /// Waits for a datagram, and passes it on.
-#[tactic(auto, using(mip_outside::proofs::Calling::receive_granted, mip_outside::proofs::Calling::receive_refused, mip_outside::proofs::Calling::granted_on, mip_outside::proofs::Calling::refused_on, mip_outside::proofs::Known::Rose_since))]
+#[tactic(auto, using(mip_outside::proofs::Known::Rose_since))]
 fn hear<L: Link>(hub: &mut Hub, link: &mut L, copies: u8) -> Result<(), PutFault>
     ensures seen { (seen : Seen) × IsSeen (L.coming link.old) seen
-        × Goes (Receives ∷ seen_calls copies seen hub.old) result (L.sent link.old) (L.sent link.new)
+        × Goes (Receives ∷ seen_calls copies seen hub.old) result (link_state (L.sent link.old) (L.calls link.old)) (link_state (L.sent link.new) (L.calls link.new))
         × OnOk result (hub.new ≡ seen_done copies seen hub.old) }
     ensures coming { OnOk result (L.coming link.new ≡ option_map (drop 1) (L.coming link.old)) }
     ensures port { L.port link.new ≡ L.port link.old }
-    ensures calls { EndsAtFault (IsOk result) (IsErrOf result PutFault.Failed) (IsErrOf result PutFault.Memory) (L.calls link.old) (L.calls link.new) }
     ensures no_fewer { L.faults link.old ≤ L.faults link.new }
     ensures cause { IsErrOf result PutFault.Failed → Rose (L.faults link.old) (L.faults link.new) }
 {
@@ -63,7 +60,7 @@ fn hear<L: Link>(hub: &mut Hub, link: &mut L, copies: u8) -> Result<(), PutFault
 }
 
 /// Does the lines of a turn, waits for a datagram, and passes it on.
-#[tactic(auto, using(mip_outside::proofs::Calling::granted_on, mip_outside::proofs::Calling::refused_on, mip_outside::proofs::Known::Rose_since))]
+#[tactic(auto, using(mip_outside::proofs::Known::Rose_since))]
 pub fn turn<L: Link>(
     hub: &mut Hub,
     alloc: Global,
@@ -72,11 +69,10 @@ pub fn turn<L: Link>(
     turn: u32,
 ) -> Result<(), PutFault>
     ensures seen { (seen : Seen) × IsSeen (L.coming link.old) seen
-        × Goes (turn_calls lines.now turn seen hub.old) result (L.sent link.old) (L.sent link.new)
+        × Goes (turn_calls lines.now turn seen hub.old) result (link_state (L.sent link.old) (L.calls link.old)) (link_state (L.sent link.new) (L.calls link.new))
         × OnOk result (hub.new ≡ turn_done lines.now turn seen hub.old) }
     ensures coming { OnOk result (L.coming link.new ≡ option_map (drop 1) (L.coming link.old)) }
     ensures port { L.port link.new ≡ L.port link.old }
-    ensures calls { EndsAtFault (IsOk result) (IsErrOf result PutFault.Failed) (IsErrOf result PutFault.Memory) (L.calls link.old) (L.calls link.new) }
     ensures no_fewer { L.faults link.old ≤ L.faults link.new }
     ensures cause { IsErrOf result PutFault.Failed → Rose (L.faults link.old) (L.faults link.new) }
 {

@@ -9,6 +9,7 @@ use Rattle.mip_outside.proofs.Known.{append_none}
 use Rattle.mip_commands.specs.declared.command.Command.{Command}
 use Rattle.mip_replies.specs.Answers.{Answer}
 use Rattle.mip_replies.specs.Told.{Told, IsConclusive, Says, HasWrittenFront}
+use Rattle.mip_outside.specs.declared.link_call.LinkCall.{LinkCall}
 use Rattle.mip_top.specs.Answers.{answer_to}
 use Rattle.mip_node.specs.Nodes.{Datagrams}
 use Rattle.mip_node.specs.Seen.{Ahead, Coming}
@@ -67,12 +68,12 @@ front command bytes given result first mid last old new held_old held_new empty 
 
 -- what was obeyed was obeyed when what waited was put on, which keeps what is held
 pub obeyed_flushed : (command : Option Command) (bytes : List ℕ) (given result : ℕ) (old : Outside) (held last : Option (List ℕ)) (ahead : Ahead) (coming : Coming) (sent : Datagrams)
-    (port : Option (Option ℕ)) → last ≡ held → IsFlushed given result → Obeys command bytes given old (outside held ahead coming sent port)
-    → ObeysFlushed command bytes result old (outside last ahead coming sent port)
-obeyed_flushed command bytes given result old held last ahead coming sent port kept is obeys = record {
+    (port : Option (Option ℕ)) (calls : List LinkCall) → last ≡ held → IsFlushed given result → Obeys command bytes given old (outside held ahead coming sent port calls)
+    → ObeysFlushed command bytes result old (outside last ahead coming sent port calls)
+obeyed_flushed command bytes given result old held last ahead coming sent port calls kept is obeys = record {
   given = given;
   flushed = is;
-  obeys = subst (λ (h : Option (List ℕ)). Obeys command bytes given old (outside h ahead coming sent port)) (sym kept) obeys;
+  obeys = subst (λ (h : Option (List ℕ)). Obeys command bytes given old (outside h ahead coming sent port calls)) (sym kept) obeys;
 }
 
 -- ---- how a process ends

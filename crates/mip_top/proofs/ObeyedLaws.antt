@@ -64,8 +64,8 @@ stopped command bytes given old new is = record {
 }
 
 -- clock and link were left alone, whatever was written
-pub idle : (o : Outside) (held : Option (List ℕ)) → IsIdle o (outside held o.ahead o.coming o.sent o.port)
-idle o held = record { unread = refl; untaken = refl; unsent = refl; unmoved = refl }
+pub idle : (o : Outside) (held : Option (List ℕ)) → IsIdle o (outside held o.ahead o.coming o.sent o.port o.calls)
+idle o held = record { unread = refl; untaken = refl; unsent = refl; unmoved = refl; uncalled = refl }
 
 -- nothing outside was touched
 pub untouched : (given : ℕ) (old new : Outside) → (given ≡ 3) ⊎ (given ≡ 5) → new ≡ old → IsStopped given old new

@@ -1,6 +1,7 @@
 -- What the run of a node or of a hub leaves of what is outside of the program.
 use Rattle.std.specs.Prelude.{◌≡◌, ℕ, ◌⊎◌, List, drop, Some, option_map}
 use Rattle.std.specs.declared.option.Option.{Option}
+use Rattle.mip_frames.specs.Calling.{EndsRun}
 use Rattle.mip_frames.specs.declared.served.Served.{Served}
 use Rattle.mip_frames.specs.declared.served.Served.TheVariants.{Done, LinkFault, WriteFault, Memory}
 use Rattle.mip_config.specs.Configs as nodes
@@ -8,20 +9,24 @@ use Rattle.mip_node.specs.Faults.{LinkFailed, WroteAfter, StoppedAfter}
 use Rattle.mip_node.specs.Nodes.{Datagrams}
 use Rattle.mip_node.specs.Runs as node
 use Rattle.mip_node.specs.Seen.{Ahead, Coming}
+use Rattle.mip_outside.specs.declared.link_call.LinkCall.{LinkCall}
+use Rattle.mip_hub.specs.Calls.{link_state}
 use Rattle.mip_hub.specs.Reading as hubs
 use Rattle.mip_hub.specs.Served as hub
 use Rattle.mip_hub.specs.Turns.{Seen}
 
--- what a sink holds, the answers of a clock that are to come, and of a link what is to come, what it sent and where it listens: each where it tells that
+-- what a sink holds, the answers of a clock that are to come, and of a link what is to come, what it sent and where it listens,
+-- each where it tells that; and the link's calls
 pub record Outside : Type 0 where
   pub held : Option (List ℕ)
   pub ahead : Ahead
   pub coming : Coming
   pub sent : Datagrams
   pub port : Option (Option ℕ)
+  pub calls : List LinkCall
 
-abbrev pub outside : Option (List ℕ) → Ahead → Coming → Datagrams → Option (Option ℕ) → Outside
-outside held ahead coming sent port = record { held = held; ahead = ahead; coming = coming; sent = sent; port = port }
+abbrev pub outside : Option (List ℕ) → Ahead → Coming → Datagrams → Option (Option ℕ) → List LinkCall → Outside
+outside held ahead coming sent port calls = record { held = held; ahead = ahead; coming = coming; sent = sent; port = port; calls = calls }
 
 abbrev pub start_of : nodes.Content → Outside → node.Start
 start_of c o = node.start c o.ahead o.coming o.sent o.held
@@ -43,6 +48,8 @@ pub record NodeServed (c : nodes.Content) (turns given : ℕ) (old new : Outside
   pub memory : given ≡ 5 → StoppedAfter (start_of c old) turns (end_of new)
   -- whatever comes, a front of the text of so many turns at most was written
   pub front : node.WroteFront (start_of c old) turns new.held
+  -- the link was asked to listen first and once, and nothing behind a call that failed
+  pub calls : EndsRun (given ≡ 0) (given ≡ 4) (given ≡ 7) (given ≡ 5) old.calls new.calls
 
 -- the status that the run of a hub comes to
 abbrev pub status_of : Served → ℕ
@@ -55,10 +62,10 @@ status_of Memory = 5
 pub record HubServed (c : hubs.Content) (turns given : ℕ) (old new : Outside) : Type 0 where
   pub end : Served
   pub is : given ≡ status_of end
-  -- what was sent and written is the fold of its turns over what came; after a fault, all of that in front of one call
+  -- what was asked of the link, sent and written is the fold of its turns over what came; after a fault, all of that in front of one call, and no call behind it
   pub seen : List Seen
   pub saw : hub.Saw old.coming seen
-  pub ran : hub.Ran c turns seen end (hub.outside old.sent old.held) (hub.outside new.sent new.held)
+  pub ran : hub.Ran c turns seen end (hub.outside (link_state old.sent old.calls) old.held) (hub.outside (link_state new.sent new.calls) new.held)
   pub coming : given ≡ 0 → new.coming ≡ option_map (drop turns) old.coming
   pub port : given ≡ 0 → new.port ≡ option_map (λ _. Some c.port) old.port
 
@@ -68,6 +75,7 @@ pub record IsIdle (old new : Outside) : Type 0 where
   pub untaken : new.coming ≡ old.coming
   pub unsent : new.sent ≡ old.sent
   pub unmoved : new.port ≡ old.port
+  pub uncalled : new.calls ≡ old.calls
 
 -- the input could not be read, or memory ran out before a run: nothing was written either
 pub record IsStopped (given : ℕ) (old new : Outside) : Type 0 where

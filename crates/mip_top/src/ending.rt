@@ -28,12 +28,12 @@ pub fn mip_flushed<S: Source, K: Sink + Drop, C: Clock, L: Link>(
     requires { sink.old.waiting ≡ [] }
     // The words are obeyed as by `mip`, where what waits is held too; then what waits is put on.
     ensures obeyed { IfSome (S.left source.old) (λ bytes. ObeysFlushed (command_of (map string_bytes words.now)) bytes result.0
-        (outside (held_by sink.old) (C.ahead clock.old) (L.coming link.old) (L.sent link.old) (L.port link.old))
-        (outside (held_by sink.new) (C.ahead clock.new) (L.coming link.new) (L.sent link.new) (L.port link.new))) }
+        (outside (held_by sink.old) (C.ahead clock.old) (L.coming link.old) (L.sent link.old) (L.port link.old) (L.calls link.old))
+        (outside (held_by sink.new) (C.ahead clock.new) (L.coming link.new) (L.sent link.new) (L.port link.new) (L.calls link.new))) }
     ensures obeyed_of_some { (bytes : List ℕ) × (S.left source.old ≡ prepend_known bytes (S.left source.new))
         × ObeysFlushed (command_of (map string_bytes words.now)) bytes result.0
-        (outside (held_by sink.old) (C.ahead clock.old) (L.coming link.old) (L.sent link.old) (L.port link.old))
-        (outside (held_by sink.new) (C.ahead clock.new) (L.coming link.new) (L.sent link.new) (L.port link.new)) }
+        (outside (held_by sink.old) (C.ahead clock.old) (L.coming link.old) (L.sent link.old) (L.port link.old) (L.calls link.old))
+        (outside (held_by sink.new) (C.ahead clock.new) (L.coming link.new) (L.sent link.new) (L.port link.new) (L.calls link.new)) }
     // Unless a call failed or memory ran out, the whole answer was put on.
     ensures whole { IfSome (S.left source.old) (λ bytes. IsConclusive result.0
         → IfSome (answer_of (map string_bytes words.now) bytes) (λ answer. Says answer result.0 sink.old.put_on sink.new.put_on)) }

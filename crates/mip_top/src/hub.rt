@@ -24,8 +24,8 @@ pub fn run_hub<S: Source, K: Sink, C: Clock, L: Link>(
     link: &mut L,
 ) -> Status
     ensures obeyed { (bytes : List ℕ) × IsObeyed (Some (commands.Hub turns)) bytes result.0 (S.left source.old) (S.left source.new)
-        (outside (K.held sink.old) (C.ahead clock.old) (L.coming link.old) (L.sent link.old) (L.port link.old))
-        (outside (K.held sink.new) (C.ahead clock.new) (L.coming link.new) (L.sent link.new) (L.port link.new)) }
+        (outside (K.held sink.old) (C.ahead clock.old) (L.coming link.old) (L.sent link.old) (L.port link.old) (L.calls link.old))
+        (outside (K.held sink.new) (C.ahead clock.new) (L.coming link.new) (L.sent link.new) (L.port link.new) (L.calls link.new)) }
     ensures statuses { (result.0 ≤ 7) × (result.0 ≢ 1) }
     ensures read_fault { result.0 ≡ 3 → Rose (S.faults source.old) (S.faults source.new) }
     ensures read_fault_text { result.0 ≡ 3 → K.held sink.new ≡ K.held sink.old }
@@ -54,8 +54,8 @@ fn pass_by_text<K: Sink, L: Link>(
 ) -> Status
     requires { length text.now ≤ 16777217 }
     ensures obeys { (ahead : Option (List ℕ)) → Obeys (Some (commands.Hub turns)) text.now result.0
-        (outside (K.held sink.old) ahead (L.coming link.old) (L.sent link.old) (L.port link.old))
-        (outside (K.held sink.new) ahead (L.coming link.new) (L.sent link.new) (L.port link.new)) }
+        (outside (K.held sink.old) ahead (L.coming link.old) (L.sent link.old) (L.port link.old) (L.calls link.old))
+        (outside (K.held sink.new) ahead (L.coming link.new) (L.sent link.new) (L.port link.new) (L.calls link.new)) }
     ensures statuses { (result.0 ≤ 7) × (result.0 ≢ 1) × (result.0 ≢ 3) }
     ensures write_fault { result.0 ≡ 4 → Rose (K.faults sink.old) (K.faults sink.new) }
     ensures link_fault { result.0 ≡ 7 → Rose (L.faults link.old) (L.faults link.new) }
@@ -80,8 +80,8 @@ fn pass_by_config<K: Sink, L: Link>(
     link: &mut L,
 ) -> Status
     ensures served { (ahead : Option (List ℕ)) → HubServed (content config.now) turns result.0
-        (outside (K.held sink.old) ahead (L.coming link.old) (L.sent link.old) (L.port link.old))
-        (outside (K.held sink.new) ahead (L.coming link.new) (L.sent link.new) (L.port link.new)) }
+        (outside (K.held sink.old) ahead (L.coming link.old) (L.sent link.old) (L.port link.old) (L.calls link.old))
+        (outside (K.held sink.new) ahead (L.coming link.new) (L.sent link.new) (L.port link.new) (L.calls link.new)) }
     ensures statuses { (result.0 ≡ 0) ⊎ ((result.0 ≡ 4) ⊎ ((result.0 ≡ 5) ⊎ (result.0 ≡ 7))) }
     ensures write_fault { result.0 ≡ 4 → Rose (K.faults sink.old) (K.faults sink.new) }
     ensures link_fault { result.0 ≡ 7 → Rose (L.faults link.old) (L.faults link.new) }

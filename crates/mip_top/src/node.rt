@@ -25,8 +25,8 @@ pub fn run_node<S: Source, K: Sink, C: Clock, L: Link>(
     link: &mut L,
 ) -> Status
     ensures obeyed { (bytes : List ℕ) × IsObeyed (Some (commands.Node turns)) bytes result.0 (S.left source.old) (S.left source.new)
-        (outside (K.held sink.old) (C.ahead clock.old) (L.coming link.old) (L.sent link.old) (L.port link.old))
-        (outside (K.held sink.new) (C.ahead clock.new) (L.coming link.new) (L.sent link.new) (L.port link.new)) }
+        (outside (K.held sink.old) (C.ahead clock.old) (L.coming link.old) (L.sent link.old) (L.port link.old) (L.calls link.old))
+        (outside (K.held sink.new) (C.ahead clock.new) (L.coming link.new) (L.sent link.new) (L.port link.new) (L.calls link.new)) }
     ensures statuses { (result.0 ≤ 7) × (result.0 ≢ 1) }
     ensures read_fault { result.0 ≡ 3 → Rose (S.faults source.old) (S.faults source.new) }
     ensures read_fault_text { result.0 ≡ 3 → K.held sink.new ≡ K.held sink.old }
@@ -53,8 +53,8 @@ fn serve_text<K: Sink, C: Clock, L: Link>(
 ) -> Status
     requires { length text.now ≤ 16777217 }
     ensures obeys { Obeys (Some (commands.Node turns)) text.now result.0
-        (outside (K.held sink.old) (C.ahead clock.old) (L.coming link.old) (L.sent link.old) (L.port link.old))
-        (outside (K.held sink.new) (C.ahead clock.new) (L.coming link.new) (L.sent link.new) (L.port link.new)) }
+        (outside (K.held sink.old) (C.ahead clock.old) (L.coming link.old) (L.sent link.old) (L.port link.old) (L.calls link.old))
+        (outside (K.held sink.new) (C.ahead clock.new) (L.coming link.new) (L.sent link.new) (L.port link.new) (L.calls link.new)) }
     ensures statuses { (result.0 ≤ 7) × (result.0 ≢ 1) × (result.0 ≢ 3) }
     ensures write_fault { result.0 ≡ 4 → Rose (K.faults sink.old) (K.faults sink.new) }
     ensures link_fault { result.0 ≡ 7 → Rose (L.faults link.old) (L.faults link.new) }
@@ -80,8 +80,8 @@ fn serve_config<K: Sink, C: Clock, L: Link>(
     link: &mut L,
 ) -> Status
     ensures served { NodeServed (content config.now) turns result.0
-        (outside (K.held sink.old) (C.ahead clock.old) (L.coming link.old) (L.sent link.old) (L.port link.old))
-        (outside (K.held sink.new) (C.ahead clock.new) (L.coming link.new) (L.sent link.new) (L.port link.new)) }
+        (outside (K.held sink.old) (C.ahead clock.old) (L.coming link.old) (L.sent link.old) (L.port link.old) (L.calls link.old))
+        (outside (K.held sink.new) (C.ahead clock.new) (L.coming link.new) (L.sent link.new) (L.port link.new) (L.calls link.new)) }
     ensures statuses { (result.0 ≡ 0) ⊎ ((result.0 ≡ 4) ⊎ ((result.0 ≡ 5) ⊎ (result.0 ≡ 7))) }
     ensures write_fault { result.0 ≡ 4 → Rose (K.faults sink.old) (K.faults sink.new) }
     ensures link_fault { result.0 ≡ 7 → Rose (L.faults link.old) (L.faults link.new) }

@@ -32,12 +32,12 @@ pub fn run<S: Source, K: Sink + Drop, C: Clock, L: Link>(
     requires { sink.old.waiting ≡ [] }
     // The words behind the program's name are obeyed, where what waits is held too; then what waits is put on.
     ensures obeyed { IfSome (S.left source.old) (λ bytes. ObeysFlushed (command_of (map string_bytes (words_behind given))) bytes result
-        (outside (held_by sink.old) (C.ahead clock.old) (L.coming link.old) (L.sent link.old) (L.port link.old))
-        (outside (held_by sink.new) (C.ahead clock.new) (L.coming link.new) (L.sent link.new) (L.port link.new))) }
+        (outside (held_by sink.old) (C.ahead clock.old) (L.coming link.old) (L.sent link.old) (L.port link.old) (L.calls link.old))
+        (outside (held_by sink.new) (C.ahead clock.new) (L.coming link.new) (L.sent link.new) (L.port link.new) (L.calls link.new))) }
     ensures obeyed_of_some { (bytes : List ℕ) × (S.left source.old ≡ prepend_known bytes (S.left source.new))
         × ObeysFlushed (command_of (map string_bytes (words_behind given))) bytes result
-        (outside (held_by sink.old) (C.ahead clock.old) (L.coming link.old) (L.sent link.old) (L.port link.old))
-        (outside (held_by sink.new) (C.ahead clock.new) (L.coming link.new) (L.sent link.new) (L.port link.new)) }
+        (outside (held_by sink.old) (C.ahead clock.old) (L.coming link.old) (L.sent link.old) (L.port link.old) (L.calls link.old))
+        (outside (held_by sink.new) (C.ahead clock.new) (L.coming link.new) (L.sent link.new) (L.port link.new) (L.calls link.new)) }
     // Unless a call failed or memory ran out, the whole answer to the words and the input was put on, and the status is its own.
     ensures whole { IfSome (S.left source.old) (λ bytes. IsConclusive result
         → IfSome (answer_of (map string_bytes (words_behind given)) bytes) (λ answer. Says answer result sink.old.put_on sink.new.put_on)) }
@@ -69,12 +69,12 @@ fn attempt<S: Source, K: Sink + Drop, C: Clock, L: Link>(
     requires { sink.old.waiting ≡ [] }
     ensures obeyed { IfOk result (λ status. IfSome (S.left source.old) (λ bytes.
         ObeysFlushed (command_of (map string_bytes (words_behind given))) bytes status.0
-        (outside (held_by sink.old) (C.ahead clock.old) (L.coming link.old) (L.sent link.old) (L.port link.old))
-        (outside (held_by sink.new) (C.ahead clock.new) (L.coming link.new) (L.sent link.new) (L.port link.new)))) }
+        (outside (held_by sink.old) (C.ahead clock.old) (L.coming link.old) (L.sent link.old) (L.port link.old) (L.calls link.old))
+        (outside (held_by sink.new) (C.ahead clock.new) (L.coming link.new) (L.sent link.new) (L.port link.new) (L.calls link.new)))) }
     ensures obeyed_of_some { IfOk result (λ status. (bytes : List ℕ) × (S.left source.old ≡ prepend_known bytes (S.left source.new))
         × ObeysFlushed (command_of (map string_bytes (words_behind given))) bytes status.0
-        (outside (held_by sink.old) (C.ahead clock.old) (L.coming link.old) (L.sent link.old) (L.port link.old))
-        (outside (held_by sink.new) (C.ahead clock.new) (L.coming link.new) (L.sent link.new) (L.port link.new))) }
+        (outside (held_by sink.old) (C.ahead clock.old) (L.coming link.old) (L.sent link.old) (L.port link.old) (L.calls link.old))
+        (outside (held_by sink.new) (C.ahead clock.new) (L.coming link.new) (L.sent link.new) (L.port link.new) (L.calls link.new))) }
     ensures whole { IfOk result (λ status. IfSome (S.left source.old) (λ bytes. IsConclusive status.0
         → IfSome (answer_of (map string_bytes (words_behind given)) bytes) (λ answer. Says answer status.0 sink.old.put_on sink.new.put_on))) }
     ensures whole_of_some { IfOk result (λ status. IsConclusive status.0 → ((bytes : List ℕ)

@@ -39,14 +39,14 @@ pub fn mip<S: Source, K: Sink, C: Clock, L: Link>(
 ) -> Status
     // The words are obeyed: what is answered to these bytes is told, or a node or a hub is run by them.
     ensures obeyed { IfSome (S.left source.old) (λ bytes. Obeys (command_of (map string_bytes words.now)) bytes result.0
-        (outside (K.held sink.old) (C.ahead clock.old) (L.coming link.old) (L.sent link.old) (L.port link.old))
-        (outside (K.held sink.new) (C.ahead clock.new) (L.coming link.new) (L.sent link.new) (L.port link.new))) }
+        (outside (K.held sink.old) (C.ahead clock.old) (L.coming link.old) (L.sent link.old) (L.port link.old) (L.calls link.old))
+        (outside (K.held sink.new) (C.ahead clock.new) (L.coming link.new) (L.sent link.new) (L.port link.new) (L.calls link.new))) }
     // A source that does not tell its bytes gave some, and they were obeyed.
     ensures obeyed_of_some { (bytes : List ℕ) × (length bytes ≤ 16_777_217)
         × (S.left source.old ≡ prepend_known bytes (S.left source.new))
         × Obeys (command_of (map string_bytes words.now)) bytes result.0
-        (outside (K.held sink.old) (C.ahead clock.old) (L.coming link.old) (L.sent link.old) (L.port link.old))
-        (outside (K.held sink.new) (C.ahead clock.new) (L.coming link.new) (L.sent link.new) (L.port link.new)) }
+        (outside (K.held sink.old) (C.ahead clock.old) (L.coming link.old) (L.sent link.old) (L.port link.old) (L.calls link.old))
+        (outside (K.held sink.new) (C.ahead clock.new) (L.coming link.new) (L.sent link.new) (L.port link.new) (L.calls link.new)) }
 
     // At each place of the history of a schedule each care-of address that is held has its accepted update, and each accepted
     // update had just been handed over, authentic and in sequence.
@@ -101,8 +101,8 @@ fn obey<S: Source, K: Sink, C: Clock, L: Link>(
 ) -> Status
     requires { IfSome command IsWithin }
     ensures obeyed { (bytes : List ℕ) × IsObeyed command bytes result.0 (S.left source.old) (S.left source.new)
-        (outside (K.held sink.old) (C.ahead clock.old) (L.coming link.old) (L.sent link.old) (L.port link.old))
-        (outside (K.held sink.new) (C.ahead clock.new) (L.coming link.new) (L.sent link.new) (L.port link.new)) }
+        (outside (K.held sink.old) (C.ahead clock.old) (L.coming link.old) (L.sent link.old) (L.port link.old) (L.calls link.old))
+        (outside (K.held sink.new) (C.ahead clock.new) (L.coming link.new) (L.sent link.new) (L.port link.new) (L.calls link.new)) }
     ensures usage { result.0 ≡ 1 → command ≡ None }
     ensures no_command { command ≡ None → (result.0 ≡ 1) ⊎ ((result.0 ≡ 4) ⊎ (result.0 ≡ 5)) }
     ensures ends { Ends command result.0

@@ -1,4 +1,4 @@
-use Rattle.std.proofs.Common.{◌≡◌, ◌<◌, List, ℕ, length, take, refl, ap, ◌∙◌, subst}
+use Rattle.std.proofs.Common.{◌≡◌, ◌<◌, List, ℕ, length, take, refl, ap, ◌∙◌, subst, inl}
 use Rattle.std.specs.Io.KnownBytes.{append_known}
 use Rattle.mip_frames.specs.declared.served.Served.TheVariants.{WriteFault, Memory}
 use Rattle.mip_hub.specs.Turns.{turn_calls, turn_done}
@@ -39,7 +39,7 @@ returns-in-Err-Failed-write_text-clause-seen g c =
       s.0,
       s.1,
       told_part WriteFault calls (turn_done c.args.lines.now c.args.number s.0 c.args.hub.now).text part.0 _ _ _ _ (quiet_turn c.args.lines.now c.args.number s.0 c.args.hub.now) s.2
-          (subst (λ (t : List ℕ). part.0 < length t) text part.1)
+          (subst (λ (t : List ℕ). part.0 < length t) text part.1, refl)
           (part.2 ∙ ap (λ (t : List ℕ). append_known (g.K.Sink.held c.args.sink.now) (take part.0 t)) text),
       tt,
     )
@@ -53,7 +53,7 @@ returns-in-Err-Memory-write_text-clause-seen g c =
       s.0,
       s.1,
       told_part Memory calls (turn_done c.args.lines.now c.args.number s.0 c.args.hub.now).text part.0 _ _ _ _ (quiet_turn c.args.lines.now c.args.number s.0 c.args.hub.now) s.2
-          tt
+          (inl refl)
           (part.2 ∙ ap (λ (t : List ℕ). append_known (g.K.Sink.held c.args.sink.now) (take part.0 t)) text),
       tt,
     )

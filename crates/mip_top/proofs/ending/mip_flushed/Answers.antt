@@ -7,7 +7,7 @@ use Rattle.mip_top.proofs.ending.mip_flushed.Goals as goal
 pub returns-clause-obeyed : goal.returns-clause-obeyed
 returns-clause-obeyed g c =
     if_left _ _ (g.S.Source.left c.args.source.now)
-    (λ bytes. obeyed_flushed (command_of (map string_bytes c.args.words.now)) bytes c.mip-status.result.0 c.finish.result.0 _ _ _ _ _ _ _ c.finish.ensures.held c.finish.ensures.flushed)
+    (λ bytes. obeyed_flushed (command_of (map string_bytes c.args.words.now)) bytes c.mip-status.result.0 c.finish.result.0 _ _ _ _ _ _ _ _ c.finish.ensures.held c.finish.ensures.flushed)
     c.mip-status.ensures.obeyed
 
 pub returns-clause-obeyed_of_some : goal.returns-clause-obeyed_of_some
@@ -15,7 +15,7 @@ returns-clause-obeyed_of_some g c =
     let o = c.mip-status.ensures.obeyed_of_some in (
       o.0,
       o.2,
-      obeyed_flushed (command_of (map string_bytes c.args.words.now)) o.0 c.mip-status.result.0 c.finish.result.0 _ _ _ _ _ _ _ c.finish.ensures.held c.finish.ensures.flushed o.3,
+      obeyed_flushed (command_of (map string_bytes c.args.words.now)) o.0 c.mip-status.result.0 c.finish.result.0 _ _ _ _ _ _ _ _ c.finish.ensures.held c.finish.ensures.flushed o.3,
     )
 
 pub returns-clause-whole : goal.returns-clause-whole

@@ -10,4 +10,10 @@ returns-in-Memory-clause-served g c = record {
   write_fault = λ four. absurd (omega (arith, four));
   memory = λ five. c.serve.ensures.memory (search rules);
   front = c.serve.ensures.front;
+  calls = record {
+    whole = λ zero. absurd (omega (arith, zero));
+    unwritten = λ four. absurd (omega (arith, four));
+    cut = λ seven. absurd (omega (arith, seven));
+    lost = λ five. c.serve.ensures.calls.lost (search rules);
+  };
 }

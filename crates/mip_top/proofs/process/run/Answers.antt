@@ -60,22 +60,22 @@ returns-clause-ends g c =
 pub returns-clause-obeyed : goal.returns-clause-obeyed
 returns-clause-obeyed g c =
     let command = command_of (map string_bytes (words_behind c.args.given)) in
-    let old : Outside = outside (held_by c.args.sink.now) (g.C.Clock.ahead c.args.clock.now) (g.L.Link.coming c.args.link.now) (g.L.Link.sent c.args.link.now) (g.L.Link.port c.args.link.now) in
-    let new : Outside = outside (held_by c.attempt.new.sink) (g.C.Clock.ahead c.attempt.new.clock) (g.L.Link.coming c.attempt.new.link) (g.L.Link.sent c.attempt.new.link) (g.L.Link.port c.attempt.new.link) in
+    let old : Outside = outside (held_by c.args.sink.now) (g.C.Clock.ahead c.args.clock.now) (g.L.Link.coming c.args.link.now) (g.L.Link.sent c.args.link.now) (g.L.Link.port c.args.link.now) (g.L.Link.calls c.args.link.now) in
+    let new : Outside = outside (held_by c.attempt.new.sink) (g.C.Clock.ahead c.attempt.new.clock) (g.L.Link.coming c.attempt.new.link) (g.L.Link.sent c.attempt.new.link) (g.L.Link.port c.attempt.new.link) (g.L.Link.calls c.attempt.new.link) in
     let left : Option (List ℕ) = g.S.Source.left c.args.source.now in
     process_on (λ n. IfSome left (λ bytes. ObeysFlushed command bytes n old new)) c.attempt.result c.of.result c.of.ensures.ok c.of.ensures.memory c.attempt.ensures.obeyed
     (err_on c.attempt.result
     (λ e. any_left (λ bytes. ObeysFlushed command bytes 5 old new) left
     (λ bytes. stopped_flushed command bytes 5 old new (untouched 5 old new (inr refl)
     (four_same c.args.source.now c.attempt.new.source c.args.sink.now c.attempt.new.sink c.args.clock.now c.attempt.new.clock c.args.link.now c.attempt.new.link
-    (λ source sink clock link. outside (held_by sink) (g.C.Clock.ahead clock) (g.L.Link.coming link) (g.L.Link.sent link) (g.L.Link.port link)) e))))
+    (λ source sink clock link. outside (held_by sink) (g.C.Clock.ahead clock) (g.L.Link.coming link) (g.L.Link.sent link) (g.L.Link.port link) (g.L.Link.calls link)) e))))
     c.attempt.ensures.early)
 
 pub returns-clause-obeyed_of_some : goal.returns-clause-obeyed_of_some
 returns-clause-obeyed_of_some g c =
     let command = command_of (map string_bytes (words_behind c.args.given)) in
-    let old : Outside = outside (held_by c.args.sink.now) (g.C.Clock.ahead c.args.clock.now) (g.L.Link.coming c.args.link.now) (g.L.Link.sent c.args.link.now) (g.L.Link.port c.args.link.now) in
-    let new : Outside = outside (held_by c.attempt.new.sink) (g.C.Clock.ahead c.attempt.new.clock) (g.L.Link.coming c.attempt.new.link) (g.L.Link.sent c.attempt.new.link) (g.L.Link.port c.attempt.new.link) in
+    let old : Outside = outside (held_by c.args.sink.now) (g.C.Clock.ahead c.args.clock.now) (g.L.Link.coming c.args.link.now) (g.L.Link.sent c.args.link.now) (g.L.Link.port c.args.link.now) (g.L.Link.calls c.args.link.now) in
+    let new : Outside = outside (held_by c.attempt.new.sink) (g.C.Clock.ahead c.attempt.new.clock) (g.L.Link.coming c.attempt.new.link) (g.L.Link.sent c.attempt.new.link) (g.L.Link.port c.attempt.new.link) (g.L.Link.calls c.attempt.new.link) in
     let left = g.S.Source.left in
     process_on (λ n. (bytes : List ℕ) × (left c.args.source.now ≡ prepend_known bytes (left c.attempt.new.source)) × ObeysFlushed command bytes n old new)
     c.attempt.result c.of.result c.of.ensures.ok c.of.ensures.memory c.attempt.ensures.obeyed_of_some
@@ -85,6 +85,6 @@ returns-clause-obeyed_of_some g c =
       prepend_none (left c.args.source.now) (left c.attempt.new.source) (ap left e.0),
       stopped_flushed command [] 5 old new (untouched 5 old new (inr refl)
           (four_same c.args.source.now c.attempt.new.source c.args.sink.now c.attempt.new.sink c.args.clock.now c.attempt.new.clock c.args.link.now c.attempt.new.link
-          (λ source sink clock link. outside (held_by sink) (g.C.Clock.ahead clock) (g.L.Link.coming link) (g.L.Link.sent link) (g.L.Link.port link)) e)),
+          (λ source sink clock link. outside (held_by sink) (g.C.Clock.ahead clock) (g.L.Link.coming link) (g.L.Link.sent link) (g.L.Link.port link) (g.L.Link.calls link)) e)),
     ))
     c.attempt.ensures.early)

@@ -78,5 +78,5 @@ returns-in-Err-clause-audited g c =
     let command = command_of (map string_bytes c.args.words.now) in
     let left = g.S.Source.left c.args.source.now in
     let o : Outside =
-    outside (g.K.Sink.held c.args.sink.now) (g.C.Clock.ahead c.args.clock.now) (g.L.Link.coming c.args.link.now) (g.L.Link.sent c.args.link.now) (g.L.Link.port c.args.link.now) in
+    outside (g.K.Sink.held c.args.sink.now) (g.C.Clock.ahead c.args.clock.now) (g.L.Link.coming c.args.link.now) (g.L.Link.sent c.args.link.now) (g.L.Link.port c.args.link.now) (g.L.Link.calls c.args.link.now) in
     audited c.each_audit_is_right.ensures command left 5 o o (always command 5 left o o (record { fault = inr refl; unwritten = refl; idle = idle _ _ }))
