@@ -1,17 +1,9 @@
--- The calls of a link in the run of a node or of a hub: none follows one that failed.
+-- The calls of a link in the run of a node: none follows one that failed.
 use Rattle.std.specs.Prelude.{◌≡◌, ◌⊎◌, List, [], ◌∷◌, ◌++◌, Some, None}
 use Rattle.mip_outside.specs.LinkCalls.{called, Granted, Refused}
 use Rattle.mip_outside.specs.declared.asked.Asked.TheVariants.{Listen}
 use Rattle.mip_outside.specs.declared.link_call.LinkCall.{LinkCall}
 use Rattle.mip_outside.specs.declared.put_fault.PutFault.TheVariants.{Failed, Memory}
-
--- turns, which never listen on a port: each call was granted, where the text could not be written too; where the link failed the last
--- one failed; and where memory ran out each was granted, or memory ran out in the last one
-pub record EndsTurns (done write_failed link_failed memory : Type 0) (before after : List LinkCall) : Type 0 where
-  pub whole : done → Granted before after
-  pub unwritten : write_failed → Granted before after
-  pub cut : link_failed → Refused Failed before after
-  pub lost : memory → Granted before after ⊎ Refused Memory before after
 
 -- a port was listened on
 abbrev pub listening : List LinkCall → List LinkCall

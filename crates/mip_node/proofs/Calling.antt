@@ -8,7 +8,8 @@ use Rattle.mip_outside.specs.declared.put.Put.{Put}
 use Rattle.mip_outside.specs.declared.put.Put.TheVariants.{Sent, NoRoute, Oversize}
 use Rattle.mip_outside.specs.declared.put_fault.PutFault.TheVariants.{Failed, Memory}
 use Rattle.mip_outside.proofs.Calling.{granted_none, granted_on, refused_on, send_refused}
-use Rattle.mip_frames.specs.Calling.{listening, EndsTurns, EndsRun}
+use Rattle.mip_frames.specs.Calling.{listening, EndsRun}
+use Rattle.mip_node.specs.CallingLaws.{EndsTurns}
 use Rattle.mip_frames.specs.Sending.{asked_by}
 
 -- a packet was put on the wire

@@ -9,3 +9,4 @@ pub mod Runs
 pub mod RunsLaws
 pub mod Faults
 pub mod FaultsLaws
+pub mod CallingLaws

@@ -28,7 +28,8 @@ use Rattle.mip_settled.proofs.AnyNode.{node_here}
 use Rattle.mip_settled.proofs.AsTold.{found_as_told, registered_as_told, bound_as_told}
 use Rattle.mip_settled.proofs.Declared.{declared_of_run}
 use Rattle.mip_settled.proofs.OfKinds.{present_at_own, registers_none}
-use Rattle.mip_past.specs.Asking.{present_from, present_told}
+use Rattle.mip_past.specs.Asking.{present_from, present_told, standing_by, standing_from}
+use Rattle.mip_past.proofs.Standing.{standing_is}
 use Rattle.mip_past.specs.Places.{run_at, place_at, front_at}
 use Rattle.mip_past.specs.AsAsked.{IsFront, KeepsAsAsked, AreKeepersAsAsked, RegistersAsAsked, IsRegisteredBy, AreAgentsAsAsked, MovesAsAsked, AreMobilesAsAsked, IsHolderFound, IsHeldBound, AreRegistered, IsPermittedFront}
 
@@ -138,6 +139,10 @@ module _ (s : Setup) (events : List Event) (k : ℕ) where
           present =
               ap (present_from (run_at s events k).past n) (declared_of_run s (take k events) n (record { address = own; kind = Mobile agent }) is)
               ∙ found_as_told s (take k events) n own agent is;
+          standing =
+              ap (standing_from (run_at s events k).past n) (declared_of_run s (take k events) n (record { address = own; kind = Mobile agent }) is)
+              ∙ ap (standing_by own) (found_as_told s (take k events) n own agent is)
+              ∙ standing_is s (run_at s events k) n own agent;
           agent = λ node. registered_as_told s (take k events) n own agent is node (now_in s (run_at s events k));
           bound = λ peer. bound_as_told s (take k events) n own agent is peer (now_in s (run_at s events k)) (omega arith);
         });

@@ -1,4 +1,5 @@
 pub mod Recalling
+mod Standing
 pub mod AtPlaces
 pub mod Examples
 pub mod OneNumber

@@ -25,7 +25,7 @@ use Rattle.mip_history.specs.Bound.{held_in, held_under_in, floor_in, IsBound, I
 use Rattle.mip_history.specs.Registered.{is_agent_at, registered_in, last_registration, IsRegistered}
 use Rattle.mip_history.specs.Told.{agent_in, is_bound_in}
 use Rattle.mip_history.specs.Found.{address_of}
-use Rattle.mip_past.specs.Asking.{present_told, is_registered_in}
+use Rattle.mip_past.specs.Asking.{present_told, standing_told, is_registered_in}
 use Rattle.mip_past.specs.Places.{run_at, place_at, front_at}
 
 -- what lies before the place behind the first k events is the history of these, at their moment; and each node's own address is
@@ -74,6 +74,7 @@ pub record AreAgentsAsAsked (s : Setup) (events : List Event) (k : ℕ) : Type 0
 -- what is asked of node n is what a mobile with this own address knows. Its number is no outsider's, as in every schedule that was read
 pub record MovesAsAsked (s : Setup) (past : List Entry) (n : ℕ) (own : Address) (known : mobiles.Known) : Type 0 where
   pub present : present_told past n ≡ address_of own known.standing
+  pub standing : standing_told past n ≡ known.standing
   pub agent : ((o : ℕ) → n ≢ holder_outside o) → agent_in (moment_in s.start past) past n ≡ registered_agent known (moment_in s.start past)
   pub bound : (peer : Address) → is_bound_in (moment_in s.start past) past n peer ≡ is_some (bound_row_of known (moment_in s.start past) peer)
 

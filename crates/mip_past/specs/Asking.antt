@@ -1,8 +1,13 @@
 -- What is asked at a place of any history, over the entries before it.
 use Rattle.std.specs.Prelude.{ℕ, List, Bool, Option, Some, None, option_map, is_some}
 use Rattle.mip_words.specs.declared.address.Address.{Address}
+use Rattle.mip_words.specs.declared.moment.Moment.{Moment}
 use Rattle.mip_binding.specs.Held.{held, held_under, floor}
 use Rattle.mip_entries.specs.declared.entry.Entry.{Entry}
+use Rattle.mip_rules_agent.specs.Questions.{if_standing}
+use Rattle.mip_rules_mobile.specs.declared.attachment.Attachment.{Attachment}
+use Rattle.mip_rules_mobile.specs.declared.attachment.Attachment.TheVariants.{Detached}
+use Rattle.mip_rules_mobile.specs.HomeQuestions.{standing_at}
 use Rattle.mip_history.specs.Questions.{moment_in, holder_in, declared_in}
 use Rattle.mip_history.specs.Bound.{accepted_by}
 use Rattle.mip_history.specs.Registered.{last_registration}
@@ -18,6 +23,23 @@ present_from past n (Some own) = present_in past n own
 -- the address that a node uses, whose own address is the first that it claimed
 abbrev pub present_told : List Entry → ℕ → Option Address
 present_told past n = present_from past n (declared_in past n)
+
+-- where a node with this own address stands by the address that it uses: at home, away, or between two links. RFC 6275 section 11.5
+abbrev pub standing_by : (own : Address) → (present : Option Address) → Attachment
+standing_by own None = Detached
+standing_by own (Some address) = standing_at own address
+
+abbrev pub standing_from : List Entry → ℕ → Option Address → Attachment
+standing_from past n None = Detached
+standing_from past n (Some own) = standing_by own (present_in past n own)
+
+-- where a node stands, whose own address is the first that it claimed
+abbrev pub standing_told : List Entry → ℕ → Attachment
+standing_told past n = standing_from past n (declared_in past n)
+
+-- the end of a home's registration at an agent, while that lies ahead. RFC 6275 section 10.3.1
+abbrev pub registered_until_in : (now : ℕ) → List Entry → (agent : ℕ) → (home : Address) → Option Moment
+registered_until_in now past agent home = option_map (λ b. b.end) (if_standing home now (last_registration past agent home))
 
 -- some node has a home registered
 abbrev pub is_registered_in : (now : ℕ) → List Entry → (home : Address) → Bool
@@ -56,6 +78,12 @@ is_registered_at p home = is_registered_in (moment_at p) p.entries.now home
 
 abbrev pub present_at : Past → ℕ → Option Address
 present_at p n = present_told p.entries.now n
+
+abbrev pub standing_of_node : Past → ℕ → Attachment
+standing_of_node p n = standing_told p.entries.now n
+
+abbrev pub registered_until_at : Past → (g : ℕ) → (home : Address) → Option Moment
+registered_until_at p g home = registered_until_in (moment_at p) p.entries.now g home
 
 abbrev pub agent_at : Past → ℕ → Option Address
 agent_at p n = agent_in (moment_at p) p.entries.now n

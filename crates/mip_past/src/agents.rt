@@ -1,11 +1,11 @@
 //! What a home agent has registered.
 
 ghost use Rattle.std.specs.Prelude.{◌≡◌};
-ghost use Rattle.mip_past.specs.Asking.{registered_careof_at, registered_sequence_at, is_registered_at};
+ghost use Rattle.mip_past.specs.Asking.{registered_careof_at, registered_sequence_at, registered_until_at, is_registered_at};
 
 use crate::past::Past;
 use mip_settled::homes;
-use mip_words::{Address, NodeId};
+use mip_words::{Address, Moment, NodeId};
 
 impl Past<'_> {
     /// The care-of address that an agent has registered for a home.
@@ -22,6 +22,18 @@ impl Past<'_> {
         match homes::registration(self.entries, agent.0, home) {
             Some(last) => Some(last.sequence),
             None => None,
+        }
+    }
+
+    /// The end of a home's registration at an agent, while that lies ahead.
+    pub fn registered_until(&self, agent: NodeId, home: Address) -> Option<Moment>
+        ensures { result ≡ registered_until_at self.now agent.0 home }
+    {
+        let last = homes::registration(self.entries, agent.0, home)?;
+        if last.careof.0 != home.0 && self.moment().0 < last.end.0 {
+            Some(last.end)
+        } else {
+            None
         }
     }
 

@@ -2,6 +2,7 @@
 use Rattle.std.specs.Prelude.{ℕ, zero, suc, List, [], ◌∷◌, ◌++◌, length, Bool, true, false, Option, Some, None, option_map, codes, decimal}
 use Rattle.mip_words.specs.declared.address.Address.{Address}
 use Rattle.mip_words.specs.declared.ids.NodeId.{NodeId}
+use Rattle.mip_words.specs.declared.moment.Moment.{Moment}
 use Rattle.mip_binding.specs.Held.{held, floor}
 use Rattle.mip_lines.specs.HexFields.{address_hex}
 use Rattle.mip_lines.specs.Lines.{line_text}
@@ -14,7 +15,9 @@ use Rattle.mip_history.specs.Questions.{moment_in}
 use Rattle.mip_history.specs.Bound.{accepted_by}
 use Rattle.mip_history.specs.Registered.{last_registration}
 use Rattle.mip_history.specs.Told.{agent_in, is_bound_in, careof_in}
-use Rattle.mip_past.specs.Asking.{present_told}
+use Rattle.mip_rules_mobile.specs.declared.attachment.Attachment.{Attachment}
+use Rattle.mip_rules_mobile.specs.declared.attachment.Attachment.TheVariants.{Detached, AtHome, Away}
+use Rattle.mip_past.specs.Asking.{present_told, standing_told, registered_until_in}
 use Rattle.mip_past_text.specs.Subjects.{about_each}
 use Rattle.mip_past_text.specs.declared.topic.Topic.{Topic}
 use Rattle.mip_past_text.specs.declared.topic.Topic.TheVariants.{Binding, Registration, Peer}
@@ -28,6 +31,14 @@ careof_answer answer = or_word (codes "-") (λ a. address_hex (record { 0 = a })
 
 abbrev pub number_answer : Option ℕ → List ℕ
 number_answer answer = or_word (codes "-") decimal answer
+
+abbrev pub moment_answer : Option Moment → List ℕ
+moment_answer answer = or_word (codes "-") (λ m. decimal m.0) answer
+
+abbrev pub standing_answer : Attachment → List ℕ
+standing_answer Detached = codes "-"
+standing_answer AtHome = codes "home"
+standing_answer (Away careof) = codes "away"
 
 abbrev pub yes_or_no : Bool → List ℕ
 yes_or_no true = codes "yes"
@@ -48,9 +59,12 @@ pub record Front : Type 0 where
 abbrev pub now_of : Front → ℕ
 now_of f = moment_in f.start f.past
 
--- where agent n has a home registered, and the sequence that it keeps of it. RFC 6275 section 10.3.1
+-- where agent n has a home registered, until when, and the sequence that it keeps of it. RFC 6275 section 10.3.1
 abbrev pub registered_line : List Declaration → Front → NodeId → Address → List ℕ
 registered_line ds f n home = subject_line ds n (codes "registered") home (address_answer (careof_in (now_of f) f.past n.0 home))
+
+abbrev pub until_line : List Declaration → Front → NodeId → Address → List ℕ
+until_line ds f n home = subject_line ds n (codes "until") home (moment_answer (registered_until_in (now_of f) f.past n.0 home))
 
 abbrev pub sequence_line : List Declaration → Front → NodeId → Address → List ℕ
 sequence_line ds f n home = subject_line ds n (codes "sequence") home (number_answer (option_map (λ b. b.sequence) (last_registration f.past n.0 home)))
@@ -60,7 +74,7 @@ abbrev pub topic_text : List Declaration → Front → NodeId → Topic → Addr
 topic_text ds f n Binding home =
     subject_line ds n (codes "held") home (careof_answer (held (accepted_by f.start f.past n.0) home.0 (now_of f)))
     ++ subject_line ds n (codes "floor") home (number_answer (floor (accepted_by f.start f.past n.0) home.0 (now_of f)))
-topic_text ds f n Registration home = registered_line ds f n home ++ sequence_line ds f n home
+topic_text ds f n Registration home = registered_line ds f n home ++ (until_line ds f n home ++ sequence_line ds f n home)
 topic_text ds f n Peer peer = subject_line ds n (codes "bound") peer (yes_or_no (is_bound_in (now_of f) f.past n.0 peer))
 
 -- about all addresses that the entries name
@@ -71,8 +85,9 @@ topic_texts ds f n topic = about_each topic n.0 (topic_text ds f n topic) f.past
 unfoldable pub node_known : List Declaration → Front → NodeId → List ℕ
 node_known ds f n =
     node_line ds n (codes "present") (address_answer (present_told f.past n.0))
+    ++ (node_line ds n (codes "standing") (standing_answer (standing_told f.past n.0))
     ++ (node_line ds n (codes "agent") (address_answer (agent_in (now_of f) f.past n.0))
-    ++ (topic_texts ds f n Binding ++ (topic_texts ds f n Registration ++ topic_texts ds f n Peer)))
+    ++ (topic_texts ds f n Binding ++ (topic_texts ds f n Registration ++ topic_texts ds f n Peer))))
 
 -- of the first so many nodes
 unfoldable pub nodes_known : List Declaration → Front → ℕ → List ℕ

@@ -1,12 +1,13 @@
 //! Lines of questions with their answers.
 
-ghost use Rattle.std.specs.Prelude.{◌≡◌, ◌++◌, ◌∷◌, [], OnOk};
+ghost use Rattle.std.specs.Prelude.{◌≡◌, ◌++◌, ◌∷◌, [], OnOk, codes};
 ghost use Rattle.mip_lines.specs.HexFields.{address_hex};
 ghost use Rattle.mip_lines.specs.Lines.{line_text};
-ghost use Rattle.mip_past_text.specs.Text.{address_answer, number_answer, yes_or_no};
+ghost use Rattle.mip_past_text.specs.Text.{address_answer, moment_answer, number_answer, standing_answer, yes_or_no};
 
 use mip_lines::{put_line, put_number};
-use mip_words::{Address, Bytes, Memory};
+use mip_rules_mobile::Attachment;
+use mip_words::{Address, Bytes, Memory, Moment};
 use std::alloc::Global;
 
 /// Appends `QUESTION NODE ANSWER`, by an address.
@@ -21,6 +22,17 @@ pub fn put_address(
     match answer {
         Some(address) => put_line(out, &[question, node, &address.digits()]),
         None => put_line(out, &[question, node, b"-"]),
+    }
+}
+
+/// Appends `standing NODE ANSWER`.
+pub fn put_standing(out: &mut Bytes, node: &[u8], answer: Attachment) -> Result<(), Memory>
+    ensures { OnOk result (out.new ≡ out.old ++ line_text (codes "standing" ∷ node.now ∷ standing_answer answer ∷ [])) }
+{
+    match answer {
+        Attachment::Detached => put_line(out, &[b"standing", node, b"-"]),
+        Attachment::AtHome => put_line(out, &[b"standing", node, b"home"]),
+        Attachment::Away { .. } => put_line(out, &[b"standing", node, b"away"]),
     }
 }
 
@@ -56,6 +68,25 @@ pub fn put_number_of(
     };
     let mut digits = Bytes::new(alloc);
     put_number(&mut digits, number as u64)?;
+    put_line(out, &[question, node, &subject.digits(), digits.as_slice()])
+}
+
+/// Appends `QUESTION NODE ADDRESS ANSWER`, by a moment in milliseconds.
+pub fn put_moment_of(
+    alloc: Global,
+    out: &mut Bytes,
+    question: &[u8],
+    node: &[u8],
+    subject: Address,
+    answer: Option<Moment>,
+) -> Result<(), Memory>
+    ensures { OnOk result (out.new ≡ out.old ++ line_text (question.now ∷ node.now ∷ address_hex subject ∷ moment_answer answer ∷ [])) }
+{
+    let Some(moment) = answer else {
+        return put_line(out, &[question, node, &subject.digits(), b"-"]);
+    };
+    let mut digits = Bytes::new(alloc);
+    put_number(&mut digits, moment.0)?;
     put_line(out, &[question, node, &subject.digits(), digits.as_slice()])
 }
 

@@ -6,9 +6,9 @@ ghost use Rattle.mip_symbols.specs.Places.{AreFew};
 ghost use Rattle.mip_past_text.specs.Subjects.{last_named};
 ghost use Rattle.mip_past_text.specs.Fronts.{front_of};
 ghost use Rattle.mip_past_text.specs.declared.topic.Topic.TheVariants as topics;
-ghost use Rattle.mip_past_text.specs.Text.{registered_line, sequence_line, topic_text, topic_texts, node_known, nodes_known, known_of, known_text};
+ghost use Rattle.mip_past_text.specs.Text.{registered_line, until_line, sequence_line, topic_text, topic_texts, node_known, nodes_known, known_of, known_text};
 
-use crate::answers::{put_address, put_address_of, put_number_of, put_whether};
+use crate::answers::{put_address, put_address_of, put_moment_of, put_number_of, put_standing, put_whether};
 use crate::inquiry::Inquiry;
 use crate::subjects::{is_named, subject};
 use crate::topic::Topic;
@@ -43,6 +43,20 @@ fn put_registered(out: &mut Bytes, asked: Inquiry<'_>, home: Address) -> Result<
     put_address_of(out, b"registered", name, home, careof)
 }
 
+/// Appends until when an agent has registered a home.
+fn put_until(
+    alloc: Global,
+    out: &mut Bytes,
+    asked: Inquiry<'_>,
+    home: Address,
+) -> Result<(), Memory>
+    ensures { OnOk result (out.new ≡ out.old ++ until_line asked.entry.declarations.now (front_of asked.entry.past) asked.entry.node home) }
+{
+    let name = node_name(asked.declarations, asked.node);
+    let until = asked.past.registered_until(asked.node, home);
+    put_moment_of(alloc, out, b"until", name, home, until)
+}
+
 /// Appends the sequence that an agent keeps of a home.
 fn put_sequence(
     alloc: Global,
@@ -67,6 +81,7 @@ fn put_registration(
     ensures { OnOk result (out.new ≡ out.old ++ topic_text asked.entry.declarations.now (front_of asked.entry.past) asked.entry.node topics.Registration home) }
 {
     put_registered(out, asked, home)?;
+    put_until(alloc, out, asked, home)?;
     put_sequence(alloc, out, asked, home)
 }
 
@@ -143,6 +158,7 @@ fn put_node(alloc: Global, out: &mut Bytes, asked: Inquiry<'_>) -> Result<(), Me
 {
     let name = node_name(asked.declarations, asked.node);
     put_address(out, b"present", name, asked.past.present(asked.node))?;
+    put_standing(out, name, asked.past.standing(asked.node))?;
     put_address(out, b"agent", name, asked.past.agent(asked.node))?;
     put_topics(alloc, out, asked, Topic::Binding)?;
     put_topics(alloc, out, asked, Topic::Registration)?;
