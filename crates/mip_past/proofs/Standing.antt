@@ -1,13 +1,11 @@
 -- Where a mobile stands follows from the address that it uses, since nobody is away at home.
-use Rattle.std.proofs.Common.{◌≡◌, ◌≢◌, ℕ, Bool, refl, sym, ap, ◌∙◌, subst}
-use Rattle.std.specs.Prelude.{Option, ◌==◌, if◌then◌else◌}
+use Rattle.std.proofs.Common.{◌≡◌, ℕ, Bool, refl, ap, subst}
+use Rattle.std.specs.Prelude.{Option, if◌then◌else◌}
 use Rattle.std.proofs.lemmas.Bool.{eq-eqb, ne_eqb}
 use Rattle.mip_words.specs.declared.address.Address.{Address}
 use Rattle.mip_rules_mobile.specs.Answering.{IsApart}
-use Rattle.mip_rules_mobile.specs.Known.{Known}
 use Rattle.mip_rules_mobile.specs.declared.attachment.Attachment.{Attachment}
 use Rattle.mip_rules_mobile.specs.declared.attachment.Attachment.TheVariants.{Detached, AtHome, Away}
-use Rattle.mip_rules_mobile.specs.Questions.{known}
 use Rattle.mip_rules_mobile.proofs.Shielding.{past-home}
 use Rattle.mip_rules_mobile.proofs.Sources.{past-elsewhere}
 use Rattle.mip_history.specs.Setup.{Setup}
