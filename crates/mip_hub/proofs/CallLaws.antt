@@ -5,7 +5,7 @@ use Rattle.std.specs.List.{flat_map}
 use Rattle.std.proofs.Math.Seq.{take-append-add}
 use Rattle.std.proofs.lemmas.List.{map-append, take-append-le, replicate-append-replicate}
 use Rattle.std.proofs.lemmas.Grind.{flat_map-append}
-use Rattle.mip_outside.specs.LinkCalls.{called, fault_of, failure_of, granted}
+use Rattle.mip_outside.specs.LinkCalls.{called, fault_of, granted}
 use Rattle.mip_outside.specs.declared.asked.Asked.{Asked}
 use Rattle.mip_outside.specs.declared.asked.Asked.TheVariants.{Listen, Send, Receive}
 use Rattle.mip_outside.specs.declared.link_call.LinkCall.{LinkCall}
@@ -44,6 +44,7 @@ pub both : {s t : Known} {c d : List LinkCall} → s ≡ t → c ≡ d → link_
 both e f = cc
 
 pub nothing_made : (link : LinkState) → link ≡ made_on [] link
+unfolding made_on
 nothing_made link = both (nothing_sent link.sent) (no_calls link.calls)
 
 pub nothing_asked : (link : LinkState) → link ≡ asked_on [] link
@@ -53,11 +54,13 @@ pub same_link : (after before : LinkState) → after ≡ before → after ≡ ma
 same_link after before e = e ∙ nothing_made before
 
 pub made_twice : (xs ys : List Call) (link : LinkState) → made_on ys (made_on xs link) ≡ made_on (xs ++ ys) link
+unfolding made_on
 made_twice xs ys link = both (sent_more xs ys link.sent) (calls_more xs ys link.calls)
 
 -- a call that sends nothing was refused before any other was made
 pub refused_first : (known sent : Known) (calls calls1 last : List LinkCall) → sent ≡ known → calls1 ≡ calls ++ last
     → link_state sent calls1 ≡ asked_on last (made_on [] (link_state known calls))
+unfolding made_on
 refused_first known sent calls calls1 last same is =
     both (same ∙ nothing_sent known) (is ∙ ap (λ (l : List LinkCall). l ++ last) (no_calls calls))
 
@@ -75,7 +78,7 @@ stays calls before after e = record {
 pub sends : {U : Type 0} (port : ℕ) (datagram : List ℕ) (r : Result U PutFault) (sent sent1 : Known) (calls calls1 : List LinkCall)
     → OnOk r (sent1 ≡ option_map (λ items. items ++ (port, datagram) ∷ []) sent) → OnErr r (sent1 ≡ sent) → calls1 ≡ calls ++ called Send (fault_of r) ∷ []
     → Goes (Sends port datagram ∷ []) r (link_state sent calls) (link_state sent1 calls1)
-unfolding sent_on granted
+unfolding made_on sent_on granted
 sends port datagram (Ok u) sent sent1 calls calls1 ok err is = both ok is
 sends port datagram (Err Failed) sent sent1 calls calls1 ok err is =
     record { count = 0; cut = refl; last = called Send (Some Failed) ∷ []; ended = refl; left = refused_first sent sent1 calls calls1 _ err is }
@@ -85,25 +88,20 @@ sends port datagram (Err Memory) sent sent1 calls calls1 ok err is =
 -- a port was listened on
 pub listened : (port : ℕ) (sent sent1 : Known) (calls calls1 : List LinkCall) → sent1 ≡ sent → calls1 ≡ calls ++ called Listen None ∷ []
     → link_state sent1 calls1 ≡ made_on (Listens port ∷ []) (link_state sent calls)
-unfolding sent_on granted
+unfolding made_on sent_on granted
 listened port sent sent1 calls calls1 same is = both (same ∙ nothing_sent sent) is
 
 -- it was waited for a datagram
-pub received : {U E : Type 0} (r : Result U E) (sent sent1 : Known) (calls calls1 : List LinkCall) → sent1 ≡ sent → calls1 ≡ calls ++ called Receive (failure_of r) ∷ []
-    → failure_of r ≡ None → link_state sent1 calls1 ≡ made_on (Receives ∷ []) (link_state sent calls)
-unfolding sent_on granted
-received r sent sent1 calls calls1 same is well = both (same ∙ nothing_sent sent) (is ∙ ap (λ (f : Option PutFault). calls ++ called Receive f ∷ []) well)
+pub received : (sent sent1 : Known) (calls calls1 : List LinkCall) → sent1 ≡ sent → calls1 ≡ calls ++ called Receive None ∷ []
+    → link_state sent1 calls1 ≡ made_on (Receives ∷ []) (link_state sent calls)
+unfolding made_on sent_on granted
+received sent sent1 calls calls1 same is = both (same ∙ nothing_sent sent) is
 
 -- the link was to be waited on, and failed
-pub deaf : {U E : Type 0} (calls : List Call) (r : Result U E) (sent sent1 : Known) (calls0 calls1 : List LinkCall) → sent1 ≡ sent → calls1 ≡ calls0 ++ called Receive (failure_of r) ∷ []
-    → failure_of r ≡ Some Failed → Stops Failed (Receives ∷ calls) (link_state sent calls0) (link_state sent1 calls1)
-deaf calls r sent sent1 calls0 calls1 same is failed = record {
-  count = 0;
-  cut = refl;
-  last = called Receive (Some Failed) ∷ [];
-  ended = refl;
-  left = refused_first sent sent1 calls0 calls1 _ same (is ∙ ap (λ (f : Option PutFault). calls0 ++ called Receive f ∷ []) failed);
-}
+pub deaf : (calls : List Call) (sent sent1 : Known) (calls0 calls1 : List LinkCall) → sent1 ≡ sent → calls1 ≡ calls0 ++ called Receive (Some Failed) ∷ []
+    → Stops Failed (Receives ∷ calls) (link_state sent calls0) (link_state sent1 calls1)
+deaf calls sent sent1 calls0 calls1 same is =
+    record { count = 0; cut = refl; last = called Receive (Some Failed) ∷ []; ended = refl; left = refused_first sent sent1 calls0 calls1 _ same is }
 
 pub get_behind : {X : Type 0} (xs ys : List X) (k n : ℕ) → n ≡ length xs + k → slice_get (xs ++ ys) n ≡ slice_get ys k
 get_behind [] ys k n e = let same : n ≡ k = omega (arith, e) in ap (slice_get ys) same

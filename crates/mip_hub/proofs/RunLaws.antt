@@ -1,5 +1,5 @@
 -- A run of a hub, turn by turn.
-use Rattle.std.proofs.Common.{◌≡◌, ℕ, zero, suc, ◌+◌, ◌<◌, ◌≤◌, List, [], ◌∷◌, ◌++◌, length, take, drop, false, refl, sym, ap, ◌∙◌, subst, arith, length-append, append-nil}
+use Rattle.std.proofs.Common.{◌≡◌, ℕ, zero, suc, ◌+◌, ◌<◌, ◌≤◌, List, [], ◌∷◌, ◌++◌, length, take, drop, true, false, refl, sym, ap, ◌∙◌, subst, arith, length-append, append-nil}
 use Rattle.std.specs.Prelude.{Option, Some, None, Result, Ok, Err, option_map, slice_get, replicate, ◌==◌, OnOk}
 use Rattle.std.specs.Result.{is_err}
 use Rattle.std.specs.List.{flat_map}
@@ -16,7 +16,7 @@ use Rattle.mip_outside.specs.LinkCalls.{called, failure_of}
 use Rattle.mip_outside.specs.declared.asked.Asked.TheVariants.{Listen}
 use Rattle.mip_outside.specs.declared.link_call.LinkCall.{LinkCall}
 use Rattle.mip_outside.specs.declared.put_fault.PutFault.TheVariants as put_faults
-use Rattle.mip_hub.specs.Calls.{Call, Listens, Sends, Receives, Gives, given_by, LinkState, link_state, made_on, asked_on, held_on, text_at, IsEndedBy, Stops}
+use Rattle.mip_hub.specs.Calls.{Call, Listens, Sends, Receives, Gives, given_by, LinkState, link_state, sent_on, made_on, asked_on, held_on, text_at, IsEndedBy, Stops}
 use Rattle.mip_hub.specs.Reading.{Content}
 use Rattle.mip_hub.specs.Served.{next_in, IsSeen, came, Saw, Outside, outside, IsFaultAt, after_part, IsCut, after_all, Ran}
 use Rattle.mip_hub.specs.Passing.{Passed, Dropped, Gone, Lost, To, passed, passed_calls}
@@ -127,6 +127,7 @@ quiet_held calls held e = append_none held held refl ∙ ap (append_known held) 
 
 -- a text asks nothing of the link
 given_made : (text : List ℕ) (link : LinkState) → link ≡ made_on (Gives text ∷ []) link
+unfolding made_on sent_on
 given_made text link = nothing_made link
 
 given_held : (text : List ℕ) (known : Option (List ℕ)) → append_known known text ≡ held_on (Gives text ∷ []) known

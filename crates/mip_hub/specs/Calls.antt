@@ -60,7 +60,7 @@ abbrev pub link_state : Option (List (ℕ × List ℕ)) → List LinkCall → Li
 link_state sent calls = record { sent = sent; calls = calls }
 
 -- a link of which these calls were asked, and nothing else, and which granted each
-abbrev pub made_on : List Call → LinkState → LinkState
+unfoldable pub made_on : List Call → LinkState → LinkState
 made_on calls link = record { sent = sent_on calls link.sent; calls = link.calls ++ granted (flat_map asked_by calls) }
 
 -- a link that sent nothing by its last calls
