@@ -1,7 +1,7 @@
 -- What the lines of a turn do, and how often its datagram goes on.
 use Rattle.std.proofs.Common.{◌≡◌, ℕ, List, [], ◌∷◌, ◌++◌, true, false, cond, refl, sym, ap, ◌∙◌, append-nil, inl, inr}
-use Rattle.std.specs.Prelude.{Bool, not, ◌==◌, ◌≢◌, ◌⊎◌, Option, Some, None, option_map, replicate}
-use Rattle.std.specs.List.{filter, find, flat_map}
+use Rattle.std.specs.Prelude.{Bool, not, ◌==◌, ◌≢◌, ◌⊎◌, Some, None, option_map, replicate}
+use Rattle.std.specs.List.{filter, find}
 use Rattle.std.proofs.lemmas.Bool.{cond-true, cond-false, eq-eqb}
 use Rattle.std.proofs.lemmas.Bool.Decides.{eqb_tells}
 use Rattle.std.proofs.lemmas.Grind.{flat_map-append}

@@ -16,7 +16,7 @@ use Rattle.mip_outside.specs.LinkCalls.{called, failure_of}
 use Rattle.mip_outside.specs.declared.asked.Asked.TheVariants.{Listen}
 use Rattle.mip_outside.specs.declared.link_call.LinkCall.{LinkCall}
 use Rattle.mip_outside.specs.declared.put_fault.PutFault.TheVariants as put_faults
-use Rattle.mip_hub.specs.Calls.{Call, Listens, Sends, Receives, Gives, given_by, LinkState, link_state, sent_on, made_on, asked_on, held_on, text_at, IsEndedBy, Stops}
+use Rattle.mip_hub.specs.Calls.{Call, Listens, Sends, Receives, Gives, given_by, LinkState, link_state, sent_on, made_on, asked_on, held_on, text_at, Stops}
 use Rattle.mip_hub.specs.Reading.{Content}
 use Rattle.mip_hub.specs.Served.{next_in, IsSeen, came, Saw, Outside, outside, IsFaultAt, after_part, IsCut, after_all, Ran}
 use Rattle.mip_hub.specs.Passing.{Passed, Dropped, Gone, Lost, To, passed, passed_calls}
