@@ -196,4 +196,3 @@ texts_more f n x first before after is next =
     next ∙ ap (λ (l : List ℕ). l ++ f x) is ∙ append_assoc first (flat_map f (replicate n x)) (f x)
     ∙ ap (λ (l : List ℕ). first ++ l)
     (ap (λ (l : List ℕ). flat_map f (replicate n x) ++ l) (sym (append-nil (f x))) ∙ sym (flat_map-append f (replicate n x) (x ∷ [])) ∙ ap (flat_map f) (replicate-append-replicate n 1 x))
-

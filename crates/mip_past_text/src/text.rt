@@ -8,7 +8,9 @@ ghost use Rattle.mip_past_text.specs.Fronts.{front_of};
 ghost use Rattle.mip_past_text.specs.declared.topic.Topic.TheVariants as topics;
 ghost use Rattle.mip_past_text.specs.Text.{registered_line, until_line, sequence_line, topic_text, topic_texts, node_known, nodes_known, known_of, known_text};
 
-use crate::answers::{put_address, put_address_of, put_moment_of, put_number_of, put_standing, put_whether};
+use crate::answers::{
+    put_address, put_address_of, put_moment_of, put_number_of, put_standing, put_whether,
+};
 use crate::inquiry::Inquiry;
 use crate::subjects::{is_named, subject};
 use crate::topic::Topic;
