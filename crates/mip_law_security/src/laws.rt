@@ -1,0 +1,29 @@
+//! The laws, each the contract of a function that does nothing.
+
+ghost use Rattle.std.specs.Prelude.{◌≡◌, ℕ, ◌≤◌, List, [], ◌∷◌, ◌++◌, length};
+ghost use Rattle.mip_words.specs.Addresses.{address_bytes};
+ghost use Rattle.mip_words.specs.declared.address.Address.{Address};
+ghost use Rattle.sha1.specs.Sha1.{sha1};
+ghost use Rattle.mip_tokens.specs.Token.{home_token_of, careof_token_of, kbm_both_of, kbm_home_of, authenticator_of};
+ghost use Rattle.mip_law_security.specs.Octets.{first_of_hash, IsSealed};
+
+/// A home keygen token is the first 64 bits of the hash, keyed by Kcn, of the home address, the nonce and an octet 0; a care-of
+/// keygen token that of the care-of address, the nonce and an octet 1. RFC 6275 section 5.2.5
+pub fn tokens_have_their_octets()
+    ensures home { (kcn nonce : List ℕ) (home : Address) → length kcn ≤ 64 → home_token_of kcn home nonce ≡ first_of_hash 8 kcn (address_bytes home ++ (nonce ++ 0 ∷ [])) }
+    ensures careof { (kcn nonce : List ℕ) (careof : Address) → length kcn ≤ 64 → careof_token_of kcn careof nonce ≡ first_of_hash 8 kcn (address_bytes careof ++ (nonce ++ 1 ∷ [])) }
+{}
+
+/// The key of an update is the hash of the home keygen token and the care-of keygen token, in this order, and of the home keygen
+/// token alone where the update ends the binding. RFC 6275 section 5.2.6
+pub fn keys_have_their_octets()
+    ensures both { (home careof : List ℕ) → kbm_both_of home careof ≡ sha1 (home ++ careof) }
+    ensures home { (home : List ℕ) → kbm_home_of home ≡ sha1 home }
+{}
+
+/// An authenticator is the first 96 bits of the hash, keyed by Kbm, of the care-of address, the address of the correspondent and
+/// the message in front of the authenticator, with zero for its checksum. RFC 6275 section 6.2.7
+pub fn authenticators_have_their_octets()
+    ensures { (kbm : List ℕ) (careof peer : Address) (message : List ℕ) (m : IsSealed message) → length kbm ≤ 64
+        → authenticator_of kbm careof peer message ≡ first_of_hash 12 kbm (address_bytes careof ++ (address_bytes peer ++ (m.front ++ (0 ∷ 0 ∷ m.rest)))) }
+{}

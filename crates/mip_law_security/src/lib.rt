@@ -1,0 +1,9 @@
+//! Laws that hold rules of security apart from the definitions that nodes follow: of tunnels, of home addresses that packets
+//! name, of keys, of acknowledgements, of what outsiders hear and of how data goes.
+#![tactic(auto)]
+
+mod laws;
+
+pub use laws::{
+    authenticators_have_their_octets, keys_have_their_octets, tokens_have_their_octets,
+};
