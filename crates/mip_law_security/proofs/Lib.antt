@@ -1,1 +1,2 @@
 mod Octets
+mod Backwards

@@ -1,10 +1,21 @@
 //! The laws, each the contract of a function that does nothing.
 
-ghost use Rattle.std.specs.Prelude.{◌≡◌, ℕ, ◌≤◌, List, [], ◌∷◌, ◌++◌, length};
+ghost use Rattle.std.specs.Prelude.{◌≡◌, ℕ, ◌≤◌, List, [], ◌∷◌, ◌++◌, length, Option};
+ghost use Rattle.std.specs.List.{AllByRecursion};
 ghost use Rattle.mip_words.specs.Addresses.{address_bytes};
 ghost use Rattle.mip_words.specs.declared.address.Address.{Address};
 ghost use Rattle.sha1.specs.Sha1.{sha1};
 ghost use Rattle.mip_tokens.specs.Token.{home_token_of, careof_token_of, kbm_both_of, kbm_home_of, authenticator_of};
+ghost use Rattle.mip_tokens.specs.declared.kbm.Kbm.{Kbm};
+ghost use Rattle.mip_ipv6.specs.Packet.{Packet};
+ghost use Rattle.mip_reception.specs.declared.registration.Registration.{Registration};
+ghost use Rattle.mip_reception.specs.Acks.{ack_packet};
+ghost use Rattle.mip_rules_correspondent.specs.declared.identity.Identity.{Identity};
+ghost use Rattle.mip_rules_correspondent.specs.declared.known.Known.{Known};
+ghost use Rattle.mip_rules_correspondent.specs.Calls.{Call};
+ghost use Rattle.mip_rules_correspondent.specs.Doing.{transition_of};
+ghost use Rattle.mip_rules_correspondent.specs.Answering.{HandsOver};
+ghost use Rattle.mip_law_security.specs.Backwards.{GoesBack, SendsBack};
 ghost use Rattle.mip_law_security.specs.Octets.{first_of_hash, IsSealed};
 
 /// A home keygen token is the first 64 bits of the hash, keyed by Kcn, of the home address, the nonce and an octet 0; a care-of
@@ -26,4 +37,13 @@ pub fn keys_have_their_octets()
 pub fn authenticators_have_their_octets()
     ensures { (kbm : List ℕ) (careof peer : Address) (message : List ℕ) (m : IsSealed message) → length kbm ≤ 64
         → authenticator_of kbm careof peer message ≡ first_of_hash 12 kbm (address_bytes careof ++ (address_bytes peer ++ (m.front ++ (0 ∷ 0 ∷ m.rest)))) }
+{}
+
+/// An acknowledgement goes from the node back to the source of the update, with a routing header that names the Home Address option
+/// of the update where it had one (RFC 6275 sections 6.1.8 and 9.5.4). `bytes` says it of all that is written as one, at a home
+/// agent too, and `sent` of each that a correspondent sends, or the correspondent part of a mobile: about the packet that is handed
+/// over nothing else is sent as one.
+pub fn acknowledgements_go_back()
+    ensures bytes { (own : Address) (r : Registration) (status sequence lifetime : ℕ) (kbm : Option Kbm) → GoesBack own r.source r.home_option (ack_packet own r status sequence lifetime kbm) }
+    ensures sent { (me : Identity) (k : Known) (now : ℕ) (c : Call) (number : ℕ) (p : Packet) → HandsOver c number p → AllByRecursion (SendsBack me c now p) (transition_of me k now c).steps }
 {}

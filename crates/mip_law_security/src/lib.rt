@@ -5,5 +5,6 @@
 mod laws;
 
 pub use laws::{
+    acknowledgements_go_back,
     authenticators_have_their_octets, keys_have_their_octets, tokens_have_their_octets,
 };
