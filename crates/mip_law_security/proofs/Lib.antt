@@ -1,2 +1,3 @@
 mod Octets
 mod Backwards
+mod Naming

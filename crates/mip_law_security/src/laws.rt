@@ -1,6 +1,6 @@
 //! The laws, each the contract of a function that does nothing.
 
-ghost use Rattle.std.specs.Prelude.{◌≡◌, ℕ, ◌≤◌, List, [], ◌∷◌, ◌++◌, length, Option};
+ghost use Rattle.std.specs.Prelude.{◌≡◌, ℕ, ◌≤◌, List, [], ◌∷◌, ◌++◌, length, true, Option, Some, Ok};
 ghost use Rattle.std.specs.List.{AllByRecursion};
 ghost use Rattle.mip_words.specs.Addresses.{address_bytes};
 ghost use Rattle.mip_words.specs.declared.address.Address.{Address};
@@ -8,6 +8,8 @@ ghost use Rattle.sha1.specs.Sha1.{sha1};
 ghost use Rattle.mip_tokens.specs.Token.{home_token_of, careof_token_of, kbm_both_of, kbm_home_of, authenticator_of};
 ghost use Rattle.mip_tokens.specs.declared.kbm.Kbm.{Kbm};
 ghost use Rattle.mip_ipv6.specs.Packet.{Packet};
+ghost use Rattle.mip_ipv6.specs.Reading.{packet_of};
+ghost use Rattle.mip_words.specs.declared.shield.Shield.{Shield};
 ghost use Rattle.mip_reception.specs.declared.registration.Registration.{Registration};
 ghost use Rattle.mip_reception.specs.Acks.{ack_packet};
 ghost use Rattle.mip_rules_correspondent.specs.declared.identity.Identity.{Identity};
@@ -15,6 +17,12 @@ ghost use Rattle.mip_rules_correspondent.specs.declared.known.Known.{Known};
 ghost use Rattle.mip_rules_correspondent.specs.Calls.{Call};
 ghost use Rattle.mip_rules_correspondent.specs.Doing.{transition_of};
 ghost use Rattle.mip_rules_correspondent.specs.Answering.{HandsOver};
+ghost use Rattle.mip_rules_correspondent.specs.Questions.{holds_for};
+ghost use Rattle.mip_rules_mobile.specs.Calls as mobile_calls;
+ghost use Rattle.mip_rules_mobile.specs.Known as mobile_known;
+ghost use Rattle.mip_rules_mobile.specs.Doing as mobile_doing;
+ghost use Rattle.mip_rules_mobile.specs.TakenLaws.{AreRefusingUnless};
+ghost use Rattle.mip_law_security.specs.Naming.{SaysNoUpdate};
 ghost use Rattle.mip_law_security.specs.Backwards.{GoesBack, SendsBack};
 ghost use Rattle.mip_law_security.specs.Octets.{first_of_hash, IsSealed};
 
@@ -46,4 +54,16 @@ pub fn authenticators_have_their_octets()
 pub fn acknowledgements_go_back()
     ensures bytes { (own : Address) (r : Registration) (status sequence lifetime : ℕ) (kbm : Option Kbm) → GoesBack own r.source r.home_option (ack_packet own r status sequence lifetime kbm) }
     ensures sent { (me : Identity) (k : Known) (now : ℕ) (c : Call) (number : ℕ) (p : Packet) → HandsOver c number p → AllByRecursion (SendsBack me c now p) (transition_of me k now c).steps }
+{}
+
+/// A mobile takes a packet with a Home Address option, unless it is an update, only where its correspondent part holds the home with
+/// the source of the packet as its care-of address; any other is refused. So it is of the packet that is handed over and of the one
+/// within its tunnel. RFC 6275 section 9.3.1
+pub fn home_options_at_a_mobile_need_their_binding()
+    ensures straight { (k : mobile_known.Known) (now number : ℕ) (shield : Option Shield) (bytes : List ℕ) (p : Packet) (home : Address) → p.head.home ≡ Some home → SaysNoUpdate p
+        → packet_of bytes ≡ Ok p
+        → AreRefusingUnless (mobile_doing.transition_of k now (mobile_calls.Take number shield bytes)).steps (holds_for k.part.known now home p.head.source ≡ true) }
+    ensures within { (k : mobile_known.Known) (now number : ℕ) (shield : Option Shield) (bytes : List ℕ) (p : Packet) (home : Address) → p.head.home ≡ Some home → SaysNoUpdate p
+        → (outer : Packet) → packet_of bytes ≡ Ok outer → outer.head.proto ≡ 41 → packet_of outer.body ≡ Ok p
+        → AreRefusingUnless (mobile_doing.transition_of k now (mobile_calls.Take number shield bytes)).steps (holds_for k.part.known now home p.head.source ≡ true) }
 {}
