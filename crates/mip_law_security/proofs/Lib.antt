@@ -1,3 +1,4 @@
 mod Octets
 mod Backwards
 mod Naming
+mod Overhearing

@@ -1,3 +1,4 @@
 pub mod Octets
 pub mod Backwards
 pub mod Naming
+pub mod Overhearing

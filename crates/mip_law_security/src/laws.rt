@@ -1,6 +1,6 @@
 //! The laws, each the contract of a function that does nothing.
 
-ghost use Rattle.std.specs.Prelude.{◌≡◌, ℕ, ◌≤◌, List, [], ◌∷◌, ◌++◌, length, true, Option, Some, Ok};
+ghost use Rattle.std.specs.Prelude.{◌≡◌, ◌≢◌, ℕ, ◌<◌, ◌≤◌, List, [], ◌∷◌, ◌++◌, length, Bool, true, Option, Some, None, Ok};
 ghost use Rattle.std.specs.List.{AllByRecursion};
 ghost use Rattle.mip_words.specs.Addresses.{address_bytes};
 ghost use Rattle.mip_words.specs.declared.address.Address.{Address};
@@ -22,6 +22,15 @@ ghost use Rattle.mip_rules_mobile.specs.Calls as mobile_calls;
 ghost use Rattle.mip_rules_mobile.specs.Known as mobile_known;
 ghost use Rattle.mip_rules_mobile.specs.Doing as mobile_doing;
 ghost use Rattle.mip_rules_mobile.specs.TakenLaws.{AreRefusingUnless};
+ghost use Rattle.mip_entries.specs.declared.answer.Answer.TheVariants.{Send};
+ghost use Rattle.mip_links.specs.Table.{Post, holder_outside};
+ghost use Rattle.mip_history.specs.Setup.{Setup};
+ghost use Rattle.mip_history.specs.Runs.{Run};
+ghost use Rattle.mip_history.specs.Questions.{hears_in, holder_in};
+ghost use Rattle.mip_history.specs.Nodes.{answered_one};
+ghost use Rattle.mip_history.specs.Outsiders as outsiders;
+ghost use Rattle.mip_history.specs.Delivery.{delivered};
+ghost use Rattle.mip_law_security.specs.Overhearing.{HasHeard, IsUnderWay};
 ghost use Rattle.mip_law_security.specs.Naming.{SaysNoUpdate};
 ghost use Rattle.mip_law_security.specs.Backwards.{GoesBack, SendsBack};
 ghost use Rattle.mip_law_security.specs.Octets.{first_of_hash, IsSealed};
@@ -66,4 +75,18 @@ pub fn home_options_at_a_mobile_need_their_binding()
     ensures within { (k : mobile_known.Known) (now number : ℕ) (shield : Option Shield) (bytes : List ℕ) (p : Packet) (home : Address) → p.head.home ≡ Some home → SaysNoUpdate p
         → (outer : Packet) → packet_of bytes ≡ Ok outer → outer.head.proto ≡ 41 → packet_of outer.body ≡ Ok p
         → AreRefusingUnless (mobile_doing.transition_of k now (mobile_calls.Take number shield bytes)).steps (holds_for k.part.known now home p.head.source ≡ true) }
+{}
+
+/// Outsiders hear what has no shield: each that listens on the link from which a node sends it, or on which another outsider posts it,
+/// at once; as it arrives, each that listens on the link of its destination, where that is another one; and the outsider that holds
+/// its destination, wherever it listens. So it is in any run, whatever happened before.
+pub fn outsiders_hear_what_has_no_shield()
+    ensures sent { (s : Setup) (n link : ℕ) (run : Run) (packet : List ℕ) (o : ℕ) → o < s.outsiders → hears_in run.past o link ≡ true
+        → HasHeard run (answered_one s n link run (Send None packet)) (length run.posts) o }
+    ensures injected { (s : Setup) (by link : ℕ) (run : Run) (packet : List ℕ) (o : ℕ) → o < s.outsiders → o ≢ by → hears_in run.past o link ≡ true
+        → HasHeard run (outsiders.injected s run by link packet) (length run.posts) o }
+    ensures arriving { (s : Setup) (run : Run) (k l : ℕ) (p : Packet) (post : Post) → IsUnderWay s run k l p post → (keep : Bool) (o : ℕ) → o < s.outsiders → l ≢ post.from
+        → hears_in run.past o l ≡ true → HasHeard run (delivered s run k keep) k o }
+    ensures holding { (s : Setup) (run : Run) (k l : ℕ) (p : Packet) (post : Post) → IsUnderWay s run k l p post → (keep : Bool) (o : ℕ) → o < s.outsiders
+        → holder_in run.past p.head.destination.0 ≡ Some (holder_outside o) → HasHeard run (delivered s run k keep) k o }
 {}
