@@ -2,3 +2,4 @@ mod Octets
 mod Backwards
 mod Naming
 mod Overhearing
+mod Tunnelled

@@ -2,3 +2,4 @@ pub mod Octets
 pub mod Backwards
 pub mod Naming
 pub mod Overhearing
+pub mod Tunnelled

@@ -31,6 +31,7 @@ ghost use Rattle.mip_history.specs.Nodes.{answered_one};
 ghost use Rattle.mip_history.specs.Outsiders as outsiders;
 ghost use Rattle.mip_history.specs.Delivery.{delivered};
 ghost use Rattle.mip_law_security.specs.Overhearing.{HasHeard, IsUnderWay};
+ghost use Rattle.mip_law_security.specs.Tunnelled.{AcceptsOfItsAgent};
 ghost use Rattle.mip_law_security.specs.Naming.{SaysNoUpdate};
 ghost use Rattle.mip_law_security.specs.Backwards.{GoesBack, SendsBack};
 ghost use Rattle.mip_law_security.specs.Octets.{first_of_hash, IsSealed};
@@ -89,4 +90,10 @@ pub fn outsiders_hear_what_has_no_shield()
         → hears_in run.past o l ≡ true → HasHeard run (delivered s run k keep) k o }
     ensures holding { (s : Setup) (run : Run) (k l : ℕ) (p : Packet) (post : Post) → IsUnderWay s run k l p post → (keep : Bool) (o : ℕ) → o < s.outsiders
         → holder_in run.past p.head.destination.0 ≡ Some (holder_outside o) → HasHeard run (delivered s run k keep) k o }
+{}
+
+/// At each place of any run: where a mobile is handed a tunnel packet and accepts an update, the tunnel is from its agent, that of its
+/// registration or where its last home registration went, and the packet came under a shield. RFC 6275 section 11.3.3
+pub fn tunnelled_updates_come_from_the_agent()
+    ensures { (s : Setup) → AcceptsOfItsAgent s }
 {}

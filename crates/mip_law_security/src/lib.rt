@@ -6,5 +6,5 @@ mod laws;
 
 pub use laws::{
     acknowledgements_go_back,
-    authenticators_have_their_octets, home_options_at_a_mobile_need_their_binding, keys_have_their_octets, outsiders_hear_what_has_no_shield, tokens_have_their_octets,
+    authenticators_have_their_octets, home_options_at_a_mobile_need_their_binding, keys_have_their_octets, outsiders_hear_what_has_no_shield, tokens_have_their_octets, tunnelled_updates_come_from_the_agent,
 };
