@@ -1,12 +1,11 @@
 -- Acknowledgements go back to the source of the update.
 use Rattle.std.proofs.Common.{◌≡◌, ◌≢◌, ℕ, List, [], ◌∷◌, Bool, true, false, ◌⊎◌, inl, inr, refl, sym, ap, ◌∙◌, subst}
 use Rattle.std.proofs.lemmas.Bool.{eq-eqb, eqb-true}
-use Rattle.std.specs.Prelude.{Option, Some, None, Result, Ok, Err, ◌==◌, if◌then◌else◌}
+use Rattle.std.specs.Prelude.{Option, Some, None, Result, Ok, ◌==◌, if◌then◌else◌}
 use Rattle.std.specs.List.{AllByRecursion}
 use Rattle.mip_words.specs.declared.address.Address.{Address}
 use Rattle.mip_tokens.specs.declared.kbm.Kbm.{Kbm}
 use Rattle.mip_ipv6.specs.Packet.{Packet, source_of, destination_of}
-use Rattle.mip_ipv6.specs.Spelling.{packet_bytes}
 use Rattle.mip_mobhdr.specs.declared.fault.Fault.{Fault}
 use Rattle.mip_mobhdr.specs.Said.{Said}
 use Rattle.mip_mobhdr.specs.Said.Said.{Update}
@@ -16,14 +15,14 @@ use Rattle.mip_packets.specs.Packets.{message_packet}
 use Rattle.mip_packets.specs.Authenticated.{authorized, unsealed, authenticated_packet}
 use Rattle.mip_tokens.specs.Token.{authenticator_of}
 use Rattle.mip_reception.specs.declared.registration.Registration.{Registration}
-use Rattle.mip_reception.specs.Registrations.{registration_said, registration_in, registered_of}
+use Rattle.mip_reception.specs.Registrations.{registration_said, registered_of}
 use Rattle.mip_reception.specs.Acks.{route_unless, ack_head, acknowledgement, ack_packet}
 use Rattle.mip_rules_correspondent.specs.declared.identity.Identity.{Identity}
 use Rattle.mip_rules_correspondent.specs.declared.known.Known.{Known}
 use Rattle.mip_rules_correspondent.specs.declared.verdict.Verdict.{Verdict}
 use Rattle.mip_rules_correspondent.specs.declared.verdict.Verdict.TheVariants.{Refuse, Deny, Accept}
 use Rattle.mip_rules_correspondent.specs.Calls.{Call, Take, Part}
-use Rattle.mip_rules_correspondent.specs.Steps.{Step, Called, Sends}
+use Rattle.mip_rules_correspondent.specs.Steps.{Step, Sends}
 use Rattle.mip_rules_correspondent.specs.Verdicts.{verdict}
 use Rattle.mip_rules_correspondent.specs.Rules.{bench}
 use Rattle.mip_rules_correspondent.specs.Doing.{transition_of}

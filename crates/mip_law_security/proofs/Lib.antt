@@ -3,3 +3,4 @@ mod Backwards
 mod Naming
 mod Overhearing
 mod Tunnelled
+mod Chains

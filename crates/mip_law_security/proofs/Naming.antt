@@ -22,7 +22,6 @@ use Rattle.mip_reception.specs.declared.refusal.Refusal.{Refusal}
 use Rattle.mip_reception.specs.declared.address_match.AddressMatch.{AddressMatch}
 use Rattle.mip_reception.specs.Words.{packet_why}
 use Rattle.mip_reception.specs.Checks.{checked, is_update}
-use Rattle.mip_reception.specs.Says.{message_in}
 use Rattle.mip_reception.proofs.Passings.{update_alone}
 use Rattle.mip_rules_correspondent.specs.Questions.{holds_for}
 use Rattle.mip_rules_correspondent.specs.Rules.{holds_option, place_in}

@@ -1,11 +1,10 @@
 -- Outsiders hear what has no shield.
-use Rattle.std.proofs.Common.{◌≡◌, ◌≢◌, ℕ, zero, suc, ◌<◌, ◌≤◌, List, [], ◌∷◌, ◌++◌, Bool, true, false, ◌⊎◌, inl, inr, length, refl, sym, ap, ◌∙◌, subst, arith}
+use Rattle.std.proofs.Common.{◌≡◌, ◌≢◌, ℕ, zero, suc, ◌<◌, List, [], ◌∷◌, ◌++◌, Bool, true, false, ◌⊎◌, inl, inr, length, refl, sym, ap, ◌∙◌, subst, arith}
 use Rattle.std.specs.Prelude.{fold, Option, Some, None, Ok, not, unwrap_or, is_some, ◌==◌, ◌&&◌, nat_lt, if◌then◌else◌}
 use Rattle.std.proofs.lemmas.List.{append_assoc, append-nil}
 use Rattle.std.proofs.lemmas.List.Sums.{fold-append}
 use Rattle.std.proofs.lemmas.Bool.{cases_eq, eqb-true, ltb-true}
 use Rattle.mip_words.specs.declared.address.Address.{Address}
-use Rattle.mip_words.specs.declared.ids.LinkId.{LinkId}
 use Rattle.mip_words.specs.declared.shield.Shield.{Shield}
 use Rattle.mip_words.specs.declared.why.Why.TheVariants.{Hop, NoHolder}
 use Rattle.mip_words.specs.Holders.{first_outsider}
@@ -17,14 +16,14 @@ use Rattle.mip_entries.specs.declared.answer.Answer.TheVariants.{Send}
 use Rattle.mip_entries.specs.declared.entry.Entry.{Entry}
 use Rattle.mip_entries.specs.declared.entry.Entry.TheVariants as entries
 use Rattle.mip_entries.specs.Completed.{node_id}
-use Rattle.mip_links.specs.Table.{Fate, Post, Asked, link_of, destination_in, is_node, held_by, at_holder, at_link, delivery, in_pool, holder_outside, outsider_of}
+use Rattle.mip_links.specs.Table.{Fate, Post, link_of, destination_in, is_node, at_holder, at_link, delivery, holder_outside, outsider_of}
 use Rattle.mip_links.specs.Table.Fate.{Gone, Outsider, Node}
 use Rattle.mip_history.specs.Setup.{Setup}
 use Rattle.mip_history.specs.Runs.{Run, note, notes, entered, without}
 use Rattle.mip_history.specs.Questions.{listen_says, hears_in, holder_in, asked_in}
 use Rattle.mip_history.specs.Calls.{Take}
 use Rattle.mip_history.specs.Claims.{link_id}
-use Rattle.mip_history.specs.Nodes.{answered_one, acts}
+use Rattle.mip_history.specs.Nodes.{answered_one}
 use Rattle.mip_history.specs.Posting.{heards, is_other}
 use Rattle.mip_history.specs.Delivery.{other_link, arrival_link, handed_over, overheard_at, hears_there, held_by_outsider, handed, became, arrived, delivered}
 use Rattle.mip_history.specs.Outsiders.{injected}

@@ -1,5 +1,5 @@
 -- An update within a tunnel is accepted only of the mobile's agent.
-use Rattle.std.proofs.Common.{◌≡◌, ℕ, ◌<◌, List, [], ◌∷◌, Bool, true, false, ◌⊎◌, inl, inr, refl, sym, ap, ◌∙◌, subst, arith}
+use Rattle.std.proofs.Common.{◌≡◌, ℕ, ◌<◌, List, [], ◌∷◌, Bool, true, false, inl, inr, refl, sym, ap, ◌∙◌, subst, arith}
 use Rattle.std.specs.Prelude.{Option, Some, None, Ok, ◌||◌, is_some, nat_lt, option_map, if◌then◌else◌}
 use Rattle.std.specs.Option.{option_or}
 use Rattle.std.specs.List.{list_any}
@@ -8,7 +8,6 @@ use Rattle.mip_words.specs.declared.address.Address.{Address}
 use Rattle.mip_words.specs.declared.shield.Shield.{Shield}
 use Rattle.mip_ipv6.specs.Packet.{Packet}
 use Rattle.mip_ipv6.specs.Reading.{packet_of}
-use Rattle.mip_entries.specs.declared.entry.Entry.{Entry}
 use Rattle.mip_entries.specs.declared.entry.Entry.TheVariants as entries
 use Rattle.mip_rules_mobile.specs.declared.registered.Registered.{Registered}
 use Rattle.mip_rules_mobile.specs.Calls.{Call, Take}
@@ -22,7 +21,7 @@ use Rattle.mip_rules_mobile.specs.TakenLaws.{IsAgent}
 use Rattle.mip_rules_mobile.proofs.Checks.{opened-reads}
 use Rattle.mip_rules_mobile.proofs.Trusts.{opened-source}
 use Rattle.mip_rules_mobile.proofs.PartTransitions.{call-part}
-use Rattle.mip_law_security.specs.Tunnelled.{is_accepted, accepts, IsOfAgent}
+use Rattle.mip_law_security.specs.Tunnelled.{accepts, IsOfAgent}
 
 -- the agent of tunnels
 agent_is : (k : Known) (now : ℕ) (agent : Address) → agent_of k now ≡ Some agent → IsAgent k.registered k.agent now agent

@@ -3,3 +3,4 @@ pub mod Backwards
 pub mod Naming
 pub mod Overhearing
 pub mod Tunnelled
+pub mod Chains

@@ -1,5 +1,5 @@
 -- How an update came within a tunnel that a mobile accepts. RFC 6275 section 11.3.3
-use Rattle.std.specs.Prelude.{◌≡◌, ℕ, List, Bool, true, false, Option, Some, Ok, is_some, slice_get}
+use Rattle.std.specs.Prelude.{◌≡◌, ℕ, Bool, true, false, Option, Some, Ok, is_some, slice_get}
 use Rattle.std.specs.List.{list_any}
 use Rattle.mip_words.specs.declared.address.Address.{Address}
 use Rattle.mip_words.specs.declared.shield.Shield.{Shield}

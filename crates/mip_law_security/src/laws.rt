@@ -24,7 +24,7 @@ ghost use Rattle.mip_rules_mobile.specs.Doing as mobile_doing;
 ghost use Rattle.mip_rules_mobile.specs.TakenLaws.{AreRefusingUnless};
 ghost use Rattle.mip_entries.specs.declared.answer.Answer.TheVariants.{Send};
 ghost use Rattle.mip_links.specs.Table.{Post, holder_outside};
-ghost use Rattle.mip_history.specs.Setup.{Setup};
+ghost use Rattle.mip_history.specs.Setup.{Setup, setup_of};
 ghost use Rattle.mip_history.specs.Runs.{Run};
 ghost use Rattle.mip_history.specs.Questions.{hears_in, holder_in};
 ghost use Rattle.mip_history.specs.Nodes.{answered_one};
@@ -32,6 +32,10 @@ ghost use Rattle.mip_history.specs.Outsiders as outsiders;
 ghost use Rattle.mip_history.specs.Delivery.{delivered};
 ghost use Rattle.mip_law_security.specs.Overhearing.{HasHeard, IsUnderWay};
 ghost use Rattle.mip_law_security.specs.Tunnelled.{AcceptsOfItsAgent};
+ghost use Rattle.mip_schedule.specs.Contents.{Content};
+ghost use Rattle.mip_schedule.specs.declared.event.Event.{Event};
+ghost use Rattle.mip_law_delivery.specs.Orderly.{IsOrderly};
+ghost use Rattle.mip_law_security.specs.Chains.{EachComesOfThree};
 ghost use Rattle.mip_law_security.specs.Naming.{SaysNoUpdate};
 ghost use Rattle.mip_law_security.specs.Backwards.{GoesBack, SendsBack};
 ghost use Rattle.mip_law_security.specs.Octets.{first_of_hash, IsSealed};
@@ -96,4 +100,11 @@ pub fn outsiders_hear_what_has_no_shield()
 /// registration or where its last home registration went, and the packet came under a shield. RFC 6275 section 11.3.3
 pub fn tunnelled_updates_come_from_the_agent()
     ensures { (s : Setup) → AcceptsOfItsAgent s }
+{}
+
+/// Data between two settled ends arrives by three packets at most: what is handed up at the other end is of the packet that was sent,
+/// of one that a node sent in answer to it, or of one that a node sent in answer to that. So it is where the stretch is quiet and all
+/// that comes of the packet is delivered there. RFC 6275 sections 10.4 and 11.3
+pub fn data_arrives_by_three_packets()
+    ensures { (content : Content) (events : List Event) → IsOrderly (setup_of content) → EachComesOfThree (setup_of content) events }
 {}

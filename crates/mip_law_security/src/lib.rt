@@ -5,6 +5,8 @@
 mod laws;
 
 pub use laws::{
-    acknowledgements_go_back,
-    authenticators_have_their_octets, home_options_at_a_mobile_need_their_binding, keys_have_their_octets, outsiders_hear_what_has_no_shield, tokens_have_their_octets, tunnelled_updates_come_from_the_agent,
+    acknowledgements_go_back, authenticators_have_their_octets, data_arrives_by_three_packets,
+    home_options_at_a_mobile_need_their_binding, keys_have_their_octets,
+    outsiders_hear_what_has_no_shield, tokens_have_their_octets,
+    tunnelled_updates_come_from_the_agent,
 };
