@@ -1,0 +1,6 @@
+mod Octets
+mod Backwards
+mod Naming
+mod Overhearing
+mod Tunnelled
+mod Chains
