@@ -3,9 +3,9 @@ use Rattle.std.specs.Prelude.{◌≡◌, ◌⊎◌, ℕ, List, slice_get, Bool, 
 use Rattle.mip_words.specs.declared.address.Address.{Address}
 use Rattle.mip_nonce.specs.Secrets.{Life}
 use Rattle.mip_rules_correspondent.specs.Calls.{Call}
-use Rattle.mip_c.specs.declared.answer_fields.AnswerFields.{AnswerFields}
+use Rattle.mip_c_words.specs.declared.answer_fields.AnswerFields.{AnswerFields}
 use Rattle.mip_c.specs.declared.row_fields.RowFields.{RowFields}
-use Rattle.mip_c.specs.Giving.{Keeps}
+use Rattle.mip_c_words.specs.Giving.{Keeps}
 use Rattle.mip_c.specs.Keeping.{Kept}
 use Rattle.mip_c.specs.Stations.{Answers, Ticks, TellsNext, TellsRoute, TellsRow, IsFresh, has_room}
 

@@ -1,6 +1,3 @@
-pub mod Addresses
-pub mod Answered
-pub mod Giving
 pub mod Handles
 pub mod Icmps
 pub mod Keeping
@@ -14,4 +11,3 @@ pub mod Rows
 pub mod Stations
 pub mod Sums
 pub mod Tunnels
-pub mod Whys

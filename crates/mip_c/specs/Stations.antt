@@ -1,5 +1,5 @@
 -- What the calls of a correspondent that C holds tell, and what they make of it.
-use Rattle.std.specs.Prelude.{◌≡◌, ◌⊎◌, ℕ, suc, ◌*◌, ◌^◌, List, [], length, slice_get, Bool, true, false, not, ◌&&◌, ◌||◌, nat_lt, if◌then◌else◌, Option, Some, None}
+use Rattle.std.specs.Prelude.{◌≡◌, ◌⊎◌, ℕ, ◌*◌, ◌^◌, List, [], length, slice_get, Bool, true, false, not, ◌&&◌, nat_lt, Option, Some, None}
 use Rattle.mip_words.specs.Addresses.{address_bytes}
 use Rattle.mip_words.specs.declared.address.Address.{Address}
 use Rattle.mip_ipv6.specs.Packet.{names_no_body}
@@ -13,16 +13,13 @@ use Rattle.mip_rules_correspondent.specs.Questions.{fresh, held_of}
 use Rattle.mip_rules_correspondent.specs.Rules.{is_data}
 use Rattle.mip_rules_correspondent.specs.Seen.{transition_at, called}
 use Rattle.mip_rules_correspondent.specs.Steps.{answers_of}
-use Rattle.mip_c.specs.declared.answer_fields.AnswerFields.{AnswerFields}
+use Rattle.mip_c_words.specs.declared.answer_fields.AnswerFields.{AnswerFields}
 use Rattle.mip_c.specs.declared.row_fields.RowFields.{RowFields}
 use Rattle.mip_c.specs.declared.station.Station.{Station}
-use Rattle.mip_c.specs.Answered.{fields_of, bytes_of}
-use Rattle.mip_c.specs.Giving.{Keeps, Tells}
+use Rattle.mip_c_words.specs.Answered.{fields_of, bytes_of}
+use Rattle.mip_c_words.specs.Giving.{Keeps, Tells, given_after}
+use Rattle.mip_c_words.specs.Moments.{is_late}
 use Rattle.mip_c.specs.Rows.{fields_of as row_fields_of}
-
--- a moment before that of the last call, or too far off
-abbrev pub is_late : ℕ → ℕ → Bool
-is_late last now = nat_lt now last || not (nat_lt now (2 ^ 62))
 
 -- data that can be sent: of a protocol that carries data, with a body, and short
 abbrev pub is_sendable : ℕ → List ℕ → Bool
@@ -57,10 +54,6 @@ Ticks s t now status = TicksIf (is_late s.last.0 now) s t now status
 -- the same station, but for how many answers were fetched
 abbrev pub HasGiven : Station → Station → ℕ → Type 0
 HasGiven s t given = (t.node ≡ s.node) × (t.last ≡ s.last) × (t.answers ≡ s.answers) × (t.given ≡ given)
-
--- how many answers were fetched after one that had room, or had not
-abbrev pub given_after : List ℕ → List ℕ → ℕ → ℕ
-given_after text room given = if nat_lt (length room) (length text) then given else suc given
 
 -- the next answer is told, or that none is left
 abbrev pub TellsNext : Option Answer → Station → Station → ℕ → AnswerFields → AnswerFields → List ℕ → List ℕ → ℕ → ℕ → Type 0

@@ -2,7 +2,7 @@ ghost use Rattle.std.specs.Prelude.{◌≡◌, is_some, None, Some};
 ghost use Rattle.std.specs.Option.{option_map};
 
 use crate::held::Held;
-use crate::loose::Loose;
+use mip_c_words::loose::Loose;
 use crate::station::Station;
 use std::alloc::Global;
 use std::mem::replace;

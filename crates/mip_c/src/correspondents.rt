@@ -6,12 +6,12 @@ ghost use Rattle.mip_rules_correspondent.specs.Calls as calls;
 ghost use Rattle.mip_c.specs.Stations.{is_sendable, has_room, IsFresh};
 ghost use Rattle.mip_c.specs.Handles.{Opens, AnswersAt, TicksAt, NextAt, RouteAt, RowAt, close_status};
 
-use crate::addresses::address_of;
-use crate::answer_fields::AnswerFields;
+use mip_c_words::addresses::address_of;
+use mip_c_words::answer_fields::AnswerFields;
 use crate::correspondent_handle::{CorrespondentHandle, put_in, take_out};
 use crate::row_fields::RowFields;
 use crate::station::Station;
-use crate::status::{ALREADY_OPEN, ARGUMENT, CLOSED, MEMORY, OK};
+use mip_c_words::status::{ALREADY_OPEN, ARGUMENT, CLOSED, MEMORY, OK};
 use mip_correspondent::Correspondent;
 use mip_entries::Answers;
 use mip_nonce::Secrets;

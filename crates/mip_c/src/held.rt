@@ -3,7 +3,7 @@
 ghost use Rattle.std.specs.Prelude.{◌≡◌, Some, None, Option, is_some, true};
 ghost use Rattle.mip_c.specs.Keeping.{Kept, kept_code, keeps};
 
-use crate::loose::Loose;
+use mip_c_words::loose::Loose;
 use crate::station::Station;
 use std::alloc::Global;
 use std::marker::Model;

@@ -4,7 +4,7 @@ ghost use Rattle.mip_icmp.specs.Said.{said};
 ghost use Rattle.mip_c.specs.Icmps.{blank, with_options, preference_of, life_of, fields_of, fault_status, fault_fields};
 
 use crate::prefix_fields::{PrefixFields, no_prefix, prefix_fields};
-use crate::status::{ICMP_CHECKSUM, ICMP_OPTION, ICMP_SHORT, ICMP_TYPE};
+use mip_c_words::status::{ICMP_CHECKSUM, ICMP_OPTION, ICMP_SHORT, ICMP_TYPE};
 use mip_icmp::{AgentInfo, Icmp, IcmpFault, IcmpOptions};
 
 /// A message of ICMPv6 (RFC 4443 section 3.4, RFC 4861 section 4.2, RFC 6275 sections 6.5 to 6.8). A field that its kind does

@@ -5,9 +5,9 @@ ghost use Rattle.mip_words.specs.Addresses.{address_at};
 ghost use Rattle.mip_icmp.specs.Reading.{icmp_of};
 ghost use Rattle.mip_c.specs.Icmps.{TellsIcmp};
 
-use crate::addresses::address_of;
+use mip_c_words::addresses::address_of;
 use crate::icmp_fields::{IcmpFields, fault_fields, fault_status, fields_of};
-use crate::status::{ARGUMENT, OK};
+use mip_c_words::status::{ARGUMENT, OK};
 use mip_icmp::read_icmp;
 
 /// Reads a message of ICMPv6 (RFC 4443 section 3.4, RFC 4861 section 4.2, RFC 6275 sections 6.5 to 6.8). `source` and

@@ -2,19 +2,14 @@
 //! node by a handle. Each call has the clauses of the library's own, and asks for nothing that C could break.
 #![tactic(auto)]
 
-mod addresses;
-mod answer_fields;
-mod answer_kind;
 mod checksum;
 mod correspondent_handle;
 mod correspondents;
-mod giving;
 mod held;
 mod icmp_fields;
 mod icmps;
 mod keys;
 mod listing;
-mod loose;
 mod message_fields;
 mod message_packets;
 mod message_writing;
@@ -30,7 +25,5 @@ mod prefix_fields;
 mod row_fields;
 mod station;
 mod station_calls;
-mod status;
 mod tunnels;
 mod version;
-mod why_number;

@@ -1,9 +1,9 @@
 ghost use Rattle.std.specs.Prelude.{◌≡◌};
-ghost use Rattle.mip_c.specs.Addresses.{some_if};
+ghost use Rattle.mip_c_words.specs.Addresses.{some_if};
 ghost use Rattle.mip_c.specs.Neighbours.{plain_fields, refused_fields, fields_of, fault_status, fault_fields, neighbour_of};
 
-use crate::addresses::address_of;
-use crate::status::{
+use mip_c_words::addresses::address_of;
+use mip_c_words::status::{
     NEIGHBOUR_CHECKSUM, NEIGHBOUR_HOP, NEIGHBOUR_OPTION, NEIGHBOUR_SHORT, NEIGHBOUR_TARGET,
     NEIGHBOUR_TYPE,
 };

@@ -2,24 +2,19 @@
 
 ghost use Rattle.std.specs.Prelude.{◌≡◌, None, slice_get, true};
 ghost use Rattle.mip_rules_correspondent.specs.Calls as calls;
-ghost use Rattle.mip_c.specs.Stations.{Answers as AnswersCall, Ticks, TellsNext, TellsRoute, TellsRow, is_late, is_sendable};
+ghost use Rattle.mip_c.specs.Stations.{Answers as AnswersCall, Ticks, TellsNext, TellsRoute, TellsRow, is_sendable};
 
-use crate::answer_fields::{AnswerFields, bytes_of, fields_of};
-use crate::giving::tell;
+use mip_c_words::answer_fields::{AnswerFields, bytes_of, fields_of};
+use mip_c_words::giving::tell;
+use mip_c_words::moments::is_late;
 use crate::row_fields;
 use crate::row_fields::RowFields;
 use crate::station::Station;
-use crate::status::{ARGUMENT, LATE, MEMORY, NONE, OK};
+use mip_c_words::status::{ARGUMENT, LATE, MEMORY, NONE, OK};
 use mip_entries::Answers;
 use mip_words::protocol::{ICMPV6, IPV6, MOBILITY_HEADER, NO_NEXT_HEADER};
 use mip_words::{Address, Memory, Moment};
 use std::alloc::Global;
-
-fn is_late(last: Moment, now: Moment) -> bool
-    ensures { result ≡ is_late last.0 now.0 }
-{
-    now.0 < last.0 || !(now.0 < 1 << 62)
-}
 
 fn is_sendable(proto: u8, payload: &[u8]) -> bool
     ensures { result ≡ is_sendable proto payload.now }

@@ -24,7 +24,7 @@ use Rattle.std.specs.contracts.alloc.Global as heap
 use Rattle.std.proofs.alloc.Global.TheLaws as heap_laws
 use Rattle.std.specs.contracts.impls.GlobalAllocator.TheImpl.{ghosts}
 use Rattle.mip_c.specs.contracts.station.Station as station
-use Rattle.mip_c.proofs.Values.{both, Loose, loose_good, loose_out}
+use Rattle.mip_c_words.proofs.Values.{both, Loose, loose_good, loose_out}
 use Rattle.mip_c.proofs.HeldValues.{word, held_in}
 use Rattle.mip_c.specs.contracts.held.Held.of_loose.{ended, clauses}
 use Rattle.mip_c.specs.contracts.held.Held.of_loose.Key.{name as #self}

@@ -1,7 +1,7 @@
 //! Texts, packets and messages that go into the caller's memory.
 
 ghost use Rattle.std.specs.Prelude.{◌≡◌, ℕ, List, IfOk};
-ghost use Rattle.mip_c.specs.Giving.{Tells, Writes};
+ghost use Rattle.mip_c_words.specs.Giving.{Tells, Writes};
 
 use crate::status::{MEMORY, NO_ROOM};
 use mip_words::{Bytes, Memory};

@@ -2,7 +2,7 @@
 
 ghost use Rattle.std.specs.Prelude.{◌≡◌};
 ghost use Rattle.mip_words.specs.Addresses.{address_at};
-ghost use Rattle.mip_c.specs.Addresses.{bytes_if_any, some_if};
+ghost use Rattle.mip_c_words.specs.Addresses.{bytes_if_any, some_if};
 
 use mip_words::Address;
 

@@ -1,7 +1,7 @@
 //! Why a packet, an update or a sending came to nothing, as numbers. Each sentence begins with the word of a trace.
 
 ghost use Rattle.std.specs.Prelude.{◌≡◌};
-ghost use Rattle.mip_c.specs.Whys.{why_number};
+ghost use Rattle.mip_c_words.specs.Whys.{why_number};
 
 use mip_words::Why;
 

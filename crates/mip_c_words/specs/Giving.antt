@@ -1,5 +1,5 @@
 -- A text, a packet or a message in the caller's memory: what is written there, and what the call tells of it.
-use Rattle.std.specs.Prelude.{◌≡◌, ℕ, ◌⊎◌, List, length, ◌++◌, drop, Bool, true, false, nat_lt, if◌then◌else◌}
+use Rattle.std.specs.Prelude.{◌≡◌, ℕ, suc, ◌⊎◌, List, length, ◌++◌, drop, Bool, true, false, nat_lt, if◌then◌else◌}
 
 -- the memory behind the call: the text stands at its beginning where it has room, and else nothing has changed
 abbrev pub placed : List ℕ → List ℕ → List ℕ
@@ -27,3 +27,7 @@ Writes text status old new size_old size_new =
 abbrev pub WritesIf : Bool → List ℕ → ℕ → List ℕ → List ℕ → ℕ → ℕ → Type 0
 WritesIf true text status old new size_old size_new = Writes text status old new size_old size_new
 WritesIf false text status old new size_old size_new = (status ≡ 14) × Keeps old new size_old size_new
+
+-- how many answers were fetched after one that had room, or had not
+abbrev pub given_after : List ℕ → List ℕ → ℕ → ℕ
+given_after text room given = if nat_lt (length room) (length text) then given else suc given

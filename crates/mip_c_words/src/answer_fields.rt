@@ -1,9 +1,12 @@
 ghost use Rattle.std.specs.Prelude.{◌≡◌};
-ghost use Rattle.mip_c.specs.Answered.{blank, entry_fields, fields_of, entry_bytes, bytes_of};
+ghost use Rattle.mip_c_words.specs.Answered.{blank, entry_fields, sent_fields, fields_of, entry_bytes, bytes_of};
 
-use crate::answer_kind::{ACCEPTED, DENIED, DROPPED, IDLE, OTHER, SEND, UP};
+use crate::answer_kind::{
+    ACCEPTED, CLAIMED, DENIED, DROPPED, HOME, IDLE, OTHER, RELEASED, SEND, UP,
+};
 use crate::why_number::why_number;
 use mip_entries::{Answer, Entry};
+use mip_words::Shield;
 
 /// An answer of a node. A field that its kind does not name is 0.
 #[repr(C)]
@@ -13,15 +16,15 @@ pub struct AnswerFields {
     pub kind: u8,
     /// The number of the packet, as it was given.
     pub number: u64,
-    /// The home address of an update.
+    /// The home address of an update or of a registration, or the address that an agent claims or gives up.
     pub home: [u8; 16],
     /// The binding number; 0 where a home has one binding.
     pub binding: u8,
-    /// The care-of address of an update; its home address where it deletes the binding.
+    /// The care-of address of an update or of a registration; the home address where it deletes the binding.
     pub careof: [u8; 16],
-    /// The sequence number of an update.
+    /// The sequence number of an update or of a registration.
     pub sequence: u16,
-    /// The end of the binding, in milliseconds.
+    /// The end of the binding or of the registration, in milliseconds.
     pub end: u64,
     /// The home nonce index.
     pub home_index: u16,
@@ -32,9 +35,11 @@ pub struct AnswerFields {
     pub status: u8,
     /// Why: a number of `enum mip_why`.
     pub why: u8,
-    /// Whom data is from, a home address where there is one.
+    /// Whether a packet that is sent is to be protected (RFC 6275 section 5.1), between `source` and `destination`.
+    pub is_shielded: bool,
+    /// Whom data is from, a home address where there is one; who protects a packet.
     pub source: [u8; 16],
-    /// Whom data is for, a home address where there is one.
+    /// Whom data is for, a home address where there is one; whom a packet is protected for.
     pub destination: [u8; 16],
     /// The protocol of data.
     pub proto: u8,
@@ -57,13 +62,14 @@ fn blank(kind: u8) -> AnswerFields
         careof_index: 0,
         status: 0,
         why: 0,
+        is_shielded: false,
         source: [0; 16],
         destination: [0; 16],
         proto: 0,
     }
 }
 
-/// The fields of an entry that a correspondent leaves.
+/// The fields of an entry that a correspondent or a home agent leaves.
 fn entry_fields(entry: &Entry) -> AnswerFields
     ensures { result ≡ entry_fields entry.now }
 {
@@ -114,7 +120,43 @@ fn entry_fields(entry: &Entry) -> AnswerFields
             ..blank(UP)
         },
         Entry::Idle => blank(IDLE),
+        Entry::Home {
+            home,
+            careof,
+            sequence,
+            end,
+            ..
+        } => AnswerFields {
+            home: home.bytes(),
+            careof: careof.bytes(),
+            sequence: *sequence,
+            end: end.0,
+            ..blank(HOME)
+        },
+        Entry::Claimed { address, .. } => AnswerFields {
+            home: address.bytes(),
+            ..blank(CLAIMED)
+        },
+        Entry::Released { address, .. } => AnswerFields {
+            home: address.bytes(),
+            ..blank(RELEASED)
+        },
         _ => blank(OTHER),
+    }
+}
+
+/// The fields of a packet that is sent.
+fn sent_fields(shield: &Option<Shield>) -> AnswerFields
+    ensures { result ≡ sent_fields shield.now }
+{
+    match shield {
+        Some(shield) => AnswerFields {
+            is_shielded: true,
+            source: shield.from.bytes(),
+            destination: shield.to.bytes(),
+            ..blank(SEND)
+        },
+        None => blank(SEND),
     }
 }
 
@@ -123,7 +165,7 @@ pub fn fields_of(answer: &Answer) -> AnswerFields
     ensures { result ≡ fields_of answer.now }
 {
     match answer {
-        Answer::Send { .. } => blank(SEND),
+        Answer::Send { shield, .. } => sent_fields(shield),
         Answer::Note(entry) => entry_fields(entry),
     }
 }

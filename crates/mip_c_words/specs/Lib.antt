@@ -1,0 +1,5 @@
+pub mod Addresses
+pub mod Answered
+pub mod Giving
+pub mod Moments
+pub mod Whys
