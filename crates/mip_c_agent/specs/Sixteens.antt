@@ -1,7 +1,7 @@
 -- Lists of addresses as C has them: 16 bytes each, one behind the other.
 use Rattle.std.specs.Prelude.{ℕ, ◌/◌, ◌%◌, ◌==◌, List, length, map, Bool}
 use Rattle.std.specs.List.{list_all, list_any}
-use Rattle.core.specs.Simd.{first_chunks}
+use Rattle.std.specs.Simd.{first_chunks}
 use Rattle.mip_words.specs.Addresses.{address_at, is_routable}
 use Rattle.mip_words.specs.declared.address.Address.{Address}
 

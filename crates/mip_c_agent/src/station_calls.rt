@@ -24,7 +24,7 @@ use std::alloc::Global;
 
 impl Station {
     /// Takes a packet that was handed to the agent, by its number and shield, where others hold these addresses of its link.
-    #[tactic(auto, using(crate::proofs::Rooms::has_room))]
+    #[tactic(auto, using(crate::proofs::Rooms::is_ready))]
     pub fn take(
         &mut self,
         alloc: Global,
