@@ -25,6 +25,7 @@ use mip_words::{Address, Memory, Moment};
 use std::alloc::Global;
 
 /// A station that begins.
+#[tactic(auto, using(crate::proofs::Rooms::each_routable))]
 fn fresh_station(
     alloc: Global,
     identity: &Identity,

@@ -45,7 +45,10 @@ impl Station {
         }
         let mut place = Neighbourhood { others };
         let shield = shield_of(shield);
-        match self.node.take(alloc, &mut place, now, number, shield, packet) {
+        match self
+            .node
+            .take(alloc, &mut place, now, number, shield, packet)
+        {
             Ok(answers) => {
                 self.last = now;
                 self.answers = answers;
