@@ -1,5 +1,5 @@
 -- What an agent of C finds as it claims addresses.
-use Rattle.std.specs.Prelude.{ℕ, List, true, if◌then◌else◌, Option, Some, None}
+use Rattle.std.specs.Prelude.{ℕ, List, true, if◌then◌else◌, Some, None}
 use Rattle.mip_outside.specs.Places.{Around}
 use Rattle.mip_c_agent.specs.Sixteens.{has_address}
 

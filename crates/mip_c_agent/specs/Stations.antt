@@ -3,7 +3,6 @@ use Rattle.std.specs.Prelude.{◌≡◌, ◌⊎◌, ℕ, List, [], slice_get, Bo
 use Rattle.mip_words.specs.Addresses.{address_bytes}
 use Rattle.mip_words.specs.declared.address.Address.{Address}
 use Rattle.mip_entries.specs.declared.answer.Answer.{Answer}
-use Rattle.mip_rules_agent.specs.declared.home_row.HomeRow.{HomeRow}
 use Rattle.mip_rules_agent.specs.declared.identity.Identity.{Identity}
 use Rattle.mip_rules_agent.specs.Calls.{Call}
 use Rattle.mip_rules_agent.specs.Questions.{fresh, careof_at, rows_at}
