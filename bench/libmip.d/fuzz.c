@@ -20,9 +20,7 @@ int LLVMFuzzerTestOneInput(const uint8_t *data, size_t size)
     if (mip_read_packet(block, size, &packet) == MIP_OK) {
         mip_read_message(packet.sender, packet.receiver, block + packet.body, size - packet.body, &message);
         mip_read_icmp(packet.sender, packet.receiver, block + packet.body, size - packet.body, &icmp);
-#ifdef NEIGHBOURS
         mip_read_neighbour(packet.sender, packet.receiver, packet.hop, block + packet.body, size - packet.body, &(struct mip_neighbour_fields){.kind = 0});
-#endif
         mip_write_packet(&packet, block + packet.body, size - packet.body, out, sizeof out, &told);
         mip_write_message_packet(&packet, &message, out, sizeof out, &told);
     }
