@@ -1,13 +1,7 @@
-pub mod Handles
-pub mod Icmps
-pub mod Keeping
 pub mod Listings
 pub mod Messages
-pub mod Neighbours
 pub mod Options
 pub mod PacketWriting
 pub mod Packets
-pub mod Rows
-pub mod Stations
 pub mod Sums
 pub mod Tunnels

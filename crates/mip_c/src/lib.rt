@@ -3,27 +3,16 @@
 #![tactic(auto)]
 
 mod checksum;
-mod correspondent_handle;
-mod correspondents;
-mod held;
-mod icmp_fields;
-mod icmps;
 mod keys;
 mod listing;
 mod message_fields;
 mod message_packets;
 mod message_writing;
 mod messages;
-mod neighbour_fields;
-mod neighbours;
 mod option_fields;
 mod packet_fields;
 mod packet_refusal;
 mod packet_writing;
 mod packets;
-mod prefix_fields;
-mod row_fields;
-mod station;
-mod station_calls;
 mod tunnels;
 mod version;

@@ -4,6 +4,7 @@ use Rattle.mip_words.specs.declared.address.Address.{Address}
 use Rattle.mip_rules_agent.specs.declared.identity.Identity.{Identity}
 use Rattle.mip_rules_agent.specs.Calls.{Call}
 use Rattle.mip_c_words.specs.declared.answer_fields.AnswerFields.{AnswerFields}
+use Rattle.mip_c_words.specs.Calls.{ByHandle}
 use Rattle.mip_c_words.specs.Giving.{Keeps}
 use Rattle.mip_c_agent.specs.declared.registration_fields.RegistrationFields.{RegistrationFields}
 use Rattle.mip_c_agent.specs.Keeping.{Kept}
@@ -12,13 +13,11 @@ use Rattle.mip_c_agent.specs.Stations.{Answers, Hears, TellsNext, TellsCareof, T
 
 -- a call is asked for; `fit` says whether it can be
 abbrev pub AnswersAt : Bool → Option Kept → Option Kept → ℕ → Call → ℕ → Type 0
-AnswersAt fit None new now call status = (status ≡ 11) × (new ≡ None)
-AnswersAt fit (Some s) new now call status = IsSomeAnd new (λ t. Answers fit s t now call status)
+AnswersAt fit old new now call status = ByHandle old new status (λ s t. Answers fit s t now call status)
 
 -- it is told of another agent
 abbrev pub HearsAt : Option Kept → Option Kept → ℕ → Call → ℕ → Type 0
-HearsAt None new now call status = (status ≡ 11) × (new ≡ None)
-HearsAt (Some s) new now call status = IsSomeAnd new (λ t. Hears s t now call status)
+HearsAt old new now call status = ByHandle old new status (λ s t. Hears s t now call status)
 
 -- the next answer is asked for
 abbrev pub NextAt : Option Kept → Option Kept → ℕ → AnswerFields → AnswerFields → List ℕ → List ℕ → ℕ → ℕ → Type 0
@@ -56,8 +55,3 @@ abbrev pub Opens : Option Kept → Option Kept → Identity → List ℕ → ℕ
 Opens (Some s) new identity serves status = (status ≡ 13) × (new ≡ Some s)
 Opens None new identity serves status =
     ((status ≡ 5) × (new ≡ None)) ⊎ Begins (can_serve serves) new identity (addresses_in serves) status
-
--- it is closed, 11 where it was so
-abbrev pub close_status : Option Kept → ℕ
-close_status None = 11
-close_status (Some s) = 0

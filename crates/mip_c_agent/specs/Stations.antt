@@ -10,6 +10,7 @@ use Rattle.mip_rules_agent.specs.Seen.{transition_at, called}
 use Rattle.mip_rules_agent.specs.Steps.{answers_of}
 use Rattle.mip_c_words.specs.declared.answer_fields.AnswerFields.{AnswerFields}
 use Rattle.mip_c_words.specs.Answered.{fields_of, bytes_of}
+use Rattle.mip_c_words.specs.Calls.{Does, TellsIf}
 use Rattle.mip_c_words.specs.Giving.{Keeps, Tells, given_after}
 use Rattle.mip_c_words.specs.Moments.{is_late}
 use Rattle.mip_c_agent.specs.declared.registration_fields.RegistrationFields.{RegistrationFields}
@@ -21,22 +22,14 @@ abbrev pub IsAnswered : Station → Station → ℕ → Call → List Answer →
 IsAnswered s t now call answers =
     (t.node ≡ called s.node now call) × (t.answers ≡ answers) × (t.given ≡ 0) × (t.last.0 ≡ now)
 
--- 12 where the moment is late, 14 where what is asked for can't be, 5 where memory has run out, each with nothing changed;
--- else the call was answered
-abbrev pub AnswersIf : Bool → Bool → Station → Station → ℕ → Call → List Answer → ℕ → Type 0
-AnswersIf true fit s t now call answers status = (status ≡ 12) × (t ≡ s)
-AnswersIf false false s t now call answers status = (status ≡ 14) × (t ≡ s)
-AnswersIf false true s t now call answers status =
-    ((status ≡ 5) × (t ≡ s)) ⊎ ((status ≡ 0) × IsAnswered s t now call answers)
-
 -- with the answers of the call
 abbrev pub Answers : Bool → Station → Station → ℕ → Call → ℕ → Type 0
 Answers fit s t now call status =
-    AnswersIf (is_late s.last.0 now) fit s t now call (answers_of (transition_at s.node now call).steps) status
+    Does (is_late s.last.0 now) fit s t status (IsAnswered s t now call (answers_of (transition_at s.node now call).steps))
 
 -- with no answer
 abbrev pub Hears : Station → Station → ℕ → Call → ℕ → Type 0
-Hears s t now call status = AnswersIf (is_late s.last.0 now) true s t now call [] status
+Hears s t now call status = Does (is_late s.last.0 now) true s t status (IsAnswered s t now call [])
 
 -- the same station, but for how many answers were fetched
 abbrev pub HasGiven : Station → Station → ℕ → Type 0
@@ -49,12 +42,6 @@ TellsNext None s t status fields_old fields_new old new size_old size_new =
 TellsNext (Some a) s t status fields_old fields_new old new size_old size_new =
     (fields_new ≡ fields_of a) × Tells 0 (bytes_of a) status old new size_new
     × HasGiven s t (given_after (bytes_of a) old s.given)
-
--- 12 where the moment is late, 15 where there is none, else what there is
-abbrev pub TellsIf : {A : Type 0} → Bool → Option A → ℕ → A → A → Type 0
-TellsIf true found status old new = (status ≡ 12) × (new ≡ old)
-TellsIf false None status old new = (status ≡ 15) × (new ≡ old)
-TellsIf false (Some a) status old new = (status ≡ 0) × (new ≡ a)
 
 -- the care-of address that is registered for a home is told
 abbrev pub TellsCareof : Station → ℕ → Address → ℕ → List ℕ → List ℕ → Type 0

@@ -4,7 +4,8 @@ ghost use Rattle.std.specs.Prelude.{◌≡◌, None, true, is_some, IfOk, IfSome
 ghost use Rattle.mip_words.specs.Addresses.{address_at};
 ghost use Rattle.mip_rules_agent.specs.Calls as calls;
 ghost use Rattle.mip_rules_agent.specs.Calls.{claim_for};
-ghost use Rattle.mip_c_agent.specs.Handles.{Opens, AnswersAt, HearsAt, NextAt, CareofAt, RowAt, DueAt, close_status, can_serve};
+ghost use Rattle.mip_c_words.specs.Calls.{close_status};
+ghost use Rattle.mip_c_agent.specs.Handles.{Opens, AnswersAt, HearsAt, NextAt, CareofAt, RowAt, DueAt, can_serve};
 ghost use Rattle.mip_c_agent.specs.Neighbourhoods.{around_of};
 ghost use Rattle.mip_c_agent.specs.Shields.{shield_of};
 ghost use Rattle.mip_c_agent.specs.Sixteens.{are_addresses, addresses_in, are_served};

@@ -4,20 +4,19 @@ use Rattle.mip_words.specs.declared.address.Address.{Address}
 use Rattle.mip_nonce.specs.Secrets.{Life}
 use Rattle.mip_rules_correspondent.specs.Calls.{Call}
 use Rattle.mip_c_words.specs.declared.answer_fields.AnswerFields.{AnswerFields}
-use Rattle.mip_c.specs.declared.row_fields.RowFields.{RowFields}
+use Rattle.mip_c_correspondent.specs.declared.row_fields.RowFields.{RowFields}
+use Rattle.mip_c_words.specs.Calls.{ByHandle}
 use Rattle.mip_c_words.specs.Giving.{Keeps}
-use Rattle.mip_c.specs.Keeping.{Kept}
-use Rattle.mip_c.specs.Stations.{Answers, Ticks, TellsNext, TellsRoute, TellsRow, IsFresh, has_room}
+use Rattle.mip_c_correspondent.specs.Keeping.{Kept}
+use Rattle.mip_c_correspondent.specs.Stations.{Answers, Ticks, TellsNext, TellsRoute, TellsRow, IsFresh, has_room}
 
 -- a call is asked for; `fit` says whether it can be
 abbrev pub AnswersAt : Bool → Option Kept → Option Kept → ℕ → Call → ℕ → Type 0
-AnswersAt fit None new now call status = (status ≡ 11) × (new ≡ None)
-AnswersAt fit (Some s) new now call status = IsSomeAnd new (λ t. Answers fit s t now call status)
+AnswersAt fit old new now call status = ByHandle old new status (λ s t. Answers fit s t now call status)
 
 -- time goes on
 abbrev pub TicksAt : Option Kept → Option Kept → ℕ → ℕ → Type 0
-TicksAt None new now status = (status ≡ 11) × (new ≡ None)
-TicksAt (Some s) new now status = IsSomeAnd new (λ t. Ticks s t now status)
+TicksAt old new now status = ByHandle old new status (λ s t. Ticks s t now status)
 
 -- the next answer is asked for
 abbrev pub NextAt : Option Kept → Option Kept → ℕ → AnswerFields → AnswerFields → List ℕ → List ℕ → ℕ → ℕ → Type 0
@@ -46,8 +45,3 @@ OpensIf true new own secrets room numbers status =
 abbrev pub Opens : Option Kept → Option Kept → Address → Life → ℕ → ℕ → ℕ → Type 0
 Opens (Some s) new own secrets room numbers status = (status ≡ 13) × (new ≡ Some s)
 Opens None new own secrets room numbers status = OpensIf (has_room room numbers) new own secrets room numbers status
-
--- it is closed, 11 where it was so
-abbrev pub close_status : Option Kept → ℕ
-close_status None = 11
-close_status (Some s) = 0

@@ -17,12 +17,12 @@ use denote.Steps.{nothing}
 use denote.Triple.Walked.{Stays, walk_of}
 use Rattle.std.proofs.raw_atomic.Walks.{proved_at, leaves}
 use Rattle.std.specs.Prelude.{None, Option}
-use Rattle.mip_c.specs.Keeping.{Kept}
-use Rattle.mip_c.proofs.HeldValues.{word, held_in}
-use Rattle.mip_c.specs.contracts.held.Held.nothing.{ended, clauses}
-use Rattle.mip_c.specs.contracts.held.Held.nothing.Key.{name as #self}
-use Rattle.mip_c.proofs.held.Held.nothing.Statement.{statement}
-use Rattle.mip_c.proofs.held.Held.nothing.Code as code
+use Rattle.mip_c_correspondent.specs.Keeping.{Kept}
+use Rattle.mip_c_correspondent.proofs.HeldValues.{word, held_in}
+use Rattle.mip_c_correspondent.specs.contracts.held.Held.nothing.{ended, clauses}
+use Rattle.mip_c_correspondent.specs.contracts.held.Held.nothing.Key.{name as #self}
+use Rattle.mip_c_correspondent.proofs.held.Held.nothing.Statement.{statement}
+use Rattle.mip_c_correspondent.proofs.held.Held.nothing.Code as code
 
 abbrev empty : Option Kept
 empty = None

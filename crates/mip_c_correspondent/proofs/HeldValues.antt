@@ -11,8 +11,8 @@ use denote.Steps.{nothing}
 use denote.Struct.Struct.{within}
 use denote.Struct.Owning.{shape}
 use Rattle.std.specs.Prelude.{Option}
-use Rattle.mip_c.specs.Keeping.{Kept, keeps}
-use Rattle.mip_c.specs.contracts.held.Held as held
+use Rattle.mip_c_correspondent.specs.Keeping.{Kept, keeps}
+use Rattle.mip_c_correspondent.specs.contracts.held.Held as held
 
 abbrev pub Held : RattleType
 Held = held.the_row

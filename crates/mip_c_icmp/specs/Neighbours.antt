@@ -7,7 +7,7 @@ use Rattle.mip_proxynd.specs.declared.neighbour.Neighbour.TheVariants.{Solicit, 
 use Rattle.mip_proxynd.specs.declared.fault.NeighbourFault.{NeighbourFault}
 use Rattle.mip_proxynd.specs.declared.fault.NeighbourFault.TheVariants as faults
 use Rattle.mip_proxynd.specs.Fields.{is_group}
-use Rattle.mip_c.specs.declared.neighbour_fields.NeighbourFields.{NeighbourFields}
+use Rattle.mip_c_icmp.specs.declared.neighbour_fields.NeighbourFields.{NeighbourFields}
 use Rattle.mip_c_words.specs.Addresses.{some_if}
 
 -- a message of this kind with a target and a link-layer address, and no flag

@@ -3,7 +3,7 @@
 ghost use Rattle.std.specs.Prelude.{length};
 ghost use Rattle.mip_words.specs.Addresses.{address_at};
 ghost use Rattle.mip_icmp.specs.Reading.{icmp_of};
-ghost use Rattle.mip_c.specs.Icmps.{TellsIcmp};
+ghost use Rattle.mip_c_icmp.specs.Icmps.{TellsIcmp};
 
 use mip_c_words::addresses::address_of;
 use crate::icmp_fields::{IcmpFields, fault_fields, fault_status, fields_of};

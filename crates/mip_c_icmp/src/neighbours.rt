@@ -6,7 +6,7 @@ ghost use Rattle.mip_proxynd.specs.Fields.{is_group};
 ghost use Rattle.mip_proxynd.specs.Reading as reading;
 ghost use Rattle.mip_proxynd.specs.Spelling.{neighbour_bytes};
 ghost use Rattle.mip_c_words.specs.Giving.{WritesIf};
-ghost use Rattle.mip_c.specs.Neighbours.{TellsNeighbour, is_neighbour, neighbour_of};
+ghost use Rattle.mip_c_icmp.specs.Neighbours.{TellsNeighbour, is_neighbour, neighbour_of};
 
 use mip_c_words::addresses::address_of;
 use mip_c_words::giving::give;

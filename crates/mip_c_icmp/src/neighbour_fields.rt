@@ -1,6 +1,6 @@
 ghost use Rattle.std.specs.Prelude.{◌≡◌};
 ghost use Rattle.mip_c_words.specs.Addresses.{some_if};
-ghost use Rattle.mip_c.specs.Neighbours.{plain_fields, refused_fields, fields_of, fault_status, fault_fields, neighbour_of};
+ghost use Rattle.mip_c_icmp.specs.Neighbours.{plain_fields, refused_fields, fields_of, fault_status, fault_fields, neighbour_of};
 
 use mip_c_words::addresses::address_of;
 use mip_c_words::status::{

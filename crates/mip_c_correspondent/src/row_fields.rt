@@ -1,5 +1,5 @@
 ghost use Rattle.std.specs.Prelude.{◌≡◌};
-ghost use Rattle.mip_c.specs.Rows.{fields_of};
+ghost use Rattle.mip_c_correspondent.specs.Rows.{fields_of};
 
 use mip_bcache::Row;
 

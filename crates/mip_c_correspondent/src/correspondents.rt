@@ -3,8 +3,9 @@
 ghost use Rattle.std.specs.Prelude.{◌≡◌, ◌<◌, None, true, IfOk};
 ghost use Rattle.mip_words.specs.Addresses.{address_at};
 ghost use Rattle.mip_rules_correspondent.specs.Calls as calls;
-ghost use Rattle.mip_c.specs.Stations.{is_sendable, has_room, IsFresh};
-ghost use Rattle.mip_c.specs.Handles.{Opens, AnswersAt, TicksAt, NextAt, RouteAt, RowAt, close_status};
+ghost use Rattle.mip_c_words.specs.Calls.{close_status};
+ghost use Rattle.mip_c_correspondent.specs.Stations.{is_sendable, has_room, IsFresh};
+ghost use Rattle.mip_c_correspondent.specs.Handles.{Opens, AnswersAt, TicksAt, NextAt, RouteAt, RowAt};
 
 use mip_c_words::addresses::address_of;
 use mip_c_words::answer_fields::AnswerFields;

@@ -1,7 +1,7 @@
 ghost use Rattle.std.specs.Prelude.{◌≡◌};
 ghost use Rattle.mip_icmp.specs.Options.{set_of};
 ghost use Rattle.mip_icmp.specs.Said.{said};
-ghost use Rattle.mip_c.specs.Icmps.{blank, with_options, preference_of, life_of, fields_of, fault_status, fault_fields};
+ghost use Rattle.mip_c_icmp.specs.Icmps.{blank, with_options, preference_of, life_of, fields_of, fault_status, fault_fields};
 
 use crate::prefix_fields::{PrefixFields, no_prefix, prefix_fields};
 use mip_c_words::status::{ICMP_CHECKSUM, ICMP_OPTION, ICMP_SHORT, ICMP_TYPE};

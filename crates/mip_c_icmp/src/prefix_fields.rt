@@ -1,5 +1,5 @@
 ghost use Rattle.std.specs.Prelude.{◌≡◌};
-ghost use Rattle.mip_c.specs.Icmps.{no_prefix, prefix_fields};
+ghost use Rattle.mip_c_icmp.specs.Icmps.{no_prefix, prefix_fields};
 
 use mip_icmp::PrefixInfo;
 

@@ -1,5 +1,5 @@
 -- What the calls of a correspondent that C holds tell, and what they make of it.
-use Rattle.std.specs.Prelude.{◌≡◌, ◌⊎◌, ℕ, ◌*◌, ◌^◌, List, [], length, slice_get, Bool, true, false, not, ◌&&◌, nat_lt, Option, Some, None}
+use Rattle.std.specs.Prelude.{◌≡◌, ◌⊎◌, ℕ, ◌*◌, ◌^◌, List, [], length, slice_get, Bool, true, false, not, ◌&&◌, nat_lt, Option, Some, None, option_map}
 use Rattle.mip_words.specs.Addresses.{address_bytes}
 use Rattle.mip_words.specs.declared.address.Address.{Address}
 use Rattle.mip_ipv6.specs.Packet.{names_no_body}
@@ -14,12 +14,13 @@ use Rattle.mip_rules_correspondent.specs.Rules.{is_data}
 use Rattle.mip_rules_correspondent.specs.Seen.{transition_at, called}
 use Rattle.mip_rules_correspondent.specs.Steps.{answers_of}
 use Rattle.mip_c_words.specs.declared.answer_fields.AnswerFields.{AnswerFields}
-use Rattle.mip_c.specs.declared.row_fields.RowFields.{RowFields}
-use Rattle.mip_c.specs.declared.station.Station.{Station}
+use Rattle.mip_c_correspondent.specs.declared.row_fields.RowFields.{RowFields}
+use Rattle.mip_c_correspondent.specs.declared.station.Station.{Station}
 use Rattle.mip_c_words.specs.Answered.{fields_of, bytes_of}
+use Rattle.mip_c_words.specs.Calls.{Does, TellsIf}
 use Rattle.mip_c_words.specs.Giving.{Keeps, Tells, given_after}
 use Rattle.mip_c_words.specs.Moments.{is_late}
-use Rattle.mip_c.specs.Rows.{fields_of as row_fields_of}
+use Rattle.mip_c_correspondent.specs.Rows.{fields_of as row_fields_of}
 
 -- data that can be sent: of a protocol that carries data, with a body, and short
 abbrev pub is_sendable : ℕ → List ℕ → Bool
@@ -31,25 +32,13 @@ IsAnswered s t now call =
     (t.node ≡ called s.node now call) × (t.answers ≡ answers_of (transition_at s.node now call).steps) × (t.given ≡ 0)
     × (t.last.0 ≡ now)
 
--- 12 where the moment is late, 14 where what is asked for can't be, 5 where memory has run out, each with nothing changed;
--- else the call was answered
-abbrev pub AnswersIf : Bool → Bool → Station → Station → ℕ → Call → ℕ → Type 0
-AnswersIf true fit s t now call status = (status ≡ 12) × (t ≡ s)
-AnswersIf false false s t now call status = (status ≡ 14) × (t ≡ s)
-AnswersIf false true s t now call status = ((status ≡ 5) × (t ≡ s)) ⊎ ((status ≡ 0) × IsAnswered s t now call)
-
 abbrev pub Answers : Bool → Station → Station → ℕ → Call → ℕ → Type 0
-Answers fit s t now call status = AnswersIf (is_late s.last.0 now) fit s t now call status
+Answers fit s t now call status = Does (is_late s.last.0 now) fit s t status (IsAnswered s t now call)
 
--- time goes on, where its moment is not late: no answer is left
-abbrev pub TicksIf : Bool → Station → Station → ℕ → ℕ → Type 0
-TicksIf true s t now status = (status ≡ 12) × (t ≡ s)
-TicksIf false s t now status =
-    ((status ≡ 5) × (t ≡ s))
-    ⊎ ((status ≡ 0) × (t.node ≡ called s.node now Tick) × (t.answers ≡ []) × (t.given ≡ 0) × (t.last.0 ≡ now))
-
+-- time goes on: no answer is left
 abbrev pub Ticks : Station → Station → ℕ → ℕ → Type 0
-Ticks s t now status = TicksIf (is_late s.last.0 now) s t now status
+Ticks s t now status = Does (is_late s.last.0 now) true s t status
+    ((t.node ≡ called s.node now Tick) × (t.answers ≡ []) × (t.given ≡ 0) × (t.last.0 ≡ now))
 
 -- the same station, but for how many answers were fetched
 abbrev pub HasGiven : Station → Station → ℕ → Type 0
@@ -64,23 +53,14 @@ TellsNext (Some a) s t status fields_old fields_new old new size_old size_new =
     × HasGiven s t (given_after (bytes_of a) old s.given)
 
 -- the care-of address that is held for a home is told
-abbrev pub TellsHeld : Bool → Option Address → ℕ → List ℕ → List ℕ → Type 0
-TellsHeld true held status old new = (status ≡ 12) × (new ≡ old)
-TellsHeld false None status old new = (status ≡ 15) × (new ≡ old)
-TellsHeld false (Some a) status old new = (status ≡ 0) × (new ≡ address_bytes a)
-
 abbrev pub TellsRoute : Station → ℕ → Address → ℕ → List ℕ → List ℕ → Type 0
-TellsRoute s now peer status old new = TellsHeld (is_late s.last.0 now) (held_of s.node.known now peer) status old new
+TellsRoute s now peer status old new =
+    TellsIf (is_late s.last.0 now) (option_map address_bytes (held_of s.node.known now peer)) status old new
 
 -- the row at a place is told
-abbrev pub TellsRowIf : Bool → Option Row → ℕ → RowFields → RowFields → Type 0
-TellsRowIf true row status old new = (status ≡ 12) × (new ≡ old)
-TellsRowIf false None status old new = (status ≡ 15) × (new ≡ old)
-TellsRowIf false (Some r) status old new = (status ≡ 0) × (new ≡ row_fields_of r)
-
 abbrev pub TellsRow : Station → ℕ → ℕ → ℕ → RowFields → RowFields → Type 0
 TellsRow s now place status old new =
-    TellsRowIf (is_late s.last.0 now) (slice_get (rows_at s.node.known.cache now) place) status old new
+    TellsIf (is_late s.last.0 now) (option_map row_fields_of (slice_get (rows_at s.node.known.cache now) place)) status old new
 
 -- a station that begins: a node with this address, these secrets and this room, which was asked for nothing yet
 abbrev pub IsFresh : Address → Life → ℕ → ℕ → Station → Type 0

@@ -2,7 +2,7 @@
 
 ghost use Rattle.std.specs.Prelude.{◌≡◌, None, slice_get, true};
 ghost use Rattle.mip_rules_correspondent.specs.Calls as calls;
-ghost use Rattle.mip_c.specs.Stations.{Answers as AnswersCall, Ticks, TellsNext, TellsRoute, TellsRow, is_sendable};
+ghost use Rattle.mip_c_correspondent.specs.Stations.{Answers as AnswersCall, Ticks, TellsNext, TellsRoute, TellsRow, is_sendable};
 
 use mip_c_words::answer_fields::{AnswerFields, bytes_of, fields_of};
 use mip_c_words::giving::tell;

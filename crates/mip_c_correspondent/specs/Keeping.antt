@@ -6,7 +6,7 @@ use denote.RawPtr.{Ptr}
 use Rattle.std.specs.Global.{Global}
 use Rattle.std.specs.contracts.impls.GlobalAllocator.TheImpl.{ghosts}
 use Rattle.std.specs.Box.Ownership.{box_owns}
-use Rattle.mip_c.specs.contracts.station.Station.{the_row}
+use Rattle.mip_c_correspondent.specs.contracts.station.Station.{the_row}
 
 abbrev pub Kept : Type 0
 Kept = the_row.Denot

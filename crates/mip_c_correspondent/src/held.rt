@@ -1,7 +1,7 @@
 //! A station behind a pointer that C carries, and how it goes in and out.
 
 ghost use Rattle.std.specs.Prelude.{◌≡◌, Some, None, Option, is_some, true};
-ghost use Rattle.mip_c.specs.Keeping.{Kept, kept_code, keeps};
+ghost use Rattle.mip_c_correspondent.specs.Keeping.{Kept, kept_code, keeps};
 
 use mip_c_words::loose::Loose;
 use crate::station::Station;

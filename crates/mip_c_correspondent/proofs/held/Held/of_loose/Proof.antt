@@ -23,13 +23,13 @@ use Rattle.std.specs.Box.Ownership.{box_owns}
 use Rattle.std.specs.contracts.alloc.Global as heap
 use Rattle.std.proofs.alloc.Global.TheLaws as heap_laws
 use Rattle.std.specs.contracts.impls.GlobalAllocator.TheImpl.{ghosts}
-use Rattle.mip_c.specs.contracts.station.Station as station
+use Rattle.mip_c_correspondent.specs.contracts.station.Station as station
 use Rattle.mip_c_words.proofs.Values.{both, Loose, loose_good, loose_out}
-use Rattle.mip_c.proofs.HeldValues.{word, held_in}
-use Rattle.mip_c.specs.contracts.held.Held.of_loose.{ended, clauses}
-use Rattle.mip_c.specs.contracts.held.Held.of_loose.Key.{name as #self}
-use Rattle.mip_c.proofs.held.Held.of_loose.Statement.{statement}
-use Rattle.mip_c.proofs.held.Held.of_loose.Code as code
+use Rattle.mip_c_correspondent.proofs.HeldValues.{word, held_in}
+use Rattle.mip_c_correspondent.specs.contracts.held.Held.of_loose.{ended, clauses}
+use Rattle.mip_c_correspondent.specs.contracts.held.Held.of_loose.Key.{name as #self}
+use Rattle.mip_c_correspondent.proofs.held.Held.of_loose.Statement.{statement}
+use Rattle.mip_c_correspondent.proofs.held.Held.of_loose.Code as code
 
 pub of_loose_spec : {M : Type 1} → statement M
 of_loose_spec 𝓤 𝓛 𝓜 𝓡 wired =

@@ -25,17 +25,17 @@ use Rattle.std.specs.Box.Ownership.{box_owns}
 use Rattle.std.specs.contracts.alloc.Global as heap
 use Rattle.std.proofs.alloc.Global.TheLaws as heap_laws
 use Rattle.std.specs.contracts.impls.GlobalAllocator.TheImpl.{ghosts}
-use Rattle.mip_c.specs.Keeping.{Kept, keeps}
-use Rattle.mip_c.specs.contracts.station.Station as station
+use Rattle.mip_c_correspondent.specs.Keeping.{Kept, keeps}
+use Rattle.mip_c_correspondent.specs.contracts.station.Station as station
 use Rattle.mip_c_words.proofs.Values.{both, loose_good, loose_in}
-use Rattle.mip_c.proofs.HeldValues.{Held, word, held_out}
+use Rattle.mip_c_correspondent.proofs.HeldValues.{Held, word, held_out}
 use Rattle.std.specs.Prelude.{is_some, true}
 use Rattle.std.proofs.alloc.Calls.{handle_tells}
 use Rattle.mip_c_words.proofs.Values.{al}
-use Rattle.mip_c.specs.contracts.held.Held.into_loose.{ended, clauses}
-use Rattle.mip_c.specs.contracts.held.Held.into_loose.Key.{name as #self}
-use Rattle.mip_c.proofs.held.Held.into_loose.Statement.{statement}
-use Rattle.mip_c.proofs.held.Held.into_loose.Code as code
+use Rattle.mip_c_correspondent.specs.contracts.held.Held.into_loose.{ended, clauses}
+use Rattle.mip_c_correspondent.specs.contracts.held.Held.into_loose.Key.{name as #self}
+use Rattle.mip_c_correspondent.proofs.held.Held.into_loose.Statement.{statement}
+use Rattle.mip_c_correspondent.proofs.held.Held.into_loose.Code as code
 
 kept : (o : Option Kept) → is_some o ≡ true → (s : Kept) × (o ≡ Some s)
 kept (Some s) e = (s, refl)

@@ -8,8 +8,8 @@ use Rattle.mip_icmp.specs.declared.fault.IcmpFault.{IcmpFault}
 use Rattle.mip_icmp.specs.declared.fault.IcmpFault.TheVariants as faults
 use Rattle.mip_icmp.specs.Said.{Said}
 use Rattle.mip_icmp.specs.Said.Said.{Parameter, Advertisement, DiscoverAsk, DiscoverReply, PrefixAsk, PrefixReply}
-use Rattle.mip_c.specs.declared.prefix_fields.PrefixFields.{PrefixFields}
-use Rattle.mip_c.specs.declared.icmp_fields.IcmpFields.{IcmpFields}
+use Rattle.mip_c_icmp.specs.declared.prefix_fields.PrefixFields.{PrefixFields}
+use Rattle.mip_c_icmp.specs.declared.icmp_fields.IcmpFields.{IcmpFields}
 
 abbrev pub no_prefix : PrefixFields
 no_prefix = record { length = 0; flags = 0; valid = 0; preferred = 0; address = replicate 16 0 }
