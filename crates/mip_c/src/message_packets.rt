@@ -9,10 +9,10 @@ ghost use Rattle.mip_c_words.specs.Giving.{WritesIf};
 ghost use Rattle.mip_c.specs.Messages.{is_message, said_of};
 ghost use Rattle.mip_c.specs.Packets.{head_of};
 
-use mip_c_words::addresses::address_of;
-use mip_c_words::giving::give;
 use crate::message_fields::{MessageFields, is_message, plain_of};
 use crate::packet_fields::{PacketFields, head_of};
+use mip_c_words::addresses::address_of;
+use mip_c_words::giving::give;
 use mip_c_words::status::ARGUMENT;
 use mip_packets::{PreparedKbm, write_authenticated_packet, write_message_packet};
 use mip_tokens::Kbm;

@@ -2,8 +2,8 @@ ghost use Rattle.std.specs.Prelude.{◌≡◌, is_some, None, Some};
 ghost use Rattle.std.specs.Option.{option_map};
 
 use crate::held::Held;
-use mip_c_words::loose::Loose;
 use crate::station::Station;
+use mip_c_words::loose::Loose;
 use std::alloc::Global;
 use std::mem::replace;
 

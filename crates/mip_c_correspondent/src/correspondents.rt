@@ -7,11 +7,11 @@ ghost use Rattle.mip_c_words.specs.Calls.{close_status};
 ghost use Rattle.mip_c_correspondent.specs.Stations.{is_sendable, has_room, IsFresh};
 ghost use Rattle.mip_c_correspondent.specs.Handles.{Opens, AnswersAt, TicksAt, NextAt, RouteAt, RowAt};
 
-use mip_c_words::addresses::address_of;
-use mip_c_words::answer_fields::AnswerFields;
 use crate::correspondent_handle::{CorrespondentHandle, put_in, take_out};
 use crate::row_fields::RowFields;
 use crate::station::Station;
+use mip_c_words::addresses::address_of;
+use mip_c_words::answer_fields::AnswerFields;
 use mip_c_words::status::{ALREADY_OPEN, ARGUMENT, CLOSED, MEMORY, OK};
 use mip_correspondent::Correspondent;
 use mip_entries::Answers;

@@ -3,8 +3,8 @@
 ghost use Rattle.std.specs.Prelude.{◌≡◌, Some, None, Option, is_some, true};
 ghost use Rattle.mip_c_correspondent.specs.Keeping.{Kept, kept_code, keeps};
 
-use mip_c_words::loose::Loose;
 use crate::station::Station;
+use mip_c_words::loose::Loose;
 use std::alloc::Global;
 use std::marker::Model;
 use std::ptr::null_mut;

@@ -4,12 +4,12 @@ ghost use Rattle.std.specs.Prelude.{◌≡◌, None, slice_get, true};
 ghost use Rattle.mip_rules_correspondent.specs.Calls as calls;
 ghost use Rattle.mip_c_correspondent.specs.Stations.{Answers as AnswersCall, Ticks, TellsNext, TellsRoute, TellsRow, is_sendable};
 
-use mip_c_words::answer_fields::{AnswerFields, bytes_of, fields_of};
-use mip_c_words::giving::tell;
-use mip_c_words::moments::is_late;
 use crate::row_fields;
 use crate::row_fields::RowFields;
 use crate::station::Station;
+use mip_c_words::answer_fields::{AnswerFields, bytes_of, fields_of};
+use mip_c_words::giving::tell;
+use mip_c_words::moments::is_late;
 use mip_c_words::status::{ARGUMENT, LATE, MEMORY, NONE, OK};
 use mip_entries::Answers;
 use mip_words::protocol::{ICMPV6, IPV6, MOBILITY_HEADER, NO_NEXT_HEADER};

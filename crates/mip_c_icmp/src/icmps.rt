@@ -5,8 +5,8 @@ ghost use Rattle.mip_words.specs.Addresses.{address_at};
 ghost use Rattle.mip_icmp.specs.Reading.{icmp_of};
 ghost use Rattle.mip_c_icmp.specs.Icmps.{TellsIcmp};
 
-use mip_c_words::addresses::address_of;
 use crate::icmp_fields::{IcmpFields, fault_fields, fault_status, fields_of};
+use mip_c_words::addresses::address_of;
 use mip_c_words::status::{ARGUMENT, OK};
 use mip_icmp::read_icmp;
 

@@ -8,11 +8,11 @@ ghost use Rattle.mip_proxynd.specs.Spelling.{neighbour_bytes};
 ghost use Rattle.mip_c_words.specs.Giving.{WritesIf};
 ghost use Rattle.mip_c_icmp.specs.Neighbours.{TellsNeighbour, is_neighbour, neighbour_of};
 
-use mip_c_words::addresses::address_of;
-use mip_c_words::giving::give;
 use crate::neighbour_fields::{
     NeighbourFields, fault_fields, fault_status, fields_of, neighbour_of,
 };
+use mip_c_words::addresses::address_of;
+use mip_c_words::giving::give;
 use mip_c_words::status::{ARGUMENT, OK};
 use mip_proxynd::{read_neighbour, write_neighbour};
 use std::alloc::Global;

@@ -3,9 +3,9 @@ use Rattle.std.specs.Prelude.{◌≡◌, ◌⊎◌, ℕ, List}
 use Rattle.mip_replies.specs.Answers.{Answer}
 use Rattle.mip_c_words.specs.Giving.{Keeps, Tells}
 
--- memory has run out, or this was written with this status
+-- the whole answer was written, with its status
 abbrev pub IsReplied : Answer → ℕ → List ℕ → Type 0
-IsReplied answer status written = (status ≡ 5) ⊎ ((status ≡ answer.status) × (written ≡ answer.text))
+IsReplied answer status written = (status ≡ answer.status) × (written ≡ answer.text)
 
 -- memory has run out and nothing has changed, or the answer is told with its status
 abbrev pub Replies : Answer → ℕ → List ℕ → List ℕ → ℕ → ℕ → Type 0

@@ -1,6 +1,6 @@
 //! What the program replies to an input, in the caller's memory.
 
-ghost use Rattle.std.specs.Prelude.{◌≡◌, [], IfOk};
+ghost use Rattle.std.specs.Prelude.{◌≡◌, IfOk};
 ghost use Rattle.mip_replies.specs.Answers.{form_answer};
 ghost use Rattle.mip_replies.specs.Told.{IsConclusive};
 ghost use Rattle.mip_c_runs.specs.Replies.{IsReplied, Replies};
@@ -12,17 +12,15 @@ use mip_replies::{InputForm, Reply, Status, answer, tell_reply};
 use mip_words::{Bytes, Memory};
 use std::alloc::Global;
 
-/// Writes a reply where no call fails.
-fn written(alloc: Global, reply: &Reply, sink: &mut SureSink) -> Status
-    requires conclusive { IsConclusive reply.now.status }
-    requires empty { sink.old ≡ [] }
-    ensures { IsReplied reply.now result.0 sink.new }
-{
-    tell_reply(alloc, sink, reply)
+/// A reply as it is written, where no call fails.
+#[derive(Drop)]
+struct Written {
+    status: Status,
+    sink: SureSink,
 }
 
 /// The reply to an input.
-fn replied(alloc: Global, form: InputForm, input: &[u8]) -> Result<Reply, Memory>
+fn reply_to(alloc: Global, form: InputForm, input: &[u8]) -> Result<Reply, Memory>
     ensures reply { IfOk result (λ reply. reply ≡ form_answer form input.now) }
     ensures conclusive { IfOk result (λ reply. IsConclusive reply.status) }
 {
@@ -30,18 +28,30 @@ fn replied(alloc: Global, form: InputForm, input: &[u8]) -> Result<Reply, Memory
     answer(alloc, form, input)
 }
 
-/// The reply to an input, written.
-fn reply_to(alloc: Global, form: InputForm, input: &[u8]) -> Result<(SureSink, Status), Memory>
-    ensures { IfOk result (λ r. IsReplied (form_answer form input.now) r.1.0 r.0) }
+/// A reply is written.
+#[tactic(auto, using(crate::proofs::Written::is_replied))]
+fn write(alloc: Global, reply: &Reply) -> Result<Written, Memory>
+    requires { IsConclusive reply.now.status }
+    ensures { IfOk result (λ w. IsReplied reply.now w.status.0 w.sink) }
 {
-    let reply = replied(alloc, form, input)?;
     let mut sink = SureSink::new(alloc)?;
-    let status = written(alloc, &reply, &mut sink);
-    Ok((sink, status))
+    let status = tell_reply(alloc, &mut sink, reply);
+    if status == Status::MEMORY {
+        return Err(Memory);
+    }
+    Ok(Written { status, sink })
+}
+
+/// The reply to an input is written.
+fn answered(alloc: Global, form: InputForm, input: &[u8]) -> Result<Written, Memory>
+    ensures { IfOk result (λ w. IsReplied (form_answer form input.now) w.status.0 w.sink) }
+{
+    let reply = reply_to(alloc, form, input)?;
+    write(alloc, &reply)
 }
 
 /// Tells what the program replies to an input.
-pub fn tell_reply_to(
+pub fn tell_answer(
     alloc: Global,
     form: InputForm,
     input: &[u8],
@@ -50,8 +60,8 @@ pub fn tell_reply_to(
 ) -> u32
     ensures { Replies (form_answer form input.now) result out.old out.new size.old size.new }
 {
-    match reply_to(alloc, form, input) {
-        Ok((_, Status::MEMORY)) | Err(Memory) => MEMORY,
-        Ok((sink, status)) => tell(u32::from(status.0), sink.bytes(), out, size),
+    match answered(alloc, form, input) {
+        Ok(written) => tell(u32::from(written.status.0), written.sink.bytes(), out, size),
+        Err(Memory) => MEMORY,
     }
 }

@@ -5,7 +5,7 @@ ghost use Rattle.mip_replies.specs.declared.input_form.InputForm.TheVariants as 
 ghost use Rattle.mip_replies.specs.declared.told_run.ToldRun.TheVariants.{Trace};
 ghost use Rattle.mip_c_runs.specs.Replies.{Replies};
 
-use crate::replies::tell_reply_to;
+use crate::replies::tell_answer;
 use mip_replies::{InputForm, ToldRun};
 use std::alloc::Global;
 
@@ -22,7 +22,13 @@ pub extern "C" fn mip_replay(
 ) -> u32
     ensures { Replies (form_answer (forms.Schedule Trace) schedule.now) result out.old out.new size.old size.new }
 {
-    tell_reply_to(alloc, InputForm::Schedule(ToldRun::Trace), schedule, out, size)
+    tell_answer(
+        alloc,
+        InputForm::Schedule(ToldRun::Trace),
+        schedule,
+        out,
+        size,
+    )
 }
 
 /// Judges the trace that stands behind a schedule and a line `trace`, as `mip audit` does: it writes `yes` where it is the
@@ -30,13 +36,8 @@ pub extern "C" fn mip_replay(
 /// Tells `MIP_OK`, where it is; `MIP_DIFFERS`; `MIP_BAD`; `MIP_TOO_LONG` where the input has more than 16,777,216 bytes, 2,000
 /// lines of events, or 20,000 of the trace; `MIP_NO_ROOM` with size; `MIP_MEMORY`.
 #[unsafe(no_mangle)]
-pub extern "C" fn mip_audit(
-    alloc: Global,
-    input: &[u8],
-    out: &mut [u8],
-    size: &mut usize,
-) -> u32
+pub extern "C" fn mip_audit(alloc: Global, input: &[u8], out: &mut [u8], size: &mut usize) -> u32
     ensures { Replies (form_answer forms.Audit input.now) result out.old out.new size.old size.new }
 {
-    tell_reply_to(alloc, InputForm::Audit, input, out, size)
+    tell_answer(alloc, InputForm::Audit, input, out, size)
 }
