@@ -1,4 +1,4 @@
-/* A packet through every reader and through a node, for libFuzzer. The packet stands in a block of its exact size. */
+/* A packet through every reader and through both nodes, for libFuzzer. The packet stands in a block of its exact size. */
 #include "mip.h"
 
 #include <stdlib.h>
@@ -20,9 +20,7 @@ int LLVMFuzzerTestOneInput(const uint8_t *data, size_t size)
     if (mip_read_packet(block, size, &packet) == MIP_OK) {
         mip_read_message(packet.sender, packet.receiver, block + packet.body, size - packet.body, &message);
         mip_read_icmp(packet.sender, packet.receiver, block + packet.body, size - packet.body, &icmp);
-#ifdef NEIGHBOURS
         mip_read_neighbour(packet.sender, packet.receiver, packet.hop, block + packet.body, size - packet.body, &(struct mip_neighbour_fields){.kind = 0});
-#endif
         mip_write_packet(&packet, block + packet.body, size - packet.body, out, sizeof out, &told);
         mip_write_message_packet(&packet, &message, out, sizeof out, &told);
     }
@@ -34,6 +32,16 @@ int LLVMFuzzerTestOneInput(const uint8_t *data, size_t size)
         while (mip_correspondent_next(&node, &answer, out, sizeof out, &told) == MIP_OK)
             ;
         mip_correspondent_close(&node);
+    }
+    struct mip_agent_handle agent = {0};
+    struct mip_shield_fields shield = {.is_shielded = true};
+    memcpy(shield.from, packet.sender, 16);
+    memcpy(shield.to, packet.receiver, 16);
+    if (mip_agent_open(&agent, packet.receiver, 1, 1800, 4, packet.sender, 16) == MIP_OK) {
+        mip_agent_take(&agent, 1, 0, &shield, packet.sender, size % 2 ? 16 : 0, block, size);
+        while (mip_agent_next(&agent, &answer, out, sizeof out, &told) == MIP_OK)
+            ;
+        mip_agent_close(&agent);
     }
     free(block);
     return 0;

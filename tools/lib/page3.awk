@@ -25,7 +25,7 @@ function shown() {
 }
 
 BEGIN {
-    print ".TH MIP 3\n.SH NAME\nmip \\- Mobile IPv6 (RFC 6275) from C and Python: packets, messages, return routability, a correspondent node"
+    print ".TH MIP 3\n.SH NAME\nmip \\- Mobile IPv6 (RFC 6275) from C and Python: packets, messages, return routability, a correspondent node, a home agent"
     print ".SH SYNOPSIS\n.nf\n#include <mip.h>\n\ncc program.c $(pkg\\-config \\-\\-cflags \\-\\-libs mip)\n.fi\n.SH DESCRIPTION"
 }
 FNR == 1 { sub(/mip\.h: /, "") }

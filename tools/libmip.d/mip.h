@@ -1,5 +1,5 @@
-/* mip.h: Mobile IPv6 (RFC 6275) from C. Packets and messages are read and written, listed and sealed, and a correspondent node is an object that takes packets
-   and gives packets. docs/LIBRARY.md tells how it is linked.
+/* mip.h: Mobile IPv6 (RFC 6275) from C. Packets and messages are read and written, listed and sealed, a correspondent node and a home agent are objects that
+   take packets and give packets, and whole schedules are run. docs/LIBRARY.md tells how it is linked.
 
    .ci/header makes this file of the sources of the library, so it is not edited. Every function that is declared here, but for those that are written out
    below, is proved to do what its comment says, for all arguments that keep to what a caller owes, and to read and write no other memory.
@@ -14,8 +14,8 @@
    Threads: no call has a state beside its arguments, and memory comes from malloc, realloc and free of the C library. So any threads may call at once, but
    for two on the same handle. A handle stays on the thread that opened it.
 
-   A call that returns a status (enum mip_status) and does not end with MIP_OK has changed nothing, but for fields that it says it tells: a handle is as it
-   was, and so is a buffer. Where there is too little room, *size tells what is needed.
+   A call that returns a status (enum mip_status) and does not end with MIP_OK has changed nothing, but for what it says that it tells or writes: a handle is
+   as it was, and so is a buffer. Where there is too little room, *size tells what is needed.
    Addresses have 16 bytes, moments are milliseconds, and numbers are the host's; a `place` counts bytes from 0. */
 #ifndef MIP_H
 #define MIP_H
@@ -400,7 +400,7 @@ uint32_t mip_checksum(const uint8_t source[16], const uint8_t destination[16], u
 enum mip_answer_kind {
     /* An answer that no call for C gives. */
     MIP_ANSWER_OTHER = 0,
-    /* The node sends a packet: the bytes are its. */
+    /* The node sends a packet: the bytes are its. Where `is_shielded`, it is to be protected between `source` and `destination`. */
     MIP_ANSWER_SEND = 1,
     /* The node accepted the update in a packet: `number`, `home`, `binding`, `careof`, `sequence`, `end`, `home_index`,
        `careof_index`. */
@@ -413,6 +413,12 @@ enum mip_answer_kind {
     MIP_ANSWER_UP = 5,
     /* What was asked for can't be, and the call changed nothing. */
     MIP_ANSWER_IDLE = 6,
+    /* A home agent accepted a registration, or a deregistration: `home`, `careof`, `sequence`, `end`. */
+    MIP_ANSWER_HOME = 7,
+    /* A home agent has claimed an address, and answers for it from here on: `home`. */
+    MIP_ANSWER_CLAIMED = 8,
+    /* A home agent gives an address up: `home`. */
+    MIP_ANSWER_RELEASED = 9,
 };
 
 /* ---- Why a packet, an update or a sending came to nothing, as numbers. Each sentence begins with the word of a trace. ---- */
@@ -548,15 +554,15 @@ struct mip_answer_fields {
     uint8_t kind;
     /* The number of the packet, as it was given. */
     uint64_t number;
-    /* The home address of an update. */
+    /* The home address of an update or of a registration, or the address that an agent claims or gives up. */
     uint8_t home[16];
     /* The binding number; 0 where a home has one binding. */
     uint8_t binding;
-    /* The care-of address of an update; its home address where it deletes the binding. */
+    /* The care-of address of an update or of a registration; the home address where it deletes the binding. */
     uint8_t careof[16];
-    /* The sequence number of an update. */
+    /* The sequence number of an update or of a registration. */
     uint16_t sequence;
-    /* The end of the binding, in milliseconds. */
+    /* The end of the binding or of the registration, in milliseconds. */
     uint64_t end;
     /* The home nonce index. */
     uint16_t home_index;
@@ -567,9 +573,11 @@ struct mip_answer_fields {
     uint8_t status;
     /* Why: a number of `enum mip_why`. */
     uint8_t why;
-    /* Whom data is from, a home address where there is one. */
+    /* Whether a packet that is sent is to be protected (RFC 6275 section 5.1), between `source` and `destination`. */
+    bool is_shielded;
+    /* Whom data is from, a home address where there is one; who protects a packet. */
     uint8_t source[16];
-    /* Whom data is for, a home address where there is one. */
+    /* Whom data is for, a home address where there is one; whom a packet is protected for. */
     uint8_t destination[16];
     /* The protocol of data. */
     uint8_t proto;
@@ -604,6 +612,106 @@ struct mip_row_fields {
    (RFC 6275 section 9.1).
    Tells `MIP_OK`; `MIP_CLOSED`; `MIP_LATE`; `MIP_NONE` past the last row. The node stays as it was. */
 uint32_t mip_correspondent_row(struct mip_correspondent_handle *handle, uint64_t now, uint32_t place, struct mip_row_fields *row);
+
+/* ---- A home agent by its handle. ---- */
+
+/* A home agent by a handle: all zeros is a closed one. C neither looks into it nor writes it, and copies it only while it
+   is closed. */
+struct mip_agent_handle {
+    bool is_open;
+    struct mip_held held;
+};
+
+/* Opens a handle on a home agent with its own address (RFC 6275 section 10), which serves the homes of `serves`, 16 bytes
+   each, and registers `room` of them at most at a time. It answers discovery with its `preference` and a `life` in seconds.
+   Tells `MIP_OK`; `MIP_ALREADY_OPEN`; `MIP_MEMORY`; `MIP_ARGUMENT` where `serves` is no list of addresses that packets are
+   routed to. */
+uint32_t mip_agent_open(struct mip_agent_handle *handle, const uint8_t own[16], uint16_t preference, uint16_t life, uint32_t room, const uint8_t *serves,
+    size_t serves_len);
+
+/* Closes a handle: its agent is given up, and its memory is free. The caller gives up the addresses that the agent had
+   claimed.
+   Tells `MIP_OK`; `MIP_CLOSED` where it is closed already. */
+uint32_t mip_agent_close(struct mip_agent_handle *handle);
+
+/* The protection that a packet came under, which stands for IPsec between a mobile and its agent (RFC 6275 section 5.1). All
+   zeros is none. */
+struct mip_shield_fields {
+    /* Whether the packet came under protection. */
+    bool is_shielded;
+    /* Who protected it: a mobile's home address. */
+    uint8_t from[16];
+    /* Whom it was protected for: the agent's address. */
+    uint8_t to[16];
+};
+
+/* Hands a packet to the agent at a moment in milliseconds, with the protection that it came under (RFC 6275 sections 10.3 to
+   10.5). The number is the caller's own, and stands in the answers. `others` are the addresses of the home link that somebody
+   else holds, 16 bytes each: the agent claims none of them, and of each address that it claims or gives up an answer tells.
+   The answers wait for `mip_agent_next`, and those of the call before are forgotten.
+   Tells `MIP_OK`, also where the packet is dropped; `MIP_CLOSED`; `MIP_LATE`; `MIP_ARGUMENT` where `others` is no list of
+   addresses; `MIP_MEMORY`. After each but `MIP_OK` the agent and its answers are as they were. */
+uint32_t mip_agent_take(struct mip_agent_handle *handle, uint64_t now, uint64_t number, const struct mip_shield_fields *shield, const uint8_t *others,
+    size_t others_len, const uint8_t *packet, size_t packet_len);
+
+/* Lets time go on to a moment in milliseconds: the registrations whose time is over end, and their addresses are given up
+   (RFC 6275 section 10.3.1). The answers are as those of `mip_agent_take`.
+   Tells `MIP_OK`; `MIP_CLOSED`; `MIP_LATE`; `MIP_MEMORY`. After each but `MIP_OK` the agent and its answers are as they were. */
+uint32_t mip_agent_tick(struct mip_agent_handle *handle, uint64_t now);
+
+/* Tells the agent at a moment in milliseconds that its prefix is valid and preferred for so many seconds from now on, of
+   which each registered home is told (RFC 6275 section 10.6). The answers are as those of `mip_agent_take`.
+   Tells `MIP_OK`; `MIP_CLOSED`; `MIP_LATE`; `MIP_MEMORY`. After each but `MIP_OK` the agent and its answers are as they were. */
+uint32_t mip_agent_plan(struct mip_agent_handle *handle, uint64_t now, uint32_t valid, uint32_t preferred);
+
+/* Tells the agent at a moment in milliseconds of the advertisement of another home agent of its link: its preference, and for
+   how many seconds it lives (RFC 6275 section 10.5.1). No answer is left.
+   Tells `MIP_OK`; `MIP_CLOSED`; `MIP_LATE`; `MIP_MEMORY`. After each but `MIP_OK` the agent and its answers are as they were. */
+uint32_t mip_agent_heard(struct mip_agent_handle *handle, uint64_t now, const uint8_t agent[16], uint16_t preference, uint16_t life);
+
+/* Tells the next answer of the last call: its fields, and its packet.
+   Tells `MIP_OK`; `MIP_CLOSED`; `MIP_NONE` where no answer is left; `MIP_NO_ROOM` with fields and size, after which the answer is
+   still the next one. */
+uint32_t mip_agent_next(struct mip_agent_handle *handle, struct mip_answer_fields *fields, uint8_t *bytes, size_t bytes_len, size_t *size);
+
+/* Tells the care-of address that is registered for a home at a moment in milliseconds (RFC 6275 section 10.1).
+   Tells `MIP_OK`; `MIP_CLOSED`; `MIP_LATE`; `MIP_NONE` where none is registered. The agent stays as it was. */
+uint32_t mip_agent_careof(struct mip_agent_handle *handle, uint64_t now, const uint8_t home[16], uint8_t careof[16]);
+
+/* A home that is registered at an agent (RFC 6275 section 10.1). */
+struct mip_registration_fields {
+    /* The home address. */
+    uint8_t home[16];
+    /* The care-of address. */
+    uint8_t careof[16];
+    /* The sequence number of the update. */
+    uint16_t sequence;
+    /* The end of the registration, in milliseconds. */
+    uint64_t end;
+};
+
+/* Tells the home at a place from 0 among those that are registered at a moment in milliseconds, in order of address (RFC 6275
+   section 10.1).
+   Tells `MIP_OK`; `MIP_CLOSED`; `MIP_LATE`; `MIP_NONE` past the last one. The agent stays as it was. */
+uint32_t mip_agent_row(struct mip_agent_handle *handle, uint64_t now, uint32_t place, struct mip_registration_fields *row);
+
+/* Tells the moment in milliseconds of the first end of a registration: the next one that `mip_agent_tick` is wanted at.
+   Tells `MIP_OK`; `MIP_CLOSED`; `MIP_NONE` where no registration ends. The agent stays as it was. */
+uint32_t mip_agent_due(struct mip_agent_handle *handle, uint64_t *due);
+
+/* ---- Whole runs: what the program `mip` writes of them. ---- */
+
+/* Runs a schedule, and writes the trace of its run, as `mip replay` does. Where the schedule is bad it writes the line that
+   tells which of its lines is, and why. The run is made anew each time that it is asked for, also with too little room.
+   Tells `MIP_OK`; `MIP_BAD`; `MIP_TOO_LONG` where the schedule has more than 16,777,216 bytes or 20,000 lines of events;
+   `MIP_NO_ROOM` with size; `MIP_MEMORY`. */
+uint32_t mip_replay(const uint8_t *schedule, size_t schedule_len, uint8_t *out, size_t out_len, size_t *size);
+
+/* Judges the trace that stands behind a schedule and a line `trace`, as `mip audit` does: it writes `yes` where it is the
+   trace of the schedule's run, and else `no` with the number of the first line that differs.
+   Tells `MIP_OK`, where it is; `MIP_DIFFERS`; `MIP_BAD`; `MIP_TOO_LONG` where the input has more than 16,777,216 bytes, 2,000
+   lines of events, or 20,000 of the trace; `MIP_NO_ROOM` with size; `MIP_MEMORY`. */
+uint32_t mip_audit(const uint8_t *input, size_t input_len, uint8_t *out, size_t out_len, size_t *size);
 
 /* The name of one of enum mip_status, or "unknown". */
 static inline const char *mip_status_name(uint32_t number)
@@ -667,6 +775,9 @@ static inline const char *mip_answer_kind_name(uint32_t number)
     case MIP_ANSWER_DROPPED: return "dropped";
     case MIP_ANSWER_UP: return "up";
     case MIP_ANSWER_IDLE: return "idle";
+    case MIP_ANSWER_HOME: return "home";
+    case MIP_ANSWER_CLAIMED: return "claimed";
+    case MIP_ANSWER_RELEASED: return "released";
     }
     return "unknown";
 }

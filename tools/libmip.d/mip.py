@@ -1,5 +1,5 @@
-"""Mobile IPv6 (RFC 6275) over libmip: packets and messages are read and written, listed and sealed, and a correspondent node is an object that takes packets and
-gives packets.
+"""Mobile IPv6 (RFC 6275) over libmip: packets and messages are read and written, listed and sealed, a correspondent node and a home agent are objects that take
+packets and give packets, and whole schedules are run.
 
     import mip
     print(mip.decode(packet))                        # the listing of a packet
@@ -24,7 +24,7 @@ import enum
 import ipaddress
 import os
 from ctypes import POINTER, Structure, byref, c_bool, c_char_p, c_size_t, c_uint8, c_uint16, c_uint32, c_uint64, c_void_p
-from typing import Any, List, Optional, Tuple, Type, TypeVar, Union
+from typing import Any, Iterable, List, Optional, Tuple, Type, TypeVar, Union
 
 Address = Union[str, bytes, ipaddress.IPv6Address]
 T = TypeVar("T")
@@ -88,6 +88,9 @@ class AnswerKind(enum.IntEnum):
     DROPPED = 4
     UP = 5
     IDLE = 6
+    HOME = 7
+    CLAIMED = 8
+    RELEASED = 9
 
 
 # enum mip_why of mip.h: why a packet was dropped, in the words of a trace
@@ -270,6 +273,7 @@ class _Answer(Structure):
         ("careof_index", c_uint16),
         ("status", c_uint8),
         ("why", c_uint8),
+        ("is_shielded", c_bool),
         ("source", c_uint8 * 16),
         ("destination", c_uint8 * 16),
         ("proto", c_uint8),
@@ -293,7 +297,22 @@ class _Handle(Structure):
     _fields_ = [("is_open", c_bool), ("held", c_void_p)]
 
 
-STRUCTS: Tuple[Type[Structure], ...] = (_Packet, _Options, _Message, _Prefix, _Icmp, _Neighbour, _Answer, _Row, _Handle)
+class _Registration(Structure):
+    _name_ = "mip_registration_fields"
+    _fields_ = [("home", c_uint8 * 16), ("careof", c_uint8 * 16), ("sequence", c_uint16), ("end", c_uint64)]
+
+
+class _Shield(Structure):
+    _name_ = "mip_shield_fields"
+    _fields_ = [("is_shielded", c_bool), ("from", c_uint8 * 16), ("to", c_uint8 * 16)]
+
+
+class _AgentHandle(Structure):
+    _name_ = "mip_agent_handle"
+    _fields_ = [("is_open", c_bool), ("held", c_void_p)]
+
+
+STRUCTS: Tuple[Type[Structure], ...] = (_Packet, _Options, _Message, _Prefix, _Icmp, _Neighbour, _Answer, _Row, _Handle, _Registration, _Shield, _AgentHandle)
 
 # --- what they are in Python
 
@@ -405,7 +424,8 @@ class Neighbour:
 
 @dataclasses.dataclass(frozen=True)
 class Answer:
-    """What a node answers; `kind` says which fields it has. `bytes` is the packet of SEND, and the payload of UP. `why` is a word of a trace."""
+    """What a node answers; `kind` says which fields it has. `bytes` is the packet of SEND, and the payload of UP. `why` is a word of a trace.
+    Where `is_shielded`, a packet is to be protected between `source` and `destination` (RFC 6275 section 5.1)."""
 
     kind: AnswerKind
     number: int
@@ -418,6 +438,7 @@ class Answer:
     careof_index: Optional[int]
     status: int
     why: str
+    is_shielded: bool
     source: ipaddress.IPv6Address
     destination: ipaddress.IPv6Address
     proto: int
@@ -434,6 +455,24 @@ class Row:
     sequence: int
     end: int
     kept_until: int
+
+
+@dataclasses.dataclass(frozen=True)
+class Registration:
+    """A home that is registered at an agent (RFC 6275 section 10.1)."""
+
+    home: ipaddress.IPv6Address
+    careof: ipaddress.IPv6Address
+    sequence: int
+    end: int
+
+
+@dataclasses.dataclass(frozen=True)
+class Shield:
+    """The protection of a packet between a mobile's home address and its agent (RFC 6275 section 5.1): who protects it, and for whom."""
+
+    source: Address
+    destination: Address
 
 
 def _value(it: Any) -> Any:
@@ -488,6 +527,10 @@ def _address(it: Address) -> bytes:
     return _sized(it, 16, "an address") if isinstance(it, bytes) else ipaddress.IPv6Address(it).packed
 
 
+def _addresses(them: Iterable[Address]) -> bytes:
+    return b"".join(_address(it) for it in them)
+
+
 def _sized(it: bytes, size: int, name: str) -> bytes:
     if len(it) != size:
         raise ValueError(f"{name} has {size} bytes, and {len(it)} were given")
@@ -515,6 +558,7 @@ _BYTES = (c_char_p, c_size_t)
 _ROOM = (c_char_p, c_size_t, POINTER(c_size_t))
 _PAIR = (c_char_p, c_char_p)
 _NODE = (POINTER(_Handle),)
+_AGENT = (POINTER(_AgentHandle),)
 CALLS = {
     "mip_version": (c_uint32,),
     "mip_read_packet": (c_uint32, *_BYTES, POINTER(_Packet)),
@@ -545,6 +589,18 @@ CALLS = {
     "mip_correspondent_next": (c_uint32, *_NODE, POINTER(_Answer), *_ROOM),
     "mip_correspondent_route": (c_uint32, *_NODE, c_uint64, c_char_p, c_char_p),
     "mip_correspondent_row": (c_uint32, *_NODE, c_uint64, c_uint32, POINTER(_Row)),
+    "mip_agent_open": (c_uint32, *_AGENT, c_char_p, c_uint16, c_uint16, c_uint32, *_BYTES),
+    "mip_agent_close": (c_uint32, *_AGENT),
+    "mip_agent_take": (c_uint32, *_AGENT, c_uint64, c_uint64, POINTER(_Shield), *_BYTES, *_BYTES),
+    "mip_agent_tick": (c_uint32, *_AGENT, c_uint64),
+    "mip_agent_plan": (c_uint32, *_AGENT, c_uint64, c_uint32, c_uint32),
+    "mip_agent_heard": (c_uint32, *_AGENT, c_uint64, c_char_p, c_uint16, c_uint16),
+    "mip_agent_next": (c_uint32, *_AGENT, POINTER(_Answer), *_ROOM),
+    "mip_agent_careof": (c_uint32, *_AGENT, c_uint64, c_char_p, c_char_p),
+    "mip_agent_row": (c_uint32, *_AGENT, c_uint64, c_uint32, POINTER(_Registration)),
+    "mip_agent_due": (c_uint32, *_AGENT, POINTER(c_uint64)),
+    "mip_replay": (c_uint32, *_BYTES, *_ROOM),
+    "mip_audit": (c_uint32, *_BYTES, *_ROOM),
 }
 for _name, (_result, *_arguments) in CALLS.items():
     if hasattr(_lib, _name):
@@ -700,20 +756,39 @@ def is_authentic(key: bytes, careof: Address, peer: Address, message: bytes) -> 
     return bool(_lib.mip_is_authentic(_sized(key, 20, "a key"), _address(careof), _address(peer), message, len(message)))
 
 
-# --- a correspondent
+# --- whole runs
 
 
-class Correspondent:
-    """A correspondent node (RFC 6275 section 9): it answers return routability tests, judges Binding Updates and keeps the bindings of mobile nodes.
+def replay(schedule: bytes) -> Tuple[Status, str]:
+    """The trace of a schedule's run, as `mip replay` writes it, with OK; or the line that tells what is wrong, with BAD or TOO_LONG."""
+    return _replied(_lib.mip_replay, schedule)
 
-    `seed`, `node` and `life` are what its secrets are drawn from, so each start wants a new seed or a new life; it keeps `room` homes with `numbers` bindings each.
-    Moments may not fall. Each call answers a list; after an error the node is as it was. It is closed by `close`, by `with`, and when it is forgotten."""
 
-    def __init__(self, own: Address, seed: bytes, *, node: int = 0, life: int = 0, room: int = 64, numbers: int = 1) -> None:
-        self._handle = _Handle()
-        _check(_lib.mip_correspondent_open(byref(self._handle), _address(own), _sized(seed, 32, "a seed"), node, life, room, numbers))
+def audit(text: bytes) -> Tuple[Status, str]:
+    """The verdict on the trace behind a schedule and a line `trace`, as `mip audit` writes it: `yes` with OK, `no` and a line's number with DIFFERS; or as `replay`."""
+    return _replied(_lib.mip_audit, text)
 
-    def __enter__(self) -> "Correspondent":
+
+def _replied(call: Any, data: bytes) -> Tuple[Status, str]:
+    status, out = _filled(call, data, len(data), room=1 << 16)
+    if status not in (Status.OK, Status.BAD, Status.TOO_LONG, Status.DIFFERS):
+        _check(status)
+    return Status(status), out.decode("ascii")
+
+
+# --- nodes
+
+
+N = TypeVar("N", bound="_Node")
+
+
+class _Node:
+    """A node by its handle. It is closed by `close`, by `with`, and when it is forgotten."""
+
+    _kind: str
+    _handle: Structure
+
+    def __enter__(self: N) -> N:
         return self
 
     def __exit__(self, *_: Any) -> None:
@@ -725,50 +800,35 @@ class Correspondent:
 
     def close(self) -> None:
         """Gives its memory back. A closed node answers each call with Closed; closing it once more does nothing."""
-        _lib.mip_correspondent_close(byref(self._handle))
+        self._call("close")
 
-    def take(self, now: int, packet: bytes, number: int = 0) -> List[Answer]:
-        """A packet is handed to it; `number` comes back in the answers."""
-        return self._answers(_lib.mip_correspondent_take(byref(self._handle), now, number, packet, len(packet)))
+    def _call(self, name: str, *given: Any) -> int:
+        return int(getattr(_lib, f"mip_{self._kind}_{name}")(byref(self._handle), *given))
 
-    def send(self, now: int, to: Address, payload: bytes, proto: int = 253) -> List[Answer]:
-        """Data is to be sent: on the direct way where it holds a binding."""
-        return self._answers(_lib.mip_correspondent_send(byref(self._handle), now, _address(to), proto, payload, len(payload)))
-
-    def refresh(self, now: int, home: Address) -> List[Answer]:
-        """A Binding Refresh Request to a home is wanted."""
-        return self._answers(_lib.mip_correspondent_refresh(byref(self._handle), now, _address(home)))
-
-    def tick(self, now: int) -> List[Answer]:
-        """Time goes on, and rows past their time are given up."""
-        return self._answers(_lib.mip_correspondent_tick(byref(self._handle), now))
-
-    def route(self, now: int, peer: Address) -> Optional[ipaddress.IPv6Address]:
-        """The care-of address that is held for a home, or None."""
-        careof = ctypes.create_string_buffer(16)
-        status = _lib.mip_correspondent_route(byref(self._handle), now, _address(peer), careof)
+    def _address(self, name: str, now: int, home: Address) -> Optional[ipaddress.IPv6Address]:
+        out = ctypes.create_string_buffer(16)
+        status = self._call(name, now, _address(home), out)
         if status == Status.NONE:
             return None
         _check(status)
-        return ipaddress.IPv6Address(careof.raw)
+        return ipaddress.IPv6Address(out.raw)
 
-    def rows(self, now: int) -> List[Row]:
-        """All rows of its binding cache."""
-        rows: List[Row] = []
+    def _rows(self, now: int, fields: Any, made: Type[T]) -> List[T]:
+        rows: List[T] = []
         while True:
-            fields = _Row()
-            status = _lib.mip_correspondent_row(byref(self._handle), now, len(rows), byref(fields))
+            row = fields()
+            status = self._call("row", now, len(rows), byref(row))
             if status == Status.NONE:
                 return rows
             _check(status)
-            rows.append(_told(fields, Row))
+            rows.append(_told(row, made))
 
     def _answers(self, status: int) -> List[Answer]:
         _check(status)
         answers: List[Answer] = []
         while True:
             fields = _Answer()
-            status, data = _filled(_lib.mip_correspondent_next, byref(self._handle), byref(fields))
+            status, data = _filled(lambda *given: self._call("next", *given), byref(fields))
             if status == Status.NONE:
                 return answers
             _check(status)
@@ -776,3 +836,91 @@ class Correspondent:
             why = WHY[fields.why] if kind is AnswerKind.DROPPED else ""
             answers.append(_told(fields, Answer, kind=kind, why=why, bytes=data))
 
+
+class Correspondent(_Node):
+    """A correspondent node (RFC 6275 section 9): it answers return routability tests, judges Binding Updates and keeps the bindings of mobile nodes.
+
+    `seed`, `node` and `life` are what its secrets are drawn from, so each start wants a new seed or a new life; it keeps `room` homes with `numbers` bindings each.
+    Moments may not fall. Each call answers a list; after an error the node is as it was."""
+
+    _kind = "correspondent"
+
+    def __init__(self, own: Address, seed: bytes, *, node: int = 0, life: int = 0, room: int = 64, numbers: int = 1) -> None:
+        self._handle = _Handle()
+        _check(self._call("open", _address(own), _sized(seed, 32, "a seed"), node, life, room, numbers))
+
+    def take(self, now: int, packet: bytes, number: int = 0) -> List[Answer]:
+        """A packet is handed to it; `number` comes back in the answers."""
+        return self._answers(self._call("take", now, number, packet, len(packet)))
+
+    def send(self, now: int, to: Address, payload: bytes, proto: int = 253) -> List[Answer]:
+        """Data is to be sent: on the direct way where it holds a binding."""
+        return self._answers(self._call("send", now, _address(to), proto, payload, len(payload)))
+
+    def refresh(self, now: int, home: Address) -> List[Answer]:
+        """A Binding Refresh Request to a home is wanted."""
+        return self._answers(self._call("refresh", now, _address(home)))
+
+    def tick(self, now: int) -> List[Answer]:
+        """Time goes on, and rows past their time are given up."""
+        return self._answers(self._call("tick", now))
+
+    def route(self, now: int, peer: Address) -> Optional[ipaddress.IPv6Address]:
+        """The care-of address that is held for a home, or None."""
+        return self._address("route", now, peer)
+
+    def rows(self, now: int) -> List[Row]:
+        """All rows of its binding cache."""
+        return self._rows(now, _Row, Row)
+
+
+class HomeAgent(_Node):
+    """A home agent (RFC 6275 section 10): it registers the homes that it serves, `room` of them at most at a time, tunnels what is sent to them, and answers discovery
+    with its `preference` and a `life` in seconds.
+
+    Of each address that it claims or gives up an answer tells. Moments may not fall. Each call answers a list; after an error the agent is as it was."""
+
+    _kind = "agent"
+
+    def __init__(self, own: Address, serves: Iterable[Address], *, preference: int = 0, life: int = 1800, room: int = 64) -> None:
+        self._handle = _AgentHandle()
+        homes = _addresses(serves)
+        _check(self._call("open", _address(own), preference, life, room, homes, len(homes)))
+
+    def take(self, now: int, packet: bytes, number: int = 0, *, shield: Optional[Shield] = None, others: Iterable[Address] = ()) -> List[Answer]:
+        """A packet is handed to it, under this protection; `others` are the addresses of its link that somebody else holds, and `number` comes back in the answers."""
+        fields, held = _Shield(), _addresses(others)
+        if shield is not None:
+            fields.is_shielded = True
+            getattr(fields, "from")[:] = _address(shield.source)
+            fields.to[:] = _address(shield.destination)
+        return self._answers(self._call("take", now, number, byref(fields), held, len(held), packet, len(packet)))
+
+    def tick(self, now: int) -> List[Answer]:
+        """Time goes on: the registrations whose time is over end, and their addresses are given up."""
+        return self._answers(self._call("tick", now))
+
+    def plan(self, now: int, valid: int, preferred: int) -> List[Answer]:
+        """From now on its prefix is valid and preferred for so many seconds, of which each registered home is told."""
+        return self._answers(self._call("plan", now, valid, preferred))
+
+    def heard(self, now: int, agent: Address, preference: int, life: int) -> None:
+        """Another home agent of its link advertised itself, with its preference and for so many seconds."""
+        _check(self._call("heard", now, _address(agent), preference, life))
+
+    def careof(self, now: int, home: Address) -> Optional[ipaddress.IPv6Address]:
+        """The care-of address that is registered for a home, or None."""
+        return self._address("careof", now, home)
+
+    def rows(self, now: int) -> List[Registration]:
+        """All homes that are registered, in order of address."""
+        return self._rows(now, _Registration, Registration)
+
+    def due(self) -> Optional[int]:
+        """The moment of the first end of a registration: the next one that `tick` is wanted at."""
+        moment = c_uint64(0)
+        status = self._call("due", byref(moment))
+        if status == Status.NONE:
+            return None
+        _check(status)
+        return moment.value

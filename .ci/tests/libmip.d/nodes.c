@@ -1,4 +1,4 @@
-/* Does the calls of nodes.awk, a line each on standard input, at correspondents by their handles, and writes what they answer in the words of a trace.
+/* Does the calls of nodes.awk, a line each on standard input, at correspondents and home agents by their handles, and writes what they answer in the words of a trace.
        nodes            each packet in a block of its exact size, each answer first asked for with too little room
        nodes --fail     each allocation of the library fails in turn, malloc's and realloc's: the call ends with MIP_MEMORY, and is made once more
        nodes --threads  the same calls in four threads at a time, each with handles of its own, whose answers have to be the same
@@ -26,7 +26,9 @@ void *__wrap_realloc(void *block, size_t size) { return fails() ? NULL : __real_
 
 struct node {
     char name[16];
+    bool is_agent;
     struct mip_correspondent_handle handle;
+    struct mip_agent_handle agent;
 };
 struct run {
     struct node nodes[256];
@@ -52,7 +54,7 @@ static void put_answer(struct run *run, const struct node *it, const struct mip_
     FILE *out = run->out;
     switch (a->kind) {
     case MIP_ANSWER_SEND:
-        fprintf(out, "sent %s ", it->name);
+        fprintf(out, "sent %s %c ", it->name, a->is_shielded ? '+' : '-');
         put_digits(out, bytes, size);
         break;
     case MIP_ANSWER_ACCEPTED:
@@ -76,10 +78,27 @@ static void put_answer(struct run *run, const struct node *it, const struct mip_
         fprintf(out, " %u ", a->proto);
         put_digits(out, bytes, size);
         break;
+    case MIP_ANSWER_HOME:
+        fprintf(out, "home %s ", it->name);
+        put_digits(out, a->home, 16);
+        fputc(' ', out);
+        put_digits(out, a->careof, 16);
+        fprintf(out, " %u %llu", a->sequence, (unsigned long long)a->end);
+        break;
+    case MIP_ANSWER_CLAIMED:
+    case MIP_ANSWER_RELEASED:
+        fprintf(out, "%s %s ", mip_answer_kind_name(a->kind), it->name);
+        put_digits(out, a->home, 16);
+        break;
     case MIP_ANSWER_IDLE: return;
     default: FAIL("an answer of kind %u", a->kind);
     }
     fputc('\n', out);
+}
+
+static uint32_t next_answer(struct node *it, struct mip_answer_fields *fields, uint8_t *bytes, size_t room, size_t *size)
+{
+    return it->is_agent ? mip_agent_next(&it->agent, fields, bytes, room, size) : mip_correspondent_next(&it->handle, fields, bytes, room, size);
 }
 
 static void put_answers(struct run *run, struct node *it)
@@ -90,15 +109,15 @@ static void put_answers(struct run *run, struct node *it)
         memset(&again, 0, sizeof again);
         uint8_t none = 0xa5;
         size_t size = 0, needed = 0;
-        uint32_t status = mip_correspondent_next(&it->handle, &fields, &none, 0, &size);
+        uint32_t status = next_answer(it, &fields, &none, 0, &size);
         if (status == MIP_NONE)
             return;
         uint8_t *bytes = own(size);
         if (status == MIP_NO_ROOM) {
-            status = mip_correspondent_next(&it->handle, &again, bytes, size - 1, &needed);
+            status = next_answer(it, &again, bytes, size - 1, &needed);
             if (status != MIP_NO_ROOM || needed != size)
                 FAIL("a byte too few is not told of an answer");
-            status = mip_correspondent_next(&it->handle, &again, bytes, size, &needed);
+            status = next_answer(it, &again, bytes, size, &needed);
             if (needed != size || again.kind != fields.kind || again.number != fields.number)
                 FAIL("an answer is another one the second time");
         }
@@ -127,9 +146,71 @@ static void put_rows(struct run *run, struct node *it, uint64_t now)
     }
 }
 
+/* The registrations of an agent, each of which is the one that is told for its home. */
+static void put_registrations(struct run *run, struct node *it, uint64_t now)
+{
+    struct mip_registration_fields row;
+    for (uint32_t place = 0;; place++) {
+        memset(&row, 0, sizeof row);
+        uint32_t status = mip_agent_row(&it->agent, now, place, &row);
+        if (status == MIP_NONE)
+            return;
+        uint8_t careof[16] = {0};
+        if (status != MIP_OK || mip_agent_careof(&it->agent, now, row.home, careof) != MIP_OK || memcmp(careof, row.careof, 16) != 0)
+            FAIL("a registration has the status %u, or is told otherwise", status);
+        fprintf(run->out, "row %s ", it->name);
+        put_digits(run->out, row.home, 16);
+        fputc(' ', run->out);
+        put_digits(run->out, row.careof, 16);
+        fprintf(run->out, " %u %llu\n", row.sequence, (unsigned long long)row.end);
+    }
+}
+
+/* A packet is handed to an agent. */
+static uint32_t handed(struct node *it, uint64_t now, char *const words[])
+{
+    size_t shielded, held, size;
+    uint8_t *ends = bytes_of(words[4], &shielded), *others = bytes_of(words[5], &held), *packet = bytes_of(words[6], &size);
+    struct mip_shield_fields shield = {.is_shielded = shielded == 32};
+    if (shielded == 32) {
+        memcpy(shield.from, ends, 16);
+        memcpy(shield.to, ends + 16, 16);
+    }
+    uint32_t status = mip_agent_take(&it->agent, now, strtoull(words[3], NULL, 10), &shield, others, held, packet, size);
+    free(ends);
+    free(others);
+    free(packet);
+    return status;
+}
+
+/* The call of a line at an agent; its status. */
+static uint32_t agent_called(struct node *it, char *const words[])
+{
+    uint64_t now = strtoull(words[2], NULL, 10), due = 0;
+    if (strcmp(words[0], "hand") == 0)
+        return handed(it, now, words);
+    if (strcmp(words[0], "tick") == 0) {
+        if (mip_agent_due(&it->agent, &due) != MIP_OK || due > now)
+            FAIL("nothing is due at an agent that gives a home up");
+        return mip_agent_tick(&it->agent, now);
+    }
+    if (strcmp(words[0], "plan") == 0)
+        return mip_agent_plan(&it->agent, now, (uint32_t)strtoul(words[3], NULL, 10), (uint32_t)strtoul(words[4], NULL, 10));
+    size_t size, more;
+    bool begins = strcmp(words[0], "agent") == 0;
+    uint8_t *first = bytes_of(words[begins ? 2 : 3], &size), *serves = bytes_of(begins ? words[6] : "-", &more);
+    uint32_t status = begins ? mip_agent_open(&it->agent, first, (uint16_t)atoi(words[3]), (uint16_t)atoi(words[4]), (uint32_t)atol(words[5]), serves, more)
+                             : mip_agent_heard(&it->agent, now, first, (uint16_t)atoi(words[4]), (uint16_t)atoi(words[5]));
+    free(first);
+    free(serves);
+    return status;
+}
+
 /* The call of a line; its status. */
 static uint32_t called(struct node *it, char *const words[])
 {
+    if (it->is_agent)
+        return agent_called(it, words);
     size_t size, more;
     uint8_t *first = bytes_of(words[strcmp(words[0], "take") == 0 ? 4 : strcmp(words[0], "open") == 0 ? 2 : 3], &size), *second;
     uint64_t now = strtoull(words[2], NULL, 10);
@@ -162,14 +243,16 @@ static void do_line(struct run *run, char *line)
         FAIL("a line has too few words");
     struct node *it = node_named(run, words[1]);
     if (strcmp(words[0], "close") == 0) {
-        if (mip_correspondent_close(&it->handle) != MIP_OK)
+        if ((it->is_agent ? mip_agent_close(&it->agent) : mip_correspondent_close(&it->handle)) != MIP_OK)
             FAIL("a handle cannot be closed");
         return;
     }
     if (strcmp(words[0], "rows") == 0) {
-        put_rows(run, it, strtoull(words[2], NULL, 10));
+        (it->is_agent ? put_registrations : put_rows)(run, it, strtoull(words[2], NULL, 10));
         return;
     }
+    if (strcmp(words[0], "agent") == 0)
+        it->is_agent = true;
     has_failed = false;
     uint32_t status = called(it, words);
     if (has_failed && status == MIP_MEMORY)
@@ -178,7 +261,7 @@ static void do_line(struct run *run, char *line)
         FAIL("an allocation failed, and the status is %u", status);
     if (status != MIP_OK)
         FAIL("%s has the status %u (%s)", words[0], status, mip_status_name(status));
-    if (strcmp(words[0], "open") != 0)
+    if (strcmp(words[0], "open") != 0 && strcmp(words[0], "agent") != 0)
         put_answers(run, it);
 }
 
@@ -196,9 +279,12 @@ static void do_all(const char *text, FILE *out)
         *rest++ = 0;
         do_line(&run, line);
     }
-    for (size_t i = 0; i < run.count; i++)
+    for (size_t i = 0; i < run.count; i++) {
         if (run.nodes[i].handle.is_open)
             mip_correspondent_close(&run.nodes[i].handle);
+        if (run.nodes[i].agent.is_open)
+            mip_agent_close(&run.nodes[i].agent);
+    }
     free(copy);
 }
 
@@ -346,11 +432,64 @@ static void do_closed(void)
         FAIL("a message of 17 bytes is authentic");
 }
 
+static void do_closed_agent(void)
+{
+    struct mip_agent_handle agent = {0};
+    struct mip_answer_fields fields = {0};
+    struct mip_registration_fields row = {0};
+    struct mip_shield_fields shield = {0};
+    uint8_t own_address[16] = {0x20, 0x01, 0x0d, 0xb8, [15] = 2}, homes[48] = {0x20, 0x01, [16] = 0x20, 0x01, [32] = 0xfe, 0x80}, bytes[2048] = {0};
+    size_t size = 0;
+    uint64_t too_late = (uint64_t)1 << 62, due = 0;
+    for (int round = 0; round < 2; round++) {
+        IS(MIP_CLOSED, mip_agent_close(&agent));
+        IS(MIP_CLOSED, mip_agent_take(&agent, 0, 0, &shield, homes, 0, bytes, 40));
+        IS(MIP_CLOSED, mip_agent_tick(&agent, 0));
+        IS(MIP_CLOSED, mip_agent_plan(&agent, 0, 1, 1));
+        IS(MIP_CLOSED, mip_agent_heard(&agent, 0, own_address, 1, 1));
+        IS(MIP_CLOSED, mip_agent_next(&agent, &fields, bytes, sizeof bytes, &size));
+        IS(MIP_CLOSED, mip_agent_careof(&agent, 0, own_address, bytes));
+        IS(MIP_CLOSED, mip_agent_row(&agent, 0, 0, &row));
+        IS(MIP_CLOSED, mip_agent_due(&agent, &due));
+        if (round == 1)
+            break;
+        IS(MIP_ARGUMENT, mip_agent_open(&agent, own_address, 1, 1, 4, homes, 17));
+        IS(MIP_ARGUMENT, mip_agent_open(&agent, own_address, 1, 1, 4, homes, 48));
+        IS(MIP_OK, mip_agent_open(&agent, own_address, 1, 1, 4, homes, 32));
+        IS(MIP_ALREADY_OPEN, mip_agent_open(&agent, own_address, 1, 1, 4, homes, 32));
+        IS(MIP_NONE, mip_agent_next(&agent, &fields, bytes, sizeof bytes, &size));
+        IS(MIP_NONE, mip_agent_careof(&agent, 0, homes, bytes));
+        IS(MIP_NONE, mip_agent_row(&agent, 0, 0, &row));
+        IS(MIP_NONE, mip_agent_due(&agent, &due));
+        IS(MIP_OK, mip_agent_take(&agent, 1000, 7, &shield, homes, 48, bytes, 0));
+        IS(MIP_ARGUMENT, mip_agent_take(&agent, 1000, 8, &shield, homes, 47, bytes, 0));
+        IS(MIP_LATE, mip_agent_take(&agent, 999, 8, &shield, homes, 48, bytes, 0));
+        IS(MIP_LATE, mip_agent_take(&agent, too_late, 8, &shield, homes, 48, bytes, 0));
+        IS(MIP_LATE, mip_agent_tick(&agent, 999));
+        IS(MIP_LATE, mip_agent_plan(&agent, 999, 1, 1));
+        IS(MIP_LATE, mip_agent_heard(&agent, 999, own_address, 1, 1));
+        IS(MIP_LATE, mip_agent_careof(&agent, 999, homes, bytes));
+        IS(MIP_LATE, mip_agent_row(&agent, 999, 0, &row));
+        /* the answer of the first packet still stands behind all these refusals */
+        IS(MIP_OK, mip_agent_next(&agent, &fields, bytes, sizeof bytes, &size));
+        if (fields.kind != MIP_ANSWER_DROPPED || fields.number != 7 || strcmp(mip_why_name(fields.why), "short") != 0)
+            FAIL("the answer to no bytes is another one");
+        IS(MIP_NONE, mip_agent_next(&agent, &fields, bytes, sizeof bytes, &size));
+        IS(MIP_OK, mip_agent_plan(&agent, 1000, 1, 1));
+        IS(MIP_OK, mip_agent_heard(&agent, 1000, own_address, 1, 1));
+        IS(MIP_OK, mip_agent_tick(&agent, 1000));
+        IS(MIP_OK, mip_agent_close(&agent));
+        if (agent.is_open)
+            FAIL("a closed handle is open");
+    }
+}
+
 int main(int count, char **words)
 {
     const char *how = count > 1 ? words[1] : "";
     if (strcmp(how, "--closed") == 0) {
         do_closed();
+        do_closed_agent();
         return 0;
     }
     char *calls = whole_input();

@@ -179,7 +179,6 @@ static void write_again(uint8_t *packet, size_t size)
     free(out);
 }
 
-#ifdef NEIGHBOURS
 /* The packet of a neighbour message, its message written once more. The target stands behind 8 bytes of the message, and the link-layer address at its end. */
 static void neighbour_again(uint8_t *packet, size_t size)
 {
@@ -202,9 +201,6 @@ static void neighbour_again(uint8_t *packet, size_t size)
     free(out);
 }
 
-#else
-static void neighbour_again(uint8_t *packet, size_t size) { (void)packet; (void)size; }
-#endif
 
 int main(int count, char **words)
 {

@@ -1,17 +1,7 @@
-pub mod Addresses
-pub mod Answered
-pub mod Giving
-pub mod Handles
-pub mod Icmps
-pub mod Keeping
 pub mod Listings
 pub mod Messages
-pub mod Neighbours
 pub mod Options
 pub mod PacketWriting
 pub mod Packets
-pub mod Rows
-pub mod Stations
 pub mod Sums
 pub mod Tunnels
-pub mod Whys

@@ -1,7 +1,7 @@
 -- What a call tells that lists a packet.
 use Rattle.std.specs.Prelude.{◌≡◌, ℕ, List, Result, Ok, Err}
 use Rattle.mip_ipv6.specs.declared.not_packet.NotPacket.{NotPacket}
-use Rattle.mip_c.specs.Giving.{Keeps, Writes}
+use Rattle.mip_c_words.specs.Giving.{Keeps, Writes}
 use Rattle.mip_c.specs.Packets.{refusal_status}
 
 -- the listing, or why there is none

@@ -4,7 +4,7 @@ use Rattle.mip_words.specs.Addresses.{address_at}
 use Rattle.mip_mobhdr.specs.declared.indices.Indices.{Indices}
 use Rattle.mip_mobhdr.specs.OptionValues.{Values}
 use Rattle.mip_c.specs.declared.option_fields.OptionFields.{OptionFields}
-use Rattle.mip_c.specs.Addresses.{bytes_if_any, some_if}
+use Rattle.mip_c_words.specs.Addresses.{bytes_if_any, some_if}
 
 abbrev pub home_index : Option Indices → ℕ
 home_index (Some i) = i.home

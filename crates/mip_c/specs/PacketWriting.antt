@@ -3,7 +3,7 @@ use Rattle.std.specs.Prelude.{◌≡◌, ℕ, List, length, Bool, true, false, n
 use Rattle.mip_ipv6.specs.declared.head.Head.{Head}
 use Rattle.mip_ipv6.specs.Packet.{Packet, is_plain}
 use Rattle.mip_ipv6.specs.Spelling.{packet_bytes, behind_bytes}
-use Rattle.mip_c.specs.Giving.{Keeps, Writes}
+use Rattle.mip_c_words.specs.Giving.{Keeps, Writes}
 
 -- the packet of a head and a body that fit, 57 where they are too long
 abbrev pub WritesFitting : Bool → Packet → ℕ → List ℕ → List ℕ → ℕ → ℕ → Type 0

@@ -6,7 +6,7 @@ use Rattle.mip_ipv6.specs.declared.not_packet.NotPacket.{NotPacket}
 use Rattle.mip_ipv6.specs.declared.not_packet.NotPacket.TheVariants.{Short, Version, Length, Header, Route, Option as BadOption}
 use Rattle.mip_ipv6.specs.Packet.{Packet, source_of, destination_of}
 use Rattle.mip_c.specs.declared.packet_fields.PacketFields.{PacketFields}
-use Rattle.mip_c.specs.Addresses.{bytes_if_any, some_if}
+use Rattle.mip_c_words.specs.Addresses.{bytes_if_any, some_if}
 
 -- the fields of a head whose body begins at a place
 abbrev pub fields_of : Head → ℕ → PacketFields

@@ -8,7 +8,7 @@ use Rattle.mip_ipv6.specs.Packet.{Packet}
 use Rattle.mip_ipv6.specs.Reading.{packet_of}
 use Rattle.mip_ipv6.specs.Tunnel.{hop_of, encapsulated, opened}
 use Rattle.mip_c.specs.declared.packet_fields.PacketFields.{PacketFields}
-use Rattle.mip_c.specs.Giving.{Keeps, Writes}
+use Rattle.mip_c_words.specs.Giving.{Keeps, Writes}
 use Rattle.mip_c.specs.Packets.{fields_of, refused_fields, refusal_status, refused_number}
 
 -- 57 where the packet is too long

@@ -3,8 +3,8 @@
 ghost use Rattle.mip_words.specs.Addresses.{address_at};
 ghost use Rattle.mip_c.specs.Sums.{TellsSum};
 
-use crate::addresses::address_of;
-use crate::status::{ARGUMENT, OK};
+use mip_c_words::addresses::address_of;
+use mip_c_words::status::{ARGUMENT, OK};
 use mip_ipv6::checksum;
 
 /// The checksum of a body of this protocol: what has to stand in the two bytes at `at`, which count as zero (RFC 8200

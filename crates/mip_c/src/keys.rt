@@ -4,7 +4,7 @@ ghost use Rattle.std.specs.Prelude.{◌≡◌, ◌≤◌, ◌↔◌, length, IsT
 ghost use Rattle.mip_words.specs.Addresses.{address_at};
 ghost use Rattle.mip_tokens.specs.Token.{home_token_of, careof_token_of, kbm_both_of, kbm_home_of, authenticator_of, IsAuthentic};
 
-use crate::addresses::address_of;
+use mip_c_words::addresses::address_of;
 use mip_tokens::{
     Kbm, PreparedKbm, PreparedKey, authentic, authenticator, careof_token, home_token,
 };

@@ -3,9 +3,9 @@
 ghost use Rattle.mip_explain.specs.Listing.{listing_of};
 ghost use Rattle.mip_c.specs.Listings.{TellsListing};
 
-use crate::giving::tell;
 use crate::packet_refusal::refusal_status;
-use crate::status::{MEMORY, OK, PACKET_SHORT};
+use mip_c_words::giving::tell;
+use mip_c_words::status::{MEMORY, OK, PACKET_SHORT};
 use mip_explain::{ExplainFault, explain};
 use std::alloc::Global;
 

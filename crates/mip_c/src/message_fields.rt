@@ -5,9 +5,9 @@ ghost use Rattle.mip_mobhdr.specs.Spelling.{HasNumber};
 ghost use Rattle.mip_c.specs.Options.{no_fields};
 ghost use Rattle.mip_c.specs.Messages.{blank, fields_of, fault_status, fault_fields, is_message, said_by, said_of};
 
-use crate::addresses::address_of;
 use crate::option_fields::{OptionFields, no_options, option_fields, options_of};
-use crate::status::{
+use mip_c_words::addresses::address_of;
+use mip_c_words::status::{
     MESSAGE_CHECKSUM, MESSAGE_HEADERLEN, MESSAGE_OPTION, MESSAGE_PROTO, MESSAGE_SIZE, MESSAGE_TYPE,
 };
 use mip_mobhdr::{Fault, Message, OptionSet, Plain};

@@ -2,13 +2,13 @@
 
 ghost use Rattle.mip_words.specs.Addresses.{address_at};
 ghost use Rattle.mip_mobhdr.specs.Spelling.{message_bytes};
-ghost use Rattle.mip_c.specs.Giving.{WritesIf};
+ghost use Rattle.mip_c_words.specs.Giving.{WritesIf};
 ghost use Rattle.mip_c.specs.Messages.{is_message, said_of};
 
-use crate::addresses::address_of;
-use crate::giving::give;
 use crate::message_fields::{MessageFields, is_message, plain_of};
-use crate::status::ARGUMENT;
+use mip_c_words::addresses::address_of;
+use mip_c_words::giving::give;
+use mip_c_words::status::ARGUMENT;
 use mip_mobhdr::write_message;
 use std::alloc::Global;
 

@@ -4,9 +4,9 @@ ghost use Rattle.mip_words.specs.Addresses.{address_at};
 ghost use Rattle.mip_mobhdr.specs.Reading.{message_of};
 ghost use Rattle.mip_c.specs.Messages.{TellsMessage};
 
-use crate::addresses::address_of;
 use crate::message_fields::{MessageFields, fault_fields, fault_status, fields_of};
-use crate::status::OK;
+use mip_c_words::addresses::address_of;
+use mip_c_words::status::OK;
 use mip_mobhdr::read_message;
 
 /// Reads the mobility message in the body of a packet (RFC 6275 section 6.1). `source` and `destination` are `sender` and

@@ -1,9 +1,9 @@
 ghost use Rattle.std.specs.Prelude.{◌≡◌};
 ghost use Rattle.mip_mobhdr.specs.OptionValues.{values, set_values};
-ghost use Rattle.mip_c.specs.Addresses.{some_if};
+ghost use Rattle.mip_c_words.specs.Addresses.{some_if};
 ghost use Rattle.mip_c.specs.Options.{fields_of, no_fields, values_of, home_index, careof_index};
 
-use crate::addresses::{address_if, bytes_if_any};
+use mip_c_words::addresses::{address_if, bytes_if_any};
 use mip_mobhdr::{Indices, OptionSet, Options};
 
 /// Mobility options (RFC 6275 section 6.2).

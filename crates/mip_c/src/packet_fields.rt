@@ -1,7 +1,7 @@
 ghost use Rattle.std.specs.Prelude.{◌≡◌};
 ghost use Rattle.mip_c.specs.Packets.{fields_of, head_of, refused_fields};
 
-use crate::addresses::{address_if, address_of, bytes_if_any};
+use mip_c_words::addresses::{address_if, address_of, bytes_if_any};
 use mip_ipv6::Head;
 
 /// A packet's headers (RFC 8200 section 3, RFC 6275 sections 6.3 and 6.4).

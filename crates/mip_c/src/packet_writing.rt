@@ -3,9 +3,9 @@
 ghost use Rattle.mip_c.specs.Packets.{head_of};
 ghost use Rattle.mip_c.specs.PacketWriting.{WritesPacket};
 
-use crate::giving::tell;
 use crate::packet_fields::{PacketFields, head_of};
-use crate::status::{ARGUMENT, MEMORY, OK, TOO_BIG};
+use mip_c_words::giving::tell;
+use mip_c_words::status::{ARGUMENT, MEMORY, OK, TOO_BIG};
 use mip_ipv6::{WriteFault, write_packet};
 use std::alloc::Global;
 

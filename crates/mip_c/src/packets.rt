@@ -6,7 +6,7 @@ ghost use Rattle.mip_c.specs.Packets.{TellsPacket};
 
 use crate::packet_fields::{PacketFields, fields_of, refused_fields};
 use crate::packet_refusal::{refusal_status, refused_number};
-use crate::status::{OK, PACKET_SHORT};
+use mip_c_words::status::{OK, PACKET_SHORT};
 use mip_ipv6::read_packet;
 
 /// Reads a packet: the fixed header, at most one routing header of type 2 and one Destination Options header behind it,

@@ -6,11 +6,11 @@ ghost use Rattle.mip_ipv6.specs.Packet.{packet as tree};
 ghost use Rattle.mip_ipv6.specs.Tunnel.{opened};
 ghost use Rattle.mip_c.specs.Tunnels.{Enters, Leaves, LeavesOpened, exit_status, exit_number};
 
-use crate::addresses::address_of;
-use crate::giving::tell;
 use crate::packet_fields::{PacketFields, fields_of, refused_fields};
 use crate::packet_refusal::{refusal_status, refused_number};
-use crate::status::{
+use mip_c_words::addresses::address_of;
+use mip_c_words::giving::tell;
+use mip_c_words::status::{
     ARGUMENT, INNER_SHORT, MEMORY, NOT_TUNNEL, OK, PACKET_SHORT, TOO_BIG, TUNNEL_HOP, WRONG_ENTRY,
 };
 use mip_ipv6::{EntryFault, ExitFault, PacketRef, decapsulate, encapsulate, read_packet};

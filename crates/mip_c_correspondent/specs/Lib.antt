@@ -1,0 +1,4 @@
+pub mod Handles
+pub mod Keeping
+pub mod Rows
+pub mod Stations

@@ -1,0 +1,73 @@
+-- What the calls of a correspondent that C holds tell, and what they make of it.
+use Rattle.std.specs.Prelude.{◌≡◌, ◌⊎◌, ℕ, ◌*◌, ◌^◌, List, [], length, slice_get, Bool, true, false, not, ◌&&◌, nat_lt, Option, Some, None, option_map}
+use Rattle.mip_words.specs.Addresses.{address_bytes}
+use Rattle.mip_words.specs.declared.address.Address.{Address}
+use Rattle.mip_ipv6.specs.Packet.{names_no_body}
+use Rattle.mip_nonce.specs.Secrets.{Life}
+use Rattle.mip_bcache.specs.Seen.{rows_at}
+use Rattle.mip_bcache.specs.declared.row.Row.{Row}
+use Rattle.mip_entries.specs.declared.answer.Answer.{Answer}
+use Rattle.mip_rules_correspondent.specs.Calls.{Call}
+use Rattle.mip_rules_correspondent.specs.Calls.Call.{Tick}
+use Rattle.mip_rules_correspondent.specs.Questions.{fresh, held_of}
+use Rattle.mip_rules_correspondent.specs.Rules.{is_data}
+use Rattle.mip_rules_correspondent.specs.Seen.{transition_at, called}
+use Rattle.mip_rules_correspondent.specs.Steps.{answers_of}
+use Rattle.mip_c_words.specs.declared.answer_fields.AnswerFields.{AnswerFields}
+use Rattle.mip_c_correspondent.specs.declared.row_fields.RowFields.{RowFields}
+use Rattle.mip_c_correspondent.specs.declared.station.Station.{Station}
+use Rattle.mip_c_words.specs.Answered.{fields_of, bytes_of}
+use Rattle.mip_c_words.specs.Calls.{Does, TellsIf}
+use Rattle.mip_c_words.specs.Giving.{Keeps, Tells, given_after}
+use Rattle.mip_c_words.specs.Moments.{is_late}
+use Rattle.mip_c_correspondent.specs.Rows.{fields_of as row_fields_of}
+
+-- data that can be sent: of a protocol that carries data, with a body, and short
+abbrev pub is_sendable : ℕ → List ℕ → Bool
+is_sendable proto payload = is_data proto && not (names_no_body proto) && not (nat_lt 512 (length payload))
+
+-- a call was answered: the node is what the call makes of it, and its answers are those of the call
+abbrev pub IsAnswered : Station → Station → ℕ → Call → Type 0
+IsAnswered s t now call =
+    (t.node ≡ called s.node now call) × (t.answers ≡ answers_of (transition_at s.node now call).steps) × (t.given ≡ 0)
+    × (t.last.0 ≡ now)
+
+abbrev pub Answers : Bool → Station → Station → ℕ → Call → ℕ → Type 0
+Answers fit s t now call status = Does (is_late s.last.0 now) fit s t status (IsAnswered s t now call)
+
+-- time goes on: no answer is left
+abbrev pub Ticks : Station → Station → ℕ → ℕ → Type 0
+Ticks s t now status = Does (is_late s.last.0 now) true s t status
+    ((t.node ≡ called s.node now Tick) × (t.answers ≡ []) × (t.given ≡ 0) × (t.last.0 ≡ now))
+
+-- the same station, but for how many answers were fetched
+abbrev pub HasGiven : Station → Station → ℕ → Type 0
+HasGiven s t given = (t.node ≡ s.node) × (t.last ≡ s.last) × (t.answers ≡ s.answers) × (t.given ≡ given)
+
+-- the next answer is told, or that none is left
+abbrev pub TellsNext : Option Answer → Station → Station → ℕ → AnswerFields → AnswerFields → List ℕ → List ℕ → ℕ → ℕ → Type 0
+TellsNext None s t status fields_old fields_new old new size_old size_new =
+    (status ≡ 15) × (t ≡ s) × (fields_new ≡ fields_old) × Keeps old new size_old size_new
+TellsNext (Some a) s t status fields_old fields_new old new size_old size_new =
+    (fields_new ≡ fields_of a) × Tells 0 (bytes_of a) status old new size_new
+    × HasGiven s t (given_after (bytes_of a) old s.given)
+
+-- the care-of address that is held for a home is told
+abbrev pub TellsRoute : Station → ℕ → Address → ℕ → List ℕ → List ℕ → Type 0
+TellsRoute s now peer status old new =
+    TellsIf (is_late s.last.0 now) (option_map address_bytes (held_of s.node.known now peer)) status old new
+
+-- the row at a place is told
+abbrev pub TellsRow : Station → ℕ → ℕ → ℕ → RowFields → RowFields → Type 0
+TellsRow s now place status old new =
+    TellsIf (is_late s.last.0 now) (option_map row_fields_of (slice_get (rows_at s.node.known.cache now) place)) status old new
+
+-- a station that begins: a node with this address, these secrets and this room, which was asked for nothing yet
+abbrev pub IsFresh : Address → Life → ℕ → ℕ → Station → Type 0
+IsFresh own secrets room numbers s =
+    (s.node ≡ record { identity = record { own = own; secrets = secrets; room = room }; known = fresh room numbers })
+    × (s.last.0 ≡ 0) × (s.answers ≡ []) × (s.given ≡ 0)
+
+-- numbers of bindings and of homes that a node can have
+abbrev pub has_room : ℕ → ℕ → Bool
+has_room room numbers = not (nat_lt numbers 1) && not (nat_lt 8 numbers) && nat_lt (room * numbers) (2 ^ 32)

@@ -1,0 +1,2 @@
+pub mod Icmps
+pub mod Neighbours

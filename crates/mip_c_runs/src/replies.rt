@@ -1,0 +1,67 @@
+//! What the program replies to an input, in the caller's memory.
+
+ghost use Rattle.std.specs.Prelude.{◌≡◌, IfOk};
+ghost use Rattle.mip_replies.specs.Answers.{form_answer};
+ghost use Rattle.mip_replies.specs.Told.{IsConclusive};
+ghost use Rattle.mip_c_runs.specs.Replies.{IsReplied, Replies};
+
+use mip_c_words::giving::tell;
+use mip_c_words::status::MEMORY;
+use mip_outside::SureSink;
+use mip_replies::{InputForm, Reply, Status, answer, tell_reply};
+use mip_words::{Bytes, Memory};
+use std::alloc::Global;
+
+/// A reply as it is written, where no call fails.
+#[derive(Drop)]
+struct Written {
+    status: Status,
+    sink: SureSink,
+}
+
+/// The reply to an input.
+fn reply_to(alloc: Global, form: InputForm, input: &[u8]) -> Result<Reply, Memory>
+    ensures reply { IfOk result (λ reply. reply ≡ form_answer form input.now) }
+    ensures conclusive { IfOk result (λ reply. IsConclusive reply.status) }
+{
+    let input = Bytes::copy(alloc, input)?;
+    answer(alloc, form, input)
+}
+
+/// A reply is written.
+#[tactic(auto, using(crate::proofs::Written::is_replied))]
+fn write(alloc: Global, reply: &Reply) -> Result<Written, Memory>
+    requires { IsConclusive reply.now.status }
+    ensures { IfOk result (λ w. IsReplied reply.now w.status.0 w.sink) }
+{
+    let mut sink = SureSink::new(alloc)?;
+    let status = tell_reply(alloc, &mut sink, reply);
+    if status == Status::MEMORY {
+        return Err(Memory);
+    }
+    Ok(Written { status, sink })
+}
+
+/// The reply to an input is written.
+fn answered(alloc: Global, form: InputForm, input: &[u8]) -> Result<Written, Memory>
+    ensures { IfOk result (λ w. IsReplied (form_answer form input.now) w.status.0 w.sink) }
+{
+    let reply = reply_to(alloc, form, input)?;
+    write(alloc, &reply)
+}
+
+/// Tells what the program replies to an input.
+pub fn tell_answer(
+    alloc: Global,
+    form: InputForm,
+    input: &[u8],
+    out: &mut [u8],
+    size: &mut usize,
+) -> u32
+    ensures { Replies (form_answer form input.now) result out.old out.new size.old size.new }
+{
+    match answered(alloc, form, input) {
+        Ok(written) => tell(u32::from(written.status.0), written.sink.bytes(), out, size),
+        Err(Memory) => MEMORY,
+    }
+}

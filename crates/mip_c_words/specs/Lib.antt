@@ -1,0 +1,6 @@
+pub mod Addresses
+pub mod Answered
+pub mod Calls
+pub mod Giving
+pub mod Moments
+pub mod Whys
