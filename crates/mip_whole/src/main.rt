@@ -1,4 +1,4 @@
-//! `mip-whole`: the summary of a schedule's run, whose whole history is kept. It shows what memory the call `replay` takes.
+//! `mip_whole`: the summary of a schedule's run, whose whole history is kept. It shows what memory the call `replay` takes.
 #![tactic(auto)]
 
 mod whole;

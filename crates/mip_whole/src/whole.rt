@@ -1,57 +1,41 @@
 //! The program, over any source and sink.
 
-ghost use Rattle.std.specs.Prelude.{◌≡◌, ℕ, ◌≤◌, List, length, IfOk};
-ghost use Rattle.mip_schedule.specs.Schedules.{content};
-ghost use Rattle.mip_replies.specs.Told.{IsAnswered, IsConclusive};
-ghost use Rattle.mip_whole.specs.Answers.{summed_answer, whole_answer};
-
 use mip_make::summary;
 use mip_outside::{Sink, Source};
 use mip_replay::replay;
-use mip_replies::{LIMIT, ReadFault, Reply, Status, bad, read_input, tell_reply};
+use mip_replies::{ReadFault, Status, read_input, tell};
 use mip_schedule::{Schedule, ScheduleFault, read_schedule};
 use mip_words::{Bytes, Memory};
 use std::alloc::Global;
 
-/// Reads a schedule and writes the summary of its whole history.
-pub fn mip_whole<S: Source, K: Sink>(alloc: Global, source: &mut S, sink: &mut K) -> Status
-    ensures answered { (bytes : List ℕ) × IsAnswered whole_answer bytes result.0
-        (S.left source.old) (S.left source.new) (K.held sink.old) (K.held sink.new) }
-{
-    let bytes = match read_input(alloc, source) {
-        Ok(bytes) => bytes,
-        Err(ReadFault::Failed) => return Status::READ_FAULT,
-        Err(ReadFault::Memory) => return Status::MEMORY,
+/// Reads a schedule and writes the summary of its history, all of which it keeps.
+pub fn mip_whole<S: Source, K: Sink>(alloc: Global, source: &mut S, sink: &mut K) -> Status {
+    let schedule = match read_whole(alloc, source) {
+        Ok(schedule) => schedule,
+        Err(status) => return status,
     };
-    match answer(alloc, bytes) {
-        Ok(reply) => tell_reply(alloc, sink, &reply),
+    match summed(alloc, &schedule) {
+        Ok(text) => tell(sink, text.as_slice(), Status::OK),
         Err(Memory) => Status::MEMORY,
     }
 }
 
-/// The answer to an input, which is given up before its schedule runs.
-fn answer(alloc: Global, input: Bytes) -> Result<Reply, Memory>
-    ensures answers { IfOk result (λ reply. reply ≡ whole_answer input) }
-    ensures conclusive { IfOk result (λ reply. IsConclusive reply.status) }
-{
-    if input.len() > LIMIT {
-        return Reply::copy(alloc, Status::TOO_LONG, b"long\n");
-    }
-    let read = read_schedule(alloc, input.as_slice());
-    drop(input);
-    match read {
-        Ok(schedule) => summed(alloc, &schedule),
-        Err(ScheduleFault::Bad { line, why }) => bad(alloc, line, why),
-        Err(ScheduleFault::Memory) => Err(Memory),
+/// The schedule in a source, whose text is given up.
+fn read_whole<S: Source>(alloc: Global, source: &mut S) -> Result<Schedule, Status> {
+    let text = match read_input(alloc, source) {
+        Ok(text) => text,
+        Err(ReadFault::Failed) => return Err(Status::READ_FAULT),
+        Err(ReadFault::Memory) => return Err(Status::MEMORY),
+    };
+    match read_schedule(alloc, text.as_slice()) {
+        Ok(schedule) => Ok(schedule),
+        Err(ScheduleFault::Bad { .. }) => Err(Status::BAD),
+        Err(ScheduleFault::Memory) => Err(Status::MEMORY),
     }
 }
 
-/// The summary of a schedule's history, which is kept whole.
-fn summed(alloc: Global, schedule: &Schedule) -> Result<Reply, Memory>
-    ensures answers { IfOk result (λ reply. reply ≡ summed_answer (content schedule.now)) }
-    ensures conclusive { IfOk result (λ reply. IsConclusive reply.status) }
-{
+/// The summary of a schedule's history.
+fn summed(alloc: Global, schedule: &Schedule) -> Result<Bytes, Memory> {
     let history = replay(alloc, schedule)?;
-    let text = summary(alloc, schedule, &history)?;
-    Ok(Reply::whole(Status::OK, text))
+    summary(alloc, schedule, &history)
 }

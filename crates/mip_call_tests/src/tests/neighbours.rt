@@ -1,10 +1,6 @@
 //! Neighbour messages: the text of the claims of a handover, a table that hears them, and messages with one fault.
 
-ghost use Rattle.std.specs.Prelude.{◌≤◌, length};
-
-use super::given::{
-    AGENT_ADDRESS, CAREOF, HANDOVER, HOME, LINKS, PEER_ADDRESS, bytes_of,
-};
+use super::given::{AGENT_ADDRESS, CAREOF, HANDOVER, HOME, PEER_ADDRESS, bytes_of};
 use mip_ipv6::read_packet;
 use mip_proxynd::{
     Neighbour, NeighbourFault, Table, claims_stand_by_their_last_entries, neighbours,
@@ -15,6 +11,9 @@ use mip_schedule::read_schedule;
 use mip_words::{ALL_NODES, Address, Bytes, LinkId, Memory};
 use std::alloc::Global;
 use std::test::Fail;
+
+// The address of the home agents of the home link (RFC 2526 section 3).
+const ANYCAST: Address = Address(0x2001_0db8_0001_0000_fdff_ffff_ffff_fffe);
 
 // The messages of a handover in their order, each with its link, as another program wrote them.
 const ADVERTS: [(LinkId, &[u8]); 6] = [
@@ -30,7 +29,7 @@ const ADVERTS: [(LinkId, &[u8]); 6] = [
 const HOLDERS: [(LinkId, Address, [u8; 6]); 5] = [
     (LinkId(0), AGENT_ADDRESS, [2, 0, 0, 0, 0, 0]),
     (LinkId(0), HOME, [2, 0, 0, 0, 0, 0]),
-    (LinkId(0), LINKS[0].anycast(), [2, 0, 0, 0, 0, 0]),
+    (LinkId(0), ANYCAST, [2, 0, 0, 0, 0, 0]),
     (LinkId(1), PEER_ADDRESS, [2, 0, 0, 0, 0, 1]),
     (LinkId(2), CAREOF, [2, 0, 0, 0, 0, 2]),
 ];

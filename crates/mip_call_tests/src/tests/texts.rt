@@ -1,7 +1,5 @@
 //! Texts that only a user of the libraries asks for.
 
-ghost use Rattle.std.specs.Prelude.{◌+◌, ◌<◌, ◌^◌, length};
-
 use super::given::HANDOVER;
 use mip_config::read_config;
 use mip_config_writing::write_config;
@@ -22,9 +20,10 @@ const MOBILE: &[u8] =
     b"mip 1\nseed 000102030405060708090a0b0c0d0e0f101112131415161718191a1b1c1d1e1f\nself 2\nport 9003\nmobile 20010db8000100000000000000000077 find\npayload 2 20010db8000200000000000000000002 253 bb\n";
 
 /// The text of a configuration, read and written.
-fn written(alloc: Global, text: &[u8]) -> Result<Bytes, Fail>
-    requires { length text.now + 1 < 2 ^ 32 }
-{
+fn written(alloc: Global, text: &[u8]) -> Result<Bytes, Fail> {
+    if text.len() > 1_000 {
+        return Err("a long text".into());
+    }
     let config = read_config(alloc, text)?;
     Ok(write_config(alloc, &config)?)
 }

@@ -1,15 +1,11 @@
 //! The events of a schedule, as calls of a mobile, of its agent and its peer, and of their network. A mobile is given back before anything fails.
 
-ghost use Rattle.std.specs.Prelude.{◌≤◌, length};
-
-use super::nodes::Nodes;
+use super::nodes::{LONGEST, Nodes};
 use super::stop::Stop;
 use super::world::{Arrival, World};
-use crate::tests::given::{
-    AGENT, AGENT_ADDRESS, HOME, HOME_LINK, LINKS, MOBILE, PEER, secrets,
-};
+use crate::tests::given::{AGENT, AGENT_ADDRESS, HOME, HOME_LINK, LINKS, MOBILE, secrets};
 use mip_entries::{Answers, Entry, History};
-use mip_mobile::{Mobile, Outcome, StationFault};
+use mip_mobile::{Mobile, StationFault};
 use mip_outside::{Outbox, SetClock};
 use mip_roles::NetPlace;
 use mip_schedule::{Event, Schedule};
@@ -129,10 +125,8 @@ fn send(
     node: NodeId,
     to: Address,
     payload: &[u8],
-) -> Stepped
-    requires { length payload.now ≤ 512 }
-{
-    if node == MOBILE {
+) -> Stepped {
+    if node == MOBILE && payload.len() <= LONGEST {
         let (mobile, answers) = mobile.send(alloc, to, 253, payload);
         (mobile, told(run, answers))
     } else {
@@ -152,9 +146,7 @@ fn happen(alloc: Global, run: &mut Run, mobile: Own, event: &Event) -> Stepped {
         Event::Deliver { number } => deliver(alloc, run, mobile, u64::from(*number)),
         Event::Payload {
             node, to, payload, ..
-        } if payload.len() <= 512 => {
-            send(alloc, run, mobile, *node, to.get(), payload.as_slice())
-        }
+        } => send(alloc, run, mobile, *node, to.get(), payload.as_slice()),
         _ => (mobile, Err(Stop::Unknown)),
     }
 }

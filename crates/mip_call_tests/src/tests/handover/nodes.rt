@@ -1,5 +1,3 @@
-ghost use Rattle.std.specs.Prelude.{◌≡◌, ◌≤◌, length};
-
 use super::stop::Stop;
 use super::world::{Arrival, World};
 use crate::tests::given::{
@@ -11,6 +9,9 @@ use mip_roles::NetPlace;
 use mip_words::{Address, Moment};
 use std::alloc::Global;
 use std::marker::Model;
+
+/// How long data may be.
+pub const LONGEST: usize = 512;
 
 /// The agent and the peer of a mobile, at moment 0.
 #[derive(Drop)]
@@ -79,9 +80,10 @@ impl Nodes {
         world: &mut World,
         to: Address,
         payload: &[u8],
-    ) -> Result<(), Stop>
-        requires { length payload.now ≤ 512 }
-    {
+    ) -> Result<(), Stop> {
+        if payload.len() > LONGEST {
+            return Err(Stop::Unknown);
+        }
         let answers = self.peer.send(alloc, Moment(0), to, 253, payload)?;
         world.answer(PEER, PEER_LINK, answers)
     }

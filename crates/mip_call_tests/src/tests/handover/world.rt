@@ -1,5 +1,3 @@
-ghost use Rattle.std.specs.Prelude.{◌<◌};
-
 use super::stop::Stop;
 use crate::tests::given::{AGENT, AGENT_ADDRESS, HOME, LINKS, MOBILE, PEER, PEER_ADDRESS};
 use mip_entries::{Answer, Answers, Entry, History};
@@ -46,10 +44,8 @@ impl World {
     }
 
     /// A node has an address from here on, or somebody else has it.
-    fn claim(&mut self, node: NodeId, address: Address) -> Result<(), Memory>
-        requires { node.0 < 32 }
-    {
-        let Some(link) = self.net.link_of(address) else {
+    fn claim(&mut self, node: NodeId, address: Address) -> Result<(), Memory> {
+        let (Some(link), true) = (self.net.link_of(address), node.0 < 32) else {
             return self.note(Entry::Idle);
         };
         let who = node.0;
@@ -66,9 +62,7 @@ impl World {
     }
 
     /// A node gives an address up.
-    fn release(&mut self, node: NodeId, address: Address) -> Result<(), Memory>
-        requires { node.0 < 32 }
-    {
+    fn release(&mut self, node: NodeId, address: Address) -> Result<(), Memory> {
         let Some(link) = self.net.link_of(address) else {
             return self.note(Entry::Idle);
         };
@@ -104,9 +98,7 @@ impl World {
     }
 
     /// A node leaves an entry.
-    fn leave(&mut self, node: NodeId, entry: Entry) -> Result<(), Memory>
-        requires { node.0 < 32 }
-    {
+    fn leave(&mut self, node: NodeId, entry: Entry) -> Result<(), Memory> {
         match entry {
             Entry::Claimed { address, .. } | Entry::Taken { address, .. } => {
                 self.claim(node, address)
@@ -119,9 +111,7 @@ impl World {
         }
     }
 
-    fn answer_one(&mut self, node: NodeId, from: LinkId, answer: Answer) -> Result<(), Stop>
-        requires { node.0 < 32 }
-    {
+    fn answer_one(&mut self, node: NodeId, from: LinkId, answer: Answer) -> Result<(), Stop> {
         match answer {
             Answer::Send { shield, packet } => self.send(node, from, shield, packet),
             Answer::Note(entry) => Ok(self.leave(node, entry)?),
@@ -129,9 +119,7 @@ impl World {
     }
 
     /// What a node answers from a link happens, in order.
-    pub fn answer(&mut self, node: NodeId, from: LinkId, answers: Answers) -> Result<(), Stop>
-        requires { node.0 < 32 }
-    {
+    pub fn answer(&mut self, node: NodeId, from: LinkId, answers: Answers) -> Result<(), Stop> {
         for answer in answers.into_vec() {
             self.answer_one(node, from, answer)?;
         }
