@@ -56,7 +56,11 @@ fn leave(alloc: Global, mobile: Own, lines: &[&str]) -> Seen {
 }
 
 fn attach(alloc: Global, mobile: Own, lines: &[&str]) -> Seen {
-    seen(alloc, mobile.attach(alloc, &mut FreePlace::new(), LINKS[2]), lines)
+    seen(
+        alloc,
+        mobile.attach(alloc, &mut FreePlace::new(), LINKS[2]),
+        lines,
+    )
 }
 
 /// A mobile that moves: it leaves home, comes to another link, and its agent acknowledges its update.

@@ -49,10 +49,7 @@ fn accepted() -> Entry {
 }
 
 /// Whether the home is registered at a place of the history, and what is held for it under two numbers.
-fn known_at(
-    history: &History,
-    place: usize,
-) -> (bool, Option<Address>, Option<Address>) {
+fn known_at(history: &History, place: usize) -> (bool, Option<Address>, Option<Address>) {
     let past = Past::before(history.as_slice(), place, Moment(0));
     (
         past.is_registered(HOME),

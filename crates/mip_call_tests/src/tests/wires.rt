@@ -15,7 +15,11 @@ const FRAME: &[u8] =
     b"0120010db800010000000000000000007720010db80001000000000000000000016000000000383c4020010db800030000000000000000007720010db8000100000000000000000001870201020000c91020010db80001000000000000000000773b0305006da00001c00003840100031020010db8000300000000000000000077";
 
 /// A mobile that is attached to another link than its own.
-fn attached<'a>(alloc: Global, clock: SetClock, wire: Frames<'a, SureLink>) -> Result<Own<'a>, Memory> {
+fn attached<'a>(
+    alloc: Global,
+    clock: SetClock,
+    wire: Frames<'a, SureLink>,
+) -> Result<Own<'a>, Memory> {
     let secrets = secrets(MOBILE);
     let mobile = Mobile::new(alloc, HOME, Some(AGENT_ADDRESS), secrets, clock, wire, 1)?;
     let (mobile, answers) = mobile.attach(alloc, &mut FreePlace::new(), LINKS[2]);

@@ -139,13 +139,17 @@ fn send(
 fn happen(alloc: Global, run: &mut Run, mobile: Own, event: &Event) -> Stepped {
     match event {
         Event::Move {
-            link: Some(link), ..
+            link: Some(link),
+            ..
         } => move_to(alloc, run, mobile, *link),
         Event::Advertise { link } => advertise(alloc, run, mobile, *link),
         Event::Carry { count } => carry(alloc, run, mobile, *count),
         Event::Deliver { number } => deliver(alloc, run, mobile, u64::from(*number)),
         Event::Payload {
-            node, to, payload, ..
+            node,
+            to,
+            payload,
+            ..
         } => send(alloc, run, mobile, *node, to.get(), payload.as_slice()),
         _ => (mobile, Err(Stop::Unknown)),
     }

@@ -67,9 +67,9 @@ impl Nodes {
         arrival: &Arrival,
     ) -> Result<(), Stop> {
         let packet = arrival.packet.as_slice();
-        let answers =
-            self.peer
-                .take(alloc, Moment(0), arrival.number, arrival.shield, packet)?;
+        let answers = self
+            .peer
+            .take(alloc, Moment(0), arrival.number, arrival.shield, packet)?;
         world.answer(PEER, PEER_LINK, answers)
     }
 
