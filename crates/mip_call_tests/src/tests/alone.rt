@@ -24,12 +24,9 @@ const DATA: &str =
 const SOLICITATION: &str =
     "shielded 20010db8000100000000000000000077 20010db8000100000000000000000001 6000000000203c4020010db800030000000000000000007720010db80001000000000000000000013a0201020000c91020010db8000100000000000000000077920011d000010000";
 
-// A Home Test Init, before a tunnel and in it.
+// The same data as a packet that goes into the tunnel.
 const INNER: &[u8] =
-    b"600000000010874020010db800010000000000000000007720010db80002000000000000000000023b0101007cdb0000bbdfb58d6c460cea";
-
-const TUNNELLED: &str =
-    "send 600000000038294020010db800030000000000000000007720010db8000100000000000000000001600000000010873f20010db800010000000000000000007720010db80002000000000000000000023b0101007cdb0000bbdfb58d6c460cea";
+    b"600000000001fd4020010db800010000000000000000007720010db8000200000000000000000002bb";
 
 /// What a call leaves: the mobile, and whether it answered these lines.
 type Seen = (Own, Result<bool, Memory>);
@@ -218,7 +215,7 @@ fn tunnel(alloc: Global, mobile: Own, inner: &[u8]) -> Seen {
     match mobile {
         Mobile::Away(mut station) if 40 <= inner.len() && inner.len() <= 256 && 2 <= inner[7] => {
             let answers = station.tunnel(alloc, inner);
-            seen(alloc, (Mobile::Away(station), answers), &[TUNNELLED])
+            seen(alloc, (Mobile::Away(station), answers), &[DATA])
         }
         other => (other, Ok(false)),
     }

@@ -38,7 +38,7 @@ fn a_configuration_is_written_as_it_was_read(rt: HostRuntime) -> Result<(), Fail
 }
 
 const SUMMARY: &[u8] =
-    b"events 8\nentries 47\nsent 14\nhanded 14\nup 3\naccepted 1\ndenied 0\ndropped 0\nforged 0\n";
+    b"events 9\nentries 47\nsent 14\nhanded 14\nup 3\naccepted 1\ndenied 0\ndropped 0\nforged 0\n";
 
 /// The summary of the run of the handover.
 fn summed(alloc: Global) -> Result<Bytes, Fail> {
