@@ -11,6 +11,7 @@ BEGIN {
     }
     else if (what == "listeners") listeners(events)
     else if (what == "roaming") roaming(events)
+    else if (what == "whole") whole(deliveries)
     else if (what == "data") { head(); for (i = 0; i < events / 2; i++) { print "data c " home(i) " 253 " bytes_of("5a", 500); print "deliver " i } }
     else if (what == "lost") { head(); for (i = 0; i < events / 2; i++) { print "data c " home(i) " 253 68656c6c6f"; print "lose " i } }
     else if (what == "spaces") printf "mip 1\nseed %s\n", bytes_of(" ", 16777200)
@@ -120,4 +121,41 @@ function roaming(events,    round, i, m, link) {
         print "carry 4"
         print "wait 4000"
     }
+}
+
+# A mobile with sixteen peers moves each second, and makes a binding with each: 130 packets. A stranger, for whom it has no row, sends it nine packets of
+# 650 bytes, which its agent tunnels. Packets are carried to the last, and there are so many of them.
+function whole(left,    round, i, stranger) {
+    stranger = "20010db80002000000000000000000ff"
+    print "mip 1"
+    print "seed 000102030405060708090a0b0c0d0e0f101112131415161718191a1b1c1d1e1f"
+    print "start 0"
+    for (i = 1; i <= 4; i++) print "link n" i " 20010db8000" i "0000"
+    print "agent g n1 20010db8000100000000000000000001 10 1800 16"
+    for (i = 0; i < 16; i++) print "correspondent c" i " n2 20010db8000200000000000000000" hex(16 + i, 3) " 64"
+    print "mobile m n1 " home(0) " g"
+    print "serve g m"
+    print "outsider o"
+    print "run"
+    print "move m n3"
+    print "advertise n3"
+    left = carried_of(left, 2)
+    for (i = 0; i < 16; i++) print "data c" i " " home(0) " 253 5a"
+    left = carried_of(left, 160)
+    while (left) {
+        print "wait 1000"
+        print "move m n" 4 - round % 2
+        print "advertise n" 4 - round % 2
+        round++
+        left = carried_of(left, 130)
+        for (i = 0; left && i < 9; i++) print "inject o n2 600000000262fd40" stranger home(0) bytes_of("5a", 610)
+        left = carried_of(left, 18)
+    }
+}
+
+# So many packets are carried, or those that are left to be; and how many are left then.
+function carried_of(left, count) {
+    if (count > left) count = left
+    if (count) print "carry " count
+    return left - count
 }

@@ -1,0 +1,9 @@
+mod alone;
+mod given;
+mod handover;
+mod lists;
+mod neighbours;
+mod past;
+mod texts;
+mod told;
+mod wires;

@@ -1,0 +1,74 @@
+//! What is known at places of a history that was worked by hand.
+
+use super::given::{AGENT, AGENT_ADDRESS, CAREOF, HOME, MOBILE, PEER};
+use mip_entries::{Entry, History};
+use mip_past::Past;
+use mip_words::{Address, LinkId, Memory, Moment};
+use std::alloc::Global;
+use std::test::Fail;
+
+/// The agent and the mobile are there, the home is registered for 4 s, and the peer accepts its care-of address for 420 s.
+fn history(alloc: Global) -> Result<History, Memory> {
+    let mut history = History::new(alloc)?;
+    history.push(claimed(AGENT.0, AGENT_ADDRESS))?;
+    history.push(claimed(MOBILE.0, HOME))?;
+    history.push(Entry::Home {
+        node: AGENT,
+        home: HOME,
+        careof: CAREOF,
+        sequence: 1,
+        end: Moment(4_000),
+    })?;
+    history.push(accepted())?;
+    history.push(Entry::At {
+        moment: Moment(4_000),
+    })?;
+    Ok(history)
+}
+
+fn claimed(who: u8, address: Address) -> Entry {
+    Entry::Claimed {
+        who,
+        link: LinkId(0),
+        address,
+    }
+}
+
+fn accepted() -> Entry {
+    Entry::Accepted {
+        node: PEER,
+        number: 0,
+        home: HOME,
+        binding: 2,
+        careof: CAREOF,
+        sequence: 1,
+        end: Moment(420_000),
+        home_index: 0,
+        careof_index: Some(0),
+    }
+}
+
+/// Whether the home is registered at a place of the history, and what is held for it under two numbers.
+fn known_at(history: &History, place: usize) -> (bool, Option<Address>, Option<Address>) {
+    let past = Past::before(history.as_slice(), place, Moment(0));
+    (
+        past.is_registered(HOME),
+        past.held_under(PEER, HOME, 2),
+        past.held_under(PEER, HOME, 0),
+    )
+}
+
+#[test]
+fn a_past_is_asked_at_its_places(rt: HostRuntime) -> Result<(), Fail> {
+    let history = history(rt.alloc())?;
+    let rows = [
+        (2, (false, None, None)),
+        (3, (true, None, None)),
+        (4, (true, Some(CAREOF), None)),
+        (5, (false, Some(CAREOF), None)),
+    ];
+    for (place, known) in rows {
+        assert_eq!(rt; known_at(&history, place), known, "at {place}");
+    }
+    Ok(())
+}
