@@ -1,4 +1,4 @@
-use Rattle.std.proofs.Common.{◌≡◌, arith, inl, inr, refl, rules}
+use Rattle.std.proofs.Common.{arith, inl, inr, refl, rules}
 use Rattle.mip_top.proofs.node.serve_config.Goals as goal
 
 pub returns-in-Memory-clause-served : goal.returns-in-Memory-clause-served
