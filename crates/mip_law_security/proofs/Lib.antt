@@ -3,4 +3,5 @@ mod Backwards
 mod Naming
 mod Overhearing
 mod Tunnelled
+mod Accepted
 mod Chains

@@ -21,7 +21,7 @@ use Rattle.mip_rules_mobile.specs.TakenLaws.{IsAgent}
 use Rattle.mip_rules_mobile.proofs.Checks.{opened-reads}
 use Rattle.mip_rules_mobile.proofs.Trusts.{opened-source}
 use Rattle.mip_rules_mobile.proofs.PartTransitions.{call-part}
-use Rattle.mip_law_security.specs.Tunnelled.{accepts, IsOfAgent}
+use Rattle.mip_law_security.specs.Tunnelled.{is_accepted, IsOfAgent}
 
 -- the agent of tunnels
 agent_is : (k : Known) (now : ℕ) (agent : Address) → agent_of k now ≡ Some agent → IsAgent k.registered k.agent now agent
@@ -34,6 +34,11 @@ agent_is k now agent = by k.registered
     by : (o : Option Registered) → option_or (option_map (λ (x : Registered). x.agent) (standing_registration now o)) k.agent ≡ Some agent → IsAgent o k.agent now agent
     by None e = inr e
     by (Some r) e = ahead r (nat_lt now r.end.0) refl e
+
+-- a step of a mobile tells that it accepted an update
+abbrev pub accepts : Step → Bool
+accepts (Notes entry) = is_accepted entry
+accepts _ = false
 
 -- what concerns no part tells of no acceptance
 calm_step : (step : Step) → concerns_part step ≡ false → accepts step ≡ false
