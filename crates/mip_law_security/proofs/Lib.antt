@@ -4,4 +4,5 @@ mod Naming
 mod Overhearing
 mod Tunnelled
 mod Accepted
+mod Acceptances
 mod Chains
