@@ -1,14 +1,12 @@
 -- What an event leaves of an acceptance of a packet by a mobile: nothing, but where it hands the packet to the mobile, which then has a
 -- tunnel packet from its agent under a shield.
-use Rattle.std.proofs.Common.{◌≡◌, ◌≢◌, ℕ, List, [], ◌∷◌, ◌++◌, Bool, true, false, ◌⊎◌, inl, inr, length, refl, sym, ap, ◌∙◌, subst}
-use Rattle.std.specs.Prelude.{drop, Option, Some, None, Result, Ok, Err, is_some, unwrap_or, ◌==◌, if◌then◌else◌, slice_get, slice_index_or}
+use Rattle.std.proofs.Common.{◌≡◌, ◌≢◌, ℕ, List, [], Bool, true, false, ◌⊎◌, inl, inr, length, refl, sym, ap, ◌∙◌, subst}
+use Rattle.std.specs.Prelude.{drop, Option, Some, None, Ok, if◌then◌else◌, slice_get, slice_index_or}
 use Rattle.std.specs.List.{list_any}
 use Rattle.std.proofs.lemmas.List.{append-nil, drop_at}
 use Rattle.std.proofs.lemmas.Bool.{cases_eq}
 use Rattle.mip_words.specs.declared.address.Address.{Address}
-use Rattle.mip_words.specs.declared.shield.Shield.{Shield}
 use Rattle.mip_words.specs.declared.why.Why.{Why}
-use Rattle.mip_ipv6.specs.declared.not_packet.NotPacket.{NotPacket}
 use Rattle.mip_ipv6.specs.Packet.{Packet}
 use Rattle.mip_ipv6.specs.Reading.{packet_of}
 use Rattle.mip_ipv6.specs.Tunnel.{lowered_packet}
@@ -20,29 +18,27 @@ use Rattle.mip_entries.specs.Completed.{node_id}
 use Rattle.mip_entries.specs.Stamped.{Stamped}
 use Rattle.mip_schedule.specs.declared.event.Event.{Event}
 use Rattle.mip_schedule.specs.declared.event.Event.TheVariants.{Deliver, Repeat, Carry}
-use Rattle.mip_links.specs.Table.{Fate, Post, delivery, in_pool, holder_outside, outsider_of}
+use Rattle.mip_links.specs.Table.{Fate, Post, delivery, holder_outside, outsider_of}
 use Rattle.mip_links.specs.Table.Fate.{Idle, Gone, Outsider, Node}
 use Rattle.mip_links.specs.Nets.{lowest_of}
 use Rattle.mip_rules_mobile.specs.Calls as mobiles
 use Rattle.mip_rules_mobile.specs.Known.{Known}
 use Rattle.mip_rules_mobile.specs.Steps.{Step, answers_of}
 use Rattle.mip_rules_mobile.specs.Questions as mobile_questions
-use Rattle.mip_rules_mobile.specs.Transitions.{with_transition}
 use Rattle.mip_rules_mobile.specs.Doing.{transition_of}
 use Rattle.mip_history.specs.Setup.{Setup, Host}
 use Rattle.mip_history.specs.Setup.Kind.{Mobile}
-use Rattle.mip_history.specs.Runs.{Run, note, entered, without, mobile_past_at, with_mobile_past}
-use Rattle.mip_history.specs.Questions.{hears_in, asked_in}
+use Rattle.mip_history.specs.Runs.{Run, note, entered, without}
+use Rattle.mip_history.specs.Questions.{asked_in}
 use Rattle.mip_history.specs.Calls as calls
 use Rattle.mip_history.specs.Calls.{Call, Take}
-use Rattle.mip_history.specs.Knowing.{now_in, secrets_in, mobile_known_in, stands_on}
-use Rattle.mip_history.specs.Nodes.{by_host, acts, after_mobile_transition}
+use Rattle.mip_history.specs.Knowing.{now_in, secrets_in, mobile_known_in}
+use Rattle.mip_history.specs.Nodes.{by_host, acts}
 use Rattle.mip_history.specs.Delivery.{handed_over, overheard_at, hears_there, held_by_outsider, is_no_holder, handed, became, arrival_link, arrived, delivered, carried_one, carried}
 use Rattle.mip_history.specs.Permitted.{happens}
 use Rattle.mip_history.proofs.Keeping.{keeps_overheard, keeps_gives_up}
 use Rattle.mip_history.proofs.Changes.{Delivers, IsLeft, IsBy, Change, left, comes, injects, drops, squats, yields, acted, moved, reborn, gives, renewed, happens_keeps}
 use Rattle.mip_history.proofs.Folds.{emptied_past}
-use Rattle.mip_law_delivery.specs.Stretches.{left_by}
 use Rattle.mip_law_delivery.specs.StretchesLaws.{IsSingle}
 use Rattle.mip_law_delivery.proofs.Delivering.{IsBeside, heard_beside, handed_beside, now_beside}
 use Rattle.mip_law_security.specs.Tunnelled.{is_acceptance_of, IsOfAgent}
