@@ -3,4 +3,6 @@ mod Backwards
 mod Naming
 mod Overhearing
 mod Tunnelled
+mod Accepted
+mod Acceptances
 mod Chains

@@ -8,6 +8,7 @@ use Rattle.mip_words.specs.declared.address.Address.{Address}
 use Rattle.mip_words.specs.declared.shield.Shield.{Shield}
 use Rattle.mip_ipv6.specs.Packet.{Packet}
 use Rattle.mip_ipv6.specs.Reading.{packet_of}
+use Rattle.mip_entries.specs.declared.entry.Entry.{Entry}
 use Rattle.mip_entries.specs.declared.entry.Entry.TheVariants as entries
 use Rattle.mip_rules_mobile.specs.declared.registered.Registered.{Registered}
 use Rattle.mip_rules_mobile.specs.Calls.{Call, Take}
@@ -21,7 +22,7 @@ use Rattle.mip_rules_mobile.specs.TakenLaws.{IsAgent}
 use Rattle.mip_rules_mobile.proofs.Checks.{opened-reads}
 use Rattle.mip_rules_mobile.proofs.Trusts.{opened-source}
 use Rattle.mip_rules_mobile.proofs.PartTransitions.{call-part}
-use Rattle.mip_law_security.specs.Tunnelled.{accepts, IsOfAgent}
+use Rattle.mip_law_security.specs.Tunnelled.{IsOfAgent}
 
 -- the agent of tunnels
 agent_is : (k : Known) (now : ℕ) (agent : Address) → agent_of k now ≡ Some agent → IsAgent k.registered k.agent now agent
@@ -35,13 +36,22 @@ agent_is k now agent = by k.registered
     by None e = inr e
     by (Some r) e = ahead r (nat_lt now r.end.0) refl e
 
+abbrev pub is_accepted : Entry → Bool
+is_accepted (entries.Accepted node number home binding careof sequence end i j) = true
+is_accepted _ = false
+
+-- a step of a mobile tells that it accepted an update
+abbrev pub accepts : Step → Bool
+accepts (Notes entry) = is_accepted entry
+accepts _ = false
+
 -- what concerns no part tells of no acceptance
 calm_step : (step : Step) → concerns_part step ≡ false → accepts step ≡ false
 calm_step (Notes (entries.Accepted node number home binding careof sequence end i j)) none = absurd cc
 calm_step (Notes _) none = refl
 calm_step _ none = refl
 
-calm : (steps : List Step) → list_any concerns_part steps ≡ false → list_any accepts steps ≡ false
+pub calm : (steps : List Step) → list_any concerns_part steps ≡ false → list_any accepts steps ≡ false
 calm [] none = refl
 calm (step ∷ steps) none = by (concerns_part step) (list_any concerns_part steps) refl refl none (calm_step step) (calm steps)
   where

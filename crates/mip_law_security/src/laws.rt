@@ -96,8 +96,9 @@ pub fn outsiders_hear_what_has_no_shield()
         → holder_in run.past p.head.destination.0 ≡ Some (holder_outside o) → HasHeard run (delivered s run k keep) k o }
 {}
 
-/// At each place of any run: where a mobile is handed a tunnel packet and accepts an update, the tunnel is from its agent, that of its
-/// registration or where its last home registration went, and the packet came under a shield. RFC 6275 section 11.3.3
+/// Whatever event of any run leaves that a mobile accepted the update in a tunnel packet: the tunnel is from its agent, that of its
+/// registration or where its last home registration went, as the mobile knows it before the event, and the packet was posted under a
+/// shield. RFC 6275 section 11.3.3
 pub fn tunnelled_updates_come_from_the_agent()
     ensures { (s : Setup) → AcceptsOfItsAgent s }
 {}

@@ -176,8 +176,8 @@ audited marked judged itself bytes given old new told = record {
   no = λ nine. no_of bytes given old new _ (told.conclusive (conclusive_by given 9 nine (conclusive_at 9 (omega arith) (omega arith) (omega arith) (omega arith)))) (verdict marked judged bytes) nine;
   permitted = λ c trace within same sure. (told.conclusive sure).0 ∙ accepted itself bytes c trace within same;
   long = λ past sure. (
-      (told.conclusive sure).0 ∙ ap (λ (x : Answer). x.status) (past_is_long bytes past),
-      (told.conclusive sure).1 ∙ ap (λ (x : Answer). append_known old x.text) (past_is_long bytes past),
+    (told.conclusive sure).0 ∙ ap (λ (x : Answer). x.status) (past_is_long bytes past),
+    (told.conclusive sure).1 ∙ ap (λ (x : Answer). append_known old x.text) (past_is_long bytes past),
   );
   only_long = λ six. long_of bytes given old new _ (told.conclusive (conclusive_by given 6 six (conclusive_at 6 (omega arith) (omega arith) (omega arith) (omega arith)))) (verdict marked judged bytes) six;
   bad = λ two. bad_of bytes given old new _ (told.conclusive (conclusive_by given 2 two (conclusive_at 2 (omega arith) (omega arith) (omega arith) (omega arith)))) (verdict marked judged bytes) two;

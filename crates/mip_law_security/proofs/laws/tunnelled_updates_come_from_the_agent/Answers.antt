@@ -1,6 +1,5 @@
-use Rattle.mip_history.specs.Knowing.{now_in, mobile_known_in}
-use Rattle.mip_law_security.proofs.Tunnelled.{accepted_of_agent}
+use Rattle.mip_law_security.proofs.Acceptances.{event_of_agent}
 use Rattle.mip_law_security.proofs.laws.tunnelled_updates_come_from_the_agent.Goals as goal
 
 pub returns : goal.returns
-returns c = λ s run n own agent h outer host read tunnel told. accepted_of_agent (mobile_known_in s run n own agent) (now_in s run) h.number h.shield h.packet outer read tunnel told
+returns c = λ s run event single n own agent host k post posted outer read tunnel told. event_of_agent s n k own agent host run post posted outer read tunnel event single told
