@@ -21,7 +21,7 @@ struct Written {
 
 /// The reply to an input is written.
 #[tactic(auto, using(crate::proofs::Written::is_replied))]
-fn written(alloc: Global, form: InputForm, input: &[u8]) -> Result<Written, Memory>
+fn write_reply(alloc: Global, form: InputForm, input: &[u8]) -> Result<Written, Memory>
     ensures { IfOk result (λ w. IsReplied (form_answer form input.now) w.status.0 w.sink) }
 {
     let mut source = SureSource::new(alloc, input)?;
@@ -43,7 +43,7 @@ pub fn tell_answer(
 ) -> u32
     ensures { Replies (form_answer form input.now) result out.old out.new size.old size.new }
 {
-    match written(alloc, form, input) {
+    match write_reply(alloc, form, input) {
         Ok(written) => tell(u32::from(written.status.0), written.sink.bytes(), out, size),
         Err(Memory) => MEMORY,
     }
