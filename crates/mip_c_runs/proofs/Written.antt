@@ -1,7 +1,6 @@
 -- What was written of an answer to a sink that was empty, where no call failed and the whole input was told.
-use Rattle.std.proofs.Common.{◌≡◌, ℕ, ◌<◌, ◌≤◌, ◌⊎◌, inl, inr, true, false, true≢false, refl, sym, ap, ◌∙◌, subst, arith, List, [], ◌++◌, length, append-nil, length-append}
-use Rattle.std.specs.Prelude.{Option, Some, None, unwrap_or, is_some, nat_lt}
-use Rattle.std.specs.Io.KnownBytes.{IsAtEnd}
+use Rattle.std.proofs.Common.{◌≡◌, ℕ, ◌<◌, ◌≤◌, ◌⊎◌, inl, inr, true≢false, refl, sym, ap, ◌∙◌, subst, arith, List, [], ◌++◌, length, append-nil, length-append}
+use Rattle.std.specs.Prelude.{Option, Some, None, unwrap_or, is_some}
 use Rattle.std.proofs.lemmas.Bool.{cases_order, lt-ltb}
 use Rattle.mip_replies.specs.declared.input_form.InputForm.{InputForm}
 use Rattle.mip_replies.specs.Answers.{Answer, form_answer, long_answer}
