@@ -1,11 +1,10 @@
 -- What the calls of a correspondent that C holds tell, and what they make of it.
-use Rattle.std.specs.Prelude.{◌≡◌, ◌⊎◌, ℕ, ◌*◌, ◌^◌, List, [], length, slice_get, Bool, true, false, not, ◌&&◌, nat_lt, Option, Some, None, option_map}
+use Rattle.std.specs.Prelude.{◌≡◌, ℕ, ◌*◌, ◌^◌, List, [], length, slice_get, Bool, true, not, ◌&&◌, nat_lt, Option, Some, None, option_map}
 use Rattle.mip_words.specs.Addresses.{address_bytes}
 use Rattle.mip_words.specs.declared.address.Address.{Address}
 use Rattle.mip_ipv6.specs.Packet.{names_no_body}
 use Rattle.mip_nonce.specs.Secrets.{Life}
 use Rattle.mip_bcache.specs.Seen.{rows_at}
-use Rattle.mip_bcache.specs.declared.row.Row.{Row}
 use Rattle.mip_entries.specs.declared.answer.Answer.{Answer}
 use Rattle.mip_rules_correspondent.specs.Calls.{Call}
 use Rattle.mip_rules_correspondent.specs.Calls.Call.{Tick}

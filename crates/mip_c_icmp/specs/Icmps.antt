@@ -1,5 +1,5 @@
 -- A message of ICMPv6 as C has it.
-use Rattle.std.specs.Prelude.{◌≡◌, ℕ, replicate, Bool, true, false, nat_lt, length, Option, Some, None, is_some, unwrap_or, Result, Ok, Err}
+use Rattle.std.specs.Prelude.{◌≡◌, ℕ, replicate, Bool, true, false, nat_lt, Option, Some, None, is_some, unwrap_or, Result, Ok, Err}
 use Rattle.mip_words.specs.Addresses.{address_bytes}
 use Rattle.mip_icmp.specs.declared.prefix_info.PrefixInfo.{PrefixInfo}
 use Rattle.mip_icmp.specs.declared.agent_info.AgentInfo.{AgentInfo}

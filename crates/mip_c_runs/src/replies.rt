@@ -7,9 +7,9 @@ ghost use Rattle.mip_c_runs.specs.Replies.{IsReplied, Replies};
 
 use mip_c_words::giving::tell;
 use mip_c_words::status::MEMORY;
-use mip_outside::SureSink;
-use mip_replies::{InputForm, Reply, Status, answer, tell_reply};
-use mip_words::{Bytes, Memory};
+use mip_outside::{SureSink, SureSource};
+use mip_replies::{InputForm, Status, answer_input};
+use mip_words::Memory;
 use std::alloc::Global;
 
 /// A reply as it is written, where no call fails.
@@ -19,35 +19,18 @@ struct Written {
     sink: SureSink,
 }
 
-/// The reply to an input.
-fn reply_to(alloc: Global, form: InputForm, input: &[u8]) -> Result<Reply, Memory>
-    ensures reply { IfOk result (λ reply. reply ≡ form_answer form input.now) }
-    ensures conclusive { IfOk result (λ reply. IsConclusive reply.status) }
-{
-    let input = Bytes::copy(alloc, input)?;
-    answer(alloc, form, input)
-}
-
-/// A reply is written.
+/// The reply to an input is written.
 #[tactic(auto, using(crate::proofs::Written::is_replied))]
-fn write(alloc: Global, reply: &Reply) -> Result<Written, Memory>
-    requires { IsConclusive reply.now.status }
-    ensures { IfOk result (λ w. IsReplied reply.now w.status.0 w.sink) }
+fn write_reply(alloc: Global, form: InputForm, input: &[u8]) -> Result<Written, Memory>
+    ensures { IfOk result (λ w. IsReplied (form_answer form input.now) w.status.0 w.sink) }
 {
+    let mut source = SureSource::new(alloc, input)?;
     let mut sink = SureSink::new(alloc)?;
-    let status = tell_reply(alloc, &mut sink, reply);
+    let status = answer_input(alloc, form, &mut source, &mut sink);
     if status == Status::MEMORY {
         return Err(Memory);
     }
     Ok(Written { status, sink })
-}
-
-/// The reply to an input is written.
-fn answered(alloc: Global, form: InputForm, input: &[u8]) -> Result<Written, Memory>
-    ensures { IfOk result (λ w. IsReplied (form_answer form input.now) w.status.0 w.sink) }
-{
-    let reply = reply_to(alloc, form, input)?;
-    write(alloc, &reply)
 }
 
 /// Tells what the program replies to an input.
@@ -60,7 +43,7 @@ pub fn tell_answer(
 ) -> u32
     ensures { Replies (form_answer form input.now) result out.old out.new size.old size.new }
 {
-    match answered(alloc, form, input) {
+    match write_reply(alloc, form, input) {
         Ok(written) => tell(u32::from(written.status.0), written.sink.bytes(), out, size),
         Err(Memory) => MEMORY,
     }

@@ -19,7 +19,6 @@ mod text;
 mod told_run;
 mod tracing;
 
-pub use answering::answer;
 pub use auditing::audited;
 pub use input::{answer_input, tell_bad};
 pub use input_form::InputForm;
