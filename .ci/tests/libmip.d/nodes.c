@@ -3,26 +3,10 @@
        nodes --fail     each allocation of the library fails in turn, malloc's and realloc's: the call ends with MIP_MEMORY, and is made once more
        nodes --threads  the same calls in four threads at a time, each with handles of its own, whose answers have to be the same
        nodes --closed   what a handle answers that is closed, open already, asked too early, or given what is out of range */
-#include "common.h"
+#include "digits.h"
+#include "failing.h"
 
 #include <pthread.h>
-
-/* Allocations: `left` is how many go through before one fails, -1 where none does. */
-static _Thread_local long left = -1;
-static _Thread_local bool has_failed;
-void *__real_malloc(size_t size);
-void *__real_realloc(void *block, size_t size);
-void *__wrap_malloc(size_t size);
-void *__wrap_realloc(void *block, size_t size);
-static bool fails(void)
-{
-    if (left < 0 || left-- > 0)
-        return false;
-    has_failed = true;
-    return true;
-}
-void *__wrap_malloc(size_t size) { return fails() ? NULL : __real_malloc(size); }
-void *__wrap_realloc(void *block, size_t size) { return fails() ? NULL : __real_realloc(block, size); }
 
 struct node {
     char name[16];
@@ -257,7 +241,7 @@ static void do_line(struct run *run, char *line)
     uint32_t status = called(it, words);
     if (has_failed && status == MIP_MEMORY)
         status = called(it, words);
-    else if (has_failed)
+    else if (has_failed && strcmp(words[0], "agent") != 0) /* a list of homes does without the room that it asks for at first */
         FAIL("an allocation failed, and the status is %u", status);
     if (status != MIP_OK)
         FAIL("%s has the status %u (%s)", words[0], status, mip_status_name(status));

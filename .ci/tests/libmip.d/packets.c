@@ -1,7 +1,7 @@
 /* Lists packets through the library: for each line of digits on standard input what mip_decode says, and on standard error the same listing put together from the fields of
    mip_read_packet, mip_read_message and mip_read_icmp. Each packet and each text stands in a block of its exact size, and each text is asked for once with a byte too few.
    With a word --again it writes each packet anew from its fields, and its digits; with --neighbours each neighbour message. */
-#include "common.h"
+#include "digits.h"
 
 static const char *const refusals[] = {"short", "version", "length", "header", "route", "option"};
 static const char *const faults[] = {"size", "checksum", "type", "proto", "headerlen", "moption"};

@@ -2,23 +2,7 @@
        runs         each input in a block of its exact size, each text first asked for with no room and with a byte too little
        runs --fail  each allocation of the library fails in turn, malloc's and realloc's: the call ends with MIP_MEMORY and changes nothing, and is made once more */
 #include "common.h"
-
-/* Allocations: `left` is how many go through before one fails, -1 where none does. */
-static long left = -1;
-static bool has_failed;
-void *__real_malloc(size_t size);
-void *__real_realloc(void *block, size_t size);
-void *__wrap_malloc(size_t size);
-void *__wrap_realloc(void *block, size_t size);
-static bool fails(void)
-{
-    if (left < 0 || left-- > 0)
-        return false;
-    has_failed = true;
-    return true;
-}
-void *__wrap_malloc(size_t size) { return fails() ? NULL : __real_malloc(size); }
-void *__wrap_realloc(void *block, size_t size) { return fails() ? NULL : __real_realloc(block, size); }
+#include "failing.h"
 
 typedef uint32_t call(const uint8_t *input, size_t input_len, uint8_t *out, size_t out_len, size_t *size);
 
