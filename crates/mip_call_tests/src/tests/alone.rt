@@ -153,10 +153,13 @@ fn each_call_answers_as_in_a_run(rt: HostRuntime) -> Result<(), Fail> {
 
 /// What a new mobile has to do, and whether it answers to the passing of time by nothing, at a moment that its clock is set to.
 fn rests(alloc: Global) -> Result<(Option<Moment>, bool, bool), Memory> {
-    let mut mobile = mobile(alloc)?;
-    let set = mobile.clock().set(alloc, &[5_000]);
+    let clock = SetClock::new(alloc, &[0])?;
+    let wire = Outbox::new(alloc)?;
+    let secrets = secrets(MOBILE);
+    let mut mobile = Mobile::new(alloc, HOME, Some(AGENT_ADDRESS), secrets, clock, wire, 1)?;
     let due = mobile.due();
     let is_empty = mobile.row(Moment(0), 0).is_none();
+    let set = mobile.clock().set(alloc, &[5_000]);
     let (mobile, ticked) = seen(alloc, mobile.tick(alloc), &[]);
     drop(mobile);
     set?;
