@@ -37,7 +37,7 @@ int LLVMFuzzerTestOneInput(const uint8_t *data, size_t size)
     struct mip_shield_fields shield = {.is_shielded = true};
     memcpy(shield.from, packet.sender, 16);
     memcpy(shield.to, packet.receiver, 16);
-    if (mip_agent_open(&agent, packet.receiver, 1, 1800, 4, packet.sender, 16) == MIP_OK) {
+    if (mip_agent_open(&agent, packet.receiver, 1, 4, packet.sender, 16) == MIP_OK) {
         mip_agent_take(&agent, 1, 0, &shield, packet.sender, size % 2 ? 16 : 0, block, size);
         while (mip_agent_next(&agent, &answer, out, sizeof out, &told) == MIP_OK)
             ;

@@ -623,11 +623,11 @@ struct mip_agent_handle {
 };
 
 /* Opens a handle on a home agent with its own address (RFC 6275 section 10), which serves the homes of `serves`, 16 bytes
-   each, and registers `room` of them at most at a time. It answers discovery with its `preference` and a `life` in seconds.
+   each, and registers `room` of them at most at a time. It answers discovery of agents with its `preference`, and sends
+   no router advertisements.
    Tells `MIP_OK`; `MIP_ALREADY_OPEN`; `MIP_MEMORY`; `MIP_ARGUMENT` where `serves` is no list of addresses that packets are
    routed to. */
-uint32_t mip_agent_open(struct mip_agent_handle *handle, const uint8_t own[16], uint16_t preference, uint16_t life, uint32_t room, const uint8_t *serves,
-    size_t serves_len);
+uint32_t mip_agent_open(struct mip_agent_handle *handle, const uint8_t own[16], uint16_t preference, uint32_t room, const uint8_t *serves, size_t serves_len);
 
 /* Closes a handle: its agent is given up, and its memory is free. The caller gives up the addresses that the agent had
    claimed.

@@ -589,7 +589,7 @@ CALLS = {
     "mip_correspondent_next": (c_uint32, *_NODE, POINTER(_Answer), *_ROOM),
     "mip_correspondent_route": (c_uint32, *_NODE, c_uint64, c_char_p, c_char_p),
     "mip_correspondent_row": (c_uint32, *_NODE, c_uint64, c_uint32, POINTER(_Row)),
-    "mip_agent_open": (c_uint32, *_AGENT, c_char_p, c_uint16, c_uint16, c_uint32, *_BYTES),
+    "mip_agent_open": (c_uint32, *_AGENT, c_char_p, c_uint16, c_uint32, *_BYTES),
     "mip_agent_close": (c_uint32, *_AGENT),
     "mip_agent_take": (c_uint32, *_AGENT, c_uint64, c_uint64, POINTER(_Shield), *_BYTES, *_BYTES),
     "mip_agent_tick": (c_uint32, *_AGENT, c_uint64),
@@ -876,16 +876,16 @@ class Correspondent(_Node):
 
 class HomeAgent(_Node):
     """A home agent (RFC 6275 section 10): it registers the homes that it serves, `room` of them at most at a time, tunnels what is sent to them, and answers discovery
-    with its `preference` and a `life` in seconds.
+    of agents with its `preference`.
 
     Of each address that it claims or gives up an answer tells. Moments may not fall. Each call answers a list; after an error the agent is as it was."""
 
     _kind = "agent"
 
-    def __init__(self, own: Address, serves: Iterable[Address], *, preference: int = 0, life: int = 1800, room: int = 64) -> None:
+    def __init__(self, own: Address, serves: Iterable[Address], *, preference: int = 0, room: int = 64) -> None:
         self._handle = _AgentHandle()
         homes = _addresses(serves)
-        _check(self._call("open", _address(own), preference, life, room, homes, len(homes)))
+        _check(self._call("open", _address(own), preference, room, homes, len(homes)))
 
     def take(self, now: int, packet: bytes, number: int = 0, *, shield: Optional[Shield] = None, others: Iterable[Address] = ()) -> List[Answer]:
         """A packet is handed to it, under this protection; `others` are the addresses of its link that somebody else holds, and `number` comes back in the answers."""

@@ -2,7 +2,7 @@
 # nodes.c and nodes.py, and what the trace says that was answered to FILE, in the same order.
 function hex(digits,    i, out) { for (i = 1; i <= length(digits); i++) out = 16 * out + index("0123456789abcdef", substr(digits, i, 1)) - 1; return out + 0 }
 function open(name) {
-    if (name in serves) print "agent", name, own[name], preference[name], lasts[name], room[name], (serves[name] == "" ? "-" : serves[name])
+    if (name in serves) print "agent", name, own[name], preference[name], room[name], (serves[name] == "" ? "-" : serves[name])
     else print "open", name, own[name], seed, place[name], life[name], room[name], numbers[name]
 }
 function tell(text) { print text >answers }

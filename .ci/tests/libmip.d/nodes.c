@@ -182,8 +182,8 @@ static uint32_t agent_called(struct node *it, char *const words[])
         return mip_agent_plan(&it->agent, now, (uint32_t)strtoul(words[3], NULL, 10), (uint32_t)strtoul(words[4], NULL, 10));
     size_t size, more;
     bool begins = strcmp(words[0], "agent") == 0;
-    uint8_t *first = bytes_of(words[begins ? 2 : 3], &size), *serves = bytes_of(begins ? words[6] : "-", &more);
-    uint32_t status = begins ? mip_agent_open(&it->agent, first, (uint16_t)atoi(words[3]), (uint16_t)atoi(words[4]), (uint32_t)atol(words[5]), serves, more)
+    uint8_t *first = bytes_of(words[begins ? 2 : 3], &size), *serves = bytes_of(begins ? words[5] : "-", &more);
+    uint32_t status = begins ? mip_agent_open(&it->agent, first, (uint16_t)atoi(words[3]), (uint32_t)atol(words[4]), serves, more)
                              : mip_agent_heard(&it->agent, now, first, (uint16_t)atoi(words[4]), (uint16_t)atoi(words[5]));
     free(first);
     free(serves);
@@ -437,10 +437,10 @@ static void do_closed_agent(void)
         IS(MIP_CLOSED, mip_agent_due(&agent, &due));
         if (round == 1)
             break;
-        IS(MIP_ARGUMENT, mip_agent_open(&agent, own_address, 1, 1, 4, homes, 17));
-        IS(MIP_ARGUMENT, mip_agent_open(&agent, own_address, 1, 1, 4, homes, 48));
-        IS(MIP_OK, mip_agent_open(&agent, own_address, 1, 1, 4, homes, 32));
-        IS(MIP_ALREADY_OPEN, mip_agent_open(&agent, own_address, 1, 1, 4, homes, 32));
+        IS(MIP_ARGUMENT, mip_agent_open(&agent, own_address, 1, 4, homes, 17));
+        IS(MIP_ARGUMENT, mip_agent_open(&agent, own_address, 1, 4, homes, 48));
+        IS(MIP_OK, mip_agent_open(&agent, own_address, 1, 4, homes, 32));
+        IS(MIP_ALREADY_OPEN, mip_agent_open(&agent, own_address, 1, 4, homes, 32));
         IS(MIP_NONE, mip_agent_next(&agent, &fields, bytes, sizeof bytes, &size));
         IS(MIP_NONE, mip_agent_careof(&agent, 0, homes, bytes));
         IS(MIP_NONE, mip_agent_row(&agent, 0, 0, &row));

@@ -68,8 +68,8 @@ for line in sys.stdin:
         nodes[name] = mip.Correspondent(data(own), data(seed), node=int(node), life=int(life), room=int(room), numbers=int(numbers))
         continue
     if word == "agent":
-        own, preference, life, room, serves = rest
-        nodes[name] = mip.HomeAgent(data(own), addresses(serves), preference=int(preference), life=int(life), room=int(room))
+        own, preference, room, serves = rest
+        nodes[name] = mip.HomeAgent(data(own), addresses(serves), preference=int(preference), room=int(room))
         continue
     it = nodes[name]
     if word == "close":

@@ -74,7 +74,8 @@ fn served_station(
 }
 
 /// Opens a handle on a home agent with its own address (RFC 6275 section 10), which serves the homes of `serves`, 16 bytes
-/// each, and registers `room` of them at most at a time. It answers discovery with its `preference` and a `life` in seconds.
+/// each, and registers `room` of them at most at a time. It answers discovery of agents with its `preference`, and sends
+/// no router advertisements.
 /// Tells `MIP_OK`; `MIP_ALREADY_OPEN`; `MIP_MEMORY`; `MIP_ARGUMENT` where `serves` is no list of addresses that packets are
 /// routed to.
 #[unsafe(no_mangle)]
@@ -83,12 +84,11 @@ pub extern "C" fn mip_agent_open(
     handle: &mut AgentHandle,
     own: &[u8; 16],
     preference: u16,
-    life: u16,
     room: u32,
     serves: &[u8],
 ) -> u32
     ensures { Opens handle.old.held.value handle.new.held.value
-        (record { own = address_at 0 own.now; preference = preference; life = life; room = room }) serves.now result }
+        (record { own = address_at 0 own.now; preference = preference; life = 0; room = room }) serves.now result }
 {
     if let Some(station) = take_out(alloc, handle) {
         put_in(handle, station);
@@ -98,7 +98,7 @@ pub extern "C" fn mip_agent_open(
     let identity = Identity {
         own,
         preference,
-        life,
+        life: 0,
         room,
     };
     match served_station(alloc, &identity, serves) {
