@@ -1,6 +1,6 @@
 //! The calls of a correspondent: a packet that it is handed, a refresh and data that it is asked for (RFC 6275 sections 9.2 to 9.5).
 
-ghost use Rattle.std.specs.Prelude.{◌≡◌, ◌≤◌, ◌<◌, ◌^◌, Option, Some, None, IfOk, IfSome, IsTrue, IsFalse, length};
+ghost use Rattle.std.specs.Prelude.{◌≡◌, ◌≤◌, ◌<◌, ◌^◌, ℕ, Option, Some, None, IfOk, IfSome, IsTrue, IsFalse, length};
 ghost use Rattle.mip_words.specs.declared.shield.Shield.{Shield};
 ghost use Rattle.mip_words.specs.Addresses.{is_routable};
 ghost use Rattle.mip_ipv6.specs.Packet.{is_plain, names_no_body};
@@ -9,8 +9,9 @@ ghost use Rattle.mip_rules_correspondent.specs.declared.known.Known.{Known};
 ghost use Rattle.mip_rules_correspondent.specs.Calls as asked_for;
 ghost use Rattle.mip_rules_correspondent.specs.Steps.{answers_of};
 ghost use Rattle.mip_rules_correspondent.specs.Questions.{held_of};
-ghost use Rattle.mip_rules_correspondent.specs.Doing.{data_head, transition_of};
+ghost use Rattle.mip_rules_correspondent.specs.Doing.{request_refresh, data_head, transition_of};
 ghost use Rattle.mip_afresh_rules.specs.Keeping.{IsKeptFor};
+ghost use Rattle.mip_afresh_rules.specs.Showing.{Goes};
 
 use crate::answering::{idle, send_packet};
 use crate::kept::Kept;
@@ -39,7 +40,7 @@ pub fn take(
     let mut answers = Answers::new(alloc)?;
     let who = Who {
         me,
-        now,
+        moment: now,
         number,
         kept,
     };
@@ -47,26 +48,40 @@ pub fn take(
     Ok(answers)
 }
 
-/// A Binding Refresh Request to the care-of address that is held for a home; `idle` where none is held.
+/// The request goes to the care-of address that is held for a home; nothing where none is held.
+fn ask_refresh(
+    alloc: Global,
+    answers: &mut Answers,
+    me: &Identity,
+    home: Address,
+    held: Option<Address>,
+) -> Result<(), Memory>
+    requires { IfSome held (λ _. IsTrue (is_routable home.0)) }
+    ensures { (now : ℕ) → Goes now result (request_refresh me.now home held) answers.old answers.new }
+{
+    match held {
+        None => idle(answers),
+        Some(careof) => {
+            let request = write_refresh(alloc, me.own, careof, home)?;
+            send_packet(answers, request)
+        }
+    }
+}
+
+/// What a correspondent does about a refresh that it is asked for, where it holds this care-of address for the home: a Binding
+/// Refresh Request goes there; `idle` where none is held.
 pub fn refresh(
     alloc: Global,
     me: &Identity,
-    now: Moment,
     home: Address,
     held: Option<Address>,
 ) -> Result<Answers, Memory>
     requires { IfSome held (λ _. IsTrue (is_routable home.0)) }
-    ensures { (k : Known) → held ≡ held_of k now.0 home
-        → IfOk result (λ a. a ≡ answers_of (transition_of me.now k now.0 (asked_for.Refresh home)).steps) }
+    ensures { (now : ℕ) (k : Known) → held ≡ held_of k now home
+        → IfOk result (λ a. a ≡ answers_of (transition_of me.now k now (asked_for.Refresh home)).steps) }
 {
     let mut answers = Answers::new(alloc)?;
-    match held {
-        None => idle(&mut answers)?,
-        Some(careof) => {
-            let request = write_refresh(alloc, me.own, careof, home)?;
-            send_packet(&mut answers, request)?;
-        }
-    }
+    ask_refresh(alloc, &mut answers, me, home, held)?;
     Ok(answers)
 }
 
@@ -83,11 +98,11 @@ fn data_head(own: Address, to: Address, proto: u8, held: Option<Address>) -> Hea
     }
 }
 
-/// Data is sent, of a protocol that names a body, and 512 bytes of it at most.
+/// What a correspondent does about data that it is asked to send, where it holds this care-of address for the destination. The
+/// protocol names a body, and it is of 512 bytes at most.
 pub fn send(
     alloc: Global,
     me: &Identity,
-    now: Moment,
     to: Address,
     proto: u8,
     payload: &[u8],
@@ -96,8 +111,8 @@ pub fn send(
     requires routable { IfSome held (λ _. IsTrue (is_routable to.0)) }
     requires proto { IsFalse (names_no_body proto) }
     requires short { length payload.now ≤ 512 }
-    ensures { (k : Known) → held ≡ held_of k now.0 to
-        → IfOk result (λ a. a ≡ answers_of (transition_of me.now k now.0 (asked_for.Send to proto payload.now)).steps) }
+    ensures { (now : ℕ) (k : Known) → held ≡ held_of k now to
+        → IfOk result (λ a. a ≡ answers_of (transition_of me.now k now (asked_for.Send to proto payload.now)).steps) }
 {
     let mut answers = Answers::new(alloc)?;
     let head = data_head(me.own, to, proto, held);

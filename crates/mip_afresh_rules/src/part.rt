@@ -48,7 +48,7 @@ fn hand_up_data(
     who: &Who<'_>,
     packet: &PacketRef<'_>,
 ) -> Result<(), Memory>
-    ensures { Goes who.now.now.0 result (hands_up who.now.number (tree packet.now)) answers.old answers.new }
+    ensures { Goes who.now.moment.0 result (hands_up who.now.number (tree packet.now)) answers.old answers.new }
 {
     let head = packet.head;
     let source = head.sender();
@@ -73,11 +73,11 @@ fn answer_update(
     packet: &PacketRef<'_>,
     message: &Message<'_>,
 ) -> Result<(), Memory>
-    requires early { who.now.now.0 < 2 ^ 62 }
+    requires early { who.now.moment.0 < 2 ^ 62 }
     requires plain { IsTrue (is_routable_if_any packet.now.head.home) }
     requires read { IsReadUpdate (Some (said message.now)) packet.now.body.now }
     requires other { IsFalse (is_probe (Some (said message.now))) }
-    ensures { GoesBy who.now.kept who.now.now.0 packet.now.head.source packet.now.head.home result
+    ensures { GoesBy who.now.kept who.now.moment.0 packet.now.head.source packet.now.head.home result
         (by_message who.now.me.now who.now.number (tree packet.now) (Some (said message.now))) answers.old answers.new }
 {
     match asked_by(packet.head.source, packet.head.home, message) {
@@ -94,10 +94,10 @@ pub fn answer_message(
     packet: &PacketRef<'_>,
     message: &Option<Message<'_>>,
 ) -> Result<(), Memory>
-    requires early { who.now.now.0 < 2 ^ 62 }
+    requires early { who.now.moment.0 < 2 ^ 62 }
     requires plain { IsTrue (is_routable_if_any packet.now.head.home) }
     requires read { IsReadUpdate (option_map said message.now) packet.now.body.now }
-    ensures { GoesBy who.now.kept who.now.now.0 packet.now.head.source packet.now.head.home result
+    ensures { GoesBy who.now.kept who.now.moment.0 packet.now.head.source packet.now.head.home result
         (by_message who.now.me.now who.now.number (tree packet.now) (option_map said message.now)) answers.old answers.new }
 {
     let source = packet.head.source;

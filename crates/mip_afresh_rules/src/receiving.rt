@@ -44,7 +44,7 @@ fn refuse(
     source: Address,
     refusal: Refusal,
 ) -> Result<(), Memory>
-    ensures { Goes who.now.now.0 result (refuses who.now.me.now who.now.number bytes.now source refusal) answers.old answers.new }
+    ensures { Goes who.now.moment.0 result (refuses who.now.me.now who.now.number bytes.now source refusal) answers.old answers.new }
 {
     drop_packet(answers, who.number, refusal.why)?;
     match write_reply(alloc, who.me.own, source, bytes, refusal.reply)? {
@@ -75,10 +75,10 @@ fn answer_role(
     packet: &PacketRef<'_>,
     message: &Option<Message<'_>>,
 ) -> Result<(), Memory>
-    requires early { who.now.now.0 < 2 ^ 62 }
+    requires early { who.now.moment.0 < 2 ^ 62 }
     requires plain { IsTrue (is_routable_if_any packet.now.head.home) }
     requires read { IsReadUpdate (option_map said message.now) packet.now.body.now }
-    ensures { GoesBy who.now.kept who.now.now.0 packet.now.head.source packet.now.head.home result
+    ensures { GoesBy who.now.kept who.now.moment.0 packet.now.head.source packet.now.head.home result
         (by_role who.now.me.now who.now.number (tree packet.now) (option_map said message.now)) answers.old answers.new }
 {
     if !is_for_part(packet.head.proto, message) {
@@ -95,12 +95,12 @@ fn take_packet(
     bytes: &[u8],
     packet: &PacketRef<'_>,
 ) -> Result<(), Memory>
-    requires early { who.now.now.0 < 2 ^ 62 }
+    requires early { who.now.moment.0 < 2 ^ 62 }
     requires plain { IsTrue (is_routable_if_any packet.now.head.home) }
     requires placed { packet.now.place ≡ place_in bytes.now (tree packet.now) }
     requires near { packet.now.place < 2 ^ 32 - 1 }
     requires read { packet_of bytes.now ≡ Ok (tree packet.now) }
-    ensures { GoesBy who.now.kept who.now.now.0 packet.now.head.source packet.now.head.home result
+    ensures { GoesBy who.now.kept who.now.moment.0 packet.now.head.source packet.now.head.home result
         (receives who.now.me.now who.now.number bytes.now (packet_of bytes.now)) answers.old answers.new }
 {
     match check(packet, standing(who, &packet.head)) {
@@ -116,8 +116,8 @@ pub fn receive(
     who: &Who<'_>,
     bytes: &[u8],
 ) -> Result<(), Memory>
-    requires early { who.now.now.0 < 2 ^ 62 }
-    ensures { GoesByHead who.now.kept who.now.now.0 (packet_of bytes.now) result
+    requires early { who.now.moment.0 < 2 ^ 62 }
+    ensures { GoesByHead who.now.kept who.now.moment.0 (packet_of bytes.now) result
         (receives who.now.me.now who.now.number bytes.now (packet_of bytes.now)) answers.old answers.new }
 {
     match read_packet(bytes) {

@@ -66,7 +66,7 @@ fn by_room(
     careof: Option<u64>,
     kbm: Kbm,
 ) -> Verdict
-    requires { who.now.now.0 < 2 ^ 62 }
+    requires { who.now.moment.0 < 2 ^ 62 }
     ensures { result ≡ by_room (bench_at who.now) asked.now home careof kbm }
 {
     if who.kept.is_full {
@@ -75,7 +75,7 @@ fn by_room(
     Verdict::Accept {
         home: home_of(asked),
         number: number_of(who.kept.numbers, asked),
-        accepted: accepted_of(who.now, asked, home, careof),
+        accepted: accepted_of(who.moment, asked, home, careof),
         granted: granted_of(asked),
         kbm,
     }
@@ -89,7 +89,7 @@ fn by_sequence(
     careof: Option<u64>,
     kbm: Kbm,
 ) -> Verdict
-    requires { who.now.now.0 < 2 ^ 62 }
+    requires { who.now.moment.0 < 2 ^ 62 }
     ensures { result ≡ by_sequence (bench_at who.now) asked.now home careof kbm who.now.kept.floor }
 {
     match who.kept.floor {
@@ -109,7 +109,7 @@ fn by_key(
     careof: Option<u64>,
     kbm: Kbm,
 ) -> Verdict
-    requires early { who.now.now.0 < 2 ^ 62 }
+    requires early { who.now.moment.0 < 2 ^ 62 }
     requires long { 18 ≤ length message.now }
     ensures { result ≡ by_key (bench_at who.now) asked.now message.now home careof kbm }
 {
@@ -142,7 +142,7 @@ fn by_numbers(
     home: Option<u64>,
     careof: Option<Option<u64>>,
 ) -> Verdict
-    requires early { who.now.now.0 < 2 ^ 62 }
+    requires early { who.now.moment.0 < 2 ^ 62 }
     requires long { 18 ≤ length message.now }
     ensures { result ≡ by_numbers (bench_at who.now) asked.now message.now home careof }
 {
@@ -164,7 +164,7 @@ fn careof_number(who: &Who<'_>, asked: &Registration, indices: Indices) -> Optio
     if deletes(asked) {
         return Some(None);
     }
-    match by_index(who.now, indices.careof) {
+    match by_index(who.moment, indices.careof) {
         Some(number) => Some(Some(number)),
         None => None,
     }
@@ -172,13 +172,13 @@ fn careof_number(who: &Who<'_>, asked: &Registration, indices: Indices) -> Optio
 
 /// Silence where the Nonce Indices are missing.
 pub fn by_indices(who: &Who<'_>, asked: &Registration, message: &[u8]) -> Verdict
-    requires early { who.now.now.0 < 2 ^ 62 }
+    requires early { who.now.moment.0 < 2 ^ 62 }
     requires long { 18 ≤ length message.now }
     ensures { result ≡ by_indices (bench_at who.now) asked.now message.now asked.now.nonces }
 {
     match asked.nonces {
         Some(indices) => {
-            let home = by_index(who.now, indices.home);
+            let home = by_index(who.moment, indices.home);
             let careof = careof_number(who, asked, indices);
             by_numbers(who, asked, message, home, careof)
         }

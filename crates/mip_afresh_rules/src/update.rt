@@ -52,7 +52,7 @@ fn deny(
     kbm: Option<Kbm>,
 ) -> Result<(), Memory>
     requires { IsTrue (is_routable_if_any asked.now.home_option) }
-    ensures { Goes who.now.now.0 result (denies who.now.me.now who.now.number asked.now status last kbm) answers.old answers.new }
+    ensures { Goes who.now.moment.0 result (denies who.now.me.now who.now.number asked.now status last kbm) answers.old answers.new }
 {
     note_denial(answers, who.number, status)?;
     let packet = acknowledgement(alloc, who.me.own, asked, status, last, 0, kbm)?;
@@ -69,7 +69,7 @@ fn acknowledge(
     kbm: Kbm,
 ) -> Result<(), Memory>
     requires { IsTrue (is_routable_if_any asked.now.home_option) }
-    ensures { Goes who.now.now.0 result (acknowledges who.now.me.now asked.now granted kbm) answers.old answers.new }
+    ensures { Goes who.now.moment.0 result (acknowledges who.now.me.now asked.now granted kbm) answers.old answers.new }
 {
     if !asked.ack {
         return Ok(());
@@ -93,7 +93,7 @@ fn accept(
     kbm: Kbm,
 ) -> Result<(), Memory>
     requires { IsTrue (is_routable_if_any asked.now.home_option) }
-    ensures { Goes who.now.now.0 result (accepts who.now.me.now who.now.number asked.now home binding accepted granted kbm) answers.old answers.new }
+    ensures { Goes who.now.moment.0 result (accepts who.now.me.now who.now.number asked.now home binding accepted granted kbm) answers.old answers.new }
 {
     note_acceptance(answers, who.number, home, binding, accepted)?;
     acknowledge(alloc, answers, who, asked, granted, kbm)
@@ -108,7 +108,7 @@ fn carry_out(
     verdict: Verdict,
 ) -> Result<(), Memory>
     requires { IsTrue (is_routable_if_any asked.now.home_option) }
-    ensures { Goes who.now.now.0 result (judged who.now.me.now who.now.number asked.now verdict) answers.old answers.new }
+    ensures { Goes who.now.moment.0 result (judged who.now.me.now who.now.number asked.now verdict) answers.old answers.new }
 {
     match verdict {
         Verdict::Refuse(why) => drop_packet(answers, who.number, why),
@@ -134,10 +134,10 @@ pub fn take_update(
     asked: &Registration,
     message: &[u8],
 ) -> Result<(), Memory>
-    requires early { who.now.now.0 < 2 ^ 62 }
+    requires early { who.now.moment.0 < 2 ^ 62 }
     requires plain { IsTrue (is_routable_if_any asked.now.home_option) }
     requires read { registration_in asked.now.source asked.now.home_option message.now ≡ Some asked.now }
-    ensures { GoesBy who.now.kept who.now.now.0 asked.now.source asked.now.home_option result
+    ensures { GoesBy who.now.kept who.now.moment.0 asked.now.source asked.now.home_option result
         (takes_update who.now.me.now who.now.number asked.now message.now) answers.old answers.new }
 {
     let judged = verdict(who, asked, message);

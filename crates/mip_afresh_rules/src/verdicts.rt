@@ -16,7 +16,7 @@ use mip_words::Why;
 /// is not routable or there is no authenticator.
 #[tactic(auto, unfolding(mip_rules_correspondent::specs::Verdicts::verdict), using(mip_reception::proofs::Updates::authorized_is_long))]
 pub fn verdict(who: &Who<'_>, asked: &Registration, message: &[u8]) -> Verdict
-    requires early { who.now.now.0 < 2 ^ 62 }
+    requires early { who.now.moment.0 < 2 ^ 62 }
     requires read { registration_in asked.now.source asked.now.home_option message.now ≡ Some asked.now }
     ensures { result ≡ verdict (bench_at who.now) asked.now message.now }
 {

@@ -7,7 +7,7 @@ use mip_words::Moment;
 pub struct Who<'a> {
     /// Its address, and the secrets of its present life.
     pub me: &'a Identity,
-    pub now: Moment,
+    pub moment: Moment,
     pub number: u64,
     pub kept: Kept,
 }
