@@ -1,5 +1,6 @@
 -- Where all nodes are correspondents, no mobile is at home, so an address that is given up passes to nobody.
 use Rattle.std.proofs.Common.{◌≡◌, ℕ, zero, suc, List, Bool, false, refl, ap, ◌∙◌}
+use Rattle.std.proofs.lemmas.Option.{slice_get-map}
 use Rattle.std.specs.Prelude.{Option, Some, None, option_map, map, slice_get, if◌then◌else◌, length}
 use Rattle.mip_words.specs.Last.{or_else}
 use Rattle.mip_history.specs.Setup.{Setup, Host}

@@ -51,7 +51,7 @@ fn is_restart(entry: &Entry, node: NodeId) -> bool
 }
 
 /// How often a node was restarted.
-pub fn life(past: &[Entry], node: NodeId) -> u64
+fn life(past: &[Entry], node: NodeId) -> usize
     ensures { result ≡ life_in past.now node.0 }
 {
     let mut life = 0;
@@ -107,6 +107,6 @@ impl Telling {
     pub fn life(&self, node: NodeId) -> u64
         ensures { result ≡ life_in self.now.run.past node.0 }
     {
-        life(self.past.as_slice(), node)
+        life(self.past.as_slice(), node) as u64
     }
 }
