@@ -1,8 +1,8 @@
 //! What becomes of a packet that is delivered.
 
-ghost use Rattle.std.specs.Prelude.{◌≡◌, ◌≤◌, Some, length};
+ghost use Rattle.std.specs.Prelude.{◌≡◌, ◌≤◌, ◌==◌, ◌&&◌, not, nat_lt, Some, length};
 ghost use Rattle.mip_ipv6.specs.Tunnel.{hop_of};
-ghost use Rattle.mip_links.specs.Table.{destination_in, held_by, delivery, in_pool};
+ghost use Rattle.mip_links.specs.Table.{destination_in, held_by, at_holder, at_link, delivery};
 ghost use Rattle.mip_history.specs.Questions.{asked_in};
 ghost use Rattle.mip_afresh.specs.Tellings.{post_seen};
 ghost use Rattle.mip_afresh.specs.Fates.{fate_seen};
@@ -11,7 +11,7 @@ use crate::fate::Fate;
 use crate::links::link_of;
 use crate::posted::Posted;
 use crate::telling::Telling;
-use mip_words::{Address, NodeId, Shield, Why};
+use mip_words::{Address, LinkId, NodeId, Shield, Why};
 
 /// The number of the first outsider among the holders.
 const FIRST_OUTSIDER: u8 = 32;
@@ -46,23 +46,46 @@ fn held_by(shield: Option<Shield>, by: u8, declared: Option<Address>) -> Fate
     }
 }
 
+/// It comes to another link, and its hop limit is used up.
+fn is_spent(post: &Posted, link: LinkId) -> bool
+    requires { 40 ≤ length post.now.packet }
+    ensures { result ≡ (not (link.0 == post.now.from.0) && nat_lt (hop_of post.now.packet) 2) }
+{
+    link.0 != post.from.0 && hop_of(post.packet.as_slice()) < 2
+}
+
 impl Telling {
+    /// The fate of a packet by the holder of its destination.
+    fn at_holder(&self, shield: Option<Shield>, holder: Option<u8>) -> Fate
+        ensures { fate_seen result ≡ at_holder (asked_in self.now.setup self.now.run.past) shield holder }
+    {
+        match holder {
+            Some(by) => held_by(shield, by, self.declared(by)),
+            None => Fate::Gone(Why::NoHolder),
+        }
+    }
+
+    /// The fate of a packet that comes to a link.
+    fn at_link(&self, post: &Posted, link: LinkId) -> Fate
+        requires { 40 ≤ length post.now.packet }
+        ensures { fate_seen result ≡ at_link (asked_in self.now.setup self.now.run.past) (post_seen post.now) (Some link.0) }
+    {
+        if is_spent(post, link) {
+            return Fate::Gone(Why::Hop);
+        }
+        let destination = destination_in(post.packet.as_slice());
+        self.at_holder(post.shield, self.holder(destination))
+    }
+
     /// The fate of a packet of the pool: no link, the hop limit, its holder.
-    fn fate_of(&self, post: &Posted) -> Fate
+    pub(crate) fn fate_of(&self, post: &Posted) -> Fate
         requires { 40 ≤ length post.now.packet }
         ensures { fate_seen result ≡ delivery (asked_in self.now.setup self.now.run.past) (Some (post_seen post.now)) }
     {
-        let packet = post.packet.as_slice();
-        let destination = destination_in(packet);
-        let Some(link) = link_of(&self.setting.links, destination) else {
-            return Fate::Gone(Why::NoLink);
-        };
-        if link.0 != post.from.0 && hop_of(packet) < 2 {
-            return Fate::Gone(Why::Hop);
-        }
-        match self.holder(destination) {
-            Some(by) => held_by(post.shield, by, self.declared(by)),
-            None => Fate::Gone(Why::NoHolder),
+        let destination = destination_in(post.packet.as_slice());
+        match link_of(&self.setting.links, destination) {
+            Some(link) => self.at_link(post, link),
+            None => Fate::Gone(Why::NoLink),
         }
     }
 }

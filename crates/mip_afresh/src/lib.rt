@@ -3,11 +3,13 @@
 #![tactic(auto)]
 
 mod acted;
+mod arriving;
 
 mod claiming;
 mod fate;
 mod fates;
 mod host;
+mod landing;
 mod links;
 mod outsiders;
 mod posted;
@@ -19,6 +21,7 @@ mod telling;
 
 pub use acted::{Acted, Asked};
 
+pub use arriving::Arrival;
 pub use host::Host;
 pub use setting::Setting;
 pub use telling::Telling;
