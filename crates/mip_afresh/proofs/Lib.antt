@@ -1,2 +1,3 @@
 mod TellingLaws
 mod Residents
+mod Landings

@@ -183,7 +183,10 @@ impl Telling {
                 self.go_nowhere(alloc, number, why, &landing)?;
                 Ok(Arrival::Done)
             }
-            Fate::Idle => unreachable!(),
+            Fate::Idle => {
+                self.note(Entry::Idle)?;
+                Ok(Arrival::Done)
+            }
         }
     }
 
