@@ -1,3 +1,5 @@
 mod TellingLaws
 mod Residents
 mod Landings
+mod Openings
+mod Waits

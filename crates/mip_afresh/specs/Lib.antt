@@ -1,3 +1,4 @@
 pub mod Tellings
 pub mod Fates
 pub mod Arrivals
+pub mod Openings

@@ -4,6 +4,7 @@ ghost use Rattle.std.specs.Prelude.{◌≡◌, ◌+◌, ◌≤◌, false, OnOk, 
 ghost use Rattle.mip_entries.specs.declared.entry.Entry.TheVariants.{Handed, Lost, Idle as Stays};
 ghost use Rattle.mip_links.specs.Table as table;
 ghost use Rattle.mip_links.specs.Table.{Post, in_pool};
+ghost use Rattle.mip_links.specs.Nets.{lowest_of};
 ghost use Rattle.mip_history.specs.Runs.{note, without};
 ghost use Rattle.mip_history.specs.Delivery.{is_no_holder, handed_over, overheard_at, hears_there, held_by_outsider, became};
 ghost use Rattle.mip_history.specs.Permitted.{lost};
@@ -253,4 +254,24 @@ impl Telling {
             None => false,
         }
     }
+
+    /// The lowest packet of the pool.
+    pub fn lowest(&self) -> Option<u64>
+        ensures { result ≡ lowest_of self.now.run.flying }
+    {
+        let place = first_flag(&self.flying)?;
+        Some(place as u64)
+    }
+}
+
+/// The place of the first flag that stands.
+fn first_flag(flags: &[bool]) -> Option<usize>
+    ensures { result ≡ lowest_of flags.now }
+{
+    for place in 0..flags.len() {
+        if flags[place] {
+            return Some(place);
+        }
+    }
+    None
 }

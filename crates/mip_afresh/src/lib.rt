@@ -4,13 +4,13 @@
 
 mod acted;
 mod arriving;
-
 mod claiming;
 mod fate;
 mod fates;
 mod host;
 mod landing;
 mod links;
+mod opening;
 mod outsiders;
 mod posted;
 mod posting;
@@ -18,6 +18,8 @@ mod posts;
 mod questions;
 mod setting;
 mod telling;
+mod waiting;
+
 
 pub use acted::{Acted, Asked};
 

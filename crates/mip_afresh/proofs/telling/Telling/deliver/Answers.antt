@@ -15,8 +15,8 @@ returns-in-Some c =
     let found = there old.setup old.run.past (in_pool old.run.flying old.run.posts k) c.in-Some.landing
     (subst (λ (o : Option Landing). IsLandingIn old.setup old.run.past (in_pool old.run.flying old.run.posts k) o) c.in-Some.is c.in_ok-landing.ensures) in
     IfOk-weaker c.land.result _ _
-    (λ a lands. arrives_some old mid c.land.new.self k c.args.keep c.leave_unless.ensures found.0 a found.1.0 lands)
-    (c.land.ensures found.0 (landing_kept old mid c.land.new.self k c.args.keep c.leave_unless.ensures found.0 c.in-Some.landing found.1.1))
+    (λ a lands. arrives_some old mid c.land.new.self k c.args.keep c.leave_unless.ensures found.0 a found.1 lands)
+    (c.land.ensures found.0 (landing_kept old mid c.land.new.self k c.args.keep c.leave_unless.ensures found.0 c.in-Some.landing found.2))
 
 pub returns-in-None : goal.returns-in-None
 returns-in-None c =
