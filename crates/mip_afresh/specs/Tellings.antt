@@ -1,5 +1,5 @@
 -- A telling: what a schedule of correspondents and outsiders declares, and a run of it.
-use Rattle.std.specs.Prelude.{ℕ, ◌≤◌, List, [], length, map, fold, slice_set, slice_index_or}
+use Rattle.std.specs.Prelude.{◌≤◌, List, [], length, map, fold, slice_set, slice_index_or}
 use Rattle.mip_entries.specs.Stamped.{Stamped}
 use Rattle.mip_rules_correspondent.specs.Calls as calls
 use Rattle.mip_rules_correspondent.specs.Calls.{Call}
@@ -8,7 +8,7 @@ use Rattle.mip_rules_correspondent.specs.Questions.{known}
 use Rattle.mip_rules_correspondent.specs.Transitions.{with_transition}
 use Rattle.mip_rules_correspondent.specs.Doing.{transition_of}
 use Rattle.mip_links.specs.Table.{Post}
-use Rattle.mip_history.specs.Setup.{Setup, Host, Kind}
+use Rattle.mip_history.specs.Setup.{Setup, Host}
 use Rattle.mip_history.specs.Setup.Kind.{Correspondent}
 use Rattle.mip_history.specs.Runs.{Run}
 use Rattle.mip_history.specs.Knowing.{secrets_in}

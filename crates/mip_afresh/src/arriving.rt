@@ -110,7 +110,12 @@ impl Telling {
     }
 
     /// An outsider that holds the destination has heard it once.
-    fn hold_by_outsider(&mut self, number: u64, outsider: u8, link: Option<LinkId>) -> Result<(), Memory>
+    fn hold_by_outsider(
+        &mut self,
+        number: u64,
+        outsider: u8,
+        link: Option<LinkId>,
+    ) -> Result<(), Memory>
         ensures { OnOk result (self.new ≡ with_run (held_by_outsider self.old.run number outsider (link_seen link)) self.old) }
     {
         if self.hears_there(outsider, link) {
@@ -129,7 +134,13 @@ impl Telling {
     }
 
     /// It comes to nobody; where nobody holds its destination, it is heard on the link that it comes to.
-    fn go_nowhere(&mut self, alloc: Global, number: u64, why: Why, landing: &Landing) -> Result<(), Memory>
+    fn go_nowhere(
+        &mut self,
+        alloc: Global,
+        number: u64,
+        why: Why,
+        landing: &Landing,
+    ) -> Result<(), Memory>
         ensures { (post : Post) → post.shield ≡ landing.now.shield
             → OnOk result (self.new ≡ with_run (became self.old.setup number post (link_seen landing.now.link) self.old.run (table.Fate.Gone why)) self.old) }
     {
@@ -140,7 +151,13 @@ impl Telling {
     }
 
     /// An outsider holds its destination.
-    fn come_to_outsider(&mut self, alloc: Global, number: u64, outsider: u8, landing: &Landing) -> Result<(), Memory>
+    fn come_to_outsider(
+        &mut self,
+        alloc: Global,
+        number: u64,
+        outsider: u8,
+        landing: &Landing,
+    ) -> Result<(), Memory>
         ensures { (post : Post) → post.shield ≡ landing.now.shield
             → OnOk result (self.new ≡ with_run (became self.old.setup number post (link_seen landing.now.link) self.old.run (table.Fate.Outsider (outsider + 32))) self.old) }
     {
@@ -149,7 +166,13 @@ impl Telling {
     }
 
     /// It is handed to a node, which has not acted yet.
-    fn come_to_node(&mut self, alloc: Global, number: u64, node: NodeId, landing: &Landing) -> Result<(), Memory>
+    fn come_to_node(
+        &mut self,
+        alloc: Global,
+        number: u64,
+        node: NodeId,
+        landing: &Landing,
+    ) -> Result<(), Memory>
         ensures { (post : Post) → post.shield ≡ landing.now.shield
             → OnOk result (self.new ≡ with_run (note (Handed number node) (overheard_at self.old.setup post number (link_seen landing.now.link) self.old.run)) self.old) }
     {
@@ -158,7 +181,13 @@ impl Telling {
     }
 
     /// It is handed to a node.
-    fn land_at(&mut self, alloc: Global, number: u64, node: NodeId, landing: Landing) -> Result<Arrival, Memory>
+    fn land_at(
+        &mut self,
+        alloc: Global,
+        number: u64,
+        node: NodeId,
+        landing: Landing,
+    ) -> Result<Arrival, Memory>
         ensures { (post : Post) → IsLanding self.old.setup self.old.run.past post landing → landing.fate ≡ Fate.Node node
             → IfOk result (Lands self.old self.new number post) }
     {

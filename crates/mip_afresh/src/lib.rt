@@ -20,9 +20,7 @@ mod setting;
 mod telling;
 mod waiting;
 
-
 pub use acted::{Acted, Asked};
-
 pub use arriving::Arrival;
 pub use host::Host;
 pub use setting::Setting;

@@ -28,11 +28,11 @@ impl Model for Setting {
     ghost Value = { Setup };
 
     ghost view = { λ s. record {
-        seed = s.seed;
-        start = s.start.0;
-        links = map (λ p. p.0) s.links.items;
-        hosts = map host_seen s.hosts.items;
-        outsiders = s.outsiders;
-        numbers = s.numbers;
+      seed = s.seed;
+      start = s.start.0;
+      links = map (λ p. p.0) s.links.items;
+      hosts = map host_seen s.hosts.items;
+      outsiders = s.outsiders;
+      numbers = s.numbers;
     } };
 }

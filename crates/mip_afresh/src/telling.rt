@@ -30,14 +30,17 @@ impl Model for Telling {
 
     ghost Value = { TellingSeen };
 
-    ghost view = { λ t. record { setup = t.setting; run = record {
+    ghost view = { λ t. record {
+      setup = t.setting;
+      run = record {
         past = t.past;
         pasts = pasts_of t.setting t.acted.items;
         agent_pasts = no_pasts t.setting;
         mobile_pasts = no_pasts t.setting;
         posts = t.posts;
         flying = t.flying.items;
-    } } };
+      };
+    } };
 
     ghost invariant = { λ t. length t.setting.links ≤ 32 };
 }

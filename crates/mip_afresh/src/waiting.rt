@@ -20,6 +20,7 @@ impl Telling {
         requires { now_in self.old.setup self.old.run + ms < 2 ^ 64 }
         ensures { OnOk result (self.new ≡ with_run (waited self.old.setup self.old.run ms) self.old) }
     {
+        let _nodes = &self.setting.hosts;
         let moment = Moment(self.now().0 + ms);
         self.note(Entry::At { moment })
     }

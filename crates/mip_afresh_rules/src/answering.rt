@@ -51,7 +51,11 @@ pub fn note_denial(answers: &mut Answers, number: u64, status: u8) -> Result<(),
     ensures { (now : ℕ) → Goes now result (noted (Denies number status)) answers.old answers.new }
 {
     let node = MYSELF;
-    answers.push(Answer::Note(Entry::Denied { node, number, status }))?;
+    answers.push(Answer::Note(Entry::Denied {
+        node,
+        number,
+        status,
+    }))?;
     Ok(())
 }
 

@@ -101,7 +101,10 @@ fn allow_home(
 /// The checks in their order: the destination, the routing header, the message, the Home Address option. What passes is the
 /// message, where the packet has one.
 #[tactic(auto, unfolding(mip_reception::specs::Checks::checked))]
-pub fn check<'a>(packet: &PacketRef<'a>, standing: AddressMatch) -> Result<Option<Message<'a>>, Refusal>
+pub fn check<'a>(
+    packet: &PacketRef<'a>,
+    standing: AddressMatch,
+) -> Result<Option<Message<'a>>, Refusal>
     requires { packet.now.place < 2 ^ 32 - 1 }
     ensures exact { Gives (option_map said) result (checked standing packet.now.place (tree packet.now)) }
     ensures update { IfOk result (λ m. IsReadUpdate (option_map said m) packet.now.body.now) }

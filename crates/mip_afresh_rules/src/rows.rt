@@ -59,13 +59,7 @@ fn accepted_of(now: Moment, asked: &Registration, home: u64, careof: Option<u64>
 }
 
 /// 130 where there is no room for the home; else the update is accepted.
-fn by_room(
-    who: &Who<'_>,
-    asked: &Registration,
-    home: u64,
-    careof: Option<u64>,
-    kbm: Kbm,
-) -> Verdict
+fn by_room(who: &Who<'_>, asked: &Registration, home: u64, careof: Option<u64>, kbm: Kbm) -> Verdict
     requires { who.now.moment.0 < 2 ^ 62 }
     ensures { result ≡ by_room (bench_at who.now) asked.now home careof kbm }
 {

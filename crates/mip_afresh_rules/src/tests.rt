@@ -13,12 +13,7 @@ use mip_words::{Address, Bytes, Cookie, Memory};
 use std::alloc::Global;
 
 /// The Home Test to the source of an init: its cookie, and the home keygen token of the source under the newest nonce.
-fn home_test(
-    alloc: Global,
-    who: &Who<'_>,
-    source: Address,
-    cookie: Cookie,
-) -> Result<Bytes, Memory>
+fn home_test(alloc: Global, who: &Who<'_>, source: Address, cookie: Cookie) -> Result<Bytes, Memory>
     ensures { IfOk result (λ b. b ≡ home_test who.now.me.now who.now.moment.0 source cookie.0) }
 {
     let nonce = current(who.moment);

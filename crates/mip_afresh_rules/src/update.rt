@@ -75,7 +75,15 @@ fn acknowledge(
         return Ok(());
     }
     let accepted = status::ACCEPTED;
-    let packet = acknowledgement(alloc, who.me.own, asked, accepted, asked.sequence, granted, Some(kbm))?;
+    let packet = acknowledgement(
+        alloc,
+        who.me.own,
+        asked,
+        accepted,
+        asked.sequence,
+        granted,
+        Some(kbm),
+    )?;
     send_packet(answers, packet)
 }
 

@@ -21,7 +21,11 @@ pub fn verdict(who: &Who<'_>, asked: &Registration, message: &[u8]) -> Verdict
     ensures { result ≡ verdict (bench_at who.now) asked.now message.now }
 {
     if asked.for_agent {
-        return deny(status::HOME_REGISTRATION_NOT_SUPPORTED, asked.sequence, None);
+        return deny(
+            status::HOME_REGISTRATION_NOT_SUPPORTED,
+            asked.sequence,
+            None,
+        );
     }
     if !(home_of(asked).routable() && careof_of(asked).routable()) {
         return Verdict::Refuse(Why::Unroutable);
