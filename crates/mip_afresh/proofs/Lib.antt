@@ -3,3 +3,4 @@ mod Residents
 mod Landings
 mod Openings
 mod Waits
+mod Leavings

@@ -21,3 +21,9 @@ pub told_more : (xs : List Entry) (x : Entry) (t : TellingSeen) → with_run (no
 told_more xs x t =
     ap (λ (past : List Entry). with_run (record { past = past; pasts = t.run.pasts; agent_pasts = t.run.agent_pasts; mobile_pasts = t.run.mobile_pasts; posts = t.run.posts; flying = t.run.flying }) t)
     (append_assoc t.run.past xs (x ∷ []))
+
+-- two entries, one after the other
+pub told_two : (x y : Entry) (t : TellingSeen) → with_run (note y (note x t.run)) t ≡ with_run (notes (x ∷ y ∷ []) t.run) t
+told_two x y t =
+    ap (λ (past : List Entry). with_run (record { past = past; pasts = t.run.pasts; agent_pasts = t.run.agent_pasts; mobile_pasts = t.run.mobile_pasts; posts = t.run.posts; flying = t.run.flying }) t)
+    (append_assoc t.run.past (x ∷ []) (y ∷ []))

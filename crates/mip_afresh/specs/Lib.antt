@@ -2,3 +2,4 @@ pub mod Tellings
 pub mod Fates
 pub mod Arrivals
 pub mod Openings
+pub mod Leavings

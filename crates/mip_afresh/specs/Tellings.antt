@@ -1,5 +1,7 @@
 -- A telling: what a schedule of correspondents and outsiders declares, and a run of it.
 use Rattle.std.specs.Prelude.{◌≤◌, List, [], length, map, fold, slice_set, slice_index_or}
+use Rattle.mip_entries.specs.declared.answer.Answer.{Answer}
+use Rattle.mip_entries.specs.declared.answer.Answer.TheVariants as answers
 use Rattle.mip_entries.specs.Stamped.{Stamped}
 use Rattle.mip_rules_correspondent.specs.Calls as calls
 use Rattle.mip_rules_correspondent.specs.Calls.{Call}
@@ -58,3 +60,8 @@ pasts_of s acted = fold (acted_one s) (no_pasts s) acted
 -- it has its fixed header at least
 abbrev pub IsLong : Posted → Type 0
 IsLong p = 40 ≤ length p.packet
+
+-- a packet that an answer sends has its fixed header
+abbrev pub IsSent : Answer → Type 0
+IsSent (answers.Send shield packet) = 40 ≤ length packet
+IsSent (answers.Note entry) = Unit {0}

@@ -3,6 +3,7 @@
 #![tactic(auto)]
 
 mod acted;
+mod answering;
 mod arriving;
 mod claiming;
 mod fate;
