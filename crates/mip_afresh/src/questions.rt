@@ -1,12 +1,12 @@
 //! Questions that are asked of the entries so far.
 
-ghost use Rattle.std.specs.Prelude.{◌≡◌, ◌<◌, ◌≤◌, ◌+◌, ◌^◌, ℕ, suc, if◌then◌else◌, length, drop, fold};
-ghost use Rattle.mip_history.specs.Questions.{holder_in, declared_in, listen_says, hears_in, restarts, life_in};
+ghost use Rattle.std.specs.Prelude.{◌≡◌, ◌<◌, ◌≤◌, ◌+◌, ◌^◌, ℕ, suc, if◌then◌else◌, option_map, length, drop, fold};
+ghost use Rattle.mip_words.specs.Last.{or_else};
+ghost use Rattle.mip_history.specs.Questions.{moment_says, moment_in, holder_says, holder_in, claims, declared_in, listen_says, hears_in, restarts, life_in};
 ghost use Rattle.mip_history.specs.Knowing.{now_in};
 
 use crate::telling::Telling;
 use mip_entries::Entry;
-use mip_past::Past;
 use mip_words::{Address, LinkId, Moment, NodeId};
 
 /// An outsider listens on a link from an entry on, or does so no more; none where the entry says nothing of it.
@@ -63,37 +63,117 @@ fn life(past: &[Entry], node: NodeId) -> usize
     life
 }
 
-impl Telling {
-    /// What lies behind.
-    fn behind(&self) -> Past<'_>
-        ensures entries { result.entries.now ≡ self.now.run.past }
-        ensures start { result.start.0 ≡ self.now.setup.start }
-    {
-        Past {
-            entries: self.past.as_slice(),
-            start: self.setting.start,
+/// The moment from an entry on.
+fn moment_said(entry: &Entry) -> Option<Moment>
+    ensures { option_map (λ m. m.0) result ≡ moment_says entry.now }
+{
+    match entry {
+        Entry::At { moment } => Some(*moment),
+        _ => None,
+    }
+}
+
+/// The moment behind entries that began at a moment.
+fn moment(past: &[Entry], start: Moment) -> Moment
+    ensures { result.0 ≡ moment_in start.0 past.now }
+{
+    let mut moment = start;
+    for entry in past {
+        match moment_said(entry) {
+            Some(said) => moment = said,
+            None => (),
         }
     }
+    moment
+}
 
+/// Who holds an address from an entry on, or that nobody does; none where the entry says nothing of it.
+fn holder_said(entry: &Entry, address: Address) -> Option<Option<u8>>
+    ensures { result ≡ holder_says address.0 entry.now }
+{
+    match entry {
+        Entry::Claimed {
+            who,
+            address: claimed,
+            ..
+        } if claimed.0 == address.0 => Some(Some(*who)),
+        Entry::Released {
+            address: released,
+            ..
+        } if released.0 == address.0 => Some(None),
+        _ => None,
+    }
+}
+
+/// Who holds an address: who made the last claim of it that was not released.
+fn holder(past: &[Entry], address: Address) -> Option<u8>
+    ensures { result ≡ holder_in past.now address.0 }
+{
+    let mut holder = None;
+    for entry in past {
+        match holder_said(entry, address) {
+            Some(said) => holder = said,
+            None => (),
+        }
+    }
+    holder
+}
+
+/// The address that an entry claims for somebody.
+fn claimed_for(entry: &Entry, who: u8) -> Option<Address>
+    ensures { result ≡ claims who entry.now }
+{
+    match entry {
+        Entry::Claimed {
+            who: by,
+            address,
+            ..
+        } if *by == who => Some(*address),
+        _ => None,
+    }
+}
+
+/// The first of two addresses that is there.
+fn either(first: Option<Address>, second: Option<Address>) -> Option<Address>
+    ensures { result ≡ or_else first second }
+{
+    match first {
+        Some(address) => Some(address),
+        None => second,
+    }
+}
+
+/// The address that somebody claimed first.
+fn declared(past: &[Entry], who: u8) -> Option<Address>
+    ensures { result ≡ declared_in past.now who }
+{
+    let mut first = None;
+    for entry in past {
+        first = either(first, claimed_for(entry, who));
+    }
+    first
+}
+
+impl Telling {
     /// The moment.
     pub fn now(&self) -> Moment
         ensures { result.0 ≡ now_in self.now.setup self.now.run }
     {
-        self.behind().moment()
+        moment(self.past.as_slice(), self.setting.start)
     }
 
     /// Who holds an address: a node's number, or 32 plus an outsider's.
     pub fn holder(&self, address: Address) -> Option<u8>
         ensures { result ≡ holder_in self.now.run.past address.0 }
     {
-        self.behind().holder(address)
+        holder(self.past.as_slice(), address)
     }
 
     /// The address that somebody claimed first.
     pub fn declared(&self, who: u8) -> Option<Address>
         ensures { result ≡ declared_in self.now.run.past who }
     {
-        self.behind().own_address(who)
+        declared(self.past.as_slice(), who)
     }
 
     /// An outsider listens on a link.

@@ -1,2 +1,3 @@
+mod hex;
 mod network;
 mod rules;

@@ -112,7 +112,10 @@ fn a_lost_packet_is_gone(rt: HostRuntime) -> Result<(), Fail> {
     telling.inject(rt.alloc(), 0, LinkId(0), &packet_to(FREE))?;
     telling.lose(0)?;
     assert_eq!(rt; telling.lowest(), None);
-    assert_eq!(rt; matches!(last(&telling), Some(Entry::Lost { number: 0 })), true);
+    assert_eq!(rt;
+        matches!(last(&telling), Some(Entry::Lost { number: 0 })),
+        true
+    );
     Ok(())
 }
 
