@@ -1,0 +1,6 @@
+mod TellingLaws
+mod Residents
+mod Landings
+mod Openings
+mod Waits
+mod Leavings

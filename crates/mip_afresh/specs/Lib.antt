@@ -1,0 +1,5 @@
+pub mod Tellings
+pub mod Fates
+pub mod Arrivals
+pub mod Openings
+pub mod Leavings

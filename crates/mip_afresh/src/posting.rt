@@ -1,0 +1,119 @@
+//! Packets are posted, and outsiders hear them.
+
+ghost use Rattle.std.specs.Prelude.{◌≡◌, ◌≤◌, [], ◌∷◌, ◌++◌, ◌&&◌, length, if◌then◌else◌, None, Some, IfOk, OnOk};
+ghost use Rattle.mip_entries.specs.declared.entry.Entry.TheVariants.{Heard};
+ghost use Rattle.mip_history.specs.Runs.{notes};
+ghost use Rattle.mip_history.specs.Questions.{hears_in};
+ghost use Rattle.mip_history.specs.Posting.{heards, is_other, overheard};
+ghost use Rattle.mip_history.specs.Outsiders.{injected};
+ghost use Rattle.mip_afresh.specs.Tellings.{with_run};
+
+use crate::posted::Posted;
+use crate::questions::hears;
+use crate::telling::Telling;
+use mip_entries::Entry;
+use mip_words::{Bytes, LinkId, Memory, Shield};
+use std::alloc::Global;
+
+/// An outsider is not the one that is left out.
+fn is_other(by: Option<u8>, outsider: u8) -> bool
+    ensures { result ≡ is_other by outsider }
+{
+    match by {
+        Some(by) => by != outsider,
+        None => true,
+    }
+}
+
+/// One outsider more hears a packet, if it listens.
+fn hear_one(
+    heard: &mut Vec<Entry>,
+    past: &[Entry],
+    link: LinkId,
+    by: Option<u8>,
+    number: u64,
+    outsider: u8,
+) -> Result<(), Memory>
+    ensures { OnOk result (heard.new.items ≡ heard.old.items ++ (if is_other by outsider && hears_in past.now outsider link.0 then Heard number outsider ∷ [] else [])) }
+{
+    if is_other(by, outsider) && hears(past, outsider, link) {
+        heard.push(Entry::Heard { number, outsider })?;
+    }
+    Ok(())
+}
+
+/// What the outsiders hear of a packet on a link, in order of declaration.
+fn heard_on(
+    alloc: Global,
+    past: &[Entry],
+    link: LinkId,
+    by: Option<u8>,
+    number: u64,
+    outsiders: u8,
+) -> Result<Vec<Entry>, Memory>
+    ensures { IfOk result (λ v. v.items ≡ heards (λ o. is_other by o && hears_in past.now o link.0) number outsiders) }
+{
+    let mut heard = Vec::new(alloc);
+    for outsider in 0..outsiders {
+        hear_one(&mut heard, past, link, by, number, outsider)?;
+    }
+    Ok(heard)
+}
+
+impl Telling {
+    /// Entries are left.
+    #[tactic(auto, using(crate::proofs::TellingLaws::told_none, crate::proofs::TellingLaws::told_more))]
+    fn note_all(&mut self, entries: Vec<Entry>) -> Result<(), Memory>
+        ensures { OnOk result (self.new ≡ with_run (notes entries.items self.old.run) self.old) }
+    {
+        for entry in entries {
+            self.note(entry)?;
+        }
+        Ok(())
+    }
+
+    /// A packet is heard on a link by the outsiders that listen there, but for the one that injected it, unless it is shielded.
+    pub(crate) fn overhear(
+        &mut self,
+        alloc: Global,
+        link: LinkId,
+        shield: Option<Shield>,
+        by: Option<u8>,
+        number: u64,
+    ) -> Result<(), Memory>
+        ensures { OnOk result (self.new ≡ with_run (overheard self.old.setup link.0 shield by number self.old.run) self.old) }
+    {
+        if shield.is_some() {
+            return Ok(());
+        }
+        let outsiders = self.setting.outsiders;
+        let heard = heard_on(alloc, self.past.as_slice(), link, by, number, outsiders)?;
+        self.note_all(heard)
+    }
+
+    /// An outsider posts a packet on a link.
+    pub fn inject(
+        &mut self,
+        alloc: Global,
+        outsider: u8,
+        link: LinkId,
+        packet: &[u8],
+    ) -> Result<(), Memory>
+        requires { 40 ≤ length packet.now }
+        ensures { OnOk result (self.new ≡ with_run (injected self.old.setup self.old.run outsider link.0 packet.now) self.old) }
+    {
+        let number = self.next();
+        self.note(Entry::Injected {
+            number,
+            outsider,
+            link,
+            packet: Bytes::copy(alloc, packet)?,
+        })?;
+        self.enter(Posted {
+            from: link,
+            shield: None,
+            packet: Bytes::copy(alloc, packet)?,
+        })?;
+        self.overhear(alloc, link, None, Some(outsider), number)
+    }
+}

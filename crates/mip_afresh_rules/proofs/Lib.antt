@@ -1,0 +1,3 @@
+pub mod ShowingLaws
+mod Asked
+mod Received

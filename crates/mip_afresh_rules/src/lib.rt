@@ -1,0 +1,23 @@
+//! The rules of a correspondent (RFC 6275 section 9), computed afresh: what it does about a packet, a refresh and data, from what it
+//! keeps of the home in question. Nothing here keeps anything.
+#![tactic(auto)]
+
+mod answering;
+mod asking;
+mod calls;
+mod checking;
+mod kept;
+mod part;
+mod receiving;
+mod rows;
+mod subject;
+mod tests;
+mod update;
+mod verdicts;
+mod who;
+mod wording;
+
+pub use calls::{refresh, send, take};
+pub use kept::Kept;
+pub use subject::{Subject, subject_of};
+pub use who::Who;
