@@ -22,7 +22,7 @@ use Rattle.mip_history.specs.Registered.{is_agent_host, registered_in, IsRegiste
 use Rattle.mip_history.specs.Told.{careof_in}
 use Rattle.mip_history.specs.Settled.{any_below, any_node}
 use Rattle.mip_history.proofs.Fronts.{front_of_run}
-use Rattle.mip_history.proofs.Histories.{run_held, run_floor, part_held, part_floor, permitted_held, permitted_under, permitted_claimed, permitted_released, permitted_taken}
+use Rattle.mip_history.proofs.Histories.{run_held, run_holds, run_floor, part_held, part_holds, part_floor, permitted_held, permitted_under, permitted_claimed, permitted_released, permitted_taken}
 use Rattle.mip_history.proofs.Registrations.{run_careof, run_kept, permitted_registered}
 use Rattle.mip_settled.proofs.AnyNode.{node_here}
 use Rattle.mip_settled.proofs.AsTold.{found_as_told, registered_as_told, bound_as_told}
@@ -67,12 +67,14 @@ module _ (s : Setup) (events : List Event) (k : ℕ) where
   keepers_as_asked = record {
     correspondent = λ n own room is. keeps n (known_in s (run_at s events k) n room) (record {
       held = λ home. sym (run_held s (take k events) n own room home is);
+      holds = λ home careof. sym (run_holds s (take k events) n own room home is careof);
       floor = λ home. sym (run_floor s (take k events) n own room home is);
     });
     part = λ n own agent is.
         let known : Known = (mobile_known_in s (run_at s events k) n own agent).part.known in
         keeps n known (record {
           held = λ home. sym (part_held s (take k events) n own agent home is);
+          holds = λ home careof. sym (part_holds s (take k events) n own agent home is careof);
           floor = λ home. sym (part_floor s (take k events) n own agent home is);
         });
   }

@@ -3,3 +3,4 @@ mod Standing
 pub mod AtPlaces
 pub mod Examples
 pub mod OneNumber
+pub mod Holding

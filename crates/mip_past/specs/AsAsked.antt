@@ -5,7 +5,8 @@ use Rattle.mip_words.specs.declared.ids.LinkId.{LinkId}
 use Rattle.mip_entries.specs.declared.entry.Entry.{Entry}
 use Rattle.mip_entries.specs.declared.entry.Entry.TheVariants.{Claimed, Released, Taken}
 use Rattle.mip_rules_correspondent.specs.declared.known.Known.{Known}
-use Rattle.mip_rules_correspondent.specs.Questions.{held_of, floor_of}
+use Rattle.mip_binding.specs.Held.{holds}
+use Rattle.mip_rules_correspondent.specs.Questions.{held_of, holds_for, floor_of}
 use Rattle.mip_rules_agent.specs.Known as agents
 use Rattle.mip_rules_agent.specs.Questions.{careof_at, kept_of}
 use Rattle.mip_rules_mobile.specs.Known as mobiles
@@ -21,7 +22,7 @@ use Rattle.mip_history.specs.Runs.{Run}
 use Rattle.mip_history.specs.Knowing.{known_in, now_in, agent_known_in, mobile_known_in}
 use Rattle.mip_history.specs.Permitted.{opening_claims, permitted}
 use Rattle.mip_history.specs.ClaimsLaws.{is_free_for}
-use Rattle.mip_history.specs.Bound.{held_in, held_under_in, floor_in, IsBound, IsBoundUnder}
+use Rattle.mip_history.specs.Bound.{accepted_by, held_in, held_under_in, floor_in, IsBound, IsBoundUnder}
 use Rattle.mip_history.specs.Registered.{is_agent_at, registered_in, last_registration, IsRegistered}
 use Rattle.mip_history.specs.Told.{agent_in, is_bound_in}
 use Rattle.mip_history.specs.Found.{address_of}
@@ -38,6 +39,7 @@ pub record IsFront (s : Setup) (events : List Event) (k : ℕ) : Type 0 where
 -- what is asked of node n behind a history is what a correspondent keeps that knows this
 pub record KeepsAsAsked (s : Setup) (past : List Entry) (n : ℕ) (known : Known) : Type 0 where
   pub held : (home : Address) → held_in s past n home.0 ≡ option_map (λ a. a.0) (held_of known (moment_in s.start past) home)
+  pub holds : (home careof : Address) → holds (accepted_by s.start past n) home.0 (moment_in s.start past) careof.0 ≡ holds_for known (moment_in s.start past) home careof
   pub floor : (home : Address) → floor_in s past n home.0 ≡ floor_of known (moment_in s.start past) home
 
 -- so it is of each correspondent, and of the correspondent part of each mobile

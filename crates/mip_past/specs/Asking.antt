@@ -2,7 +2,7 @@
 use Rattle.std.specs.Prelude.{ℕ, List, Bool, Option, Some, None, option_map, is_some}
 use Rattle.mip_words.specs.declared.address.Address.{Address}
 use Rattle.mip_words.specs.declared.moment.Moment.{Moment}
-use Rattle.mip_binding.specs.Held.{held, held_under, floor}
+use Rattle.mip_binding.specs.Held.{held, held_under, holds, floor}
 use Rattle.mip_entries.specs.declared.entry.Entry.{Entry}
 use Rattle.mip_rules_agent.specs.Questions.{if_standing}
 use Rattle.mip_rules_mobile.specs.declared.attachment.Attachment.{Attachment}
@@ -63,6 +63,10 @@ held_at p n home = held_then p n home (moment_at p)
 
 abbrev pub held_under_at : Past → (n home number : ℕ) → Option ℕ
 held_under_at p n home number = held_under (accepted_by p.start.0 p.entries.now n) home number (moment_at p)
+
+-- it holds the home with this care-of address, under some number
+abbrev pub holds_at : Past → (n home careof : ℕ) → Bool
+holds_at p n home careof = holds (accepted_by p.start.0 p.entries.now n) home (moment_at p) careof
 
 abbrev pub floor_at : Past → (n home : ℕ) → Option ℕ
 floor_at p n home = floor (accepted_by p.start.0 p.entries.now n) home (moment_at p)

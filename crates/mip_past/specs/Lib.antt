@@ -3,3 +3,4 @@ pub mod Places
 pub mod AsAsked
 pub mod Recalling
 pub mod OneNumber
+pub mod Holding

@@ -16,7 +16,8 @@ pub fn places_are_fronts()
 {}
 
 /// What is asked of a correspondent there is what it keeps, and what is asked of a mobile what its correspondent part keeps: the
-/// care-of address that is held for a home, and the sequence that the next update has to come after.
+/// care-of address that is held for a home, whether one is held under some number, and the sequence that the next update has to
+/// come after.
 pub fn keepers_are_as_asked()
     ensures { (s : Setup) (events : List Event) (k : ℕ) → AreKeepersAsAsked s events k }
 {}

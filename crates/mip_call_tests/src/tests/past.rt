@@ -1,6 +1,6 @@
 //! What is known at places of a history that was worked by hand.
 
-use super::given::{AGENT, AGENT_ADDRESS, CAREOF, HOME, MOBILE, PEER};
+use super::given::{AGENT, AGENT_ADDRESS, CAREOF, HOME, MOBILE, PEER, PEER_ADDRESS};
 use mip_entries::{Entry, History};
 use mip_past::Past;
 use mip_words::{Address, LinkId, Memory, Moment};
@@ -56,6 +56,22 @@ fn known_at(history: &History, place: usize) -> (bool, Option<Address>, Option<A
         past.held_under(PEER, HOME, 2),
         past.held_under(PEER, HOME, 0),
     )
+}
+
+#[test]
+fn a_home_is_held_under_some_number(rt: HostRuntime) -> Result<(), Fail> {
+    let history = history(rt.alloc())?;
+    let rows = [
+        (3, CAREOF, false),
+        (4, CAREOF, true),
+        (4, PEER_ADDRESS, false),
+        (5, CAREOF, true),
+    ];
+    for (place, careof, holds) in rows {
+        let past = Past::before(history.as_slice(), place, Moment(0));
+        assert_eq!(rt; past.holds(PEER, HOME, careof), holds, "at {place}");
+    }
+    Ok(())
 }
 
 #[test]
