@@ -10,6 +10,7 @@ use Rattle.mip_entries.specs.declared.entry.Entry.TheVariants.{Claimed, Released
 use Rattle.mip_rules_correspondent.specs.declared.known.Known.{Known}
 use Rattle.mip_rules_agent.specs.Known as agents
 use Rattle.mip_rules_agent.specs.Questions.{careof_at}
+use Rattle.mip_rules_mobile.specs.declared.attachment.Attachment.{Attachment}
 use Rattle.mip_rules_mobile.specs.Known as mobiles
 use Rattle.mip_schedule.specs.Contents.{Content}
 use Rattle.mip_schedule.specs.declared.event.Event.{Event}
@@ -28,10 +29,11 @@ use Rattle.mip_settled.proofs.AnyNode.{node_here}
 use Rattle.mip_settled.proofs.AsTold.{found_as_told, registered_as_told, bound_as_told}
 use Rattle.mip_settled.proofs.Declared.{declared_of_run}
 use Rattle.mip_settled.proofs.OfKinds.{present_at_own, registers_none}
-use Rattle.mip_past.specs.Asking.{present_from, present_told, standing_by, standing_from}
+use Rattle.mip_past.specs.Asking.{present_from, present_told, standing_by, standing_from, leaves_by, leaves_from}
 use Rattle.mip_past.proofs.Standing.{standing_is}
+use Rattle.mip_past.proofs.Leaving.{leaves_is}
 use Rattle.mip_past.specs.Places.{run_at, place_at, front_at}
-use Rattle.mip_past.specs.AsAsked.{IsFront, KeepsAsAsked, AreKeepersAsAsked, RegistersAsAsked, IsRegisteredBy, AreAgentsAsAsked, MovesAsAsked, AreMobilesAsAsked, IsHolderFound, IsHeldBound, AreRegistered, IsPermittedFront}
+use Rattle.mip_past.specs.AsAsked.{IsFront, KeepsAsAsked, AreKeepersAsAsked, RegistersAsAsked, IsRegisteredBy, AreAgentsAsAsked, released, MovesAsAsked, AreMobilesAsAsked, IsHolderFound, IsHeldBound, AreRegistered, IsPermittedFront}
 
 -- what is true of one of the first so many numbers
 found_below : (is : ℕ → Bool) (n : ℕ) → any_below is n ≡ true → (m : ℕ) × (is m ≡ true)
@@ -145,6 +147,11 @@ module _ (s : Setup) (events : List Event) (k : ℕ) where
               ap (standing_from (run_at s events k).past n) (declared_of_run s (take k events) n (record { address = own; kind = Mobile agent }) is)
               ∙ ap (standing_by own) (found_as_told s (take k events) n own agent is)
               ∙ standing_is s (run_at s events k) n own agent;
+          leaves = λ t home.
+              leaves_is n (run_at s events k).past own known.standing t home
+              ∙ ap (λ (o : Option Address). released o t) (sym
+              (ap (leaves_from (run_at s events k).past n) (declared_of_run s (take k events) n (record { address = own; kind = Mobile agent }) is)
+              ∙ ap (λ (st : Attachment). leaves_by n (run_at s events k).past own st) (ap (standing_by own) (found_as_told s (take k events) n own agent is) ∙ standing_is s (run_at s events k) n own agent)));
           agent = λ node. registered_as_told s (take k events) n own agent is node (now_in s (run_at s events k));
           bound = λ peer. bound_as_told s (take k events) n own agent is peer (now_in s (run_at s events k)) (omega arith);
         });

@@ -4,3 +4,4 @@ pub mod AtPlaces
 pub mod Examples
 pub mod OneNumber
 pub mod Holding
+mod Leaving

@@ -29,7 +29,7 @@ pub fn agents_are_as_asked()
 {}
 
 /// What is asked of a mobile there is what it knows: the address that it uses, the agent with which it is registered, and whether
-/// it has a binding with a peer. Every other node uses its own address.
+/// it has a binding with a peer. If it leaves there, it gives up the address that is asked. Every other node uses its own address.
 pub fn mobiles_are_as_asked()
     ensures { (s : Setup) (events : List Event) (k : ℕ) → AreMobilesAsAsked s events k }
 {}

@@ -88,3 +88,47 @@ fn a_past_is_asked_at_its_places(rt: HostRuntime) -> Result<(), Fail> {
     }
     Ok(())
 }
+
+/// The mobile goes to another link, comes home while somebody else has its address, and restarts.
+fn moves(alloc: Global) -> Result<History, Memory> {
+    let mut history = History::new(alloc)?;
+    history.push(claimed(MOBILE.0, HOME))?;
+    history.push(Entry::Moved {
+        node: MOBILE,
+        link: None,
+    })?;
+    history.push(careof(CAREOF))?;
+    history.push(claimed(AGENT.0, HOME))?;
+    history.push(careof(HOME))?;
+    history.push(careof(CAREOF))?;
+    history.push(Entry::Restarted { node: MOBILE })?;
+    Ok(history)
+}
+
+fn careof(address: Address) -> Entry {
+    Entry::Careof {
+        node: MOBILE,
+        address,
+    }
+}
+
+#[test]
+fn a_mobile_leaves_what_it_holds(rt: HostRuntime) -> Result<(), Fail> {
+    let history = moves(rt.alloc())?;
+    let rows = [
+        (0, None, 0, 0),
+        (1, Some(HOME), 0, 0),
+        (2, None, 0, 0),
+        (3, Some(CAREOF), 1, 0),
+        (5, None, 1, 0),
+        (6, Some(CAREOF), 2, 0),
+        (7, Some(CAREOF), 0, 0),
+    ];
+    for (place, leaves, number, only) in rows {
+        let past = Past::before(history.as_slice(), place, Moment(0));
+        assert_eq!(rt; past.leaves(MOBILE), leaves, "at {place}");
+        assert_eq!(rt; past.binding_number(MOBILE, 8), number, "at {place}");
+        assert_eq!(rt; past.binding_number(MOBILE, 1), only, "at {place}");
+    }
+    Ok(())
+}
