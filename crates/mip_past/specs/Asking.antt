@@ -16,6 +16,7 @@ use Rattle.mip_history.specs.Registered.{last_registration}
 use Rattle.mip_history.specs.Told.{present_in, agent_in, is_bound_in, careof_in}
 use Rattle.mip_history.specs.Settled.{any_node}
 use Rattle.mip_past.specs.declared.past.Past.{Past}
+use Rattle.mip_past.specs.Registering.{agent_of_told}
 
 -- the address that a node with this own address uses; none where it has none
 abbrev pub present_from : List Entry → ℕ → Option Address → Option Address
@@ -131,3 +132,6 @@ leaves_at p n = leaves_told p.entries.now n
 
 abbrev pub binding_number_at : Past → (n numbers : ℕ) → ℕ
 binding_number_at p n numbers = binding_number_told numbers p.entries.now n
+
+abbrev pub agent_of_at : Past → ℕ → Option Address
+agent_of_at p n = agent_of_told (moment_at p) p.entries.now n

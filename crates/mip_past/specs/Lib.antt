@@ -1,3 +1,4 @@
+pub mod Registering
 pub mod Asking
 pub mod Places
 pub mod AsAsked

@@ -11,6 +11,7 @@ mod made;
 mod mobiles;
 mod past;
 mod recall;
+mod registering;
 
 pub use laws::{
     agents_are_as_asked, answers_have_their_update, keepers_are_as_asked, mobiles_are_as_asked,
