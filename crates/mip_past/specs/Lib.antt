@@ -5,3 +5,4 @@ pub mod AsAsked
 pub mod Recalling
 pub mod OneNumber
 pub mod Holding
+pub mod Planning

@@ -10,6 +10,8 @@ mod laws;
 mod made;
 mod mobiles;
 mod past;
+mod planned;
+mod plans;
 mod recall;
 mod registering;
 

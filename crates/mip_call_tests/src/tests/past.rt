@@ -3,7 +3,8 @@
 use super::given::{AGENT, AGENT_ADDRESS, CAREOF, HOME, MOBILE, PEER, PEER_ADDRESS};
 use mip_entries::{Entry, History};
 use mip_past::Past;
-use mip_words::{Address, LinkId, Memory, Moment};
+use mip_schedule::Event;
+use mip_words::{Address, LinkId, Memory, Moment, NodeId};
 use std::alloc::Global;
 use std::test::Fail;
 
@@ -129,6 +130,42 @@ fn a_mobile_leaves_what_it_holds(rt: HostRuntime) -> Result<(), Fail> {
         assert_eq!(rt; past.leaves(MOBILE), leaves, "at {place}");
         assert_eq!(rt; past.binding_number(MOBILE, 8), number, "at {place}");
         assert_eq!(rt; past.binding_number(MOBILE, 1), only, "at {place}");
+    }
+    Ok(())
+}
+
+/// The valid and the preferred seconds of the plan that a node keeps behind these events, and since when.
+fn plan_behind(node: NodeId, begun: &[Event]) -> (u32, u32, Moment) {
+    let past = Past::before(&[], 0, Moment(7));
+    let plan = past.plan_of(node, begun);
+    (plan.valid, plan.preferred, plan.since)
+}
+
+#[test]
+fn an_agent_keeps_its_last_plan(rt: HostRuntime) -> Result<(), Fail> {
+    let plan = Event::Plan {
+        node: AGENT,
+        valid: 100,
+        preferred: 50,
+    };
+    let begun = [
+        Event::Wait { ms: 500 },
+        plan,
+        Event::Restart { node: AGENT },
+    ];
+    let endless = (u32::MAX, u32::MAX, Moment(7));
+    let rows = [
+        (AGENT, 1, endless),
+        (AGENT, 2, (100, 50, Moment(507))),
+        (PEER, 2, endless),
+        (AGENT, 3, endless),
+    ];
+    for (node, count, kept) in rows {
+        let front = match begun.get(..count) {
+            Some(front) => front,
+            None => &[],
+        };
+        assert_eq!(rt; plan_behind(node, front), kept, "behind {count} events");
     }
     Ok(())
 }
