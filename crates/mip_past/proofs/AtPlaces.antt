@@ -1,10 +1,12 @@
 -- What is asked at a place of the history of a run is what nodes know there.
 use Rattle.std.proofs.Common.{◌≡◌, ℕ, zero, suc, ◌+◌, ◌<◌, List, [], ◌∷◌, ◌++◌, length, take, drop, Bool, true, false, refl, sym, ap, subst, ◌∙◌, arith}
 use Rattle.std.specs.Prelude.{Option, Some, None, is_some, slice_get, ◌||◌}
+use Rattle.std.specs.Option.{option_or}
 use Rattle.std.proofs.lemmas.List.{append_assoc, take-append-drop, take_more, length-take-le}
 use Rattle.std.proofs.lemmas.Option.{slice_get_within, get_or_from_slice_get}
 use Rattle.std.proofs.Math.Seq.{take-append_seam}
 use Rattle.mip_words.specs.declared.address.Address.{Address}
+use Rattle.mip_binding.proofs.HeldLaws.{holds_some}
 use Rattle.mip_entries.specs.declared.entry.Entry.{Entry}
 use Rattle.mip_entries.specs.declared.entry.Entry.TheVariants.{Claimed, Released, Taken}
 use Rattle.mip_rules_correspondent.specs.declared.known.Known.{Known}
@@ -12,6 +14,7 @@ use Rattle.mip_rules_agent.specs.Known as agents
 use Rattle.mip_rules_agent.specs.Questions.{careof_at}
 use Rattle.mip_rules_mobile.specs.declared.attachment.Attachment.{Attachment}
 use Rattle.mip_rules_mobile.specs.Known as mobiles
+use Rattle.mip_rules_mobile.specs.HomeQuestions.{registered_agent}
 use Rattle.mip_schedule.specs.Contents.{Content}
 use Rattle.mip_schedule.specs.declared.event.Event.{Event}
 use Rattle.mip_history.specs.Setup.{Setup, Host, Kind, is_mobile_host, setup_of}
@@ -19,6 +22,7 @@ use Rattle.mip_history.specs.Setup.Kind.{Correspondent, Agent, Mobile}
 use Rattle.mip_history.specs.Questions.{moment_in, declared_in}
 use Rattle.mip_history.specs.Knowing.{known_in, now_in, agent_known_in, mobile_known_in}
 use Rattle.mip_history.specs.Permitted.{permitted}
+use Rattle.mip_history.specs.Bound.{accepted_by}
 use Rattle.mip_history.specs.Registered.{is_agent_host, registered_in, IsRegistered}
 use Rattle.mip_history.specs.Told.{careof_in}
 use Rattle.mip_history.specs.Settled.{any_below, any_node}
@@ -30,6 +34,7 @@ use Rattle.mip_settled.proofs.AsTold.{found_as_told, registered_as_told, bound_a
 use Rattle.mip_settled.proofs.Declared.{declared_of_run}
 use Rattle.mip_settled.proofs.OfKinds.{present_at_own, registers_none}
 use Rattle.mip_past.specs.Asking.{present_from, present_told, standing_by, standing_from, leaves_by, leaves_from}
+use Rattle.mip_past.specs.Registering.{last_sent_to}
 use Rattle.mip_past.proofs.Standing.{standing_is}
 use Rattle.mip_past.proofs.Leaving.{leaves_is}
 use Rattle.mip_past.specs.Places.{run_at, place_at, front_at}
@@ -49,6 +54,11 @@ found_below is (suc n) any = by (any_below is n) (is n) refl (found_below is n) 
 found_node : (is : ℕ → Bool) → any_node is ≡ true → (m : ℕ) × (is m ≡ true)
 unfolding any_node
 found_node is any = found_below is 256 any
+
+-- where there is a first answer, no other one counts
+first_alone : (o p q : Option Address) → is_some o ≡ true → option_or o p ≡ option_or o q
+first_alone None p q some = absurd cc
+first_alone (Some a) p q some = refl
 
 module _ (s : Setup) (events : List Event) (k : ℕ) where
   front_is : front_at s events k ≡ (run_at s events k).past
@@ -153,6 +163,9 @@ module _ (s : Setup) (events : List Event) (k : ℕ) where
               (ap (leaves_from (run_at s events k).past n) (declared_of_run s (take k events) n (record { address = own; kind = Mobile agent }) is)
               ∙ ap (λ (st : Attachment). leaves_by n (run_at s events k).past own st) (ap (standing_by own) (found_as_told s (take k events) n own agent is) ∙ standing_is s (run_at s events k) n own agent)));
           agent = λ node. registered_as_told s (take k events) n own agent is node (now_in s (run_at s events k));
+          through = λ node registered.
+              ap (λ (o : Option Address). option_or o (last_sent_to (run_at s events k).past n)) (registered_as_told s (take k events) n own agent is node (now_in s (run_at s events k)))
+              ∙ first_alone (registered_agent known (now_in s (run_at s events k))) (last_sent_to (run_at s events k).past n) known.agent registered;
           bound = λ peer. bound_as_told s (take k events) n own agent is peer (now_in s (run_at s events k)) (omega arith);
         });
     others = λ n host is none.
@@ -195,6 +208,9 @@ held_bound c place =
     let past : List Entry = permitted c in
     record {
       held = λ n home careof is. permitted_held c (take place past) (drop place past) n home careof (sym (take-append-drop place past)) is;
+      some = λ n home careof is.
+          let f = holds_some (accepted_by (setup_of c).start (take place past) n) home (moment_in (setup_of c).start (take place past)) careof is in
+          (f.0, permitted_under c (take place past) (drop place past) n home f.0 careof (sym (take-append-drop place past)) f.1);
       under = λ n home number careof is. permitted_under c (take place past) (drop place past) n home number careof (sym (take-append-drop place past)) is;
     }
 

@@ -10,7 +10,7 @@ use Rattle.mip_rules_correspondent.specs.Questions.{held_of, holds_for, floor_of
 use Rattle.mip_rules_agent.specs.Known as agents
 use Rattle.mip_rules_agent.specs.Questions.{careof_at, kept_of}
 use Rattle.mip_rules_mobile.specs.Known as mobiles
-use Rattle.mip_rules_mobile.specs.HomeQuestions.{home_of, registered_agent}
+use Rattle.mip_rules_mobile.specs.HomeQuestions.{home_of, registered_agent, agent_of}
 use Rattle.mip_rules_mobile.specs.MovingRules.{releases}
 use Rattle.mip_rules_mobile.specs.Steps.{Releases}
 use Rattle.mip_rules_mobile.specs.Transitions.{Transition, noted}
@@ -32,6 +32,7 @@ use Rattle.mip_history.specs.Registered.{is_agent_at, registered_in, last_regist
 use Rattle.mip_history.specs.Told.{agent_in, is_bound_in}
 use Rattle.mip_history.specs.Found.{address_of}
 use Rattle.mip_past.specs.Asking.{present_told, standing_told, leaves_told, is_registered_in}
+use Rattle.mip_past.specs.Registering.{agent_of_told}
 use Rattle.mip_past.specs.Places.{run_at, place_at, front_at}
 
 -- what lies before the place behind the first k events is the history of these, at their moment; and each node's own address is
@@ -93,6 +94,7 @@ pub record MovesAsAsked (s : Setup) (past : List Entry) (n : ℕ) (own : Address
   pub standing : standing_told past n ≡ known.standing
   pub leaves : (t : Transition) → home_of t.known ≡ own → releases known.standing (home_claim past n own) t ≡ released (leaves_told past n) t
   pub agent : ((o : ℕ) → n ≢ holder_outside o) → agent_in (moment_in s.start past) past n ≡ registered_agent known (moment_in s.start past)
+  pub through : ((o : ℕ) → n ≢ holder_outside o) → is_some (registered_agent known (moment_in s.start past)) ≡ true → agent_of_told (moment_in s.start past) past n ≡ agent_of known (moment_in s.start past)
   pub bound : (peer : Address) → is_bound_in (moment_in s.start past) past n peer ≡ is_some (bound_row_of known (moment_in s.start past) peer)
 
 -- so it is of each mobile, and every other node uses its own address
@@ -114,6 +116,8 @@ pub record IsHeldBound (c : Content) (place : ℕ) : Type 0 where
   pub held : (n home careof : ℕ) → held_in (setup_of c) (take place (permitted c)) n home ≡ Some careof → IsBound (setup_of c) (take place (permitted c)) n home careof
   pub under : (n home number careof : ℕ) → held_under_in (setup_of c) (take place (permitted c)) n home number ≡ Some careof
       → IsBoundUnder (setup_of c) (take place (permitted c)) n home number careof
+  pub some : (n home careof : ℕ) → holds (accepted_by (setup_of c).start (take place (permitted c)) n) home (moment_in (setup_of c).start (take place (permitted c))) careof ≡ true
+      → (number : ℕ) × IsBoundUnder (setup_of c) (take place (permitted c)) n home number careof
 
 -- and what is registered behind the first k events
 abbrev pub AreRegistered : Content → (k : ℕ) → Type 0

@@ -29,7 +29,8 @@ pub fn agents_are_as_asked()
 {}
 
 /// What is asked of a mobile there is what it knows: the address that it uses, the agent with which it is registered, and whether
-/// it has a binding with a peer. If it leaves there, it gives up the address that is asked. Every other node uses its own address.
+/// it has a binding with a peer. If it leaves there, it gives up the address that is asked; while it is registered, its agent for
+/// tunnels is the one that is asked. Every other node uses its own address.
 pub fn mobiles_are_as_asked()
     ensures { (s : Setup) (events : List Event) (k : ℕ) → AreMobilesAsAsked s events k }
 {}
@@ -40,8 +41,8 @@ pub fn one_holder_is_found()
     ensures { (c : Content) (place : ℕ) → IsHolderFound c place }
 {}
 
-/// At every place, also within an event: a care-of address that is found to be held was accepted by an update whose packet had just
-/// been handed to the node, in its present life, and no later one has ended it. Behind the entries of some first events, one that is
+/// At every place, also within an event: a care-of address that is found to be held, under whatever number, was accepted by an update
+/// whose packet had just been handed to the node, in its present life, and no later one has ended it. Behind the entries of some first events, one that is
 /// found to be registered at an agent was registered by the last update of its home in the agent's present life, which the mobile
 /// with that home had sent under its shield.
 pub fn answers_have_their_update()
