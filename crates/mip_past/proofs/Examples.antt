@@ -1,12 +1,17 @@
--- Small histories of a correspondent 0, and what is kept there of a home at each place; and of a mobile 0, and what it leaves and how many places it came to.
-use Rattle.std.proofs.Common.{◌≡◌, ◌≢◌, ℕ, List, [], ◌∷◌, take, refl, arith}
+-- Small histories of a correspondent 0, and what is kept there of a home at each place; of a mobile 0, what it leaves, how many places it came to
+-- and which agent it has; and of events, and the plan of an agent 0 behind them.
+use Rattle.std.proofs.Common.{◌≡◌, ◌≢◌, ℕ, List, [], ◌∷◌, take, Bool, true, false, refl, arith}
 use Rattle.std.specs.Prelude.{Option, Some, None, option_map}
 use Rattle.mip_entries.specs.declared.entry.Entry.{Entry}
-use Rattle.mip_entries.specs.declared.entry.Entry.TheVariants.{At, Claimed, Moved, Careof, Accepted, Restarted}
+use Rattle.mip_entries.specs.declared.entry.Entry.TheVariants.{At, Claimed, Moved, Careof, Registered, Accepted, Restarted}
 use Rattle.mip_entries.specs.Completed.{node_id, link_id}
-use Rattle.mip_binding.specs.Held.{held, held_under, floor}
+use Rattle.mip_schedule.specs.declared.event.Event.{Event}
+use Rattle.mip_schedule.specs.declared.event.Event.TheVariants as events
+use Rattle.mip_binding.specs.Held.{held, held_under, holds, floor}
 use Rattle.mip_history.specs.Bound.{accepted_by}
 use Rattle.mip_history.specs.Questions.{moment_in}
+use Rattle.mip_past.specs.Registering.{agent_of_told}
+use Rattle.mip_past.specs.Planning.{plan_told}
 use Rattle.mip_past.specs.Asking.{leaves_told, binding_number_told}
 use Rattle.mip_links.specs.Table.{holder_outside}
 
@@ -31,6 +36,9 @@ module _ (place : ℕ) where
   abbrev Keeps : Option ℕ → Type 0
   Keeps sequence = floor (accepted_by 0 (take place history) 0) 20 (moment_in 0 (take place history)) ≡ sequence
 
+  abbrev HoldsWith : (careof : ℕ) → Bool → Type 0
+  HoldsWith careof is = holds (accepted_by 0 (take place history) 0) 20 (moment_in 0 (take place history)) careof ≡ is
+
 nothing_yet : Holds 0 None
 unfolding held accepted_by
 nothing_yet = refl
@@ -46,6 +54,18 @@ second_held = refl
 both_under : HoldsUnder 3 0 (Some 40) × HoldsUnder 3 1 (Some 50)
 unfolding held_under accepted_by
 both_under = (refl, refl)
+
+held_with_both : HoldsWith 3 40 true × HoldsWith 3 50 true × HoldsWith 3 60 false
+unfolding holds accepted_by
+held_with_both = (refl, refl, refl)
+
+held_with_one : HoldsWith 4 40 true × HoldsWith 4 50 false
+unfolding holds accepted_by
+held_with_one = (refl, refl)
+
+held_no_more : HoldsWith 6 40 false × HoldsWith 6 20 false
+unfolding holds accepted_by
+held_no_more = (refl, refl)
 
 second_ended : Holds 4 (Some 40)
 unfolding held accepted_by
@@ -106,3 +126,33 @@ a_new_life_begins_anew = refl
 
 one_number_alone : Numbers 6 1 0
 one_number_alone = refl
+
+-- agent 0 is given lifetimes behind a wait, node 1 others, and the agent restarts
+abbrev plans : List Event
+plans = events.Wait 500 ∷ events.Plan (node_id 0) 100 50 ∷ events.Plan (node_id 1) 10 5 ∷ events.Wait 9 ∷ events.Restart (node_id 0) ∷ []
+
+module _ (count : ℕ) where
+  abbrev Plans : (valid preferred since : ℕ) → Type 0
+  Plans valid preferred since = (plan_told (record { 0 = 7 }) 0 (take count plans)).plan ≡ record { valid = valid; preferred = preferred; since = record { 0 = since } }
+
+endless_first : Plans 1 4294967295 4294967295 7
+endless_first = refl
+
+planned_then : Plans 2 100 50 507
+planned_then = refl
+
+planned_still : Plans 4 100 50 507
+planned_still = refl
+
+endless_again : Plans 5 4294967295 4294967295 7
+endless_again = refl
+
+-- mobile 0 is registered with agent 30 until 900, and sent no home registration that stands here
+abbrev registers : List Entry
+registers = Registered (node_id 0) (record { 0 = 30 }) (record { 0 = 900 }) ∷ At (record { 0 = 900 }) ∷ []
+
+through_its_agent : option_map (λ a. a.0) (agent_of_told 0 (take 1 registers) 0) ≡ Some 30
+through_its_agent = refl
+
+through_none : agent_of_told 900 registers 0 ≡ None
+through_none = refl
