@@ -5,3 +5,4 @@ pub mod Examples
 pub mod OneNumber
 pub mod Holding
 mod Leaving
+pub mod Sending

@@ -1,4 +1,5 @@
 pub mod Registering
+pub mod Sending
 pub mod Asking
 pub mod Places
 pub mod AsAsked

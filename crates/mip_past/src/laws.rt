@@ -1,12 +1,14 @@
-//! The laws, each the contract of a function that does nothing; `specs/AsAsked` has their statements, but for the last. The first four speak of the
+//! The laws, each the contract of a function that does nothing; `specs/AsAsked` has their statements, but for the last two. The first four speak of the
 //! places behind the entries of the first k events, since what a node knows is stated between two events.
 
-ghost use Rattle.std.specs.Prelude.{ℕ, List};
+ghost use Rattle.std.specs.Prelude.{ℕ, ◌<◌, List};
+ghost use Rattle.mip_words.specs.declared.address.Address.{Address};
 ghost use Rattle.mip_schedule.specs.Contents.{Content};
 ghost use Rattle.mip_schedule.specs.declared.event.Event.{Event};
 ghost use Rattle.mip_history.specs.Setup.{Setup};
 ghost use Rattle.mip_past.specs.AsAsked.{IsFront, IsPermittedFront, AreKeepersAsAsked, AreAgentsAsAsked, AreMobilesAsAsked, IsHolderFound, IsHeldBound, AreRegistered};
 ghost use Rattle.mip_past.specs.OneNumber.{IsOfTheLast};
+ghost use Rattle.mip_past.specs.Sending.{IsAway, IsReadAsSent};
 
 /// A history only grows. So what lies before the place behind some first events is what these leave, at their moment; and each
 /// node has its own address there.
@@ -54,4 +56,10 @@ pub fn answers_have_their_update()
 /// alone, to the end of that, and the sequence of that acceptance is kept. No earlier one counts.
 pub fn one_number_leaves_the_last()
     ensures { (home now : ℕ) → IsOfTheLast home now }
+{}
+
+/// A home registration that a mobile sends is read as one to its agent, and a deregistration as none: so where the last one went is
+/// told by the packets that were sent.
+pub fn home_registrations_are_read()
+    ensures { (home careof agent : Address) (sequence : ℕ) → IsAway home careof agent → sequence < 65536 → IsReadAsSent home careof agent sequence }
 {}
