@@ -3,7 +3,7 @@
 use super::given::{AGENT, AGENT_ADDRESS, CAREOF, HOME, MOBILE, PEER, PEER_ADDRESS};
 use mip_entries::{Entry, History};
 use mip_past::Past;
-use mip_schedule::Event;
+use mip_schedule::{Event, Events};
 use mip_words::{Address, LinkId, Memory, Moment, NodeId};
 use std::alloc::Global;
 use std::test::Fail;
@@ -134,38 +134,44 @@ fn a_mobile_leaves_what_it_holds(rt: HostRuntime) -> Result<(), Fail> {
     Ok(())
 }
 
+/// A wait; then the agent may be given lifetimes, and restart.
+fn begun(alloc: Global, planned: bool, restarted: bool) -> Result<Events, Memory> {
+    let mut events = Events::new(alloc);
+    events.push(Event::Wait { ms: 500 })?;
+    if planned {
+        events.push(Event::Plan {
+            node: AGENT,
+            valid: 100,
+            preferred: 50,
+        })?;
+    }
+    if restarted {
+        events.push(Event::Restart { node: AGENT })?;
+    }
+    Ok(events)
+}
+
 /// The valid and the preferred seconds of the plan that a node keeps behind these events, and since when.
-fn plan_behind(node: NodeId, begun: &[Event]) -> (u32, u32, Moment) {
-    let past = Past::before(&[], 0, Moment(7));
-    let plan = past.plan_of(node, begun);
-    (plan.valid, plan.preferred, plan.since)
+fn plan_behind(
+    alloc: Global,
+    node: NodeId,
+    planned: bool,
+    restarted: bool,
+) -> Result<(u32, u32, Moment), Memory> {
+    let history = History::new(alloc)?;
+    let events = begun(alloc, planned, restarted)?;
+    let past = Past::before(history.as_slice(), 0, Moment(7));
+    let plan = past.plan_of(node, events.as_slice());
+    Ok((plan.valid, plan.preferred, plan.since))
 }
 
 #[test]
 fn an_agent_keeps_its_last_plan(rt: HostRuntime) -> Result<(), Fail> {
-    let plan = Event::Plan {
-        node: AGENT,
-        valid: 100,
-        preferred: 50,
-    };
-    let begun = [
-        Event::Wait { ms: 500 },
-        plan,
-        Event::Restart { node: AGENT },
-    ];
     let endless = (u32::MAX, u32::MAX, Moment(7));
-    let rows = [
-        (AGENT, 1, endless),
-        (AGENT, 2, (100, 50, Moment(507))),
-        (PEER, 2, endless),
-        (AGENT, 3, endless),
-    ];
-    for (node, count, kept) in rows {
-        let front = match begun.get(..count) {
-            Some(front) => front,
-            None => &[],
-        };
-        assert_eq!(rt; plan_behind(node, front), kept, "behind {count} events");
-    }
+    let given = (100, 50, Moment(507));
+    assert_eq!(rt; plan_behind(rt.alloc(), AGENT, false, false)?, endless);
+    assert_eq!(rt; plan_behind(rt.alloc(), AGENT, true, false)?, given);
+    assert_eq!(rt; plan_behind(rt.alloc(), PEER, true, false)?, endless);
+    assert_eq!(rt; plan_behind(rt.alloc(), AGENT, true, true)?, endless);
     Ok(())
 }
