@@ -1,16 +1,20 @@
 -- What is asked at a place of the history of a run is what nodes know there.
 use Rattle.std.proofs.Common.{◌≡◌, ℕ, zero, suc, ◌+◌, ◌<◌, List, [], ◌∷◌, ◌++◌, length, take, drop, Bool, true, false, refl, sym, ap, subst, ◌∙◌, arith}
 use Rattle.std.specs.Prelude.{Option, Some, None, is_some, slice_get, ◌||◌}
+use Rattle.std.specs.Option.{option_or}
 use Rattle.std.proofs.lemmas.List.{append_assoc, take-append-drop, take_more, length-take-le}
 use Rattle.std.proofs.lemmas.Option.{slice_get_within, get_or_from_slice_get}
 use Rattle.std.proofs.Math.Seq.{take-append_seam}
 use Rattle.mip_words.specs.declared.address.Address.{Address}
+use Rattle.mip_binding.proofs.HeldLaws.{holds_some}
 use Rattle.mip_entries.specs.declared.entry.Entry.{Entry}
 use Rattle.mip_entries.specs.declared.entry.Entry.TheVariants.{Claimed, Released, Taken}
 use Rattle.mip_rules_correspondent.specs.declared.known.Known.{Known}
 use Rattle.mip_rules_agent.specs.Known as agents
 use Rattle.mip_rules_agent.specs.Questions.{careof_at}
+use Rattle.mip_rules_mobile.specs.declared.attachment.Attachment.{Attachment}
 use Rattle.mip_rules_mobile.specs.Known as mobiles
+use Rattle.mip_rules_mobile.specs.HomeQuestions.{registered_agent}
 use Rattle.mip_schedule.specs.Contents.{Content}
 use Rattle.mip_schedule.specs.declared.event.Event.{Event}
 use Rattle.mip_history.specs.Setup.{Setup, Host, Kind, is_mobile_host, setup_of}
@@ -18,20 +22,23 @@ use Rattle.mip_history.specs.Setup.Kind.{Correspondent, Agent, Mobile}
 use Rattle.mip_history.specs.Questions.{moment_in, declared_in}
 use Rattle.mip_history.specs.Knowing.{known_in, now_in, agent_known_in, mobile_known_in}
 use Rattle.mip_history.specs.Permitted.{permitted}
+use Rattle.mip_history.specs.Bound.{accepted_by}
 use Rattle.mip_history.specs.Registered.{is_agent_host, registered_in, IsRegistered}
 use Rattle.mip_history.specs.Told.{careof_in}
 use Rattle.mip_history.specs.Settled.{any_below, any_node}
 use Rattle.mip_history.proofs.Fronts.{front_of_run}
-use Rattle.mip_history.proofs.Histories.{run_held, run_floor, part_held, part_floor, permitted_held, permitted_under, permitted_claimed, permitted_released, permitted_taken}
+use Rattle.mip_history.proofs.Histories.{run_held, run_holds, run_floor, part_held, part_holds, part_floor, permitted_held, permitted_under, permitted_claimed, permitted_released, permitted_taken}
 use Rattle.mip_history.proofs.Registrations.{run_careof, run_kept, permitted_registered}
 use Rattle.mip_settled.proofs.AnyNode.{node_here}
 use Rattle.mip_settled.proofs.AsTold.{found_as_told, registered_as_told, bound_as_told}
 use Rattle.mip_settled.proofs.Declared.{declared_of_run}
 use Rattle.mip_settled.proofs.OfKinds.{present_at_own, registers_none}
-use Rattle.mip_past.specs.Asking.{present_from, present_told, standing_by, standing_from}
+use Rattle.mip_past.specs.Asking.{present_from, present_told, standing_by, standing_from, leaves_by, leaves_from}
+use Rattle.mip_past.specs.Registering.{last_sent_to}
 use Rattle.mip_past.proofs.Standing.{standing_is}
+use Rattle.mip_past.proofs.Leaving.{leaves_is}
 use Rattle.mip_past.specs.Places.{run_at, place_at, front_at}
-use Rattle.mip_past.specs.AsAsked.{IsFront, KeepsAsAsked, AreKeepersAsAsked, RegistersAsAsked, IsRegisteredBy, AreAgentsAsAsked, MovesAsAsked, AreMobilesAsAsked, IsHolderFound, IsHeldBound, AreRegistered, IsPermittedFront}
+use Rattle.mip_past.specs.AsAsked.{IsFront, KeepsAsAsked, AreKeepersAsAsked, RegistersAsAsked, IsRegisteredBy, AreAgentsAsAsked, released, MovesAsAsked, AreMobilesAsAsked, IsHolderFound, IsHeldBound, AreRegistered, IsPermittedFront}
 
 -- what is true of one of the first so many numbers
 found_below : (is : ℕ → Bool) (n : ℕ) → any_below is n ≡ true → (m : ℕ) × (is m ≡ true)
@@ -47,6 +54,11 @@ found_below is (suc n) any = by (any_below is n) (is n) refl (found_below is n) 
 found_node : (is : ℕ → Bool) → any_node is ≡ true → (m : ℕ) × (is m ≡ true)
 unfolding any_node
 found_node is any = found_below is 256 any
+
+-- where there is a first answer, no other one counts
+first_alone : (o p q : Option Address) → is_some o ≡ true → option_or o p ≡ option_or o q
+first_alone None p q some = absurd cc
+first_alone (Some a) p q some = refl
 
 module _ (s : Setup) (events : List Event) (k : ℕ) where
   front_is : front_at s events k ≡ (run_at s events k).past
@@ -67,12 +79,14 @@ module _ (s : Setup) (events : List Event) (k : ℕ) where
   keepers_as_asked = record {
     correspondent = λ n own room is. keeps n (known_in s (run_at s events k) n room) (record {
       held = λ home. sym (run_held s (take k events) n own room home is);
+      holds = λ home careof. sym (run_holds s (take k events) n own room home is careof);
       floor = λ home. sym (run_floor s (take k events) n own room home is);
     });
     part = λ n own agent is.
         let known : Known = (mobile_known_in s (run_at s events k) n own agent).part.known in
         keeps n known (record {
           held = λ home. sym (part_held s (take k events) n own agent home is);
+          holds = λ home careof. sym (part_holds s (take k events) n own agent home is careof);
           floor = λ home. sym (part_floor s (take k events) n own agent home is);
         });
   }
@@ -143,7 +157,15 @@ module _ (s : Setup) (events : List Event) (k : ℕ) where
               ap (standing_from (run_at s events k).past n) (declared_of_run s (take k events) n (record { address = own; kind = Mobile agent }) is)
               ∙ ap (standing_by own) (found_as_told s (take k events) n own agent is)
               ∙ standing_is s (run_at s events k) n own agent;
+          leaves = λ t home.
+              leaves_is n (run_at s events k).past own known.standing t home
+              ∙ ap (λ (o : Option Address). released o t) (sym
+              (ap (leaves_from (run_at s events k).past n) (declared_of_run s (take k events) n (record { address = own; kind = Mobile agent }) is)
+              ∙ ap (λ (st : Attachment). leaves_by n (run_at s events k).past own st) (ap (standing_by own) (found_as_told s (take k events) n own agent is) ∙ standing_is s (run_at s events k) n own agent)));
           agent = λ node. registered_as_told s (take k events) n own agent is node (now_in s (run_at s events k));
+          through = λ node registered.
+              ap (λ (o : Option Address). option_or o (last_sent_to (run_at s events k).past n)) (registered_as_told s (take k events) n own agent is node (now_in s (run_at s events k)))
+              ∙ first_alone (registered_agent known (now_in s (run_at s events k))) (last_sent_to (run_at s events k).past n) known.agent registered;
           bound = λ peer. bound_as_told s (take k events) n own agent is peer (now_in s (run_at s events k)) (omega arith);
         });
     others = λ n host is none.
@@ -186,6 +208,9 @@ held_bound c place =
     let past : List Entry = permitted c in
     record {
       held = λ n home careof is. permitted_held c (take place past) (drop place past) n home careof (sym (take-append-drop place past)) is;
+      some = λ n home careof is.
+          let f = holds_some (accepted_by (setup_of c).start (take place past) n) home (moment_in (setup_of c).start (take place past)) careof is in
+          (f.0, permitted_under c (take place past) (drop place past) n home f.0 careof (sym (take-append-drop place past)) f.1);
       under = λ n home number careof is. permitted_under c (take place past) (drop place past) n home number careof (sym (take-append-drop place past)) is;
     }
 

@@ -3,3 +3,6 @@ mod Standing
 pub mod AtPlaces
 pub mod Examples
 pub mod OneNumber
+pub mod Holding
+mod Leaving
+pub mod Sending

@@ -1,5 +1,9 @@
+pub mod Registering
+pub mod Sending
 pub mod Asking
 pub mod Places
 pub mod AsAsked
 pub mod Recalling
 pub mod OneNumber
+pub mod Holding
+pub mod Planning

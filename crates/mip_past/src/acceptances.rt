@@ -115,7 +115,7 @@ fn with_made(
 }
 
 /// The binding of a home that an entry of a node makes.
-fn made_told(entry: &Entry, node: NodeId, home: Address) -> Option<Made>
+pub fn made_told(entry: &Entry, node: NodeId, home: Address) -> Option<Made>
     ensures { result ≡ made_told node.0 home.0 entry.now }
 {
     match entry {

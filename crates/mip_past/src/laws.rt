@@ -1,12 +1,14 @@
-//! The laws, each the contract of a function that does nothing; `specs/AsAsked` has their statements, but for the last. The first four speak of the
+//! The laws, each the contract of a function that does nothing; `specs/AsAsked` has their statements, but for the last two. The first four speak of the
 //! places behind the entries of the first k events, since what a node knows is stated between two events.
 
-ghost use Rattle.std.specs.Prelude.{ℕ, List};
+ghost use Rattle.std.specs.Prelude.{ℕ, ◌<◌, List};
+ghost use Rattle.mip_words.specs.declared.address.Address.{Address};
 ghost use Rattle.mip_schedule.specs.Contents.{Content};
 ghost use Rattle.mip_schedule.specs.declared.event.Event.{Event};
 ghost use Rattle.mip_history.specs.Setup.{Setup};
 ghost use Rattle.mip_past.specs.AsAsked.{IsFront, IsPermittedFront, AreKeepersAsAsked, AreAgentsAsAsked, AreMobilesAsAsked, IsHolderFound, IsHeldBound, AreRegistered};
 ghost use Rattle.mip_past.specs.OneNumber.{IsOfTheLast};
+ghost use Rattle.mip_past.specs.Sending.{IsAway, IsReadAsSent};
 
 /// A history only grows. So what lies before the place behind some first events is what these leave, at their moment; and each
 /// node has its own address there.
@@ -16,7 +18,8 @@ pub fn places_are_fronts()
 {}
 
 /// What is asked of a correspondent there is what it keeps, and what is asked of a mobile what its correspondent part keeps: the
-/// care-of address that is held for a home, and the sequence that the next update has to come after.
+/// care-of address that is held for a home, whether one is held under some number, and the sequence that the next update has to
+/// come after.
 pub fn keepers_are_as_asked()
     ensures { (s : Setup) (events : List Event) (k : ℕ) → AreKeepersAsAsked s events k }
 {}
@@ -28,7 +31,8 @@ pub fn agents_are_as_asked()
 {}
 
 /// What is asked of a mobile there is what it knows: the address that it uses, the agent with which it is registered, and whether
-/// it has a binding with a peer. Every other node uses its own address.
+/// it has a binding with a peer. If it leaves there, it gives up the address that is asked; while it is registered, its agent for
+/// tunnels is the one that is asked. Every other node uses its own address.
 pub fn mobiles_are_as_asked()
     ensures { (s : Setup) (events : List Event) (k : ℕ) → AreMobilesAsAsked s events k }
 {}
@@ -39,8 +43,8 @@ pub fn one_holder_is_found()
     ensures { (c : Content) (place : ℕ) → IsHolderFound c place }
 {}
 
-/// At every place, also within an event: a care-of address that is found to be held was accepted by an update whose packet had just
-/// been handed to the node, in its present life, and no later one has ended it. Behind the entries of some first events, one that is
+/// At every place, also within an event: a care-of address that is found to be held, under whatever number, was accepted by an update
+/// whose packet had just been handed to the node, in its present life, and no later one has ended it. Behind the entries of some first events, one that is
 /// found to be registered at an agent was registered by the last update of its home in the agent's present life, which the mobile
 /// with that home had sent under its shield.
 pub fn answers_have_their_update()
@@ -52,4 +56,10 @@ pub fn answers_have_their_update()
 /// alone, to the end of that, and the sequence of that acceptance is kept. No earlier one counts.
 pub fn one_number_leaves_the_last()
     ensures { (home now : ℕ) → IsOfTheLast home now }
+{}
+
+/// A home registration that a mobile sends is read as one to its agent, and a deregistration as none: so where the last one went is
+/// told by the packets that were sent.
+pub fn home_registrations_are_read()
+    ensures { (home careof agent : Address) (sequence : ℕ) → IsAway home careof agent → sequence < 65536 → IsReadAsSent home careof agent sequence }
 {}

@@ -10,10 +10,14 @@ mod laws;
 mod made;
 mod mobiles;
 mod past;
+mod planned;
+mod plans;
 mod recall;
+mod registering;
 
 pub use laws::{
-    agents_are_as_asked, answers_have_their_update, keepers_are_as_asked, mobiles_are_as_asked,
-    one_holder_is_found, one_number_leaves_the_last, places_are_fronts,
+    agents_are_as_asked, answers_have_their_update, home_registrations_are_read,
+    keepers_are_as_asked, mobiles_are_as_asked, one_holder_is_found, one_number_leaves_the_last,
+    places_are_fronts,
 };
 pub use past::Past;

@@ -18,6 +18,7 @@ use Rattle.mip_history.specs.Told.{agent_in, is_bound_in, careof_in}
 use Rattle.mip_rules_mobile.specs.declared.attachment.Attachment.{Attachment}
 use Rattle.mip_rules_mobile.specs.declared.attachment.Attachment.TheVariants.{Detached, AtHome, Away}
 use Rattle.mip_past.specs.Asking.{present_told, standing_told, registered_until_in}
+use Rattle.mip_past.specs.Registering.{agent_of_told}
 use Rattle.mip_past_text.specs.Subjects.{about_each}
 use Rattle.mip_past_text.specs.declared.topic.Topic.{Topic}
 use Rattle.mip_past_text.specs.declared.topic.Topic.TheVariants.{Binding, Registration, Peer}
@@ -47,6 +48,11 @@ yes_or_no false = codes "no"
 -- `QUESTION NODE ANSWER`, and `QUESTION NODE ADDRESS ANSWER`
 abbrev pub node_line : List Declaration → NodeId → (question answer : List ℕ) → List ℕ
 node_line ds n question answer = line_text (question ∷ node_text ds n ∷ answer ∷ [])
+
+-- the line of a question that has an answer; none where there is none
+abbrev pub line_if : (question node : List ℕ) → Option Address → List ℕ
+line_if question node None = []
+line_if question node (Some answer) = line_text (question ∷ node ∷ address_hex answer ∷ [])
 
 abbrev pub subject_line : List Declaration → NodeId → (question : List ℕ) → Address → (answer : List ℕ) → List ℕ
 subject_line ds n question address answer = line_text (question ∷ node_text ds n ∷ address_hex address ∷ answer ∷ [])
@@ -87,7 +93,8 @@ node_known ds f n =
     node_line ds n (codes "present") (address_answer (present_told f.past n.0))
     ++ (node_line ds n (codes "standing") (standing_answer (standing_told f.past n.0))
     ++ (node_line ds n (codes "agent") (address_answer (agent_in (now_of f) f.past n.0))
-    ++ (topic_texts ds f n Binding ++ (topic_texts ds f n Registration ++ topic_texts ds f n Peer))))
+    ++ (line_if (codes "through") (node_text ds n) (agent_of_told (now_of f) f.past n.0)
+    ++ (topic_texts ds f n Binding ++ (topic_texts ds f n Registration ++ topic_texts ds f n Peer)))))
 
 -- of the first so many nodes
 unfoldable pub nodes_known : List Declaration → Front → ℕ → List ℕ

@@ -3,7 +3,7 @@
 ghost use Rattle.std.specs.Prelude.{◌≡◌, ◌++◌, ◌∷◌, [], OnOk, codes};
 ghost use Rattle.mip_lines.specs.HexFields.{address_hex};
 ghost use Rattle.mip_lines.specs.Lines.{line_text};
-ghost use Rattle.mip_past_text.specs.Text.{address_answer, moment_answer, number_answer, standing_answer, yes_or_no};
+ghost use Rattle.mip_past_text.specs.Text.{address_answer, line_if, moment_answer, number_answer, standing_answer, yes_or_no};
 
 use mip_lines::{put_line, put_number};
 use mip_rules_mobile::Attachment;
@@ -22,6 +22,21 @@ pub fn put_address(
     match answer {
         Some(address) => put_line(out, &[question, node, &address.digits()]),
         None => put_line(out, &[question, node, b"-"]),
+    }
+}
+
+/// Appends `QUESTION NODE ANSWER`, by an address, where there is an answer.
+pub fn put_address_if(
+    out: &mut Bytes,
+    question: &[u8],
+    node: &[u8],
+    answer: Option<Address>,
+) -> Result<(), Memory>
+    ensures { OnOk result (out.new ≡ out.old ++ line_if question.now node.now answer) }
+{
+    match answer {
+        Some(address) => put_line(out, &[question, node, &address.digits()]),
+        None => Ok(()),
     }
 }
 

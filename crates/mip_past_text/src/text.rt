@@ -9,7 +9,8 @@ ghost use Rattle.mip_past_text.specs.declared.topic.Topic.TheVariants as topics;
 ghost use Rattle.mip_past_text.specs.Text.{registered_line, until_line, sequence_line, topic_text, topic_texts, node_known, nodes_known, known_of, known_text};
 
 use crate::answers::{
-    put_address, put_address_of, put_moment_of, put_number_of, put_standing, put_whether,
+    put_address, put_address_if, put_address_of, put_moment_of, put_number_of, put_standing,
+    put_whether,
 };
 use crate::inquiry::Inquiry;
 use crate::subjects::{is_named, subject};
@@ -162,6 +163,7 @@ fn put_node(alloc: Global, out: &mut Bytes, asked: Inquiry<'_>) -> Result<(), Me
     put_address(out, b"present", name, asked.past.present(asked.node))?;
     put_standing(out, name, asked.past.standing(asked.node))?;
     put_address(out, b"agent", name, asked.past.agent(asked.node))?;
+    put_address_if(out, b"through", name, asked.past.agent_of(asked.node))?;
     put_topics(alloc, out, asked, Topic::Binding)?;
     put_topics(alloc, out, asked, Topic::Registration)?;
     put_topics(alloc, out, asked, Topic::Peer)

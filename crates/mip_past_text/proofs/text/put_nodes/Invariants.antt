@@ -1,4 +1,4 @@
-use Rattle.std.proofs.Common.{◌≡◌, ◌++◌, ℕ}
+use Rattle.std.proofs.Common.{◌≡◌, ◌++◌}
 use Rattle.mip_past_text.specs.Fronts.{front_of}
 use Rattle.mip_past_text.specs.Text.{nodes_known}
 use Rattle.mip_past_text.proofs.text.put_nodes.Given as goal

@@ -1,4 +1,4 @@
-use Rattle.std.proofs.Common.{◌≡◌, ◌++◌, List, ℕ, length}
+use Rattle.std.proofs.Common.{◌≡◌, ◌++◌, length}
 use Rattle.mip_past_text.specs.Subjects.{about_each}
 use Rattle.mip_past_text.specs.Fronts.{front_of}
 use Rattle.mip_past_text.specs.Text.{topic_text}
