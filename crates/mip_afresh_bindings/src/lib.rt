@@ -1,0 +1,16 @@
+//! What a correspondent keeps of its homes (RFC 6275 section 9.1), asked of the entries of its present life: nothing is kept beside
+//! them.
+#![tactic(auto)]
+
+mod acceptance;
+//mod held;
+mod home;
+//mod kept;
+mod lived;
+//mod room;
+
+pub use acceptance::Acceptance;
+//pub use held::{floor, held, held_under, holds};
+//pub use kept::kept_of;
+pub use lived::accepted_by;
+//pub use room::is_full;
