@@ -3,14 +3,14 @@
 #![tactic(auto)]
 
 mod acceptance;
-//mod held;
+mod bound;
 mod home;
 //mod kept;
 mod lived;
 //mod room;
 
 pub use acceptance::Acceptance;
-//pub use held::{floor, held, held_under, holds};
+pub use bound::{floor, held, held_under, holds};
 //pub use kept::kept_of;
 pub use lived::accepted_by;
 //pub use room::is_full;
