@@ -1,1 +1,2 @@
 pub mod HomeLaws
+pub mod CountLaws

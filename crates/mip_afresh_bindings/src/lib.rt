@@ -5,12 +5,12 @@
 mod acceptance;
 mod bound;
 mod home;
-//mod kept;
+mod kept;
 mod lived;
-//mod room;
+mod room;
 
 pub use acceptance::Acceptance;
 pub use bound::{floor, held, held_under, holds};
-//pub use kept::kept_of;
+pub use kept::kept_of;
 pub use lived::accepted_by;
-//pub use room::is_full;
+pub use room::is_full;
