@@ -1,5 +1,5 @@
 -- Homes that are counted at their last acceptance are those that have a sequence kept.
-use Rattle.std.proofs.Common.{◌≡◌, ◌≢◌, ℕ, ◌+◌, ◌<◌, List, [], ◌∷◌, Bool, true, false, true≢false, length, refl, sym, ap, ◌∙◌, arith, absurd}
+use Rattle.std.proofs.Common.{◌≡◌, ◌≢◌, ℕ, ◌+◌, ◌<◌, List, [], ◌∷◌, Bool, true, false, true≢false, length, refl, sym, ap, ◌∙◌, arith}
 use Rattle.std.specs.Prelude.{Option, Some, None, is_some, not, ◌&&◌, ◌||◌, ◌==◌, if◌then◌else◌, fold}
 use Rattle.std.specs.List.{list_any, AllByRecursion}
 use Rattle.std.proofs.lemmas.Bool.{or_parts}
@@ -47,21 +47,21 @@ none_same : (y : ℕ) (ys : List ℕ) → AllByRecursion (λ z. z ≢ y) ys → 
 none_same y [] all = refl
 none_same y (z ∷ zs) all = let other = all.0 in grind (arith, nat_tests, other, none_same y zs all.1)
 
-length_without : (k : ℕ) (ys : List ℕ) → ApartBy (λ y. y) ys → length ys ≡ (if among k ys then 1 else 0) + length (without k ys)
-length_without k [] apart = refl
-length_without k (y ∷ ys) apart = by (y == k) refl
+length_more : (k y : ℕ) (ys : List ℕ) → AllByRecursion (λ z. z ≢ y) ys → length ys ≡ (if among k ys then 1 else 0) + length (without k ys)
+    → length (y ∷ ys) ≡ (if among k (y ∷ ys) then 1 else 0) + length (without k (y ∷ ys))
+length_more k y ys others more = by (y == k) refl
   where
-    more : length ys ≡ (if among k ys then 1 else 0) + length (without k ys)
-    more = length_without k ys apart.1
-
-    by : (same : Bool) → (y == k) ≡ same → length (y ∷ ys) ≡ (if among k (y ∷ ys) then 1 else 0) + length (without k (y ∷ ys))
+    by : (same : Bool) → (y == k) ≡ same → length (y ∷ ys) ≡ (if same || among k ys then 1 else 0) + length (if not same then y ∷ without k ys else without k ys)
     by true e =
         let is : y ≡ k = grind (arith, nat_tests) in
-        let none : among y ys ≡ false = none_same y ys apart.0 in
-        let rest : among k ys ≡ false = ap (λ h. among h ys) (sym is) ∙ none in
-        let left : without k ys ≡ ys = same_not k ys rest in
-        grind (arith, nat_tests, e, rest, left)
-    by false e = grind (arith, nat_tests, e, more)
+        let rest : among k ys ≡ false = ap (λ h. among h ys) (sym is) ∙ none_same y ys others in
+        let left = ap (λ (zs : List ℕ). length zs) (same_not k ys rest) in
+        omega (arith, left)
+    by false e = omega (arith, more)
+
+length_without : (k : ℕ) (ys : List ℕ) → ApartBy (λ y. y) ys → length ys ≡ (if among k ys then 1 else 0) + length (without k ys)
+length_without k [] apart = refl
+length_without k (y ∷ ys) apart = length_more k y ys apart.0 (length_without k ys apart.1)
 
 -- a home that has a sequence kept was accepted
 untouched : (home : ℕ) (kept : Option HomeKept) (xs : List Acceptance) → any_of home xs ≡ false → fold (home_step home) kept xs ≡ kept
@@ -99,7 +99,7 @@ count_more : (xs : List Acceptance) (now : ℕ) (x : Acceptance) (more : List Ac
 count_more xs now x more ys rest c = by (any_of x.home more) refl
   where
     by : (again : Bool) → any_of x.home more ≡ again → (if not again && is_some (floor xs x.home now) then 1 else 0) + counted xs now more ≡ length ys
-    by true e = rest ys (record { apart = c.apart; within = inside; agree = c.agree.1 })
+    by true e = let same = rest ys (record { apart = c.apart; within = inside; agree = c.agree.1 }) in omega (arith, same)
       where
         inside : (h : ℕ) → among h ys ≡ true → any_of h more ≡ true
         inside h is = at (x.home == h) refl (c.within h is)
