@@ -6,11 +6,13 @@ mod acceptance;
 mod bound;
 mod home;
 mod kept;
+mod laws;
 mod lived;
 mod room;
 
 pub use acceptance::Acceptance;
 pub use bound::{floor, held, held_under, holds};
 pub use kept::kept_of;
+pub use laws::kept_is_as_known;
 pub use lived::accepted_by;
 pub use room::is_full;
