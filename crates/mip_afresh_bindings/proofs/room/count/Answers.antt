@@ -1,4 +1,4 @@
-use Rattle.std.proofs.Common.{◌≡◌, ◌+◌, ◌≤◌, length, map, ap, sym, ◌∙◌, arith}
+use Rattle.std.proofs.Common.{map, arith}
 use Rattle.mip_afresh_bindings.specs.Accepted.{acceptance_seen}
 use Rattle.mip_afresh_bindings.proofs.CountLaws.{counted_floors}
 use Rattle.mip_afresh_bindings.proofs.room.count.Goals as goal
