@@ -1,3 +1,4 @@
+mod bindings;
 mod hex;
 mod network;
 mod rules;

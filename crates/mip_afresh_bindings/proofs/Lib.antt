@@ -1,0 +1,3 @@
+pub mod HomeLaws
+pub mod CountLaws
+pub mod KeptLaws

@@ -1,0 +1,4 @@
+pub mod Accepted
+pub mod Homes
+pub mod Counting
+pub mod Keeping
