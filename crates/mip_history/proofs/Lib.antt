@@ -34,9 +34,9 @@ mod Shields
 mod Receivers
 mod Refused
 pub mod Walking
-mod Homed
+pub mod Homed
 mod Homing
-mod HomedRuns
+pub mod HomedRuns
 pub mod Registrations
 pub mod Reasons
 pub mod Declaring

@@ -27,26 +27,9 @@ use Rattle.mip_history.specs.Claims.{claims}
 use Rattle.mip_history.specs.Homes.{gives_up}
 use Rattle.mip_history.specs.Posting.{posted}
 use Rattle.mip_history.specs.Bound.{accepted_by, HasAccepted}
+pub use Rattle.mip_history.specs.RunsLaws.{Meets, IsPast, IsPart, IsRun}
 use Rattle.mip_history.proofs.Quiet.{is_told, same_accepted, same_moment, same_life}
 use Rattle.mip_history.proofs.Keeping.{is_busy, keeps_overheard, keeps_claims, keeps_gives_up}
-
--- what an entry meets of those before it: no moment is told that is earlier, and what is accepted has its update
-abbrev pub Meets : Setup → List Entry → Entry → Type 0
-Meets s front (entries.At moment) = moment_in s.start front ≤ moment.0
-Meets s front (entries.Accepted node number home binding careof sequence end i j) =
-    HasAccepted s front (entries.Accepted node number home binding careof sequence end i j)
-Meets s front _ = Unit {0}
-
--- the past of a correspondent holds what the history has accepted in its present life, at moments that do not fall
-pub record IsPast (s : Setup) (past : List Entry) (steps : List (Stamped Step)) (n : ℕ) : Type 0 where
-  pub accepted : accepted_in steps ≡ accepted_by s.start past n
-  pub rises : RisesFrom 0 steps
-  pub early : AllByRecursion (λ t. t.at ≤ moment_in s.start past) steps
-
--- so does that of a mobile's correspondent part, and it has the secrets of that life
-pub record IsPart (s : Setup) (front : List Entry) (life : PartLife) (n : ℕ) : Type 0 where
-  pub secrets : life.secrets ≡ secrets_in s n (life_in front n)
-  pub past : IsPast s front life.past n
 
 -- in a history of the same moment and acceptances the same stands
 pub past_stays : (s : Setup) (before after : List Entry) (steps : List (Stamped Step)) (n : ℕ) → accepted_by s.start after n ≡ accepted_by s.start before n → moment_in s.start after ≡ moment_in s.start before
@@ -63,14 +46,6 @@ part_stays s before after life n accepted moment lives p = record {
   secrets = p.secrets ∙ ap (λ (l : ℕ). secrets_in s n l) (sym lives);
   past = past_stays s before after life.past n accepted moment p.past;
 }
-
-pub record IsRun (s : Setup) (run : Run) : Type 0 where
-  pub nodes : length run.pasts ≡ length s.hosts
-  pub agents : length run.agent_pasts ≡ length s.hosts
-  pub mobiles : length run.mobile_pasts ≡ length s.hosts
-  pub kept : EachAfter (Meets s) [] run.past
-  pub pasts : (n : ℕ) → is_correspondent_at s n ≡ true → IsPast s run.past (past_at run n) n
-  pub parts : (n : ℕ) (home : Address) (agent : Option Address) → slice_get s.hosts n ≡ Some (record { address = home; kind = Mobile agent }) → IsPart s run.past (part_in s run n home) n
 
 -- a run goes on, and nobody accepts anything, no time passes, and nobody restarts
 pub record IsQuiet (s : Setup) (before after : Run) : Type 0 where

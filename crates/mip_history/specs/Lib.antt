@@ -23,6 +23,7 @@ pub mod Permitted
 pub mod Passing
 pub mod Bound
 pub mod BoundLaws
+pub mod RunsLaws
 pub mod Again
 pub mod Registered
 pub mod Naming
