@@ -28,6 +28,7 @@ use Rattle.mip_history.proofs.Restarting.{again, born_life}
 use Rattle.mip_history.proofs.Opening.{nothing, nothing_is, quiet_opened}
 use Rattle.mip_history.proofs.Passes.{Passes}
 use Rattle.mip_history.proofs.Numbers.{AreNumbered, numbers_change, run_numbers}
+use Rattle.mip_history.proofs.Shields.{AreShielded, shields_change, run_shields}
 use Rattle.mip_history.proofs.RunChanges.{run_change}
 
 -- a wait comes to its end
@@ -102,8 +103,9 @@ life_all s n run (event ∷ events) =
 pub run_passes : (s : Setup) (events : List Event) → Passes s (nothing s) (run_of s events) (sum_by waited_by events) (λ n. sum_by (restarted_by n) events)
 run_passes s events =
     let quiet = quiet_opened s in record {
-      run = (all_keep s (λ (run : Run). IsRun s run × AreNumbered s run) (λ event a b change is. (run_change s event a b change is.1 is.0, numbers_change s event a b change is.1)) (opened s) events
-          (quiet_run s (nothing s) (opened s) quiet (nothing_is s), run_numbers s [])).0;
+      run = (all_keep s (λ (run : Run). IsRun s run × (AreNumbered s run × AreShielded s run))
+          (λ event a b change is. (run_change s event a b change is.1.0 is.1.1 is.0, (numbers_change s event a b change is.1.0, shields_change s event a b change is.1.1))) (opened s) events
+          (quiet_run s (nothing s) (opened s) quiet (nothing_is s), (run_numbers s [], run_shields s []))).0;
       moment = now_all s (opened s) events ∙ ap (λ (m : ℕ). m + sum_by waited_by events) quiet.moment;
       life = λ n. life_all s n (opened s) events ∙ ap (λ (m : ℕ). m + sum_by (restarted_by n) events) (quiet.life n);
     }

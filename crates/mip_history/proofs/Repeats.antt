@@ -15,7 +15,7 @@ use Rattle.mip_mobhdr.specs.declared.indices.Indices.{Indices}
 use Rattle.mip_reception.specs.Says.{UpdateIdentity, carried, says}
 use Rattle.mip_reception.specs.Says.Carried.{Update}
 use Rattle.mip_reception.proofs.Sayings.{carried_plain, carried_opened}
-use Rattle.mip_rules_mobile.specs.Part.{Itself, Within}
+use Rattle.mip_history.specs.Bound.{Itself, Within}
 use Rattle.mip_rules_mobile.proofs.Checks.{opened-reads}
 use Rattle.mip_binding.specs.Held.{floor}
 use Rattle.mip_bcache.specs.declared.accepted.Accepted.{Accepted}
@@ -82,17 +82,17 @@ same_packet : (s : Setup) (front es : List Entry) (n k : ℕ) (home : Address) (
 same_packet s front es n k home binding a key is u = packet_is u.packet is.bytes (sym u.posted ∙ packet_stays k front es is.bytes is.posted)
 
 -- what is read of a packet says what the packet carries
-read_says : (kind : Kind) (bytes : List ℕ) (p : Packet) → p.head.proto ≡ 135 → IsReadBy kind bytes p → carried bytes ≡ says p
-read_says (Correspondent room) bytes p mobility read = carried_plain bytes p read (λ t. omega (arith, mobility))
-read_says (Agent preference life room serves) bytes p mobility read = absurd read
-read_says (Mobile agent) bytes p mobility (Itself read) = carried_plain bytes p read (λ t. omega (arith, mobility))
-read_says (Mobile agent) bytes p mobility (Within outer read opens) =
+read_says : (kind : Kind) (past : List Entry) (k : ℕ) (bytes : List ℕ) (p : Packet) → p.head.proto ≡ 135 → IsReadBy kind past k bytes p → carried bytes ≡ says p
+read_says (Correspondent room) past k bytes p mobility read = carried_plain bytes p read (λ t. omega (arith, mobility))
+read_says (Agent preference life room serves) past k bytes p mobility read = absurd read
+read_says (Mobile agent) past k bytes p mobility (Itself read) = carried_plain bytes p read (λ t. omega (arith, mobility))
+read_says (Mobile agent) past k bytes p mobility (Within outer read opens shielded) =
     carried_opened bytes outer p outer.head.source read opens
     ∙ carried_plain outer.body p (opened-reads outer.head.source outer p opens) (λ t. omega (arith, mobility))
 
 accepted_says : (s : Setup) (front es : List Entry) (n k : ℕ) (home : Address) (binding : ℕ) (a : Accepted) (key : UpdateIdentity) (is : IsAccepted s front n k home binding a) → CarriesUpdate (front ++ es) k key → says is.packet ≡ Update key
 accepted_says s front es n k home binding a key is u =
-    sym (read_says is.kind is.bytes is.packet is.mobility is.read)
+    sym (read_says is.kind front k is.bytes is.packet is.mobility is.read)
     ∙ ap carried (sym (same_packet s front es n k home binding a key is u))
     ∙ u.says
 

@@ -1,6 +1,6 @@
 -- Each change keeps a run.
 use Rattle.std.proofs.Common.{◌≡◌, ℕ, List, [], ◌∷◌, ◌++◌, true, false, length, refl, sym, ap, subst}
-use Rattle.std.specs.Prelude.{Option, Some, None, slice_get}
+use Rattle.std.specs.Prelude.{Option, Some, None, is_some, slice_get}
 use Rattle.std.proofs.lemmas.Option.{slice_get_within}
 use Rattle.mip_words.specs.declared.address.Address.{Address}
 use Rattle.mip_words.specs.declared.shield.Shield.{Shield}
@@ -21,10 +21,12 @@ use Rattle.mip_history.specs.Knowing.{secrets_in}
 use Rattle.mip_history.specs.Nodes.{by_host, acts}
 use Rattle.mip_history.specs.Delivery.{handed_over}
 use Rattle.mip_history.specs.Bound.{packet_in}
+use Rattle.mip_history.specs.Shields.{is_shielded_in}
 use Rattle.mip_history.proofs.Keeping.{IsHanded, emptied_by_host}
 use Rattle.mip_history.proofs.Changes.{IsBy, Change, left, comes, injects, drops, squats, yields, acted, moved, reborn, gives, renewed}
 use Rattle.mip_history.proofs.Walking.{left_idle}
 use Rattle.mip_history.proofs.Numbers.{AreNumbered, posted_is}
+use Rattle.mip_history.proofs.Shields.{AreShielded, shield_is}
 use Rattle.mip_history.proofs.Runs.{IsRun, quiet_same, quiet_run, quiet_idle, quiet_entered, quiet_claims, quiet_gives_up}
 use Rattle.mip_history.proofs.Handing.{handed_to}
 use Rattle.mip_history.proofs.PartHanding.{handed_to_part}
@@ -32,7 +34,7 @@ use Rattle.mip_history.proofs.Acting.{noted_goes, quiet_agent_past, acts_goes, a
 use Rattle.mip_history.proofs.Waiting.{at_comes}
 use Rattle.mip_history.proofs.Restarting.{other_reborn, correspondent_reborn, mobile_reborn}
 
-module _ (s : Setup) (run : Run) (is : IsRun s run) (numbered : AreNumbered s run) where
+module _ (s : Setup) (run : Run) (is : IsRun s run) (numbered : AreNumbered s run) (shielded : AreShielded s run) where
   -- a packet is handed over
   handed_keeps : (n k : ℕ) (shield : Option Shield) (packet : List ℕ) → IsHanded run n k shield packet → IsRun s (acts s n (Take k shield packet) run)
   handed_keeps n k shield packet h =
@@ -49,9 +51,12 @@ module _ (s : Setup) (run : Run) (is : IsRun s run) (numbered : AreNumbered s ru
       found : packet_in (h.earlier ++ entries.Handed k (node_id n) ∷ []) k ≡ Some h.post.packet
       found = subst (λ (past : List Entry). packet_in past k ≡ Some h.post.packet) h.told (posted_is s run k h.post numbered h.posted)
 
+      under : is_shielded_in (h.earlier ++ entries.Handed k (node_id n) ∷ []) k ≡ Some (is_some h.post.shield)
+      under = subst (λ (past : List Entry). is_shielded_in past k ≡ Some (is_some h.post.shield)) h.told (shield_is s run k h.post shielded h.posted)
+
       goes : IsRun s (acts s n (Take k h.post.shield (handed_over h.post.packet h.link)) (note (entries.Handed k (node_id n)) (record run { past = h.earlier })))
       goes = (acts_goes s n (Take k h.post.shield (handed_over h.post.packet h.link)) (note (entries.Handed k (node_id n)) before) here
-          (λ own room e. handed_to s k n h.post h.link before here found own room e) (λ own agent e. handed_to_part s k n h.post h.link before here found own agent e)).run
+          (λ own room e. handed_to s k n h.post h.link before here found own room e) (λ own agent e. handed_to_part s k n h.post h.link before here found under own agent e)).run
 
   called : (event : Event) (n : ℕ) (call : Call) → IsBy s event run n call → IsRun s (acts s n call run)
   called event n (Take k shield packet) by = handed_keeps n k shield packet by.1
@@ -83,17 +88,17 @@ module _ (s : Setup) (run : Run) (is : IsRun s run) (numbered : AreNumbered s ru
       of_kind own (Mobile agent) e mobile =
           subst (λ (l : Life). IsRun s (by_host s n (calls.Restart l) (note (entries.Restarted (node_id n)) run) (Some (record { address = own; kind = Mobile agent })))) (sym so) (mobile_reborn s run n is own agent e).run
 
-pub run_change : (s : Setup) (event : Event) (a b : Run) → Change s event a b → AreNumbered s a → IsRun s a → IsRun s b
-run_change s event _ _ (left run e is) numbered r = quiet_run s run (note e run) (quiet_idle s run run e (left_idle s event run e is) (quiet_same s run)) r
-run_change s event _ _ (comes run m wait early) numbered r = (at_comes s run m r early).run
-run_change s event _ _ (injects run o link packet is) numbered r =
+pub run_change : (s : Setup) (event : Event) (a b : Run) → Change s event a b → AreNumbered s a → AreShielded s a → IsRun s a → IsRun s b
+run_change s event _ _ (left run e is) numbered shielded r = quiet_run s run (note e run) (quiet_idle s run run e (left_idle s event run e is) (quiet_same s run)) r
+run_change s event _ _ (comes run m wait early) numbered shielded r = (at_comes s run m r early).run
+run_change s event _ _ (injects run o link packet is) numbered shielded r =
     quiet_run s run _ (quiet_entered s (record { from = link.0; shield = None; packet = packet }) (entries.Injected (length run.posts) o link packet) run refl) r
-run_change s event _ _ (drops run k) numbered r = record { nodes = r.nodes; agents = r.agents; mobiles = r.mobiles; kept = r.kept; pasts = r.pasts; parts = r.parts }
-run_change s event _ _ (squats run o address so) numbered r = quiet_run s run _ (quiet_claims s (holder_outside o) address run) r
-run_change s event _ _ (yields run o address so) numbered r = quiet_run s run _ (quiet_gives_up s (holder_outside o) address run) r
-run_change s event _ _ (acted run n call by) numbered r = called s run r numbered event n call by
-run_change s event _ _ (moved run node link so is) numbered r =
+run_change s event _ _ (drops run k) numbered shielded r = record { nodes = r.nodes; agents = r.agents; mobiles = r.mobiles; kept = r.kept; pasts = r.pasts; parts = r.parts }
+run_change s event _ _ (squats run o address so) numbered shielded r = quiet_run s run _ (quiet_claims s (holder_outside o) address run) r
+run_change s event _ _ (yields run o address so) numbered shielded r = quiet_run s run _ (quiet_gives_up s (holder_outside o) address run) r
+run_change s event _ _ (acted run n call by) numbered shielded r = called s run r numbered shielded event n call by
+run_change s event _ _ (moved run node link so is) numbered shielded r =
     let gone = acts_calmly s node.0 calls.Leave run r refl in (noted_goes s (acts s node.0 calls.Leave run) (entries.Moved node link) gone.run refl).run
-run_change s event _ _ (reborn run node so is) numbered r = reborn_keeps s run r numbered node.0 (slice_get s.hosts node.0) refl is
-run_change s event _ _ (gives run node address so is) numbered r = quiet_run s run _ (quiet_gives_up s node.0 address run) r
-run_change s event _ _ (renewed run node secrets so is life) numbered r = renewed_keeps s run r numbered node.0 secrets life (slice_get s.hosts node.0) refl is
+run_change s event _ _ (reborn run node so is) numbered shielded r = reborn_keeps s run r numbered shielded node.0 (slice_get s.hosts node.0) refl is
+run_change s event _ _ (gives run node address so is) numbered shielded r = quiet_run s run _ (quiet_gives_up s node.0 address run) r
+run_change s event _ _ (renewed run node secrets so is life) numbered shielded r = renewed_keeps s run r numbered shielded node.0 secrets life (slice_get s.hosts node.0) refl is

@@ -12,10 +12,11 @@ use Rattle.mip_links.specs.Table.{Post}
 use Rattle.mip_history.specs.Setup.{Setup}
 use Rattle.mip_history.specs.Runs.{Run}
 use Rattle.mip_history.specs.Permitted.{run_of}
-use Rattle.mip_history.specs.Shields.{shield_posted, IsHeardBare}
+use Rattle.mip_history.specs.Shields.{shield_posted, is_shielded_in, IsHeardBare}
+use Rattle.mip_history.proofs.Changes.{Change}
 use Rattle.mip_history.proofs.Effects.{IsSeen, IsPosting}
 use Rattle.mip_history.proofs.Opening.{is_other}
-use Rattle.mip_history.proofs.PostRecords.{IsBeside, run_tells}
+use Rattle.mip_history.proofs.PostRecords.{IsBeside, Tells, TellsWhere, tells_change, run_tells}
 
 abbrev is_under : Post → Bool
 is_under post = is_some post.shield
@@ -44,6 +45,24 @@ opens : (past : List Entry) (e : Entry) → is_other e ≡ false → IsHeardBare
 opens past (entries.Claimed who link address) claim = (tt, refl)
 opens past _ claim = absurd cc
 
+law : (s : Setup) → TellsWhere s shield_posted is_under IsHeardBare
+law s = record { seen = seen; posting = posting; beside = beside; opens = λ past e claim short. opens past e claim }
+
+-- the history tells which posts are under a shield
+abbrev pub AreShielded : Setup → Run → Type 0
+AreShielded s run = Tells s shield_posted is_under IsHeardBare run
+
+pub shields_change : (s : Setup) (event : Event) (a b : Run) → Change s event a b → AreShielded s a → AreShielded s b
+shields_change s = tells_change s shield_posted is_under IsHeardBare (law s)
+
+pub run_shields : (s : Setup) (events : List Event) → AreShielded s (run_of s events)
+run_shields s events = run_tells s shield_posted is_under IsHeardBare (law s) events
+
+pub shield_is : (s : Setup) (run : Run) (k : ℕ) (post : Post) → AreShielded s run → slice_get run.posts k ≡ Some post → is_shielded_in run.past k ≡ Some (is_some post.shield)
+shield_is s run k post are posted =
+    ap (λ (l : List Bool). slice_get l k) are.posts
+    ∙ slice_get-map is_under run.posts k
+    ∙ ap (λ (o : Option Post). option_map is_under o) posted
+
 pub heard_bare : (s : Setup) (events : List Event) → EachAfter IsHeardBare [] (run_of s events).past
-heard_bare s events =
-    let all = run_tells s shield_posted is_under IsHeardBare (record { seen = seen; posting = posting; beside = beside; opens = λ past e claim short. opens past e claim }) events in all.each
+heard_bare s events = let all = run_shields s events in all.each

@@ -7,6 +7,7 @@ use Rattle.mip_words.specs.EachAfter.{EachAfter}
 use Rattle.mip_words.specs.declared.address.Address.{Address}
 use Rattle.mip_ipv6.specs.Packet.{Packet}
 use Rattle.mip_ipv6.specs.Reading.{packet_of}
+use Rattle.mip_ipv6.specs.Tunnel.{opened}
 use Rattle.mip_nonce.specs.Window.{index_of}
 use Rattle.mip_binding.specs.Acceptance.{Acceptance}
 use Rattle.mip_binding.specs.Held.{held, held_under, floor, is_full}
@@ -20,10 +21,10 @@ use Rattle.mip_rules_correspondent.specs.declared.verdict.Verdict.TheVariants.{A
 use Rattle.mip_reception.specs.Registrations.{registration_in}
 use Rattle.mip_rules_correspondent.specs.Soundness.{IsSound}
 use Rattle.mip_rules_correspondent.specs.Verdicts.{Bench, verdict}
-use Rattle.mip_rules_mobile.specs.Part.{IsReadIn}
 use Rattle.mip_history.specs.Setup.{Setup, Kind, part_room}
 use Rattle.mip_history.specs.Setup.Kind.{Correspondent, Agent, Mobile}
 use Rattle.mip_history.specs.Questions.{moment_in, life_in}
+use Rattle.mip_history.specs.Shields.{is_shielded_in}
 
 -- the moment, and what a node has accepted in its present life, oldest first
 pub record Lived : Type 0 where
@@ -75,12 +76,17 @@ judge_in s past n own room home = record {
   numbers = s.numbers;
 }
 
--- what a node reads of a packet that it is handed: a correspondent the packet itself, the correspondent part of a mobile the
--- packet or the one within its tunnel
-abbrev pub IsReadBy : Kind → List ℕ → Packet → Type 0
-IsReadBy (Correspondent room) bytes packet = packet_of bytes ≡ Ok packet
-IsReadBy (Agent preference life room serves) bytes packet = ⊥
-IsReadBy (Mobile agent) bytes packet = IsReadIn bytes packet
+-- what the correspondent part of a mobile reads of packet k: the packet itself, or the one within its tunnel, which was posted under
+-- a shield
+pub data IsReadIn (past : List Entry) (k : ℕ) (bytes : List ℕ) (packet : Packet) : Type 0 where
+  Itself : packet_of bytes ≡ Ok packet → IsReadIn past k bytes packet
+  Within : (outer : Packet) → packet_of bytes ≡ Ok outer → opened outer.head.source outer ≡ Ok packet → is_shielded_in past k ≡ Some true → IsReadIn past k bytes packet
+
+-- what a node reads of a packet that it is handed: a correspondent the packet itself, a mobile that or the one within its tunnel
+abbrev pub IsReadBy : Kind → List Entry → ℕ → List ℕ → Packet → Type 0
+IsReadBy (Correspondent room) past k bytes packet = packet_of bytes ≡ Ok packet
+IsReadBy (Agent preference life room serves) past k bytes packet = ⊥
+IsReadBy (Mobile agent) past k bytes packet = IsReadIn past k bytes packet
 
 -- behind this history node n accepted packet k, which it had just been handed, under a binding number: the verdict on its bytes
 pub record IsAccepted (s : Setup) (past : List Entry) (n k : ℕ) (home : Address) (binding : ℕ) (accepted : Accepted) : Type 0 where
@@ -95,7 +101,7 @@ pub record IsAccepted (s : Setup) (past : List Entry) (n k : ℕ) (home : Addres
   pub bytes : List ℕ
   pub posted : packet_in past k ≡ Some bytes
   pub packet : Packet
-  pub read : IsReadBy kind bytes packet
+  pub read : IsReadBy kind past k bytes packet
   pub mobility : packet.head.proto ≡ 135
   pub registration : Registration
   pub asks : registration_in packet.head.source packet.head.home packet.body ≡ Some registration

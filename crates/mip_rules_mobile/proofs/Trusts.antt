@@ -35,7 +35,6 @@ use Rattle.mip_rules_mobile.specs.HomeRules.{is_answered_at, if_answered, answer
 use Rattle.mip_rules_mobile.specs.PeerRules.{comes_right, test_at, is_genuine, is_trusted, acknowledges}
 use Rattle.mip_rules_mobile.specs.Questions.{after}
 use Rattle.mip_rules_mobile.specs.Transitions.{Transition, noted}
-use Rattle.mip_rules_mobile.specs.Part.{IsReadIn, Itself, Within}
 use Rattle.mip_rules_mobile.specs.Trusting.{IsAnswered, IsAcknowledged, IsByTunnel}
 use Rattle.mip_rules_mobile.specs.Resting.{last_step}
 use Rattle.mip_rules_mobile.specs.Fitting.{IsHanded, is_detached}
@@ -76,13 +75,6 @@ opened-source agent p q =
     cond_both (not (p.head.proto == 41)) _ _ (λ (r : Result Packet ExitFault). r ≡ Ok q → p.head.source.0 ≡ agent.0) (λ is e. absurd cc)
     (λ right. cond_both (not (p.head.source.0 == agent.0)) _ _ (λ (r : Result Packet ExitFault). r ≡ Ok q → p.head.source.0 ≡ agent.0) (λ is e. absurd cc)
     (λ same e. eqb-true p.head.source.0 agent.0 (straight-not (p.head.source.0 == agent.0) same)))
-
--- what came is read of the bytes alone
-pub came-read : (k : Known) (now : ℕ) (tunnelled : Bool) (shield : Option Shield) (bytes : List ℕ) (packet : Packet) → Came k now tunnelled shield bytes packet → IsReadIn bytes packet
-came-read k now false shield bytes packet read = Itself read
-came-read k now true shield bytes packet within =
-    let same : within.agent ≡ within.outer.head.source = ap (λ (n : ℕ). record { 0 = n }) (sym (opened-source within.agent within.outer packet within.opens)) in
-    Within within.outer within.read (subst (λ (a : Address). opened a within.outer ≡ Ok packet) same within.opens)
 
 -- what is not refused for want of a shield has one, where it is a mobility message
 pub shielded-not : (proto : ℕ) (shield : Option Shield) → proto ≡ 135 → ((proto == mobility_header) && is_none shield) ≡ false → is_some shield ≡ true

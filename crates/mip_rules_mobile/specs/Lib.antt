@@ -23,7 +23,6 @@ pub mod IcmpRules
 pub mod ReceivingRules
 pub mod RingingRules
 pub mod Doing
-pub mod Part
 pub mod PartLaws
 pub mod Told
 pub mod Counted

@@ -11,9 +11,12 @@ use Rattle.mip_top.specs.Answers.{answer_to}
 use Rattle.mip_top.specs.Serving.{Outside}
 use Rattle.mip_top.specs.Obeyed.{Obeys}
 
-pub audited : ((bytes : List ℕ) (given : ℕ) (old new : Option (List ℕ)) → Told (form_answer forms.Audit bytes) given old new → IsAudited bytes given old new)
-    → (command : Option Command) (left : Option (List ℕ)) (given : ℕ) (old new : Outside) → IfSome left (λ bytes. Obeys command bytes given old new)
-    → IfSome left (λ bytes. command ≡ Some Audit → IsAudited bytes given old.held new.held)
-audited law command None given old new obeys = tt
-audited law command (Some bytes) given old new obeys = λ is.
-    law bytes given old.held new.held (subst (λ (c : Option Command). IfSome (answer_to c bytes) (λ answer. Told answer given old.held new.held)) is obeys.told)
+module _ (law : (bytes : List ℕ) (given : ℕ) (old new : Option (List ℕ)) → Told (form_answer forms.Audit bytes) given old new → IsAudited bytes given old new) where
+  pub audited_of : (command : Option Command) (bytes : List ℕ) (given : ℕ) (old new : Outside) → Obeys command bytes given old new → command ≡ Some Audit → IsAudited bytes given old.held new.held
+  audited_of command bytes given old new obeys is =
+      law bytes given old.held new.held (subst (λ (c : Option Command). IfSome (answer_to c bytes) (λ answer. Told answer given old.held new.held)) is obeys.told)
+
+  pub audited : (command : Option Command) (left : Option (List ℕ)) (given : ℕ) (old new : Outside) → IfSome left (λ bytes. Obeys command bytes given old new)
+      → IfSome left (λ bytes. command ≡ Some Audit → IsAudited bytes given old.held new.held)
+  audited command None given old new obeys = tt
+  audited command (Some bytes) given old new obeys = audited_of command bytes given old new obeys

@@ -41,29 +41,31 @@ pub fn mip<S: Source, K: Sink, C: Clock, L: Link>(
     ensures obeyed { IfSome (S.left source.old) (λ bytes. Obeys (command_of (map string_bytes words.now)) bytes result.0
         (outside (K.held sink.old) (C.ahead clock.old) (L.coming link.old) (L.sent link.old) (L.port link.old) (L.calls link.old))
         (outside (K.held sink.new) (C.ahead clock.new) (L.coming link.new) (L.sent link.new) (L.port link.new) (L.calls link.new))) }
-    // A source that does not tell its bytes gave some, and they were obeyed.
+    // A source that does not tell its bytes gave some, and they were obeyed; where a trace is audited, `audited` holds of them.
     ensures obeyed_of_some { (bytes : List ℕ) × (length bytes ≤ 16_777_217)
         × (S.left source.old ≡ prepend_known bytes (S.left source.new))
         × Obeys (command_of (map string_bytes words.now)) bytes result.0
         (outside (K.held sink.old) (C.ahead clock.old) (L.coming link.old) (L.sent link.old) (L.port link.old) (L.calls link.old))
-        (outside (K.held sink.new) (C.ahead clock.new) (L.coming link.new) (L.sent link.new) (L.port link.new) (L.calls link.new)) }
+        (outside (K.held sink.new) (C.ahead clock.new) (L.coming link.new) (L.sent link.new) (L.port link.new) (L.calls link.new))
+        × (command_of (map string_bytes words.now) ≡ Some Audit → IsAudited bytes result.0 (K.held sink.old) (K.held sink.new)) }
 
+    // The clauses from here to `delivered` say it of each text, and so of the input, whether or not the source tells that.
     // At each place of the history of a schedule each care-of address that is held has its accepted update, and each accepted
     // update had just been handed over, authentic and in sequence.
-    ensures bound { IfSome (S.left source.old) (λ bytes. IfOk (reading bytes) (λ c. EachIsBound (setup_of c) (permitted c))) }
+    ensures bound { (bytes : List ℕ) → IfOk (reading bytes) (λ c. EachIsBound (setup_of c) (permitted c)) }
     // In it the same update is accepted again in one life only where its sequences have gone round.
-    ensures repeats { IfSome (S.left source.old) (λ bytes. IfOk (reading bytes) (λ c. EachRepeatIsLate (setup_of c) (permitted c))) }
+    ensures repeats { (bytes : List ℕ) → IfOk (reading bytes) (λ c. EachRepeatIsLate (setup_of c) (permitted c)) }
     // In it the mobile with that home had sent the update of each registered care-of address under its shield; it changes only
     // by such an update, or by the end of its time.
-    ensures homes { IfSome (S.left source.old) (λ bytes. IfOk (reading bytes) (λ c. HomesAreSent (setup_of c) (permitted c))) }
+    ensures homes { (bytes : List ℕ) → IfOk (reading bytes) (λ c. HomesAreSent (setup_of c) (permitted c)) }
     // A packet that a node drops, or whose update it denies, leaves the tables of that node as they were, in every run.
-    ensures refused { IfSome (S.left source.old) (λ bytes. IfOk (reading bytes) (λ c. RefusalsLeaveTables (setup_of c))) }
+    ensures refused { (bytes : List ℕ) → IfOk (reading bytes) (λ c. RefusalsLeaveTables (setup_of c)) }
     // In it each accepted update is followed by its mark. Where that is an origin, both tokens had reached whoever made
     // the update before its first packet was posted.
-    ensures marked { IfSome (S.left source.old) (λ bytes. IfOk (reading bytes) (λ c. EachIsMarked (setup_of c) (permitted c))) }
+    ensures marked { (bytes : List ℕ) → IfOk (reading bytes) (λ c. EachIsMarked (setup_of c) (permitted c)) }
     // In its run data between settled ends is handed up at the other end, with home addresses restored, where each packet of the
     // chain is delivered while nothing of what settled them changes.
-    ensures delivered { IfSome (S.left source.old) (λ bytes. IfOk (reading bytes) (λ c. EachReaches (setup_of c) c.events)) }
+    ensures delivered { (bytes : List ℕ) → IfOk (reading bytes) (λ c. EachReaches (setup_of c) c.events) }
     // Where a given trace is audited, a yes says that it is the text of the permitted history, in which each accepted update has
     // its mark; a no has the first line that differs, or that only one of the two has. A permitted trace within the bounds gets
     // a yes, unless a call failed or memory ran out.

@@ -3,7 +3,7 @@ use Rattle.mip_outside.proofs.Known.{prepend_none}
 use Rattle.mip_commands.specs.Commands.{command_of}
 use Rattle.mip_replies.specs.Setup.{setup_of}
 use Rattle.mip_top.specs.Serving.{Outside, outside}
-use Rattle.mip_top.proofs.AuditedLaws.{audited}
+use Rattle.mip_top.proofs.AuditedLaws.{audited_of, audited}
 use Rattle.mip_top.proofs.Bound.{if_told}
 use Rattle.mip_top.proofs.Endings.{ends_early}
 use Rattle.mip_top.proofs.ObeyedLaws.{idle, whole, stopped, always}
@@ -17,7 +17,9 @@ returns-in-Ok-clause-obeyed g c =
 pub returns-in-Ok-clause-obeyed_of_some : goal.returns-in-Ok-clause-obeyed_of_some
 returns-in-Ok-clause-obeyed_of_some g c =
     let o = c.obey.ensures.obeyed in
-    (o.0, o.1.most, o.1.taken, rw (sym c.in-Ok.ensures.command) o.1.obeys)
+    let command = command_of (map string_bytes c.args.words.now) in
+    let obeys = rw (sym c.in-Ok.ensures.command) o.1.obeys in
+    (o.0, o.1.most, o.1.taken, obeys, audited_of c.each_audit_is_right.ensures command o.0 _ _ _ obeys)
 
 pub returns-in-Ok-clause-ends : goal.returns-in-Ok-clause-ends
 returns-in-Ok-clause-ends g c = rw (sym c.in-Ok.ensures.command) c.obey.ensures.ends
@@ -30,43 +32,44 @@ returns-in-Err-clause-obeyed g c = always _ _ _ _ _ (record { fault = inr refl; 
 
 pub returns-in-Err-clause-obeyed_of_some : goal.returns-in-Err-clause-obeyed_of_some
 returns-in-Err-clause-obeyed_of_some g c =
-    ([], omega arith, prepend_none _ _ refl, stopped _ [] _ _ _ (record { fault = inr refl; unwritten = refl; idle = idle _ _ }))
+    let obeys = stopped _ [] _ _ _ (record { fault = inr refl; unwritten = refl; idle = idle _ _ }) in
+    ([], omega arith, prepend_none _ _ refl, obeys, audited_of c.each_audit_is_right.ensures _ [] _ _ _ obeys)
 
 pub returns-in-Ok-clause-bound : goal.returns-in-Ok-clause-bound
-returns-in-Ok-clause-bound g c = if_told _ (λ text x read. c.each_is_bound.ensures x) (g.S.Source.left c.args.source.now)
+returns-in-Ok-clause-bound g c = if_told _ (λ text x read. c.each_is_bound.ensures x)
 
 pub returns-in-Ok-clause-repeats : goal.returns-in-Ok-clause-repeats
-returns-in-Ok-clause-repeats g c = if_told _ c.each_repeat_is_late.ensures (g.S.Source.left c.args.source.now)
+returns-in-Ok-clause-repeats g c = if_told _ c.each_repeat_is_late.ensures
 
 pub returns-in-Ok-clause-homes : goal.returns-in-Ok-clause-homes
-returns-in-Ok-clause-homes g c = if_told _ (λ text x read. c.each_home_is_sent.ensures x) (g.S.Source.left c.args.source.now)
+returns-in-Ok-clause-homes g c = if_told _ (λ text x read. c.each_home_is_sent.ensures x)
 
 pub returns-in-Ok-clause-refused : goal.returns-in-Ok-clause-refused
-returns-in-Ok-clause-refused g c = if_told _ (λ text x read. c.refused_packets_leave_the_tables.ensures (setup_of x)) (g.S.Source.left c.args.source.now)
+returns-in-Ok-clause-refused g c = if_told _ (λ text x read. c.refused_packets_leave_the_tables.ensures (setup_of x))
 
 pub returns-in-Ok-clause-marked : goal.returns-in-Ok-clause-marked
-returns-in-Ok-clause-marked g c = if_told _ c.each_acceptance_is_marked.ensures (g.S.Source.left c.args.source.now)
+returns-in-Ok-clause-marked g c = if_told _ c.each_acceptance_is_marked.ensures
 
 pub returns-in-Ok-clause-delivered : goal.returns-in-Ok-clause-delivered
-returns-in-Ok-clause-delivered g c = if_told _ c.each_delivery_arrives.ensures (g.S.Source.left c.args.source.now)
+returns-in-Ok-clause-delivered g c = if_told _ c.each_delivery_arrives.ensures
 
 pub returns-in-Err-clause-bound : goal.returns-in-Err-clause-bound
-returns-in-Err-clause-bound g c = if_told _ (λ text x read. c.each_is_bound.ensures x) (g.S.Source.left c.args.source.now)
+returns-in-Err-clause-bound g c = if_told _ (λ text x read. c.each_is_bound.ensures x)
 
 pub returns-in-Err-clause-repeats : goal.returns-in-Err-clause-repeats
-returns-in-Err-clause-repeats g c = if_told _ c.each_repeat_is_late.ensures (g.S.Source.left c.args.source.now)
+returns-in-Err-clause-repeats g c = if_told _ c.each_repeat_is_late.ensures
 
 pub returns-in-Err-clause-homes : goal.returns-in-Err-clause-homes
-returns-in-Err-clause-homes g c = if_told _ (λ text x read. c.each_home_is_sent.ensures x) (g.S.Source.left c.args.source.now)
+returns-in-Err-clause-homes g c = if_told _ (λ text x read. c.each_home_is_sent.ensures x)
 
 pub returns-in-Err-clause-refused : goal.returns-in-Err-clause-refused
-returns-in-Err-clause-refused g c = if_told _ (λ text x read. c.refused_packets_leave_the_tables.ensures (setup_of x)) (g.S.Source.left c.args.source.now)
+returns-in-Err-clause-refused g c = if_told _ (λ text x read. c.refused_packets_leave_the_tables.ensures (setup_of x))
 
 pub returns-in-Err-clause-marked : goal.returns-in-Err-clause-marked
-returns-in-Err-clause-marked g c = if_told _ c.each_acceptance_is_marked.ensures (g.S.Source.left c.args.source.now)
+returns-in-Err-clause-marked g c = if_told _ c.each_acceptance_is_marked.ensures
 
 pub returns-in-Err-clause-delivered : goal.returns-in-Err-clause-delivered
-returns-in-Err-clause-delivered g c = if_told _ c.each_delivery_arrives.ensures (g.S.Source.left c.args.source.now)
+returns-in-Err-clause-delivered g c = if_told _ c.each_delivery_arrives.ensures
 
 pub returns-in-Ok-clause-audited : goal.returns-in-Ok-clause-audited
 returns-in-Ok-clause-audited g c =
