@@ -1,5 +1,5 @@
 -- Outsiders hear no packet that was posted under a shield.
-use Rattle.std.proofs.Common.{◌≡◌, List, [], Bool, false, refl, sym, ap, ◌∙◌}
+use Rattle.std.proofs.Common.{◌≡◌, ℕ, List, [], Bool, false, refl, sym, ap, ◌∙◌}
 use Rattle.std.specs.Prelude.{map, Option, Some, None, is_some, option_map, slice_get}
 use Rattle.std.specs.List.{filter_map}
 use Rattle.std.proofs.lemmas.Option.{slice_get-map}

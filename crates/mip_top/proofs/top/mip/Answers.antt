@@ -17,9 +17,13 @@ returns-in-Ok-clause-obeyed g c =
 pub returns-in-Ok-clause-obeyed_of_some : goal.returns-in-Ok-clause-obeyed_of_some
 returns-in-Ok-clause-obeyed_of_some g c =
     let o = c.obey.ensures.obeyed in
-    let command = command_of (map string_bytes c.args.words.now) in
-    let obeys = rw (sym c.in-Ok.ensures.command) o.1.obeys in
-    (o.0, o.1.most, o.1.taken, obeys, audited_of c.each_audit_is_right.ensures command o.0 _ _ _ obeys)
+    (
+      o.0,
+      o.1.most,
+      o.1.taken,
+      rw (sym c.in-Ok.ensures.command) o.1.obeys,
+      rw (sym c.in-Ok.ensures.command) (audited_of c.each_audit_is_right.ensures c.in-Ok.command o.0 _ _ _ o.1.obeys),
+    )
 
 pub returns-in-Ok-clause-ends : goal.returns-in-Ok-clause-ends
 returns-in-Ok-clause-ends g c = rw (sym c.in-Ok.ensures.command) c.obey.ensures.ends
