@@ -81,10 +81,7 @@ fn pseudo_sum(source: Address, destination: Address, size: u32, proto: u8) -> u6
     ensures value { result ≡ word_sum (pseudo_header source destination size proto) }
     ensures small { result ≤ 40 * 65535 }
 {
-    address_sum(source)
-        + address_sum(destination)
-        + number_sum(size)
-        + number_sum(u32::from(proto))
+    address_sum(source) + address_sum(destination) + number_sum(size) + number_sum(u32::from(proto))
 }
 
 /// The sum of the body with zero in its checksum's field.

@@ -88,13 +88,7 @@ fn with_room(head: &Head, message: &Plain) -> MessageBytes
 }
 
 /// The authenticator of a message.
-fn seal(
-    head: &Head,
-    message: &Plain,
-    kbm: &PreparedKbm,
-    careof: Address,
-    peer: Address,
-) -> [u8; 12]
+fn seal(head: &Head, message: &Plain, kbm: &PreparedKbm, careof: Address, peer: Address) -> [u8; 12]
     requires sealed { IsTrue (has_authenticator (said_plain message.now)) }
     requires number { HasNumber (said_plain message.now) }
     ensures { result ≡ authenticator_of kbm.now.0 careof peer (unsealed head.now (said_plain message.now)) }
