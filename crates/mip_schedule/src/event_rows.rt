@@ -57,9 +57,13 @@ fn advertise_row(ds: &[Declaration], fields: &[&[u8]]) -> Result<Event, Reason>
     })
 }
 
+#[tactic(auto, unfolding(mip_symbols::specs::Kinds::bytes))]
 fn payload_in(alloc: Global, field: &[u8]) -> Result<KeptBytes, LineFault>
     ensures { GivesLine (λ b. b) result (kinds.bytes 512 field.now) }
 {
+    if let Some(few) = KeptBytes::of_few_digits(field) {
+        return Ok(few);
+    }
     let payload = bytes(alloc, 512, field)?;
     Ok(KeptBytes::copy(alloc, payload.as_slice())?)
 }

@@ -1,8 +1,9 @@
-ghost use Rattle.std.specs.Prelude.{◌≡◌, ◌≤◌, length, IfOk};
+ghost use Rattle.std.specs.Prelude.{◌≡◌, ◌≤◌, length, IfOk, IfSome, Some};
+ghost use Rattle.mip_lines.specs.HexFields.{hex_field};
 ghost use Rattle.mip_schedule.specs.KeptBytes.{bytes_in, IsWithin};
 
 use crate::kept_room::KeptRoom;
-use mip_words::{Bytes, Memory};
+use mip_words::{Bytes, Memory, hex_exact};
 use std::alloc::Global;
 use std::marker::Model;
 
@@ -36,6 +37,27 @@ impl KeptBytes {
         let many = Bytes::copy(alloc, bytes)?;
         let room = KeptRoom::Many(Box::new(alloc, many)?);
         Ok(KeptBytes { room })
+    }
+
+    /// The bytes whose digits a field is, where there are some and they are few. Nothing is said of another field.
+    #[tactic(auto, unfolding(mip_lines::specs::HexFields::hex_field), using(crate::proofs::KeptLaws::few_front))]
+    pub(crate) fn of_few_digits(field: &[u8]) -> Option<KeptBytes>
+        ensures { IfSome result (λ k. hex_field 512 field.now ≡ Some k) }
+    {
+        let size = field.len() / 2;
+        if field.is_empty() || FEW < size || field == b"-".as_slice() {
+            return None;
+        }
+        let mut bytes = [0; FEW];
+        if !hex_exact(field, &mut bytes[..size]) {
+            return None;
+        }
+        Some(KeptBytes {
+            room: KeptRoom::Few {
+                count: size as u8,
+                bytes,
+            },
+        })
     }
 
     pub fn as_slice(&self) -> &[u8]
