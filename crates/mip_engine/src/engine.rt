@@ -18,7 +18,7 @@ use mip_links::Net;
 use mip_provenance::{AcceptedUpdate, Mark};
 use mip_recorder::Recorder;
 use mip_roles::Node;
-use mip_words::{Memory, Moment, Prefix};
+use mip_words::{Bytes, Memory, Moment, Prefix};
 use std::alloc::Global;
 use std::marker::Model;
 
@@ -35,6 +35,8 @@ pub struct Engine {
     version: u8,
     moment: Moment,
     recorder: Recorder,
+    /// The memory of a packet that is handed over, while none is.
+    buffer: Bytes,
 }
 
 impl Model for Engine {
@@ -83,6 +85,7 @@ impl Engine {
             version,
             moment: start,
             recorder: Recorder::new(alloc)?,
+            buffer: Bytes::new(alloc),
         })
     }
 

@@ -1,4 +1,6 @@
-//! Where the addresses stand in a packet's fixed header (RFC 8200 section 3), in bytes from its start.
+//! Where the hop limit and the addresses stand in a packet's fixed header (RFC 8200 section 3), in bytes from its start.
+
+pub const HOP: usize = 7;
 
 pub const SOURCE: usize = 8;
 

@@ -7,6 +7,7 @@ mod arrival;
 mod claiming;
 mod claims;
 mod engine;
+mod handing;
 pub mod header;
 mod hosts;
 mod posting;

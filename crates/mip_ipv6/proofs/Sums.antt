@@ -87,6 +87,11 @@ pub word_sum-number : (number : ℕ) → number < 65536 → word_sum (number_byt
 unfolding word_sum number_bytes
 word_sum-number number fits = omega arith
 
+-- a 32-bit number is two
+pub word_sum_number : (number : ℕ) → number < 4294967296 → word_sum (number_bytes 4 number) ≡ number / 65536 + number % 65536
+unfolding word_sum number_bytes
+word_sum_number number fits = omega arith
+
 -- writing two bytes keeps the length
 pub length-with_number_at : (place number : ℕ) (body : List ℕ) → place + 2 ≤ length body → length (with_number_at place number body) ≡ length body
 length-with_number_at place number body inside =

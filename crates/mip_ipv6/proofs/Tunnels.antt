@@ -1,5 +1,5 @@
 -- What is known of lowering a hop limit, and of tunnel packets.
-use Rattle.std.proofs.Common.{◌≡◌, ℕ, ◌+◌, ◌-◌, ◌/◌, ◌%◌, ◌^◌, ◌<◌, ◌≤◌, List, length, drop, refl, sym, ap, ◌∙◌, subst, inl, inr, arith, length-set}
+use Rattle.std.proofs.Common.{◌≡◌, ℕ, suc, ◌+◌, ◌-◌, ◌/◌, ◌%◌, ◌^◌, ◌<◌, ◌≤◌, List, [], ◌∷◌, ◌++◌, length, set, drop, refl, sym, ap, ◌∙◌, subst, inl, inr, arith, length-append, length-set}
 use Rattle.std.specs.Prelude.{Bool, true, false, slice_index, Option, None, Result, Ok, Err, cond, IsOk}
 use Rattle.std.proofs.lemmas.List.{drop-set-lt, take-set-le, get_or-set_same, get_or-set_other}
 use Rattle.std.proofs.lemmas.Bool.{cases_lt, cond-true, cond-false, lt-ltb, eq-eqb, not_from_true}
@@ -15,10 +15,10 @@ use Rattle.mip_ipv6.specs.declared.not_packet.NotPacket.TheVariants.{Short, Head
 use Rattle.mip_ipv6.specs.Packet.{Packet, names_no_body}
 use Rattle.mip_ipv6.specs.PacketLaws.{IsInRange}
 use Rattle.mip_ipv6.specs.Reading.{Walk, packet_of, fixed_header, routing_header, options_header, head_of}
-use Rattle.mip_ipv6.specs.Spelling.{IsPacket, behind_bytes}
+use Rattle.mip_ipv6.specs.Spelling.{IsPacket, fixed_bytes, routing_bytes, options_bytes, behind_bytes, packet_bytes}
 use Rattle.mip_ipv6.proofs.OptionLaws.{number_at-take}
 use Rattle.mip_ipv6.proofs.Packets.{packet_takes}
-use Rattle.mip_ipv6.proofs.Canonical.{packet_back, length_behind, length_routing, length_options}
+use Rattle.mip_ipv6.proofs.Canonical.{packet_back, length_fixed, length_behind, length_routing, length_options}
 use Rattle.mip_ipv6.specs.Tunnel.{hop_of, lowered, lowered_packet, outer_head, tunnel_packet, encapsulated, inner, opened}
 use Rattle.mip_ipv6.specs.TunnelLaws.{lowered_if_read}
 
@@ -66,6 +66,47 @@ pub length_tunnel : (entry exit : Address) (packet : List ℕ) → length (behin
 length_tunnel entry exit packet =
     length_behind (tunnel_packet entry exit packet)
     ∙ omega (arith, length_routing None 41, length_options None 41, length_lowered packet)
+
+-- the packet as the body of a packet without extension headers
+abbrev around : Address → Address → List ℕ → Packet
+around entry exit packet = record { head = outer_head entry exit; body = packet }
+
+pub length_inside : (entry exit : Address) (packet : List ℕ) → length (behind_bytes (around entry exit packet)) ≡ length packet
+length_inside entry exit packet =
+    length_behind (around entry exit packet)
+    ∙ omega (arith, length_routing None 41, length_options None 41)
+
+pub length_around : (entry exit : Address) (packet bytes : List ℕ) → bytes ≡ packet_bytes (around entry exit packet) → length bytes ≡ length packet + 40
+unfolding packet_bytes
+length_around entry exit packet bytes is =
+    let behind = behind_bytes (around entry exit packet) in
+    let front = fixed_bytes (outer_head entry exit) 41 (length behind) in
+    omega (
+      arith,
+      ap (λ (l : List ℕ). length l) is,
+      length-append front behind,
+      length_fixed (outer_head entry exit) 41 (length behind),
+      length_inside entry exit packet,
+    )
+
+-- a byte behind a first part
+set_behind : (p q : List ℕ) (i a : ℕ) → set (p ++ q) (length p + i) a ≡ p ++ set q i a
+set_behind [] q i a = let e : 0 + i ≡ i = omega arith in ap (λ (k : ℕ). set q k a) e
+set_behind (x ∷ p) q i a =
+    let e : suc (length p) + i ≡ suc (length p + i) = omega arith in
+    ap (λ (k : ℕ). set (x ∷ (p ++ q)) k a) e ∙ ap (λ (l : List ℕ). x ∷ l) (set_behind p q i a)
+
+-- a tunnel packet is the packet behind the header, with its hop limit lowered there
+pub lowered_behind : (entry exit : Address) (packet bytes : List ℕ) → bytes ≡ packet_bytes (around entry exit packet) → set bytes 47 (hop_of packet - 1) ≡ encapsulated entry exit packet
+unfolding encapsulated packet_bytes behind_bytes routing_bytes options_bytes lowered
+lowered_behind entry exit packet bytes is =
+    let hop = hop_of packet - 1 in
+    let front = fixed_bytes (outer_head entry exit) 41 (length packet) in
+    let place : 47 ≡ length front + 7 = omega (arith, length_fixed (outer_head entry exit) 41 (length packet)) in
+    ap (λ (l : List ℕ). set l 47 hop) is
+    ∙ ap (λ (k : ℕ). set (front ++ packet) k hop) place
+    ∙ set_behind front packet 7 hop
+    ∙ ap (λ (n : ℕ). fixed_bytes (outer_head entry exit) 41 n ++ set packet 7 hop) (sym (length-set packet 7 hop))
 
 -- the steps of reading a packet, from the last
 abbrev last : List ℕ → Walk → Walk → Result Packet NotPacket

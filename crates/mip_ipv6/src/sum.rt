@@ -1,7 +1,9 @@
 ghost use Rattle.std.specs.Prelude.{◌≡◌, ◌+◌, ◌*◌, ◌%◌, ◌≤◌, length, IsTrue};
+ghost use Rattle.mip_words.specs.Addresses.{address_bytes};
+ghost use Rattle.mip_words.specs.Numbers.{number_bytes};
 ghost use Rattle.mip_ipv6.specs.Sum.{word_sum, pseudo_header, is_right_sum, with_number_at, folded, checksum_of};
 
-use mip_words::{Address, u32_bytes, u64_at};
+use mip_words::{Address, u64_at};
 
 /// The sum of the four words in eight bytes, which are read as one number.
 fn sum_of_eight(bytes: &[u8]) -> u64
@@ -53,16 +55,33 @@ fn sum_of_few(bytes: &[u8]) -> u64
     }
 }
 
+/// The sum of the words of an address.
+#[tactic(auto, using(crate::proofs::Sums::word_sum_front))]
+fn address_sum(address: Address) -> u64
+    ensures value { result ≡ word_sum (address_bytes address) }
+    ensures small { result ≤ 65535 * 16 }
+{
+    let bytes = address.bytes();
+    let (front, back) = bytes.split_at(8);
+    sum_of_eight(front) + sum_of_eight(back)
+}
+
+/// The sum of the two words of a number.
+#[tactic(auto, using(crate::proofs::Sums::word_sum_number))]
+fn number_sum(number: u32) -> u64
+    ensures value { result ≡ word_sum (number_bytes 4 number) }
+    ensures small { result ≤ 65535 * 2 }
+{
+    u64::from(number / 0x1_0000 + number % 0x1_0000)
+}
+
 /// The sum of the pseudo-header.
 #[tactic(auto, using(crate::proofs::Sums::pseudo_header_is))]
 fn pseudo_sum(source: Address, destination: Address, size: u32, proto: u8) -> u64
     ensures value { result ≡ word_sum (pseudo_header source destination size proto) }
     ensures small { result ≤ 40 * 65535 }
 {
-    sum_of(&source.bytes())
-        + sum_of(&destination.bytes())
-        + sum_of(&u32_bytes(size))
-        + sum_of(&u32_bytes(u32::from(proto)))
+    address_sum(source) + address_sum(destination) + number_sum(size) + number_sum(u32::from(proto))
 }
 
 /// The sum of the body with zero in its checksum's field.

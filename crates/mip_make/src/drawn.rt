@@ -9,8 +9,8 @@ use crate::draw::Draw;
 use crate::network::{
     CORRESPONDENT, CORRESPONDENT_ADDRESS, FIRST, FIRST_HOME, SECOND, SECOND_HOME,
 };
-use mip_schedule::{Event, KeptAddress};
-use mip_words::{Address, Bytes, LinkId, Memory, NodeId, u32_bytes};
+use mip_schedule::{Event, KeptAddress, KeptBytes};
+use mip_words::{Address, LinkId, Memory, NodeId, u32_bytes};
 use std::alloc::Global;
 
 /// The protocol of all data: UDP.
@@ -51,7 +51,7 @@ fn advertises(y: u32) -> Event
 fn data(alloc: Global, node: NodeId, to: Address, y: u32) -> Result<Event, Memory>
     ensures { IfOk result (λ e. e ≡ variants.Payload node to 17 (number_bytes 4 y)) }
 {
-    let payload = Bytes::copy(alloc, &u32_bytes(y))?;
+    let payload = KeptBytes::copy(alloc, &u32_bytes(y))?;
     Ok(Event::Payload {
         node,
         to: KeptAddress::new(to),

@@ -1,4 +1,4 @@
-ghost use Rattle.std.specs.Prelude.{◌≡◌, ◌^◌, ◌<◌, ◌≤◌, ◌∷◌, ◌++◌, length, IfOk, OnOk};
+ghost use Rattle.std.specs.Prelude.{◌≡◌, ◌^◌, ◌<◌, ◌≤◌, ◌∷◌, ◌++◌, length, IfOk};
 ghost use Rattle.mip_words.specs.Numbers.{number_bytes};
 ghost use Rattle.mip_words.specs.Steps.{Gives};
 ghost use Rattle.mip_mobhdr.specs.Said.{said, HasSpan};
@@ -7,8 +7,9 @@ ghost use Rattle.mip_mobhdr.specs.Spelling.{flag};
 
 use crate::fault::Fault;
 use crate::message::Message;
+use crate::message_bytes::MessageBytes;
 use crate::option_reading::read_options;
-use mip_words::{Bytes, Memory, u16_at, u16_bytes};
+use mip_words::{u16_at, u16_bytes};
 
 /// The fields of a Binding Acknowledgement.
 #[tactic(auto, unfolding(crate::specs::Reading::acknowledgement_of))]
@@ -29,17 +30,18 @@ pub fn acknowledgement(body: &[u8]) -> Result<Message<'_>, Fault>
 
 /// Appends the fields of a Binding Acknowledgement, from byte 6 on.
 pub fn put_acknowledgement(
-    out: &mut Bytes,
+    out: &mut MessageBytes,
     status: u8,
     key: bool,
     sequence: u16,
     lifetime: u16,
-) -> Result<(), Memory>
-    ensures ok { OnOk result (out.new ≡ out.old ++ (status ∷ flag 128 key ∷ (number_bytes 2 sequence ++ number_bytes 2 lifetime))) }
+)
+    requires { length out.old ≤ 6 }
+    ensures ok { out.new ≡ out.old ++ (status ∷ flag 128 key ∷ (number_bytes 2 sequence ++ number_bytes 2 lifetime)) }
     ensures fits { (sequence < 2 ^ 16) × (lifetime < 2 ^ 16) }
 {
     let flags = if key { 0x80 } else { 0 };
-    out.extend(&[status, flags])?;
-    out.extend(&u16_bytes(sequence))?;
-    out.extend(&u16_bytes(lifetime))
+    out.extend(&[status, flags]);
+    out.extend(&u16_bytes(sequence));
+    out.extend(&u16_bytes(lifetime));
 }

@@ -1,4 +1,4 @@
-ghost use Rattle.std.specs.Prelude.{◌≡◌, ◌^◌, ◌<◌, ◌≤◌, ◌++◌, length, take, drop, IfOk, OnOk};
+ghost use Rattle.std.specs.Prelude.{◌≡◌, ◌^◌, ◌<◌, ◌≤◌, ◌++◌, length, take, drop, IfOk};
 ghost use Rattle.mip_words.specs.Numbers.{number_bytes};
 ghost use Rattle.mip_words.specs.Steps.{Gives};
 ghost use Rattle.mip_mobhdr.specs.Said.{said, HasSpan};
@@ -6,8 +6,9 @@ ghost use Rattle.mip_mobhdr.specs.Reading.{home_test_of, careof_test_of};
 
 use crate::fault::Fault;
 use crate::message::Message;
+use crate::message_bytes::MessageBytes;
 use crate::option_reading::read_options;
-use mip_words::{Bytes, Cookie, Memory, Token, u16_at, u16_bytes, u64_at, u64_bytes};
+use mip_words::{Cookie, Token, u16_at, u16_bytes, u64_at, u64_bytes};
 
 /// The fields of a Home Test.
 #[tactic(auto, unfolding(crate::specs::Reading::home_test_of))]
@@ -51,11 +52,12 @@ fn token_at(body: &[u8]) -> Token
 }
 
 /// Appends the fields of a Home Test or a Care-of Test, from byte 6 on.
-pub fn put_test(out: &mut Bytes, index: u16, cookie: Cookie, token: Token) -> Result<(), Memory>
-    ensures ok { OnOk result (out.new ≡ out.old ++ (number_bytes 2 index ++ (number_bytes 8 cookie.0 ++ token.0))) }
+pub fn put_test(out: &mut MessageBytes, index: u16, cookie: Cookie, token: Token)
+    requires { length out.old ≤ 6 }
+    ensures ok { out.new ≡ out.old ++ (number_bytes 2 index ++ (number_bytes 8 cookie.0 ++ token.0)) }
     ensures fits { (index < 2 ^ 16) × (cookie.0 < 2 ^ 64) × (length token.0 ≡ 8) }
 {
-    out.extend(&u16_bytes(index))?;
-    out.extend(&u64_bytes(cookie.0))?;
-    out.extend(&token.0)
+    out.extend(&u16_bytes(index));
+    out.extend(&u64_bytes(cookie.0));
+    out.extend(&token.0);
 }

@@ -1,4 +1,4 @@
-ghost use Rattle.std.specs.Prelude.{◌≡◌, ◌^◌, ◌<◌, ◌≤◌, ◌∷◌, ◌++◌, length, IfOk, OnOk};
+ghost use Rattle.std.specs.Prelude.{◌≡◌, ◌^◌, ◌<◌, ◌≤◌, ◌∷◌, ◌++◌, length, IfOk};
 ghost use Rattle.mip_words.specs.Addresses.{address_bytes};
 ghost use Rattle.mip_words.specs.Steps.{Gives};
 ghost use Rattle.mip_mobhdr.specs.Said.{said, HasSpan};
@@ -6,8 +6,9 @@ ghost use Rattle.mip_mobhdr.specs.Reading.{error_of};
 
 use crate::fault::Fault;
 use crate::message::Message;
+use crate::message_bytes::MessageBytes;
 use crate::option_reading::read_options;
-use mip_words::{Address, Bytes, Memory};
+use mip_words::Address;
 
 /// The fields of a Binding Error.
 #[tactic(auto, unfolding(crate::specs::Reading::error_of))]
@@ -25,10 +26,11 @@ pub fn binding_error(body: &[u8]) -> Result<Message<'_>, Fault>
 }
 
 /// Appends the fields of a Binding Error, from byte 6 on.
-pub fn put_error(out: &mut Bytes, status: u8, home: Address) -> Result<(), Memory>
-    ensures ok { OnOk result (out.new ≡ out.old ++ (status ∷ 0 ∷ address_bytes home)) }
+pub fn put_error(out: &mut MessageBytes, status: u8, home: Address)
+    requires { length out.old ≤ 6 }
+    ensures ok { out.new ≡ out.old ++ (status ∷ 0 ∷ address_bytes home) }
     ensures fits { home.0 < 2 ^ 128 }
 {
-    out.extend(&[status, 0])?;
-    out.extend(&home.bytes())
+    out.extend(&[status, 0]);
+    out.extend(&home.bytes());
 }

@@ -8,6 +8,7 @@ ghost use Rattle.mip_mobhdr.specs.OptionValuesLaws.{IsInRange};
 ghost use Rattle.mip_mobhdr.specs.OptionWriting.{with_advice, with_nonces, with_number, with_alternate, with_authorization, closed, canonical, AppendsOptions};
 
 use crate::indices::Indices;
+use crate::message_bytes::MessageBytes;
 use crate::option_set::OptionSet;
 use crate::padding::{Area, align, put};
 use mip_words::{Address, Bytes, Memory, u16_bytes};
@@ -24,6 +25,19 @@ pub fn write_options(out: &mut Bytes, options: &OptionSet) -> Result<(), Memory>
 {
     let area = area_of(out.len(), options);
     out.extend(area.as_slice())
+}
+
+/// Appends options to the fixed fields of a message in its own memory.
+pub fn put_options(out: &mut MessageBytes, options: &OptionSet)
+    requires start { length out.old ≤ 24 }
+    requires number { IfSome options.now.number (λ n. n < 8) }
+    ensures ok { out.new ≡ out.old ++ canonical (length out.old) (set_values options.now) }
+    ensures spelled { AppendsOptions (set_values options.now) out.old out.new }
+    ensures whole { length out.new % 8 ≡ 0 }
+    ensures short { length out.new ≤ length out.old + 72 }
+{
+    let area = area_of(out.len(), options);
+    out.extend(area.as_slice());
 }
 
 #[tactic(auto, unfolding(crate::specs::OptionWriting::canonical))]

@@ -1,12 +1,12 @@
-ghost use Rattle.std.specs.Prelude.{◌≡◌, ◌≤◌, [], ◌∷◌, ◌++◌, length, IfOk, OnOk};
+ghost use Rattle.std.specs.Prelude.{◌≡◌, ◌≤◌, [], ◌∷◌, ◌++◌, length, IfOk};
 ghost use Rattle.mip_words.specs.Steps.{Gives};
 ghost use Rattle.mip_mobhdr.specs.Said.{said, HasSpan};
 ghost use Rattle.mip_mobhdr.specs.Reading.{refresh_of};
 
 use crate::fault::Fault;
 use crate::message::Message;
+use crate::message_bytes::MessageBytes;
 use crate::option_reading::read_options;
-use mip_words::{Bytes, Memory};
 
 /// The fields of a Binding Refresh Request.
 #[tactic(auto, unfolding(crate::specs::Reading::refresh_of))]
@@ -20,8 +20,9 @@ pub fn refresh(body: &[u8]) -> Result<Message<'_>, Fault>
 }
 
 /// Appends the fields of a Binding Refresh Request, from byte 6 on.
-pub fn put_refresh(out: &mut Bytes) -> Result<(), Memory>
-    ensures { OnOk result (out.new ≡ out.old ++ (0 ∷ 0 ∷ [])) }
+pub fn put_refresh(out: &mut MessageBytes)
+    requires { length out.old ≤ 6 }
+    ensures { out.new ≡ out.old ++ (0 ∷ 0 ∷ []) }
 {
-    out.extend(&[0, 0])
+    out.extend(&[0, 0]);
 }

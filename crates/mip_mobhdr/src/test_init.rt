@@ -1,4 +1,4 @@
-ghost use Rattle.std.specs.Prelude.{◌≡◌, ◌^◌, ◌<◌, ◌≤◌, ◌∷◌, ◌++◌, length, IfOk, OnOk};
+ghost use Rattle.std.specs.Prelude.{◌≡◌, ◌^◌, ◌<◌, ◌≤◌, ◌∷◌, ◌++◌, length, IfOk};
 ghost use Rattle.mip_words.specs.Numbers.{number_bytes};
 ghost use Rattle.mip_words.specs.Steps.{Gives};
 ghost use Rattle.mip_mobhdr.specs.Said.{said, HasSpan};
@@ -6,8 +6,9 @@ ghost use Rattle.mip_mobhdr.specs.Reading.{home_init_of, careof_init_of};
 
 use crate::fault::Fault;
 use crate::message::Message;
+use crate::message_bytes::MessageBytes;
 use crate::option_reading::read_options;
-use mip_words::{Bytes, Cookie, Memory, u64_at, u64_bytes};
+use mip_words::{Cookie, u64_at, u64_bytes};
 
 /// The fields of a Home Test Init.
 #[tactic(auto, unfolding(crate::specs::Reading::home_init_of))]
@@ -34,10 +35,11 @@ pub fn careof_init(body: &[u8]) -> Result<Message<'_>, Fault>
 }
 
 /// Appends the fields of a Home Test Init or a Care-of Test Init, from byte 6 on.
-pub fn put_init(out: &mut Bytes, cookie: Cookie) -> Result<(), Memory>
-    ensures ok { OnOk result (out.new ≡ out.old ++ (0 ∷ 0 ∷ number_bytes 8 cookie.0)) }
+pub fn put_init(out: &mut MessageBytes, cookie: Cookie)
+    requires { length out.old ≤ 6 }
+    ensures ok { out.new ≡ out.old ++ (0 ∷ 0 ∷ number_bytes 8 cookie.0) }
     ensures fits { cookie.0 < 2 ^ 64 }
 {
-    out.extend(&[0, 0])?;
-    out.extend(&u64_bytes(cookie.0))
+    out.extend(&[0, 0]);
+    out.extend(&u64_bytes(cookie.0));
 }

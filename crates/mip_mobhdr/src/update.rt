@@ -1,4 +1,4 @@
-ghost use Rattle.std.specs.Prelude.{◌≡◌, ◌+◌, ◌^◌, ◌<◌, ◌≤◌, ◌∷◌, ◌++◌, length, IfOk, OnOk};
+ghost use Rattle.std.specs.Prelude.{◌≡◌, ◌+◌, ◌^◌, ◌<◌, ◌≤◌, ◌∷◌, ◌++◌, length, IfOk};
 ghost use Rattle.mip_words.specs.Numbers.{number_bytes};
 ghost use Rattle.mip_words.specs.Steps.{Gives};
 ghost use Rattle.mip_mobhdr.specs.Said.{said, HasSpan};
@@ -7,8 +7,9 @@ ghost use Rattle.mip_mobhdr.specs.Spelling.{flag};
 
 use crate::fault::Fault;
 use crate::message::Message;
+use crate::message_bytes::MessageBytes;
 use crate::option_reading::read_options;
-use mip_words::{Bytes, Memory, u16_at, u16_bytes};
+use mip_words::{u16_at, u16_bytes};
 
 /// The fields of a Binding Update, whatever stands before them.
 #[tactic(auto, unfolding(crate::specs::Reading::update_of))]
@@ -31,13 +32,14 @@ pub fn read_update(body: &[u8]) -> Result<Message<'_>, Fault>
 }
 
 /// Appends the fields of a Binding Update, from byte 6 on.
-pub fn put_update(out: &mut Bytes, sequence: u16, flags: u8, lifetime: u16) -> Result<(), Memory>
-    ensures ok { OnOk result (out.new ≡ out.old ++ (number_bytes 2 sequence ++ (flags ∷ 0 ∷ number_bytes 2 lifetime))) }
+pub fn put_update(out: &mut MessageBytes, sequence: u16, flags: u8, lifetime: u16)
+    requires { length out.old ≤ 6 }
+    ensures ok { out.new ≡ out.old ++ (number_bytes 2 sequence ++ (flags ∷ 0 ∷ number_bytes 2 lifetime)) }
     ensures fits { (sequence < 2 ^ 16) × (lifetime < 2 ^ 16) }
 {
-    out.extend(&u16_bytes(sequence))?;
-    out.extend(&[flags, 0])?;
-    out.extend(&u16_bytes(lifetime))
+    out.extend(&u16_bytes(sequence));
+    out.extend(&[flags, 0]);
+    out.extend(&u16_bytes(lifetime));
 }
 
 /// The flags of a Binding Update in their byte.

@@ -1,6 +1,6 @@
 //! Writing a message.
 
-ghost use Rattle.std.specs.Prelude.{◌≡◌, ◌+◌, ◌-◌, ◌/◌, ◌≤◌, ◌++◌, length, slice_set, Ok, IfOk, OnOk};
+ghost use Rattle.std.specs.Prelude.{◌≡◌, ◌+◌, ◌-◌, ◌/◌, ◌≤◌, ◌++◌, length, slice_set, Ok, IfOk};
 ghost use Rattle.mip_ipv6.specs.Sum.{with_number_at, checksum_of};
 ghost use Rattle.mip_mobhdr.specs.OptionValues.{set_values};
 ghost use Rattle.mip_mobhdr.specs.Said.{said_plain};
@@ -11,8 +11,9 @@ ghost use Rattle.mip_mobhdr.specs.SpellingLaws.{front_bytes, HasWidths, WritesOp
 use crate::acknowledgement::put_acknowledgement;
 use crate::address_test::put_test;
 use crate::binding_error::put_error;
+use crate::message_bytes::MessageBytes;
 use crate::option_set::OptionSet;
-use crate::option_writing::write_options;
+use crate::option_writing::put_options;
 use crate::plain::Plain;
 use crate::refresh::put_refresh;
 use crate::test_init::put_init;
@@ -20,9 +21,6 @@ use crate::update::{put_update, update_flags};
 use mip_ipv6::checksum;
 use mip_words::{Address, Bytes, Memory};
 use std::alloc::Global;
-
-/// The bytes of the longest message.
-const LONGEST: usize = 96;
 
 /// The canonical spelling of a message from `source` to `destination`, with its checksum.
 pub fn write_message(
@@ -36,42 +34,54 @@ pub fn write_message(
     ensures spelled { IfOk result (IsMessage source destination (said_plain message.now)) }
     ensures read_back { IfOk result (λ b. message_of source destination b ≡ Ok (said_plain message.now)) }
 {
-    let mut bytes = draft_of(alloc, message)?;
+    let bytes = spell_message(source, destination, message);
+    Bytes::copy(alloc, bytes.as_slice())
+}
+
+/// The same in memory of its own value.
+pub fn spell_message(source: Address, destination: Address, message: &Plain) -> MessageBytes
+    requires { HasNumber (said_plain message.now) }
+    ensures ok { result ≡ message_bytes source destination (said_plain message.now) }
+    ensures spelled { IsMessage source destination (said_plain message.now) result }
+    ensures read_back { message_of source destination result ≡ Ok (said_plain message.now) }
+{
+    let mut bytes = draft_of(message);
     put_sum(&mut bytes, source, destination);
-    Ok(bytes)
+    bytes
 }
 
 /// The message with zero for its checksum.
-fn draft_of(alloc: Global, message: &Plain) -> Result<Bytes, Memory>
+fn draft_of(message: &Plain) -> MessageBytes
     requires { HasNumber (said_plain message.now) }
-    ensures draft { IfOk result (λ b. b ≡ unsummed (said_plain message.now)) }
-    ensures long { IfOk result (λ b. 8 ≤ length b) }
-    ensures short { IfOk result (λ b. length b ≤ 96) }
-    ensures fits { OnOk result (HasWidths (said_plain message.now)) }
-    ensures options { OnOk result (WritesOptions (said_plain message.now)) }
+    ensures draft { result ≡ unsummed (said_plain message.now) }
+    ensures long { 8 ≤ length result }
+    ensures short { length result ≤ 96 }
+    ensures fits { HasWidths (said_plain message.now) }
+    ensures options { WritesOptions (said_plain message.now) }
 {
-    let mut out = front_of(alloc, message)?;
-    write_options(&mut out, options_of(message))?;
+    let mut out = front_of(message);
+    put_options(&mut out, options_of(message));
     put_size(&mut out);
-    Ok(out)
+    out
 }
 
 /// What stands before the options, with zero for Header Len and checksum.
 #[tactic(auto, using(crate::proofs::Canonical::field_short))]
-fn front_of(alloc: Global, message: &Plain) -> Result<Bytes, Memory>
-    ensures front { IfOk result (λ b. b ≡ front_bytes (said_plain message.now)) }
-    ensures short { IfOk result (λ b. length b ≤ 24) }
-    ensures fits { OnOk result (HasWidths (said_plain message.now)) }
+fn front_of(message: &Plain) -> MessageBytes
+    ensures front { result ≡ front_bytes (said_plain message.now) }
+    ensures short { length result ≤ 24 }
+    ensures fits { HasWidths (said_plain message.now) }
 {
-    let mut out = Bytes::with_capacity(alloc, LONGEST)?;
-    out.extend(&[59, 0, kind_of(message), 0, 0, 0])?;
-    put_fields(&mut out, message)?;
-    Ok(out)
+    let mut out = MessageBytes::new();
+    out.extend(&[59, 0, kind_of(message), 0, 0, 0]);
+    put_fields(&mut out, message);
+    out
 }
 
 /// Appends the fields of the message, from byte 6 on.
-fn put_fields(out: &mut Bytes, message: &Plain) -> Result<(), Memory>
-    ensures ok { OnOk result (out.new ≡ out.old ++ field_bytes (said_plain message.now)) }
+fn put_fields(out: &mut MessageBytes, message: &Plain)
+    requires { length out.old ≤ 6 }
+    ensures ok { out.new ≡ out.old ++ field_bytes (said_plain message.now) }
     ensures fits { HasWidths (said_plain message.now) }
 {
     match message {
@@ -146,7 +156,7 @@ fn options_of(message: &Plain) -> &OptionSet
 }
 
 /// Puts the Header Len in its place.
-fn put_size(message: &mut Bytes)
+fn put_size(message: &mut MessageBytes)
     requires long { 8 ≤ length message.old }
     requires short { length message.old ≤ 96 }
     ensures { message.new ≡ slice_set message.old 1 (length message.old / 8 - 1) }
@@ -156,7 +166,7 @@ fn put_size(message: &mut Bytes)
 }
 
 /// Puts the checksum in its place.
-fn put_sum(message: &mut Bytes, source: Address, destination: Address)
+fn put_sum(message: &mut MessageBytes, source: Address, destination: Address)
     requires long { 8 ≤ length message.old }
     requires short { length message.old ≤ 96 }
     ensures { message.new ≡ with_number_at 4 (checksum_of source destination 135 message.old 4) message.old }

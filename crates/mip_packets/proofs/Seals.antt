@@ -1,6 +1,6 @@
 -- Messages with and without an authenticator.
 use Rattle.std.proofs.Common.{◌≡◌, ℕ, ◌≤◌, List, [], ◌∷◌, length, ap, sym, refl, ◌∙◌, false, arith, subst, length-append, length-drop}
-use Rattle.std.specs.Prelude.{Option, Some, None, drop, Result, Ok, Err, IfOk, IsTrue}
+use Rattle.std.specs.Prelude.{Option, Some, None, drop, IsTrue}
 use Rattle.std.specs.List.{flat_map}
 use Rattle.mip_mobhdr.specs.OptionValues.{Values}
 use Rattle.mip_mobhdr.specs.OptionSpelling.{Item, item_bytes, IsRun, IsSpelled}
@@ -64,6 +64,5 @@ room_long_of s d a (HomeTest i c t o) body has is = absurd cc
 room_long_of s d a (CareofTest i c t o) body has is = absurd cc
 room_long_of s d a (Error u h o) body has is = absurd cc
 
-pub room_long : {E : Type 0} (r : Result (List ℕ) E) (s d : Address) (a : List ℕ) (m authenticated_packet : Said) → IsTrue (has_authenticator m) → authenticated_packet ≡ authorized a m → IfOk r (IsMessage s d authenticated_packet) → IfOk r (λ b. 18 ≤ length b)
-room_long (Ok b) s d a m authenticated_packet has same is = room_long_of s d a m b has (subst (λ (x : Said). IsMessage s d x b) same is)
-room_long (Err e) s d a m authenticated_packet has same is = tt
+pub room_long : (s d : Address) (a : List ℕ) (m authenticated : Said) (body : List ℕ) → IsTrue (has_authenticator m) → authenticated ≡ authorized a m → IsMessage s d authenticated body → 18 ≤ length body
+room_long s d a m authenticated body has same is = room_long_of s d a m body has (subst (λ (x : Said). IsMessage s d x body) same is)

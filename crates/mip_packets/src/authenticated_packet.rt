@@ -11,7 +11,7 @@ ghost use Rattle.mip_packets.specs.Authenticated.{with_authenticator, authorized
 
 use crate::message_packet::{message_for, write_message_packet};
 use mip_ipv6::Head;
-use mip_mobhdr::{OptionSet, Plain};
+use mip_mobhdr::{MessageBytes, OptionSet, Plain};
 use mip_tokens::{PreparedKbm, authenticator};
 use mip_words::{Address, Bytes, Memory};
 use std::alloc::Global;
@@ -78,30 +78,23 @@ fn has_authenticator(message: &Plain) -> bool
 
 /// The message with room for its authenticator.
 #[tactic(auto, using(crate::proofs::Seals::room_long))]
-fn with_room(alloc: Global, head: &Head, message: &Plain) -> Result<Bytes, Memory>
+fn with_room(head: &Head, message: &Plain) -> MessageBytes
     requires sealed { IsTrue (has_authenticator (said_plain message.now)) }
     requires number { HasNumber (said_plain message.now) }
-    ensures bytes { IfOk result (λ b. b ≡ unsealed head.now (said_plain message.now)) }
-    ensures long { IfOk result (λ b. 18 ≤ length b) }
+    ensures bytes { result ≡ unsealed head.now (said_plain message.now) }
+    ensures long { 18 ≤ length result }
 {
-    message_for(alloc, head, &authorized(message, [0; 12]))
+    message_for(head, &authorized(message, [0; 12]))
 }
 
 /// The authenticator of a message.
-fn seal(
-    alloc: Global,
-    head: &Head,
-    message: &Plain,
-    kbm: &PreparedKbm,
-    careof: Address,
-    peer: Address,
-) -> Result<[u8; 12], Memory>
+fn seal(head: &Head, message: &Plain, kbm: &PreparedKbm, careof: Address, peer: Address) -> [u8; 12]
     requires sealed { IsTrue (has_authenticator (said_plain message.now)) }
     requires number { HasNumber (said_plain message.now) }
-    ensures { IfOk result (λ a. a ≡ authenticator_of kbm.now.0 careof peer (unsealed head.now (said_plain message.now))) }
+    ensures { result ≡ authenticator_of kbm.now.0 careof peer (unsealed head.now (said_plain message.now)) }
 {
-    let room = with_room(alloc, head, message)?;
-    Ok(authenticator(kbm, careof, peer, room.as_slice()))
+    let room = with_room(head, message);
+    authenticator(kbm, careof, peer, room.as_slice())
 }
 
 /// A packet with an update or an acknowledgement and its authenticator under this key, between a care-of address
@@ -124,6 +117,6 @@ pub fn write_authenticated_packet(
     if !has_authenticator(message) {
         return write_message_packet(alloc, head, message);
     }
-    let authenticator = seal(alloc, head, message, kbm, careof, peer)?;
+    let authenticator = seal(head, message, kbm, careof, peer);
     write_message_packet(alloc, head, &authorized(message, authenticator))
 }

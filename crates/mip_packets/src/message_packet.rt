@@ -1,4 +1,4 @@
-ghost use Rattle.std.specs.Prelude.{◌≡◌, ◌<◌, ◌≤◌, length, slice_index, IsTrue, IfOk, Ok, List, ℕ};
+ghost use Rattle.std.specs.Prelude.{◌≡◌, ◌≤◌, length, IsTrue, IfOk, Ok, List, ℕ};
 ghost use Rattle.mip_words.specs.Numbers.{number_at};
 ghost use Rattle.mip_ipv6.specs.Packet.{is_plain, source_of, destination_of};
 ghost use Rattle.mip_ipv6.specs.Reading.{packet_of};
@@ -9,32 +9,18 @@ ghost use Rattle.mip_packets.specs.Packets.{message_packet};
 
 use crate::data_packet::write_data_packet;
 use mip_ipv6::Head;
-use mip_mobhdr::{Plain, write_message};
+use mip_mobhdr::{MessageBytes, Plain, spell_message};
 use mip_words::{Bytes, Memory};
 use std::alloc::Global;
 
-/// Header Len, in units of 8 bytes behind the first 8. It is one byte, which is all that bounds a message's length: so it is
-/// read for the proof of `short`, and thrown away.
-fn units(body: &[u8]) -> u8
-    requires { 1 < length body.now }
-    ensures { result ≡ slice_index body.now 1 }
-{
-    body[1]
-}
-
 /// The bytes of a mobility message, whose checksum counts home addresses where the head has any.
-pub(crate) fn message_for(alloc: Global, head: &Head, message: &Plain) -> Result<Bytes, Memory>
+pub(crate) fn message_for(head: &Head, message: &Plain) -> MessageBytes
     requires { HasNumber (said_plain message.now) }
-    ensures bytes { IfOk result (λ b. b
-        ≡ message_bytes (source_of head.now) (destination_of head.now) (said_plain message.now)) }
-    ensures spelled { IfOk result (IsMessage (source_of head.now) (destination_of head.now) (said_plain message.now)) }
-    ensures read { IfOk result (λ b. message_of (source_of head.now) (destination_of head.now) b ≡ Ok (said_plain message.now)) }
-    ensures short { IfOk result (λ b. length b ≤ 2048) }
+    ensures bytes { result ≡ message_bytes (source_of head.now) (destination_of head.now) (said_plain message.now) }
+    ensures spelled { IsMessage (source_of head.now) (destination_of head.now) (said_plain message.now) result }
+    ensures read { message_of (source_of head.now) (destination_of head.now) result ≡ Ok (said_plain message.now) }
 {
-    let bytes = write_message(alloc, head.sender(), head.receiver(), message)?;
-    // For the prover alone: Header Len is one byte, which is what bounds the length of a message.
-    let _units = units(bytes.as_slice());
-    Ok(bytes)
+    spell_message(head.sender(), head.receiver(), message)
 }
 
 /// A packet with a mobility message, whose checksum counts home addresses where there are any (RFC 6275 section
@@ -50,6 +36,6 @@ pub fn write_message_packet(alloc: Global, head: &Head, message: &Plain) -> Resu
     ensures destination { IfOk result (λ b. number_at 16 24 b ≡ head.now.destination.0) }
     ensures long { IfOk result (λ b. 40 ≤ length b) }
 {
-    let body = message_for(alloc, head, message)?;
+    let body = message_for(head, message);
     write_data_packet(alloc, head, body.as_slice())
 }

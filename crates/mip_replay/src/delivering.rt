@@ -106,7 +106,9 @@ fn reach_node(
         shield: arrival.shield,
         packet: packet.as_slice(),
     };
-    engine.act(alloc, node, call)
+    engine.act(alloc, node, call)?;
+    engine.give_back(packet);
+    Ok(())
 }
 
 fn reach(alloc: Global, engine: &mut Engine, number: u64, arrival: Arrival) -> Result<(), Memory>

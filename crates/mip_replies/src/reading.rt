@@ -1,6 +1,6 @@
 //! Reading the input.
 
-ghost use Rattle.std.specs.Prelude.{◌≡◌, ℕ, ◌+◌, ◌≤◌, List, ◌++◌, length, IfOk, OnErr, IsErrOf};
+ghost use Rattle.std.specs.Prelude.{◌≡◌, ℕ, ◌+◌, ◌≤◌, List, ◌++◌, length, IfOk, OnOk, OnErr, IsErrOf};
 ghost use Rattle.std.specs.Io.KnownBytes.{prepend_known, IsAtEnd};
 ghost use Rattle.mip_outside.specs.Cause.{Rose};
 
@@ -13,6 +13,9 @@ pub const LIMIT: usize = 16_777_216;
 
 /// How many bytes are taken at a time.
 const PIECE: usize = 16_384;
+
+/// How many bytes are copied at a time: from some 2 KiB on a copy is one instruction that goes byte by byte.
+const COPIED: usize = 1_024;
 
 /// Why the input was not read.
 #[derive(Clone, Copy, Debug, PartialEq, Eq)]
@@ -81,6 +84,19 @@ fn read_some<S: Source>(
 {
     let room = (LIMIT + 1 - bytes.len()).min(buffer.len());
     let count = source.take(&mut buffer[..room])?;
-    bytes.extend(&buffer[..count])?;
+    extend(bytes, &buffer[..count])?;
     Ok(count)
+}
+
+/// Appends bytes, some at a time.
+fn extend(out: &mut Bytes, bytes: &[u8]) -> Result<(), Memory>
+    ensures { OnOk result (out.new ≡ out.old ++ bytes.now) }
+{
+    let mut rest = bytes;
+    while !rest.is_empty() {
+        let (piece, behind) = rest.split_at(rest.len().min(COPIED));
+        out.extend(piece)?;
+        rest = behind;
+    }
+    Ok(())
 }

@@ -1,4 +1,5 @@
 pub mod Faults
+pub mod KeptBytes
 pub mod Versions
 pub mod DeclarationRows
 pub mod DeclarationTimes

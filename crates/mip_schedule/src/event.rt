@@ -1,4 +1,5 @@
 use crate::kept_address::KeptAddress;
+use crate::kept_bytes::KeptBytes;
 use crate::kept_ends::KeptEnds;
 use mip_words::{Bytes, Cookie, LinkId, NodeId};
 use std::mem::size_of;
@@ -24,7 +25,7 @@ pub enum Event {
         node: NodeId,
         to: KeptAddress,
         proto: u8,
-        payload: Bytes,
+        payload: KeptBytes,
     },
     /// An outsider posts these bytes.
     Inject {

@@ -4,10 +4,12 @@ ghost use Rattle.std.specs.Prelude.{◌≡◌};
 ghost use Rattle.mip_lines.specs.Cutting.{texts};
 ghost use Rattle.mip_schedule.specs.EventRows as rows;
 ghost use Rattle.mip_symbols.specs.Faults.{GivesLine};
+ghost use Rattle.mip_symbols.specs.Kinds as kinds;
 ghost use Rattle.mip_symbols.specs.Places.{AreFew};
 
 use crate::event::Event;
 use crate::kept_address::KeptAddress;
+use crate::kept_bytes::KeptBytes;
 use crate::outsider_rows::{
     bind_row, deaf_row, inject_row, listen_row, probe_row, squat_row, tell_row, yield_row,
 };
@@ -55,6 +57,17 @@ fn advertise_row(ds: &[Declaration], fields: &[&[u8]]) -> Result<Event, Reason>
     })
 }
 
+#[tactic(auto, unfolding(mip_symbols::specs::Kinds::bytes))]
+fn payload_in(alloc: Global, field: &[u8]) -> Result<KeptBytes, LineFault>
+    ensures { GivesLine (λ b. b) result (kinds.bytes 512 field.now) }
+{
+    if let Some(few) = KeptBytes::of_few_digits(field) {
+        return Ok(few);
+    }
+    let payload = bytes(alloc, 512, field)?;
+    Ok(KeptBytes::copy(alloc, payload.as_slice())?)
+}
+
 #[tactic(auto, unfolding(crate::specs::EventRows::data_row))]
 fn data_row(alloc: Global, ds: &[Declaration], fields: &[&[u8]]) -> Result<Event, LineFault>
     requires { AreFew ds.now }
@@ -67,7 +80,7 @@ fn data_row(alloc: Global, ds: &[Declaration], fields: &[&[u8]]) -> Result<Event
         node: node(Sort::Host, ds, who)?,
         to: KeptAddress::new(address(to)?),
         proto: u8_in(0, u8::MAX, proto)?,
-        payload: bytes(alloc, 512, payload)?,
+        payload: payload_in(alloc, payload)?,
     })
 }
 

@@ -38,7 +38,7 @@ fn put_payload(
     node: NodeId,
     to: Address,
     proto: u8,
-    payload: &Bytes,
+    payload: &[u8],
 ) -> Result<(), Memory>
     ensures { OnOk result (out.new ≡ out.old ++ line_text (event_text false ds.now (events.Payload node to proto payload.now))) }
 {
@@ -51,7 +51,7 @@ fn put_payload(
             &to.digits(),
             digits.format(proto).as_bytes(),
         ],
-        payload.as_slice(),
+        payload,
     )
 }
 
@@ -96,7 +96,7 @@ fn put_of_node(
             to,
             proto,
             payload,
-        } => put_payload(out, ds, *node, to.get(), *proto, payload),
+        } => put_payload(out, ds, *node, to.get(), *proto, payload.as_slice()),
         Event::Restart { node } => put_line(out, &[b"restart", node_name(ds, *node)]),
         Event::Refresh { node, home } => {
             put_line(

@@ -12,11 +12,12 @@ ghost use Rattle.mip_engine.specs.Engines.{with_net, claim_tried, released};
 use crate::arrival::{Arrival, arrival_of};
 use crate::claims::{claim_own, try_claim};
 use crate::engine::Engine;
+use crate::handing::handed_in;
 use mip_entries::Entry;
-use mip_ipv6::lower;
 use mip_links::Delivery;
 use mip_words::{Address, Bytes, Holder, LinkId, Memory, Prefix, Shield};
 use std::alloc::Global;
+use std::mem::replace;
 
 impl Engine {
     /// The link of an address, by its prefix.
@@ -99,23 +100,30 @@ impl Engine {
         Some(arrival_of(&self.net, number, delivery))
     }
 
-    /// A packet as it is handed over: its hop limit is one less where it has come to another link.
+    /// A packet as it is handed over: its hop limit is one less where it has come to another link. It stands in memory of the
+    /// engine, which is to be given back for the next one.
     pub fn handed_packet(
-        &self,
+        &mut self,
         alloc: Global,
         number: u64,
         link: Option<LinkId>,
     ) -> Result<Bytes, Memory>
-        requires { number < length self.now.net.posts }
-        ensures { IfOk result (λ b. (post : Post) → slice_get self.now.net.posts number ≡ Some post → b ≡ handed_over post.packet (option_map (λ l. l.0) link)) }
+        requires { number < length self.old.net.posts }
+        ensures handed { IfOk result (λ b. (post : Post) → slice_get self.old.net.posts number ≡ Some post → b ≡ handed_over post.packet (option_map (λ l. l.0) link)) }
+        ensures same { self.new ≡ self.old }
     {
+        let buffer = replace(&mut self.buffer, Bytes::new(alloc));
         let Some(packet) = self.net.packet(number) else {
             unreachable!();
         };
-        match link {
-            Some(_) => lower(alloc, packet),
-            None => Bytes::copy(alloc, packet),
-        }
+        handed_in(buffer, packet, link)
+    }
+
+    /// The memory of a packet that was handed over comes back.
+    pub fn give_back(&mut self, packet: Bytes)
+        ensures { self.new ≡ self.old }
+    {
+        self.buffer = packet;
     }
 
     /// Somebody takes an address on a link, unless somebody else has it. Says what is to be noted.

@@ -9,14 +9,15 @@ use Rattle.mip_history.specs.Calls.{Take}
 use Rattle.mip_history.specs.Runs.{note}
 use Rattle.mip_history.specs.Nodes.{acts}
 use Rattle.mip_history.specs.Delivery.{handed, handed_over, overheard_at}
-use Rattle.mip_engine.proofs.QuietLaws.{at_is, at_reached, at_ok_run}
+use Rattle.mip_engine.specs.Standing.{IsAt}
+use Rattle.mip_engine.proofs.QuietLaws.{at_is, at_reached}
 use Rattle.mip_engine.proofs.PostingLaws.{silent_handed}
 use Rattle.mip_replay.proofs.DeliveredLaws.{overheard_posted}
 use Rattle.mip_replay.proofs.delivering.reach_node.Goals as goal
 
 pub returns-clause-stands : goal.returns-clause-stands
 unfolding handed
-returns-clause-stands c = λ s run post at there same.
+returns-clause-stands c = λ s run post at there shield.
     let k = c.args.number in
     let n = c.args.node.0 in
     let link = option_map (λ (l : LinkId). l.0) c.args.arrival.link in
@@ -24,8 +25,10 @@ returns-clause-stands c = λ s run post at there same.
     let here = note (Handed k (node_id n)) heard in
     let inside = subst (λ (ps : List Post). k < length ps) at.posts c.requires in
     let packet : c.as_slice.result.now ≡ handed_over post.packet link =
-    c.as_slice.ensures ∙ c.in_ok-packet.ensures post (ap (λ (ps : List Post). slice_get ps k) at.posts ∙ there) in
+    c.as_slice.ensures ∙ c.in_ok-packet.ensures.handed post (ap (λ (ps : List Post). slice_get ps k) at.posts ∙ there) in
     let after = λ (shield : Option Shield) (bytes : List ℕ). acts s n (Take k shield bytes) here in
-    at_ok_run c.act.result c.act.new.self s (after c.args.arrival.shield c.as_slice.result.now) (after post.shield (handed_over post.packet link))
-    (c.act.ensures.stands s here (at_is c.in_ok-note.ensures (at_reached c.overhear_at.new.engine s heard (Handed k (node_id n)) k (silent_handed k (node_id n)) refl refl (overheard_posted s post k link run inside) (c.in_ok-overhear_at.ensures.stands s run post at same))))
-    (ap (λ (shield : Option Shield). after shield c.as_slice.result.now) same ∙ ap (after post.shield) packet)
+    let taken = at_is c.handed_packet.ensures.same at in
+    let acted = c.in_ok-act.ensures.stands s here (at_is c.in_ok-note.ensures (at_reached c.overhear_at.new.engine s heard (Handed k (node_id n)) k (silent_handed k (node_id n)) refl refl (overheard_posted s post k link run inside) (c.in_ok-overhear_at.ensures.stands s run post taken shield))) in
+    subst (IsAt c.give_back.new.self s)
+    (ap (λ (shield : Option Shield). after shield c.as_slice.result.now) shield ∙ ap (after post.shield) packet)
+    (at_is c.give_back.ensures acted)
