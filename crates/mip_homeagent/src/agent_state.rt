@@ -13,11 +13,13 @@ ghost use Rattle.std.specs.List.{AllByRecursion};
 ghost use Rattle.std.specs.Option.{option_map};
 
 use crate::change::Change;
-use crate::{ends, homes, prefixes};
+use crate::{homes, prefixes};
 use mip_discovery::{Agents, PrefixPlan};
 use mip_entries::Answers;
 use mip_reception::{Registration, home_of};
-use mip_rules_agent::{Bench, Ending, HomeBinding, HomeRow, Identity, Served};
+use mip_rules_agent::{
+    Bench, Ending, HomeBinding, HomeRow, Identity, Served, due_ends, ends_with, keep_later_ends,
+};
 use mip_words::{Address, Bytes, Memory, Moment};
 use std::alloc::Global;
 use std::marker::Model;
@@ -141,7 +143,7 @@ impl AgentState {
     ) -> Result<Vec<Ending>, Memory>
         ensures { IfOk result (λ v. v.items ≡ ends_with home binding.now self.now.ends) }
     {
-        ends::after(alloc, &self.ends, home, binding)
+        ends_with(alloc, &self.ends, home, binding)
     }
 
     /// The packet that answers a request for the home agents of the link.
@@ -258,7 +260,7 @@ impl AgentState {
     pub fn due(&self, alloc: Global, now: Moment) -> Result<Vec<Ending>, Memory>
         ensures { IfOk result (λ v. v.items ≡ due_ends now.0 self.now.ends) }
     {
-        ends::due(alloc, &self.ends, now)
+        due_ends(alloc, &self.ends, now)
     }
 
     /// The moment of the first end.
@@ -277,7 +279,7 @@ impl AgentState {
         ensures { self.new ≡ given_up now.0 due.now self.old }
     {
         homes::give_up(&mut self.homes, due);
-        ends::keep_later(&mut self.ends, now);
+        keep_later_ends(&mut self.ends, now);
         self.last = now;
     }
 }

@@ -7,7 +7,6 @@ mod agent_state;
 mod answering;
 mod change;
 mod ending;
-mod ends;
 mod homes;
 mod judging;
 mod packet_context;

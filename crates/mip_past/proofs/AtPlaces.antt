@@ -1,6 +1,6 @@
 -- What is asked at a place of the history of a run is what nodes know there.
 use Rattle.std.proofs.Common.{◌≡◌, ℕ, zero, suc, ◌+◌, ◌<◌, List, [], ◌∷◌, ◌++◌, length, take, drop, Bool, true, false, refl, sym, ap, subst, ◌∙◌, arith}
-use Rattle.std.specs.Prelude.{Option, Some, None, is_some, slice_get, ◌||◌}
+use Rattle.std.specs.Prelude.{Option, Some, None, is_some, option_map, slice_get, ◌||◌}
 use Rattle.std.specs.Option.{option_or}
 use Rattle.std.proofs.lemmas.List.{append_assoc, take-append-drop, take_more, length-take-le}
 use Rattle.std.proofs.lemmas.Option.{slice_get_within, get_or_from_slice_get}
@@ -11,7 +11,8 @@ use Rattle.mip_entries.specs.declared.entry.Entry.{Entry}
 use Rattle.mip_entries.specs.declared.entry.Entry.TheVariants.{Claimed, Released, Taken}
 use Rattle.mip_rules_correspondent.specs.declared.known.Known.{Known}
 use Rattle.mip_rules_agent.specs.Known as agents
-use Rattle.mip_rules_agent.specs.Questions.{careof_at}
+use Rattle.mip_rules_agent.specs.declared.home_binding.HomeBinding.{HomeBinding}
+use Rattle.mip_rules_agent.specs.Questions.{if_standing, careof_at}
 use Rattle.mip_rules_mobile.specs.declared.attachment.Attachment.{Attachment}
 use Rattle.mip_rules_mobile.specs.Known as mobiles
 use Rattle.mip_rules_mobile.specs.HomeQuestions.{registered_agent}
@@ -28,6 +29,8 @@ use Rattle.mip_history.specs.Told.{careof_in}
 use Rattle.mip_history.specs.Settled.{any_below, any_node}
 use Rattle.mip_history.proofs.Fronts.{front_of_run}
 use Rattle.mip_history.proofs.Histories.{run_held, run_holds, run_floor, part_held, part_holds, part_floor, permitted_held, permitted_under, permitted_claimed, permitted_released, permitted_taken}
+use Rattle.mip_history.proofs.Homed.{IsHomed, serves_by_host}
+use Rattle.mip_history.proofs.HomedRuns.{homed_run}
 use Rattle.mip_history.proofs.Registrations.{run_careof, run_kept, permitted_registered}
 use Rattle.mip_settled.proofs.AnyNode.{node_here}
 use Rattle.mip_settled.proofs.AsTold.{found_as_told, registered_as_told, bound_as_told}
@@ -98,6 +101,9 @@ module _ (s : Setup) (events : List Event) (k : ℕ) where
       let known : agents.Known = agent_known_in (run_at s events k) n serves in
       subst (λ (past : List Entry). RegistersAsAsked s past n known) (sym front_is) (record {
         careof = λ home. sym (run_careof s (take k events) n own preference life room serves home is);
+        until = λ home.
+            let h : IsHomed s (run_at s events k) = homed_run s (take k events) in
+            ap (λ (o : Option HomeBinding). option_map (λ b. b.end) (if_standing home (now_in s (run_at s events k)) o)) (sym (h.homes n serves (ap serves_by_host is) home));
         sequence = λ home. sym (run_kept s (take k events) n own preference life room serves home is);
       })
 

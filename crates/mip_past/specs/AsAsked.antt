@@ -8,7 +8,7 @@ use Rattle.mip_rules_correspondent.specs.declared.known.Known.{Known}
 use Rattle.mip_binding.specs.Held.{holds}
 use Rattle.mip_rules_correspondent.specs.Questions.{held_of, holds_for, floor_of}
 use Rattle.mip_rules_agent.specs.Known as agents
-use Rattle.mip_rules_agent.specs.Questions.{careof_at, kept_of}
+use Rattle.mip_rules_agent.specs.Questions.{binding_of, if_standing, careof_at, kept_of}
 use Rattle.mip_rules_mobile.specs.Known as mobiles
 use Rattle.mip_rules_mobile.specs.HomeQuestions.{home_of, registered_agent, agent_of}
 use Rattle.mip_rules_mobile.specs.MovingRules.{releases}
@@ -31,7 +31,7 @@ use Rattle.mip_history.specs.Bound.{accepted_by, held_in, held_under_in, floor_i
 use Rattle.mip_history.specs.Registered.{is_agent_at, registered_in, last_registration, IsRegistered}
 use Rattle.mip_history.specs.Told.{agent_in, is_bound_in}
 use Rattle.mip_history.specs.Found.{address_of}
-use Rattle.mip_past.specs.Asking.{present_told, standing_told, leaves_told, is_registered_in}
+use Rattle.mip_past.specs.Asking.{present_told, standing_told, leaves_told, registered_until_in, is_registered_in}
 use Rattle.mip_past.specs.Registering.{agent_of_told}
 use Rattle.mip_past.specs.Places.{run_at, place_at, front_at}
 
@@ -58,6 +58,7 @@ pub record AreKeepersAsAsked (s : Setup) (events : List Event) (k : ℕ) : Type 
 -- what is asked of node n is what a home agent keeps that knows this
 pub record RegistersAsAsked (s : Setup) (past : List Entry) (n : ℕ) (known : agents.Known) : Type 0 where
   pub careof : (home : Address) → registered_in s past n home ≡ careof_at known (moment_in s.start past) home
+  pub until : (home : Address) → registered_until_in (moment_in s.start past) past n home ≡ option_map (λ b. b.end) (if_standing home (moment_in s.start past) (binding_of known home))
   pub sequence : (home : Address) → option_map (λ b. b.sequence) (last_registration past n home) ≡ kept_of known home
 
 -- in a run some home agent has a home registered

@@ -7,3 +7,4 @@ pub mod Recalling
 pub mod OneNumber
 pub mod Holding
 pub mod Planning
+pub mod Due

@@ -4,6 +4,7 @@
 mod acceptances;
 mod addresses;
 mod agents;
+mod due;
 mod keepers;
 mod kept;
 mod laws;

@@ -11,6 +11,7 @@ use Rattle.mip_symbols.specs.Spelled.{node_text, or_word}
 use Rattle.mip_symbols.specs.declared.declaration.Declaration.{Declaration}
 use Rattle.mip_symbols.specs.declared.places.Sort.TheVariants as sorts
 use Rattle.mip_entries.specs.declared.entry.Entry.{Entry}
+use Rattle.mip_rules_agent.specs.declared.ending.Ending.{Ending}
 use Rattle.mip_history.specs.Questions.{moment_in}
 use Rattle.mip_history.specs.Bound.{accepted_by}
 use Rattle.mip_history.specs.Registered.{last_registration}
@@ -19,6 +20,7 @@ use Rattle.mip_rules_mobile.specs.declared.attachment.Attachment.{Attachment}
 use Rattle.mip_rules_mobile.specs.declared.attachment.Attachment.TheVariants.{Detached, AtHome, Away}
 use Rattle.mip_past.specs.Asking.{present_told, standing_told, registered_until_in}
 use Rattle.mip_past.specs.Registering.{agent_of_told}
+use Rattle.mip_past.specs.Due.{due_work_in}
 use Rattle.mip_past_text.specs.Subjects.{about_each}
 use Rattle.mip_past_text.specs.declared.topic.Topic.{Topic}
 use Rattle.mip_past_text.specs.declared.topic.Topic.TheVariants.{Binding, Registration, Peer}
@@ -87,6 +89,14 @@ topic_text ds f n Peer peer = subject_line ds n (codes "bound") peer (yes_or_no 
 abbrev pub topic_texts : List Declaration → Front → NodeId → Topic → List ℕ
 topic_texts ds f n topic = about_each topic n.0 (topic_text ds f n topic) f.past
 
+-- the ends that an agent waits for, a line each, by the moment. RFC 6275 section 10.3.1
+unfoldable pub due_lines : List Declaration → NodeId → List Ending → List ℕ
+due_lines ds n [] = []
+due_lines ds n (e ∷ es) = subject_line ds n (codes "due") e.home (moment_answer (Some e.end)) ++ due_lines ds n es
+
+abbrev pub due_text : List Declaration → Front → NodeId → List ℕ
+due_text ds f n = due_lines ds n (due_work_in (now_of f) f.past n.0)
+
 -- what was known of a node
 unfoldable pub node_known : List Declaration → Front → NodeId → List ℕ
 node_known ds f n =
@@ -94,7 +104,7 @@ node_known ds f n =
     ++ (node_line ds n (codes "standing") (standing_answer (standing_told f.past n.0))
     ++ (node_line ds n (codes "agent") (address_answer (agent_in (now_of f) f.past n.0))
     ++ (line_if (codes "through") (node_text ds n) (agent_of_told (now_of f) f.past n.0)
-    ++ (topic_texts ds f n Binding ++ (topic_texts ds f n Registration ++ topic_texts ds f n Peer)))))
+    ++ (topic_texts ds f n Binding ++ (topic_texts ds f n Registration ++ (due_text ds f n ++ topic_texts ds f n Peer))))))
 
 -- of the first so many nodes
 unfoldable pub nodes_known : List Declaration → Front → ℕ → List ℕ

@@ -6,7 +6,7 @@ ghost use Rattle.mip_symbols.specs.Places.{AreFew};
 ghost use Rattle.mip_past_text.specs.Subjects.{last_named};
 ghost use Rattle.mip_past_text.specs.Fronts.{front_of};
 ghost use Rattle.mip_past_text.specs.declared.topic.Topic.TheVariants as topics;
-ghost use Rattle.mip_past_text.specs.Text.{registered_line, until_line, sequence_line, topic_text, topic_texts, node_known, nodes_known, known_of, known_text};
+ghost use Rattle.mip_past_text.specs.Text.{registered_line, until_line, sequence_line, topic_text, topic_texts, due_lines, due_text, node_known, nodes_known, known_of, known_text};
 
 use crate::answers::{
     put_address, put_address_if, put_address_of, put_moment_of, put_number_of, put_standing,
@@ -18,6 +18,7 @@ use crate::topic::Topic;
 use mip_entries::Entry;
 use mip_lines::{put_line, put_number};
 use mip_past::Past;
+use mip_rules_agent::Ending;
 use mip_symbols::{Declaration, Sort, count, node_name};
 use mip_words::{Address, Bytes, Memory, Moment, NodeId};
 use std::alloc::Global;
@@ -154,6 +155,30 @@ fn put_topics(
     Ok(())
 }
 
+/// Appends a line for each end that an agent waits for.
+fn put_ends(
+    alloc: Global,
+    out: &mut Bytes,
+    asked: Inquiry<'_>,
+    ends: &[Ending],
+) -> Result<(), Memory>
+    ensures { OnOk result (out.new ≡ out.old ++ due_lines asked.entry.declarations.now asked.entry.node ends.now) }
+{
+    let name = node_name(asked.declarations, asked.node);
+    for one in ends {
+        put_moment_of(alloc, out, b"due", name, one.home, Some(one.end))?;
+    }
+    Ok(())
+}
+
+/// Appends the work that an agent has ahead.
+fn put_due(alloc: Global, out: &mut Bytes, asked: Inquiry<'_>) -> Result<(), Memory>
+    ensures { OnOk result (out.new ≡ out.old ++ due_text asked.entry.declarations.now (front_of asked.entry.past) asked.entry.node) }
+{
+    let ends = asked.past.due_work(alloc, asked.node)?;
+    put_ends(alloc, out, asked, &ends)
+}
+
 /// Appends what was known of a node.
 #[tactic(auto, unfolding(crate::specs::Text::node_known))]
 fn put_node(alloc: Global, out: &mut Bytes, asked: Inquiry<'_>) -> Result<(), Memory>
@@ -166,6 +191,7 @@ fn put_node(alloc: Global, out: &mut Bytes, asked: Inquiry<'_>) -> Result<(), Me
     put_address_if(out, b"through", name, asked.past.agent_of(asked.node))?;
     put_topics(alloc, out, asked, Topic::Binding)?;
     put_topics(alloc, out, asked, Topic::Registration)?;
+    put_due(alloc, out, asked)?;
     put_topics(alloc, out, asked, Topic::Peer)
 }
 

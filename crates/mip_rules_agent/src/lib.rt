@@ -1,9 +1,10 @@
-//! The rules of a home agent: what it knows of its past, and what it answers (RFC 6275 section 10). Nothing runs here
-//! but the laws that join the rules to a past.
+//! The rules of a home agent: what it knows of its past, and what it answers (RFC 6275 section 10). What runs here is when
+//! registrations end; the rest are the laws that join the rules to a past.
 #![tactic(auto)]
 
 mod bench;
 mod ending;
+mod ends;
 mod home_binding;
 mod home_row;
 mod home_verdict;
@@ -13,6 +14,7 @@ mod served;
 
 pub use bench::Bench;
 pub use ending::Ending;
+pub use ends::{due_ends, ends_with, keep_later_ends};
 pub use home_binding::HomeBinding;
 pub use home_row::HomeRow;
 pub use home_verdict::HomeVerdict;
