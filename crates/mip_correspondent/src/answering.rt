@@ -94,7 +94,11 @@ pub fn note_acceptance(
 }
 
 /// The answers keep what the check of an accepted update found, for its mark. Nothing that a contract sees changes.
-pub fn keep_witness(alloc: Global, answers: &mut Answers, witness: Option<Witness>) -> Result<(), Memory>
+pub fn keep_witness(
+    alloc: Global,
+    answers: &mut Answers,
+    witness: Option<Witness>,
+) -> Result<(), Memory>
     ensures { answers.new ≡ answers.old }
 {
     if let Some(witness) = witness {

@@ -37,13 +37,7 @@ impl Signed<'_> {
         ensures { IfSome result (λ a. a ≡ authenticator_of (kbm_of_tokens pair.now.home pair.now.careof) self.now.careof self.now.own self.now.key.body.now) }
     {
         let witness = self.witness?;
-        witness.authenticator(
-            pair.home,
-            pair.careof,
-            self.careof,
-            self.own,
-            self.key.body,
-        )
+        witness.authenticator(pair.home, pair.careof, self.careof, self.own, self.key.body)
     }
 
     /// The authenticator under the key of a pair: as the check found it, where that was of this pair, else it is hashed.
