@@ -8,6 +8,7 @@ ghost use Rattle.mip_correspondent.specs.Showing.{Goes, Keeps};
 
 use crate::accepted_binding::AcceptedBinding;
 use mip_entries::{Answer, Answers, Entry};
+use mip_tokens::Witness;
 use mip_words::{Address, Bytes, MYSELF, Memory, Why};
 use std::alloc::Global;
 
@@ -89,6 +90,20 @@ pub fn note_acceptance(
     ensures { (now : ℕ) → Keeps now kept.now result (noted (Accepts number kept.now.home kept.now.number kept.now.accepted)) answers.old answers.new }
 {
     answers.push(Answer::Note(accepted_entry(number, kept)))?;
+    Ok(())
+}
+
+/// The answers keep what the check of an accepted update found, for its mark. Nothing that a contract sees changes.
+pub fn keep_witness(
+    alloc: Global,
+    answers: &mut Answers,
+    witness: Option<Witness>,
+) -> Result<(), Memory>
+    ensures { answers.new ≡ answers.old }
+{
+    if let Some(witness) = witness {
+        answers.keep_witness(Some(Box::new(alloc, witness)?));
+    }
     Ok(())
 }
 

@@ -9,13 +9,13 @@ ghost use Rattle.mip_verdict.specs.Judging.{key_in};
 ghost use Rattle.mip_correspondent.specs.Showing.{kept_of, Fits, Goes, Keeps, Leads};
 
 use crate::accepted_binding::AcceptedBinding;
-use crate::answering::{drop_packet, note_acceptance, note_denial, send};
+use crate::answering::{drop_packet, keep_witness, note_acceptance, note_denial, send};
 use crate::packet_context::PacketContext;
 use mip_entries::Answers;
 use mip_reception::{Registration, status, write_ack};
 use mip_rules_correspondent::Verdict;
 use mip_tokens::PreparedKbm;
-use mip_verdict::verdict;
+use mip_verdict::{Judged, verdict};
 use mip_words::Memory;
 use std::alloc::Global;
 
@@ -87,22 +87,22 @@ fn accept(
     acknowledge(alloc, answers, context, registration, granted, kbm)
 }
 
-/// What follows from a verdict, and the key that it names.
+/// What follows from a verdict, under the key that it names.
 fn carry_out(
     alloc: Global,
     answers: &mut Answers,
     context: &PacketContext<'_>,
     registration: &Registration,
-    verdict: Verdict,
-    kbm: Option<&PreparedKbm>,
+    judgement: Judged,
 ) -> Result<Option<AcceptedBinding>, Memory>
     requires plain { IsTrue (is_routable_if_any registration.now.home_option) }
-    requires key { option_copied kbm ≡ key_in verdict }
-    ensures kept { IfOk result (λ kept. kept ≡ kept_of verdict) }
+    requires key { judgement.kbm ≡ key_in judgement.verdict }
+    ensures kept { IfOk result (λ kept. kept ≡ kept_of judgement.verdict) }
     ensures shows { (cache : CacheSeen)
-        → Leads context.now.moment.0 cache result (judged context.now.identity.now context.now.number registration.now verdict) answers.old answers.new }
+        → Leads context.now.moment.0 cache result (judged context.now.identity.now context.now.number registration.now judgement.verdict) answers.old answers.new }
 {
-    match verdict {
+    let kbm = judgement.kbm.as_ref();
+    match judgement.verdict {
         Verdict::Refuse(why) => {
             drop_packet(answers, context.number, why)?;
             Ok(None)
@@ -127,6 +127,7 @@ fn carry_out(
                 accepted,
             };
             accept(alloc, answers, context, registration, &kept, granted, kbm)?;
+            keep_witness(alloc, answers, judgement.witness)?;
             Ok(Some(kept))
         }
     }
@@ -158,6 +159,5 @@ pub fn take_update(
         registration,
         message,
     );
-    let kbm = judged.kbm.as_ref();
-    carry_out(alloc, answers, context, registration, judged.verdict, kbm)
+    carry_out(alloc, answers, context, registration, judged)
 }

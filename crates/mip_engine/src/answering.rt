@@ -1,6 +1,6 @@
 //! What a node answers, packet by packet and entry by entry.
 
-ghost use Rattle.std.specs.Prelude.{◌≡◌, ◌<◌, true, OnOk};
+ghost use Rattle.std.specs.Prelude.{◌≡◌, ◌<◌, true, OnOk, option_copied, option_map};
 ghost use Rattle.std.specs.List.{AllByRecursion};
 ghost use Rattle.mip_history.specs.Setup.{Setup};
 ghost use Rattle.mip_history.specs.Runs.{Run};
@@ -10,23 +10,33 @@ ghost use Rattle.mip_engine.specs.Groups.{is_plain};
 ghost use Rattle.mip_engine.specs.Standing.{IsAt};
 
 use crate::engine::Engine;
-use mip_entries::{Answer, Answers, Entry};
+use mip_entries::{Answer, Answers, Entry, Witness};
 use mip_words::{Holder, LinkId, Memory, NodeId};
 
 impl Engine {
     /// An entry of a node is left with the node's number.
-    fn note_named(&mut self, node: NodeId, entry: Entry) -> Result<(), Memory>
+    fn note_named(
+        &mut self,
+        node: NodeId,
+        entry: Entry,
+        witness: Option<&Witness>,
+    ) -> Result<(), Memory>
         requires plain { is_plain entry ≡ true }
         requires apart { is_apart entry ≡ true }
         ensures stands { (s : Setup) (run : Run) → IsAt self.old s run → OnOk result (IsAt self.new s (left_by s node.0 run entry)) }
         ensures kept { OnOk result (self.new.told ≡ self.old.told) }
     {
         let next = self.next();
-        self.note_marked(entry.named(node, LinkId(0), next))
+        self.note_marked(entry.named(node, LinkId(0), next), witness)
     }
 
     /// An entry of a node is left. Who holds an address is decided as it is claimed, and a restart was noted as it happened.
-    fn note_left(&mut self, node: NodeId, entry: Entry) -> Result<(), Memory>
+    fn note_left(
+        &mut self,
+        node: NodeId,
+        entry: Entry,
+        witness: Option<&Witness>,
+    ) -> Result<(), Memory>
         requires node { node.0 < 40 }
         requires apart { is_apart entry ≡ true }
         ensures stands { (s : Setup) (run : Run) → IsAt self.old s run → OnOk result (IsAt self.new s (left_by s node.0 run entry)) }
@@ -37,11 +47,17 @@ impl Engine {
             Entry::Taken { address, .. } => self.claim(Holder::Node(node), address),
             Entry::Released { address, .. } => self.give_up(Holder::Node(node), address),
             Entry::Restarted { .. } => Ok(()),
-            entry => self.note_named(node, entry),
+            entry => self.note_named(node, entry, witness),
         }
     }
 
-    fn answer_one(&mut self, node: NodeId, from: LinkId, answer: Answer) -> Result<(), Memory>
+    fn answer_one(
+        &mut self,
+        node: NodeId,
+        from: LinkId,
+        answer: Answer,
+        witness: Option<&Witness>,
+    ) -> Result<(), Memory>
         requires whole { IsWhole answer }
         requires node { node.0 < 40 }
         ensures stands { (s : Setup) (run : Run) → IsAt self.old s run → OnOk result (IsAt self.new s (answered_one s node.0 from.0 run answer)) }
@@ -49,7 +65,7 @@ impl Engine {
     {
         match answer {
             Answer::Send { shield, packet } => self.send(node, from, shield, packet),
-            Answer::Note(entry) => self.note_left(node, entry),
+            Answer::Note(entry) => self.note_left(node, entry, witness),
         }
     }
 
@@ -66,9 +82,22 @@ impl Engine {
         ensures stands { (s : Setup) (run : Run) → IsAt self.old s run → OnOk result (IsAt self.new s (answered s node.0 from.0 run answers)) }
         ensures kept { OnOk result (self.new.told ≡ self.old.told) }
     {
+        let mut answers = answers;
+        let witness = answers.take_witness();
+        let witness = lent(&witness);
         for answer in answers.into_vec() {
-            self.answer_one(node, from, answer)?;
+            self.answer_one(node, from, answer, witness)?;
         }
         Ok(())
+    }
+}
+
+/// What a check found, where it is kept.
+fn lent(witness: &Option<Box<Witness>>) -> Option<&Witness>
+    ensures { option_copied result ≡ option_map (λ w. w.value) witness.now }
+{
+    match witness {
+        Some(witness) => Some(witness.as_ref()),
+        None => None,
     }
 }

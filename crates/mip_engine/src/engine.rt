@@ -13,7 +13,7 @@ mod links;
 mod members;
 mod settling;
 
-use mip_entries::{Entry, History};
+use mip_entries::{Entry, History, Witness};
 use mip_links::Net;
 use mip_provenance::{AcceptedUpdate, Mark};
 use mip_recorder::Recorder;
@@ -119,26 +119,30 @@ impl Engine {
         self.recorder.push(entry)
     }
 
-    /// The mark of the update that an entry accepts, if it accepts one.
-    fn mark_of(&self, entry: &Entry) -> Result<Option<Mark>, Memory>
+    /// The mark of the update that an entry accepts, if it accepts one, and what the node's check found.
+    fn mark_of(&self, entry: &Entry, witness: Option<&Witness>) -> Result<Option<Mark>, Memory>
         ensures { IsNumbered self.now.net.posts self.now.past → IfOk result (λ o. o ≡ option_map (mark_in self.now.past) (update_accepted entry.now)) }
     {
         let Some(accepted) = AcceptedUpdate::of(entry) else {
             return Ok(None);
         };
         let packet = self.packet(accepted.number);
-        let mark = self.recorder.mark(&accepted, packet)?;
+        let mark = self.recorder.mark(&accepted, packet, witness)?;
         Ok(Some(mark))
     }
 
-    /// An entry is left, and behind an `accepted` the mark of its origin.
+    /// An entry is left, and behind an `accepted` the mark of its origin. What the node's check found spares the mark to hash it.
     #[tactic(auto, using(crate::proofs::MarkLaws::marks_none, crate::proofs::MarkLaws::marks_one))]
-    pub(crate) fn note_marked(&mut self, entry: Entry) -> Result<(), Memory>
+    pub(crate) fn note_marked(
+        &mut self,
+        entry: Entry,
+        witness: Option<&Witness>,
+    ) -> Result<(), Memory>
         ensures marked { IsNumbered self.old.net.posts self.old.past
             → OnOk result (self.new ≡ with_entries (entry ∷ marks_of self.old.past (update_accepted entry)) self.old) }
         ensures kept { OnOk result (self.new.told ≡ self.old.told) }
     {
-        let mark = self.mark_of(&entry)?;
+        let mark = self.mark_of(&entry, witness)?;
         self.note(entry)?;
         match mark {
             Some(mark) => self.note(mark.entry()),

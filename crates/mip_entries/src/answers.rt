@@ -2,14 +2,17 @@ ghost use Rattle.std.specs.Prelude.{◌≡◌, ◌∷◌, ◌++◌, [], length, 
 ghost use Rattle.std.specs.Option.{option_copied};
 
 use crate::answer::Answer;
+use mip_tokens::Witness;
 use mip_words::Memory;
 use std::alloc::Global;
 use std::marker::Model;
 
-/// What a node does, in order.
+/// What a node does, in order; and what the check behind an acceptance found, so that a mark need not hash it again. Clauses see what
+/// it does.
 #[derive(Drop)]
 pub struct Answers {
     list: Vec<Answer>,
+    witness: Option<Box<Witness>>,
 }
 
 impl Model for Answers {
@@ -27,6 +30,7 @@ impl Answers {
     {
         Ok(Answers {
             list: Vec::new(alloc),
+            witness: None,
         })
     }
 
@@ -37,6 +41,20 @@ impl Answers {
     {
         self.list.push(answer)?;
         Ok(())
+    }
+
+    /// Keeps what the check behind an acceptance found. Nothing that a contract sees changes.
+    pub fn keep_witness(&mut self, witness: Option<Box<Witness>>)
+        ensures { self.new ≡ self.old }
+    {
+        self.witness = witness;
+    }
+
+    /// What the check behind an acceptance found, which is kept no longer. Nothing that a contract sees changes.
+    pub fn take_witness(&mut self) -> Option<Box<Witness>>
+        ensures { self.new ≡ self.old }
+    {
+        self.witness.take()
     }
 
     pub fn len(&self) -> usize

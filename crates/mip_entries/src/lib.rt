@@ -20,4 +20,5 @@ pub use answers::Answers;
 pub use entry::Entry;
 pub use history::History;
 pub use laws::{stands_for_nothing, stands_for_one_step_more};
+pub use mip_tokens::Witness;
 pub use update_seen::UpdateSeen;

@@ -9,7 +9,7 @@ ghost use Rattle.mip_rules_mobile.specs.Transitions.{Transition, begun, noted};
 ghost use Rattle.mip_mobile_context.specs.Seen.{Shows};
 
 use mip_bulist::ListFull;
-use mip_entries::Answers;
+use mip_entries::{Answers, Witness};
 use mip_mobile_state::MobileState;
 use mip_nonce::Secrets;
 use mip_tokens::KeptKbm;
@@ -80,6 +80,13 @@ impl CallContext {
     {
         let answers = Answers::new(alloc)?;
         Ok(std::mem::replace(&mut self.answers, answers))
+    }
+
+    /// Keeps what the check behind an acceptance of its correspondent part found. Nothing that a contract sees changes.
+    pub(crate) fn keep_witness(&mut self, witness: Option<Box<Witness>>)
+        ensures { self.new ≡ self.old }
+    {
+        self.answers.keep_witness(witness);
     }
 
     /// A peer gets a row, if there is room.

@@ -55,12 +55,14 @@ fn pass_on(alloc: Global, context: &mut CallContext, answer: Answer) -> Result<(
     }
 }
 
-/// The answers of the correspondent part are passed on, in order.
+/// The answers of the correspondent part are passed on, in order, and with them what the check behind an acceptance found.
 #[tactic(auto, unfolding(mip_rules_mobile::specs::OutRules::passes_all))]
 fn pass_all(alloc: Global, context: &mut CallContext, answers: Answers) -> Result<(), Memory>
     requires { AllByRecursion CanPass answers }
     ensures { (t : Transition) → Shows context.old t → OnOk result (Shows context.new (passes_all answers t)) }
 {
+    let mut answers = answers;
+    context.keep_witness(answers.take_witness());
     for answer in answers.into_vec() {
         pass_on(alloc, context, answer)?;
     }

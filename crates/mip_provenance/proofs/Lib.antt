@@ -7,3 +7,4 @@ pub mod Standing
 pub mod Originating
 mod Means
 pub mod Covered
+mod KeyLaws

@@ -1,12 +1,12 @@
-ghost use Rattle.std.specs.Prelude.{◌≡◌, option_map};
+ghost use Rattle.std.specs.Prelude.{◌≡◌, IfSome, option_map};
+ghost use Rattle.mip_tokens.specs.Token.{authenticator_of, kbm_of_tokens};
 ghost use Rattle.mip_provenance.specs.Lists.{if_passes};
 ghost use Rattle.mip_provenance.specs.Pairs.{alone, both};
-ghost use Rattle.mip_provenance.specs.Keys.{kbm_of_tokens};
 ghost use Rattle.mip_provenance.specs.Seen.{pair_of, gives_it};
 
 use crate::pair::Pair;
 use mip_packets::UpdateIdentity;
-use mip_tokens::{Kbm, PreparedKbm, authenticator};
+use mip_tokens::{Kbm, PreparedKbm, Witness, authenticator};
 use mip_words::{Address, Token};
 
 /// An update with its authenticator, as the node that accepted it checked it.
@@ -17,11 +17,13 @@ pub struct Signed<'a> {
     /// The care-of address that was bound; the home address where the binding ended.
     pub careof: Address,
     pub key: UpdateIdentity<'a>,
+    /// What the check found, where that is known: of which tokens it was is for it to say.
+    pub witness: Option<&'a Witness>,
 }
 
 /// The key that a pair gives.
 fn kbm(pair: &Pair) -> Kbm
-    ensures { result.0 ≡ kbm_of_tokens pair.now.home.0 (option_map (λ t. t.0) pair.now.careof) }
+    ensures { result.0 ≡ kbm_of_tokens pair.now.home pair.now.careof }
 {
     match pair.careof {
         Some(careof) => Kbm::both(pair.home, careof),
@@ -30,13 +32,33 @@ fn kbm(pair: &Pair) -> Kbm
 }
 
 impl Signed<'_> {
+    /// The authenticator under the key of a pair, where the check found it.
+    fn found(&self, pair: &Pair) -> Option<[u8; 12]>
+        ensures { IfSome result (λ a. a ≡ authenticator_of (kbm_of_tokens pair.now.home pair.now.careof) self.now.careof self.now.own self.now.key.body.now) }
+    {
+        let witness = self.witness?;
+        witness.authenticator(pair.home, pair.careof, self.careof, self.own, self.key.body)
+    }
+
+    /// The authenticator under the key of a pair: as the check found it, where that was of this pair, else it is hashed.
+    fn authenticator(&self, pair: &Pair) -> [u8; 12]
+        ensures { result ≡ authenticator_of (kbm_of_tokens pair.now.home pair.now.careof) self.now.careof self.now.own self.now.key.body.now }
+    {
+        match self.found(pair) {
+            Some(found) => found,
+            None => {
+                let kbm = PreparedKbm::new(kbm(pair));
+                authenticator(&kbm, self.careof, self.own, self.key.body)
+            }
+        }
+    }
+
     /// The pair gives the authenticator.
-    #[tactic(auto, unfolding(mip_tokens::specs::Token::authenticator_of))]
+    #[tactic(auto, unfolding(mip_tokens::specs::Token::authenticator_of), using(crate::proofs::KeyLaws::same_kbm))]
     pub fn is_by(&self, pair: &Pair) -> bool
         ensures { result ≡ gives_it self.now (pair_of pair.now) }
     {
-        let kbm = PreparedKbm::new(kbm(pair));
-        authenticator(&kbm, self.careof, self.own, self.key.body) == self.key.authenticator
+        self.authenticator(pair) == self.key.authenticator
     }
 
     /// The home token alone, where it gives the authenticator.

@@ -78,6 +78,7 @@ fn mark_with(past: &[Entry], accepted: &AcceptedUpdate, own: Address, key: &Upda
         own,
         careof: accepted.careof,
         key: *key,
+        witness: None,
     };
     let Some(pair) = pair(past, accepted.careof_index, &signed, update, first.maker) else {
         return Mark::Forged(1);

@@ -24,6 +24,7 @@ use crate::updates::Updates;
 use mip_entries::Entry;
 use mip_packets::UpdateIdentity;
 use mip_provenance::{AcceptedUpdate, Claim, Maker, Mark, Pair, Signed, key_said};
+use mip_tokens::Witness;
 use mip_words::{Address, Memory, NodeId, Token};
 use std::alloc::Global;
 
@@ -175,7 +176,13 @@ impl ProvenanceIndex {
     }
 
     /// The mark of an acceptance whose update was found.
-    fn mark_with(&self, accepted: &AcceptedUpdate, own: Address, key: &UpdateIdentity) -> Mark
+    fn mark_with(
+        &self,
+        accepted: &AcceptedUpdate,
+        own: Address,
+        key: &UpdateIdentity,
+        witness: Option<&Witness>,
+    ) -> Mark
         ensures { result ≡ key_looked self.now accepted.now own (Some (key_of key.now)) }
     {
         let Some(first) = self.updates.first(accepted.number) else {
@@ -185,6 +192,7 @@ impl ProvenanceIndex {
             own,
             careof: accepted.careof,
             key: *key,
+            witness,
         };
         let Some(pair) = self.pair(accepted.careof_index, &signed, &first) else {
             return Mark::Forged(1);
@@ -197,7 +205,12 @@ impl ProvenanceIndex {
 
     /// The mark by look-ups.
     #[tactic(auto, unfolding(crate::specs::Answers::mark_looked))]
-    fn looked(&self, accepted: &AcceptedUpdate, packet: Option<&[u8]>) -> Mark
+    fn looked(
+        &self,
+        accepted: &AcceptedUpdate,
+        packet: Option<&[u8]>,
+        witness: Option<&Witness>,
+    ) -> Mark
         ensures { result ≡ mark_looked self.now accepted.now (option_map (λ p. p.now) packet.entry) }
     {
         let Some(own) = self.addresses.address(accepted.node) else {
@@ -206,16 +219,22 @@ impl ProvenanceIndex {
         let Some(key) = key_of_packet(packet) else {
             return Mark::Forged(1);
         };
-        self.mark_with(accepted, own, &key)
+        self.mark_with(accepted, own, &key, witness)
     }
 
-    /// The mark of an update that is accepted next, where the packet that carried it has these bytes.
-    pub fn mark(&self, accepted: &AcceptedUpdate, packet: Option<&[u8]>) -> Mark
+    /// The mark of an update that is accepted next, where the packet that carried it has these bytes. What the node's check found may be
+    /// given: where it is of the pair that is asked for, nothing is hashed, and the mark is the same.
+    pub fn mark(
+        &self,
+        accepted: &AcceptedUpdate,
+        packet: Option<&[u8]>,
+        witness: Option<&Witness>,
+    ) -> Mark
         ensures seen { (past : List Entry) → StandsFor self.now past → option_map (λ p. p.now) packet.entry ≡ packet_in past accepted.now.number
             → result ≡ mark_of (seen_in past) accepted.now (declared_in past accepted.now.node.0) }
         ensures exact { (past : List Entry) → StandsFor self.now past → AreTold past → option_map (λ p. p.now) packet.entry ≡ packet_in past accepted.now.number
             → result ≡ mark_in past accepted.now }
     {
-        self.looked(accepted, packet)
+        self.looked(accepted, packet, witness)
     }
 }

@@ -7,7 +7,7 @@ ghost use Rattle.mip_recorder.specs.Given.{past_of, with_entry, all_told};
 ghost use Rattle.mip_recorder.specs.Watched.{IsWatched};
 
 use crate::packets::{heard, is_posting};
-use mip_entries::{Entry, History};
+use mip_entries::{Entry, History, Witness};
 use mip_ghost_log::GhostLog;
 use mip_provenance::{AcceptedUpdate, Mark};
 use mip_provenance_index::ProvenanceIndex;
@@ -74,17 +74,23 @@ impl Recorder {
         Ok(())
     }
 
-    /// The mark of an update that is accepted next, where the packet that carried it has these bytes.
+    /// The mark of an update that is accepted next, where the packet that carried it has these bytes. What the node's check found may be
+    /// given: where it is of the pair that is asked for, nothing is hashed, and the mark is the same.
     ///
     /// Packets are numbered from 0 in the order in which they are posted, and are heard and handed over only then.
-    pub fn mark(&self, accepted: &AcceptedUpdate, packet: Option<&[u8]>) -> Result<Mark, Memory>
+    pub fn mark(
+        &self,
+        accepted: &AcceptedUpdate,
+        packet: Option<&[u8]>,
+        witness: Option<&Witness>,
+    ) -> Result<Mark, Memory>
         ensures { IsInOrder (past_of self.now) → option_map (λ p. p.now) packet.entry ≡ packet_in (past_of self.now) accepted.now.number
             → IfOk result (λ m. m ≡ mark_in (past_of self.now) accepted.now) }
     {
         if !self.is_whole {
             return Err(Memory);
         }
-        Ok(self.watch.mark(accepted, packet))
+        Ok(self.watch.mark(accepted, packet, witness))
     }
 
     /// How many entries were not given away.

@@ -6,7 +6,7 @@ use crate::prepared_kbm::PreparedKbm;
 use mip_words::Address;
 
 /// The bytes of an authenticator.
-const AUTHENTICATOR: usize = 12;
+pub const AUTHENTICATOR: usize = 12;
 
 /// What an authenticator covers of a message whose last 12 bytes are its place: what stands before the checksum, which
 /// counts as zero, and what stands behind it.

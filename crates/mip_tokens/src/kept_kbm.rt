@@ -1,9 +1,10 @@
-ghost use Rattle.std.specs.Prelude.{◌≡◌, IfSome, IsSome};
-ghost use Rattle.mip_tokens.specs.Token.{kbm_of_tokens};
+ghost use Rattle.std.specs.Prelude.{◌≡◌, ◌≤◌, length, IfSome, IsSome};
+ghost use Rattle.mip_tokens.specs.Token.{IsAuthentic, kbm_of_tokens};
 
 use crate::kbm::Kbm;
 use crate::prepared_kbm::PreparedKbm;
-use mip_words::Token;
+use crate::witness::Witness;
+use mip_words::{Address, Token};
 
 /// Kbm, prepared, beside the tokens of which it was made: under the same tokens its pads need not be hashed again.
 #[derive(Drop)]
@@ -44,5 +45,22 @@ impl KeptKbm {
         } else {
             None
         }
+    }
+
+    /// The witness of a message that is authentic under the key; none where it is longer than a witness keeps.
+    pub fn witness(&self, bound: Address, own: Address, message: &[u8]) -> Option<Witness>
+        requires long { 18 ≤ length message.now }
+        requires authentic { IsAuthentic self.now.kbm.0 bound own message.now }
+        ensures of { IfSome result (λ w. w ≡ record { home = self.now.home; careof = self.now.careof; bound = bound; own = own; message = message.now }) }
+        ensures short { length message.now ≤ 128 → IsSome result }
+    {
+        Witness::new(self.home, self.careof, bound, own, message)
+    }
+
+    /// The key alone, from here on without its tokens.
+    pub fn into_key(self) -> PreparedKbm
+        ensures { result ≡ self.kbm }
+    {
+        self.kbm
     }
 }

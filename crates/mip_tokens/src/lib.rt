@@ -9,6 +9,7 @@ mod keyed;
 mod keygen;
 mod prepared_kbm;
 mod prepared_key;
+mod witness;
 
 pub use authorization::{authentic, authenticator, covered};
 pub use kbm::Kbm;
@@ -17,3 +18,4 @@ pub use keyed::{hmac, hmac_of_parts};
 pub use keygen::{careof_token, home_token};
 pub use prepared_kbm::PreparedKbm;
 pub use prepared_key::PreparedKey;
+pub use witness::Witness;

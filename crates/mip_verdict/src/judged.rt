@@ -2,13 +2,15 @@ ghost use Rattle.std.specs.Prelude.{◌≡◌, None};
 ghost use Rattle.mip_verdict.specs.Judging.{key_in, IsJudged};
 
 use mip_rules_correspondent::Verdict;
-use mip_tokens::PreparedKbm;
+use mip_tokens::{PreparedKbm, Witness};
 
-/// A verdict, and beside it the key that it names, if it names one: prepared, as the answer is made under it.
+/// A verdict, and beside it the key that it names, if it names one: prepared, as the answer is made under it. And what the check of
+/// the authenticator found, for whoever asks the same of the update.
 #[derive(Drop)]
 pub struct Judged {
     pub verdict: Verdict,
     pub kbm: Option<PreparedKbm>,
+    pub witness: Option<Witness>,
 }
 
 impl Judged {
@@ -17,6 +19,10 @@ impl Judged {
         requires { key_in verdict ≡ None }
         ensures { IsJudged result verdict }
     {
-        Judged { verdict, kbm: None }
+        Judged {
+            verdict,
+            kbm: None,
+            witness: None,
+        }
     }
 }

@@ -11,7 +11,7 @@ use mip_mobhdr::Indices;
 use mip_nonce::{Secrets, by_index};
 use mip_reception::{Registration, careof_of, deletes, home_of, registered_of, status};
 use mip_rules_correspondent::Verdict;
-use mip_tokens::{Kbm, PreparedKbm, authentic};
+use mip_tokens::{Kbm, KeptKbm, authentic};
 use mip_words::constants::{LIFETIME_UNIT, MAX_RR_BINDING_LIFETIME};
 use mip_words::{Address, Moment, Why, after};
 
@@ -115,34 +115,37 @@ fn by_key(
     message: &[u8],
     home: u64,
     careof: Option<u64>,
-    kbm: PreparedKbm,
+    key: KeptKbm,
 ) -> Judged
     requires early { judge.now.moment.0 < 2 ^ 62 }
     requires later { judge.now.cache.now.last ≤ judge.now.moment.0 }
     requires long { 18 ≤ length message.now }
-    ensures { IsJudged result (by_key (bench_of judge.now registration.now) registration.now message.now home careof kbm) }
+    ensures { IsJudged result (by_key (bench_of judge.now registration.now) registration.now message.now home careof key.kbm) }
 {
-    if !authentic(&kbm, registered_of(registration), judge.own, message) {
+    let bound = registered_of(registration);
+    if !authentic(key.key(), bound, judge.own, message) {
         return Judged::without_key(Verdict::Refuse(Why::Authenticator));
     }
-    let verdict = by_sequence(judge, registration, home, careof, kbm.kbm());
+    let verdict = by_sequence(judge, registration, home, careof, key.key().kbm());
+    let witness = key.witness(bound, judge.own, message);
     Judged {
         verdict,
-        kbm: Some(kbm),
+        kbm: Some(key.into_key()),
+        witness,
     }
 }
 
 /// The key: of the home token alone where the binding ends, else of both tokens.
-fn kbm_of(judge: &Judge<'_>, registration: &Registration, home: u64, careof: Option<u64>) -> Kbm
-    ensures { result ≡ kbm_of (bench_of judge.now registration.now) registration.now home careof }
+fn key_of(judge: &Judge<'_>, registration: &Registration, home: u64, careof: Option<u64>) -> KeptKbm
+    ensures { result.kbm ≡ kbm_of (bench_of judge.now registration.now) registration.now home careof }
 {
     let secrets = judge.secrets;
     let home_token = secrets.home_token(home_of(registration), home);
     match careof {
-        None => Kbm::home(home_token),
+        None => KeptKbm::new(home_token, None, Kbm::home(home_token)),
         Some(careof) => {
             let token = secrets.careof_token(careof_of(registration), careof);
-            Kbm::both(home_token, token)
+            KeptKbm::new(home_token, Some(token), Kbm::both(home_token, token))
         }
     }
 }
@@ -165,15 +168,8 @@ fn by_numbers(
         (None, Some(_)) => status::EXPIRED_HOME_NONCE,
         (Some(_), None) => status::EXPIRED_CAREOF_NONCE,
         (Some(home), Some(careof)) => {
-            let kbm = kbm_of(judge, registration, home, careof);
-            return by_key(
-                judge,
-                registration,
-                message,
-                home,
-                careof,
-                PreparedKbm::new(kbm),
-            );
+            let key = key_of(judge, registration, home, careof);
+            return by_key(judge, registration, message, home, careof, key);
         }
     };
     Judged::without_key(deny(status, registration.sequence, None))
