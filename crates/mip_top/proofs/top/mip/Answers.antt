@@ -16,8 +16,7 @@ returns-in-Ok-clause-obeyed g c =
 
 pub returns-in-Ok-clause-obeyed_of_some : goal.returns-in-Ok-clause-obeyed_of_some
 returns-in-Ok-clause-obeyed_of_some g c =
-    let o = c.obey.ensures.obeyed in
-    (
+    let o = c.obey.ensures.obeyed in (
       o.0,
       o.1.most,
       o.1.taken,
