@@ -1,3 +1,4 @@
+mod Told
 mod TellingLaws
 mod Residents
 mod Landings

@@ -1,5 +1,5 @@
 -- Where all nodes are correspondents, no mobile is at home, so an address that is given up passes to nobody.
-use Rattle.std.proofs.Common.{◌≡◌, ℕ, zero, suc, List, Bool, false, refl, ap, ◌∙◌}
+use Rattle.std.proofs.Common.{◌≡◌, ℕ, zero, suc, List, Bool, true, false, refl, ap, ◌∙◌}
 use Rattle.std.proofs.lemmas.Option.{slice_get-map}
 use Rattle.std.specs.Prelude.{Option, Some, None, option_map, map, slice_get, if◌then◌else◌, length}
 use Rattle.mip_words.specs.Last.{or_else}
@@ -7,7 +7,7 @@ use Rattle.mip_history.specs.Setup.{Setup, Host}
 use Rattle.mip_history.specs.Runs.{Run}
 use Rattle.mip_history.specs.Homes.{first_below, lives_by_host, lives_at, resident}
 use Rattle.mip_afresh.specs.declared.host.Host as declared_host
-use Rattle.mip_afresh.specs.Tellings.{host_seen}
+use Rattle.mip_afresh.specs.Tellings.{host_seen, is_plain}
 
 none_below : (is : ℕ → Bool) → ((n : ℕ) → is n ≡ false) → (n : ℕ) → first_below is n ≡ None
 none_below is never zero = refl
@@ -27,3 +27,11 @@ none_passes s hs same run address =
     none_below (lives_at s run address)
     (λ n. ap (λ (l : List Host). lives_by_host s run address n (slice_get l n)) same ∙ ap (lives_by_host s run address n) (at_none hs n) ∙ nobody s run address n (slice_get hs n))
     (length s.hosts)
+
+-- each node is a correspondent
+pub plain_hosts : (hs : List declared_host.Host) (n : ℕ) → is_plain (slice_get (map host_seen hs) n) ≡ true
+plain_hosts hs n = ap is_plain (at_none hs n) ∙ by (slice_get hs n)
+  where
+    by : (o : Option declared_host.Host) → is_plain (option_map host_seen o) ≡ true
+    by None = refl
+    by (Some host) = refl

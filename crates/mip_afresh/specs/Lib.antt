@@ -1,3 +1,4 @@
+pub mod Told
 pub mod Tellings
 pub mod Fates
 pub mod Arrivals

@@ -1,5 +1,5 @@
 -- A telling: what a schedule of correspondents and outsiders declares, and a run of it.
-use Rattle.std.specs.Prelude.{◌≤◌, List, [], length, map, fold, slice_set, slice_index_or}
+use Rattle.std.specs.Prelude.{◌≡◌, ◌≤◌, ℕ, Bool, true, Option, Some, None, slice_get, List, [], length, map, fold, slice_set, slice_index_or}
 use Rattle.mip_entries.specs.declared.answer.Answer.{Answer}
 use Rattle.mip_entries.specs.declared.answer.Answer.TheVariants as answers
 use Rattle.mip_entries.specs.Stamped.{Stamped}
@@ -12,6 +12,7 @@ use Rattle.mip_rules_correspondent.specs.Doing.{transition_of}
 use Rattle.mip_links.specs.Table.{Post}
 use Rattle.mip_history.specs.Setup.{Setup, Host}
 use Rattle.mip_history.specs.Setup.Kind.{Correspondent}
+use Rattle.mip_history.specs.SetupLaws.{is_correspondent_kind}
 use Rattle.mip_history.specs.Runs.{Run}
 use Rattle.mip_history.specs.Knowing.{secrets_in}
 use Rattle.mip_afresh.specs.declared.host.Host as declared_host
@@ -30,6 +31,14 @@ with_run run t = record { setup = t.setup; run = run }
 -- a host that is a correspondent
 abbrev pub host_seen : declared_host.Host → Host
 host_seen h = record { address = h.address; kind = Correspondent h.room }
+
+-- each node is a correspondent
+abbrev pub is_plain : Option Host → Bool
+is_plain None = true
+is_plain (Some host) = is_correspondent_kind host.kind
+
+abbrev pub ArePlain : Setup → Type 0
+ArePlain s = (n : ℕ) → is_plain (slice_get s.hosts n) ≡ true
 
 -- a packet as it was posted
 abbrev pub post_seen : Posted → Post

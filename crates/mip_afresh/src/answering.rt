@@ -13,7 +13,7 @@ ghost use Rattle.mip_afresh.specs.Leavings.{leaving_of};
 use crate::posted::Posted;
 use crate::telling::Telling;
 use mip_entries::{Answer, Answers, Entry};
-use mip_provenance::{AcceptedUpdate, mark_behind};
+use mip_provenance::AcceptedUpdate;
 use mip_words::{Address, Bytes, LinkId, Memory, NodeId, Shield};
 use std::alloc::Global;
 
@@ -47,7 +47,7 @@ impl Telling {
         ensures { option_to_list result ≡ marks_of self.now.run.past (update_accepted entry.now) }
     {
         match AcceptedUpdate::of(entry) {
-            Some(accepted) => Some(mark_behind(self.past.as_slice(), &accepted).entry()),
+            Some(accepted) => Some(self.past.mark(&accepted).entry()),
             None => None,
         }
     }

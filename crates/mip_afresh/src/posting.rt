@@ -1,6 +1,6 @@
 //! Packets are posted, and outsiders hear them.
 
-ghost use Rattle.std.specs.Prelude.{◌≡◌, ◌≤◌, [], ◌∷◌, ◌++◌, ◌&&◌, length, if◌then◌else◌, None, Some, IfOk, OnOk};
+ghost use Rattle.std.specs.Prelude.{◌≡◌, ◌≤◌, [], ◌∷◌, ◌++◌, ◌&&◌, length, if◌then◌else◌, None, Some, IfOk, OnOk, IfSome, option_map, slice_get};
 ghost use Rattle.mip_entries.specs.declared.entry.Entry.TheVariants.{Heard};
 ghost use Rattle.mip_history.specs.Runs.{notes};
 ghost use Rattle.mip_history.specs.Questions.{hears_in};
@@ -61,9 +61,16 @@ fn heard_on(
 }
 
 impl Telling {
+    /// How many outsiders there are.
+    fn outsiders(&self) -> u8
+        ensures { result ≡ self.now.setup.outsiders }
+    {
+        self.setting.outsiders
+    }
+
     /// Entries are left.
     #[tactic(auto, using(crate::proofs::TellingLaws::told_none, crate::proofs::TellingLaws::told_more))]
-    fn note_all(&mut self, entries: Vec<Entry>) -> Result<(), Memory>
+    pub fn note_all(&mut self, entries: Vec<Entry>) -> Result<(), Memory>
         ensures { OnOk result (self.new ≡ with_run (notes entries.items self.old.run) self.old) }
     {
         for entry in entries {
@@ -86,8 +93,8 @@ impl Telling {
         if shield.is_some() {
             return Ok(());
         }
-        let outsiders = self.setting.outsiders;
-        let heard = heard_on(alloc, self.past.as_slice(), link, by, number, outsiders)?;
+        let outsiders = self.outsiders();
+        let heard = heard_on(alloc, self.told().as_slice(), link, by, number, outsiders)?;
         self.note_all(heard)
     }
 
@@ -115,5 +122,16 @@ impl Telling {
             packet: Bytes::copy(alloc, packet)?,
         })?;
         self.overhear(alloc, link, None, Some(outsider), number)
+    }
+
+    /// The bytes of a packet that was posted.
+    pub fn packet(&self, number: u64) -> Option<&[u8]>
+        ensures bytes { option_map (λ p. p.now) result ≡ option_map (λ p. p.packet) (slice_get self.now.run.posts number) }
+        ensures long { IfSome result (λ p. 40 ≤ length p.now) }
+    {
+        match self.posts.get(number as usize) {
+            Some(post) => Some(post.packet.as_slice()),
+            None => None,
+        }
     }
 }

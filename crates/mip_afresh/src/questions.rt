@@ -64,7 +64,7 @@ fn life(past: &[Entry], node: NodeId) -> usize
 }
 
 /// The moment from an entry on.
-fn moment_said(entry: &Entry) -> Option<Moment>
+pub(crate) fn moment_said(entry: &Entry) -> Option<Moment>
     ensures { option_map (λ m. m.0) result ≡ moment_says entry.now }
 {
     match entry {
@@ -74,7 +74,7 @@ fn moment_said(entry: &Entry) -> Option<Moment>
 }
 
 /// The moment behind entries that began at a moment.
-fn moment(past: &[Entry], start: Moment) -> Moment
+pub(crate) fn moment(past: &[Entry], start: Moment) -> Moment
     ensures { result.0 ≡ moment_in start.0 past.now }
 {
     let mut moment = start;
@@ -144,7 +144,7 @@ fn either(first: Option<Address>, second: Option<Address>) -> Option<Address>
 }
 
 /// The address that somebody claimed first.
-fn declared(past: &[Entry], who: u8) -> Option<Address>
+pub(crate) fn declared(past: &[Entry], who: u8) -> Option<Address>
     ensures { result ≡ declared_in past.now who }
 {
     let mut first = None;
@@ -159,34 +159,38 @@ impl Telling {
     pub fn now(&self) -> Moment
         ensures { result.0 ≡ now_in self.now.setup self.now.run }
     {
-        moment(self.past.as_slice(), self.setting.start)
+        self.moment
     }
 
     /// Who holds an address: a node's number, or 32 plus an outsider's.
+    #[tactic(auto, using(crate::proofs::Told::holder_told))]
     pub fn holder(&self, address: Address) -> Option<u8>
         ensures { result ≡ holder_in self.now.run.past address.0 }
     {
-        holder(self.past.as_slice(), address)
+        holder(self.past.telling(), address)
     }
 
     /// The address that somebody claimed first.
+    #[tactic(auto, using(crate::proofs::Told::declared_told))]
     pub fn declared(&self, who: u8) -> Option<Address>
         ensures { result ≡ declared_in self.now.run.past who }
     {
-        declared(self.past.as_slice(), who)
+        declared(self.past.telling(), who)
     }
 
     /// An outsider listens on a link.
+    #[tactic(auto, using(crate::proofs::Told::hears_told))]
     pub fn hears(&self, outsider: u8, link: LinkId) -> bool
         ensures { result ≡ hears_in self.now.run.past outsider link.0 }
     {
-        hears(self.past.as_slice(), outsider, link)
+        hears(self.past.telling(), outsider, link)
     }
 
     /// How often a node was restarted.
+    #[tactic(auto, using(crate::proofs::Told::life_told))]
     pub fn life(&self, node: NodeId) -> u64
         ensures { result ≡ life_in self.now.run.past node.0 }
     {
-        life(self.past.as_slice(), node) as u64
+        life(self.past.telling(), node) as u64
     }
 }

@@ -2,15 +2,21 @@ ghost use Rattle.std.specs.Prelude.{◌≡◌, ◌<◌, ◌≤◌, ◌∷◌, �
 ghost use Rattle.mip_entries.specs.declared.entry.Entry.{Entry};
 ghost use Rattle.mip_history.specs.Runs.{note, notes, without};
 ghost use Rattle.mip_history.specs.Knowing.{now_in};
-ghost use Rattle.mip_afresh.specs.Tellings.{with_run, post_seen, acted_one};
+ghost use Rattle.std.specs.List.{filter};
+ghost use Rattle.mip_history.specs.Bound.{accepted_by};
+ghost use Rattle.mip_history.specs.Settled.{is_settled};
+ghost use Rattle.mip_afresh.specs.Told.{tells};
+ghost use Rattle.mip_afresh.specs.Tellings.{ArePlain, with_run, post_seen, acted_one};
 
 use crate::acted::Acted;
+use crate::past::Past;
 use crate::posted::Posted;
 use crate::posts::Posts;
+use crate::questions::moment_said;
 use crate::setting::Setting;
 use mip_entries::{Entry, History};
 use mip_ghost_log::GhostLog;
-use mip_words::Memory;
+use mip_words::{Memory, Moment};
 use std::alloc::Global;
 use std::marker::Model;
 
@@ -18,14 +24,17 @@ use std::marker::Model;
 #[derive(Drop)]
 pub struct Telling {
     pub(crate) setting: Setting,
-    pub(crate) past: History,
+    pub(crate) past: Past,
+    /// The moment.
+    pub(crate) moment: Moment,
     pub(crate) posts: Posts,
     pub(crate) flying: Vec<bool>,
     pub(crate) acted: GhostLog<Acted>,
 }
 
 impl Model for Telling {
-    ghost use Rattle.std.specs.Prelude.{◌≤◌, length};
+    ghost use Rattle.std.specs.Prelude.{◌≡◌, ◌≤◌, length};
+    ghost use Rattle.mip_history.specs.Questions.{moment_in};
     ghost use Rattle.mip_afresh.specs.Tellings.{TellingSeen, no_pasts, pasts_of};
 
     ghost Value = { TellingSeen };
@@ -42,15 +51,19 @@ impl Model for Telling {
       };
     } };
 
-    ghost invariant = { λ t. length t.setting.links ≤ 32 };
+    ghost invariant = { λ t. (length t.setting.links ≤ 32) × (t.moment.0 ≡ moment_in t.setting.start t.past) };
 }
 
 impl Telling {
     /// An entry is left.
-    pub(crate) fn note(&mut self, entry: Entry) -> Result<(), Memory>
+    #[tactic(auto, using(crate::proofs::Told::moment_more))]
+    pub fn note(&mut self, entry: Entry) -> Result<(), Memory>
         ensures { OnOk result (self.new ≡ with_run (note entry self.old.run) self.old) }
     {
-        self.past.push(entry)
+        let moment = moment_said(&entry).unwrap_or(self.moment);
+        self.past.push(entry)?;
+        self.moment = moment;
+        Ok(())
     }
 
     /// The number that the next packet takes.
@@ -90,6 +103,24 @@ impl Telling {
     pub fn history(&self) -> &History
         ensures { result.now ≡ self.now.run.past }
     {
-        &self.past
+        self.past.entries()
+    }
+
+    /// Entries that answer each question as all of them do: those that tell. Mostly they are few.
+    #[tactic(auto, using(crate::proofs::Told::accepted_told, crate::proofs::Told::settled_told))]
+    pub fn told(&self) -> &History
+        ensures told { filter tells result.now ≡ filter tells self.now.run.past }
+        ensures accepted { (start node : ℕ) → accepted_by start result.now node ≡ accepted_by start self.now.run.past node }
+        ensures settled { (start a b : ℕ) → is_settled start result.now a b ≡ is_settled start self.now.run.past a b }
+    {
+        self.past.told()
+    }
+
+    /// A law: each node is a correspondent.
+    #[tactic(auto, using(crate::proofs::Residents::plain_hosts))]
+    pub fn plain(&self)
+        ensures { ArePlain self.now.setup }
+    {
+        let _hosts = &self.setting.hosts;
     }
 }

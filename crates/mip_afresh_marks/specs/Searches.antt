@@ -1,0 +1,65 @@
+-- What a walk over sights knows: of each node its life and whether it is an agent, which outsiders have heard a token, how a token
+-- was named.
+use Rattle.std.specs.Prelude.{◌≡◌, ◌<◌, ℕ, List, map, take, Bool, false, ◌||◌, if◌then◌else◌, Option, Some, None, option_map, slice_index_or}
+use Rattle.std.specs.List.{list_any, find}
+use Rattle.mip_words.specs.Last.{or_else}
+use Rattle.mip_packets.specs.Says.Carried.{Test}
+use Rattle.mip_provenance.specs.Sights.{Sight}
+use Rattle.mip_provenance.specs.Sights.Sight.{Sent}
+use Rattle.mip_provenance.specs.Reached.{is_heard}
+use Rattle.mip_provenance.specs.Names.{Naming, is_agent, lives, life_at, number_of_naming, namings, is_own, is_other, is_misnamed}
+use Rattle.mip_provenance.specs.Causes.{Claim}
+use Rattle.mip_afresh_marks.specs.declared.names.Named.{Named}
+use Rattle.mip_afresh_marks.specs.declared.lives.Known.{Known}
+use Rattle.mip_afresh_marks.specs.declared.lives.Lives.{Lives}
+use Rattle.mip_afresh_marks.specs.declared.sights.Sights.{Sights}
+use Rattle.mip_afresh_marks.specs.Sighting.{sight_seen, token_numbered}
+
+-- the sights up to a place
+abbrev pub front_in : Sights → ℕ → List Sight
+front_in s place = map (sight_seen (token_numbered s.posts.items)) (take place s.seen.items)
+
+abbrev pub stranger : Known
+stranger = record { is_agent = false; life = 0 }
+
+abbrev pub known_at : Lives → ℕ → Known
+known_at l n = slice_index_or l.nodes n stranger
+
+-- what is known of a node behind these sights
+abbrev pub known_of : ℕ → List Sight → Known
+known_of n front = record { is_agent = list_any (is_agent n) front; life = life_at n front }
+
+abbrev pub AreKnown : Lives → List Sight → Type 0
+AreKnown l front = (n : ℕ) → n < 256 → known_at l n ≡ known_of n front
+
+-- what is known of a node behind one more sight
+abbrev pub known_step : ℕ → Sight → Known → Known
+known_step n s k = record { is_agent = k.is_agent || is_agent n s; life = lives n k.life s }
+
+-- how a sight names a token, by what is known of nodes
+abbrev pub naming_known : (ℕ → Known) → Sight → Option Naming
+naming_known known (Sent number node (Test kind index token destination)) =
+    if (known node).is_agent then None
+    else Some (record { number = number; token = token; name = record { node = node; life = (known node).life; kind = kind; address = destination; index = index } })
+naming_known known _ = None
+
+-- how a token was named: the first packet that named it so, and whether one named it otherwise
+abbrev pub named_step : Claim → Option Naming → Named → Named
+named_step c None named = named
+named_step c (Some n) named = record {
+  first = or_else named.first (if is_own c.token c.name n then Some n.number else None);
+  otherwise = named.otherwise || is_other c.token c.name n;
+}
+
+abbrev pub named_in : List Sight → Claim → Named
+named_in seen c = record {
+  first = option_map number_of_naming (find (is_own c.token c.name) (namings seen));
+  otherwise = is_misnamed seen c.token c.name;
+}
+
+-- which outsiders have heard a token
+abbrev pub has_heard : List Bool → ℕ → Bool
+has_heard heard outsider = slice_index_or heard outsider false
+
+abbrev pub HaveHeard : List Bool → List ℕ → List Sight → Type 0
+HaveHeard heard token front = (o : ℕ) → o < 256 → has_heard heard o ≡ list_any (is_heard o token) front
