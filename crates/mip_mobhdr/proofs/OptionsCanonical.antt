@@ -2,7 +2,7 @@
 use Rattle.std.proofs.Common.{◌≡◌, ℕ, zero, suc, ◌+◌, ◌-◌, ◌%◌, ◌^◌, ◌<◌, ◌≤◌, List, [], ◌∷◌, ◌++◌, length, refl, sym, ap, subst, ◌∙◌, arith, length-append}
 use Rattle.std.proofs.lemmas.List.{append_assoc, append-nil, length-replicate}
 use Rattle.std.proofs.Math.Nat.{mod-lt}
-use Rattle.std.specs.Prelude.{Option, Some, None, Result, Ok, Err, OnOk, replicate}
+use Rattle.std.specs.Prelude.{Option, Some, None, replicate}
 use Rattle.std.specs.List.{flat_map}
 use Rattle.mip_words.specs.declared.address.Address.{Address}
 use Rattle.mip_mobhdr.specs.declared.indices.Indices.{Indices}
@@ -173,12 +173,10 @@ canonical_whole start v =
     closed_whole start (with_authorization start v.authorization (with_alternate start v.alternate (with_number start v.number (with_nonces start v.nonces (with_advice start v.advice [])))))
 
 -- what a writer owes for the bytes that it appended
-pub appends_options : {T E : Type 0} (r : Result T E) (start : ℕ) (v : Values) (old new area : List ℕ) → OnOk r (new ≡ old ++ area) → area ≡ canonical start v → IsInRange v → OnOk r (AppendsOptions v old new)
-appends_options (Ok x) start v old new area appended is fits = (area, appended, subst (IsSpelled v) (sym is) (canonical_spelled start v fits))
-appends_options (Err e) start v old new area appended is fits = tt
+pub appends_options : (start : ℕ) (v : Values) (old new area : List ℕ) → new ≡ old ++ area → area ≡ canonical start v → IsInRange v → AppendsOptions v old new
+appends_options start v old new area appended is fits = (area, appended, subst (IsSpelled v) (sym is) (canonical_spelled start v fits))
 
-pub appends_whole : {T E : Type 0} (r : Result T E) (v : Values) (old new area : List ℕ) → OnOk r (new ≡ old ++ area) → area ≡ canonical (length old) v → OnOk r (length new % 8 ≡ 0)
-appends_whole (Ok x) v old new area appended is =
+pub appends_whole : (v : Values) (old new area : List ℕ) → new ≡ old ++ area → area ≡ canonical (length old) v → length new % 8 ≡ 0
+appends_whole v old new area appended is =
     let size : length new ≡ length old + length (canonical (length old) v) = ap length appended ∙ length-append old area ∙ ap (λ (l : List ℕ). length old + length l) is in
     ap (λ (n : ℕ). n % 8) size ∙ canonical_whole (length old) v
-appends_whole (Err e) v old new area appended is = tt

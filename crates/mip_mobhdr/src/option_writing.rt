@@ -1,6 +1,6 @@
 //! Writing the options of a message.
 
-ghost use Rattle.std.specs.Prelude.{◌≡◌, ℕ, ◌+◌, ◌%◌, ◌^◌, ◌<◌, ◌≤◌, List, ◌++◌, length, IfSome, OnOk, OnErr};
+ghost use Rattle.std.specs.Prelude.{◌≡◌, ℕ, ◌+◌, ◌%◌, ◌^◌, ◌<◌, ◌≤◌, List, ◌++◌, length, IfSome};
 ghost use Rattle.mip_words.specs.declared.address.Address.{Address};
 ghost use Rattle.mip_mobhdr.specs.declared.indices.Indices.{Indices};
 ghost use Rattle.mip_mobhdr.specs.OptionValues.{set_values};
@@ -11,24 +11,10 @@ use crate::indices::Indices;
 use crate::message_bytes::MessageBytes;
 use crate::option_set::OptionSet;
 use crate::padding::{Area, align, put};
-use mip_words::{Address, Bytes, Memory, u16_bytes};
+use mip_words::{Address, u16_bytes};
 
 /// Appends options to the fixed fields of a message, which they bring to a multiple of 8 bytes.
-pub fn write_options(out: &mut Bytes, options: &OptionSet) -> Result<(), Memory>
-    requires start { length out.old ≤ 24 }
-    requires number { IfSome options.now.number (λ n. n < 8) }
-    ensures ok { OnOk result (out.new ≡ out.old ++ canonical (length out.old) (set_values options.now)) }
-    ensures err { OnErr result (out.new ≡ out.old) }
-    ensures spelled { OnOk result (AppendsOptions (set_values options.now) out.old out.new) }
-    ensures whole { OnOk result (length out.new % 8 ≡ 0) }
-    ensures short { OnOk result (length out.new ≤ length out.old + 72) }
-{
-    let area = area_of(out.len(), options);
-    out.extend(area.as_slice())
-}
-
-/// Appends options to the fixed fields of a message in its own memory.
-pub fn put_options(out: &mut MessageBytes, options: &OptionSet)
+pub fn write_options(out: &mut MessageBytes, options: &OptionSet)
     requires start { length out.old ≤ 24 }
     requires number { IfSome options.now.number (λ n. n < 8) }
     ensures ok { out.new ≡ out.old ++ canonical (length out.old) (set_values options.now) }

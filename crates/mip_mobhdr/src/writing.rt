@@ -13,7 +13,7 @@ use crate::address_test::put_test;
 use crate::binding_error::put_error;
 use crate::message_bytes::MessageBytes;
 use crate::option_set::OptionSet;
-use crate::option_writing::put_options;
+use crate::option_writing::write_options;
 use crate::plain::Plain;
 use crate::refresh::put_refresh;
 use crate::test_init::put_init;
@@ -60,7 +60,7 @@ fn draft_of(message: &Plain) -> MessageBytes
     ensures options { WritesOptions (said_plain message.now) }
 {
     let mut out = front_of(message);
-    put_options(&mut out, options_of(message));
+    write_options(&mut out, options_of(message));
     put_size(&mut out);
     out
 }

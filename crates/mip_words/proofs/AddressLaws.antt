@@ -1,8 +1,10 @@
 -- An address and its digits, both ways.
-use Rattle.std.proofs.Common.{◌≡◌, ℕ, ◌<◌, ◌^◌, List, [], length, refl, sym, ap, ◌∙◌, arith, Bool, true, false}
+use Rattle.std.proofs.Common.{◌≡◌, ℕ, ◌/◌, ◌%◌, ◌<◌, ◌^◌, List, [], ◌∷◌, ◌++◌, length, drop, replicate, refl, sym, ap, ◌∙◌, arith, Bool, true, false}
 use Rattle.std.specs.Prelude.{Option, Some, None, Result, Ok, Err, ◌==◌, if◌then◌else◌, IfOk}
 use Rattle.std.proofs.lemmas.Bool.{cond-true, eqb-true, eq-eqb}
 use Rattle.std.proofs.lemmas.List.{take_all, append-nil}
+use lib.Seq.{take_at, drop_at}
+use borrow.Rule.Slice.PartMut.{put_mid}
 use Rattle.mip_words.specs.Numbers.{number_at, number_bytes}
 use Rattle.mip_words.specs.Hex.{hex_of, unhex}
 use Rattle.mip_words.specs.Addresses.{address_at, address_bytes, address_if, address_read}
@@ -40,3 +42,19 @@ spelled_is_read a small =
 pub found_if : (text : List ℕ) (r : Result Address NotAddress) → r ≡ address_read text → IfOk r (λ a. text ≡ hex_of (address_bytes a))
 found_if text (Ok a) e = read_is_spelled text a (sym e)
 found_if text (Err w) e = tt
+
+-- eight bytes behind eight
+pub put_halves : (a b : List ℕ) → length a ≡ 8 → put_mid 8 8 (a ++ replicate 8 0) b ≡ a ++ b
+put_halves a b long =
+    ap (λ (l : List ℕ). l ++ (b ++ drop 8 (drop 8 (a ++ replicate 8 0)))) (take_at a (replicate 8 0) 8 long)
+    ∙ ap (λ (l : List ℕ). a ++ (b ++ drop 8 l)) (drop_at a (replicate 8 0) 8 long)
+    ∙ ap (λ (l : List ℕ). a ++ l) (append-nil b)
+
+cons_both : {a b : ℕ} {l r : List ℕ} → a ≡ b → l ≡ r → (a ∷ l) ≡ (b ∷ r)
+cons_both first rest = cc
+
+-- sixteen bytes are those of a number's high half and of its low half
+pub halves : (x : ℕ) → number_bytes 8 (x / 18446744073709551616) ++ number_bytes 8 (x % 18446744073709551616) ≡ number_bytes 16 x
+unfolding number_bytes
+halves x =
+    cons_both (omega arith) (cons_both (omega arith) (cons_both (omega arith) (cons_both (omega arith) (cons_both (omega arith) (cons_both (omega arith) (cons_both (omega arith) (cons_both (omega arith) (cons_both (omega arith) (cons_both (omega arith) (cons_both (omega arith) (cons_both (omega arith) (cons_both (omega arith) (cons_both (omega arith) (cons_both (omega arith) (cons_both (omega arith) refl)))))))))))))))

@@ -1,9 +1,10 @@
-ghost use Rattle.std.specs.Prelude.{◌≡◌, ◌+◌, ◌<◌, ◌≤◌, ◌^◌, length, Ok, IfOk};
+ghost use Rattle.std.specs.Prelude.{◌≡◌, ◌+◌, ◌<◌, ◌≤◌, ◌^◌, ◌++◌, length, Ok, IfOk};
 ghost use Rattle.mip_words.specs.Numbers.{number_at, number_bytes};
 ghost use Rattle.mip_words.specs.Hex.{hex_of};
 ghost use Rattle.mip_words.specs.Addresses.{address_at, address_bytes, prefix_of, is_routable, address_read};
 
 use crate::hex::{hex_exact, hex_into};
+use crate::numbers::u64_bytes;
 use crate::prefix::Prefix;
 use byteorder::{BigEndian, ByteOrder};
 
@@ -46,14 +47,14 @@ impl Address {
         Address(BigEndian::read_u128(&bytes[place..]))
     }
 
-    /// The 16 bytes of the address.
-    #[tactic(auto, unfolding(crate::specs::Numbers::number_bytes))]
+    /// The 16 bytes of the address, by halves: the bytes of a number of 64 bits take one instruction.
+    #[tactic(auto, using(crate::proofs::AddressLaws::halves))]
     pub fn bytes(self) -> [u8; 16]
         ensures { result ≡ address_bytes self }
     {
-        let mut bytes = [0; 16];
-        BigEndian::write_u128(&mut bytes, self.0);
-        bytes
+        let high = u64_bytes((self.0 / 0x1_0000_0000_0000_0000) as u64);
+        let low = u64_bytes((self.0 % 0x1_0000_0000_0000_0000) as u64);
+        joined(high, low)
     }
 
     /// The first 64 bits.
@@ -72,6 +73,15 @@ impl Address {
         let first_ten_bits = self.0 / 0x40_0000_0000_0000_0000_0000_0000_0000;
         self.0 != 0 && self.0 != 1 && first_byte != 0xff && first_ten_bits != 0x3fa
     }
+}
+
+fn joined(high: [u8; 8], low: [u8; 8]) -> [u8; 16]
+    ensures { result ≡ high ++ low }
+{
+    let mut bytes = [0; 16];
+    bytes[..8].copy_from_slice(&high);
+    bytes[8..16].copy_from_slice(&low);
+    bytes
 }
 
 #[tactic(auto, unfolding(crate::specs::Addresses::address_read))]
