@@ -1,0 +1,3 @@
+pub mod Forging
+pub mod Fitting
+pub mod Settings
