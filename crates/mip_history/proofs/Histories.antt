@@ -34,7 +34,8 @@ use Rattle.mip_history.specs.Permitted.{opening_claims, run_of, permitted}
 use Rattle.mip_history.specs.Passing.{waited_by, restarted_by}
 use Rattle.mip_history.specs.Bound.{accepted_by, held_in, held_under_in, packet_in, is_accepted, HasAccepted, IsBound, IsBoundUnder}
 use Rattle.mip_history.specs.BoundLaws.{packets_of}
-use Rattle.mip_history.specs.Shields.{is_shielded_in, IsHeardBare}
+use Rattle.mip_history.specs.Shields.{is_shielded_in}
+use Rattle.mip_history.specs.ShieldsLaws.{IsHeardBare}
 use Rattle.mip_history.proofs.Runs.{Meets, IsPast}
 use Rattle.mip_history.proofs.Numbered.{IsNumbered, packet_numbered}
 use Rattle.mip_history.proofs.Events.{run_passes}

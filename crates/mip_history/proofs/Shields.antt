@@ -12,7 +12,8 @@ use Rattle.mip_links.specs.Table.{Post}
 use Rattle.mip_history.specs.Setup.{Setup}
 use Rattle.mip_history.specs.Runs.{Run}
 use Rattle.mip_history.specs.Permitted.{run_of}
-use Rattle.mip_history.specs.Shields.{shield_posted, is_shielded_in, IsHeardBare}
+use Rattle.mip_history.specs.Shields.{shield_posted, is_shielded_in}
+use Rattle.mip_history.specs.ShieldsLaws.{IsHeardBare}
 use Rattle.mip_history.proofs.Changes.{Change}
 use Rattle.mip_history.proofs.Effects.{IsSeen, IsPosting}
 use Rattle.mip_history.proofs.Opening.{is_other}

@@ -29,5 +29,6 @@ pub mod Registered
 pub mod Naming
 pub mod Shown
 pub mod Shields
+pub mod ShieldsLaws
 pub mod Receivers
 pub mod Refused

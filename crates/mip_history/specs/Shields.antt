@@ -1,5 +1,5 @@
 -- Which packets were posted under a shield.
-use Rattle.std.specs.Prelude.{◌≡◌, ℕ, List, Bool, false, Option, Some, None, slice_get, filter_map}
+use Rattle.std.specs.Prelude.{ℕ, List, Bool, false, Option, Some, None, slice_get, filter_map}
 use Rattle.mip_entries.specs.declared.entry.Entry.{Entry}
 use Rattle.mip_entries.specs.declared.entry.Entry.TheVariants as entries
 
@@ -12,8 +12,3 @@ shield_posted _ = None
 -- whether packet k has a shield, as the entry of its post tells; none where it was not posted
 abbrev pub is_shielded_in : List Entry → ℕ → Option Bool
 is_shielded_in past k = slice_get (filter_map shield_posted past) k
-
--- what an outsider hears was posted before, without a shield
-abbrev pub IsHeardBare : List Entry → Entry → Type 0
-IsHeardBare past (entries.Heard number outsider) = is_shielded_in past number ≡ Some false
-IsHeardBare past _ = Unit {0}
