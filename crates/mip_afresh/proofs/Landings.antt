@@ -19,12 +19,14 @@ use Rattle.mip_afresh.specs.declared.arriving.Arrival.{Arrival}
 use Rattle.mip_afresh.specs.declared.arriving.Arrival.TheVariants.{Done, Handed}
 use Rattle.mip_afresh.specs.Fates.{fate_seen}
 use Rattle.mip_afresh.specs.Tellings.{TellingSeen, with_run}
-use Rattle.mip_afresh.specs.Arrivals.{link_seen, IsLanding, IsLandingIn, then_acts, Lands, Arrives}
+use Rattle.mip_afresh.specs.Arrivals.{link_seen, IsLanding, IsLandingIn, then_acts, IsBeforeAct, Lands, Arrives}
 
 module _ (old new : TellingSeen) (k : ℕ) (post : Post) (l : Landing) (is : IsLanding old.setup old.run.past post l) where
-  by_landing : (a : Arrival) → new.setup ≡ old.setup → then_acts old.setup k a new.run ≡ became old.setup k post (link_seen l.link) old.run (fate_seen l.fate) → Lands old new k post a
-  by_landing a same e = record {
+  by_landing : (a : Arrival) → new.setup ≡ old.setup → then_acts old.setup k a new.run ≡ became old.setup k post (link_seen l.link) old.run (fate_seen l.fate)
+      → IsBeforeAct old.setup old.run new.run k a → Lands old new k post a
+  by_landing a same e reached = record {
     same = same;
+    reached = reached;
     comes =
         e
         ∙ ap (λ (link : Option ℕ). became old.setup k post link old.run (fate_seen l.fate)) is.reaches
@@ -35,7 +37,7 @@ module _ (old new : TellingSeen) (k : ℕ) (post : Post) (l : Landing) (is : IsL
   pub lands_done : (f : Fate) → l.fate ≡ f → new ≡ with_run (became old.setup k post (link_seen l.link) old.run (fate_seen f)) old → Lands old new k post Done
   lands_done f fate e =
       by_landing Done (ap (λ (t : TellingSeen). t.setup) e)
-      (ap (λ (t : TellingSeen). t.run) e ∙ ap (λ (g : Fate). became old.setup k post (link_seen l.link) old.run (fate_seen g)) (sym fate))
+      (ap (λ (t : TellingSeen). t.run) e ∙ ap (λ (g : Fate). became old.setup k post (link_seen l.link) old.run (fate_seen g)) (sym fate)) tt
 
   -- a node acts
   pub lands_handed : (node : NodeId) → l.fate ≡ Node node → new ≡ with_run (note (entries.Handed k node) (overheard_at old.setup post k (link_seen l.link) old.run)) old
@@ -48,6 +50,10 @@ module _ (old new : TellingSeen) (k : ℕ) (post : Post) (l : Landing) (is : IsL
       ∙ ap (λ (shield : Option Shield). acts old.setup node.0 (Take k shield l.packet) reached) is.guarded
       ∙ ap (λ (packet : List ℕ). acts old.setup node.0 (Take k post.shield packet) reached) (is.given ∙ ap (handed_over post.packet) (sym is.reaches))
       ∙ ap (λ (g : Fate). became old.setup k post (link_seen l.link) old.run (fate_seen g)) (sym fate))
+      (record {
+        post = post;
+        is = ap (λ (t : TellingSeen). t.run) e ∙ ap (λ (link : Option ℕ). note (entries.Handed k node) (overheard_at old.setup post k link old.run)) is.reaches;
+      })
 
 -- the packet that is there, or that none is
 pub there : (s : Setup) (past : List Entry) (o : Option Post) (l : Landing) → IsLandingIn s past o (Some l) → (post : Post) × (o ≡ Some post) × IsLanding s past post l
@@ -75,6 +81,7 @@ module _ (old mid new : TellingSeen) (k : ℕ) (keep : Bool) (e : mid ≡ with_r
       record {
         same = here.same;
         whole = here.comes ∙ ap (arrived old.setup k (if keep then old.run else without k old.run)) (sym at);
+        reached = here.reached;
       }
 
   pub arrives_none : (a : Arrival) → in_pool old.run.flying old.run.posts k ≡ None → (a ≡ Done) × (new ≡ with_run (note entries.Idle mid.run) mid) → Arrives old new k keep a
@@ -87,4 +94,5 @@ module _ (old mid new : TellingSeen) (k : ℕ) (keep : Bool) (e : mid ≡ with_r
             ap (λ (b : Arrival). then_acts old.setup k b new.run) is.0
             ∙ ap (λ (t : TellingSeen). t.run) here
             ∙ ap (arrived old.setup k (if keep then old.run else without k old.run)) (sym at);
+        reached = subst (λ (b : Arrival). IsBeforeAct old.setup (if keep then old.run else without k old.run) new.run k b) (sym is.0) tt;
       }

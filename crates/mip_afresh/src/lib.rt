@@ -11,6 +11,7 @@ mod fates;
 mod host;
 mod landing;
 mod links;
+mod nodes;
 mod opening;
 mod outsiders;
 mod posted;

@@ -63,7 +63,7 @@ fn heard_on(
 impl Telling {
     /// Entries are left.
     #[tactic(auto, using(crate::proofs::TellingLaws::told_none, crate::proofs::TellingLaws::told_more))]
-    fn note_all(&mut self, entries: Vec<Entry>) -> Result<(), Memory>
+    pub fn note_all(&mut self, entries: Vec<Entry>) -> Result<(), Memory>
         ensures { OnOk result (self.new ≡ with_run (notes entries.items self.old.run) self.old) }
     {
         for entry in entries {

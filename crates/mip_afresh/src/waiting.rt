@@ -1,11 +1,11 @@
 //! Time goes on, and nodes begin their next life.
 
-ghost use Rattle.std.specs.Prelude.{◌≡◌, ◌+◌, ◌<◌, ◌^◌, [], OnOk, option_map, slice_get};
+ghost use Rattle.std.specs.Prelude.{◌≡◌, ◌+◌, ◌<◌, ◌^◌, [], OnOk};
 ghost use Rattle.mip_history.specs.Runs.{with_past};
 ghost use Rattle.mip_history.specs.Knowing.{now_in};
 ghost use Rattle.mip_history.specs.Waiting.{waited};
 ghost use Rattle.mip_history.specs.Restarting.{restarted};
-ghost use Rattle.mip_afresh.specs.Tellings.{with_run, host_seen};
+ghost use Rattle.mip_afresh.specs.Tellings.{with_run};
 
 use crate::acted::{Acted, Asked};
 use crate::host::Host;
@@ -23,16 +23,6 @@ impl Telling {
         let _nodes = &self.setting.hosts;
         let moment = Moment(self.now().0 + ms);
         self.note(Entry::At { moment })
-    }
-
-    /// A node of the schedule.
-    fn host(&self, node: NodeId) -> Option<Host>
-        ensures { option_map host_seen result ≡ slice_get self.now.setup.hosts node.0 }
-    {
-        match self.setting.hosts.get(usize::from(node.0)) {
-            Some(host) => Some(*host),
-            None => None,
-        }
     }
 
     /// A node loses all that it keeps.
