@@ -3,7 +3,7 @@
 use Rattle.std.specs.Prelude.{◌≡◌, List, Bool, true, false, ◌||◌, if◌then◌else◌, Option, Some, None}
 use Rattle.std.specs.List.{filter}
 use Rattle.mip_entries.specs.declared.entry.Entry.{Entry}
-use Rattle.mip_entries.specs.declared.entry.Entry.TheVariants.{At, Moved, Claimed, Released, Taken, Listening, Deafened, Careof, Home, Registered, Unregistered, Bound, Unbound, Accepted, Restarted}
+use Rattle.mip_entries.specs.declared.entry.Entry.TheVariants.{At, Moved, Claimed, Released, Taken, Listening, Deafened, Careof, Home, Registered, Unregistered, Bound, Unbound, Restarted}
 use Rattle.mip_history.specs.Bound.{is_accepted}
 use Rattle.mip_afresh_marks.specs.declared.sights.Sights.{Sights}
 use Rattle.mip_afresh_marks.specs.Sighting.{StandFor}

@@ -1,0 +1,4 @@
+pub mod StandingLaws
+pub mod ActingLaws
+pub mod HeldLaws
+pub mod DeliveredLaws

@@ -1,0 +1,13 @@
+//! What correspondents do in a run, computed afresh: a packet that is delivered, a refresh and data, each from who the node is
+//! in its present life and from what it accepted in it.
+#![tactic(auto)]
+
+mod acting;
+mod asking;
+mod delivering;
+mod taking;
+mod who;
+
+pub use asking::{refresh, send};
+pub use delivering::{carry, deliver};
+pub use taking::take;
