@@ -1,5 +1,5 @@
 -- What a call needs of a run stands in every run of events, and in a delivery up to where a node acts.
-use Rattle.std.proofs.Common.{◌≡◌, ℕ, ◌<◌, List, [], ◌∷◌, ◌++◌, Bool, true, false, refl, sym, ap, ◌∙◌, subst, arith}
+use Rattle.std.proofs.Common.{◌≡◌, ℕ, ◌+◌, ◌<◌, List, [], ◌∷◌, ◌++◌, Bool, true, false, refl, sym, ap, ◌∙◌, subst, arith}
 use Rattle.std.specs.Prelude.{◌^◌, Option, Some, None, if◌then◌else◌}
 use Rattle.std.proofs.lemmas.List.Sums.{fold-append, sum_by_push}
 use Rattle.mip_words.specs.declared.ids.NodeId.{NodeId}
@@ -18,6 +18,7 @@ use Rattle.mip_history.specs.RunsLaws.{IsRun}
 use Rattle.mip_history.proofs.Keeping.{keeps_overheard}
 use Rattle.mip_history.proofs.Runs.{IsQuiet, quiet_same, quiet_then, quiet_run, quiet_one, quiet_idle}
 use Rattle.mip_history.proofs.Events.{run_passes}
+use Rattle.mip_afresh.specs.Tellings.{TellingSeen, with_run}
 use Rattle.mip_afresh.specs.Arrivals.{IsHandedOver}
 use Rattle.mip_afresh_nodes.specs.Standing.{IsStanding, IsLawfulRun}
 
@@ -92,3 +93,20 @@ lawful_next s run event timeless lifeless is =
 -- so it is as packets are carried
 pub lawful_carried : (s : Setup) (run : Run) (count : ℕ) → IsLawfulRun s run → IsLawfulRun s (carried s run count)
 lawful_carried s run count is = lawful_next s run (Carry count) refl (λ n. refl) is
+
+-- a run begins with no event, and a call that lets one happen leaves it so
+pub lawful_opened : (s : Setup) → s.start < 2 ^ 62 → IsLawfulRun s (opened s)
+lawful_opened s early =
+    let passes = run_passes s [] in
+    let now : now_in s (opened s) ≡ s.start + 0 = passes.moment in
+    record {
+      events = [];
+      is = refl;
+      early = omega (arith, now, early);
+      few = λ n. let life : life_in (opened s).past n ≡ 0 + 0 = passes.life n in omega (arith, life);
+    }
+
+pub lawful_after : (old new : TellingSeen) (event : Event) → waited_by event ≡ 0 → ((n : ℕ) → restarted_by n event ≡ 0) → IsLawfulRun old.setup old.run
+    → new ≡ with_run (happens old.setup old.run event) old → IsLawfulRun new.setup new.run
+lawful_after old new event timeless lifeless is same =
+    subst (λ (t : TellingSeen). IsLawfulRun t.setup t.run) (sym same) (lawful_next old.setup old.run event timeless lifeless is)

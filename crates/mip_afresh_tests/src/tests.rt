@@ -1,4 +1,5 @@
 mod bindings;
 mod hex;
 mod network;
+mod posting;
 mod rules;
