@@ -36,6 +36,9 @@ fn sizes(alloc: Global) -> Result<Option<(usize, usize)>, Memory> {
 fn post_if(alloc: Global, telling: &mut Telling, event: &Event) -> Result<(), Memory> {
     match event {
         Event::Probe { .. } => post(alloc, telling, event),
+        Event::Bind { ends, number, .. } if *number < 8 && ends.get().home.routable() => {
+            post_update(alloc, telling, event)
+        }
         _ => Ok(()),
     }
 }
