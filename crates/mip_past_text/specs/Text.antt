@@ -97,6 +97,10 @@ due_lines ds n (e ∷ es) = subject_line ds n (codes "due") e.home (moment_answe
 abbrev pub due_text : List Declaration → Front → NodeId → List ℕ
 due_text ds f n = due_lines ds n (due_work_in (now_of f) f.past n.0)
 
+-- what was known about the addresses that the entries name, and the work that an agent has ahead
+abbrev pub about_text : List Declaration → Front → NodeId → List ℕ
+about_text ds f n = topic_texts ds f n Binding ++ (topic_texts ds f n Registration ++ (due_text ds f n ++ topic_texts ds f n Peer))
+
 -- what was known of a node
 unfoldable pub node_known : List Declaration → Front → NodeId → List ℕ
 node_known ds f n =
@@ -104,7 +108,7 @@ node_known ds f n =
     ++ (node_line ds n (codes "standing") (standing_answer (standing_told f.past n.0))
     ++ (node_line ds n (codes "agent") (address_answer (agent_in (now_of f) f.past n.0))
     ++ (line_if (codes "through") (node_text ds n) (agent_of_told (now_of f) f.past n.0)
-    ++ (topic_texts ds f n Binding ++ (topic_texts ds f n Registration ++ (due_text ds f n ++ topic_texts ds f n Peer))))))
+    ++ about_text ds f n)))
 
 -- of the first so many nodes
 unfoldable pub nodes_known : List Declaration → Front → ℕ → List ℕ

@@ -6,7 +6,7 @@ ghost use Rattle.mip_symbols.specs.Places.{AreFew};
 ghost use Rattle.mip_past_text.specs.Subjects.{last_named};
 ghost use Rattle.mip_past_text.specs.Fronts.{front_of};
 ghost use Rattle.mip_past_text.specs.declared.topic.Topic.TheVariants as topics;
-ghost use Rattle.mip_past_text.specs.Text.{registered_line, until_line, sequence_line, topic_text, topic_texts, due_lines, due_text, node_known, nodes_known, known_of, known_text};
+ghost use Rattle.mip_past_text.specs.Text.{registered_line, until_line, sequence_line, topic_text, topic_texts, due_lines, due_text, about_text, node_known, nodes_known, known_of, known_text};
 
 use crate::answers::{
     put_address, put_address_if, put_address_of, put_moment_of, put_number_of, put_standing,
@@ -156,6 +156,7 @@ fn put_topics(
 }
 
 /// Appends a line for each end that an agent waits for.
+#[tactic(auto, unfolding(crate::specs::Text::due_lines))]
 fn put_ends(
     alloc: Global,
     out: &mut Bytes,
@@ -179,6 +180,16 @@ fn put_due(alloc: Global, out: &mut Bytes, asked: Inquiry<'_>) -> Result<(), Mem
     put_ends(alloc, out, asked, &ends)
 }
 
+/// Appends what was known about the addresses that the entries name, and the work that an agent has ahead.
+fn put_about(alloc: Global, out: &mut Bytes, asked: Inquiry<'_>) -> Result<(), Memory>
+    ensures { OnOk result (out.new ≡ out.old ++ about_text asked.entry.declarations.now (front_of asked.entry.past) asked.entry.node) }
+{
+    put_topics(alloc, out, asked, Topic::Binding)?;
+    put_topics(alloc, out, asked, Topic::Registration)?;
+    put_due(alloc, out, asked)?;
+    put_topics(alloc, out, asked, Topic::Peer)
+}
+
 /// Appends what was known of a node.
 #[tactic(auto, unfolding(crate::specs::Text::node_known))]
 fn put_node(alloc: Global, out: &mut Bytes, asked: Inquiry<'_>) -> Result<(), Memory>
@@ -189,10 +200,7 @@ fn put_node(alloc: Global, out: &mut Bytes, asked: Inquiry<'_>) -> Result<(), Me
     put_standing(out, name, asked.past.standing(asked.node))?;
     put_address(out, b"agent", name, asked.past.agent(asked.node))?;
     put_address_if(out, b"through", name, asked.past.agent_of(asked.node))?;
-    put_topics(alloc, out, asked, Topic::Binding)?;
-    put_topics(alloc, out, asked, Topic::Registration)?;
-    put_due(alloc, out, asked)?;
-    put_topics(alloc, out, asked, Topic::Peer)
+    put_about(alloc, out, asked)
 }
 
 /// Appends what was known of the first so many nodes.
