@@ -1,5 +1,6 @@
 mod bindings;
 mod hex;
 mod network;
+mod nodes;
 mod posting;
 mod rules;

@@ -12,7 +12,8 @@ use std::alloc::Global;
 use std::test::Fail;
 
 // One node and one outsider, which begins a test and binds by the answers.
-const TEXT: &[u8] = b"mip 1\nseed 000102030405060708090a0b0c0d0e0f101112131415161718191a1b1c1d1e1f\nstart 0\nlink n1 20010db800010000\nlink n2 20010db800020000\ncorrespondent c n1 20010db8000100000000000000000001 4\noutsider o\nrun\nprobe o n2 home 20010db8000200000000000000000009 20010db8000100000000000000000001 0102030405060708\n";
+const TEXT: &[u8] =
+    b"mip 1\nseed 000102030405060708090a0b0c0d0e0f101112131415161718191a1b1c1d1e1f\nstart 0\nlink n1 20010db800010000\nlink n2 20010db800020000\ncorrespondent c n1 20010db8000100000000000000000001 4\noutsider o\nrun\nprobe o n2 home 20010db8000200000000000000000009 20010db8000100000000000000000001 0102030405060708\n";
 
 fn schedule(alloc: Global) -> Result<Schedule, Memory> {
     match read_schedule(alloc, TEXT) {
@@ -76,7 +77,10 @@ fn a_correspondent_neither_moves_nor_plans_nor_asks(rt: HostRuntime) -> Result<(
     advertise(&telling, LinkId(0));
     assert_eq!(rt; telling.history().len().saturating_sub(before), 3);
     settle(&mut telling, NodeId(0), NodeId(0))?;
-    let settled = matches!(telling.history().as_slice().last(), Some(Entry::Settled { .. }));
+    let settled = matches!(
+        telling.history().as_slice().last(),
+        Some(Entry::Settled { .. })
+    );
     assert_eq!(rt; settled, true);
     Ok(())
 }
