@@ -1,5 +1,5 @@
 -- Homes that are counted at their last acceptance are those that have a sequence kept.
-use Rattle.std.proofs.Common.{◌≡◌, ◌≢◌, ℕ, ◌+◌, ◌<◌, ◌≤◌, List, [], ◌∷◌, Bool, true, false, true≢false, length, refl, sym, ap, ◌∙◌, arith}
+use Rattle.std.proofs.Common.{◌≡◌, ◌≢◌, ℕ, ◌+◌, ◌<◌, List, [], ◌∷◌, Bool, true, false, true≢false, length, refl, sym, ap, ◌∙◌, arith}
 use Rattle.std.specs.Prelude.{Option, Some, None, is_some, not, ◌&&◌, ◌||◌, ◌==◌, if◌then◌else◌, fold}
 use Rattle.std.specs.List.{list_any, AllByRecursion}
 use Rattle.std.proofs.lemmas.Bool.{or_parts}
@@ -7,7 +7,7 @@ use Rattle.std.proofs.lemmas.Bool.Decides.{nat_tests}
 use Rattle.mip_binding.specs.Acceptance.{Acceptance}
 use Rattle.mip_binding.specs.Rows.{others_by, RisesBy, ApartBy}
 use Rattle.mip_binding.specs.Homes.{HomeKept, home_step, kept_with}
-use Rattle.mip_binding.specs.Held.{floor, sequence_in, homes_with_floor, is_full}
+use Rattle.mip_binding.specs.Held.{floor, sequence_in, homes_with_floor}
 use Rattle.mip_binding.proofs.RowLaws.{apart-others}
 use Rattle.mip_binding.proofs.HeldLaws.{homes-listed, homes-rise}
 use Rattle.mip_afresh_bindings.specs.Counting.{any_of, is_counted}
@@ -141,18 +141,3 @@ counted_floors xs now = count_all xs now xs (homes_with_floor xs now) (record {
     each : (more : List Acceptance) → AllByRecursion (λ a. is_some (floor xs a.home now) ≡ among a.home (homes_with_floor xs now)) more
     each [] = tt
     each (a ∷ more) = (sym (homes-listed xs a.home now), each more)
-
--- no more homes are counted than acceptances, so there is room while these are fewer than it
-few_counted : (xs : List Acceptance) (now : ℕ) (more : List Acceptance) → counted xs now more ≤ length more
-few_counted xs now [] = omega arith
-few_counted xs now (x ∷ more) = let rest = few_counted xs now more in by (is_counted xs now x.home more) rest
-  where
-    by : (b : Bool) → counted xs now more ≤ length more → (if b then 1 else 0) + counted xs now more ≤ length (x ∷ more)
-    by true rest = omega (arith, rest)
-    by false rest = omega (arith, rest)
-
-pub few_full : (room : ℕ) (xs : List Acceptance) (home now : ℕ) → length xs < room → is_full room xs home now ≡ false
-few_full room xs home now few =
-    let count = few_counted xs now xs in
-    let same = counted_floors xs now in
-    grind (arith, nat_tests, few, count, same)

@@ -1,4 +1,3 @@
 pub mod HomeLaws
 pub mod CountLaws
 pub mod KeptLaws
-pub mod ListedLaws

@@ -2,4 +2,3 @@ pub mod Accepted
 pub mod Homes
 pub mod Counting
 pub mod Keeping
-pub mod Shown

@@ -88,8 +88,8 @@ fn made(accepted: Acceptance, live: Vec<Acceptance>) -> Home
 }
 
 /// A home behind one acceptance more.
-pub fn kept_with(alloc: Global, kept: Option<&Home>, accepted: Acceptance) -> Result<Home, Memory>
-    ensures { IfOk result (λ h. home_seen h ≡ kept_with (option_map (λ k. home_seen k.now) kept.entry) (acceptance_seen accepted)) }
+fn kept_with(alloc: Global, kept: Option<Home>, accepted: Acceptance) -> Result<Home, Memory>
+    ensures { IfOk result (λ h. home_seen h ≡ kept_with (option_map home_seen kept) (acceptance_seen accepted)) }
 {
     let mut live = match kept {
         Some(home) => home.left(alloc, accepted)?,
@@ -109,7 +109,7 @@ fn home_step(
     ensures { IfOk result (λ o. option_map home_seen o ≡ home_step home.0 (option_map home_seen kept) (acceptance_seen accepted)) }
 {
     if accepted.home.0 == home.0 {
-        Ok(Some(kept_with(alloc, kept.as_ref(), accepted)?))
+        Ok(Some(kept_with(alloc, kept, accepted)?))
     } else {
         Ok(kept)
     }

@@ -9,8 +9,6 @@ mod kept;
 mod laws;
 mod lived;
 mod room;
-mod rows;
-mod shown;
 
 pub use acceptance::Acceptance;
 pub use bound::{floor, held, held_under, holds};
@@ -18,4 +16,3 @@ pub use kept::kept_of;
 pub use laws::kept_is_as_known;
 pub use lived::accepted_by;
 pub use room::is_full;
-pub use shown::shown_rows;

@@ -32,11 +32,8 @@ fn is_counted(
 ) -> Result<bool, Memory>
     ensures { IfOk result (λ b. b ≡ is_counted (map acceptance_seen accepted.now) now.0 home.0 (map acceptance_seen more.now)) }
 {
-    if any_of(home, more) {
-        return Ok(false);
-    }
     let sequence = floor(alloc, accepted, home, now)?;
-    Ok(sequence.is_some())
+    Ok(!any_of(home, more) && sequence.is_some())
 }
 
 /// How many homes have a sequence kept.
@@ -55,9 +52,7 @@ fn count(alloc: Global, accepted: &[Acceptance], now: Moment) -> Result<usize, M
     Ok(count)
 }
 
-/// Whether as many homes as there is room for have a sequence kept, and this one has none. There is room where fewer updates than
-/// that were accepted, and homes are counted nowhere else.
-#[tactic(auto, using(crate::proofs::CountLaws::few_full))]
+/// Whether as many homes as there is room for have a sequence kept, and this one has none.
 pub fn is_full(
     alloc: Global,
     room: u32,
@@ -67,12 +62,7 @@ pub fn is_full(
 ) -> Result<bool, Memory>
     ensures { IfOk result (λ b. b ≡ is_full room (map acceptance_seen accepted.now) home.0 now.0) }
 {
-    if (accepted.len() as u64) < u64::from(room) {
-        return Ok(false);
-    }
-    if floor(alloc, accepted, home, now)?.is_some() {
-        return Ok(false);
-    }
+    let sequence = floor(alloc, accepted, home, now)?;
     let count = count(alloc, accepted, now)?;
-    Ok(count as u64 == u64::from(room))
+    Ok(sequence.is_none() && count as u64 == u64::from(room))
 }

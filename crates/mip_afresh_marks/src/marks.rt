@@ -62,6 +62,7 @@ impl Sights {
             own,
             careof: accepted.careof,
             key: *key,
+            witness: None,
         };
         let Some(pair) = self.pair(accepted.careof_index, &signed, update, maker) else {
             return Mark::Forged(1);

@@ -1,6 +1,4 @@
 mod bindings;
 mod hex;
 mod network;
-mod nodes;
-mod posting;
 mod rules;

@@ -15,7 +15,7 @@ const NODE: Address = Address(0x2001_0db8_0001_0000_0000_0000_0000_0001);
 const FREE: Address = Address(0x2001_0db8_0002_0000_0000_0000_0000_0009);
 
 /// One node, two links and one outsider.
-pub fn telling(alloc: Global) -> Result<Telling, Fail> {
+fn telling(alloc: Global) -> Result<Telling, Fail> {
     let mut links = Vec::new(alloc);
     links.push(Prefix(FIRST))?;
     links.push(Prefix(SECOND))?;

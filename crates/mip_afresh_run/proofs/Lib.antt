@@ -1,3 +1,0 @@
-mod Heads
-mod SettingLaws
-mod PlainRuns

@@ -1,3 +1,0 @@
-pub mod Forging
-pub mod Fitting
-pub mod Settings
