@@ -8,3 +8,4 @@ pub mod AdvertLaws
 pub mod RegisteredLaws
 pub mod DeliveredLaws
 pub mod RunLaws
+pub mod PieceLaws

@@ -1,30 +1,16 @@
 -- A trace that is written entry by entry and piece by piece.
-use Rattle.std.proofs.Common.{◌≡◌, ℕ, ◌-◌, ◌<◌, ◌≤◌, sym, ap, ◌∙◌, arith, List, [], ◌∷◌, ◌++◌, length, take, append-nil, append_assoc, length-append, subst}
+use Rattle.std.proofs.Common.{◌≡◌, ℕ, ◌<◌, ◌≤◌, sym, ap, ◌∙◌, arith, List, [], ◌∷◌, ◌++◌, length, take, append_assoc, subst}
 use Rattle.std.proofs.lemmas.List.{take-append-le, take_all}
-use Rattle.std.specs.Prelude.{Option, None, Some, unwrap_or}
+use Rattle.std.specs.Prelude.{Option}
 use Rattle.std.specs.List.{AllByRecursion}
 use Rattle.std.specs.Io.KnownBytes.{append_known}
 use Rattle.mip_entries.specs.declared.entry.Entry.{Entry}
 use Rattle.mip_entries.specs.Widths.{HasWidths}
 use Rattle.mip_outside.proofs.Known.{append_more}
 use Rattle.mip_printing.proofs.Parts.{part_of}
-use Rattle.mip_schedule.specs.Contents.{Content}
-use Rattle.mip_replay.specs.Permitted.{permitted}
-use Rattle.mip_replay.specs.Pieces.{RunSeen, IsRunOf}
-use Rattle.mip_replay.proofs.RunLaws.{told_front}
 use Rattle.mip_trace.specs.Lines.{trace_text}
 use Rattle.mip_rows.specs.Names.{Names}
 use Rattle.mip_trace.proofs.WrittenLaws.{text_append}
-
--- what is told once a piece was given away
-pub told_more : (next told items piece : List Entry) (given : Option (List Entry)) → next ≡ told ++ unwrap_or given [] → given ≡ Some piece → items ≡ piece → next ≡ told ++ items
-told_more next told items piece given more some are =
-    more ∙ ap (λ (o : Option (List Entry)). told ++ unwrap_or o []) some ∙ ap (λ (l : List Entry). told ++ l) (sym are)
-
--- where no piece was left to give away all of it is told
-pub told_last : (next told whole : List Entry) (given : Option (List Entry)) → next ≡ told ++ unwrap_or given [] → given ≡ None → (given ≡ None → next ≡ whole) → told ≡ whole
-told_last next told whole given more none end =
-    sym (append-nil told) ∙ ap (λ (o : Option (List Entry)). told ++ unwrap_or o []) (sym none) ∙ sym more ∙ end none
 
 -- a piece more was written, under the names `own`
 pub piece_more : (a b c : Option (List ℕ)) (names own : Names) (next told items : List Entry) → own ≡ names → next ≡ told ++ items
@@ -62,10 +48,3 @@ told_part a b names whole told rest is first =
 pub widths_more : (told items : List Entry) → AllByRecursion HasWidths told → AllByRecursion HasWidths items → AllByRecursion HasWidths (told ++ items)
 widths_more [] items first next = next
 widths_more (e ∷ told) items first next = (first.0, widths_more told items first.1 next)
-
--- with each piece less is left
-pub less_left : (r : RunSeen) (c : Content) (told items : List Entry) → IsRunOf r c → r.told ≡ told ++ items → 0 < length items
-    → length (permitted c) - length r.told < length (permitted c) - length told
-less_left r c told items is more some =
-    let front = told_front r c is in
-    omega (arith, ap (λ (l : List Entry). length l) front.1, length-append r.told front.0, ap (λ (l : List Entry). length l) more, length-append told items, some)

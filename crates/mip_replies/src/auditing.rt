@@ -1,7 +1,7 @@
 //! What is answered to a trace that another program wrote.
 
 ghost use Rattle.std.specs.Prelude.{◌≡◌, ◌≢◌, ◌≤◌, length, IfOk, None, Some};
-ghost use Rattle.mip_audit.specs.Differences.{difference, Judges};
+ghost use Rattle.mip_audit.specs.Differences.{difference};
 ghost use Rattle.mip_schedule.specs.Schedules.{content};
 ghost use Rattle.mip_replies.specs.Answers.{audit_answer, cut_answer, is_long_audit, trace_of, verdict_answer};
 ghost use Rattle.mip_replies.specs.Told.{IsConclusive, IsStatus};
@@ -10,11 +10,10 @@ use crate::lengths::{ends, event_lines};
 use crate::reply::Reply;
 use crate::scheduling::bad;
 use crate::status::Status;
-use mip_audit::{AuditFault, Comparison, cut_trace, meet_entries};
+use mip_audit::{AuditFault, cut_trace};
+use mip_audit_by_run::audit_trace;
 use mip_lines::put_number;
-use mip_replay::Run;
 use mip_schedule::{Reason, Schedule, ScheduleFault, read_schedule};
-use mip_trace::NameTable;
 use mip_words::{Bytes, Memory};
 use std::alloc::Global;
 
@@ -23,9 +22,6 @@ const EVENTS: usize = 2_000;
 
 /// The greatest number of lines of a trace.
 const LINES: usize = 20_000;
-
-/// The room for a line of a trace that is taken at once.
-const LINE: usize = 512;
 
 /// Whether the trace is the permitted one of the schedule that stands before it, or else the first line that differs, or why they are
 /// not judged.
@@ -89,7 +85,7 @@ fn compared(alloc: Global, schedule: &Schedule, trace: &[u8]) -> Result<Reply, M
     ensures conclusive { IfOk result (λ reply. IsConclusive reply.status) }
     ensures statuses { IfOk result (λ reply. IsStatus reply.status × (reply.status ≢ 1)) }
 {
-    match audit(alloc, schedule, trace) {
+    match audit_trace(alloc, schedule, trace) {
         Ok(()) => Reply::copy(alloc, Status::OK, b"yes\n"),
         Err(AuditFault::Differs { line }) => no(alloc, line),
         Err(AuditFault::Memory) => Err(Memory),
@@ -106,19 +102,4 @@ fn no(alloc: Global, line: usize) -> Result<Reply, Memory>
     put_number(&mut text, line as u64)?;
     text.extend(b"\n")?;
     Ok(Reply::whole(Status::DIFFERS, text))
-}
-
-/// Compares a trace with that of a schedule while it runs. It keeps one line at a time, and the entries that the run gave away last.
-pub fn audit(alloc: Global, schedule: &Schedule, trace: &[u8]) -> Result<(), AuditFault>
-    ensures { Judges result (difference trace.now (trace_of (content schedule.now))) }
-{
-    let names = NameTable::of(alloc, schedule)?;
-    let mut line = Bytes::with_capacity(alloc, LINE)?;
-    let mut comparison = Comparison::new(trace);
-    let mut run = Run::open(alloc, schedule)?;
-    while let Some(piece) = run.next(alloc, schedule)? {
-        meet_entries(&mut comparison, &names, &mut line, piece.as_slice())?;
-    }
-    comparison.end()?;
-    Ok(())
 }

@@ -5,7 +5,7 @@ use Rattle.mip_schedule.specs.Schedules.{content}
 use Rattle.mip_replay.specs.Permitted.{permitted}
 use Rattle.mip_replay.proofs.RunLaws.{told_front}
 use Rattle.mip_replies.proofs.ClaimsTold.{piece_text, adverts_on, adverts_part, adverts_front, part_front, rows_on}
-use Rattle.mip_replies.proofs.TraceTold.{told_more, told_last}
+use Rattle.mip_replay.proofs.PieceLaws.{told_more, told_last}
 use Rattle.mip_replies.proofs.claiming.write_adverts.Goals as goal
 
 pub loop-run-init : goal.loop-run-init

@@ -3,7 +3,7 @@ use Rattle.mip_entries.specs.declared.entry.Entry.{Entry}
 use Rattle.mip_schedule.specs.Schedules.{content}
 use Rattle.mip_make.specs.Summaries.{summary_text}
 use Rattle.mip_replay.specs.Permitted.{permitted}
-use Rattle.mip_replies.proofs.TraceTold.{told_more, told_last, less_left}
+use Rattle.mip_replay.proofs.PieceLaws.{told_more, told_last, less_left}
 use Rattle.mip_replies.proofs.making.summary_of_run.Goals as goal
 
 pub loop-run-smaller : goal.loop-run-smaller

@@ -8,7 +8,8 @@ use Rattle.mip_replay.specs.Permitted.{permitted}
 use Rattle.mip_trace.proofs.WrittenLaws.{text_none}
 use Rattle.mip_replay.proofs.RunLaws.{told_front}
 use Rattle.mip_replies.specs.Answers.{trace_of}
-use Rattle.mip_replies.proofs.TraceTold.{told_more, piece_more, piece_part, told_part, widths_more, less_left}
+use Rattle.mip_replay.proofs.PieceLaws.{told_more, less_left}
+use Rattle.mip_replies.proofs.TraceTold.{piece_more, piece_part, told_part, widths_more}
 use Rattle.mip_replies.proofs.tracing.write_trace.Given.{Over}
 use Rattle.mip_replies.proofs.tracing.write_trace.Goals as goal
 use Rattle.mip_replies.proofs.tracing.write_trace.Goals.{After-as_slice, After-from_residual-in_err-write_entries}

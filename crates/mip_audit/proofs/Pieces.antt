@@ -1,4 +1,4 @@
--- A trace that is compared piece by piece with that of a run.
+-- A text that is compared with that of a history, piece by piece.
 use Rattle.std.proofs.Common.{◌≡◌, ℕ, sym, ap, ◌∙◌, List, [], ◌++◌, append-nil, append_assoc}
 use Rattle.std.specs.Prelude.{Option, Some, Err}
 use Rattle.mip_entries.specs.declared.entry.Entry.{Entry}

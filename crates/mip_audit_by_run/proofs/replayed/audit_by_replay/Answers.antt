@@ -2,12 +2,12 @@ use Rattle.std.proofs.Common.{◌≡◌, ◌++◌, ◌∙◌}
 use Rattle.std.specs.Prelude.{Some, ⊤}
 use Rattle.std.proofs.lemmas.Result.{err_from_is_err_and}
 use Rattle.mip_schedule.specs.Schedules.{content}
-use Rattle.mip_replay.specs.Permitted.{permitted}
+use Rattle.mip_history.specs.Permitted.{permitted}
 use Rattle.mip_replay.proofs.RunLaws.{told_front}
-use Rattle.mip_replies.proofs.AuditTold.{none_compared, piece_compared, piece_judged, end_compared}
-use Rattle.mip_replies.proofs.TraceTold.{told_more, told_last, less_left}
-use Rattle.mip_replies.proofs.auditing.audit.Goals as goal
-use Rattle.mip_replies.proofs.auditing.audit.Goals.{After-as_slice}
+use Rattle.mip_audit.proofs.Pieces.{none_compared, piece_compared, piece_judged, end_compared}
+use Rattle.mip_replay.proofs.PieceLaws.{told_more, told_last, less_left}
+use Rattle.mip_audit_by_run.proofs.replayed.audit_by_replay.Goals as goal
+use Rattle.mip_audit_by_run.proofs.replayed.audit_by_replay.Goals.{After-as_slice}
 
 -- what is told once the piece was given away
 more : (c : After-as_slice) → c.next.new.self.told ≡ c.loop-run.run.told ++ c.as_slice.result.now

@@ -1,10 +1,10 @@
 use Rattle.std.proofs.Common.{◌-◌, length}
 use Rattle.std.specs.Prelude.{Some}
 use Rattle.mip_schedule.specs.Schedules.{content}
-use Rattle.mip_replay.specs.Permitted.{permitted}
+use Rattle.mip_history.specs.Permitted.{permitted}
 use Rattle.mip_replay.specs.Pieces.{IsRunOf}
-use Rattle.mip_replies.proofs.AuditTold.{IsCompared}
-use Rattle.mip_replies.proofs.auditing.audit.Given as goal
+use Rattle.mip_audit.proofs.Pieces.{IsCompared}
+use Rattle.mip_audit_by_run.proofs.replayed.audit_by_replay.Given as goal
 
 abbrev pub invariant-loop-run : goal.invariant-loop-run
 invariant-loop-run l = record {
