@@ -1,4 +1,5 @@
 mod alone;
+mod audits;
 mod given;
 mod handover;
 mod lists;
