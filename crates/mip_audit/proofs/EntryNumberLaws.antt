@@ -1,6 +1,6 @@
 -- An entry is its numbers: it is read back from them.
 use Rattle.std.proofs.Common.{◌≡◌, ℕ, Bool, true, false, List, [], ◌∷◌, ◌++◌, length, take, drop, refl, sym, ap, ◌∙◌}
-use Rattle.std.specs.Prelude.{Option, Some, None, slice_get, unwrap_or, ◌==◌}
+use Rattle.std.specs.Prelude.{Option, Some, None, get_or, ◌==◌, if◌then◌else◌}
 use Rattle.std.proofs.Math.Seq.{take-append_seam, drop-append_seam}
 use Rattle.mip_words.specs.declared.why.Why.{Why}
 use Rattle.mip_words.specs.declared.why.Why.TheVariants as whys
@@ -9,11 +9,11 @@ use Rattle.mip_entries.specs.declared.entry.Entry.{Entry}
 use Rattle.mip_entries.specs.declared.entry.Entry.TheVariants.{Sent, Handed, Gone, Lost, Unsent, Denied, Dropped, Up, Injected, Heard, Listening, Deafened, Claimed, Released, Taken, At, Idle, Restarted, Settled, Moved, Advertised, Careof, Prefixes, Registered, Unregistered, Refused, Chosen, Made, Bound, Unbound, Home, Accepted, Origin, Forged, Row}
 use Rattle.mip_audit.specs.EntryNumbers.{flag, why_place, entry_numbers}
 
-all_whys : List Why
+abbrev all_whys : List Why
 all_whys = whys.NoLink ∷ whys.Hop ∷ whys.NoHolder ∷ whys.Shield ∷ whys.Detached ∷ whys.Unregistered ∷ whys.NoRoute ∷ whys.Size ∷ whys.Short ∷ whys.Version ∷ whys.Length ∷ whys.Header ∷ whys.Route ∷ whys.Option ∷ whys.Checksum ∷ whys.Kind ∷ whys.Proto ∷ whys.HeaderLen ∷ whys.MobilityOption ∷ whys.Address ∷ whys.Probe ∷ whys.HomeOption ∷ whys.Unroutable ∷ whys.Options ∷ whys.Authenticator ∷ whys.Role ∷ whys.Icmp ∷ whys.NoNext ∷ whys.Unshielded ∷ whys.Entry ∷ whys.Nested ∷ whys.Cookie ∷ whys.Ack ∷ whys.Error ∷ whys.Refresh ∷ whys.Frame ∷ []
 
-why_at : ℕ → Why
-why_at place = unwrap_or (slice_get all_whys place) whys.NoLink
+abbrev why_at : ℕ → Why
+why_at place = get_or all_whys place whys.NoLink
 
 why_again : (why : Why) → why_at (why_place why) ≡ why
 why_again whys.NoLink = refl
@@ -53,58 +53,65 @@ why_again whys.Error = refl
 why_again whys.Refresh = refl
 why_again whys.Frame = refl
 
-is_one : ℕ → Bool
+abbrev is_one : ℕ → Bool
 is_one n = n == 1
 
 flag_again : (b : Bool) → is_one (flag b) ≡ b
 flag_again true = refl
 flag_again false = refl
 
-token : List ℕ → Token
+abbrev token : List ℕ → Token
 token bytes = record { 0 = bytes }
 
-entry_of : List ℕ → Entry
-entry_of (0 ∷ number ∷ node ∷ shielded ∷ packet) = Sent number (record { 0 = node }) (is_one shielded) packet
-entry_of (1 ∷ number ∷ node ∷ []) = Handed number (record { 0 = node })
-entry_of (2 ∷ number ∷ why ∷ []) = Gone number (why_at why)
-entry_of (3 ∷ number ∷ []) = Lost number
-entry_of (4 ∷ node ∷ why ∷ []) = Unsent (record { 0 = node }) (why_at why)
-entry_of (5 ∷ node ∷ number ∷ status ∷ []) = Denied (record { 0 = node }) number status
-entry_of (6 ∷ node ∷ number ∷ why ∷ []) = Dropped (record { 0 = node }) number (why_at why)
-entry_of (7 ∷ node ∷ number ∷ source ∷ destination ∷ proto ∷ payload) = Up (record { 0 = node }) number (record { 0 = source }) (record { 0 = destination }) proto payload
-entry_of (8 ∷ number ∷ outsider ∷ link ∷ packet) = Injected number outsider (record { 0 = link }) packet
-entry_of (9 ∷ number ∷ outsider ∷ []) = Heard number outsider
-entry_of (10 ∷ outsider ∷ link ∷ []) = Listening outsider (record { 0 = link })
-entry_of (11 ∷ outsider ∷ link ∷ []) = Deafened outsider (record { 0 = link })
-entry_of (12 ∷ who ∷ link ∷ address ∷ []) = Claimed who (record { 0 = link }) (record { 0 = address })
-entry_of (13 ∷ who ∷ link ∷ address ∷ []) = Released who (record { 0 = link }) (record { 0 = address })
-entry_of (14 ∷ who ∷ link ∷ address ∷ holder ∷ []) = Taken who (record { 0 = link }) (record { 0 = address }) holder
-entry_of (15 ∷ moment ∷ []) = At (record { 0 = moment })
-entry_of (16 ∷ []) = Idle
-entry_of (17 ∷ node ∷ []) = Restarted (record { 0 = node })
-entry_of (18 ∷ a ∷ b ∷ yes ∷ []) = Settled (record { 0 = a }) (record { 0 = b }) (is_one yes)
-entry_of (19 ∷ node ∷ 1 ∷ link ∷ []) = Moved (record { 0 = node }) (Some (record { 0 = link }))
-entry_of (19 ∷ node ∷ 0 ∷ []) = Moved (record { 0 = node }) None
-entry_of (20 ∷ node ∷ link ∷ 1 ∷ agent ∷ []) = Advertised (record { 0 = node }) (record { 0 = link }) (Some (record { 0 = agent }))
-entry_of (20 ∷ node ∷ link ∷ 0 ∷ []) = Advertised (record { 0 = node }) (record { 0 = link }) None
-entry_of (21 ∷ node ∷ address ∷ []) = Careof (record { 0 = node }) (record { 0 = address })
-entry_of (22 ∷ node ∷ valid ∷ preferred ∷ []) = Prefixes (record { 0 = node }) valid preferred
-entry_of (23 ∷ node ∷ agent ∷ end ∷ []) = Registered (record { 0 = node }) (record { 0 = agent }) (record { 0 = end })
-entry_of (24 ∷ node ∷ agent ∷ []) = Unregistered (record { 0 = node }) (record { 0 = agent })
-entry_of (25 ∷ node ∷ status ∷ []) = Refused (record { 0 = node }) status
-entry_of (26 ∷ node ∷ agent ∷ []) = Chosen (record { 0 = node }) (record { 0 = agent })
-entry_of (27 ∷ node ∷ peer ∷ number ∷ 1 ∷ n ∷ bytes) = Made (record { 0 = node }) (record { 0 = peer }) number (token (take n bytes)) (Some (token (drop n bytes)))
-entry_of (27 ∷ node ∷ peer ∷ number ∷ 0 ∷ n ∷ bytes) = Made (record { 0 = node }) (record { 0 = peer }) number (token (take n bytes)) None
-entry_of (28 ∷ node ∷ peer ∷ end ∷ []) = Bound (record { 0 = node }) (record { 0 = peer }) (record { 0 = end })
-entry_of (29 ∷ node ∷ peer ∷ []) = Unbound (record { 0 = node }) (record { 0 = peer })
-entry_of (30 ∷ node ∷ home ∷ careof ∷ sequence ∷ end ∷ []) = Home (record { 0 = node }) (record { 0 = home }) (record { 0 = careof }) sequence (record { 0 = end })
-entry_of (31 ∷ node ∷ number ∷ home ∷ binding ∷ careof ∷ sequence ∷ end ∷ home_index ∷ 1 ∷ careof_index ∷ []) = Accepted (record { 0 = node }) number (record { 0 = home }) binding (record { 0 = careof }) sequence (record { 0 = end }) home_index (Some careof_index)
-entry_of (31 ∷ node ∷ number ∷ home ∷ binding ∷ careof ∷ sequence ∷ end ∷ home_index ∷ 0 ∷ []) = Accepted (record { 0 = node }) number (record { 0 = home }) binding (record { 0 = careof }) sequence (record { 0 = end }) home_index None
-entry_of (32 ∷ hot ∷ 1 ∷ cot ∷ update ∷ []) = Origin hot (Some cot) update
-entry_of (32 ∷ hot ∷ 0 ∷ update ∷ []) = Origin hot None update
-entry_of (33 ∷ cause ∷ []) = Forged cause
-entry_of (34 ∷ node ∷ home ∷ binding ∷ careof ∷ sequence ∷ end ∷ kept_until ∷ []) = Row (record { 0 = node }) (record { 0 = home }) binding (record { 0 = careof }) sequence (record { 0 = end }) (record { 0 = kept_until })
-entry_of _ = Idle
+abbrev at : List ℕ → ℕ → ℕ
+at fields place = get_or fields place 0
+
+abbrev optional : {X : Type 0} → ℕ → X → Option X
+optional has value = if is_one has then Some value else None
+
+-- behind its kind an entry of each kind has these fields
+abbrev read : List ℕ → List Entry
+read fields =
+    Sent (at fields 0) (record { 0 = at fields 1 }) (is_one (at fields 2)) (drop 3 fields)
+    ∷ Handed (at fields 0) (record { 0 = at fields 1 })
+    ∷ Gone (at fields 0) (why_at (at fields 1))
+    ∷ Lost (at fields 0)
+    ∷ Unsent (record { 0 = at fields 0 }) (why_at (at fields 1))
+    ∷ Denied (record { 0 = at fields 0 }) (at fields 1) (at fields 2)
+    ∷ Dropped (record { 0 = at fields 0 }) (at fields 1) (why_at (at fields 2))
+    ∷ Up (record { 0 = at fields 0 }) (at fields 1) (record { 0 = at fields 2 }) (record { 0 = at fields 3 }) (at fields 4) (drop 5 fields)
+    ∷ Injected (at fields 0) (at fields 1) (record { 0 = at fields 2 }) (drop 3 fields)
+    ∷ Heard (at fields 0) (at fields 1)
+    ∷ Listening (at fields 0) (record { 0 = at fields 1 })
+    ∷ Deafened (at fields 0) (record { 0 = at fields 1 })
+    ∷ Claimed (at fields 0) (record { 0 = at fields 1 }) (record { 0 = at fields 2 })
+    ∷ Released (at fields 0) (record { 0 = at fields 1 }) (record { 0 = at fields 2 })
+    ∷ Taken (at fields 0) (record { 0 = at fields 1 }) (record { 0 = at fields 2 }) (at fields 3)
+    ∷ At (record { 0 = at fields 0 })
+    ∷ Idle
+    ∷ Restarted (record { 0 = at fields 0 })
+    ∷ Settled (record { 0 = at fields 0 }) (record { 0 = at fields 1 }) (is_one (at fields 2))
+    ∷ Moved (record { 0 = at fields 0 }) (optional (at fields 1) (record { 0 = at fields 2 }))
+    ∷ Advertised (record { 0 = at fields 0 }) (record { 0 = at fields 1 }) (optional (at fields 2) (record { 0 = at fields 3 }))
+    ∷ Careof (record { 0 = at fields 0 }) (record { 0 = at fields 1 })
+    ∷ Prefixes (record { 0 = at fields 0 }) (at fields 1) (at fields 2)
+    ∷ Registered (record { 0 = at fields 0 }) (record { 0 = at fields 1 }) (record { 0 = at fields 2 })
+    ∷ Unregistered (record { 0 = at fields 0 }) (record { 0 = at fields 1 })
+    ∷ Refused (record { 0 = at fields 0 }) (at fields 1)
+    ∷ Chosen (record { 0 = at fields 0 }) (record { 0 = at fields 1 })
+    ∷ Made (record { 0 = at fields 0 }) (record { 0 = at fields 1 }) (at fields 2) (token (take (at fields 4) (drop 5 fields))) (optional (at fields 3) (token (drop (at fields 4) (drop 5 fields))))
+    ∷ Bound (record { 0 = at fields 0 }) (record { 0 = at fields 1 }) (record { 0 = at fields 2 })
+    ∷ Unbound (record { 0 = at fields 0 }) (record { 0 = at fields 1 })
+    ∷ Home (record { 0 = at fields 0 }) (record { 0 = at fields 1 }) (record { 0 = at fields 2 }) (at fields 3) (record { 0 = at fields 4 })
+    ∷ Accepted (record { 0 = at fields 0 }) (at fields 1) (record { 0 = at fields 2 }) (at fields 3) (record { 0 = at fields 4 }) (at fields 5) (record { 0 = at fields 6 }) (at fields 7) (optional (at fields 8) (at fields 9))
+    ∷ Origin (at fields 0) (optional (at fields 1) (at fields 2)) (at fields 3)
+    ∷ Forged (at fields 0)
+    ∷ Row (record { 0 = at fields 0 }) (record { 0 = at fields 1 }) (at fields 2) (record { 0 = at fields 3 }) (at fields 4) (record { 0 = at fields 5 }) (record { 0 = at fields 6 })
+    ∷ []
+
+abbrev entry_of : List ℕ → Entry
+entry_of [] = Idle
+entry_of (kind ∷ fields) = get_or (read fields) kind Idle
 
 again : (e : Entry) → entry_of (entry_numbers e) ≡ e
 unfolding entry_numbers
@@ -126,7 +133,7 @@ again (Taken who link address holder) = refl
 again (At moment) = refl
 again Idle = refl
 again (Restarted node) = refl
-again (Settled a b yes) = ap (λ (x : Bool). Settled a b x) (flag_again yes)
+again (Settled a b is) = ap (λ (x : Bool). Settled a b x) (flag_again is)
 again (Moved node (Some link)) = refl
 again (Moved node None) = refl
 again (Advertised node link (Some agent)) = refl

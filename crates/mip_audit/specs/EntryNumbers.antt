@@ -1,5 +1,5 @@
 -- An entry as numbers: its kind, what it says field by field, and its bytes last. Two entries are the same where their numbers are
--- (`entries_are_their_numbers`). An optional field is 0, or 1 and what it says.
+-- (`entries_are_their_numbers`). An optional field is two numbers: 1 and what it says, or 0 and 0.
 use Rattle.std.specs.Prelude.{ℕ, Bool, true, false, List, [], ◌∷◌, ◌++◌, length, Some, None}
 use Rattle.mip_words.specs.declared.why.Why.{Why}
 use Rattle.mip_words.specs.declared.why.Why.TheVariants as whys
@@ -53,9 +53,9 @@ why_place whys.Frame = 35
 abbrev pub kept_numbers : Entry → List ℕ
 kept_numbers (Home node home careof sequence end) = 30 ∷ node.0 ∷ home.0 ∷ careof.0 ∷ sequence ∷ end.0 ∷ []
 kept_numbers (Accepted node number home binding careof sequence end home_index (Some careof_index)) = 31 ∷ node.0 ∷ number ∷ home.0 ∷ binding ∷ careof.0 ∷ sequence ∷ end.0 ∷ home_index ∷ 1 ∷ careof_index ∷ []
-kept_numbers (Accepted node number home binding careof sequence end home_index None) = 31 ∷ node.0 ∷ number ∷ home.0 ∷ binding ∷ careof.0 ∷ sequence ∷ end.0 ∷ home_index ∷ 0 ∷ []
+kept_numbers (Accepted node number home binding careof sequence end home_index None) = 31 ∷ node.0 ∷ number ∷ home.0 ∷ binding ∷ careof.0 ∷ sequence ∷ end.0 ∷ home_index ∷ 0 ∷ 0 ∷ []
 kept_numbers (Origin hot (Some cot) update) = 32 ∷ hot ∷ 1 ∷ cot ∷ update ∷ []
-kept_numbers (Origin hot None update) = 32 ∷ hot ∷ 0 ∷ update ∷ []
+kept_numbers (Origin hot None update) = 32 ∷ hot ∷ 0 ∷ 0 ∷ update ∷ []
 kept_numbers (Forged cause) = 33 ∷ cause ∷ []
 kept_numbers (Row node home binding careof sequence end kept_until) = 34 ∷ node.0 ∷ home.0 ∷ binding ∷ careof.0 ∷ sequence ∷ end.0 ∷ kept_until.0 ∷ []
 kept_numbers entry = []
@@ -75,9 +75,9 @@ mobile_numbers entry = kept_numbers entry
 -- where mobiles stand, and what nodes learn there
 abbrev pub place_numbers : Entry → List ℕ
 place_numbers (Moved node (Some link)) = 19 ∷ node.0 ∷ 1 ∷ link.0 ∷ []
-place_numbers (Moved node None) = 19 ∷ node.0 ∷ 0 ∷ []
+place_numbers (Moved node None) = 19 ∷ node.0 ∷ 0 ∷ 0 ∷ []
 place_numbers (Advertised node link (Some agent)) = 20 ∷ node.0 ∷ link.0 ∷ 1 ∷ agent.0 ∷ []
-place_numbers (Advertised node link None) = 20 ∷ node.0 ∷ link.0 ∷ 0 ∷ []
+place_numbers (Advertised node link None) = 20 ∷ node.0 ∷ link.0 ∷ 0 ∷ 0 ∷ []
 place_numbers (Careof node address) = 21 ∷ node.0 ∷ address.0 ∷ []
 place_numbers (Prefixes node valid preferred) = 22 ∷ node.0 ∷ valid ∷ preferred ∷ []
 place_numbers entry = mobile_numbers entry
@@ -87,7 +87,7 @@ abbrev pub run_numbers : Entry → List ℕ
 run_numbers (At moment) = 15 ∷ moment.0 ∷ []
 run_numbers Idle = 16 ∷ []
 run_numbers (Restarted node) = 17 ∷ node.0 ∷ []
-run_numbers (Settled a b yes) = 18 ∷ a.0 ∷ b.0 ∷ flag yes ∷ []
+run_numbers (Settled a b is) = 18 ∷ a.0 ∷ b.0 ∷ flag is ∷ []
 run_numbers entry = place_numbers entry
 
 -- what outsiders hear and send, and the claims of addresses

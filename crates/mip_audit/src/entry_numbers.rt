@@ -46,7 +46,12 @@ fn with_bytes(alloc: Global, numbers: &[u128], bytes: &[u8]) -> Result<Vec<u128>
 }
 
 /// A token and another one, or nothing, behind the length of the first.
-fn with_tokens(alloc: Global, numbers: &[u128], home: &[u8], careof: &[u8]) -> Result<Vec<u128>, Memory>
+fn with_tokens(
+    alloc: Global,
+    numbers: &[u128],
+    home: &[u8],
+    careof: &[u8],
+) -> Result<Vec<u128>, Memory>
     ensures { IfOk result (λ v. v.items ≡ numbers.now ++ (length home.now ∷ (home.now ++ careof.now))) }
 {
     let mut list = listed(alloc, numbers)?;
@@ -61,13 +66,116 @@ fn kept_numbers(alloc: Global, entry: &Entry) -> Result<Vec<u128>, Memory>
     ensures { IfOk result (λ v. v.items ≡ kept_numbers entry.now) }
 {
     match entry {
-        Entry::Home { node, home, careof, sequence, end } => listed(alloc, &[30, u128::from(node.0), home.0, careof.0, u128::from(*sequence), u128::from(end.0)]),
-        Entry::Accepted { node, number, home, binding, careof, sequence, end, home_index, careof_index: Some(careof_index) } => listed(alloc, &[31, u128::from(node.0), u128::from(*number), home.0, u128::from(*binding), careof.0, u128::from(*sequence), u128::from(end.0), u128::from(*home_index), 1, u128::from(*careof_index)]),
-        Entry::Accepted { node, number, home, binding, careof, sequence, end, home_index, careof_index: None } => listed(alloc, &[31, u128::from(node.0), u128::from(*number), home.0, u128::from(*binding), careof.0, u128::from(*sequence), u128::from(end.0), u128::from(*home_index), 0]),
-        Entry::Origin { hot, cot: Some(cot), update } => listed(alloc, &[32, u128::from(*hot), 1, u128::from(*cot), u128::from(*update)]),
-        Entry::Origin { hot, cot: None, update } => listed(alloc, &[32, u128::from(*hot), 0, u128::from(*update)]),
+        Entry::Home {
+            node,
+            home,
+            careof,
+            sequence,
+            end,
+        } => listed(
+            alloc,
+            &[
+                30,
+                u128::from(node.0),
+                home.0,
+                careof.0,
+                u128::from(*sequence),
+                u128::from(end.0),
+            ],
+        ),
+        Entry::Accepted {
+            node,
+            number,
+            home,
+            binding,
+            careof,
+            sequence,
+            end,
+            home_index,
+            careof_index: Some(careof_index),
+        } => listed(
+            alloc,
+            &[
+                31,
+                u128::from(node.0),
+                u128::from(*number),
+                home.0,
+                u128::from(*binding),
+                careof.0,
+                u128::from(*sequence),
+                u128::from(end.0),
+                u128::from(*home_index),
+                1,
+                u128::from(*careof_index),
+            ],
+        ),
+        Entry::Accepted {
+            node,
+            number,
+            home,
+            binding,
+            careof,
+            sequence,
+            end,
+            home_index,
+            careof_index: None,
+        } => listed(
+            alloc,
+            &[
+                31,
+                u128::from(node.0),
+                u128::from(*number),
+                home.0,
+                u128::from(*binding),
+                careof.0,
+                u128::from(*sequence),
+                u128::from(end.0),
+                u128::from(*home_index),
+                0,
+                0,
+            ],
+        ),
+        Entry::Origin {
+            hot,
+            cot: Some(cot),
+            update,
+        } => listed(
+            alloc,
+            &[
+                32,
+                u128::from(*hot),
+                1,
+                u128::from(*cot),
+                u128::from(*update),
+            ],
+        ),
+        Entry::Origin {
+            hot,
+            cot: None,
+            update,
+        } => listed(alloc, &[32, u128::from(*hot), 0, 0, u128::from(*update)]),
         Entry::Forged { cause } => listed(alloc, &[33, u128::from(*cause)]),
-        Entry::Row { node, home, binding, careof, sequence, end, kept_until } => listed(alloc, &[34, u128::from(node.0), home.0, u128::from(*binding), careof.0, u128::from(*sequence), u128::from(end.0), u128::from(kept_until.0)]),
+        Entry::Row {
+            node,
+            home,
+            binding,
+            careof,
+            sequence,
+            end,
+            kept_until,
+        } => listed(
+            alloc,
+            &[
+                34,
+                u128::from(node.0),
+                home.0,
+                u128::from(*binding),
+                careof.0,
+                u128::from(*sequence),
+                u128::from(end.0),
+                u128::from(kept_until.0),
+            ],
+        ),
         _ => listed(alloc, &[]),
     }
 }
@@ -77,13 +185,44 @@ fn mobile_numbers(alloc: Global, entry: &Entry) -> Result<Vec<u128>, Memory>
     ensures { IfOk result (λ v. v.items ≡ mobile_numbers entry.now) }
 {
     match entry {
-        Entry::Registered { node, agent, end } => listed(alloc, &[23, u128::from(node.0), agent.0, u128::from(end.0)]),
+        Entry::Registered { node, agent, end } => listed(
+            alloc,
+            &[23, u128::from(node.0), agent.0, u128::from(end.0)],
+        ),
         Entry::Unregistered { node, agent } => listed(alloc, &[24, u128::from(node.0), agent.0]),
-        Entry::Refused { node, status } => listed(alloc, &[25, u128::from(node.0), u128::from(*status)]),
+        Entry::Refused { node, status } => listed(
+            alloc,
+            &[25, u128::from(node.0), u128::from(*status)],
+        ),
         Entry::Chosen { node, agent } => listed(alloc, &[26, u128::from(node.0), agent.0]),
-        Entry::Made { node, peer, number, home, careof: Some(careof) } => with_tokens(alloc, &[27, u128::from(node.0), peer.0, u128::from(*number), 1], &home.0, &careof.0),
-        Entry::Made { node, peer, number, home, careof: None } => with_tokens(alloc, &[27, u128::from(node.0), peer.0, u128::from(*number), 0], &home.0, &[]),
-        Entry::Bound { node, peer, end } => listed(alloc, &[28, u128::from(node.0), peer.0, u128::from(end.0)]),
+        Entry::Made {
+            node,
+            peer,
+            number,
+            home,
+            careof: Some(careof),
+        } => with_tokens(
+            alloc,
+            &[27, u128::from(node.0), peer.0, u128::from(*number), 1],
+            &home.0,
+            &careof.0,
+        ),
+        Entry::Made {
+            node,
+            peer,
+            number,
+            home,
+            careof: None,
+        } => with_tokens(
+            alloc,
+            &[27, u128::from(node.0), peer.0, u128::from(*number), 0],
+            &home.0,
+            &[],
+        ),
+        Entry::Bound { node, peer, end } => listed(
+            alloc,
+            &[28, u128::from(node.0), peer.0, u128::from(end.0)],
+        ),
         Entry::Unbound { node, peer } => listed(alloc, &[29, u128::from(node.0), peer.0]),
         _ => kept_numbers(alloc, entry),
     }
@@ -94,12 +233,38 @@ fn place_numbers(alloc: Global, entry: &Entry) -> Result<Vec<u128>, Memory>
     ensures { IfOk result (λ v. v.items ≡ place_numbers entry.now) }
 {
     match entry {
-        Entry::Moved { node, link: Some(link) } => listed(alloc, &[19, u128::from(node.0), 1, u128::from(link.0)]),
-        Entry::Moved { node, link: None } => listed(alloc, &[19, u128::from(node.0), 0]),
-        Entry::Advertised { node, link, agent: Some(agent) } => listed(alloc, &[20, u128::from(node.0), u128::from(link.0), 1, agent.0]),
-        Entry::Advertised { node, link, agent: None } => listed(alloc, &[20, u128::from(node.0), u128::from(link.0), 0]),
+        Entry::Moved {
+            node,
+            link: Some(link),
+        } => listed(alloc, &[19, u128::from(node.0), 1, u128::from(link.0)]),
+        Entry::Moved { node, link: None } => listed(alloc, &[19, u128::from(node.0), 0, 0]),
+        Entry::Advertised {
+            node,
+            link,
+            agent: Some(agent),
+        } => listed(
+            alloc,
+            &[20, u128::from(node.0), u128::from(link.0), 1, agent.0],
+        ),
+        Entry::Advertised {
+            node,
+            link,
+            agent: None,
+        } => listed(alloc, &[20, u128::from(node.0), u128::from(link.0), 0, 0]),
         Entry::Careof { node, address } => listed(alloc, &[21, u128::from(node.0), address.0]),
-        Entry::Prefixes { node, valid, preferred } => listed(alloc, &[22, u128::from(node.0), u128::from(*valid), u128::from(*preferred)]),
+        Entry::Prefixes {
+            node,
+            valid,
+            preferred,
+        } => listed(
+            alloc,
+            &[
+                22,
+                u128::from(node.0),
+                u128::from(*valid),
+                u128::from(*preferred),
+            ],
+        ),
         _ => mobile_numbers(alloc, entry),
     }
 }
@@ -112,7 +277,10 @@ fn run_numbers(alloc: Global, entry: &Entry) -> Result<Vec<u128>, Memory>
         Entry::At { moment } => listed(alloc, &[15, u128::from(moment.0)]),
         Entry::Idle => listed(alloc, &[16]),
         Entry::Restarted { node } => listed(alloc, &[17, u128::from(node.0)]),
-        Entry::Settled { a, b, yes } => listed(alloc, &[18, u128::from(a.0), u128::from(b.0), flag(*yes)]),
+        Entry::Settled { a, b, yes } => listed(
+            alloc,
+            &[18, u128::from(a.0), u128::from(b.0), flag(*yes)],
+        ),
         _ => place_numbers(alloc, entry),
     }
 }
@@ -122,13 +290,56 @@ fn network_numbers(alloc: Global, entry: &Entry) -> Result<Vec<u128>, Memory>
     ensures { IfOk result (λ v. v.items ≡ network_numbers entry.now) }
 {
     match entry {
-        Entry::Injected { number, outsider, link, packet } => with_bytes(alloc, &[8, u128::from(*number), u128::from(*outsider), u128::from(link.0)], packet.as_slice()),
-        Entry::Heard { number, outsider } => listed(alloc, &[9, u128::from(*number), u128::from(*outsider)]),
-        Entry::Listening { outsider, link } => listed(alloc, &[10, u128::from(*outsider), u128::from(link.0)]),
-        Entry::Deafened { outsider, link } => listed(alloc, &[11, u128::from(*outsider), u128::from(link.0)]),
-        Entry::Claimed { who, link, address } => listed(alloc, &[12, u128::from(*who), u128::from(link.0), address.0]),
-        Entry::Released { who, link, address } => listed(alloc, &[13, u128::from(*who), u128::from(link.0), address.0]),
-        Entry::Taken { who, link, address, holder } => listed(alloc, &[14, u128::from(*who), u128::from(link.0), address.0, u128::from(*holder)]),
+        Entry::Injected {
+            number,
+            outsider,
+            link,
+            packet,
+        } => with_bytes(
+            alloc,
+            &[
+                8,
+                u128::from(*number),
+                u128::from(*outsider),
+                u128::from(link.0),
+            ],
+            packet.as_slice(),
+        ),
+        Entry::Heard { number, outsider } => listed(
+            alloc,
+            &[9, u128::from(*number), u128::from(*outsider)],
+        ),
+        Entry::Listening { outsider, link } => listed(
+            alloc,
+            &[10, u128::from(*outsider), u128::from(link.0)],
+        ),
+        Entry::Deafened { outsider, link } => listed(
+            alloc,
+            &[11, u128::from(*outsider), u128::from(link.0)],
+        ),
+        Entry::Claimed { who, link, address } => listed(
+            alloc,
+            &[12, u128::from(*who), u128::from(link.0), address.0],
+        ),
+        Entry::Released { who, link, address } => listed(
+            alloc,
+            &[13, u128::from(*who), u128::from(link.0), address.0],
+        ),
+        Entry::Taken {
+            who,
+            link,
+            address,
+            holder,
+        } => listed(
+            alloc,
+            &[
+                14,
+                u128::from(*who),
+                u128::from(link.0),
+                address.0,
+                u128::from(*holder),
+            ],
+        ),
         _ => run_numbers(alloc, entry),
     }
 }
@@ -138,14 +349,59 @@ fn packet_numbers(alloc: Global, entry: &Entry) -> Result<Vec<u128>, Memory>
     ensures { IfOk result (λ v. v.items ≡ packet_numbers entry.now) }
 {
     match entry {
-        Entry::Sent { number, node, shielded, packet } => with_bytes(alloc, &[0, u128::from(*number), u128::from(node.0), flag(*shielded)], packet.as_slice()),
-        Entry::Handed { number, node } => listed(alloc, &[1, u128::from(*number), u128::from(node.0)]),
+        Entry::Sent {
+            number,
+            node,
+            shielded,
+            packet,
+        } => with_bytes(
+            alloc,
+            &[0, u128::from(*number), u128::from(node.0), flag(*shielded)],
+            packet.as_slice(),
+        ),
+        Entry::Handed { number, node } => listed(
+            alloc,
+            &[1, u128::from(*number), u128::from(node.0)],
+        ),
         Entry::Gone { number, why } => listed(alloc, &[2, u128::from(*number), why_place(*why)]),
         Entry::Lost { number } => listed(alloc, &[3, u128::from(*number)]),
         Entry::Unsent { node, why } => listed(alloc, &[4, u128::from(node.0), why_place(*why)]),
-        Entry::Denied { node, number, status } => listed(alloc, &[5, u128::from(node.0), u128::from(*number), u128::from(*status)]),
-        Entry::Dropped { node, number, why } => listed(alloc, &[6, u128::from(node.0), u128::from(*number), why_place(*why)]),
-        Entry::Up { node, number, source, destination, proto, payload } => with_bytes(alloc, &[7, u128::from(node.0), u128::from(*number), source.0, destination.0, u128::from(*proto)], payload.as_slice()),
+        Entry::Denied {
+            node,
+            number,
+            status,
+        } => listed(
+            alloc,
+            &[
+                5,
+                u128::from(node.0),
+                u128::from(*number),
+                u128::from(*status),
+            ],
+        ),
+        Entry::Dropped { node, number, why } => listed(
+            alloc,
+            &[6, u128::from(node.0), u128::from(*number), why_place(*why)],
+        ),
+        Entry::Up {
+            node,
+            number,
+            source,
+            destination,
+            proto,
+            payload,
+        } => with_bytes(
+            alloc,
+            &[
+                7,
+                u128::from(node.0),
+                u128::from(*number),
+                source.0,
+                destination.0,
+                u128::from(*proto),
+            ],
+            payload.as_slice(),
+        ),
         _ => network_numbers(alloc, entry),
     }
 }

@@ -10,6 +10,7 @@ use mip_words::Memory;
 use std::alloc::Global;
 
 /// Whether two entries are the same.
+#[tactic(auto, using(crate::proofs::PlaceLaws::told_same))]
 fn is_same(alloc: Global, a: &Entry, b: &Entry) -> Result<bool, Memory>
     ensures { IfOk result (λ same. Tells same a.now b.now) }
 {
@@ -20,7 +21,7 @@ fn is_same(alloc: Global, a: &Entry, b: &Entry) -> Result<bool, Memory>
 
 /// Whether an entry is the one that is there.
 fn is_there(alloc: Global, entry: &Entry, there: Option<&Entry>) -> Result<bool, Memory>
-    ensures { IfOk result (λ same. TellsAny same entry.now (option_map (λ e. e.now) there)) }
+    ensures { IfOk result (λ same. TellsAny same entry.now (option_map (λ e. e.now) there.entry)) }
 {
     match there {
         Some(there) => is_same(alloc, entry, there),
