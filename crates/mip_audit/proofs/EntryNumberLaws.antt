@@ -6,7 +6,7 @@ use Rattle.mip_words.specs.declared.why.Why.{Why}
 use Rattle.mip_words.specs.declared.why.Why.TheVariants as whys
 use Rattle.mip_words.specs.declared.token.Token.{Token}
 use Rattle.mip_entries.specs.declared.entry.Entry.{Entry}
-use Rattle.mip_entries.specs.declared.entry.Entry.TheVariants.{Sent, Handed, Gone, Lost, Unsent, Denied, Dropped, Up, Injected, Heard, Listening, Deafened, Claimed, Released, Taken, At, Idle, Restarted, Settled, Moved, Advertised, Careof, Prefixes, Registered, Unregistered, Refused, Chosen, Made, Bound, Unbound, Home, Accepted, Origin, Forged, Row}
+use Rattle.mip_entries.specs.declared.entry.Entry.TheVariants.{Sent, Handed, Gone, Lost, Unsent, Denied, Dropped, Up, Injected, Heard, Listening, Deafened, Claimed, Released, Taken, At, Idle, Restarted, Settled, Moved, Advertised, Careof, Prefixes, Registered, Unregistered, Refused, Chosen, Made, Bound, Unbound, Accepted, Origin, Forged, Home, Row}
 use Rattle.mip_audit.specs.EntryNumbers.{flag, why_place, entry_numbers}
 
 abbrev all_whys : List Why
@@ -102,10 +102,10 @@ read fields =
     ∷ Made (record { 0 = at fields 0 }) (record { 0 = at fields 1 }) (at fields 2) (token (take (at fields 4) (drop 5 fields))) (optional (at fields 3) (token (drop (at fields 4) (drop 5 fields))))
     ∷ Bound (record { 0 = at fields 0 }) (record { 0 = at fields 1 }) (record { 0 = at fields 2 })
     ∷ Unbound (record { 0 = at fields 0 }) (record { 0 = at fields 1 })
-    ∷ Home (record { 0 = at fields 0 }) (record { 0 = at fields 1 }) (record { 0 = at fields 2 }) (at fields 3) (record { 0 = at fields 4 })
     ∷ Accepted (record { 0 = at fields 0 }) (at fields 1) (record { 0 = at fields 2 }) (at fields 3) (record { 0 = at fields 4 }) (at fields 5) (record { 0 = at fields 6 }) (at fields 7) (optional (at fields 8) (at fields 9))
     ∷ Origin (at fields 0) (optional (at fields 1) (at fields 2)) (at fields 3)
     ∷ Forged (at fields 0)
+    ∷ Home (record { 0 = at fields 0 }) (record { 0 = at fields 1 }) (record { 0 = at fields 2 }) (at fields 3) (record { 0 = at fields 4 })
     ∷ Row (record { 0 = at fields 0 }) (record { 0 = at fields 1 }) (at fields 2) (record { 0 = at fields 3 }) (at fields 4) (record { 0 = at fields 5 }) (record { 0 = at fields 6 })
     ∷ []
 
@@ -150,12 +150,12 @@ again (Made node peer number home (Some careof)) =
 again (Made node peer number home None) = ap (λ (b : List ℕ). Made node peer number (token b) None) (take-append_seam home.0 [])
 again (Bound node peer end) = refl
 again (Unbound node peer) = refl
-again (Home node home careof sequence end) = refl
 again (Accepted node number home binding careof sequence end home_index (Some careof_index)) = refl
 again (Accepted node number home binding careof sequence end home_index None) = refl
 again (Origin hot (Some cot) update) = refl
 again (Origin hot None update) = refl
 again (Forged cause) = refl
+again (Home node home careof sequence end) = refl
 again (Row node home binding careof sequence end kept_until) = refl
 
 pub same_entry : (a b : Entry) → entry_numbers a ≡ entry_numbers b → a ≡ b

@@ -1,10 +1,10 @@
 -- An entry as numbers: its kind, what it says field by field, and its bytes last. Two entries are the same where their numbers are
 -- (`entries_are_their_numbers`). An optional field is two numbers: 1 and what it says, or 0 and 0.
-use Rattle.std.specs.Prelude.{ℕ, Bool, true, false, List, [], ◌∷◌, ◌++◌, length, Some, None}
+use Rattle.std.specs.Prelude.{ℕ, Bool, true, false, List, [], ◌∷◌, ◌++◌, length, Some, None, is_some, unwrap_or}
 use Rattle.mip_words.specs.declared.why.Why.{Why}
 use Rattle.mip_words.specs.declared.why.Why.TheVariants as whys
 use Rattle.mip_entries.specs.declared.entry.Entry.{Entry}
-use Rattle.mip_entries.specs.declared.entry.Entry.TheVariants.{Sent, Handed, Gone, Lost, Unsent, Denied, Dropped, Up, Injected, Heard, Listening, Deafened, Claimed, Released, Taken, At, Idle, Restarted, Settled, Moved, Advertised, Careof, Prefixes, Registered, Unregistered, Refused, Chosen, Made, Bound, Unbound, Home, Accepted, Origin, Forged, Row}
+use Rattle.mip_entries.specs.declared.entry.Entry.TheVariants.{Sent, Handed, Gone, Lost, Unsent, Denied, Dropped, Up, Injected, Heard, Listening, Deafened, Claimed, Released, Taken, At, Idle, Restarted, Settled, Moved, Advertised, Careof, Prefixes, Registered, Unregistered, Refused, Chosen, Made, Bound, Unbound, Accepted, Origin, Forged, Home, Row}
 
 abbrev pub flag : Bool → ℕ
 flag true = 1
@@ -49,28 +49,39 @@ why_place whys.Error = 33
 why_place whys.Refresh = 34
 why_place whys.Frame = 35
 
--- the bindings that agents and correspondents keep, and their origins
+-- the bindings that agents and correspondents keep
 abbrev pub kept_numbers : Entry → List ℕ
-kept_numbers (Home node home careof sequence end) = 30 ∷ node.0 ∷ home.0 ∷ careof.0 ∷ sequence ∷ end.0 ∷ []
-kept_numbers (Accepted node number home binding careof sequence end home_index (Some careof_index)) = 31 ∷ node.0 ∷ number ∷ home.0 ∷ binding ∷ careof.0 ∷ sequence ∷ end.0 ∷ home_index ∷ 1 ∷ careof_index ∷ []
-kept_numbers (Accepted node number home binding careof sequence end home_index None) = 31 ∷ node.0 ∷ number ∷ home.0 ∷ binding ∷ careof.0 ∷ sequence ∷ end.0 ∷ home_index ∷ 0 ∷ 0 ∷ []
-kept_numbers (Origin hot (Some cot) update) = 32 ∷ hot ∷ 1 ∷ cot ∷ update ∷ []
-kept_numbers (Origin hot None update) = 32 ∷ hot ∷ 0 ∷ 0 ∷ update ∷ []
-kept_numbers (Forged cause) = 33 ∷ cause ∷ []
+kept_numbers (Home node home careof sequence end) = 33 ∷ node.0 ∷ home.0 ∷ careof.0 ∷ sequence ∷ end.0 ∷ []
 kept_numbers (Row node home binding careof sequence end kept_until) = 34 ∷ node.0 ∷ home.0 ∷ binding ∷ careof.0 ∷ sequence ∷ end.0 ∷ kept_until.0 ∷ []
 kept_numbers entry = []
 
--- what a mobile knows of its agents and of its peers
+-- the mark of its origin
+abbrev pub mark_numbers : Entry → List ℕ
+mark_numbers (Origin hot (Some cot) update) = 31 ∷ hot ∷ 1 ∷ cot ∷ update ∷ []
+mark_numbers (Origin hot None update) = 31 ∷ hot ∷ 0 ∷ 0 ∷ update ∷ []
+mark_numbers (Forged cause) = 32 ∷ cause ∷ []
+mark_numbers entry = kept_numbers entry
+
+-- an update that a correspondent accepts
+abbrev pub update_numbers : Entry → List ℕ
+update_numbers (Accepted node number home binding careof sequence end home_index careof_index) = 30 ∷ node.0 ∷ number ∷ home.0 ∷ binding ∷ careof.0 ∷ sequence ∷ end.0 ∷ home_index ∷ flag (is_some careof_index) ∷ unwrap_or careof_index 0 ∷ []
+update_numbers entry = mark_numbers entry
+
+-- what a mobile has with its peers
+abbrev pub peer_numbers : Entry → List ℕ
+peer_numbers (Made node peer number home (Some careof)) = 27 ∷ node.0 ∷ peer.0 ∷ number ∷ 1 ∷ length home.0 ∷ (home.0 ++ careof.0)
+peer_numbers (Made node peer number home None) = 27 ∷ node.0 ∷ peer.0 ∷ number ∷ 0 ∷ length home.0 ∷ (home.0 ++ [])
+peer_numbers (Bound node peer end) = 28 ∷ node.0 ∷ peer.0 ∷ end.0 ∷ []
+peer_numbers (Unbound node peer) = 29 ∷ node.0 ∷ peer.0 ∷ []
+peer_numbers entry = update_numbers entry
+
+-- what a mobile knows of its agents
 abbrev pub mobile_numbers : Entry → List ℕ
 mobile_numbers (Registered node agent end) = 23 ∷ node.0 ∷ agent.0 ∷ end.0 ∷ []
 mobile_numbers (Unregistered node agent) = 24 ∷ node.0 ∷ agent.0 ∷ []
 mobile_numbers (Refused node status) = 25 ∷ node.0 ∷ status ∷ []
 mobile_numbers (Chosen node agent) = 26 ∷ node.0 ∷ agent.0 ∷ []
-mobile_numbers (Made node peer number home (Some careof)) = 27 ∷ node.0 ∷ peer.0 ∷ number ∷ 1 ∷ length home.0 ∷ (home.0 ++ careof.0)
-mobile_numbers (Made node peer number home None) = 27 ∷ node.0 ∷ peer.0 ∷ number ∷ 0 ∷ length home.0 ∷ (home.0 ++ [])
-mobile_numbers (Bound node peer end) = 28 ∷ node.0 ∷ peer.0 ∷ end.0 ∷ []
-mobile_numbers (Unbound node peer) = 29 ∷ node.0 ∷ peer.0 ∷ []
-mobile_numbers entry = kept_numbers entry
+mobile_numbers entry = peer_numbers entry
 
 -- where mobiles stand, and what nodes learn there
 abbrev pub place_numbers : Entry → List ℕ
@@ -90,16 +101,27 @@ run_numbers (Restarted node) = 17 ∷ node.0 ∷ []
 run_numbers (Settled a b is) = 18 ∷ a.0 ∷ b.0 ∷ flag is ∷ []
 run_numbers entry = place_numbers entry
 
--- what outsiders hear and send, and the claims of addresses
-abbrev pub network_numbers : Entry → List ℕ
-network_numbers (Injected number outsider link packet) = 8 ∷ number ∷ outsider ∷ link.0 ∷ packet
-network_numbers (Heard number outsider) = 9 ∷ number ∷ outsider ∷ []
-network_numbers (Listening outsider link) = 10 ∷ outsider ∷ link.0 ∷ []
-network_numbers (Deafened outsider link) = 11 ∷ outsider ∷ link.0 ∷ []
-network_numbers (Claimed who link address) = 12 ∷ who ∷ link.0 ∷ address.0 ∷ []
-network_numbers (Released who link address) = 13 ∷ who ∷ link.0 ∷ address.0 ∷ []
-network_numbers (Taken who link address holder) = 14 ∷ who ∷ link.0 ∷ address.0 ∷ holder ∷ []
-network_numbers entry = run_numbers entry
+-- the claims of addresses
+abbrev pub claim_numbers : Entry → List ℕ
+claim_numbers (Claimed who link address) = 12 ∷ who ∷ link.0 ∷ address.0 ∷ []
+claim_numbers (Released who link address) = 13 ∷ who ∷ link.0 ∷ address.0 ∷ []
+claim_numbers (Taken who link address holder) = 14 ∷ who ∷ link.0 ∷ address.0 ∷ holder ∷ []
+claim_numbers entry = run_numbers entry
+
+-- what outsiders hear and send
+abbrev pub outsider_numbers : Entry → List ℕ
+outsider_numbers (Injected number outsider link packet) = 8 ∷ number ∷ outsider ∷ link.0 ∷ packet
+outsider_numbers (Heard number outsider) = 9 ∷ number ∷ outsider ∷ []
+outsider_numbers (Listening outsider link) = 10 ∷ outsider ∷ link.0 ∷ []
+outsider_numbers (Deafened outsider link) = 11 ∷ outsider ∷ link.0 ∷ []
+outsider_numbers entry = claim_numbers entry
+
+-- what a node denied, dropped or handed up
+abbrev pub fate_numbers : Entry → List ℕ
+fate_numbers (Denied node number status) = 5 ∷ node.0 ∷ number ∷ status ∷ []
+fate_numbers (Dropped node number why) = 6 ∷ node.0 ∷ number ∷ why_place why ∷ []
+fate_numbers (Up node number source destination proto payload) = 7 ∷ node.0 ∷ number ∷ source.0 ∷ destination.0 ∷ proto ∷ payload
+fate_numbers entry = outsider_numbers entry
 
 -- packets: who sent them, who got them, and which came to nothing
 abbrev pub packet_numbers : Entry → List ℕ
@@ -108,10 +130,7 @@ packet_numbers (Handed number node) = 1 ∷ number ∷ node.0 ∷ []
 packet_numbers (Gone number why) = 2 ∷ number ∷ why_place why ∷ []
 packet_numbers (Lost number) = 3 ∷ number ∷ []
 packet_numbers (Unsent node why) = 4 ∷ node.0 ∷ why_place why ∷ []
-packet_numbers (Denied node number status) = 5 ∷ node.0 ∷ number ∷ status ∷ []
-packet_numbers (Dropped node number why) = 6 ∷ node.0 ∷ number ∷ why_place why ∷ []
-packet_numbers (Up node number source destination proto payload) = 7 ∷ node.0 ∷ number ∷ source.0 ∷ destination.0 ∷ proto ∷ payload
-packet_numbers entry = network_numbers entry
+packet_numbers entry = fate_numbers entry
 
 unfoldable pub entry_numbers : Entry → List ℕ
 entry_numbers entry = packet_numbers entry

@@ -1,7 +1,7 @@
 //! An entry as numbers, by which entries are compared.
 
 ghost use Rattle.std.specs.Prelude.{◌≡◌, ◌∷◌, ◌++◌, [], length, IfOk, OnOk};
-ghost use Rattle.mip_audit.specs.EntryNumbers.{flag, why_place, packet_numbers, network_numbers, run_numbers, place_numbers, mobile_numbers, kept_numbers, entry_numbers};
+ghost use Rattle.mip_audit.specs.EntryNumbers.{flag, why_place, packet_numbers, fate_numbers, outsider_numbers, claim_numbers, run_numbers, place_numbers, mobile_numbers, peer_numbers, update_numbers, mark_numbers, kept_numbers, entry_numbers};
 
 use mip_entries::Entry;
 use mip_words::{Memory, Why};
@@ -61,7 +61,7 @@ fn with_tokens(
     Ok(list)
 }
 
-/// The bindings that agents and correspondents keep, and their origins.
+/// The bindings that agents and correspondents keep.
 fn kept_numbers(alloc: Global, entry: &Entry) -> Result<Vec<u128>, Memory>
     ensures { IfOk result (λ v. v.items ≡ kept_numbers entry.now) }
 {
@@ -75,7 +75,7 @@ fn kept_numbers(alloc: Global, entry: &Entry) -> Result<Vec<u128>, Memory>
         } => listed(
             alloc,
             &[
-                30,
+                33,
                 u128::from(node.0),
                 home.0,
                 careof.0,
@@ -83,78 +83,6 @@ fn kept_numbers(alloc: Global, entry: &Entry) -> Result<Vec<u128>, Memory>
                 u128::from(end.0),
             ],
         ),
-        Entry::Accepted {
-            node,
-            number,
-            home,
-            binding,
-            careof,
-            sequence,
-            end,
-            home_index,
-            careof_index: Some(careof_index),
-        } => listed(
-            alloc,
-            &[
-                31,
-                u128::from(node.0),
-                u128::from(*number),
-                home.0,
-                u128::from(*binding),
-                careof.0,
-                u128::from(*sequence),
-                u128::from(end.0),
-                u128::from(*home_index),
-                1,
-                u128::from(*careof_index),
-            ],
-        ),
-        Entry::Accepted {
-            node,
-            number,
-            home,
-            binding,
-            careof,
-            sequence,
-            end,
-            home_index,
-            careof_index: None,
-        } => listed(
-            alloc,
-            &[
-                31,
-                u128::from(node.0),
-                u128::from(*number),
-                home.0,
-                u128::from(*binding),
-                careof.0,
-                u128::from(*sequence),
-                u128::from(end.0),
-                u128::from(*home_index),
-                0,
-                0,
-            ],
-        ),
-        Entry::Origin {
-            hot,
-            cot: Some(cot),
-            update,
-        } => listed(
-            alloc,
-            &[
-                32,
-                u128::from(*hot),
-                1,
-                u128::from(*cot),
-                u128::from(*update),
-            ],
-        ),
-        Entry::Origin {
-            hot,
-            cot: None,
-            update,
-        } => listed(alloc, &[32, u128::from(*hot), 0, 0, u128::from(*update)]),
-        Entry::Forged { cause } => listed(alloc, &[33, u128::from(*cause)]),
         Entry::Row {
             node,
             home,
@@ -180,21 +108,75 @@ fn kept_numbers(alloc: Global, entry: &Entry) -> Result<Vec<u128>, Memory>
     }
 }
 
-/// What a mobile knows of its agents and of its peers.
-fn mobile_numbers(alloc: Global, entry: &Entry) -> Result<Vec<u128>, Memory>
-    ensures { IfOk result (λ v. v.items ≡ mobile_numbers entry.now) }
+/// The mark of its origin.
+fn mark_numbers(alloc: Global, entry: &Entry) -> Result<Vec<u128>, Memory>
+    ensures { IfOk result (λ v. v.items ≡ mark_numbers entry.now) }
 {
     match entry {
-        Entry::Registered { node, agent, end } => listed(
+        Entry::Origin {
+            hot,
+            cot: Some(cot),
+            update,
+        } => listed(
             alloc,
-            &[23, u128::from(node.0), agent.0, u128::from(end.0)],
+            &[
+                31,
+                u128::from(*hot),
+                1,
+                u128::from(*cot),
+                u128::from(*update),
+            ],
         ),
-        Entry::Unregistered { node, agent } => listed(alloc, &[24, u128::from(node.0), agent.0]),
-        Entry::Refused { node, status } => listed(
+        Entry::Origin {
+            hot,
+            cot: None,
+            update,
+        } => listed(alloc, &[31, u128::from(*hot), 0, 0, u128::from(*update)]),
+        Entry::Forged { cause } => listed(alloc, &[32, u128::from(*cause)]),
+        _ => kept_numbers(alloc, entry),
+    }
+}
+
+/// An update that a correspondent accepts.
+fn update_numbers(alloc: Global, entry: &Entry) -> Result<Vec<u128>, Memory>
+    ensures { IfOk result (λ v. v.items ≡ update_numbers entry.now) }
+{
+    match entry {
+        Entry::Accepted {
+            node,
+            number,
+            home,
+            binding,
+            careof,
+            sequence,
+            end,
+            home_index,
+            careof_index,
+        } => listed(
             alloc,
-            &[25, u128::from(node.0), u128::from(*status)],
+            &[
+                30,
+                u128::from(node.0),
+                u128::from(*number),
+                home.0,
+                u128::from(*binding),
+                careof.0,
+                u128::from(*sequence),
+                u128::from(end.0),
+                u128::from(*home_index),
+                flag(careof_index.is_some()),
+                u128::from(careof_index.unwrap_or(0)),
+            ],
         ),
-        Entry::Chosen { node, agent } => listed(alloc, &[26, u128::from(node.0), agent.0]),
+        _ => mark_numbers(alloc, entry),
+    }
+}
+
+/// What a mobile has with its peers.
+fn peer_numbers(alloc: Global, entry: &Entry) -> Result<Vec<u128>, Memory>
+    ensures { IfOk result (λ v. v.items ≡ peer_numbers entry.now) }
+{
+    match entry {
         Entry::Made {
             node,
             peer,
@@ -224,7 +206,26 @@ fn mobile_numbers(alloc: Global, entry: &Entry) -> Result<Vec<u128>, Memory>
             &[28, u128::from(node.0), peer.0, u128::from(end.0)],
         ),
         Entry::Unbound { node, peer } => listed(alloc, &[29, u128::from(node.0), peer.0]),
-        _ => kept_numbers(alloc, entry),
+        _ => update_numbers(alloc, entry),
+    }
+}
+
+/// What a mobile knows of its agents.
+fn mobile_numbers(alloc: Global, entry: &Entry) -> Result<Vec<u128>, Memory>
+    ensures { IfOk result (λ v. v.items ≡ mobile_numbers entry.now) }
+{
+    match entry {
+        Entry::Registered { node, agent, end } => listed(
+            alloc,
+            &[23, u128::from(node.0), agent.0, u128::from(end.0)],
+        ),
+        Entry::Unregistered { node, agent } => listed(alloc, &[24, u128::from(node.0), agent.0]),
+        Entry::Refused { node, status } => listed(
+            alloc,
+            &[25, u128::from(node.0), u128::from(*status)],
+        ),
+        Entry::Chosen { node, agent } => listed(alloc, &[26, u128::from(node.0), agent.0]),
+        _ => peer_numbers(alloc, entry),
     }
 }
 
@@ -285,9 +286,41 @@ fn run_numbers(alloc: Global, entry: &Entry) -> Result<Vec<u128>, Memory>
     }
 }
 
-/// What outsiders hear and send, and the claims of addresses.
-fn network_numbers(alloc: Global, entry: &Entry) -> Result<Vec<u128>, Memory>
-    ensures { IfOk result (λ v. v.items ≡ network_numbers entry.now) }
+/// The claims of addresses.
+fn claim_numbers(alloc: Global, entry: &Entry) -> Result<Vec<u128>, Memory>
+    ensures { IfOk result (λ v. v.items ≡ claim_numbers entry.now) }
+{
+    match entry {
+        Entry::Claimed { who, link, address } => listed(
+            alloc,
+            &[12, u128::from(*who), u128::from(link.0), address.0],
+        ),
+        Entry::Released { who, link, address } => listed(
+            alloc,
+            &[13, u128::from(*who), u128::from(link.0), address.0],
+        ),
+        Entry::Taken {
+            who,
+            link,
+            address,
+            holder,
+        } => listed(
+            alloc,
+            &[
+                14,
+                u128::from(*who),
+                u128::from(link.0),
+                address.0,
+                u128::from(*holder),
+            ],
+        ),
+        _ => run_numbers(alloc, entry),
+    }
+}
+
+/// What outsiders hear and send.
+fn outsider_numbers(alloc: Global, entry: &Entry) -> Result<Vec<u128>, Memory>
+    ensures { IfOk result (λ v. v.items ≡ outsider_numbers entry.now) }
 {
     match entry {
         Entry::Injected {
@@ -317,55 +350,15 @@ fn network_numbers(alloc: Global, entry: &Entry) -> Result<Vec<u128>, Memory>
             alloc,
             &[11, u128::from(*outsider), u128::from(link.0)],
         ),
-        Entry::Claimed { who, link, address } => listed(
-            alloc,
-            &[12, u128::from(*who), u128::from(link.0), address.0],
-        ),
-        Entry::Released { who, link, address } => listed(
-            alloc,
-            &[13, u128::from(*who), u128::from(link.0), address.0],
-        ),
-        Entry::Taken {
-            who,
-            link,
-            address,
-            holder,
-        } => listed(
-            alloc,
-            &[
-                14,
-                u128::from(*who),
-                u128::from(link.0),
-                address.0,
-                u128::from(*holder),
-            ],
-        ),
-        _ => run_numbers(alloc, entry),
+        _ => claim_numbers(alloc, entry),
     }
 }
 
-/// Packets: who sent them, who got them, and which came to nothing.
-fn packet_numbers(alloc: Global, entry: &Entry) -> Result<Vec<u128>, Memory>
-    ensures { IfOk result (λ v. v.items ≡ packet_numbers entry.now) }
+/// What a node denied, dropped or handed up.
+fn fate_numbers(alloc: Global, entry: &Entry) -> Result<Vec<u128>, Memory>
+    ensures { IfOk result (λ v. v.items ≡ fate_numbers entry.now) }
 {
     match entry {
-        Entry::Sent {
-            number,
-            node,
-            shielded,
-            packet,
-        } => with_bytes(
-            alloc,
-            &[0, u128::from(*number), u128::from(node.0), flag(*shielded)],
-            packet.as_slice(),
-        ),
-        Entry::Handed { number, node } => listed(
-            alloc,
-            &[1, u128::from(*number), u128::from(node.0)],
-        ),
-        Entry::Gone { number, why } => listed(alloc, &[2, u128::from(*number), why_place(*why)]),
-        Entry::Lost { number } => listed(alloc, &[3, u128::from(*number)]),
-        Entry::Unsent { node, why } => listed(alloc, &[4, u128::from(node.0), why_place(*why)]),
         Entry::Denied {
             node,
             number,
@@ -402,7 +395,33 @@ fn packet_numbers(alloc: Global, entry: &Entry) -> Result<Vec<u128>, Memory>
             ],
             payload.as_slice(),
         ),
-        _ => network_numbers(alloc, entry),
+        _ => outsider_numbers(alloc, entry),
+    }
+}
+
+/// Packets: who sent them, who got them, and which came to nothing.
+fn packet_numbers(alloc: Global, entry: &Entry) -> Result<Vec<u128>, Memory>
+    ensures { IfOk result (λ v. v.items ≡ packet_numbers entry.now) }
+{
+    match entry {
+        Entry::Sent {
+            number,
+            node,
+            shielded,
+            packet,
+        } => with_bytes(
+            alloc,
+            &[0, u128::from(*number), u128::from(node.0), flag(*shielded)],
+            packet.as_slice(),
+        ),
+        Entry::Handed { number, node } => listed(
+            alloc,
+            &[1, u128::from(*number), u128::from(node.0)],
+        ),
+        Entry::Gone { number, why } => listed(alloc, &[2, u128::from(*number), why_place(*why)]),
+        Entry::Lost { number } => listed(alloc, &[3, u128::from(*number)]),
+        Entry::Unsent { node, why } => listed(alloc, &[4, u128::from(node.0), why_place(*why)]),
+        _ => fate_numbers(alloc, entry),
     }
 }
 
