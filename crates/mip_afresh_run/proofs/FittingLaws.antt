@@ -1,5 +1,5 @@
 -- Each event of a schedule may happen behind those before it.
-use Rattle.std.proofs.Common.{◌≡◌, ℕ, zero, suc, ◌+◌, ◌<◌, ◌≤◌, ◌^◌, List, [], ◌∷◌, ◌++◌, length, Bool, true, false, refl, sym, ap, ◌∙◌, subst, arith, drop}
+use Rattle.std.proofs.Common.{◌≡◌, ℕ, zero, suc, ◌+◌, ◌<◌, ◌≤◌, ◌^◌, List, [], ◌∷◌, ◌++◌, length, Bool, true, false, refl, sym, ap, subst, arith, drop}
 use Rattle.std.proofs.lemmas.Bool.{leb-false}
 use Rattle.std.proofs.lemmas.List.Sums.{sum_by-cons}
 use Rattle.std.specs.Prelude.{Option, Some, None, ◌||◌, ◌==◌, nat_le, nat_lt, take, slice_get, if◌then◌else◌}
@@ -20,7 +20,6 @@ use Rattle.mip_history.specs.Runs.{Run}
 use Rattle.mip_history.specs.RunsLaws.{IsRun}
 use Rattle.mip_history.specs.Knowing.{now_in}
 use Rattle.mip_history.specs.Passing.{waited_by}
-use Rattle.mip_history.specs.Permitted.{run_of}
 use Rattle.mip_history.proofs.Events.{run_passes}
 use Rattle.mip_afresh_nodes.specs.Reached.{IsReached}
 use Rattle.mip_afresh_run.specs.Fitting.{IsWithin, IsFit}

@@ -1,5 +1,5 @@
 -- Packets that were posted, by their bytes; and the heads of updates can be written.
-use Rattle.std.proofs.Common.{◌≡◌, ℕ, List, Bool, true, false, refl, sym, ap, ◌∙◌, subst, rules}
+use Rattle.std.proofs.Common.{◌≡◌, ℕ, List, Bool, true, false, refl, ap, rules}
 use Rattle.std.specs.Prelude.{Option, Some, None, option_map, slice_get, IsTrue, if◌then◌else◌, ◌==◌}
 use Rattle.std.specs.Option.{option_and_then}
 use Rattle.mip_words.specs.Addresses.{is_routable}
@@ -7,7 +7,7 @@ use Rattle.mip_ipv6.specs.Packet.{is_plain}
 use Rattle.mip_packets.specs.Packets.{node_head}
 use Rattle.mip_packets.specs.Says.{carried}
 use Rattle.mip_links.specs.Table.{Post}
-use Rattle.mip_history.specs.Outsiders.{Told, Asking, Binding, told_by, test_in, asking_in, tell_of, tell_for, bind_head}
+use Rattle.mip_history.specs.Outsiders.{Binding, told_by, test_in, asking_in, tell_of, tell_for, bind_head}
 
 -- the head of an update to a routable home
 pub bind_plain : (b : Binding) → IsTrue (is_routable b.home.0) → IsTrue (is_plain (bind_head b))

@@ -1,60 +1,20 @@
--- Where each node is a correspondent, none moves, advertises, plans or asks for prefixes.
+-- Where each node is a correspondent, a link's advertisement is for nobody.
 use Rattle.std.proofs.Common.{◌≡◌, ℕ, zero, suc, Bool, true, false, refl, ap, ◌∙◌}
 use Rattle.std.specs.Prelude.{Option, Some, None, length, slice_get, slice_index_or, if◌then◌else◌}
-use Rattle.mip_words.specs.declared.ids.LinkId.{LinkId}
 use Rattle.mip_words.specs.declared.address.Address.{Address}
-use Rattle.mip_entries.specs.declared.entry.Entry.TheVariants.{Idle, Advertised}
+use Rattle.mip_entries.specs.declared.entry.Entry.TheVariants.{Advertised}
 use Rattle.mip_entries.specs.Completed.{node_id}
-use Rattle.mip_history.specs.Setup.{Setup, Host, Kind, is_mobile_kind, is_mobile_host}
+use Rattle.mip_history.specs.Setup.{Setup, Host, Kind}
 use Rattle.mip_history.specs.Setup.Kind.{Correspondent, Agent, Mobile}
 use Rattle.mip_history.specs.SetupLaws.{is_correspondent_kind}
 use Rattle.mip_history.specs.Runs.{Run, note}
-use Rattle.mip_history.specs.Calls.{Call, Plan, Ask, Attach}
+use Rattle.mip_history.specs.Calls.{Attach}
 use Rattle.mip_history.specs.Claims.{link_id}
-use Rattle.mip_history.specs.Nodes.{by_kind, by_host, acts}
+use Rattle.mip_history.specs.Nodes.{acts}
 use Rattle.mip_history.specs.Advertising.{Router, router_by_kind, router_by_host, router_at, hears_of_all, agents_hear, roams_by_kind, roams_by_host, roams_on, mobiles_told, advertised}
-use Rattle.mip_history.specs.Permitted.{moves, moves_if}
 use Rattle.mip_afresh.specs.Tellings.{is_plain, ArePlain}
 
 module _ (s : Setup) (plain : ArePlain s) where
-  -- no node is a mobile
-  no_mobile : (o : Option Host) → is_plain o ≡ true → is_mobile_host o ≡ false
-  no_mobile None is = refl
-  no_mobile (Some host) is = by host.kind is
-    where
-      by : (kind : Kind) → is_correspondent_kind kind ≡ true → is_mobile_kind kind ≡ false
-      by (Correspondent room) is = refl
-      by (Agent preference life room serves) is = absurd cc
-      by (Mobile agent) is = absurd cc
-
-  pub none_moves : (run : Run) (n : ℕ) (link : Option LinkId) → moves_if s run n link ≡ note Idle run
-  none_moves run n link = ap (λ (b : Bool). if b then moves s run n link else note Idle run) (no_mobile (slice_get s.hosts n) (plain n))
-
-  -- a plan and the asking for prefixes are nothing to a correspondent
-  pub none_plans : (run : Run) (n valid preferred : ℕ) → acts s n (Plan valid preferred) run ≡ note Idle run
-  none_plans run n valid preferred = by (slice_get s.hosts n) (plain n)
-    where
-      of_kind : (own : Address) (kind : Kind) → is_correspondent_kind kind ≡ true → by_kind s n own (Plan valid preferred) run kind ≡ note Idle run
-      of_kind own (Correspondent room) is = refl
-      of_kind own (Agent preference life room serves) is = absurd cc
-      of_kind own (Mobile agent) is = absurd cc
-
-      by : (o : Option Host) → is_plain o ≡ true → by_host s n (Plan valid preferred) run o ≡ note Idle run
-      by None is = refl
-      by (Some host) is = of_kind host.address host.kind is
-
-  pub none_asks : (run : Run) (n : ℕ) → acts s n Ask run ≡ note Idle run
-  none_asks run n = by (slice_get s.hosts n) (plain n)
-    where
-      of_kind : (own : Address) (kind : Kind) → is_correspondent_kind kind ≡ true → by_kind s n own Ask run kind ≡ note Idle run
-      of_kind own (Correspondent room) is = refl
-      of_kind own (Agent preference life room serves) is = absurd cc
-      of_kind own (Mobile agent) is = absurd cc
-
-      by : (o : Option Host) → is_plain o ≡ true → by_host s n Ask run o ≡ note Idle run
-      by None is = refl
-      by (Some host) is = of_kind host.address host.kind is
-
   -- no agent is on a link, and no mobile stands on one
   no_router : (link n : ℕ) → router_at s link n ≡ None
   no_router link n = by (slice_get s.hosts n) (plain n)

@@ -1,27 +1,15 @@
 -- What a run has told is a front of the permitted history, and at the end all of it.
-use Rattle.std.proofs.Common.{◌≡◌, ℕ, ◌+◌, ◌<◌, ◌≤◌, List, [], ◌∷◌, ◌++◌, length, take, refl, sym, ap, ◌∙◌, subst, arith}
-use Rattle.std.specs.Prelude.{get_or}
-use Rattle.std.proofs.lemmas.List.{take_more, take_all, take-take}
-use Rattle.std.proofs.lemmas.List.Sums.{fold-append}
+use Rattle.std.proofs.Common.{◌≡◌, ℕ, ◌≤◌, List, ◌++◌, length, take, sym, ap, ◌∙◌, arith}
+use Rattle.std.proofs.lemmas.List.{take_all, take-take}
 use Rattle.mip_entries.specs.declared.entry.Entry.{Entry}
 use Rattle.mip_schedule.specs.Contents.{Content}
 use Rattle.mip_schedule.specs.declared.event.Event.{Event}
 use Rattle.mip_history.specs.Setup.{Setup, setup_of}
 use Rattle.mip_history.specs.Runs.{Run}
-use Rattle.mip_history.specs.Permitted.{permitted, opened, happens, run_of}
+use Rattle.mip_history.specs.Permitted.{permitted, run_of}
 use Rattle.mip_history.proofs.Fronts.{front_of_run}
-use Rattle.mip_afresh.specs.Tellings.{TellingSeen, with_run}
+use Rattle.mip_afresh.specs.Tellings.{TellingSeen}
 use Rattle.mip_afresh_run.specs.Runs.{RunSeen, behind, IsRunOf}
-
--- behind one event more
-pub one_more : (c : Content) (i : ℕ) (event : Event) → i < length c.events → event ≡ get_or c.events i event
-    → with_run (happens (setup_of c) (behind c i).run event) (behind c i) ≡ behind c (i + 1)
-one_more c i event inside is =
-    let s : Setup = setup_of c in
-    ap (λ (run : Run). with_run run (behind c i))
-    (ap (λ (x : Event). happens s (run_of s (take i c.events)) x) is
-    ∙ sym (fold-append (λ (run : Run) (x : Event). happens s run x) (opened s) (take i c.events) (get_or c.events i event ∷ []))
-    ∙ ap (λ (es : List Event). run_of s es) (sym (take_more c.events i event inside)))
 
 past_is : (r : RunSeen) (c : Content) → IsRunOf r c → r.telling.run.past ≡ (behind c r.next).run.past
 past_is r c is = ap (λ (t : TellingSeen). t.run.past) is.is

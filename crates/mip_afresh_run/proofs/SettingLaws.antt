@@ -1,6 +1,6 @@
 -- What a plain schedule declares, declaration by declaration.
 use Rattle.std.proofs.Common.{◌≡◌, ℕ, suc, ◌+◌, ◌<◌, ◌≤◌, List, [], ◌∷◌, ◌++◌, length, true, refl, sym, ap, ◌∙◌, arith}
-use Rattle.std.proofs.lemmas.List.{take_more, length-map}
+use Rattle.std.proofs.lemmas.List.{take_more}
 use Rattle.std.specs.Prelude.{map, take, get_or}
 use Rattle.mip_symbols.specs.Places.{members, AreFew}
 use Rattle.mip_symbols.specs.declared.declaration.Declaration.{Declaration}
