@@ -1,0 +1,5 @@
+mod SettingLaws
+mod ForgingLaws
+mod PlainLaws
+mod FittingLaws
+pub mod RunLaws

@@ -1,0 +1,5 @@
+pub mod Plain
+pub mod Correspondents
+pub mod Forged
+pub mod Fitting
+pub mod Runs

@@ -1,0 +1,91 @@
+//! What a plain schedule declares, as its run needs it.
+
+ghost use Rattle.std.specs.Prelude.{◌≡◌, ◌≤◌, ◌∷◌, ◌++◌, [], true, length, map, IfOk, OnOk};
+ghost use Rattle.mip_symbols.specs.Places.{AreFew};
+ghost use Rattle.mip_schedule.specs.Schedules.{content};
+ghost use Rattle.mip_history.specs.Setup.{links_in, outsiders_in, setup_of};
+ghost use Rattle.mip_afresh_run.specs.Plain.{is_plain};
+ghost use Rattle.mip_afresh_run.specs.Correspondents.{correspondents_in};
+
+use mip_afresh::{Host, Setting};
+use mip_schedule::{Declaration, Schedule, few, numbers_of};
+use mip_symbols::{Sort, count};
+use mip_words::{Memory, Prefix};
+use std::alloc::Global;
+
+/// One prefix more, where the declaration is of a link.
+fn add_link(links: &mut Vec<Prefix>, d: &Declaration) -> Result<(), Memory>
+    ensures { OnOk result (map (λ p. p.0) links.new.items ≡ map (λ p. p.0) links.old.items ++ links_in (d.now ∷ [])) }
+{
+    match d {
+        Declaration::Link { prefix, .. } => links.push(*prefix)?,
+        _ => (),
+    }
+    Ok(())
+}
+
+/// The prefix of each link.
+#[tactic(auto, using(crate::proofs::SettingLaws::links_more))]
+fn links_in(alloc: Global, ds: &[Declaration]) -> Result<Vec<Prefix>, Memory>
+    ensures { IfOk result (λ v. map (λ p. p.0) v.items ≡ links_in ds.now) }
+{
+    let mut links = Vec::new(alloc);
+    for d in ds {
+        add_link(&mut links, d)?;
+    }
+    Ok(links)
+}
+
+/// One node more, where the declaration is of a correspondent.
+fn add_host(hosts: &mut Vec<Host>, d: &Declaration) -> Result<(), Memory>
+    ensures { OnOk result (hosts.new.items ≡ hosts.old.items ++ correspondents_in (d.now ∷ [])) }
+{
+    match d {
+        Declaration::Correspondent { address, room, .. } => hosts.push(Host {
+            address: *address,
+            room: *room,
+        })?,
+        _ => (),
+    }
+    Ok(())
+}
+
+/// The correspondents, in order of declaration.
+#[tactic(auto, using(crate::proofs::SettingLaws::correspondents_more))]
+fn hosts_in(alloc: Global, ds: &[Declaration]) -> Result<Vec<Host>, Memory>
+    ensures { IfOk result (λ v. v.items ≡ correspondents_in ds.now) }
+{
+    let mut hosts = Vec::new(alloc);
+    for d in ds {
+        add_host(&mut hosts, d)?;
+    }
+    Ok(hosts)
+}
+
+/// How many outsiders there are.
+#[tactic(auto, using(crate::proofs::SettingLaws::outsiders_counted))]
+fn outsiders_in(ds: &[Declaration]) -> u8
+    requires { AreFew ds.now }
+    ensures { result ≡ outsiders_in ds.now }
+{
+    count(ds, Sort::Outsider) as u8
+}
+
+/// What a plain schedule declares: at most 32 links and 32 nodes.
+pub(crate) fn setting_of(alloc: Global, schedule: &Schedule) -> Result<Setting, Memory>
+    requires { is_plain schedule.now.declarations ≡ true }
+    ensures is { IfOk result (λ s. s ≡ setup_of (content schedule.now)) }
+    ensures links { IfOk result (λ s. length s.links ≤ 32) }
+    ensures hosts { IfOk result (λ s. length s.hosts ≤ 32) }
+{
+    few(schedule);
+    let ds = schedule.declarations.as_slice();
+    Ok(Setting {
+        seed: schedule.seed,
+        start: schedule.start,
+        links: links_in(alloc, ds)?,
+        hosts: hosts_in(alloc, ds)?,
+        outsiders: outsiders_in(ds),
+        numbers: numbers_of(schedule.version),
+    })
+}
