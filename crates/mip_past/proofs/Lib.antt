@@ -6,3 +6,7 @@ pub mod OneNumber
 pub mod Holding
 mod Leaving
 pub mod Sending
+pub mod Silent
+pub mod Telling
+pub mod AgentWalk
+pub mod EndsTold

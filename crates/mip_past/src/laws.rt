@@ -24,8 +24,8 @@ pub fn keepers_are_as_asked()
     ensures { (s : Setup) (events : List Event) (k : ℕ) → AreKeepersAsAsked s events k }
 {}
 
-/// What is asked of a home agent there is what it keeps: the registered care-of address of a home, and the last sequence. A home
-/// is registered exactly where some agent has it registered.
+/// What is asked of a home agent there is what it keeps: the registered care-of address of a home, its end, the last sequence, and the
+/// work that it has ahead. A home is registered exactly where some agent has it registered.
 pub fn agents_are_as_asked()
     ensures { (s : Setup) (events : List Event) (k : ℕ) → AreAgentsAsAsked s events k }
 {}
