@@ -10,3 +10,4 @@ pub mod Silent
 pub mod Telling
 pub mod AgentWalk
 pub mod EndsTold
+pub mod AgentsHeard
