@@ -39,6 +39,10 @@ use Rattle.mip_settled.proofs.OfKinds.{present_at_own, registers_none}
 use Rattle.mip_past.specs.Asking.{present_from, present_told, standing_by, standing_from, leaves_by, leaves_from}
 use Rattle.mip_past.specs.Registering.{last_sent_to}
 use Rattle.mip_past.proofs.Standing.{standing_is}
+use Rattle.mip_past.proofs.EndsTold.{due_as_told}
+use Rattle.mip_past.proofs.AgentsHeard.{agents_as_told}
+use Rattle.mip_past.specs.Hearing.{router_of, agents_in}
+use Rattle.mip_past.specs.HearingLaws.{AreListedAsAsked}
 use Rattle.mip_past.proofs.Leaving.{leaves_is}
 use Rattle.mip_past.specs.Places.{run_at, place_at, front_at}
 use Rattle.mip_past.specs.AsAsked.{IsFront, KeepsAsAsked, AreKeepersAsAsked, RegistersAsAsked, IsRegisteredBy, AreAgentsAsAsked, released, MovesAsAsked, AreMobilesAsAsked, IsHolderFound, IsHeldBound, AreRegistered, IsPermittedFront}
@@ -105,6 +109,7 @@ module _ (s : Setup) (events : List Event) (k : ℕ) where
             let h : IsHomed s (run_at s events k) = homed_run s (take k events) in
             ap (λ (o : Option HomeBinding). option_map (λ b. b.end) (if_standing home (now_in s (run_at s events k)) o)) (sym (h.homes n serves (ap serves_by_host is) home));
         sequence = λ home. sym (run_kept s (take k events) n own preference life room serves home is);
+        due = due_as_told s (take k events) n own preference life room serves is (now_in s (run_at s events k)) (omega arith);
       })
 
   abbrev careofs : Address → ℕ → Option Address
@@ -230,3 +235,9 @@ registered_at c k n home careof mine is =
     let same : front_at (setup_of c) c.events k ≡ permitted (first_events c k) = front_is (setup_of c) c.events k in
     subst (λ (past : List Entry). IsRegistered (setup_of c) past n home careof) (sym same)
     (permitted_registered (first_events c k) n home careof mine (ap (λ (past : List Entry). registered_in (setup_of c) past n home) (sym same) ∙ is))
+
+-- the agents that an agent knows of
+pub listed_as_asked : (c : Content) (k : ℕ) → AreListedAsAsked c k
+listed_as_asked c k apart small n own preference life room serves is =
+    ap (λ (past : List Entry). agents_in (router_of c.declarations) c.start.0 past n) (front_is (setup_of c) c.events k)
+    ∙ agents_as_told c (take k c.events) apart small n own preference life room serves is

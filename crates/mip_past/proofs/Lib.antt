@@ -6,3 +6,8 @@ pub mod OneNumber
 pub mod Holding
 mod Leaving
 pub mod Sending
+pub mod Silent
+pub mod Telling
+pub mod AgentWalk
+pub mod EndsTold
+pub mod AgentsHeard

@@ -8,7 +8,7 @@ use Rattle.mip_rules_correspondent.specs.declared.known.Known.{Known}
 use Rattle.mip_binding.specs.Held.{holds}
 use Rattle.mip_rules_correspondent.specs.Questions.{held_of, holds_for, floor_of}
 use Rattle.mip_rules_agent.specs.Known as agents
-use Rattle.mip_rules_agent.specs.Questions.{binding_of, if_standing, careof_at, kept_of}
+use Rattle.mip_rules_agent.specs.Questions.{binding_of, if_standing, careof_at, kept_of, later_ends}
 use Rattle.mip_rules_mobile.specs.Known as mobiles
 use Rattle.mip_rules_mobile.specs.HomeQuestions.{home_of, registered_agent, agent_of}
 use Rattle.mip_rules_mobile.specs.MovingRules.{releases}
@@ -33,6 +33,7 @@ use Rattle.mip_history.specs.Told.{agent_in, is_bound_in}
 use Rattle.mip_history.specs.Found.{address_of}
 use Rattle.mip_past.specs.Asking.{present_told, standing_told, leaves_told, registered_until_in, is_registered_in}
 use Rattle.mip_past.specs.Registering.{agent_of_told}
+use Rattle.mip_past.specs.Due.{due_work_in}
 use Rattle.mip_past.specs.Places.{run_at, place_at, front_at}
 
 -- what lies before the place behind the first k events is the history of these, at their moment; and each node's own address is
@@ -60,6 +61,7 @@ pub record RegistersAsAsked (s : Setup) (past : List Entry) (n : ℕ) (known : a
   pub careof : (home : Address) → registered_in s past n home ≡ careof_at known (moment_in s.start past) home
   pub until : (home : Address) → registered_until_in (moment_in s.start past) past n home ≡ option_map (λ b. b.end) (if_standing home (moment_in s.start past) (binding_of known home))
   pub sequence : (home : Address) → option_map (λ b. b.sequence) (last_registration past n home) ≡ kept_of known home
+  pub due : due_work_in (moment_in s.start past) past n ≡ later_ends (moment_in s.start past) known.ends
 
 -- in a run some home agent has a home registered
 pub record IsRegisteredBy (s : Setup) (run : Run) (home : Address) : Type 0 where

@@ -8,3 +8,5 @@ pub mod OneNumber
 pub mod Holding
 pub mod Planning
 pub mod Due
+pub mod Hearing
+pub mod HearingLaws

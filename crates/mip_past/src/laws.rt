@@ -7,6 +7,7 @@ ghost use Rattle.mip_schedule.specs.Contents.{Content};
 ghost use Rattle.mip_schedule.specs.declared.event.Event.{Event};
 ghost use Rattle.mip_history.specs.Setup.{Setup};
 ghost use Rattle.mip_past.specs.AsAsked.{IsFront, IsPermittedFront, AreKeepersAsAsked, AreAgentsAsAsked, AreMobilesAsAsked, IsHolderFound, IsHeldBound, AreRegistered};
+ghost use Rattle.mip_past.specs.HearingLaws.{AreListedAsAsked};
 ghost use Rattle.mip_past.specs.OneNumber.{IsOfTheLast};
 ghost use Rattle.mip_past.specs.Sending.{IsAway, IsReadAsSent};
 
@@ -24,10 +25,15 @@ pub fn keepers_are_as_asked()
     ensures { (s : Setup) (events : List Event) (k : ℕ) → AreKeepersAsAsked s events k }
 {}
 
-/// What is asked of a home agent there is what it keeps: the registered care-of address of a home, and the last sequence. A home
-/// is registered exactly where some agent has it registered.
+/// What is asked of a home agent there is what it keeps: the registered care-of address of a home, its end, the last sequence, and the
+/// work that it has ahead. A home is registered exactly where some agent has it registered.
 pub fn agents_are_as_asked()
     ensures { (s : Setup) (events : List Event) (k : ℕ) → AreAgentsAsAsked s events k }
+{}
+
+/// The other agents that an agent is asked for there are those that it knows of and that are live, in their order.
+pub fn listed_agents_are_as_asked()
+    ensures { (c : Content) (k : ℕ) → AreListedAsAsked c k }
 {}
 
 /// What is asked of a mobile there is what it knows: the address that it uses, the agent with which it is registered, and whether
