@@ -16,7 +16,7 @@ use mip_entries::Answers;
 use mip_words::{Address, Memory};
 use std::alloc::Global;
 
-/// About a packet that it is handed.
+/// What a correspondent does about a packet that it is handed under a number.
 pub(crate) fn about_packet(
     alloc: Global,
     telling: &Telling,
@@ -34,7 +34,7 @@ pub(crate) fn about_packet(
     mip_afresh_rules::take(alloc, &me, telling.now(), number, kept, packet)
 }
 
-/// About data that it is asked to send.
+/// What a correspondent does about data that it is asked to send.
 pub(crate) fn about_data(
     alloc: Global,
     telling: &Telling,
@@ -55,7 +55,7 @@ pub(crate) fn about_data(
     mip_afresh_rules::send(alloc, &me, to, proto, payload, held)
 }
 
-/// About a refresh that it is asked for.
+/// What a correspondent does about a refresh that it is asked for.
 pub(crate) fn about_refresh(
     alloc: Global,
     telling: &Telling,

@@ -31,7 +31,7 @@ pub(crate) fn member_of(telling: &Telling, node: NodeId) -> Option<Member>
     }
 }
 
-/// A life as secrets count it. A history of more lives fits no memory.
+/// A life as secrets count it, by 32 bits. A node of more lives is answered as if memory had run out.
 fn counted(life: u64) -> Result<u32, Memory>
     ensures { IfOk result (λ n. n ≡ life) }
 {
