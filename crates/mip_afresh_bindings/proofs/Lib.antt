@@ -1,3 +1,4 @@
 pub mod HomeLaws
 pub mod CountLaws
 pub mod KeptLaws
+pub mod ShownLaws

@@ -8,7 +8,10 @@ mod home;
 mod kept;
 mod laws;
 mod lived;
+mod ordered;
 mod room;
+mod row;
+mod shown;
 
 pub use acceptance::Acceptance;
 pub use bound::{floor, held, held_under, holds};
@@ -16,3 +19,5 @@ pub use kept::kept_of;
 pub use laws::kept_is_as_known;
 pub use lived::accepted_by;
 pub use room::is_full;
+pub use row::Row;
+pub use shown::shown_rows;

@@ -1,0 +1,5 @@
+mod ReachedLaws
+mod KeepingLaws
+mod ActingLaws
+mod ShowingLaws
+mod DeliveryLaws

@@ -1,0 +1,48 @@
+-- The correspondents of a run, and what their calls leave in it.
+use Rattle.std.specs.Prelude.{◌≡◌, List, Some, slice_get}
+use Rattle.mip_entries.specs.declared.answer.Answer.{Answer}
+use Rattle.mip_rules_correspondent.specs.declared.known.Known.{Known}
+use Rattle.mip_rules_correspondent.specs.Calls as correspondents
+use Rattle.mip_rules_correspondent.specs.Steps.{answers_of}
+use Rattle.mip_rules_correspondent.specs.Doing.{transition_of}
+use Rattle.mip_history.specs.Setup.{Setup, Host}
+use Rattle.mip_history.specs.Setup.Kind.{Correspondent}
+use Rattle.mip_history.specs.Runs.{Run}
+use Rattle.mip_history.specs.Questions.{life_in}
+use Rattle.mip_history.specs.Knowing.{link_or_first, now_in, identity_in, known_in}
+use Rattle.mip_history.specs.Nodes.{answered}
+use Rattle.mip_afresh.specs.declared.acted.Acted.{Acted}
+use Rattle.mip_afresh.specs.declared.acted.Asked.{Asked}
+use Rattle.mip_afresh.specs.Tellings.{acted_one}
+use Rattle.mip_afresh_nodes.specs.declared.member.Member.{Member}
+
+abbrev pub host_of : Member → Host
+host_of m = record { address = m.own; kind = Correspondent m.room }
+
+-- the schedule declares this correspondent
+abbrev pub IsMember : Setup → Member → Type 0
+IsMember s m = slice_get s.hosts m.node.0 ≡ Some (host_of m)
+
+-- what it knows
+abbrev pub known_to : Setup → Run → Member → Known
+known_to s run m = known_in s run m.node.0 m.room
+
+-- a call of it, with who it is as it is called
+abbrev pub call_of : Setup → Run → Member → Asked → Acted
+call_of s run m asked = record {
+  node = m.node;
+  own = m.own;
+  room = m.room;
+  life = life_in run.past m.node.0;
+  at = record { 0 = now_in s run };
+  asked = asked;
+}
+
+-- the call is behind it, and it has done this
+abbrev pub after_call : Setup → Run → Member → Asked → List Answer → Run
+after_call s run m asked answers =
+    answered s m.node.0 (link_or_first s m.own.0) (record run { pasts = acted_one s run.pasts (call_of s run m asked) }) answers
+
+-- this is what it does about a call
+abbrev pub AreAnswers : Setup → Run → Member → correspondents.Call → List Answer → Type 0
+AreAnswers s run m call answers = answers ≡ answers_of (transition_of (identity_in s run m.node.0 m.own m.room) (known_to s run m) (now_in s run) call).steps
