@@ -36,5 +36,5 @@ told_more r after c was is le =
     let s : Setup = setup_of c in
     let front = front_of_run s (take after.next c.events) r.next in
     let first : (run_of s (take r.next (take after.next c.events))).past ≡ r.telling.run.past =
-        ap (λ (es : List Event). let run : Run = run_of s es in run.past) (take-take r.next after.next c.events le) ∙ sym (past_is r c was) in
+    ap (λ (es : List Event). let run : Run = run_of s es in run.past) (take-take r.next after.next c.events le) ∙ sym (past_is r c was) in
     (front.rest, past_is after c is ∙ front.whole ∙ ap (λ (l : List Entry). l ++ front.rest) first)

@@ -17,8 +17,10 @@ use mip_schedule::Event;
 use mip_words::{Address, Bytes, Cookie, Memory};
 use std::alloc::Global;
 
-/// Where the source and the destination stand in a packet (RFC 8200 section 3), in bytes from its start.
+/// Where the source stands in a packet (RFC 8200 section 3), in bytes from its start.
 const SOURCE: usize = 8;
+
+/// Where the destination stands.
 const DESTINATION: usize = 24;
 
 /// The init of a test.
@@ -78,9 +80,14 @@ fn answer_to(alloc: Global, init: &[u8], asking: Asking, told: Told) -> Result<B
     }
 }
 
-/// The test with the token of a packet that was posted that answers an init; none where this is none, or where that is no test of
-/// the kind that it asks for.
-fn test_for(alloc: Global, telling: &Telling, test: u32, init: &[u8]) -> Result<Option<Bytes>, Memory>
+/// The test that answers the init in a packet, with the token that a posted packet says; none where there is no init, or where that
+/// packet says no test of the kind that is asked for.
+fn test_for(
+    alloc: Global,
+    telling: &Telling,
+    test: u32,
+    init: &[u8],
+) -> Result<Option<Bytes>, Memory>
     requires { 40 ≤ length init.now }
     ensures is { IfOk result (λ b. b ≡ tell_of telling.now.run.posts test init.now (asking_in init.now)) }
     ensures long { IfOk result (λ b. IfSome b (λ p. 40 ≤ length p)) }
@@ -95,9 +102,14 @@ fn test_for(alloc: Global, telling: &Telling, test: u32, init: &[u8]) -> Result<
     Ok(Some(packet))
 }
 
-/// The same, where the init is in a packet that was posted.
+/// The same, where the packet with the init was posted, too.
 #[tactic(auto, unfolding(mip_history::specs::Outsiders::test_packet), using(crate::proofs::ForgingLaws::answer_none, crate::proofs::ForgingLaws::answer_some))]
-fn test_packet(alloc: Global, telling: &Telling, test: u32, init: u32) -> Result<Option<Bytes>, Memory>
+fn test_packet(
+    alloc: Global,
+    telling: &Telling,
+    test: u32,
+    init: u32,
+) -> Result<Option<Bytes>, Memory>
     ensures is { IfOk result (λ b. b ≡ test_packet telling.now.run.posts test init) }
     ensures long { IfOk result (λ b. IfSome b (λ p. 40 ≤ length p)) }
 {
