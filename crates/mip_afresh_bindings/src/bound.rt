@@ -3,7 +3,7 @@
 ghost use Rattle.std.specs.Prelude.{◌≡◌, map, option_map, IfOk};
 ghost use Rattle.std.specs.List.{list_any};
 ghost use Rattle.mip_words.specs.Last.{last_where};
-ghost use Rattle.mip_binding.specs.Held.{is_standing, stands_under, stands_at, sequence_in, held, held_under, holds, floor};
+ghost use Rattle.mip_binding.specs.Held.{is_standing, stands_at, sequence_in, held, holds, floor};
 ghost use Rattle.mip_afresh_bindings.specs.Accepted.{acceptance_seen, binding_seen};
 ghost use Rattle.mip_afresh_bindings.specs.Homes.{home_seen, address_seen};
 
@@ -26,19 +26,6 @@ fn last_standing(home: Address, now: Moment, live: &[Acceptance]) -> Option<Acce
     let mut last = None;
     for binding in live {
         if is_standing(home, now, binding) {
-            last = Some(*binding);
-        }
-    }
-    last
-}
-
-/// The last binding of a number that stands.
-fn last_under(home: Address, number: u8, now: Moment, live: &[Acceptance]) -> Option<Acceptance>
-    ensures { option_map binding_seen result ≡ last_where (stands_under home.0 number now.0) (map binding_seen live.now) }
-{
-    let mut last = None;
-    for binding in live {
-        if is_standing(home, now, binding) && binding.number == number {
             last = Some(*binding);
         }
     }
@@ -90,23 +77,6 @@ pub fn held(
 {
     match home_after(alloc, home, accepted)? {
         Some(kept) => Ok(careof_of(last_standing(home, now, &kept.live))),
-        None => Ok(None),
-    }
-}
-
-/// The care-of address that is held for a home under a number.
-#[tactic(auto, unfolding(mip_binding::specs::Held::held_under))]
-pub fn held_under(
-    alloc: Global,
-    accepted: &[Acceptance],
-    home: Address,
-    number: u8,
-    now: Moment,
-) -> Result<Option<Address>, Memory>
-    ensures { IfOk result (λ o. address_seen o ≡ held_under (map acceptance_seen accepted.now) home.0 number now.0) }
-{
-    match home_after(alloc, home, accepted)? {
-        Some(kept) => Ok(careof_of(last_under(home, number, now, &kept.live))),
         None => Ok(None),
     }
 }

@@ -14,7 +14,7 @@ mod row;
 mod shown;
 
 pub use acceptance::Acceptance;
-pub use bound::{floor, held, held_under, holds};
+pub use bound::{floor, held, holds};
 pub use kept::kept_of;
 pub use laws::kept_is_as_known;
 pub use lived::accepted_by;

@@ -1,4 +1,0 @@
-mod bindings;
-mod hex;
-mod network;
-mod rules;
