@@ -34,11 +34,7 @@ pub(crate) struct Binding {
 fn unless_same(address: Address, source: Address) -> Option<Address>
     ensures { result ≡ unless_same address source }
 {
-    if address.0 == source.0 {
-        None
-    } else {
-        Some(address)
-    }
+    (address.0 != source.0).then_some(address)
 }
 
 /// The Binding Number by which a number is asked for: none asks for 0.
@@ -47,7 +43,7 @@ fn number_option(number: u8) -> Option<u8>
     ensures value { result ≡ number_option number }
     ensures few { IfSome result (λ n. n < 8) }
 {
-    if number == 0 { None } else { Some(number) }
+    (number != 0).then_some(number)
 }
 
 /// The head, with a Home Address option where the home address is not the source.
