@@ -108,16 +108,16 @@ roams_mobile s run link n = by (slice_get s.hosts n)
     by None e = absurd cc
     by (Some host) e = of_kind host.address host.kind e
 
-no_past : (hosts : List Host) (n : ℕ) → slice_index_or (map (λ (host : Host). let l : List (Stamped Step) = [] in l) hosts) n [] ≡ []
+pub no_past : (hosts : List Host) (n : ℕ) → slice_index_or (map (λ (host : Host). let l : List (Stamped Step) = [] in l) hosts) n [] ≡ []
 no_past [] n = refl
 no_past (host ∷ hosts) zero = refl
 no_past (host ∷ hosts) (suc n) = no_past hosts n
 
-known_fresh : (serves : List Address) → known serves [] ≡ fresh serves
+pub known_fresh : (serves : List Address) → known serves [] ≡ fresh serves
 unfolding known
 known_fresh serves = refl
 
-stands_here : (serves : List Address) (past : List (Stamped Step)) → Stands serves past (known serves past)
+pub stands_here : (serves : List Address) (past : List (Stamped Step)) → Stands serves past (known serves past)
 unfolding known StandsBy
 stands_here serves past = refl
 

@@ -11,3 +11,4 @@ pub mod Telling
 pub mod AgentWalk
 pub mod EndsTold
 pub mod AgentsHeard
+pub mod PlansKept

@@ -10,3 +10,4 @@ pub mod Planning
 pub mod Due
 pub mod Hearing
 pub mod HearingLaws
+pub mod PlanningLaws

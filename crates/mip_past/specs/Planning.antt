@@ -1,12 +1,14 @@
 -- The prefix plan that an agent keeps. A plan leaves no entry, so it is asked of the events of the schedule that have begun. RFC 6275
 -- section 10.6
-use Rattle.std.specs.Prelude.{ℕ, ◌+◌, min, List, fold, ◌==◌, if◌then◌else◌}
+use Rattle.std.specs.Prelude.{ℕ, ◌+◌, min, List, [], ◌∷◌, fold, ◌==◌, nat_le, if◌then◌else◌}
 use Rattle.mip_words.specs.declared.moment.Moment.{Moment}
 use Rattle.mip_discovery.specs.declared.plan.PrefixPlan.{PrefixPlan}
 use Rattle.mip_schedule.specs.EventTimes.{wait_of}
 use Rattle.mip_schedule.specs.declared.event.Event.{Event}
 use Rattle.mip_schedule.specs.declared.event.Event.TheVariants as events
 use Rattle.mip_past.specs.declared.planned.Planned.{Planned}
+use Rattle.mip_past.specs.declared.past.Past.{Past}
+use Rattle.mip_past.specs.Asking.{moment_at}
 
 -- lifetimes that never fall
 abbrev pub endless_since : Moment → PrefixPlan
@@ -32,3 +34,12 @@ unplanned start = record { at = start; plan = endless_since start }
 -- the moment and the plan behind these events
 abbrev pub plan_told : (start : Moment) → (g : ℕ) → List Event → Planned
 plan_told start g begun = fold (planned start g) (unplanned start) begun
+
+-- the events up to the end of a moment: those before the wait that passes it
+abbrev pub begun_from : (at : Moment) → (now : ℕ) → List Event → List Event
+begun_from at now [] = []
+begun_from at now (e ∷ es) =
+    if nat_le (moment_behind at (wait_of e)).0 now then e ∷ begun_from (moment_behind at (wait_of e)) now es else []
+
+abbrev pub begun_at : Past → List Event → List Event
+begun_at p events = begun_from p.start (moment_at p) events

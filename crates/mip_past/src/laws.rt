@@ -8,6 +8,7 @@ ghost use Rattle.mip_schedule.specs.declared.event.Event.{Event};
 ghost use Rattle.mip_history.specs.Setup.{Setup};
 ghost use Rattle.mip_past.specs.AsAsked.{IsFront, IsPermittedFront, AreKeepersAsAsked, AreAgentsAsAsked, AreMobilesAsAsked, IsHolderFound, IsHeldBound, AreRegistered};
 ghost use Rattle.mip_past.specs.HearingLaws.{AreListedAsAsked};
+ghost use Rattle.mip_past.specs.PlanningLaws.{ArePlansAsAsked};
 ghost use Rattle.mip_past.specs.OneNumber.{IsOfTheLast};
 ghost use Rattle.mip_past.specs.Sending.{IsAway, IsReadAsSent};
 
@@ -34,6 +35,12 @@ pub fn agents_are_as_asked()
 /// The other agents that an agent is asked for there are those that it knows of and that are live, in their order.
 pub fn listed_agents_are_as_asked()
     ensures { (c : Content) (k : ℕ) → AreListedAsAsked c k }
+{}
+
+/// The prefix plan that is asked of the events that have begun is the one that an agent keeps, and leaves the same seconds; before the
+/// first plan of its life lifetimes never fall, and are asked since the start where the agent counts them from 0.
+pub fn plans_are_as_asked()
+    ensures { (s : Setup) (events : List Event) (k : ℕ) → ArePlansAsAsked s events k }
 {}
 
 /// What is asked of a mobile there is what it knows: the address that it uses, the agent with which it is registered, and whether

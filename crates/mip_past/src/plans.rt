@@ -1,8 +1,8 @@
 //! The prefix plan of an agent.
 
-ghost use Rattle.std.specs.Prelude.{◌≡◌};
+ghost use Rattle.std.specs.Prelude.{◌≡◌, take};
 ghost use Rattle.mip_schedule.specs.EventTimes.{wait_of};
-ghost use Rattle.mip_past.specs.Planning.{endless_since, moment_behind, plan_behind, planned, plan_told};
+ghost use Rattle.mip_past.specs.Planning.{endless_since, moment_behind, plan_behind, planned, plan_told, begun_from, begun_at};
 
 use crate::past::Past;
 use crate::planned::Planned;
@@ -81,7 +81,35 @@ fn plan_told(start: Moment, agent: NodeId, begun: &[Event]) -> Planned
     told
 }
 
+/// The events up to the end of a moment: those before the wait that passes it.
+fn begun_from(at: Moment, now: Moment, events: &[Event]) -> usize
+    ensures { take result events.now ≡ begun_from at now.0 events.now }
+{
+    let mut at = at;
+    let mut count = 0;
+    for event in events {
+        let next = moment_behind(at, wait_of(event));
+        if next.0 > now.0 {
+            return count;
+        }
+        at = next;
+        count += 1;
+    }
+    count
+}
+
 impl Past<'_> {
+    /// The events of the schedule up to the end of the moment, since not every event leaves an entry.
+    pub fn begun<'e>(&self, events: &'e [Event]) -> &'e [Event]
+        ensures { result.now ≡ begun_at self.now events.now }
+    {
+        let count = begun_from(self.start, self.moment(), events);
+        match events.get(..count) {
+            Some(begun) => begun,
+            None => events,
+        }
+    }
+
     /// The prefix plan that an agent keeps, behind the events of the schedule that have begun: a plan leaves no entry. Before the
     /// first plan of its present life it has lifetimes that never fall, from the start on (RFC 6275 section 10.6).
     pub fn plan_of(&self, agent: NodeId, begun: &[Event]) -> PrefixPlan

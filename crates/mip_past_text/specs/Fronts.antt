@@ -1,6 +1,6 @@
--- What a past is of: the entries before a place, and the moment before the first.
-use Rattle.mip_past.specs.declared.past.Past.{Past}
+-- What a scene is of: the version and the events of the schedule, the entries before a place, and the moment before the first.
+use Rattle.mip_past_text.specs.declared.scene.Scene.{Scene}
 use Rattle.mip_past_text.specs.Text.{Front}
 
-abbrev pub front_of : Past → Front
-front_of p = record { start = p.start.0; past = p.entries.now }
+abbrev pub front_of : Scene → Front
+front_of s = record { version = s.version; start = s.past.start.0; events = s.events.now; past = s.past.entries.now }

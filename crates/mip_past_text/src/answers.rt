@@ -1,10 +1,11 @@
 //! Lines of questions with their answers.
 
-ghost use Rattle.std.specs.Prelude.{◌≡◌, ◌++◌, ◌∷◌, [], OnOk, codes};
+ghost use Rattle.std.specs.Prelude.{◌≡◌, ◌++◌, ◌∷◌, [], OnOk, codes, decimal};
 ghost use Rattle.mip_lines.specs.HexFields.{address_hex};
 ghost use Rattle.mip_lines.specs.Lines.{line_text};
-ghost use Rattle.mip_past_text.specs.Text.{address_answer, line_if, moment_answer, number_answer, standing_answer, yes_or_no};
+ghost use Rattle.mip_past_text.specs.Text.{address_answer, line_if, moment_answer, number_answer, plan_line, standing_answer, yes_or_no};
 
+use mip_discovery::PrefixPlan;
 use mip_lines::{put_line, put_number};
 use mip_rules_mobile::Attachment;
 use mip_words::{Address, Bytes, Memory, Moment};
@@ -38,6 +39,43 @@ pub fn put_address_if(
         Some(address) => put_line(out, &[question, node, &address.digits()]),
         None => Ok(()),
     }
+}
+
+/// Appends `QUESTION NODE ANSWER`, by a number.
+pub fn put_count(
+    alloc: Global,
+    out: &mut Bytes,
+    question: &[u8],
+    node: &[u8],
+    answer: u8,
+) -> Result<(), Memory>
+    ensures { OnOk result (out.new ≡ out.old ++ line_text (question.now ∷ node.now ∷ decimal answer ∷ [])) }
+{
+    let mut digits = Bytes::new(alloc);
+    put_number(&mut digits, answer as u64)?;
+    put_line(out, &[question, node, digits.as_slice()])
+}
+
+/// Appends `plan NODE VALID PREFERRED SINCE`.
+pub fn put_plan(alloc: Global, out: &mut Bytes, node: &[u8], plan: PrefixPlan) -> Result<(), Memory>
+    ensures { OnOk result (out.new ≡ out.old ++ plan_line node.now plan) }
+{
+    let mut valid = Bytes::new(alloc);
+    put_number(&mut valid, plan.valid as u64)?;
+    let mut preferred = Bytes::new(alloc);
+    put_number(&mut preferred, plan.preferred as u64)?;
+    let mut since = Bytes::new(alloc);
+    put_number(&mut since, plan.since.0)?;
+    put_line(
+        out,
+        &[
+            b"plan",
+            node,
+            valid.as_slice(),
+            preferred.as_slice(),
+            since.as_slice(),
+        ],
+    )
 }
 
 /// Appends `standing NODE ANSWER`.

@@ -1,11 +1,9 @@
-use mip_past::Past;
-use mip_symbols::Declaration;
+use crate::scene::Scene;
 use mip_words::NodeId;
 
-/// Whom questions are about, at a place of a history; the declarations name the nodes.
+/// Whom questions are about, at a place of a history.
 #[derive(Clone, Copy)]
 pub struct Inquiry<'a> {
-    pub declarations: &'a [Declaration],
-    pub past: Past<'a>,
+    pub scene: Scene<'a>,
     pub node: NodeId,
 }

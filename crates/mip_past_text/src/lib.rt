@@ -3,8 +3,12 @@
 
 mod answers;
 mod inquiry;
+mod roles;
+mod scene;
 mod subjects;
 mod text;
 mod topic;
+mod unders;
 
+pub use scene::Scene;
 pub use text::known;

@@ -6,20 +6,22 @@ ghost use Rattle.mip_symbols.specs.Places.{AreFew};
 ghost use Rattle.mip_past_text.specs.Subjects.{last_named};
 ghost use Rattle.mip_past_text.specs.Fronts.{front_of};
 ghost use Rattle.mip_past_text.specs.declared.topic.Topic.TheVariants as topics;
-ghost use Rattle.mip_past_text.specs.Text.{registered_line, until_line, sequence_line, topic_text, topic_texts, due_lines, due_text, about_text, node_known, nodes_known, known_of, known_text};
+ghost use Rattle.mip_past_text.specs.Text.{registered_line, until_line, sequence_line, topic_text, topic_texts, due_lines, due_text, about_text, rest_text, node_known, nodes_known, known_of, known_text};
 
 use crate::answers::{
     put_address, put_address_if, put_address_of, put_moment_of, put_number_of, put_standing,
     put_whether,
 };
 use crate::inquiry::Inquiry;
+use crate::roles::{put_agent, put_mobile};
+use crate::scene::Scene;
 use crate::subjects::{is_named, subject};
 use crate::topic::Topic;
+use crate::unders::put_unders;
 use mip_entries::Entry;
 use mip_lines::{put_line, put_number};
-use mip_past::Past;
 use mip_rules_agent::Ending;
-use mip_symbols::{Declaration, Sort, count, node_name};
+use mip_symbols::{Sort, count, node_name};
 use mip_words::{Address, Bytes, Memory, Moment, NodeId};
 use std::alloc::Global;
 
@@ -30,20 +32,27 @@ fn put_binding(
     asked: Inquiry<'_>,
     home: Address,
 ) -> Result<(), Memory>
-    ensures { OnOk result (out.new ≡ out.old ++ topic_text asked.entry.declarations.now (front_of asked.entry.past) asked.entry.node topics.Binding home) }
+    ensures { OnOk result (out.new ≡ out.old ++ topic_text asked.entry.scene.declarations.now (front_of asked.entry.scene) asked.entry.node topics.Binding home) }
 {
-    let name = node_name(asked.declarations, asked.node);
-    put_address_of(out, b"held", name, home, asked.past.held(asked.node, home))?;
-    let floor = asked.past.floor(asked.node, home);
-    put_number_of(alloc, out, b"floor", name, home, floor)
+    let name = node_name(asked.scene.declarations, asked.node);
+    put_address_of(
+        out,
+        b"held",
+        name,
+        home,
+        asked.scene.past.held(asked.node, home),
+    )?;
+    let floor = asked.scene.past.floor(asked.node, home);
+    put_number_of(alloc, out, b"floor", name, home, floor)?;
+    put_unders(alloc, out, asked, home)
 }
 
 /// Appends where an agent has registered a home.
 fn put_registered(out: &mut Bytes, asked: Inquiry<'_>, home: Address) -> Result<(), Memory>
-    ensures { OnOk result (out.new ≡ out.old ++ registered_line asked.entry.declarations.now (front_of asked.entry.past) asked.entry.node home) }
+    ensures { OnOk result (out.new ≡ out.old ++ registered_line asked.entry.scene.declarations.now (front_of asked.entry.scene) asked.entry.node home) }
 {
-    let name = node_name(asked.declarations, asked.node);
-    let careof = asked.past.registered_careof(asked.node, home);
+    let name = node_name(asked.scene.declarations, asked.node);
+    let careof = asked.scene.past.registered_careof(asked.node, home);
     put_address_of(out, b"registered", name, home, careof)
 }
 
@@ -54,10 +63,10 @@ fn put_until(
     asked: Inquiry<'_>,
     home: Address,
 ) -> Result<(), Memory>
-    ensures { OnOk result (out.new ≡ out.old ++ until_line asked.entry.declarations.now (front_of asked.entry.past) asked.entry.node home) }
+    ensures { OnOk result (out.new ≡ out.old ++ until_line asked.entry.scene.declarations.now (front_of asked.entry.scene) asked.entry.node home) }
 {
-    let name = node_name(asked.declarations, asked.node);
-    let until = asked.past.registered_until(asked.node, home);
+    let name = node_name(asked.scene.declarations, asked.node);
+    let until = asked.scene.past.registered_until(asked.node, home);
     put_moment_of(alloc, out, b"until", name, home, until)
 }
 
@@ -68,10 +77,10 @@ fn put_sequence(
     asked: Inquiry<'_>,
     home: Address,
 ) -> Result<(), Memory>
-    ensures { OnOk result (out.new ≡ out.old ++ sequence_line asked.entry.declarations.now (front_of asked.entry.past) asked.entry.node home) }
+    ensures { OnOk result (out.new ≡ out.old ++ sequence_line asked.entry.scene.declarations.now (front_of asked.entry.scene) asked.entry.node home) }
 {
-    let name = node_name(asked.declarations, asked.node);
-    let sequence = asked.past.registered_sequence(asked.node, home);
+    let name = node_name(asked.scene.declarations, asked.node);
+    let sequence = asked.scene.past.registered_sequence(asked.node, home);
     put_number_of(alloc, out, b"sequence", name, home, sequence)
 }
 
@@ -82,7 +91,7 @@ fn put_registration(
     asked: Inquiry<'_>,
     home: Address,
 ) -> Result<(), Memory>
-    ensures { OnOk result (out.new ≡ out.old ++ topic_text asked.entry.declarations.now (front_of asked.entry.past) asked.entry.node topics.Registration home) }
+    ensures { OnOk result (out.new ≡ out.old ++ topic_text asked.entry.scene.declarations.now (front_of asked.entry.scene) asked.entry.node topics.Registration home) }
 {
     put_registered(out, asked, home)?;
     put_until(alloc, out, asked, home)?;
@@ -91,10 +100,10 @@ fn put_registration(
 
 /// Appends what was known about a peer that bound the mobile.
 fn put_peer(out: &mut Bytes, asked: Inquiry<'_>, peer: Address) -> Result<(), Memory>
-    ensures { OnOk result (out.new ≡ out.old ++ topic_text asked.entry.declarations.now (front_of asked.entry.past) asked.entry.node topics.Peer peer) }
+    ensures { OnOk result (out.new ≡ out.old ++ topic_text asked.entry.scene.declarations.now (front_of asked.entry.scene) asked.entry.node topics.Peer peer) }
 {
-    let name = node_name(asked.declarations, asked.node);
-    let bound = asked.past.is_bound(asked.node, peer);
+    let name = node_name(asked.scene.declarations, asked.node);
+    let bound = asked.scene.past.is_bound(asked.node, peer);
     put_whether(out, b"bound", name, peer, bound)
 }
 
@@ -106,7 +115,7 @@ fn put_topic(
     topic: Topic,
     address: Address,
 ) -> Result<(), Memory>
-    ensures { OnOk result (out.new ≡ out.old ++ topic_text asked.entry.declarations.now (front_of asked.entry.past) asked.entry.node topic address) }
+    ensures { OnOk result (out.new ≡ out.old ++ topic_text asked.entry.scene.declarations.now (front_of asked.entry.scene) asked.entry.node topic address) }
 {
     match topic {
         Topic::Binding => put_binding(alloc, out, asked, address),
@@ -125,7 +134,7 @@ fn put_last_named(
     later: &[Entry],
 ) -> Result<(), Memory>
     ensures { OnOk result (out.new ≡ out.old
-        ++ last_named topic asked.entry.node.0 (topic_text asked.entry.declarations.now (front_of asked.entry.past) asked.entry.node topic) named later.now) }
+        ++ last_named topic asked.entry.node.0 (topic_text asked.entry.scene.declarations.now (front_of asked.entry.scene) asked.entry.node topic) named later.now) }
 {
     let Some(address) = named else {
         return Ok(());
@@ -144,9 +153,9 @@ fn put_topics(
     asked: Inquiry<'_>,
     topic: Topic,
 ) -> Result<(), Memory>
-    ensures { OnOk result (out.new ≡ out.old ++ topic_texts asked.entry.declarations.now (front_of asked.entry.past) asked.entry.node topic) }
+    ensures { OnOk result (out.new ≡ out.old ++ topic_texts asked.entry.scene.declarations.now (front_of asked.entry.scene) asked.entry.node topic) }
 {
-    let mut entries = asked.past.entries;
+    let mut entries = asked.scene.past.entries;
     while let Some((entry, later)) = entries.split_first() {
         let named = subject(topic, asked.node, entry);
         put_last_named(alloc, out, asked, topic, named, later)?;
@@ -163,9 +172,9 @@ fn put_ends(
     asked: Inquiry<'_>,
     ends: &[Ending],
 ) -> Result<(), Memory>
-    ensures { OnOk result (out.new ≡ out.old ++ due_lines asked.entry.declarations.now asked.entry.node ends.now) }
+    ensures { OnOk result (out.new ≡ out.old ++ due_lines asked.entry.scene.declarations.now asked.entry.node ends.now) }
 {
-    let name = node_name(asked.declarations, asked.node);
+    let name = node_name(asked.scene.declarations, asked.node);
     for one in ends {
         put_moment_of(alloc, out, b"due", name, one.home, Some(one.end))?;
     }
@@ -174,15 +183,15 @@ fn put_ends(
 
 /// Appends the work that an agent has ahead.
 fn put_due(alloc: Global, out: &mut Bytes, asked: Inquiry<'_>) -> Result<(), Memory>
-    ensures { OnOk result (out.new ≡ out.old ++ due_text asked.entry.declarations.now (front_of asked.entry.past) asked.entry.node) }
+    ensures { OnOk result (out.new ≡ out.old ++ due_text asked.entry.scene.declarations.now (front_of asked.entry.scene) asked.entry.node) }
 {
-    let ends = asked.past.due_work(alloc, asked.node)?;
+    let ends = asked.scene.past.due_work(alloc, asked.node)?;
     put_ends(alloc, out, asked, &ends)
 }
 
 /// Appends what was known about the addresses that the entries name, and the work that an agent has ahead.
 fn put_about(alloc: Global, out: &mut Bytes, asked: Inquiry<'_>) -> Result<(), Memory>
-    ensures { OnOk result (out.new ≡ out.old ++ about_text asked.entry.declarations.now (front_of asked.entry.past) asked.entry.node) }
+    ensures { OnOk result (out.new ≡ out.old ++ about_text asked.entry.scene.declarations.now (front_of asked.entry.scene) asked.entry.node) }
 {
     put_topics(alloc, out, asked, Topic::Binding)?;
     put_topics(alloc, out, asked, Topic::Registration)?;
@@ -190,34 +199,36 @@ fn put_about(alloc: Global, out: &mut Bytes, asked: Inquiry<'_>) -> Result<(), M
     put_topics(alloc, out, asked, Topic::Peer)
 }
 
+/// Appends what is asked of a node of its kind, and about addresses.
+fn put_rest(alloc: Global, out: &mut Bytes, asked: Inquiry<'_>) -> Result<(), Memory>
+    ensures { OnOk result (out.new ≡ out.old ++ rest_text asked.entry.scene.declarations.now (front_of asked.entry.scene) asked.entry.node) }
+{
+    put_mobile(alloc, out, asked)?;
+    put_agent(alloc, out, asked)?;
+    put_about(alloc, out, asked)
+}
+
 /// Appends what was known of a node.
 #[tactic(auto, unfolding(crate::specs::Text::node_known))]
 fn put_node(alloc: Global, out: &mut Bytes, asked: Inquiry<'_>) -> Result<(), Memory>
-    ensures { OnOk result (out.new ≡ out.old ++ node_known asked.entry.declarations.now (front_of asked.entry.past) asked.entry.node) }
+    ensures { OnOk result (out.new ≡ out.old ++ node_known asked.entry.scene.declarations.now (front_of asked.entry.scene) asked.entry.node) }
 {
-    let name = node_name(asked.declarations, asked.node);
-    put_address(out, b"present", name, asked.past.present(asked.node))?;
-    put_standing(out, name, asked.past.standing(asked.node))?;
-    put_address(out, b"agent", name, asked.past.agent(asked.node))?;
-    put_address_if(out, b"through", name, asked.past.agent_of(asked.node))?;
-    put_about(alloc, out, asked)
+    let name = node_name(asked.scene.declarations, asked.node);
+    put_address(out, b"present", name, asked.scene.past.present(asked.node))?;
+    put_standing(out, name, asked.scene.past.standing(asked.node))?;
+    put_address(out, b"agent", name, asked.scene.past.agent(asked.node))?;
+    put_address_if(out, b"through", name, asked.scene.past.agent_of(asked.node))?;
+    put_rest(alloc, out, asked)
 }
 
 /// Appends what was known of the first so many nodes.
 #[tactic(auto, unfolding(crate::specs::Text::nodes_known))]
-fn put_nodes(
-    alloc: Global,
-    out: &mut Bytes,
-    declarations: &[Declaration],
-    past: Past<'_>,
-    nodes: u8,
-) -> Result<(), Memory>
-    ensures { OnOk result (out.new ≡ out.old ++ nodes_known declarations.now (front_of past.entry) nodes) }
+fn put_nodes(alloc: Global, out: &mut Bytes, scene: Scene<'_>, nodes: u8) -> Result<(), Memory>
+    ensures { OnOk result (out.new ≡ out.old ++ nodes_known scene.entry.declarations.now (front_of scene.entry) nodes) }
 {
     for number in 0..nodes {
         let asked = Inquiry {
-            declarations,
-            past,
+            scene,
             node: NodeId(number),
         };
         put_node(alloc, out, asked)?;
@@ -229,25 +240,17 @@ fn put_nodes(
 fn put_known(
     alloc: Global,
     out: &mut Bytes,
-    declarations: &[Declaration],
-    past: Past<'_>,
+    scene: Scene<'_>,
     node: Option<NodeId>,
 ) -> Result<(), Memory>
-    requires { AreFew declarations.now }
-    ensures { OnOk result (out.new ≡ out.old ++ known_of declarations.now (front_of past.entry) node) }
+    requires { AreFew scene.declarations.now }
+    ensures { OnOk result (out.new ≡ out.old ++ known_of scene.entry.declarations.now (front_of scene.entry) node) }
 {
     match node {
-        Some(node) => {
-            let asked = Inquiry {
-                declarations,
-                past,
-                node,
-            };
-            put_node(alloc, out, asked)
-        }
+        Some(node) => put_node(alloc, out, Inquiry { scene, node }),
         None => {
-            let nodes = count(declarations, Sort::Node) as u8;
-            put_nodes(alloc, out, declarations, past, nodes)
+            let nodes = count(scene.declarations, Sort::Node) as u8;
+            put_nodes(alloc, out, scene, nodes)
         }
     }
 }
@@ -261,20 +264,15 @@ fn put_moment(alloc: Global, out: &mut Bytes, moment: Moment) -> Result<(), Memo
     put_line(out, &[b"at", digits.as_slice()])
 }
 
-/// What was known at a place of the history of a schedule with these declarations: the moment, and then a line a question, of
-/// one node, or of each in the order of declaration.
+/// What was known at a place of the history of a schedule: the moment, and then a line a question, of one node, or of each in the
+/// order of declaration.
 #[tactic(auto, unfolding(crate::specs::Text::known_text))]
-pub fn known(
-    alloc: Global,
-    declarations: &[Declaration],
-    past: Past<'_>,
-    node: Option<NodeId>,
-) -> Result<Bytes, Memory>
-    requires { AreFew declarations.now }
-    ensures { IfOk result (λ text. text ≡ known_text declarations.now (front_of past.entry) node) }
+pub fn known(alloc: Global, scene: Scene<'_>, node: Option<NodeId>) -> Result<Bytes, Memory>
+    requires { AreFew scene.declarations.now }
+    ensures { IfOk result (λ text. text ≡ known_text scene.entry.declarations.now (front_of scene.entry) node) }
 {
     let mut text = Bytes::new(alloc);
-    put_moment(alloc, &mut text, past.moment())?;
-    put_known(alloc, &mut text, declarations, past, node)?;
+    put_moment(alloc, &mut text, scene.past.moment())?;
+    put_known(alloc, &mut text, scene, node)?;
     Ok(text)
 }

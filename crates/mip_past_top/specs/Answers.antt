@@ -20,7 +20,7 @@ usage_answer = record { status = 1; text = codes "usage: mip-past LINE [NODE]" +
 
 -- the history of a schedule before the place
 abbrev pub front_at : Content → ℕ → Front
-front_at c line = record { start = c.start.0; past = take line (permitted c) }
+front_at c line = record { version = c.version; start = c.start.0; events = c.events; past = take line (permitted c) }
 
 abbrev pub known_answer : ℕ → Content → Option NodeId → Answer
 known_answer line c node = record { status = 0; text = known_text c.declarations (front_at c line) node }

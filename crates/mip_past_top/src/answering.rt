@@ -10,7 +10,7 @@ ghost use Rattle.mip_past_top.specs.Answers.{known_answer, named_answer, asked_a
 use crate::ask::Ask;
 use mip_audit::cut_trace;
 use mip_past::Past;
-use mip_past_text::known;
+use mip_past_text::{Scene, known};
 use mip_replay::replay;
 use mip_replies::{LIMIT, Reply, Status, audited, bad};
 use mip_schedule::{Schedule, ScheduleFault, few, read_schedule};
@@ -92,6 +92,12 @@ fn known_then(
     few(schedule);
     let history = replay(alloc, schedule)?;
     let past = Past::before(history.as_slice(), line as usize, schedule.start);
-    let text = known(alloc, schedule.declarations.as_slice(), past, node)?;
+    let scene = Scene {
+        version: schedule.version,
+        declarations: schedule.declarations.as_slice(),
+        events: schedule.events.as_slice(),
+        past,
+    };
+    let text = known(alloc, scene, node)?;
     Ok(Reply::whole(Status::OK, text))
 }
