@@ -43,8 +43,8 @@ pub fn plans_are_as_asked()
     ensures { (s : Setup) (events : List Event) (k : ℕ) → ArePlansAsAsked s events k }
 {}
 
-/// What is asked of a mobile there is what it knows: the address that it uses, the agent with which it is registered, and whether
-/// it has a binding with a peer. If it leaves there, it gives up the address that is asked; while it is registered, its agent for
+/// What is asked of a mobile there is what it knows: the address that it uses, the number of the bindings that it asks for, the agent
+/// with which it is registered, and whether it has a binding with a peer. If it leaves there, it gives up the address that is asked; while it is registered, its agent for
 /// tunnels is the one that is asked. Every other node uses its own address.
 pub fn mobiles_are_as_asked()
     ensures { (s : Setup) (events : List Event) (k : ℕ) → AreMobilesAsAsked s events k }
