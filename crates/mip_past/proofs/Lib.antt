@@ -13,3 +13,4 @@ pub mod EndsTold
 pub mod AgentsHeard
 pub mod PlansKept
 pub mod PlacesTold
+pub mod Premises
