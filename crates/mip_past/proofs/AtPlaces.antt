@@ -41,6 +41,7 @@ use Rattle.mip_past.specs.Registering.{last_sent_to}
 use Rattle.mip_past.proofs.Standing.{standing_is}
 use Rattle.mip_past.proofs.EndsTold.{due_as_told}
 use Rattle.mip_past.proofs.AgentsHeard.{agents_as_told}
+use Rattle.mip_past.proofs.PlacesTold.{number_as_told}
 use Rattle.mip_past.specs.Hearing.{router_of, agents_in}
 use Rattle.mip_past.specs.HearingLaws.{AreListedAsAsked}
 use Rattle.mip_past.proofs.Leaving.{leaves_is}
@@ -177,6 +178,7 @@ module _ (s : Setup) (events : List Event) (k : ℕ) where
           through = λ node registered.
               ap (λ (o : Option Address). option_or o (last_sent_to (run_at s events k).past n)) (registered_as_told s (take k events) n own agent is node (now_in s (run_at s events k)))
               ∙ first_alone (registered_agent known (now_in s (run_at s events k))) (last_sent_to (run_at s events k).past n) known.agent registered;
+          number = λ some. number_as_told s n own agent is some (take k events);
           bound = λ peer. bound_as_told s (take k events) n own agent is peer (now_in s (run_at s events k)) (omega arith);
         });
     others = λ n host is none.

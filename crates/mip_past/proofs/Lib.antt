@@ -12,3 +12,5 @@ pub mod AgentWalk
 pub mod EndsTold
 pub mod AgentsHeard
 pub mod PlansKept
+pub mod PlacesTold
+pub mod Premises

@@ -58,7 +58,7 @@ is_plan (calls.Plan valid preferred) = true
 is_plan _ = false
 
 -- time as it passes by events
-wait_same : (e : Event) → wait_of e ≡ waited_by e
+pub wait_same : (e : Event) → wait_of e ≡ waited_by e
 wait_same (events.Wait ms) = refl
 wait_same _ = refl
 
@@ -67,7 +67,7 @@ unfolding known
 fresh_plan serves = refl
 
 module _ (s : Setup) where
-  now_is : (es : List Event) → now_in s (run_of s es) ≡ s.start + sum_by waited_by es
+  pub now_is : (es : List Event) → now_in s (run_of s es) ≡ s.start + sum_by waited_by es
   now_is es = let p = run_passes s es in p.moment
 
   now_next : (front rest : List Event) → now_in s (run_of s (front ++ rest)) ≡ now_in s (run_of s front) + sum_by waited_by rest

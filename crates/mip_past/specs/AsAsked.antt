@@ -10,7 +10,7 @@ use Rattle.mip_rules_correspondent.specs.Questions.{held_of, holds_for, floor_of
 use Rattle.mip_rules_agent.specs.Known as agents
 use Rattle.mip_rules_agent.specs.Questions.{binding_of, if_standing, careof_at, kept_of, later_ends}
 use Rattle.mip_rules_mobile.specs.Known as mobiles
-use Rattle.mip_rules_mobile.specs.HomeQuestions.{home_of, registered_agent, agent_of}
+use Rattle.mip_rules_mobile.specs.HomeQuestions.{home_of, binding_number_of, registered_agent, agent_of}
 use Rattle.mip_rules_mobile.specs.MovingRules.{releases}
 use Rattle.mip_rules_mobile.specs.Steps.{Releases}
 use Rattle.mip_rules_mobile.specs.Transitions.{Transition, noted}
@@ -31,7 +31,7 @@ use Rattle.mip_history.specs.Bound.{accepted_by, held_in, held_under_in, floor_i
 use Rattle.mip_history.specs.Registered.{is_agent_at, registered_in, last_registration, IsRegistered}
 use Rattle.mip_history.specs.Told.{agent_in, is_bound_in}
 use Rattle.mip_history.specs.Found.{address_of}
-use Rattle.mip_past.specs.Asking.{present_told, standing_told, leaves_told, registered_until_in, is_registered_in}
+use Rattle.mip_past.specs.Asking.{present_told, standing_told, leaves_told, binding_number_told, registered_until_in, is_registered_in}
 use Rattle.mip_past.specs.Registering.{agent_of_told}
 use Rattle.mip_past.specs.Due.{due_work_in}
 use Rattle.mip_past.specs.Places.{run_at, place_at, front_at}
@@ -98,6 +98,7 @@ pub record MovesAsAsked (s : Setup) (past : List Entry) (n : ℕ) (own : Address
   pub leaves : (t : Transition) → home_of t.known ≡ own → releases known.standing (home_claim past n own) t ≡ released (leaves_told past n) t
   pub agent : ((o : ℕ) → n ≢ holder_outside o) → agent_in (moment_in s.start past) past n ≡ registered_agent known (moment_in s.start past)
   pub through : ((o : ℕ) → n ≢ holder_outside o) → is_some (registered_agent known (moment_in s.start past)) ≡ true → agent_of_told (moment_in s.start past) past n ≡ agent_of known (moment_in s.start past)
+  pub number : 1 ≤ s.numbers → binding_number_told s.numbers past n ≡ binding_number_of known
   pub bound : (peer : Address) → is_bound_in (moment_in s.start past) past n peer ≡ is_some (bound_row_of known (moment_in s.start past) peer)
 
 -- so it is of each mobile, and every other node uses its own address

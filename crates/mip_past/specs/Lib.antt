@@ -11,3 +11,4 @@ pub mod Due
 pub mod Hearing
 pub mod HearingLaws
 pub mod PlanningLaws
+pub mod MeetingLaws

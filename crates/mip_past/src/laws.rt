@@ -3,12 +3,15 @@
 
 ghost use Rattle.std.specs.Prelude.{ℕ, ◌<◌, List};
 ghost use Rattle.mip_words.specs.declared.address.Address.{Address};
+ghost use Rattle.mip_symbols.specs.Places.{AreFew};
 ghost use Rattle.mip_schedule.specs.Contents.{Content};
+ghost use Rattle.mip_schedule.specs.Lawful.{IsLawful};
 ghost use Rattle.mip_schedule.specs.declared.event.Event.{Event};
 ghost use Rattle.mip_history.specs.Setup.{Setup};
 ghost use Rattle.mip_past.specs.AsAsked.{IsFront, IsPermittedFront, AreKeepersAsAsked, AreAgentsAsAsked, AreMobilesAsAsked, IsHolderFound, IsHeldBound, AreRegistered};
 ghost use Rattle.mip_past.specs.HearingLaws.{AreListedAsAsked};
 ghost use Rattle.mip_past.specs.PlanningLaws.{ArePlansAsAsked};
+ghost use Rattle.mip_past.specs.MeetingLaws.{MeetsPremises};
 ghost use Rattle.mip_past.specs.OneNumber.{IsOfTheLast};
 ghost use Rattle.mip_past.specs.Sending.{IsAway, IsReadAsSent};
 
@@ -43,8 +46,8 @@ pub fn plans_are_as_asked()
     ensures { (s : Setup) (events : List Event) (k : ℕ) → ArePlansAsAsked s events k }
 {}
 
-/// What is asked of a mobile there is what it knows: the address that it uses, the agent with which it is registered, and whether
-/// it has a binding with a peer. If it leaves there, it gives up the address that is asked; while it is registered, its agent for
+/// What is asked of a mobile there is what it knows: the address that it uses, the number of the bindings that it asks for, the agent
+/// with which it is registered, and whether it has a binding with a peer. If it leaves there, it gives up the address that is asked; while it is registered, its agent for
 /// tunnels is the one that is asked. Every other node uses its own address.
 pub fn mobiles_are_as_asked()
     ensures { (s : Setup) (events : List Event) (k : ℕ) → AreMobilesAsAsked s events k }
@@ -75,4 +78,10 @@ pub fn one_number_leaves_the_last()
 /// told by the packets that were sent.
 pub fn home_registrations_are_read()
     ensures { (home careof agent : Address) (sequence : ℕ) → IsAway home careof agent → sequence < 65536 → IsReadAsSent home careof agent sequence }
+{}
+
+/// What these laws ask of a setup and of a run, each schedule has that was read: no two nodes have one address, a node's number is small
+/// and no outsider's, a home has a binding number at least, and no moment reaches 2 to the 62 ms.
+pub fn schedules_meet_the_premises()
+    ensures { (c : Content) → IsLawful c → AreFew c.declarations → MeetsPremises c }
 {}
