@@ -33,7 +33,7 @@ module _ (e : EngineSeen) (s : Setup) (run : Run) (k : ℕ) (keep : Bool) (at : 
       by true = at
       by false = at_left e s run k at
 
-  pool_is : in_pool e.net.flying e.net.posts k ≡ in_pool run.flying run.posts k
+  pub pool_is : in_pool e.net.flying e.net.posts k ≡ in_pool run.flying run.posts k
   pool_is = ap (λ (fs : List Bool). in_pool fs e.net.posts k) at.flying ∙ ap (λ (ps : List Post). in_pool run.flying ps k) at.posts
 
   -- it was not there
@@ -41,39 +41,44 @@ module _ (e : EngineSeen) (s : Setup) (run : Run) (k : ℕ) (keep : Bool) (at : 
   unfolding delivered
   delivered_none none = ap (arrived s k (lifted k keep run)) (sym pool_is ∙ map_none (arrival_of e.net) (in_pool e.net.flying e.net.posts k) none)
 
-  -- or it came somewhere
-  pub record IsCome (a : Arrival) : Type 0 where
-    pub post : Post
-    pub posted : slice_get (lifted k keep run).posts k ≡ Some post
-    pub shield : a.shield ≡ post.shield
-    pub became_is : became s k post (option_map (λ l. l.0) a.link) (lifted k keep run) (fate_of a.delivery) ≡ delivered s run k keep
+-- or it came somewhere
+pub record IsCome (e : EngineSeen) (k : ℕ) (a : Arrival) : Type 0 where
+  pub post : Post
+  pub pooled : in_pool e.net.flying e.net.posts k ≡ Some post
+  pub is : arrival_of e.net post ≡ arrival_seen a
+  pub posted : slice_get e.net.posts k ≡ Some post
+  pub shield : a.shield ≡ post.shield
 
-  pub comes : (a : Arrival) → Some (arrival_seen a) ≡ option_map (arrival_of e.net) (in_pool e.net.flying e.net.posts k) → IsCome a
-  unfolding delivered
-  comes a found =
-      let some = map_some (arrival_of e.net) (in_pool e.net.flying e.net.posts k) (arrival_seen a) (sym found) in
-      let post = some.0 in
-      let is = some.2 in
-      let pooled : in_pool run.flying run.posts k ≡ Some post = sym pool_is ∙ some.1 in
-      record {
-        post = post;
-        posted = posts keep ∙ in_pool_posted (slice_index_or run.flying k false) (slice_get run.posts k) post pooled;
-        shield = ap (λ (x : ArrivalSeen). x.shield) (sym is);
-        became_is =
-            ap (λ (l : Option ℕ). became s k post l (lifted k keep run) (fate_of a.delivery))
-            (ap (λ (x : ArrivalSeen). x.link) (sym is) ∙ ap (λ (q : Asked). other_link (link_of q.links (destination_in post.packet)) post.from) at.asked)
-            ∙ ap (λ (d : Fate). became s k post (arrival_link s post) (lifted k keep run) d)
-            (ap (λ (x : ArrivalSeen). x.delivery) (sym is) ∙ ap (λ (q : Asked). delivery q (Some post)) at.asked ∙ asked keep post)
-            ∙ ap (arrived s k (lifted k keep run)) (sym pooled);
-      }
-    where
-      posts : (b : Bool) → slice_get (lifted k b run).posts k ≡ slice_get run.posts k
-      posts true = refl
-      posts false = refl
+pub comes : (e : EngineSeen) (k : ℕ) (a : Arrival) → Some (arrival_seen a) ≡ option_map (arrival_of e.net) (in_pool e.net.flying e.net.posts k) → IsCome e k a
+comes e k a found =
+    let some = map_some (arrival_of e.net) (in_pool e.net.flying e.net.posts k) (arrival_seen a) (sym found) in
+    record {
+      post = some.0;
+      pooled = some.1;
+      is = some.2;
+      posted = in_pool_posted (slice_index_or e.net.flying k false) (slice_get e.net.posts k) some.0 some.1;
+      shield = ap (λ (x : ArrivalSeen). x.shield) (sym some.2);
+    }
 
-      asked : (b : Bool) (post : Post) → delivery (asked_in s run.past) (Some post) ≡ delivery (asked_in s (lifted k b run).past) (Some post)
-      asked true post = refl
-      asked false post = refl
+-- it was posted, whether it is kept or not
+pub still_posted : (e : EngineSeen) (k : ℕ) (keep : Bool) → slice_get (with_net (if keep then e.net else left e.net k) e).net.posts k ≡ slice_get e.net.posts k
+still_posted e k true = refl
+still_posted e k false = refl
+
+pub became_is : (e : EngineSeen) (s : Setup) (run : Run) (k : ℕ) (keep : Bool) → IsAt e s run → (a : Arrival) (come : IsCome e k a)
+    → became s k come.post (option_map (λ l. l.0) a.link) (lifted k keep run) (fate_of a.delivery) ≡ delivered s run k keep
+unfolding delivered
+became_is e s run k keep at a come =
+    let post = come.post in
+    ap (λ (l : Option ℕ). became s k post l (lifted k keep run) (fate_of a.delivery))
+    (ap (λ (x : ArrivalSeen). x.link) (sym come.is) ∙ ap (λ (q : Asked). other_link (link_of q.links (destination_in post.packet)) post.from) at.asked)
+    ∙ ap (λ (d : Fate). became s k post (arrival_link s post) (lifted k keep run) d)
+    (ap (λ (x : ArrivalSeen). x.delivery) (sym come.is) ∙ ap (λ (q : Asked). delivery q (Some post)) at.asked ∙ asked keep post)
+    ∙ ap (arrived s k (lifted k keep run)) (sym (sym (pool_is e s run k keep at) ∙ come.pooled))
+  where
+    asked : (b : Bool) (post : Post) → delivery (asked_in s run.past) (Some post) ≡ delivery (asked_in s (lifted k b run).past) (Some post)
+    asked true post = refl
+    asked false post = refl
 
 -- what does not stay idle was posted
 pub come_posted : (q : Asked) (flying : List Bool) (posts : List Post) (k : ℕ) → delivery q (in_pool flying posts k) ≢ Idle → k < length posts

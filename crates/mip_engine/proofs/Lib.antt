@@ -1,6 +1,7 @@
 pub mod QuietLaws
 pub mod ClaimLaws
 pub mod PostingLaws
+pub mod GoesLaws
 pub mod ItemLaws
 pub mod CalmLaws
 pub mod HomeLaws

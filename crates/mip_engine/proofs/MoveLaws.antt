@@ -11,7 +11,7 @@ use Rattle.mip_history.specs.Runs.{Run, note}
 use Rattle.mip_history.specs.Permitted.{moves, moves_if}
 use Rattle.mip_roles.specs.Nodes.{NodeSeen}
 use Rattle.mip_roles.specs.Roles.{is_roaming}
-use Rattle.mip_engine.specs.Engines.{EngineSeen}
+use Rattle.mip_engine.specs.Engines.{EngineSeen, stood, stood_by}
 use Rattle.mip_engine.specs.Standing.{IsAt, role_in, node_in}
 
 module _ (e : EngineSeen) (s : Setup) (run : Run) (at : IsAt e s run) (n : ℕ) where
@@ -32,3 +32,11 @@ moves_there s run n link is = sym (ap (λ (b : Bool). if b then moves s run n li
 
 pub stays_there : (s : Setup) (run : Run) (n : ℕ) (link : Option LinkId) → is_mobile_at s n ≡ false → note Idle run ≡ moves_if s run n link
 stays_there s run n link is = sym (ap (λ (b : Bool). if b then moves s run n link else note Idle run) is)
+
+-- to stand elsewhere gives nothing away
+pub stood_told : (n : ℕ) (spot : Option ℕ) (e : EngineSeen) → (let x = stood n spot e in x.told) ≡ e.told
+stood_told n spot e = by (slice_get e.nodes n)
+  where
+    by : (o : Option NodeSeen) → (let x = stood_by n spot e o in x.told) ≡ e.told
+    by None = refl
+    by (Some c) = refl

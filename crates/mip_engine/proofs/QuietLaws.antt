@@ -13,7 +13,7 @@ use Rattle.mip_entries.specs.declared.entry.Entry.TheVariants.{At, Moved, Claime
 use Rattle.mip_history.specs.Setup.{Setup, Host, Kind}
 use Rattle.mip_history.specs.Setup.Kind.{Correspondent as OfCorrespondent, Agent as OfAgent, Mobile as OfMobile}
 use Rattle.mip_history.specs.Runs.{Run, note}
-use Rattle.mip_links.specs.Table.{link_of}
+use Rattle.mip_links.specs.Table.{Asked, link_of}
 use Rattle.mip_provenance_index.specs.Stands.{number_posted}
 use Rattle.mip_recorder.specs.Packets.{number_reached}
 use Rattle.mip_roles.specs.RolesLaws.{is_apart}
@@ -163,6 +163,10 @@ at_is {e = e} {f = f} {s = s} {run = run} same at = subst (λ (x : EngineSeen). 
 
 pub at_run : {e : EngineSeen} {s : Setup} {run after : Run} → after ≡ run → IsAt e s run → IsAt e s after
 at_run {e = e} {s = s} {run = run} {after = after} same at = subst (λ (r : Run). IsAt e s r) (sym same) at
+
+-- the link of an address
+pub at_link : {e : EngineSeen} {s : Setup} {run : Run} → IsAt e s run → (a : ℕ) → link_of e.net.links a ≡ link_of s.links a
+at_link at a = ap (λ (q : Asked). link_of q.links a) at.asked
 
 -- where a call leaves this engine, and this engine stands for the run
 pub at_ok : {T E : Type 0} (r : Result T E) (after e : EngineSeen) (s : Setup) (run : Run) → OnOk r (after ≡ e) → IsAt e s run → OnOk r (IsAt after s run)

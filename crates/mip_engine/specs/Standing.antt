@@ -1,5 +1,5 @@
 -- An engine stands for a run: what it keeps is what is asked of the run.
-use Rattle.std.specs.Prelude.{◌≡◌, ℕ, List, length, option_map, slice_get}
+use Rattle.std.specs.Prelude.{◌≡◌, ℕ, List, length, option_map, slice_get, Result, OnOk}
 use Rattle.mip_words.specs.declared.address.Address.{Address}
 use Rattle.mip_links.specs.Nets.{asked_of, hears_of}
 use Rattle.mip_history.specs.Setup.{Setup, Host, Kind}
@@ -56,3 +56,13 @@ pub record IsOfRun (e : EngineSeen) : Type 0 where
   pub setup : Setup
   pub events : List Event
   pub stands : IsAt e setup (run_of setup events)
+
+-- an engine has become another one: of whichever run the first one stood for this was made, and nothing was given away
+pub record HasGone (old new : EngineSeen) (f : Setup → Run → Run) : Type 0 where
+  pub stands : (s : Setup) (run : Run) → IsAt old s run → IsAt new s (f s run)
+  pub kept : new.told ≡ old.told
+
+-- a call makes this of whichever run an engine stands for, and gives nothing away. Of an error nothing is said
+pub record Goes {A E : Type 0} (result : Result A E) (old new : EngineSeen) (f : Setup → Run → Run) : Type 0 where
+  pub stands : (s : Setup) (run : Run) → IsAt old s run → OnOk result (IsAt new s (f s run))
+  pub kept : OnOk result (new.told ≡ old.told)

@@ -1,15 +1,13 @@
 //! Nodes act: they do what they are asked, move, and show what they keep.
 
 ghost use Rattle.std.specs.Prelude.{◌≡◌, Some, None, OnOk, slice_get};
-ghost use Rattle.mip_history.specs.Setup.{Setup};
-ghost use Rattle.mip_history.specs.Runs.{Run};
 ghost use Rattle.mip_history.specs.Nodes.{acts, shown};
 ghost use Rattle.mip_history.specs.Permitted.{moves, moves_if};
 ghost use Rattle.mip_roles.specs.Calls.{asked, IsAskable};
 ghost use Rattle.mip_roles.specs.Nodes.{NodeSeen};
 ghost use Rattle.mip_roles.specs.Roles.{rows_of};
 ghost use Rattle.mip_engine.specs.Engines.{with_entries};
-ghost use Rattle.mip_engine.specs.Standing.{IsAt};
+ghost use Rattle.mip_engine.specs.Standing.{Goes};
 
 use crate::engine::Engine;
 use mip_entries::Entry;
@@ -21,8 +19,7 @@ impl Engine {
     /// A node is asked something, and does it.
     pub fn act(&mut self, alloc: Global, node: NodeId, call: Call<'_>) -> Result<(), Memory>
         requires { IsAskable call }
-        ensures stands { (s : Setup) (run : Run) → IsAt self.old s run → OnOk result (IsAt self.new s (acts s node.0 (asked call.entry) run)) }
-        ensures kept { OnOk result (self.new.told ≡ self.old.told) }
+        ensures { Goes result self.old self.new (λ s run. acts s node.0 (asked call.entry) run) }
     {
         let from = match self.station(node) {
             Some(from) => from,
@@ -39,8 +36,7 @@ impl Engine {
         node: NodeId,
         link: Option<LinkId>,
     ) -> Result<(), Memory>
-        ensures stands { (s : Setup) (run : Run) → IsAt self.old s run → OnOk result (IsAt self.new s (moves s run node.0 link)) }
-        ensures kept { OnOk result (self.new.told ≡ self.old.told) }
+        ensures { Goes result self.old self.new (λ s run. moves s run node.0 link) }
     {
         self.act(alloc, node, Call::Leave)?;
         self.stand(node, link);
@@ -54,8 +50,7 @@ impl Engine {
         node: NodeId,
         link: Option<LinkId>,
     ) -> Result<(), Memory>
-        ensures stands { (s : Setup) (run : Run) → IsAt self.old s run → OnOk result (IsAt self.new s (moves_if s run node.0 link)) }
-        ensures kept { OnOk result (self.new.told ≡ self.old.told) }
+        ensures { Goes result self.old self.new (λ s run. moves_if s run node.0 link) }
     {
         if self.is_roaming(node) {
             self.move_mobile(alloc, node, link)
@@ -80,8 +75,7 @@ impl Engine {
 
     /// The rows that a node keeps are shown.
     pub fn show(&mut self, node: NodeId) -> Result<(), Memory>
-        ensures stands { (s : Setup) (run : Run) → IsAt self.old s run → OnOk result (IsAt self.new s (shown s node.0 run)) }
-        ensures kept { OnOk result (self.new.told ≡ self.old.told) }
+        ensures { Goes result self.old self.new (λ s run. shown s node.0 run) }
     {
         match self.station(node) {
             Some(_) => self.show_rows(node),

@@ -1,13 +1,11 @@
 //! What a node answers, packet by packet and entry by entry.
 
-ghost use Rattle.std.specs.Prelude.{◌≡◌, ◌<◌, true, OnOk, option_copied, option_map};
+ghost use Rattle.std.specs.Prelude.{◌≡◌, ◌<◌, true, option_copied, option_map};
 ghost use Rattle.std.specs.List.{AllByRecursion};
-ghost use Rattle.mip_history.specs.Setup.{Setup};
-ghost use Rattle.mip_history.specs.Runs.{Run};
 ghost use Rattle.mip_history.specs.Nodes.{answered, answered_one, left_by};
 ghost use Rattle.mip_roles.specs.RolesLaws.{IsWhole, is_apart};
 ghost use Rattle.mip_engine.specs.Groups.{is_plain};
-ghost use Rattle.mip_engine.specs.Standing.{IsAt};
+ghost use Rattle.mip_engine.specs.Standing.{Goes};
 
 use crate::engine::Engine;
 use mip_entries::{Answer, Answers, Entry, Witness};
@@ -23,8 +21,7 @@ impl Engine {
     ) -> Result<(), Memory>
         requires plain { is_plain entry ≡ true }
         requires apart { is_apart entry ≡ true }
-        ensures stands { (s : Setup) (run : Run) → IsAt self.old s run → OnOk result (IsAt self.new s (left_by s node.0 run entry)) }
-        ensures kept { OnOk result (self.new.told ≡ self.old.told) }
+        ensures { Goes result self.old self.new (λ s run. left_by s node.0 run entry) }
     {
         let next = self.next();
         self.note_marked(entry.named(node, LinkId(0), next), witness)
@@ -39,8 +36,7 @@ impl Engine {
     ) -> Result<(), Memory>
         requires node { node.0 < 40 }
         requires apart { is_apart entry ≡ true }
-        ensures stands { (s : Setup) (run : Run) → IsAt self.old s run → OnOk result (IsAt self.new s (left_by s node.0 run entry)) }
-        ensures kept { OnOk result (self.new.told ≡ self.old.told) }
+        ensures { Goes result self.old self.new (λ s run. left_by s node.0 run entry) }
     {
         match entry {
             Entry::Claimed { address, .. } => self.claim(Holder::Node(node), address),
@@ -60,8 +56,7 @@ impl Engine {
     ) -> Result<(), Memory>
         requires whole { IsWhole answer }
         requires node { node.0 < 40 }
-        ensures stands { (s : Setup) (run : Run) → IsAt self.old s run → OnOk result (IsAt self.new s (answered_one s node.0 from.0 run answer)) }
-        ensures kept { OnOk result (self.new.told ≡ self.old.told) }
+        ensures { Goes result self.old self.new (λ s run. answered_one s node.0 from.0 run answer) }
     {
         match answer {
             Answer::Send { shield, packet } => self.send(node, from, shield, packet),
@@ -79,8 +74,7 @@ impl Engine {
     ) -> Result<(), Memory>
         requires whole { AllByRecursion IsWhole answers }
         requires node { node.0 < 40 }
-        ensures stands { (s : Setup) (run : Run) → IsAt self.old s run → OnOk result (IsAt self.new s (answered s node.0 from.0 run answers)) }
-        ensures kept { OnOk result (self.new.told ≡ self.old.told) }
+        ensures { Goes result self.old self.new (λ s run. answered s node.0 from.0 run answers) }
     {
         let mut answers = answers;
         let witness = answers.take_witness();

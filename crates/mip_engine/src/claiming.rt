@@ -1,17 +1,16 @@
 //! Addresses are claimed and given up, by nodes and by outsiders.
 
-ghost use Rattle.std.specs.Prelude.{◌≡◌, ◌==◌, ◌<◌, IfSome, None, Some, OnOk, option_map};
+ghost use Rattle.std.specs.Prelude.{◌≡◌, ◌==◌, ◌<◌, IfSome, None, Some, option_map};
 ghost use Rattle.mip_entries.specs.declared.entry.Entry.TheVariants.{Claimed};
 ghost use Rattle.mip_words.specs.Holders.{holder_number};
 ghost use Rattle.mip_links.specs.Nets.{refusal};
 ghost use Rattle.mip_links.specs.Table.{link_of};
-ghost use Rattle.mip_history.specs.Setup.{Setup};
-ghost use Rattle.mip_history.specs.Runs.{Run, note};
+ghost use Rattle.mip_history.specs.Runs.{note};
 ghost use Rattle.mip_history.specs.Questions.{holder_in};
 ghost use Rattle.mip_history.specs.Claims.{claim_entry, claims};
 ghost use Rattle.mip_history.specs.Homes.{given_up_on, gives_up, passes_to};
 ghost use Rattle.mip_engine.specs.Engines.{IsFree, resident_of};
-ghost use Rattle.mip_engine.specs.Standing.{IsAt};
+ghost use Rattle.mip_engine.specs.Standing.{Goes};
 
 use crate::engine::Engine;
 use mip_entries::Entry;
@@ -32,10 +31,7 @@ impl Engine {
     fn claim_on(&mut self, who: Holder, link: LinkId, address: Address) -> Result<(), Memory>
         requires who { holder_number who < 40 }
         requires link { link_of self.old.net.links address.0 ≡ Some link.0 }
-        ensures stands { (s : Setup) (run : Run) → IsAt self.old s run
-            → link_of self.old.net.links address.0 ≡ Some link.0
-            → OnOk result (IsAt self.new s (note (claim_entry (holder_number who) address link.0 (holder_in run.past address.0)) run)) }
-        ensures kept { OnOk result (self.new.told ≡ self.old.told) }
+        ensures { Goes result self.old self.new (λ s run. note (claim_entry (holder_number who) address link.0 (holder_in run.past address.0)) run) }
     {
         let entry = self.take_claim(who, link, address)?;
         self.note(entry)
@@ -44,8 +40,7 @@ impl Engine {
     /// Somebody claims an address, and has it unless somebody else does.
     pub fn claim(&mut self, who: Holder, address: Address) -> Result<(), Memory>
         requires { holder_number who < 40 }
-        ensures stands { (s : Setup) (run : Run) → IsAt self.old s run → OnOk result (IsAt self.new s (claims s (holder_number who) address run)) }
-        ensures kept { OnOk result (self.new.told ≡ self.old.told) }
+        ensures { Goes result self.old self.new (λ s run. claims s (holder_number who) address run) }
     {
         match self.link_of(address) {
             Some(link) => self.claim_on(who, link, address),
@@ -71,8 +66,7 @@ impl Engine {
     pub(crate) fn hold(&mut self, who: Holder, link: LinkId, address: Address) -> Result<(), Memory>
         requires who { holder_number who < 40 }
         requires free { refusal self.old.net (holder_number who) address.0 ≡ None }
-        ensures stands { (s : Setup) (run : Run) → IsAt self.old s run → OnOk result (IsAt self.new s (note (Claimed (holder_number who) link address) run)) }
-        ensures kept { OnOk result (self.new.told ≡ self.old.told) }
+        ensures { Goes result self.old self.new (λ s run. note (Claimed (holder_number who) link address) run) }
     {
         self.take_free(who, address)?;
         let who = who.number();
@@ -82,9 +76,7 @@ impl Engine {
     /// A home address that was given up is its mobile's from here on, where that is at home.
     fn pass_on(&mut self, who: Holder, link: LinkId, address: Address) -> Result<(), Memory>
         requires free { IsFree self.old.net address.0 }
-        ensures stands { (s : Setup) (run : Run) → IsAt self.old s run
-            → OnOk result (IsAt self.new s (passes_to (holder_number who) address link.0 run (resident_of self.old.nodes address.0))) }
-        ensures kept { OnOk result (self.new.told ≡ self.old.told) }
+        ensures { Goes result self.old self.new (λ s run. passes_to (holder_number who) address link.0 run (resident_of self.old.nodes address.0)) }
     {
         let Some(node) = self.resident(address) else {
             return Ok(());
@@ -97,9 +89,7 @@ impl Engine {
 
     fn give_up_on(&mut self, who: Holder, link: LinkId, address: Address) -> Result<(), Memory>
         requires { link_of self.old.net.links address.0 ≡ Some link.0 }
-        ensures stands { (s : Setup) (run : Run) → IsAt self.old s run
-            → OnOk result (IsAt self.new s (given_up_on s (holder_number who) address run (Some link.0))) }
-        ensures kept { OnOk result (self.new.told ≡ self.old.told) }
+        ensures { Goes result self.old self.new (λ s run. given_up_on s (holder_number who) address run (Some link.0)) }
     {
         if self.release(who, address) {
             self.note(Entry::Released {
@@ -114,8 +104,7 @@ impl Engine {
 
     /// Somebody gives an address up, if it holds it. A home address passes to its mobile, where that is at home.
     pub fn give_up(&mut self, who: Holder, address: Address) -> Result<(), Memory>
-        ensures stands { (s : Setup) (run : Run) → IsAt self.old s run → OnOk result (IsAt self.new s (gives_up s (holder_number who) address run)) }
-        ensures kept { OnOk result (self.new.told ≡ self.old.told) }
+        ensures { Goes result self.old self.new (λ s run. gives_up s (holder_number who) address run) }
     {
         match self.link_of(address) {
             Some(link) => self.give_up_on(who, link, address),

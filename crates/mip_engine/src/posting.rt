@@ -2,12 +2,10 @@
 
 ghost use Rattle.std.specs.Prelude.{◌≡◌, ◌<◌, ◌≤◌, [], ◌∷◌, length, if◌then◌else◌, None, Some, is_some, OnOk};
 ghost use Rattle.mip_entries.specs.declared.entry.Entry.TheVariants.{Heard, Sent};
-ghost use Rattle.mip_history.specs.Setup.{Setup};
-ghost use Rattle.mip_history.specs.Runs.{Run};
 ghost use Rattle.mip_history.specs.Posting.{heards, is_other, overheard, posted};
 ghost use Rattle.mip_history.specs.Outsiders.{injected};
 ghost use Rattle.mip_engine.specs.Engines.{with_entries, ears_of};
-ghost use Rattle.mip_engine.specs.Standing.{IsAt};
+ghost use Rattle.mip_engine.specs.Standing.{Goes};
 
 use crate::engine::Engine;
 use mip_entries::Entry;
@@ -61,8 +59,7 @@ impl Engine {
         number: u64,
     ) -> Result<(), Memory>
         requires { number < length self.old.net.posts }
-        ensures stands { (s : Setup) (run : Run) → IsAt self.old s run → OnOk result (IsAt self.new s (overheard s link.0 shield except number run)) }
-        ensures kept { OnOk result (self.new.told ≡ self.old.told) }
+        ensures { Goes result self.old self.new (λ s run. overheard s link.0 shield except number run) }
     {
         if shield.is_some() {
             return Ok(());
@@ -79,9 +76,8 @@ impl Engine {
         packet: Bytes,
     ) -> Result<(), Memory>
         requires { 40 ≤ length packet }
-        ensures stands { (s : Setup) (run : Run) → IsAt self.old s run
-            → OnOk result (IsAt self.new s (posted s (record { from = from.0; shield = shield; packet = packet }) None (Sent (length run.posts) node (is_some shield) packet) run)) }
-        ensures kept { OnOk result (self.new.told ≡ self.old.told) }
+        ensures { Goes result self.old self.new
+            (λ s run. posted s (record { from = from.0; shield = shield; packet = packet }) None (Sent (length run.posts) node (is_some shield) packet) run) }
     {
         let number = self.post(from, shield, packet.as_slice())?;
         self.note(Entry::Sent {
@@ -102,8 +98,7 @@ impl Engine {
         packet: &[u8],
     ) -> Result<(), Memory>
         requires { 40 ≤ length packet.now }
-        ensures stands { (s : Setup) (run : Run) → IsAt self.old s run → OnOk result (IsAt self.new s (injected s run outsider link.0 packet.now)) }
-        ensures kept { OnOk result (self.new.told ≡ self.old.told) }
+        ensures { Goes result self.old self.new (λ s run. injected s run outsider link.0 packet.now) }
     {
         let number = self.post(link, None, packet)?;
         let packet = Bytes::copy(alloc, packet)?;

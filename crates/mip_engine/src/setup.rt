@@ -5,7 +5,7 @@ ghost use Rattle.std.specs.List.{list_any};
 ghost use Rattle.mip_words.specs.declared.address.Address.{Address};
 ghost use Rattle.mip_links.specs.Table.{link_of};
 ghost use Rattle.mip_history.specs.Setup.{Setup, Host, links_in, outsiders_in, setup_of};
-ghost use Rattle.mip_history.specs.Runs.{Run, note};
+ghost use Rattle.mip_history.specs.Runs.{note};
 ghost use Rattle.mip_history.specs.Permitted.{opened, claimed_entry, is_same_link, is_agent_on};
 ghost use Rattle.mip_roles.specs.Hosts.{IsFit};
 ghost use Rattle.mip_schedule.specs.Lawful.{IsLawful};
@@ -13,7 +13,7 @@ ghost use Rattle.mip_symbols.specs.Places.{AreFew};
 ghost use Rattle.mip_schedule.specs.Schedules.{content};
 ghost use Rattle.mip_engine.specs.Engines.{IsFree, new_engine};
 ghost use Rattle.mip_engine.specs.Joining.{ArePlaced, hosts_of, anycast_for};
-ghost use Rattle.mip_engine.specs.Standing.{IsAt};
+ghost use Rattle.mip_engine.specs.Standing.{IsAt, Goes};
 ghost use Rattle.mip_engine.specs.Openings.{with_hosts, CanShare};
 
 use crate::engine::Engine;
@@ -117,8 +117,7 @@ impl Engine {
     fn share(&mut self, node: NodeId, address: Address) -> Result<(), Memory>
         requires node { node.0 < 40 }
         requires free { IsFree self.old.net address.0 }
-        ensures stands { (s : Setup) (run : Run) → IsAt self.old s run → OnOk result (IsAt self.new s (note (claimed_entry s.links node.0 address) run)) }
-        ensures kept { OnOk result (self.new.told ≡ self.old.told) }
+        ensures { Goes result self.old self.new (λ s run. note (claimed_entry s.links node.0 address) run) }
     {
         let Some(link) = self.link_of(address) else {
             unreachable!()

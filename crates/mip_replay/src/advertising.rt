@@ -8,7 +8,7 @@ ghost use Rattle.mip_history.specs.Setup.{Setup};
 ghost use Rattle.mip_history.specs.Runs.{Run, note};
 ghost use Rattle.mip_history.specs.Advertising.{is_link, router_at, hears_of_router, hears_of_node, hears_of_first, hears_of_all, agents_hear, roams_on, mobile_told, mobiles_told, advertised};
 ghost use Rattle.mip_engine.specs.Nodes.{seen_router};
-ghost use Rattle.mip_engine.specs.Standing.{IsAt};
+ghost use Rattle.mip_engine.specs.Standing.{IsAt, Goes};
 
 use mip_engine::{Call, Engine, Router};
 use mip_entries::Entry;
@@ -45,9 +45,7 @@ fn hear_router(
     node: NodeId,
     router: Router,
 ) -> Result<(), Memory>
-    ensures stands { (s : Setup) (run : Run) → IsAt engine.old s run
-        → OnOk result (IsAt engine.new s (hears_of_router s link.0 node.0 run (Some (seen_router router)))) }
-    ensures kept { OnOk result (engine.new.told ≡ engine.old.told) }
+    ensures { Goes result engine.old engine.new (λ s run. hears_of_router s link.0 node.0 run (Some (seen_router router))) }
 {
     engine.note(Entry::Advertised {
         node,
@@ -70,9 +68,7 @@ fn hear_other(
     node: NodeId,
     other: u8,
 ) -> Result<(), Memory>
-    ensures stands { (s : Setup) (run : Run) → IsAt engine.old s run
-        → OnOk result (IsAt engine.new s (hears_of_router s link.0 node.0 run (router_at s link.0 other))) }
-    ensures kept { OnOk result (engine.new.told ≡ engine.old.told) }
+    ensures { Goes result engine.old engine.new (λ s run. hears_of_router s link.0 node.0 run (router_at s link.0 other)) }
 {
     match router_on(engine, link, NodeId(other)) {
         Some(router) => hear_router(alloc, engine, link, node, router),
@@ -87,8 +83,7 @@ fn hear_node(
     node: NodeId,
     other: u8,
 ) -> Result<(), Memory>
-    ensures stands { (s : Setup) (run : Run) → IsAt engine.old s run → OnOk result (IsAt engine.new s (hears_of_node s link.0 node.0 other run)) }
-    ensures kept { OnOk result (engine.new.told ≡ engine.old.told) }
+    ensures { Goes result engine.old engine.new (λ s run. hears_of_node s link.0 node.0 other run) }
 {
     if other == node.0 {
         return Ok(());
@@ -105,8 +100,7 @@ fn hear_first(
     node: NodeId,
     count: u8,
 ) -> Result<(), Memory>
-    ensures stands { (s : Setup) (run : Run) → IsAt engine.old s run → OnOk result (IsAt engine.new s (hears_of_first s link.0 node.0 count run)) }
-    ensures kept { OnOk result (engine.new.told ≡ engine.old.told) }
+    ensures { Goes result engine.old engine.new (λ s run. hears_of_first s link.0 node.0 count run) }
 {
     for other in 0..count {
         hear_node(alloc, engine, link, node, other)?;
@@ -116,8 +110,7 @@ fn hear_first(
 
 /// An agent hears of every node that is one on its link.
 fn hear_others(alloc: Global, engine: &mut Engine, link: LinkId, node: NodeId) -> Result<(), Memory>
-    ensures stands { (s : Setup) (run : Run) → IsAt engine.old s run → OnOk result (IsAt engine.new s (hears_of_first s link.0 node.0 (length s.hosts) run)) }
-    ensures kept { OnOk result (engine.new.told ≡ engine.old.told) }
+    ensures { Goes result engine.old engine.new (λ s run. hears_of_first s link.0 node.0 (length s.hosts) run) }
 {
     let count = engine.count();
     hear_first(alloc, engine, link, node, count)
@@ -125,9 +118,7 @@ fn hear_others(alloc: Global, engine: &mut Engine, link: LinkId, node: NodeId) -
 
 /// A node that is an agent of the link hears of each other one.
 fn hear_all(alloc: Global, engine: &mut Engine, link: LinkId, node: NodeId) -> Result<(), Memory>
-    ensures stands { (s : Setup) (run : Run) → IsAt engine.old s run
-        → OnOk result (IsAt engine.new s (hears_of_all s link.0 node.0 run (router_at s link.0 node.0))) }
-    ensures kept { OnOk result (engine.new.told ≡ engine.old.told) }
+    ensures { Goes result engine.old engine.new (λ s run. hears_of_all s link.0 node.0 run (router_at s link.0 node.0)) }
 {
     match router_on(engine, link, node) {
         Some(_) => hear_others(alloc, engine, link, node),
@@ -138,8 +129,7 @@ fn hear_all(alloc: Global, engine: &mut Engine, link: LinkId, node: NodeId) -> R
 /// Each agent of the first so many nodes does so.
 #[tactic(auto, unfolding(mip_history::specs::Advertising::agents_hear))]
 fn tell_agents(alloc: Global, engine: &mut Engine, link: LinkId, count: u8) -> Result<(), Memory>
-    ensures stands { (s : Setup) (run : Run) → IsAt engine.old s run → OnOk result (IsAt engine.new s (agents_hear s link.0 count run)) }
-    ensures kept { OnOk result (engine.new.told ≡ engine.old.told) }
+    ensures { Goes result engine.old engine.new (λ s run. agents_hear s link.0 count run) }
 {
     for node in 0..count {
         hear_all(alloc, engine, link, NodeId(node))?;
@@ -217,8 +207,7 @@ fn tell_mobiles(
 /// The routers of a link advertise themselves.
 pub(crate) fn advertise(alloc: Global, engine: &mut Engine, link: LinkId) -> Result<(), Memory>
     requires { link.0 < length engine.old.net.links }
-    ensures stands { (s : Setup) (run : Run) → IsAt engine.old s run → OnOk result (IsAt engine.new s (advertised s run link.0)) }
-    ensures kept { OnOk result (engine.new.told ≡ engine.old.told) }
+    ensures { Goes result engine.old engine.new (λ s run. advertised s run link.0) }
 {
     let prefix = engine.prefix(link);
     let count = engine.count();

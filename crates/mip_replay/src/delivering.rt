@@ -1,6 +1,6 @@
 //! Packets are delivered.
 
-ghost use Rattle.std.specs.Prelude.{◌≡◌, ◌<◌, length, Option, Some, OnOk, option_map, slice_get};
+ghost use Rattle.std.specs.Prelude.{◌≡◌, ◌<◌, length, Option, Some, option_map, slice_get};
 ghost use Rattle.mip_links.specs.Table.{Post, fate_of, holder_outside};
 ghost use Rattle.mip_links.specs.Table.Fate.{Gone, Outsider, Node};
 ghost use Rattle.mip_history.specs.Setup.{Setup};
@@ -8,7 +8,7 @@ ghost use Rattle.mip_history.specs.Runs.{Run};
 ghost use Rattle.mip_history.specs.Delivery.{became, hears_there, carried, carried_one, delivered, is_no_holder, overheard_at};
 ghost use Rattle.mip_history.specs.Permitted.{lost};
 ghost use Rattle.mip_links.specs.Nets.{lowest_of};
-ghost use Rattle.mip_engine.specs.Standing.{IsAt};
+ghost use Rattle.mip_engine.specs.Standing.{IsAt, Goes};
 
 use mip_engine::{Arrival, Call, Engine};
 use mip_entries::Entry;
@@ -30,9 +30,8 @@ fn overhear_at(
     link: Option<LinkId>,
 ) -> Result<(), Memory>
     requires { number < length engine.old.net.posts }
-    ensures stands { (s : Setup) (run : Run) (post : Post) → IsAt engine.old s run → shield ≡ post.shield
-        → OnOk result (IsAt engine.new s (overheard_at s post number (option_map (λ l. l.0) link) run)) }
-    ensures kept { OnOk result (engine.new.told ≡ engine.old.told) }
+    ensures { (post : Post) → shield ≡ post.shield
+        → Goes result engine.old engine.new (λ s run. overheard_at s post number (option_map (λ l. l.0) link) run) }
 {
     match link {
         Some(link) => engine.overhear(shield, None, link, number),
@@ -43,10 +42,8 @@ fn overhear_at(
 /// A packet comes to nobody.
 fn vanish(engine: &mut Engine, number: u64, why: Why, arrival: Arrival) -> Result<(), Memory>
     requires { number < length engine.old.net.posts }
-    ensures stands { (s : Setup) (run : Run) (post : Post) → IsAt engine.old s run
-        → arrival.shield ≡ post.shield
-        → OnOk result (IsAt engine.new s (became s number post (option_map (λ l. l.0) arrival.link) run (Gone why))) }
-    ensures kept { OnOk result (engine.new.told ≡ engine.old.told) }
+    ensures { (post : Post) → arrival.shield ≡ post.shield
+        → Goes result engine.old engine.new (λ s run. became s number post (option_map (λ l. l.0) arrival.link) run (Gone why)) }
 {
     if is_no_holder(why) {
         overhear_at(engine, number, arrival.shield, arrival.link)?;
@@ -72,10 +69,8 @@ fn reach_outsider(
     arrival: Arrival,
 ) -> Result<(), Memory>
     requires { number < length engine.old.net.posts }
-    ensures stands { (s : Setup) (run : Run) (post : Post) → IsAt engine.old s run
-        → arrival.shield ≡ post.shield
-        → OnOk result (IsAt engine.new s (became s number post (option_map (λ l. l.0) arrival.link) run (Outsider (holder_outside outsider)))) }
-    ensures kept { OnOk result (engine.new.told ≡ engine.old.told) }
+    ensures { (post : Post) → arrival.shield ≡ post.shield
+        → Goes result engine.old engine.new (λ s run. became s number post (option_map (λ l. l.0) arrival.link) run (Outsider (holder_outside outsider))) }
 {
     overhear_at(engine, number, arrival.shield, arrival.link)?;
     if hears_at(engine, outsider, arrival.link) {
@@ -93,10 +88,8 @@ fn reach_node(
     arrival: Arrival,
 ) -> Result<(), Memory>
     requires { number < length engine.old.net.posts }
-    ensures stands { (s : Setup) (run : Run) (post : Post) → IsAt engine.old s run
-        → slice_get run.posts number ≡ Some post → arrival.shield ≡ post.shield
-        → OnOk result (IsAt engine.new s (became s number post (option_map (λ l. l.0) arrival.link) run (Node node.0))) }
-    ensures kept { OnOk result (engine.new.told ≡ engine.old.told) }
+    ensures { (post : Post) → slice_get engine.old.net.posts number ≡ Some post → arrival.shield ≡ post.shield
+        → Goes result engine.old engine.new (λ s run. became s number post (option_map (λ l. l.0) arrival.link) run (Node node.0)) }
 {
     let packet = engine.handed_packet(alloc, number, arrival.link)?;
     overhear_at(engine, number, arrival.shield, arrival.link)?;
@@ -113,10 +106,8 @@ fn reach_node(
 
 fn reach(alloc: Global, engine: &mut Engine, number: u64, arrival: Arrival) -> Result<(), Memory>
     requires { number < length engine.old.net.posts }
-    ensures stands { (s : Setup) (run : Run) (post : Post) → IsAt engine.old s run
-        → slice_get run.posts number ≡ Some post → arrival.shield ≡ post.shield
-        → OnOk result (IsAt engine.new s (became s number post (option_map (λ l. l.0) arrival.link) run (fate_of arrival.delivery))) }
-    ensures kept { OnOk result (engine.new.told ≡ engine.old.told) }
+    ensures { (post : Post) → slice_get engine.old.net.posts number ≡ Some post → arrival.shield ≡ post.shield
+        → Goes result engine.old engine.new (λ s run. became s number post (option_map (λ l. l.0) arrival.link) run (fate_of arrival.delivery)) }
 {
     match arrival.delivery {
         Delivery::Idle => engine.note(Entry::Idle),
@@ -133,8 +124,7 @@ pub(crate) fn deliver(
     number: u64,
     keep: bool,
 ) -> Result<(), Memory>
-    ensures stands { (s : Setup) (run : Run) → IsAt engine.old s run → OnOk result (IsAt engine.new s (delivered s run number keep)) }
-    ensures kept { OnOk result (engine.new.told ≡ engine.old.told) }
+    ensures { Goes result engine.old engine.new (λ s run. delivered s run number keep) }
 {
     match engine.lift(number, keep) {
         Some(arrival) => reach(alloc, engine, number, arrival),
@@ -143,8 +133,7 @@ pub(crate) fn deliver(
 }
 
 fn carry_one(alloc: Global, engine: &mut Engine) -> Result<(), Memory>
-    ensures stands { (s : Setup) (run : Run) → IsAt engine.old s run → OnOk result (IsAt engine.new s (carried_one s run (lowest_of run.flying))) }
-    ensures kept { OnOk result (engine.new.told ≡ engine.old.told) }
+    ensures { Goes result engine.old engine.new (λ s run. carried_one s run (lowest_of run.flying)) }
 {
     match engine.lowest() {
         Some(number) => deliver(alloc, engine, number, false),
@@ -155,8 +144,7 @@ fn carry_one(alloc: Global, engine: &mut Engine) -> Result<(), Memory>
 /// The lowest packet of the pool is delivered, so many times.
 #[tactic(auto, unfolding(mip_history::specs::Delivery::carried))]
 pub(crate) fn carry(alloc: Global, engine: &mut Engine, count: u32) -> Result<(), Memory>
-    ensures stands { (s : Setup) (run : Run) → IsAt engine.old s run → OnOk result (IsAt engine.new s (carried s run count)) }
-    ensures kept { OnOk result (engine.new.told ≡ engine.old.told) }
+    ensures { Goes result engine.old engine.new (λ s run. carried s run count) }
 {
     for _turn in 0..count {
         carry_one(alloc, engine)?;
@@ -166,8 +154,7 @@ pub(crate) fn carry(alloc: Global, engine: &mut Engine, count: u32) -> Result<()
 
 /// A packet is lost.
 pub(crate) fn lose_packet(engine: &mut Engine, number: u64) -> Result<(), Memory>
-    ensures stands { (s : Setup) (run : Run) → IsAt engine.old s run → OnOk result (IsAt engine.new s (lost run number)) }
-    ensures kept { OnOk result (engine.new.told ≡ engine.old.told) }
+    ensures { Goes result engine.old engine.new (λ s run. lost run number) }
 {
     if engine.lose(number) {
         return engine.note(Entry::Lost { number });

@@ -1,13 +1,11 @@
 //! The packets of outsiders: inits of tests, tests and updates.
 
-ghost use Rattle.std.specs.Prelude.{◌≡◌, ◌<◌, ◌≤◌, length, true, IfOk, IfSome, OnOk, option_map, Option, Some};
+ghost use Rattle.std.specs.Prelude.{◌≡◌, ◌<◌, ◌≤◌, length, true, IfOk, IfSome, option_map, Option, Some};
 ghost use Rattle.mip_words.specs.Addresses.{is_routable};
 ghost use Rattle.mip_packets.specs.Says.{kind_of};
-ghost use Rattle.mip_history.specs.Setup.{Setup};
-ghost use Rattle.mip_history.specs.Runs.{Run};
 ghost use Rattle.mip_history.specs.Outsiders.{asking_in, injected, injected_if, probe_packet, tell_of, tell_with, test_in, test_packet, update_packet};
 ghost use Rattle.mip_replay.specs.Forged as seen;
-ghost use Rattle.mip_engine.specs.Standing.{IsAt};
+ghost use Rattle.mip_engine.specs.Standing.{Goes};
 
 use crate::asking::{Asking, asking_in};
 use crate::binding::{Binding, bind_packet};
@@ -129,8 +127,7 @@ fn inject_if(
     packet: Option<Bytes>,
 ) -> Result<(), Memory>
     requires { IfSome packet (λ p. 40 ≤ length p) }
-    ensures stands { (s : Setup) (run : Run) → IsAt engine.old s run → OnOk result (IsAt engine.new s (injected_if s run outsider link.0 packet)) }
-    ensures kept { OnOk result (engine.new.told ≡ engine.old.told) }
+    ensures { Goes result engine.old engine.new (λ s run. injected_if s run outsider link.0 packet) }
 {
     match packet {
         Some(packet) => engine.inject(alloc, outsider, link, packet.as_slice()),
@@ -149,9 +146,7 @@ pub(crate) fn probe(
     peer: Address,
     cookie: Cookie,
 ) -> Result<(), Memory>
-    ensures stands { (s : Setup) (run : Run) → IsAt engine.old s run
-        → OnOk result (IsAt engine.new s (injected s run outsider link.0 (probe_packet careof source peer cookie.0))) }
-    ensures kept { OnOk result (engine.new.told ≡ engine.old.told) }
+    ensures { Goes result engine.old engine.new (λ s run. injected s run outsider link.0 (probe_packet careof source peer cookie.0)) }
 {
     let packet = probe_packet(alloc, careof, source, peer, cookie)?;
     engine.inject(alloc, outsider, link, packet.as_slice())
@@ -169,9 +164,7 @@ pub(crate) fn bind(
 ) -> Result<(), Memory>
     requires home { is_routable binding.home.0 ≡ true }
     requires number { binding.number < 8 }
-    ensures stands { (s : Setup) (run : Run) → IsAt engine.old s run
-        → OnOk result (IsAt engine.new s (injected_if s run outsider link.0 (update_packet (seen.binding binding) run.posts home careof))) }
-    ensures kept { OnOk result (engine.new.told ≡ engine.old.told) }
+    ensures { Goes result engine.old engine.new (λ s run. injected_if s run outsider link.0 (update_packet (seen.binding binding) run.posts home careof)) }
 {
     let packet = update_from(alloc, engine, binding, home, careof)?;
     inject_if(alloc, engine, outsider, link, packet)
@@ -186,9 +179,7 @@ pub(crate) fn tell(
     test: u64,
     init: u64,
 ) -> Result<(), Memory>
-    ensures stands { (s : Setup) (run : Run) → IsAt engine.old s run
-        → OnOk result (IsAt engine.new s (injected_if s run outsider link.0 (test_packet run.posts test init))) }
-    ensures kept { OnOk result (engine.new.told ≡ engine.old.told) }
+    ensures { Goes result engine.old engine.new (λ s run. injected_if s run outsider link.0 (test_packet run.posts test init)) }
 {
     let packet = test_from(alloc, engine, test, init)?;
     inject_if(alloc, engine, outsider, link, packet)

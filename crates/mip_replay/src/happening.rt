@@ -4,11 +4,10 @@ ghost use Rattle.std.specs.Prelude.{◌≡◌, ◌<◌, List, length, true, OnOk
 ghost use Rattle.mip_schedule.specs.declared.event.Event.{Event};
 ghost use Rattle.mip_schedule.specs.declared.event.Event.TheVariants.{Settle};
 ghost use Rattle.mip_history.specs.Setup.{Setup};
-ghost use Rattle.mip_history.specs.Runs.{Run};
 ghost use Rattle.mip_history.specs.Permitted.{happens, run_of};
 ghost use Rattle.mip_replay.specs.Groups.{is_bind, is_call, is_posting};
 ghost use Rattle.mip_replay.specs.Ready.{IsReady};
-ghost use Rattle.mip_engine.specs.Standing.{IsAt};
+ghost use Rattle.mip_engine.specs.Standing.{IsAt, Goes};
 
 use crate::advertising::advertise;
 use crate::binding::Binding;
@@ -26,8 +25,7 @@ use std::alloc::Global;
 fn outsider_binds(alloc: Global, engine: &mut Engine, event: &Event) -> Result<(), Memory>
     requires kind { is_bind event.now ≡ true }
     requires ready { IsReady engine.old event.now }
-    ensures stands { (s : Setup) (run : Run) → IsAt engine.old s run → OnOk result (IsAt engine.new s (happens s run event.now)) }
-    ensures kept { OnOk result (engine.new.told ≡ engine.old.told) }
+    ensures { Goes result engine.old engine.new (λ s run. happens s run event.now) }
 {
     let Event::Bind {
         outsider,
@@ -71,8 +69,7 @@ fn outsider_binds(alloc: Global, engine: &mut Engine, event: &Event) -> Result<(
 fn outsider_posts(alloc: Global, engine: &mut Engine, event: &Event) -> Result<(), Memory>
     requires kind { is_posting event.now ≡ true }
     requires ready { IsReady engine.old event.now }
-    ensures stands { (s : Setup) (run : Run) → IsAt engine.old s run → OnOk result (IsAt engine.new s (happens s run event.now)) }
-    ensures kept { OnOk result (engine.new.told ≡ engine.old.told) }
+    ensures { Goes result engine.old engine.new (λ s run. happens s run event.now) }
 {
     match event {
         Event::Inject {
@@ -118,8 +115,7 @@ fn outsider_posts(alloc: Global, engine: &mut Engine, event: &Event) -> Result<(
 fn node_is_asked(alloc: Global, engine: &mut Engine, event: &Event) -> Result<(), Memory>
     requires kind { is_call event.now ≡ true }
     requires ready { IsReady engine.old event.now }
-    ensures stands { (s : Setup) (run : Run) → IsAt engine.old s run → OnOk result (IsAt engine.new s (happens s run event.now)) }
-    ensures kept { OnOk result (engine.new.told ≡ engine.old.told) }
+    ensures { Goes result engine.old engine.new (λ s run. happens s run event.now) }
 {
     match event {
         Event::Payload {

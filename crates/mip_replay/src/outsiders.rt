@@ -1,10 +1,8 @@
 //! Outsiders listen, and take addresses.
 
-ghost use Rattle.std.specs.Prelude.{◌≡◌, ◌<◌, length, OnOk};
-ghost use Rattle.mip_history.specs.Setup.{Setup};
-ghost use Rattle.mip_history.specs.Runs.{Run};
+ghost use Rattle.std.specs.Prelude.{◌<◌, length};
 ghost use Rattle.mip_history.specs.Outsiders.{deafens, listens, squats, yields};
-ghost use Rattle.mip_engine.specs.Standing.{IsAt};
+ghost use Rattle.mip_engine.specs.Standing.{Goes};
 
 use mip_engine::Engine;
 use mip_entries::Entry;
@@ -15,8 +13,7 @@ pub(crate) fn listen(engine: &mut Engine, outsider: u8, link: LinkId) -> Result<
     requires outsider { outsider < 8 }
     requires small { link.0 < 32 }
     requires link { link.0 < length engine.old.net.links }
-    ensures stands { (s : Setup) (run : Run) → IsAt engine.old s run → OnOk result (IsAt engine.new s (listens run outsider link.0)) }
-    ensures kept { OnOk result (engine.new.told ≡ engine.old.told) }
+    ensures { Goes result engine.old engine.new (λ s run. listens run outsider link.0) }
 {
     if engine.begin_listening(outsider, link)? {
         return engine.note(Entry::Listening { outsider, link });
@@ -29,8 +26,7 @@ pub(crate) fn deafen(engine: &mut Engine, outsider: u8, link: LinkId) -> Result<
     requires outsider { outsider < 8 }
     requires small { link.0 < 32 }
     requires link { link.0 < length engine.old.net.links }
-    ensures stands { (s : Setup) (run : Run) → IsAt engine.old s run → OnOk result (IsAt engine.new s (deafens run outsider link.0)) }
-    ensures kept { OnOk result (engine.new.told ≡ engine.old.told) }
+    ensures { Goes result engine.old engine.new (λ s run. deafens run outsider link.0) }
 {
     if engine.end_listening(outsider, link) {
         return engine.note(Entry::Deafened { outsider, link });
@@ -41,8 +37,7 @@ pub(crate) fn deafen(engine: &mut Engine, outsider: u8, link: LinkId) -> Result<
 /// An outsider takes an address, if nobody else has it.
 pub(crate) fn squat(engine: &mut Engine, outsider: u8, address: Address) -> Result<(), Memory>
     requires { outsider < 8 }
-    ensures stands { (s : Setup) (run : Run) → IsAt engine.old s run → OnOk result (IsAt engine.new s (squats s run outsider address)) }
-    ensures kept { OnOk result (engine.new.told ≡ engine.old.told) }
+    ensures { Goes result engine.old engine.new (λ s run. squats s run outsider address) }
 {
     engine.claim(Holder::Outsider(outsider), address)
 }
@@ -50,8 +45,7 @@ pub(crate) fn squat(engine: &mut Engine, outsider: u8, address: Address) -> Resu
 /// An outsider gives an address up, if it has it.
 pub(crate) fn yield_up(engine: &mut Engine, outsider: u8, address: Address) -> Result<(), Memory>
     requires { outsider < 8 }
-    ensures stands { (s : Setup) (run : Run) → IsAt engine.old s run → OnOk result (IsAt engine.new s (yields s run outsider address)) }
-    ensures kept { OnOk result (engine.new.told ≡ engine.old.told) }
+    ensures { Goes result engine.old engine.new (λ s run. yields s run outsider address) }
 {
     engine.give_up(Holder::Outsider(outsider), address)
 }

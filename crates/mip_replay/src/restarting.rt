@@ -1,14 +1,12 @@
 //! A node begins its next life.
 
-ghost use Rattle.std.specs.Prelude.{◌≡◌, ◌+◌, ◌<◌, ◌^◌, length, IfOk, Some, OnOk, slice_get};
-ghost use Rattle.mip_history.specs.Setup.{Setup};
-ghost use Rattle.mip_history.specs.Runs.{Run, note};
+ghost use Rattle.std.specs.Prelude.{◌≡◌, ◌+◌, ◌<◌, ◌^◌, length, IfOk, Some, slice_get};
 ghost use Rattle.mip_history.specs.Homes.{gives_up};
 ghost use Rattle.mip_history.specs.Restarting.{homes_left, restarted};
 ghost use Rattle.mip_engine.specs.Nodes.{NodeSeen};
 ghost use Rattle.mip_engine.specs.Roles.{homes_of};
 ghost use Rattle.mip_replay.specs.Renewals.{begun_anew};
-ghost use Rattle.mip_engine.specs.Standing.{IsAt};
+ghost use Rattle.mip_engine.specs.Standing.{Goes};
 
 use mip_engine::{Call, Engine, HomeRow};
 use mip_entries::Entry;
@@ -30,8 +28,7 @@ fn registered_homes(alloc: Global, engine: &Engine, node: NodeId) -> Result<Vec<
 }
 
 fn leave_home(engine: &mut Engine, node: NodeId, row: &HomeRow) -> Result<(), Memory>
-    ensures stands { (s : Setup) (run : Run) → IsAt engine.old s run → OnOk result (IsAt engine.new s (gives_up s node.0 row.now.home run)) }
-    ensures kept { OnOk result (engine.new.told ≡ engine.old.told) }
+    ensures { Goes result engine.old engine.new (λ s run. gives_up s node.0 row.now.home run) }
 {
     engine.give_up(Holder::Node(node), row.home)
 }
@@ -39,8 +36,7 @@ fn leave_home(engine: &mut Engine, node: NodeId, row: &HomeRow) -> Result<(), Me
 /// An agent gives up the homes that it had registered.
 #[tactic(auto, unfolding(mip_history::specs::Restarting::homes_left))]
 fn leave_homes(engine: &mut Engine, node: NodeId, homes: &[HomeRow]) -> Result<(), Memory>
-    ensures stands { (s : Setup) (run : Run) → IsAt engine.old s run → OnOk result (IsAt engine.new s (homes_left s node.0 homes.now run)) }
-    ensures kept { OnOk result (engine.new.told ≡ engine.old.told) }
+    ensures { Goes result engine.old engine.new (λ s run. homes_left s node.0 homes.now run) }
 {
     for row in homes {
         leave_home(engine, node, row)?;
@@ -56,10 +52,8 @@ fn begin_anew(
     homes: &[HomeRow],
 ) -> Result<(), Memory>
     requires { node.0 < length engine.old.nodes }
-    ensures stands { (s : Setup) (run : Run) (c : NodeSeen) → IsAt engine.old s run
-        → slice_get engine.old.nodes node.0 ≡ Some c
-        → OnOk result (IsAt engine.new s (begun_anew s node.0 homes.now run c.host.kind)) }
-    ensures kept { OnOk result (engine.new.told ≡ engine.old.told) }
+    ensures { (c : NodeSeen) → slice_get engine.old.nodes node.0 ≡ Some c
+        → Goes result engine.old engine.new (λ s run. begun_anew s node.0 homes.now run c.host.kind) }
 {
     if engine.is_roaming(node) {
         let secrets = engine.secrets(node);
@@ -72,10 +66,7 @@ fn begin_anew(
 fn begin_life(alloc: Global, engine: &mut Engine, node: NodeId) -> Result<(), Memory>
     requires node { node.0 < length engine.old.nodes }
     requires life { (c : NodeSeen) → slice_get engine.old.nodes node.0 ≡ Some c → c.life + 1 < 2 ^ 32 }
-    ensures stands { (s : Setup) (run : Run) (c : NodeSeen) → IsAt engine.old s run
-        → slice_get engine.old.nodes node.0 ≡ Some c
-        → OnOk result (IsAt engine.new s (restarted s run node.0)) }
-    ensures kept { OnOk result (engine.new.told ≡ engine.old.told) }
+    ensures { Goes result engine.old engine.new (λ s run. restarted s run node.0) }
 {
     let homes = registered_homes(alloc, engine, node)?;
     engine.renew(alloc, node)?;
@@ -86,8 +77,7 @@ fn begin_life(alloc: Global, engine: &mut Engine, node: NodeId) -> Result<(), Me
 /// A node restarts. That is noted also of a node that is not there.
 pub(crate) fn restart(alloc: Global, engine: &mut Engine, node: NodeId) -> Result<(), Memory>
     requires { (c : NodeSeen) → slice_get engine.old.nodes node.0 ≡ Some c → c.life + 1 < 2 ^ 32 }
-    ensures stands { (s : Setup) (run : Run) → IsAt engine.old s run → OnOk result (IsAt engine.new s (restarted s run node.0)) }
-    ensures kept { OnOk result (engine.new.told ≡ engine.old.told) }
+    ensures { Goes result engine.old engine.new (λ s run. restarted s run node.0) }
 {
     match engine.station(node) {
         Some(_) => begin_life(alloc, engine, node),

@@ -1,12 +1,12 @@
 //! Time goes on, and what is due meanwhile is done at its moment.
 
-ghost use Rattle.std.specs.Prelude.{◌≡◌, ◌+◌, ◌<◌, ◌≤◌, ◌^◌, max, false, length, Option, None, Some, ◌&&◌, ◌==◌, IfOk, OnOk, option_map, slice_get};
+ghost use Rattle.std.specs.Prelude.{◌≡◌, ◌+◌, ◌<◌, ◌≤◌, ◌^◌, max, false, length, Option, None, Some, ◌&&◌, ◌==◌, IfOk, option_map, slice_get};
 ghost use Rattle.std.specs.Option.{option_map_or};
 ghost use Rattle.mip_history.specs.Setup.{Setup};
 ghost use Rattle.mip_history.specs.Runs.{Run};
 ghost use Rattle.mip_history.specs.Waiting.{due_of, sooner, earliest, is_due, comes_to, ticks_one, ticked, works, works_on, works_until, waited};
 ghost use Rattle.mip_engine.specs.Roles.{due_of as role_due};
-ghost use Rattle.mip_engine.specs.Standing.{IsAt, IsOfRun};
+ghost use Rattle.mip_engine.specs.Standing.{IsAt, IsOfRun, Goes};
 
 use mip_engine::{Call, Engine};
 use mip_history::work_stays_within_its_wait;
@@ -54,9 +54,7 @@ fn is_told(engine: &Engine, moment: Moment, told: bool) -> bool
 fn come_to(engine: &mut Engine, moment: Moment, told: bool) -> Result<(), Memory>
     requires later { engine.old.moment ≤ moment.0 }
     requires early { moment.0 < 2 ^ 62 }
-    ensures stands { (s : Setup) (run : Run) → IsAt engine.old s run
-        → OnOk result (IsAt engine.new s (comes_to s moment.0 (record { run = run; told = told })).run) }
-    ensures kept { OnOk result (engine.new.told ≡ engine.old.told) }
+    ensures { Goes result engine.old engine.new (λ s run. (comes_to s moment.0 (record { run = run; told = told })).run) }
 {
     if is_told(engine, moment, told) {
         return Ok(());
@@ -66,8 +64,7 @@ fn come_to(engine: &mut Engine, moment: Moment, told: bool) -> Result<(), Memory
 
 /// A node with work due by now does it.
 fn tick_one(alloc: Global, engine: &mut Engine, node: NodeId) -> Result<(), Memory>
-    ensures stands { (s : Setup) (run : Run) → IsAt engine.old s run → OnOk result (IsAt engine.new s (ticks_one s node.0 run)) }
-    ensures kept { OnOk result (engine.new.told ≡ engine.old.told) }
+    ensures { Goes result engine.old engine.new (λ s run. ticks_one s node.0 run) }
 {
     if is_due(engine.due(node), engine.moment()) {
         return engine.act(alloc, node, Call::Tick);
@@ -78,8 +75,7 @@ fn tick_one(alloc: Global, engine: &mut Engine, node: NodeId) -> Result<(), Memo
 /// So do the first so many nodes, in order of declaration.
 #[tactic(auto, unfolding(mip_history::specs::Waiting::ticked))]
 fn tick_first(alloc: Global, engine: &mut Engine, count: u8) -> Result<(), Memory>
-    ensures stands { (s : Setup) (run : Run) → IsAt engine.old s run → OnOk result (IsAt engine.new s (ticked s count run)) }
-    ensures kept { OnOk result (engine.new.told ≡ engine.old.told) }
+    ensures { Goes result engine.old engine.new (λ s run. ticked s count run) }
 {
     for node in 0..count {
         tick_one(alloc, engine, NodeId(node))?;
@@ -102,8 +98,7 @@ fn first_due(engine: &Engine) -> Option<Moment>
 /// What is due is done at its moment, or now if that has passed.
 fn work(alloc: Global, engine: &mut Engine, due: Moment, told: bool) -> Result<(), Memory>
     requires { due.0 < 2 ^ 62 }
-    ensures stands { (s : Setup) (run : Run) → IsAt engine.old s run → OnOk result (IsAt engine.new s (works s due.0 (record { run = run; told = told })).run) }
-    ensures kept { OnOk result (engine.new.told ≡ engine.old.told) }
+    ensures { Goes result engine.old engine.new (λ s run. (works s due.0 (record { run = run; told = told })).run) }
 {
     let moment = later(engine.moment(), due);
     come_to(engine, moment, told)?;
@@ -121,9 +116,7 @@ fn work_by(
 ) -> Result<bool, Memory>
     requires { target.0 < 2 ^ 62 }
     ensures more { IfOk result (λ more. more ≡ is_due (Some due.0) target.0) }
-    ensures after { (s : Setup) (run : Run) → IsAt engine.old s run
-        → OnOk result (IsAt engine.new s (works_on (λ w. w) s target.0 (Some due.0) (record { run = run; told = told })).run) }
-    ensures kept { OnOk result (engine.new.told ≡ engine.old.told) }
+    ensures after { Goes result engine.old engine.new (λ s run. (works_on (λ w. w) s target.0 (Some due.0) (record { run = run; told = told })).run) }
 {
     if target.0 < due.0 {
         return Ok(false);
@@ -136,9 +129,8 @@ fn work_by(
 fn work_next(alloc: Global, engine: &mut Engine, target: Moment, told: bool) -> Result<bool, Memory>
     requires { target.0 < 2 ^ 62 }
     ensures more { (s : Setup) (run : Run) → IsAt engine.old s run → IfOk result (λ more. more ≡ is_due (earliest (due_of s run) (length s.hosts)) target.0) }
-    ensures after { (s : Setup) (run : Run) → IsAt engine.old s run
-        → OnOk result (IsAt engine.new s (works_on (λ w. w) s target.0 (earliest (due_of s run) (length s.hosts)) (record { run = run; told = told })).run) }
-    ensures kept { OnOk result (engine.new.told ≡ engine.old.told) }
+    ensures after { Goes result engine.old engine.new
+        (λ s run. (works_on (λ w. w) s target.0 (earliest (due_of s run) (length s.hosts)) (record { run = run; told = told })).run) }
 {
     match first_due(engine) {
         Some(due) => work_by(alloc, engine, target, due, told),
@@ -157,9 +149,7 @@ fn work_until(
     requires { target.0 < 2 ^ 62 }
     ensures told { (s : Setup) (run : Run) → IsAt engine.old s run
         → IfOk result (λ told. told ≡ (works_until s target.0 rounds (record { run = run; told = false })).told) }
-    ensures after { (s : Setup) (run : Run) → IsAt engine.old s run
-        → OnOk result (IsAt engine.new s (works_until s target.0 rounds (record { run = run; told = false })).run) }
-    ensures kept { OnOk result (engine.new.told ≡ engine.old.told) }
+    ensures after { Goes result engine.old engine.new (λ s run. (works_until s target.0 rounds (record { run = run; told = false })).run) }
 {
     let mut told = false;
     for _round in 0..rounds {
@@ -176,8 +166,7 @@ fn work_until(
 pub(crate) fn wait(alloc: Global, engine: &mut Engine, ms: u32) -> Result<(), Memory>
     requires early { engine.old.moment + ms < 2 ^ 62 }
     requires of_run { IsOfRun engine.old }
-    ensures stands { (s : Setup) (run : Run) → IsAt engine.old s run → OnOk result (IsAt engine.new s (waited s run ms)) }
-    ensures kept { OnOk result (engine.new.told ≡ engine.old.told) }
+    ensures { Goes result engine.old engine.new (λ s run. waited s run ms) }
 {
     work_stays_within_its_wait();
     let target = Moment(engine.moment().0 + u64::from(ms));

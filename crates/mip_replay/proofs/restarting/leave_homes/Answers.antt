@@ -18,11 +18,14 @@ loop-row-preserved c = record {
   kept = c.in_ok-leave_home.ensures.kept ∙ c.loop-row.invariant.kept;
 }
 
-pub returns-clause-stands : goal.returns-clause-stands
+pub returns : goal.returns
 unfolding homes_left
-returns-clause-stands c = λ s run at.
-    let n = c.args.node.0 in
-    let rows = c.args.homes.now in
-    let before = c.loop-row.invariant.stands s run at in
-    subst (λ (r : Run). IsAt c.loop-row.engine s r)
-    (ap (λ (rs : List HomeRow). homes_left s n rs before.0) (sym (drop_all c.loop-row.row-index rows (omega arith))) ∙ before.2) before.1
+returns c = record {
+  stands = λ s run at.
+      let n = c.args.node.0 in
+      let rows = c.args.homes.now in
+      let before = c.loop-row.invariant.stands s run at in
+      subst (λ (r : Run). IsAt c.loop-row.engine s r)
+      (ap (λ (rs : List HomeRow). homes_left s n rs before.0) (sym (drop_all c.loop-row.row-index rows (omega arith))) ∙ before.2) before.1;
+  kept = c.loop-row.invariant.kept;
+}

@@ -1,17 +1,15 @@
-use Rattle.std.proofs.Common.{◌≡◌, ap, ◌∙◌}
+use Rattle.std.proofs.Common.{◌≡◌, refl, ap, ◌∙◌}
 use Rattle.mip_words.specs.Holders.{holder_number}
 use Rattle.mip_entries.specs.declared.entry.Entry.{Entry}
 use Rattle.mip_links.specs.Nets.{holder_of}
-use Rattle.mip_history.specs.Runs.{note}
-use Rattle.mip_history.specs.Questions.{holder_in}
 use Rattle.mip_history.specs.Claims.{claim_entry}
 use Rattle.mip_engine.specs.Engines.{EngineSeen, with_entry, with_net, claim_tried}
-use Rattle.mip_engine.proofs.QuietLaws.{at_is, at_ok}
+use Rattle.mip_engine.proofs.GoesLaws.{goes_to}
 use Rattle.mip_engine.proofs.ClaimLaws.{at_squatted}
 use Rattle.mip_engine.proofs.engine.Engine.claim_on.Goals as goal
 
-pub returns-clause-stands : goal.returns-clause-stands
-returns-clause-stands c = λ s run at link.
+pub returns : goal.returns
+returns c =
     let e = c.args.self.now in
     let who = holder_number c.args.who in
     let a = c.args.address in
@@ -20,5 +18,4 @@ returns-clause-stands c = λ s run at link.
     let is : with_entry x c.take_claim.new.self ≡ with_entry (claim_entry who a l (holder_of e.net.rows a.0)) (with_net (claim_tried e.net who a) e) =
     ap (λ (y : EngineSeen). with_entry x y) c.in_ok-entry.ensures.after
     ∙ ap (λ (y : Entry). with_entry y (with_net (claim_tried e.net who a) e)) c.in_ok-entry.ensures.entry in
-    at_ok c.note.result c.note.new.self (with_entry x c.take_claim.new.self) s (note (claim_entry who a l (holder_in run.past a.0)) run) c.note.ensures
-    (at_is is (at_squatted e s run who l a c.requires.who link at))
+    goes_to c.note.ensures is refl (λ s run at. at_squatted e s run who l a c.requires.who c.requires.link at)
