@@ -12,11 +12,16 @@ use Rattle.mip_schedule.specs.Reading.{reading}
 use Rattle.mip_audit.specs.Cutting.{cut_text}
 use Rattle.mip_replies.specs.Permitted.{permitted}
 use Rattle.mip_replies.specs.Answers.{Answer, bad_answer, long_answer, audit_answer}
+use Rattle.mip_past.specs.declared.past.Past.{Past}
 use Rattle.mip_past_text.specs.Text.{Front, known_text}
 use Rattle.mip_past_top.specs.declared.ask.Ask.{Ask}
 
 abbrev pub usage_answer : Answer
 usage_answer = record { status = 1; text = codes "usage: mip-past LINE [NODE]" ++ 10 ∷ [] }
+
+-- what lies before a place of the history of a schedule
+abbrev pub front_by : Content → Past → Front
+front_by c p = record { version = c.version; start = p.start.0; events = c.events; past = p.entries.now }
 
 -- the history of a schedule before the place
 abbrev pub front_at : Content → ℕ → Front

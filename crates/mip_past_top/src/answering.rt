@@ -5,7 +5,8 @@ ghost use Rattle.mip_schedule.specs.Schedules.{content};
 ghost use Rattle.mip_schedule.specs.Reading.{reading};
 ghost use Rattle.mip_replies.specs.Told.{IsConclusive, IsStatus};
 ghost use Rattle.mip_symbols.specs.Kinds as kinds;
-ghost use Rattle.mip_past_top.specs.Answers.{known_answer, named_answer, asked_answer, read_answer, past_answer};
+ghost use Rattle.mip_past_text.specs.Text.{known_text};
+ghost use Rattle.mip_past_top.specs.Answers.{front_by, known_answer, named_answer, asked_answer, read_answer, past_answer};
 
 use crate::ask::Ask;
 use mip_audit::cut_trace;
@@ -89,15 +90,27 @@ fn known_then(
     ensures answers { IfOk result (λ reply. reply ≡ known_answer line (content schedule.now) node) }
     ensures conclusive { IfOk result (λ reply. IsConclusive reply.status) }
 {
-    few(schedule);
     let history = replay(alloc, schedule)?;
     let past = Past::before(history.as_slice(), line as usize, schedule.start);
+    let text = text_at(alloc, schedule, past, node)?;
+    Ok(Reply::whole(Status::OK, text))
+}
+
+/// What was known at a place of the history of a schedule.
+fn text_at<'a>(
+    alloc: Global,
+    schedule: &'a Schedule,
+    past: Past<'a>,
+    node: Option<NodeId>,
+) -> Result<Bytes, Memory>
+    ensures { IfOk result (λ text. text ≡ known_text (content schedule.now).declarations (front_by (content schedule.now) past.entry) node) }
+{
+    few(schedule);
     let scene = Scene {
         version: schedule.version,
         declarations: schedule.declarations.as_slice(),
         events: schedule.events.as_slice(),
         past,
     };
-    let text = known(alloc, scene, node)?;
-    Ok(Reply::whole(Status::OK, text))
+    known(alloc, scene, node)
 }
