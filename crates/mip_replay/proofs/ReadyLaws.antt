@@ -134,7 +134,7 @@ module _ (waits : AreWaits) (lives : AreRestarts) (c : Content) (lawful : IsLawf
   ear : (o : ℕ) (link : LinkId) → IsOutsider ds o → IsLink ds link → IsEar e o link
   ear o link outsider declared =
       let links : length e.net.links ≡ length (links_in ds) = ap (λ (q : Asked). length q.links) at.asked in
-      (outsider_there o outsider, omega (arith, declared, few.links), omega (arith, declared, links, many_links ds))
+      record { outsider = outsider_there o outsider; small = omega (arith, declared, few.links); link = omega (arith, declared, links, many_links ds) }
 
   link_there : (link : LinkId) → IsLink ds link → link.0 < length e.net.links
   link_there link declared =

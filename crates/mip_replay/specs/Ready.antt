@@ -11,8 +11,10 @@ use Rattle.mip_engine.specs.Payloads.{is_payload}
 use Rattle.mip_engine.specs.Standing.{IsOfRun}
 
 -- the outsider and the link are there
-abbrev pub IsEar : EngineSeen → ℕ → LinkId → Type 0
-IsEar e outsider link = (outsider < 8) × (link.0 < 32) × (link.0 < length e.net.links)
+pub record IsEar (e : EngineSeen) (o : ℕ) (l : LinkId) : Type 0 where
+  pub outsider : o < 8
+  pub small : l.0 < 32
+  pub link : l.0 < length e.net.links
 
 abbrev pub IsReady : EngineSeen → Event → Type 0
 IsReady e (Wait ms) = (e.moment + ms < 2 ^ 62) × IsOfRun e

@@ -1,15 +1,15 @@
 //! The packets of outsiders: inits of tests, tests and updates.
 
-ghost use Rattle.std.specs.Prelude.{◌≡◌, ◌<◌, ◌≤◌, length, true, IfOk, IfSome, option_map, Option, Some};
-ghost use Rattle.mip_words.specs.Addresses.{is_routable};
+ghost use Rattle.std.specs.Prelude.{◌≡◌, ◌≤◌, length, IfOk, IfSome, option_map, Option, Some};
 ghost use Rattle.mip_packets.specs.Says.{kind_of};
 ghost use Rattle.mip_history.specs.Outsiders.{asking_in, injected, injected_if, probe_packet, tell_of, tell_with, test_in, test_packet, update_packet};
 ghost use Rattle.mip_replay.specs.Forged as seen;
 ghost use Rattle.mip_engine.specs.Standing.{Goes};
 
 use crate::asking::{Asking, asking_in};
-use crate::binding::{Binding, bind_packet};
+use crate::binding::Binding;
 use crate::told::{Told, told_in};
+use crate::updates::bind_packet;
 use mip_engine::Engine;
 use mip_engine::header::{DESTINATION, SOURCE};
 use mip_entries::Entry;
@@ -71,8 +71,6 @@ fn update_from(
     home: u64,
     careof: Option<u64>,
 ) -> Result<Option<Bytes>, Memory>
-    requires home { is_routable binding.home.0 ≡ true }
-    requires number { binding.number < 8 }
     ensures is { IfOk result (λ b. b ≡ update_packet (seen.binding binding) engine.now.net.posts home careof) }
     ensures long { IfOk result (λ b. IfSome b (λ p. 40 ≤ length p)) }
 {
@@ -162,8 +160,6 @@ pub(crate) fn bind(
     home: u64,
     careof: Option<u64>,
 ) -> Result<(), Memory>
-    requires home { is_routable binding.home.0 ≡ true }
-    requires number { binding.number < 8 }
     ensures { Goes result engine.old engine.new (λ s run. injected_if s run outsider link.0 (update_packet (seen.binding binding) run.posts home careof)) }
 {
     let packet = update_from(alloc, engine, binding, home, careof)?;

@@ -1,11 +1,11 @@
 //! What each event makes of a run.
 
-ghost use Rattle.std.specs.Prelude.{◌≡◌, ◌<◌, List, length, true, OnOk};
+ghost use Rattle.std.specs.Prelude.{◌≡◌, ◌<◌, List, length, OnOk};
 ghost use Rattle.mip_schedule.specs.declared.event.Event.{Event};
 ghost use Rattle.mip_schedule.specs.declared.event.Event.TheVariants.{Settle};
 ghost use Rattle.mip_history.specs.Setup.{Setup};
 ghost use Rattle.mip_history.specs.Permitted.{happens, run_of};
-ghost use Rattle.mip_replay.specs.Groups.{is_bind, is_call, is_posting};
+ghost use Rattle.mip_replay.specs.Groups.{asked_by, bound_by, posted_by};
 ghost use Rattle.mip_replay.specs.Ready.{IsReady};
 ghost use Rattle.mip_engine.specs.Standing.{IsAt, Goes};
 
@@ -21,11 +21,10 @@ use mip_schedule::Event;
 use mip_words::{Memory, NodeId};
 use std::alloc::Global;
 
-/// An outsider posts an update.
+/// An outsider posts an update, where the event says so.
 fn outsider_binds(alloc: Global, engine: &mut Engine, event: &Event) -> Result<(), Memory>
-    requires kind { is_bind event.now ≡ true }
-    requires ready { IsReady engine.old event.now }
-    ensures { Goes result engine.old engine.new (λ s run. happens s run event.now) }
+    requires { IsReady engine.old event.now }
+    ensures { Goes result engine.old engine.new (λ s run. bound_by s run event.now) }
 {
     let Event::Bind {
         outsider,
@@ -38,7 +37,7 @@ fn outsider_binds(alloc: Global, engine: &mut Engine, event: &Event) -> Result<(
         number,
     } = event
     else {
-        unreachable!();
+        return Ok(());
     };
     let ends = ends.get();
     let binding = Binding {
@@ -65,11 +64,10 @@ fn outsider_binds(alloc: Global, engine: &mut Engine, event: &Event) -> Result<(
     )
 }
 
-/// Outsiders post packets.
+/// An outsider posts its own bytes, the init of a test or a test, where the event says so.
 fn outsider_posts(alloc: Global, engine: &mut Engine, event: &Event) -> Result<(), Memory>
-    requires kind { is_posting event.now ≡ true }
-    requires ready { IsReady engine.old event.now }
-    ensures { Goes result engine.old engine.new (λ s run. happens s run event.now) }
+    requires { IsReady engine.old event.now }
+    ensures { Goes result engine.old engine.new (λ s run. posted_by s run event.now) }
 {
     match event {
         Event::Inject {
@@ -107,15 +105,14 @@ fn outsider_posts(alloc: Global, engine: &mut Engine, event: &Event) -> Result<(
             u64::from(*test),
             u64::from(*probe),
         ),
-        _ => unreachable!(),
+        _ => Ok(()),
     }
 }
 
-/// A node is asked something, and does it.
+/// A node is asked something and does it, where the event says so.
 fn node_is_asked(alloc: Global, engine: &mut Engine, event: &Event) -> Result<(), Memory>
-    requires kind { is_call event.now ≡ true }
-    requires ready { IsReady engine.old event.now }
-    ensures { Goes result engine.old engine.new (λ s run. happens s run event.now) }
+    requires { IsReady engine.old event.now }
+    ensures { Goes result engine.old engine.new (λ s run. asked_by s run event.now) }
 {
     match event {
         Event::Payload {
@@ -148,7 +145,7 @@ fn node_is_asked(alloc: Global, engine: &mut Engine, event: &Event) -> Result<()
             },
         ),
         Event::Ask { node } => engine.act(alloc, *node, Call::Ask),
-        _ => unreachable!(),
+        _ => Ok(()),
     }
 }
 
@@ -165,7 +162,7 @@ fn settle(engine: &mut Engine, a: NodeId, b: NodeId) -> Result<(), Memory>
 
 /// An event happens that finds the engine ready, behind the events of a run.
 pub(crate) fn happen(alloc: Global, engine: &mut Engine, event: &Event) -> Result<(), Memory>
-    requires ready { IsReady engine.old event.now }
+    requires { IsReady engine.old event.now }
     ensures stands { (s : Setup) (events : List Event) → IsAt engine.old s (run_of s events)
         → OnOk result (IsAt engine.new s (happens s (run_of s events) event.now)) }
     ensures kept { OnOk result (engine.new.told ≡ engine.old.told) }
@@ -176,9 +173,9 @@ pub(crate) fn happen(alloc: Global, engine: &mut Engine, event: &Event) -> Resul
         Event::Squat { outsider, address } => squat(engine, *outsider, address.get()),
         Event::Yield { outsider, address } => yield_up(engine, *outsider, address.get()),
         Event::Bind { .. } => outsider_binds(alloc, engine, event),
-        Event::Inject { .. } | Event::Probe { .. } | Event::Tell { .. } => {
-            outsider_posts(alloc, engine, event)
-        }
+        Event::Inject { .. } => outsider_posts(alloc, engine, event),
+        Event::Probe { .. } => outsider_posts(alloc, engine, event),
+        Event::Tell { .. } => outsider_posts(alloc, engine, event),
         Event::Deliver { number } => deliver(alloc, engine, u64::from(*number), false),
         Event::Repeat { number } => deliver(alloc, engine, u64::from(*number), true),
         Event::Lose { number } => lose_packet(engine, u64::from(*number)),
@@ -187,9 +184,10 @@ pub(crate) fn happen(alloc: Global, engine: &mut Engine, event: &Event) -> Resul
         Event::Advertise { link } => advertise(alloc, engine, *link),
         Event::Restart { node } => restart(alloc, engine, *node),
         Event::Move { node, link } => engine.move_to(alloc, *node, *link),
-        Event::Payload { .. } | Event::Refresh { .. } | Event::Plan { .. } | Event::Ask { .. } => {
-            node_is_asked(alloc, engine, event)
-        }
+        Event::Payload { .. } => node_is_asked(alloc, engine, event),
+        Event::Refresh { .. } => node_is_asked(alloc, engine, event),
+        Event::Plan { .. } => node_is_asked(alloc, engine, event),
+        Event::Ask { .. } => node_is_asked(alloc, engine, event),
         Event::Show { node } => engine.show(*node),
         Event::Settle { a, b } => settle(engine, *a, *b),
     }

@@ -13,6 +13,7 @@ mod restarting;
 mod run;
 mod run_in_pieces;
 mod told;
+mod updates;
 mod waiting;
 
 pub use laws::{each_acceptance_is_marked, each_home_is_sent, each_is_bound, each_repeat_is_late};

@@ -1,8 +1,9 @@
 //! Outsiders listen, and take addresses.
 
-ghost use Rattle.std.specs.Prelude.{◌<◌, length};
+ghost use Rattle.std.specs.Prelude.{◌<◌};
 ghost use Rattle.mip_history.specs.Outsiders.{deafens, listens, squats, yields};
 ghost use Rattle.mip_engine.specs.Standing.{Goes};
+ghost use Rattle.mip_replay.specs.Ready.{IsEar};
 
 use mip_engine::Engine;
 use mip_entries::Entry;
@@ -10,9 +11,7 @@ use mip_words::{Address, Holder, LinkId, Memory};
 
 /// An outsider listens on a link from now on.
 pub(crate) fn listen(engine: &mut Engine, outsider: u8, link: LinkId) -> Result<(), Memory>
-    requires outsider { outsider < 8 }
-    requires small { link.0 < 32 }
-    requires link { link.0 < length engine.old.net.links }
+    requires { IsEar engine.old outsider link }
     ensures { Goes result engine.old engine.new (λ s run. listens run outsider link.0) }
 {
     if engine.begin_listening(outsider, link)? {
@@ -23,9 +22,7 @@ pub(crate) fn listen(engine: &mut Engine, outsider: u8, link: LinkId) -> Result<
 
 /// An outsider listens on a link no more.
 pub(crate) fn deafen(engine: &mut Engine, outsider: u8, link: LinkId) -> Result<(), Memory>
-    requires outsider { outsider < 8 }
-    requires small { link.0 < 32 }
-    requires link { link.0 < length engine.old.net.links }
+    requires { IsEar engine.old outsider link }
     ensures { Goes result engine.old engine.new (λ s run. deafens run outsider link.0) }
 {
     if engine.end_listening(outsider, link) {

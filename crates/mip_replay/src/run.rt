@@ -3,8 +3,6 @@
 ghost use Rattle.std.specs.Prelude.{◌≡◌, [], IfOk, OnOk};
 ghost use Rattle.mip_history.specs.Setup.{setup_of};
 ghost use Rattle.mip_history.specs.Permitted.{permitted, run_of};
-ghost use Rattle.mip_schedule.specs.Lawful.{IsLawful};
-ghost use Rattle.mip_symbols.specs.Places.{AreFew};
 ghost use Rattle.mip_schedule.specs.Schedules.{content};
 ghost use Rattle.mip_law_origin.specs.Marked.{EachIsMarked};
 ghost use Rattle.mip_law_delivery.specs.Reached.{EachReaches};
@@ -28,12 +26,12 @@ use std::alloc::Global;
 
 /// The events of a schedule happen, one after the other. Each finds the engine ready.
 fn run(alloc: Global, engine: &mut Engine, schedule: &Schedule) -> Result<(), Memory>
-    requires lawful { IsLawful (content schedule.now) }
-    requires few { AreFew schedule.now.declarations }
-    requires opened { IsAt engine.old (setup_of (content schedule.now)) (run_of (setup_of (content schedule.now)) []) }
+    requires { IsAt engine.old (setup_of (content schedule.now)) (run_of (setup_of (content schedule.now)) []) }
     ensures stands { OnOk result (IsAt engine.new (setup_of (content schedule.now)) (run_of (setup_of (content schedule.now)) schedule.now.events)) }
     ensures kept { OnOk result (engine.new.told ≡ engine.old.told) }
 {
+    few(schedule);
+    lawful(schedule);
     moments_rise();
     lives_are_restarts();
     for event in schedule.events.as_slice() {

@@ -17,10 +17,8 @@ happen-requires c =
     let are : c.as_slice-event-items.result.now ≡ s.events = c.as_slice-event-items.ensures in
     let inside : i < length s.events = omega (arith, ap (λ (l : List Event). length l) are) in
     let is : event ≡ get_or s.events i event = c.event-item.is ∙ ap (λ (l : List Event). get_or l i event) are in
-    record {
-      ready = subst (λ (x : Event). IsReady e x) (sym is)
-          (finds_ready c.moments_rise.ensures.waited c.lives_are_restarts.ensures s c.requires.lawful c.requires.few i event inside e c.loop-event.invariant.stands);
-    }
+    subst (λ (x : Event). IsReady e x) (sym is)
+    (finds_ready c.moments_rise.ensures.waited c.lives_are_restarts.ensures s c.lawful.ensures c.few.ensures i event inside e c.loop-event.invariant.stands)
 
 pub loop-event-preserved : goal.loop-event-preserved
 loop-event-preserved c =

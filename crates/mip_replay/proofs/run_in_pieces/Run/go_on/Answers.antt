@@ -18,10 +18,8 @@ happen-requires c =
     let are : c.as_slice-events.result.now ≡ s.events = c.as_slice-events.ensures in
     let inside : i < length s.events = omega (arith, c.loop-self-test.true, ap (λ (l : List Event). length l) are) in
     let is : event ≡ get_or s.events i event = c.index-events-self.is ∙ ap (λ (l : List Event). get_or l i event) are in
-    record {
-      ready = subst (λ (x : Event). IsReady e x) (sym is)
-          (finds_ready c.moments_rise.ensures.waited c.lives_are_restarts.ensures s c.lawful.ensures c.few.ensures i event inside e c.loop-self.invariant.stands.stands);
-    }
+    subst (λ (x : Event). IsReady e x) (sym is)
+    (finds_ready c.moments_rise.ensures.waited c.lives_are_restarts.ensures s c.lawful.ensures c.few.ensures i event inside e c.loop-self.invariant.stands.stands)
 
 pub loop-self-preserved : goal.loop-self-preserved
 loop-self-preserved c =
