@@ -15,7 +15,7 @@ use Rattle.mip_rules_agent.specs.declared.home_binding.HomeBinding.{HomeBinding}
 use Rattle.mip_rules_agent.specs.Questions.{if_standing, careof_at}
 use Rattle.mip_rules_mobile.specs.declared.attachment.Attachment.{Attachment}
 use Rattle.mip_rules_mobile.specs.Known as mobiles
-use Rattle.mip_rules_mobile.specs.HomeQuestions.{registered_agent}
+use Rattle.mip_rules_mobile.specs.HomeQuestions.{registered_agent, agent_of}
 use Rattle.mip_schedule.specs.Contents.{Content}
 use Rattle.mip_schedule.specs.declared.event.Event.{Event}
 use Rattle.mip_history.specs.Setup.{Setup, Host, Kind, is_mobile_host, setup_of}
@@ -37,7 +37,9 @@ use Rattle.mip_settled.proofs.AsTold.{found_as_told, registered_as_told, bound_a
 use Rattle.mip_settled.proofs.Declared.{declared_of_run}
 use Rattle.mip_settled.proofs.OfKinds.{present_at_own, registers_none}
 use Rattle.mip_past.specs.Asking.{present_from, present_told, standing_by, standing_from, leaves_by, leaves_from}
-use Rattle.mip_past.specs.Registering.{last_sent_to}
+use Rattle.mip_past.specs.Registering.{last_sent_to, agent_of_told}
+use Rattle.mip_past.specs.SendingLaws.{IsThroughAsAsked}
+use Rattle.mip_past.proofs.ThroughTold.{sent_as_told}
 use Rattle.mip_past.proofs.Standing.{standing_is}
 use Rattle.mip_past.proofs.EndsTold.{due_as_told}
 use Rattle.mip_past.proofs.AgentsHeard.{agents_as_told}
@@ -243,3 +245,13 @@ pub listed_as_asked : (c : Content) (k : ℕ) → AreListedAsAsked c k
 listed_as_asked c k apart small n own preference life room serves is =
     ap (λ (past : List Entry). agents_in (router_of c.declarations) c.start.0 past n) (front_is (setup_of c) c.events k)
     ∙ agents_as_told c (take k c.events) apart small n own preference life room serves is
+
+-- the agent of a mobile, whether it is registered or not
+pub through_as_asked : (s : Setup) (events : List Event) (k : ℕ) → IsThroughAsAsked s events k
+through_as_asked s events k n own agent is node are =
+    let known : mobiles.Known = mobile_known_in s (run_at s events k) n own agent in
+    let now : ℕ = now_in s (run_at s events k) in
+    ap (λ (past : List Entry). agent_of_told (moment_in s.start past) past n) (front_is s events k)
+    ∙ ap (λ (o : Option Address). option_or o (last_sent_to (run_at s events k).past n)) (registered_as_told s (take k events) n own agent is node now)
+    ∙ ap (λ (o : Option Address). option_or (registered_agent known now) o) (sent_as_told s n own agent is (take k events) are)
+    ∙ sym (ap (λ (past : List Entry). agent_of known (moment_in s.start past)) (front_is s events k))

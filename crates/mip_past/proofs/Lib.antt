@@ -14,3 +14,4 @@ pub mod AgentsHeard
 pub mod PlansKept
 pub mod PlacesTold
 pub mod Premises
+pub mod ThroughTold

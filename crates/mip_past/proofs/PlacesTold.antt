@@ -196,7 +196,7 @@ fresh_places : (own : Address) (agent : Option Address) (numbers : ℕ) (secrets
 unfolding known
 fresh_places own agent numbers secrets = refl
 
-no_past : (hosts : List Host) (n : ℕ) → slice_index_or (map (λ (host : Host). let l : List (Stamped Step) = [] in l) hosts) n [] ≡ []
+pub no_past : (hosts : List Host) (n : ℕ) → slice_index_or (map (λ (host : Host). let l : List (Stamped Step) = [] in l) hosts) n [] ≡ []
 no_past [] n = refl
 no_past (host ∷ hosts) zero = refl
 no_past (host ∷ hosts) (suc n) = no_past hosts n

@@ -87,12 +87,22 @@ alternate_options careof fits = record {
   authorization_fits = λ bytes is. absurd cc;
 }
 
+-- a deregistration asks none
+pub ends_none : (home agent : Address) (sequence : ℕ) → home.0 < 2 ^ 128 → agent.0 < 2 ^ 128 → sequence < 65536 → packet_agent (packet_of (deregistration_packet home agent sequence)) ≡ None
+unfolding deregistration_packet
+ends_none home agent sequence home_fits agent_fits few =
+    ap packet_agent (reads_back (straight home agent 135) (deregisters sequence) 16 (length_deregistration sequence) (omega arith) (omega arith) refl (record {
+      source = home_fits;
+      destination = agent_fits;
+      class = omega arith;
+      route = tt;
+      home = tt;
+    }))
+    ∙ ap (λ (r : Result Said Fault). agent_by (record { head = straight home agent 135; body = message_bytes home agent (deregisters sequence) }) (result_ok r)) (message_back home agent sequence 0 nothing few (omega arith) plain_options)
+
 module _ (home careof agent : Address) (sequence : ℕ) (away : IsAway home careof agent) (few : sequence < 65536) where
   abbrev out : Head
   out = node_head careof agent None (Some home) 135
-
-  abbrev back : Head
-  back = straight home agent 135
 
   asks : packet_agent (packet_of (message_packet out (registers sequence careof))) ≡ Some agent
   asks =
@@ -106,17 +116,6 @@ module _ (home careof agent : Address) (sequence : ℕ) (away : IsAway home care
       ∙ ap (λ (r : Result Said Fault). agent_by (record { head = out; body = message_bytes home agent (registers sequence careof) }) (result_ok r)) (message_back home agent sequence 900 (with_alternate careof) few (omega arith) (alternate_options careof away.careof_fits))
       ∙ ap (λ (b : Bool). if not b then Some agent else None) (ne_eqb careof.0 home.0 away.apart)
 
-  asks_none : packet_agent (packet_of (message_packet back (deregisters sequence))) ≡ None
-  asks_none =
-      ap packet_agent (reads_back back (deregisters sequence) 16 (length_deregistration sequence) (omega arith) (omega arith) refl (record {
-        source = away.home_fits;
-        destination = away.agent_fits;
-        class = omega arith;
-        route = tt;
-        home = tt;
-      }))
-      ∙ ap (λ (r : Result Said Fault). agent_by (record { head = back; body = message_bytes home agent (deregisters sequence) }) (result_ok r)) (message_back home agent sequence 0 nothing few (omega arith) plain_options)
-
 pub read_as_sent : (home careof agent : Address) (sequence : ℕ) → IsAway home careof agent → sequence < 65536 → IsReadAsSent home careof agent sequence
-unfolding registration_packet deregistration_packet
-read_as_sent home careof agent sequence away few = record { registers = asks home careof agent sequence away few; ends = asks_none home careof agent sequence away few }
+unfolding registration_packet
+read_as_sent home careof agent sequence away few = record { registers = asks home careof agent sequence away few; ends = ends_none home agent sequence away.home_fits away.agent_fits few }

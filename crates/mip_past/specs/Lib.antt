@@ -12,3 +12,4 @@ pub mod Hearing
 pub mod HearingLaws
 pub mod PlanningLaws
 pub mod MeetingLaws
+pub mod SendingLaws

@@ -14,6 +14,7 @@ ghost use Rattle.mip_past.specs.PlanningLaws.{ArePlansAsAsked};
 ghost use Rattle.mip_past.specs.MeetingLaws.{MeetsPremises};
 ghost use Rattle.mip_past.specs.OneNumber.{IsOfTheLast};
 ghost use Rattle.mip_past.specs.Sending.{IsAway, IsReadAsSent};
+ghost use Rattle.mip_past.specs.SendingLaws.{IsThroughAsAsked};
 
 /// A history only grows. So what lies before the place behind some first events is what these leave, at their moment; and each
 /// node has its own address there.
@@ -78,6 +79,12 @@ pub fn one_number_leaves_the_last()
 /// told by the packets that were sent.
 pub fn home_registrations_are_read()
     ensures { (home careof agent : Address) (sequence : ℕ) → IsAway home careof agent → sequence < 65536 → IsReadAsSent home careof agent sequence }
+{}
+
+/// The agent of a mobile for tunnels, deregistrations and prefix messages is the one that is asked, whether the mobile is registered or
+/// not: as long as all home registrations that it ever sent, and their ends, can be spelled.
+pub fn agents_of_mobiles_are_as_asked()
+    ensures { (s : Setup) (events : List Event) (k : ℕ) → IsThroughAsAsked s events k }
 {}
 
 /// What these laws ask of a setup and of a run, each schedule has that was read: no two nodes have one address, a node's number is small
