@@ -32,8 +32,11 @@ fn is_counted(
 ) -> Result<bool, Memory>
     ensures { IfOk result (λ b. b ≡ is_counted (map acceptance_seen accepted.now) now.0 home.0 (map acceptance_seen more.now)) }
 {
+    if any_of(home, more) {
+        return Ok(false);
+    }
     let sequence = floor(alloc, accepted, home, now)?;
-    Ok(!any_of(home, more) && sequence.is_some())
+    Ok(sequence.is_some())
 }
 
 /// How many homes have a sequence kept.
@@ -63,6 +66,9 @@ pub fn is_full(
     ensures { IfOk result (λ b. b ≡ is_full room (map acceptance_seen accepted.now) home.0 now.0) }
 {
     let sequence = floor(alloc, accepted, home, now)?;
+    if sequence.is_some() {
+        return Ok(false);
+    }
     let count = count(alloc, accepted, now)?;
-    Ok(sequence.is_none() && count as u64 == u64::from(room))
+    Ok(count as u64 == u64::from(room))
 }
