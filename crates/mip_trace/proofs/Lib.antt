@@ -4,3 +4,4 @@ pub mod EntryAgain
 pub mod Walking
 pub mod TraceLaws
 pub mod WrittenLaws
+pub mod HeardLaws

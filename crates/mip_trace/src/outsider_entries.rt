@@ -11,6 +11,7 @@ use crate::claim_entries::{claim_entry, put_claim_entry};
 use crate::entry_word::EntryWord;
 use crate::line_writing::{put_line, put_values};
 use mip_entries::Entry;
+use mip_lines::put_number;
 use mip_rows::{NameTable, Value, Values};
 use mip_words::{Bytes, LinkId, Memory};
 
@@ -65,6 +66,23 @@ fn put_injected(
     )
 }
 
+/// Appends a name. A byte or two, as most names have, take fewer steps than a copy.
+#[inline(always)]
+fn put_name(out: &mut Bytes, name: &[u8]) -> Result<(), Memory>
+    ensures { OnOk result (out.new ≡ out.old ++ name.now) }
+{
+    match name {
+        [one] => out.push(*one),
+        [one, two] => {
+            out.push(*one)?;
+            out.push(*two)
+        }
+        _ => out.extend(name),
+    }
+}
+
+/// Most lines of a trace may say what was heard. So this one is put field by field.
+#[tactic(auto, using(crate::proofs::HeardLaws::heard_line))]
 fn put_heard(
     out: &mut Bytes,
     names: &NameTable<'_>,
@@ -73,12 +91,11 @@ fn put_heard(
 ) -> Result<(), Memory>
     ensures { OnOk result (out.new ≡ out.old ++ line_text (line_fields names.now (line words.Heard (values.U64 number ∷ values.Outsider outsider ∷ [])))) }
 {
-    put_values(
-        out,
-        names,
-        EntryWord::Heard,
-        &[Value::U64(number), Value::Outsider(outsider)],
-    )
+    out.extend(b"heard ")?;
+    put_number(out, number)?;
+    out.push(b' ')?;
+    put_name(out, names.outsider_name(outsider))?;
+    out.push(b'\n')
 }
 
 /// Appends the line of an outsider on a link.
