@@ -3,7 +3,7 @@ use Rattle.std.proofs.Common.{◌≡◌, ◌≢◌, ℕ, zero, suc, ◌<◌, ◌
 use Rattle.std.specs.Prelude.{Option, Some, None, is_some, option_map, not, ◌&&◌, ◌||◌, ◌==◌, if◌then◌else◌, slice_get, take}
 use Rattle.std.specs.List.{list_any}
 use Rattle.std.specs.Option.{option_map_or}
-use Rattle.std.proofs.lemmas.Bool.{eq-eqb}
+use Rattle.std.proofs.lemmas.Bool.{and_right, eq-eqb}
 use Rattle.std.proofs.lemmas.List.{take_all}
 use Rattle.std.proofs.lemmas.Option.{slice_get_within}
 use Rattle.mip_words.specs.declared.address.Address.{Address}
@@ -65,10 +65,6 @@ module _ {X : Type 0} (has : X → Bool) where
     unfolding any_node
     any_node_is few = below_is 256 ∙ ap (λ (l : List X). list_any has l) (take_all 256 xs few)
 
-and_false : (b : Bool) → (b && false) ≡ false
-and_false true = refl
-and_false false = refl
-
 both : (a b c d : Bool) → a ≡ c → b ≡ d → (a && b) ≡ (c && d)
 both a b c d one two = ap (λ (x : Bool). x && b) one ∙ ap (λ (x : Bool). c && x) two
 
@@ -124,7 +120,7 @@ module _ (e : EngineSeen) (s : Setup) (events : List Event) (at : IsAt e s (run_
       → option_map_or (has_home_there e.moment own present agent) o false ≡ (is_address (declared_in past g) agent && is_address (careof_in e.moment past g own) present)
   agent_there g own present agent None none =
       sym (ap (λ (x : Option Address). is_address (declared_in past g) agent && is_address x present) (registers_none s g (ap is_agent_host (no_host e s run at g none)) events own e.moment)
-      ∙ and_false (is_address (declared_in past g) agent))
+      ∙ and_right (is_address (declared_in past g) agent) false refl)
   agent_there g own present agent (Some c) there =
       let found = host_of e s run at g c there in
       ap (λ (x : NodeSeen). has_home_there e.moment own present agent x) (sym found.2)

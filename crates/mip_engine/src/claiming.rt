@@ -18,13 +18,9 @@ use mip_words::{Address, Holder, LinkId, Memory, NodeId};
 
 /// The holder is this node.
 fn is_node(who: Holder, node: NodeId) -> bool
-    requires { node.0 < 32 }
     ensures { result ≡ (node.0 == holder_number who) }
 {
-    match who {
-        Holder::Node(by) => node.0 == by.0,
-        Holder::Outsider(_) => false,
-    }
+    usize::from(node.0) == who.place()
 }
 
 impl Engine {

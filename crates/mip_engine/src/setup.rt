@@ -8,7 +8,6 @@ ghost use Rattle.mip_history.specs.Setup.{Setup, Host, links_in, outsiders_in, s
 ghost use Rattle.mip_history.specs.Runs.{note};
 ghost use Rattle.mip_history.specs.Permitted.{opened, claimed_entry, is_same_link, is_agent_on};
 ghost use Rattle.mip_roles.specs.Hosts.{IsFit};
-ghost use Rattle.mip_schedule.specs.Lawful.{IsLawful};
 ghost use Rattle.mip_symbols.specs.Places.{AreFew};
 ghost use Rattle.mip_schedule.specs.Schedules.{content};
 ghost use Rattle.mip_engine.specs.Engines.{IsFree, new_engine};
@@ -19,7 +18,7 @@ ghost use Rattle.mip_engine.specs.Openings.{with_hosts, CanShare};
 use crate::engine::Engine;
 use crate::hosts::hosts_in;
 use mip_roles::{Host, Node};
-use mip_schedule::{Declaration, Schedule};
+use mip_schedule::{Declaration, Schedule, few, lawful};
 use mip_words::{Address, Holder, LinkId, Memory, NodeId, Prefix};
 use std::alloc::Global;
 
@@ -162,12 +161,12 @@ impl Engine {
     /// The run of a schedule before the first event: each node holds its address, and the first agent of a link the
     /// home-agents anycast address there (RFC 2526 section 3).
     pub fn open(alloc: Global, schedule: &Schedule) -> Result<Engine, Memory>
-        requires lawful { IsLawful (content schedule.now) }
-        requires few { AreFew schedule.now.declarations }
         ensures stands { IfOk result (λ e. IsAt e (setup_of (content schedule.now)) (opened (setup_of (content schedule.now)))) }
         // Nothing of it was given away.
         ensures none { IfOk result (λ e. e.told ≡ []) }
     {
+        few(schedule);
+        lawful(schedule);
         let ds = schedule.declarations.as_slice();
         let links = links_in(alloc, ds)?;
         let hosts = hosts_in(alloc, ds)?;

@@ -5,6 +5,7 @@ mod advertising;
 mod asking;
 mod binding;
 mod delivering;
+mod early;
 mod forging;
 mod happening;
 mod laws;

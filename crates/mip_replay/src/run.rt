@@ -44,8 +44,6 @@ fn run(alloc: Global, engine: &mut Engine, schedule: &Schedule) -> Result<(), Me
 fn run_whole(alloc: Global, schedule: &Schedule) -> Result<History, Memory>
     ensures { IfOk result (λ h. h ≡ permitted (content schedule.now)) }
 {
-    few(schedule);
-    lawful(schedule);
     let mut engine = Engine::open(alloc, schedule)?;
     run(alloc, &mut engine, schedule)?;
     Ok(engine.into_history())

@@ -38,8 +38,6 @@ impl Run {
         ensures stands { IfOk result (λ r. IsRunOf r (content schedule.now)) }
         ensures none { IfOk result (λ r. r.told ≡ []) }
     {
-        few(schedule);
-        lawful(schedule);
         let engine = Engine::open(alloc, schedule)?;
         Ok(Run { engine, next: 0 })
     }

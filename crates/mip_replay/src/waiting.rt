@@ -8,6 +8,7 @@ ghost use Rattle.mip_history.specs.Waiting.{due_of, sooner, earliest, is_due, co
 ghost use Rattle.mip_engine.specs.Roles.{due_of as role_due};
 ghost use Rattle.mip_engine.specs.Standing.{IsAt, IsOfRun, Goes};
 
+use crate::early::Early;
 use mip_engine::{Call, Engine};
 use mip_history::work_stays_within_its_wait;
 use mip_words::{Memory, Moment, NodeId};
@@ -51,15 +52,14 @@ fn is_told(engine: &Engine, moment: Moment, told: bool) -> bool
 }
 
 /// The moment is this one from here on, and an `at` says so, unless one has said so in this event.
-fn come_to(engine: &mut Engine, moment: Moment, told: bool) -> Result<(), Memory>
-    requires later { engine.old.moment ≤ moment.0 }
-    requires early { moment.0 < 2 ^ 62 }
-    ensures { Goes result engine.old engine.new (λ s run. (comes_to s moment.0 (record { run = run; told = told })).run) }
+fn come_to(engine: &mut Engine, to: Early, told: bool) -> Result<(), Memory>
+    requires { engine.old.moment ≤ to.moment.0 }
+    ensures { Goes result engine.old engine.new (λ s run. (comes_to s to.moment.0 (record { run = run; told = told })).run) }
 {
-    if is_told(engine, moment, told) {
+    if is_told(engine, to.moment, told) {
         return Ok(());
     }
-    engine.pass_to(moment)
+    engine.pass_to(to.moment)
 }
 
 /// A node with work due by now does it.
@@ -96,12 +96,11 @@ fn first_due(engine: &Engine) -> Option<Moment>
 }
 
 /// What is due is done at its moment, or now if that has passed.
-fn work(alloc: Global, engine: &mut Engine, due: Moment, told: bool) -> Result<(), Memory>
-    requires { due.0 < 2 ^ 62 }
-    ensures { Goes result engine.old engine.new (λ s run. (works s due.0 (record { run = run; told = told })).run) }
+fn work(alloc: Global, engine: &mut Engine, due: Early, told: bool) -> Result<(), Memory>
+    ensures { Goes result engine.old engine.new (λ s run. (works s due.moment.0 (record { run = run; told = told })).run) }
 {
-    let moment = later(engine.moment(), due);
-    come_to(engine, moment, told)?;
+    let moment = later(engine.moment(), due.moment);
+    come_to(engine, Early { moment }, told)?;
     let count = engine.count();
     tick_first(alloc, engine, count)
 }
@@ -110,27 +109,25 @@ fn work(alloc: Global, engine: &mut Engine, due: Moment, told: bool) -> Result<(
 fn work_by(
     alloc: Global,
     engine: &mut Engine,
-    target: Moment,
+    target: Early,
     due: Moment,
     told: bool,
 ) -> Result<bool, Memory>
-    requires { target.0 < 2 ^ 62 }
-    ensures more { IfOk result (λ more. more ≡ is_due (Some due.0) target.0) }
-    ensures after { Goes result engine.old engine.new (λ s run. (works_on (λ w. w) s target.0 (Some due.0) (record { run = run; told = told })).run) }
+    ensures more { IfOk result (λ more. more ≡ is_due (Some due.0) target.moment.0) }
+    ensures after { Goes result engine.old engine.new (λ s run. (works_on (λ w. w) s target.moment.0 (Some due.0) (record { run = run; told = told })).run) }
 {
-    if target.0 < due.0 {
+    if target.moment.0 < due.0 {
         return Ok(false);
     }
-    work(alloc, engine, due, told)?;
+    work(alloc, engine, Early { moment: due }, told)?;
     Ok(true)
 }
 
 /// The earliest work is done, if it is due by the target. Says whether there was any.
-fn work_next(alloc: Global, engine: &mut Engine, target: Moment, told: bool) -> Result<bool, Memory>
-    requires { target.0 < 2 ^ 62 }
-    ensures more { (s : Setup) (run : Run) → IsAt engine.old s run → IfOk result (λ more. more ≡ is_due (earliest (due_of s run) (length s.hosts)) target.0) }
+fn work_next(alloc: Global, engine: &mut Engine, target: Early, told: bool) -> Result<bool, Memory>
+    ensures more { (s : Setup) (run : Run) → IsAt engine.old s run → IfOk result (λ more. more ≡ is_due (earliest (due_of s run) (length s.hosts)) target.moment.0) }
     ensures after { Goes result engine.old engine.new
-        (λ s run. (works_on (λ w. w) s target.0 (earliest (due_of s run) (length s.hosts)) (record { run = run; told = told })).run) }
+        (λ s run. (works_on (λ w. w) s target.moment.0 (earliest (due_of s run) (length s.hosts)) (record { run = run; told = told })).run) }
 {
     match first_due(engine) {
         Some(due) => work_by(alloc, engine, target, due, told),
@@ -143,13 +140,12 @@ fn work_next(alloc: Global, engine: &mut Engine, target: Moment, told: bool) -> 
 fn work_until(
     alloc: Global,
     engine: &mut Engine,
-    target: Moment,
+    target: Early,
     rounds: u64,
 ) -> Result<bool, Memory>
-    requires { target.0 < 2 ^ 62 }
     ensures told { (s : Setup) (run : Run) → IsAt engine.old s run
-        → IfOk result (λ told. told ≡ (works_until s target.0 rounds (record { run = run; told = false })).told) }
-    ensures after { Goes result engine.old engine.new (λ s run. (works_until s target.0 rounds (record { run = run; told = false })).run) }
+        → IfOk result (λ told. told ≡ (works_until s target.moment.0 rounds (record { run = run; told = false })).told) }
+    ensures after { Goes result engine.old engine.new (λ s run. (works_until s target.moment.0 rounds (record { run = run; told = false })).run) }
 {
     let mut told = false;
     for _round in 0..rounds {
@@ -169,7 +165,9 @@ pub(crate) fn wait(alloc: Global, engine: &mut Engine, ms: u32) -> Result<(), Me
     ensures { Goes result engine.old engine.new (λ s run. waited s run ms) }
 {
     work_stays_within_its_wait();
-    let target = Moment(engine.moment().0 + u64::from(ms));
+    let target = Early {
+        moment: Moment(engine.moment().0 + u64::from(ms)),
+    };
     let told = work_until(alloc, engine, target, u64::from(ms) + 1)?;
     come_to(engine, target, told)
 }

@@ -10,11 +10,11 @@ ghost use Rattle.mip_engine.specs.Arrivals.{arrival_of, arrival_seen};
 ghost use Rattle.mip_engine.specs.Engines.{with_net, claim_tried, released};
 
 use crate::arrival::{Arrival, arrival_of};
-use crate::claims::{claim_own, try_claim};
+use crate::claims::{claimed, taken};
 use crate::engine::Engine;
 use crate::handing::handed_in;
 use mip_entries::Entry;
-use mip_links::Delivery;
+use mip_links::{ClaimFault, Delivery};
 use mip_words::{Address, Bytes, Holder, LinkId, Memory, Prefix, Shield};
 use std::alloc::Global;
 use std::mem::replace;
@@ -127,6 +127,7 @@ impl Engine {
     }
 
     /// Somebody takes an address on a link, unless somebody else has it. Says what is to be noted.
+    #[tactic(auto, using(crate::proofs::ClaimLaws::claimed_entry, crate::proofs::ClaimLaws::taken_entry, crate::proofs::ClaimLaws::never_unlinked))]
     pub(crate) fn take_claim(
         &mut self,
         who: Holder,
@@ -138,7 +139,12 @@ impl Engine {
         ensures entry { IfOk result (λ x. x ≡ claim_entry (holder_number who) address link.0 (holder_of self.old.net.rows address.0)) }
         ensures after { OnOk result (self.new ≡ with_net (claim_tried self.old.net (holder_number who) address) self.old) }
     {
-        try_claim(&mut self.net, who, link, address)
+        match self.net.claim(who, address) {
+            Ok(()) => Ok(claimed(who.number(), link, address)),
+            Err(ClaimFault::Taken { by }) => Ok(taken(who.number(), link, address, by.number())),
+            Err(ClaimFault::NoLink) => unreachable!(),
+            Err(ClaimFault::Memory) => Err(Memory),
+        }
     }
 
     /// Somebody takes an address on a link, which nobody has.
@@ -147,7 +153,11 @@ impl Engine {
         requires free { refusal self.old.net (holder_number who) address.0 ≡ None }
         ensures { OnOk result (self.new ≡ with_net (claimed self.old.net (holder_number who) address) self.old) }
     {
-        claim_own(&mut self.net, who, address)
+        match self.net.claim(who, address) {
+            Ok(()) => Ok(()),
+            Err(ClaimFault::Memory) => Err(Memory),
+            Err(_) => unreachable!(),
+        }
     }
 
     /// Somebody gives an address up, and says whether it had it.

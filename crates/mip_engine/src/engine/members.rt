@@ -1,16 +1,14 @@
 //! What an engine asks of its nodes, and does with them.
 
-ghost use Rattle.std.specs.Prelude.{◌≡◌, ◌+◌, ◌<◌, ◌^◌, true, false, length, unwrap_or, IfOk, IfSome, OnOk, Option, None, Some, is_some, option_map, slice_get};
+ghost use Rattle.std.specs.Prelude.{◌≡◌, ◌+◌, ◌<◌, ◌^◌, false, length, unwrap_or, IfOk, IfSome, OnOk, Option, None, Some, option_map, slice_get};
 ghost use Rattle.std.specs.Option.{option_map_or};
 ghost use Rattle.mip_links.specs.Table.{link_of};
-ghost use Rattle.mip_links.specs.Nets.{holder_of};
 ghost use Rattle.mip_roles.specs.Calls.{asked, IsAskable};
 ghost use Rattle.mip_roles.specs.Hosts.{IsFit};
 ghost use Rattle.mip_roles.specs.Roles.{due_of, homes_of, is_roaming, rows_of};
 ghost use Rattle.mip_roles.specs.Nodes.{NodeSeen, router_of, seen_router};
-ghost use Rattle.mip_engine.specs.Engines.{answers_of, acted, reborn, stood, joined, station_of, lives_at};
+ghost use Rattle.mip_engine.specs.Engines.{IsFree, answers_of, acted, reborn, stood, joined, station_of, lives_at};
 
-use crate::claims::claim_own;
 use crate::engine::Engine;
 use mip_entries::{Answers, Entry};
 use mip_nonce::Secrets;
@@ -170,8 +168,7 @@ impl Engine {
     pub(crate) fn join(&mut self, alloc: Global, host: Host) -> Result<(), Memory>
         requires few { length self.old.nodes < 32 }
         requires fit { IsFit host }
-        requires on_link { is_some (link_of self.old.net.links host.address.0) ≡ true }
-        requires free { holder_of self.old.net.rows host.address.0 ≡ None }
+        requires free { IsFree self.old.net host.address.0 }
         ensures { OnOk result (self.new ≡ joined host self.old) }
     {
         let number = self.nodes.len() as u8;
@@ -193,6 +190,6 @@ impl Engine {
             link,
             address,
         })?;
-        claim_own(&mut self.net, Holder::Node(NodeId(number)), address)
+        self.take_free(Holder::Node(NodeId(number)), address)
     }
 }

@@ -18,10 +18,7 @@ come_to-requires c =
     let starts : now_in s run ≤ target = omega (arith, c.moment.ensures.is, of.stands.now) in
     let within = c.work_stays_within_its_wait.ensures s events target rounds starts in
     let at = c.in_ok-told.ensures.after.stands s run of.stands in
-    record {
-      later = subst (λ (m : ℕ). m ≤ target) (sym at.now) within;
-      early = omega (arith, c.moment.ensures.is, c.from.ensures, c.requires.early);
-    }
+    subst (λ (m : ℕ). m ≤ target) (sym at.now) within
 
 pub returns : goal.returns
 returns c =

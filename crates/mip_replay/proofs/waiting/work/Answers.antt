@@ -8,7 +8,7 @@ use Rattle.mip_replay.proofs.waiting.work.Goals as goal
 
 pub returns : goal.returns
 returns c =
-    let due = c.args.due.0 in
+    let due = c.args.due.moment.0 in
     let told = c.args.told in
     goes_after (gone c.in_ok-come_to.ensures) c.tick_first.ensures (λ s run at.
     let m = max (now_in s run) due in

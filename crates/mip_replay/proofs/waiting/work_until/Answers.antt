@@ -7,9 +7,9 @@ pub loop-round-preserved : goal.loop-round-preserved
 loop-round-preserved c = record {
   stands = λ s run at.
       let l = c.loop-round in
-      let end : Waiting = works_until s c.args.target.0 c.args.rounds (record { run = run; told = false }) in
+      let end : Waiting = works_until s c.args.target.moment.0 c.args.rounds (record { run = run; told = false }) in
       let more : c.in_ok-more.more ≡ true = c.if-not-more.false in
-      round_more l.engine c.work_next.new.engine s c.args.target.0 c.args.rounds l._round l.told end (omega (arith, c.loop-round-test.true)) (l.invariant.stands s run at)
+      round_more l.engine c.work_next.new.engine s c.args.target.moment.0 c.args.rounds l._round l.told end (omega (arith, c.loop-round-test.true)) (l.invariant.stands s run at)
       (λ r here. sym more ∙ c.in_ok-more.ensures.more s r here) (λ r here. c.in_ok-more.ensures.after.stands s r here);
   kept = c.in_ok-more.ensures.after.kept ∙ c.loop-round.invariant.kept;
 }
@@ -17,9 +17,9 @@ loop-round-preserved c = record {
 pub returns-then-not-more-clause-told : goal.returns-then-not-more-clause-told
 returns-then-not-more-clause-told c = λ s run at.
     let l = c.loop-round in
-    let end : Waiting = works_until s c.args.target.0 c.args.rounds (record { run = run; told = false }) in
+    let end : Waiting = works_until s c.args.target.moment.0 c.args.rounds (record { run = run; told = false }) in
     let more : c.in_ok-more.more ≡ false = c.if-not-more.true in
-    let done = round_none l.engine c.work_next.new.engine s c.args.target.0 c.args.rounds l._round l.told end (omega (arith, c.loop-round-test.true)) (l.invariant.stands s run at)
+    let done = round_none l.engine c.work_next.new.engine s c.args.target.moment.0 c.args.rounds l._round l.told end (omega (arith, c.loop-round-test.true)) (l.invariant.stands s run at)
     (λ r here. sym more ∙ c.in_ok-more.ensures.more s r here) (λ r here. c.in_ok-more.ensures.after.stands s r here) in
     done.0
 
@@ -27,9 +27,9 @@ pub returns-then-not-more-clause-after : goal.returns-then-not-more-clause-after
 returns-then-not-more-clause-after c = record {
   stands = λ s run at.
       let l = c.loop-round in
-      let end : Waiting = works_until s c.args.target.0 c.args.rounds (record { run = run; told = false }) in
+      let end : Waiting = works_until s c.args.target.moment.0 c.args.rounds (record { run = run; told = false }) in
       let more : c.in_ok-more.more ≡ false = c.if-not-more.true in
-      let done = round_none l.engine c.work_next.new.engine s c.args.target.0 c.args.rounds l._round l.told end (omega (arith, c.loop-round-test.true)) (l.invariant.stands s run at)
+      let done = round_none l.engine c.work_next.new.engine s c.args.target.moment.0 c.args.rounds l._round l.told end (omega (arith, c.loop-round-test.true)) (l.invariant.stands s run at)
       (λ r here. sym more ∙ c.in_ok-more.ensures.more s r here) (λ r here. c.in_ok-more.ensures.after.stands s r here) in
       done.1;
   kept = c.in_ok-more.ensures.after.kept ∙ c.loop-round.invariant.kept;
@@ -38,16 +38,16 @@ returns-then-not-more-clause-after c = record {
 pub returns-clause-told : goal.returns-clause-told
 returns-clause-told c = λ s run at.
     let l = c.loop-round in
-    let end : Waiting = works_until s c.args.target.0 c.args.rounds (record { run = run; told = false }) in
-    let done = round_last l.engine l.engine s c.args.target.0 c.args.rounds l._round l.told end (omega (arith, c.loop-round-test.false)) (l.invariant.stands s run at) in
+    let end : Waiting = works_until s c.args.target.moment.0 c.args.rounds (record { run = run; told = false }) in
+    let done = round_last l.engine l.engine s c.args.target.moment.0 c.args.rounds l._round l.told end (omega (arith, c.loop-round-test.false)) (l.invariant.stands s run at) in
     done.0
 
 pub returns-clause-after : goal.returns-clause-after
 returns-clause-after c = record {
   stands = λ s run at.
       let l = c.loop-round in
-      let end : Waiting = works_until s c.args.target.0 c.args.rounds (record { run = run; told = false }) in
-      let done = round_last l.engine l.engine s c.args.target.0 c.args.rounds l._round l.told end (omega (arith, c.loop-round-test.false)) (l.invariant.stands s run at) in
+      let end : Waiting = works_until s c.args.target.moment.0 c.args.rounds (record { run = run; told = false }) in
+      let done = round_last l.engine l.engine s c.args.target.moment.0 c.args.rounds l._round l.told end (omega (arith, c.loop-round-test.false)) (l.invariant.stands s run at) in
       done.1;
   kept = c.loop-round.invariant.kept;
 }

@@ -9,6 +9,6 @@ use Rattle.mip_replay.proofs.waiting.work_until.Given as goal
 abbrev pub invariant-loop-round : goal.invariant-loop-round
 invariant-loop-round l = record {
   stands : (s : Setup) (run : Run) → IsAt l.fn.engine s run
-      → Leads l.engine s l.target.0 (l.rounds - l._round) l.told (works_until s l.target.0 l.rounds (record { run = run; told = false }));
+      → Leads l.engine s l.target.moment.0 (l.rounds - l._round) l.told (works_until s l.target.moment.0 l.rounds (record { run = run; told = false }));
   kept : l.engine.told ≡ l.fn.engine.told;
 }

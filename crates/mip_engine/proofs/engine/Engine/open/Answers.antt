@@ -11,12 +11,12 @@ use Rattle.mip_engine.proofs.JoinLaws.{is_new, links_few, nodes_placed}
 use Rattle.mip_engine.proofs.engine.Engine.open.Goals as goal
 
 pub outsiders_in-requires : goal.outsiders_in-requires
-outsiders_in-requires c = subst (λ (ds : List Declaration). AreFew ds) (sym c.as_slice-ds.ensures) c.requires.few
+outsiders_in-requires c = subst (λ (ds : List Declaration). AreFew ds) (sym c.as_slice-ds.ensures) c.few.ensures
 
 pub new-requires-clause-few : goal.new-requires-clause-few
 new-requires-clause-few c =
     let ds = c.as_slice-ds.ensures in
-    let few = links_few c.in_ok-links.links.items c.args.schedule.now.declarations (c.in_ok-links.ensures ∙ ap links_in ds) c.requires.few in
+    let few = links_few c.in_ok-links.links.items c.args.schedule.now.declarations (c.in_ok-links.ensures ∙ ap links_in ds) c.few.ensures in
     omega (arith, few, ap (λ (l : List Prefix). length l) c.as_slice.ensures.value)
 
 pub join_all-requires : goal.join_all-requires
@@ -28,7 +28,7 @@ join_all-requires c =
     sym (ap (λ (e : EngineSeen). e.net.links) c.in_ok-engine.ensures ∙ ap (λ (l : List Prefix). map (λ (p : Prefix). p.0) l) c.as_slice.ensures.value ∙ c.in_ok-links.ensures ∙ ap links_in ds) in
     record {
       placed = subst (λ (l : List ℕ). ArePlaced l c.in_ok-hosts.hosts.items) links
-          (subst (λ (hs : List Host). ArePlaced (links_in s.declarations) hs) hosts (nodes_placed s c.requires.lawful c.requires.few));
+          (subst (λ (hs : List Host). ArePlaced (links_in s.declarations) hs) hosts (nodes_placed s c.lawful.ensures c.few.ensures));
       new = is_new c.in_ok-engine.engine s.seed s.start.0 (map (λ (p : Prefix). p.0) c.as_slice.result.now) c.outsiders_in.result (numbers_of_version s.version) c.in_ok-engine.ensures;
     }
 
