@@ -15,11 +15,7 @@ const PLAIN: &[u8] =
     b"mip 1\nseed 000102030405060708090a0b0c0d0e0f101112131415161718191a1b1c1d1e1f\nstart 0\nlink n1 20010db800010000\ncorrespondent c n1 20010db8000100000000000000000002 2\noutsider o\nrun\nsquat o 20010db8000100000000000000000077\nlisten o n1\nprobe o n1 home 20010db8000100000000000000000077 20010db8000100000000000000000002 0102030405060708\ncarry 2\nsettle c c\n";
 
 /// The place at which a history is not the permitted one.
-fn differs(
-    alloc: Global,
-    schedule: &Schedule,
-    history: &History,
-) -> Result<Option<usize>, Memory> {
+fn differs(alloc: Global, schedule: &Schedule, history: &History) -> Result<Option<usize>, Memory> {
     match audit(alloc, schedule, history) {
         Ok(()) => Ok(None),
         Err(HistoryFault::Differs { place }) => Ok(Some(place)),
