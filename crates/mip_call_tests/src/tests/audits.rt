@@ -25,6 +25,9 @@ fn differs(alloc: Global, schedule: &Schedule, history: &History) -> Result<Opti
 
 /// What an audit says of the history of a schedule, and of that with an entry more, which stands behind so many.
 fn judged(alloc: Global, text: &[u8]) -> Result<(Option<usize>, Option<usize>, usize), Fail> {
+    if text.len() > 10_000 {
+        return Err("a long text".into());
+    }
     let schedule = read_schedule(alloc, text)?;
     let mut history = replay(alloc, &schedule)?;
     let count = history.len();
