@@ -1,0 +1,6 @@
+//! A mobile of a run that is computed afresh.
+#![tactic(auto)]
+
+mod node;
+
+pub use node::Node;

@@ -1,0 +1,3 @@
+pub mod Trials
+pub mod Mobiles
+pub mod Turns

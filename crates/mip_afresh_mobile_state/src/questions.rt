@@ -1,0 +1,268 @@
+//! What a mobile knows, a function a question.
+
+ghost use Rattle.std.specs.Prelude.{◌≡◌, length, is_some, option_map};
+ghost use Rattle.mip_bulist.specs.declared.tested.Test as tests;
+ghost use Rattle.mip_bulist.specs.Rows.{given_row};
+ghost use Rattle.mip_bulist.specs.Timers.{due_work, first_due};
+ghost use Rattle.mip_rules_mobile.specs.Known.{Known};
+ghost use Rattle.mip_rules_mobile.specs.Trials.{makes, keeps_home_test, keeps_careof_test, is_idle, is_bound};
+ghost use Rattle.mip_rules_mobile.specs.HomeQuestions.{home_of, binding_number_of, registration_of, registered_agent, agent_of, target_of, next_to};
+ghost use Rattle.mip_rules_mobile.specs.DiscoveryQuestions.{next_found};
+ghost use Rattle.mip_rules_mobile.specs.RowQuestions.{first_cookie, second_cookie, row_of, peer_of_row, trial_of, is_bound_row, is_touched_row, wait_of_row, bound_row_of};
+ghost use Rattle.mip_afresh_mobile_state.specs.Mobiles.{seen_of};
+ghost use Rattle.mip_afresh_mobile_state.specs.Trials.{any_seen, discovery_seen, given_seen};
+
+use crate::discovery::Discovery;
+use crate::mobile::Mobile;
+use crate::row::Row;
+use mip_bulist::{Made, Refused, Work};
+use mip_rules_mobile::{Attachment, HomeUpdate, Registered};
+use mip_words::{Address, Cookie, Moment};
+
+impl Mobile {
+    /// The home address.
+    pub fn home(&self) -> Address
+        ensures { (k : Known) → seen_of k ≡ self.now → result ≡ home_of k }
+    {
+        self.identity.own
+    }
+
+    /// Where it stands.
+    pub fn standing(&self) -> Attachment
+        ensures { (k : Known) → seen_of k ≡ self.now → result ≡ k.standing }
+    {
+        self.standing
+    }
+
+    /// The agent that it was declared with.
+    pub fn declared(&self) -> Option<Address>
+        ensures { (k : Known) → seen_of k ≡ self.now → result ≡ k.declared }
+    {
+        self.declared
+    }
+
+    /// The last home registration or deregistration of this life.
+    pub fn latest(&self) -> Option<HomeUpdate>
+        ensures { (k : Known) → seen_of k ≡ self.now → result ≡ k.latest }
+    {
+        self.latest
+    }
+
+    /// A home registration was sent that nothing has undone.
+    pub fn owes(&self) -> bool
+        ensures { (k : Known) → seen_of k ≡ self.now → result ≡ k.owes }
+    {
+        self.owes
+    }
+
+    /// How many milliseconds the resending of the last home registration waits.
+    pub fn home_wait(&self) -> u64
+        ensures { (k : Known) → seen_of k ≡ self.now → result ≡ k.wait }
+    {
+        self.wait
+    }
+
+    /// The identifier of the next discovery.
+    pub fn discoveries(&self) -> u16
+        ensures { (k : Known) → seen_of k ≡ self.now → result ≡ k.discoveries }
+    {
+        self.discoveries
+    }
+
+    /// The discovery under way.
+    pub fn discovery(&self) -> Option<Discovery>
+        ensures { (k : Known) → seen_of k ≡ self.now → option_map discovery_seen result ≡ k.discovery }
+    {
+        self.discovery
+    }
+
+    /// The identifier of the next Mobile Prefix Solicitation.
+    pub fn solicitations(&self) -> u16
+        ensures { (k : Known) → seen_of k ≡ self.now → result ≡ k.solicitations }
+    {
+        self.solicitations
+    }
+
+    /// The home registration that was acknowledged.
+    pub fn registered(&self) -> Option<Registered>
+        ensures { (k : Known) → seen_of k ≡ self.now → result ≡ k.registered }
+    {
+        self.registered
+    }
+
+    /// The agent of its registration while it is registered.
+    pub fn registered_agent(&self, now: Moment) -> Option<Address>
+        ensures { (k : Known) → seen_of k ≡ self.now → result ≡ registered_agent k now.0 }
+    {
+        todo
+    }
+
+    /// It is registered.
+    pub fn is_registered(&self, now: Moment) -> bool
+        ensures { (k : Known) → seen_of k ≡ self.now → result ≡ is_some (registration_of k now.0) }
+    {
+        todo
+    }
+
+    /// The agent for tunnels, deregistrations and prefix messages.
+    pub fn agent(&self, now: Moment) -> Option<Address>
+        ensures { (k : Known) → seen_of k ≡ self.now → result ≡ agent_of k now.0 }
+    {
+        todo
+    }
+
+    /// The agent that a home registration goes to.
+    pub fn target(&self) -> Option<Address>
+        ensures { (k : Known) → seen_of k ≡ self.now → result ≡ target_of k }
+    {
+        todo
+    }
+
+    /// The sequence of the next update to an agent.
+    pub fn next_to(&self, agent: Address) -> u16
+        ensures { (k : Known) → seen_of k ≡ self.now → result ≡ next_to agent k.numberings }
+    {
+        todo
+    }
+
+    /// The number of a binding that it asks for.
+    pub fn binding_number(&self) -> u8
+        ensures { (k : Known) → seen_of k ≡ self.now → result ≡ binding_number_of k }
+    {
+        todo
+    }
+
+    /// The next agent of those found.
+    pub fn next_found(&self) -> Option<Address>
+        ensures { (k : Known) → seen_of k ≡ self.now → result ≡ next_found k }
+    {
+        todo
+    }
+
+    /// The next cookie.
+    pub fn first_cookie(&self) -> Cookie
+        ensures { (k : Known) → seen_of k ≡ self.now → result ≡ first_cookie k }
+    {
+        todo
+    }
+
+    /// The cookie behind it.
+    pub fn second_cookie(&self) -> Cookie
+        ensures { (k : Known) → seen_of k ≡ self.now → result ≡ second_cookie k }
+    {
+        todo
+    }
+
+    /// The row of a peer.
+    pub fn row_of(&self, peer: Address) -> Option<u8>
+        ensures { (k : Known) → seen_of k ≡ self.now → result ≡ row_of k peer }
+    {
+        todo
+    }
+
+    /// The row that a peer has, or gets; none where there is no room.
+    pub fn given_row(&self, peer: Address) -> Option<u8>
+        ensures { (k : Known) → seen_of k ≡ self.now → given_seen result ≡ given_row peer k.list.rows }
+    {
+        todo
+    }
+
+    /// The peer of a row.
+    pub fn peer_of(&self, row: u8) -> Option<Address>
+        ensures { (k : Known) → seen_of k ≡ self.now → result ≡ peer_of_row k row }
+    {
+        todo
+    }
+
+    /// A row, with its trial.
+    pub fn trial_of(&self, row: u8) -> Option<Row>
+        ensures { (k : Known) → seen_of k ≡ self.now → option_map (λ r. any_seen r.peer r.trial) result ≡ trial_of k row }
+    {
+        todo
+    }
+
+    /// What comes of making an update now; none where the trial makes none.
+    pub fn makes(&self, row: u8, now: Moment) -> Option<Result<Made, Refused>>
+        ensures { (k : Known) → seen_of k ≡ self.now → result ≡ makes now (trial_of k row) }
+    {
+        todo
+    }
+
+    /// Whether the trial of a row keeps a Home Test from this peer with this cookie.
+    pub fn keeps_home_test(&self, row: u8, peer: Address, cookie: Cookie) -> bool
+        ensures { (k : Known) → seen_of k ≡ self.now → (test : tests.Test) → result ≡ keeps_home_test peer cookie test (trial_of k row) }
+    {
+        todo
+    }
+
+    /// Whether the trial of a row keeps a Care-of Test from this peer with this cookie.
+    pub fn keeps_careof_test(&self, row: u8, peer: Address, cookie: Cookie) -> bool
+        ensures { (k : Known) → seen_of k ≡ self.now → (test : tests.Test) → result ≡ keeps_careof_test peer cookie test (trial_of k row) }
+    {
+        todo
+    }
+
+    /// The trial of a row is at rest.
+    pub fn is_idle(&self, row: u8) -> bool
+        ensures { (k : Known) → seen_of k ≡ self.now → result ≡ is_idle (trial_of k row) }
+    {
+        todo
+    }
+
+    /// The trial of a row has its binding.
+    pub fn is_bound(&self, row: u8) -> bool
+        ensures { (k : Known) → seen_of k ≡ self.now → result ≡ is_bound (trial_of k row) }
+    {
+        todo
+    }
+
+    /// The binding of a row has its end ahead.
+    pub fn is_bound_row(&self, row: u8, now: Moment) -> bool
+        ensures { (k : Known) → seen_of k ≡ self.now → result ≡ is_bound_row k now.0 row }
+    {
+        todo
+    }
+
+    /// An update went to the peer of a row, and no deletion was acknowledged since.
+    pub fn is_touched_row(&self, row: u8) -> bool
+        ensures { (k : Known) → seen_of k ≡ self.now → result ≡ is_touched_row k row }
+    {
+        todo
+    }
+
+    /// How many milliseconds the resending of a row waits.
+    pub fn wait_of_row(&self, row: u8) -> u64
+        ensures { (k : Known) → seen_of k ≡ self.now → result ≡ wait_of_row k row }
+    {
+        todo
+    }
+
+    /// The row of a peer that has a binding.
+    pub fn bound_row_of(&self, peer: Address, now: Moment) -> Option<u8>
+        ensures { (k : Known) → seen_of k ≡ self.now → result ≡ bound_row_of k now.0 peer }
+    {
+        todo
+    }
+
+    /// How many timers are set.
+    pub fn timers(&self) -> usize
+        ensures { (k : Known) → seen_of k ≡ self.now → result ≡ length k.list.timers }
+    {
+        self.timers.len()
+    }
+
+    /// The first timer's work, where it is due.
+    pub fn due_work(&self, now: Moment) -> Option<Work>
+        ensures { (k : Known) → seen_of k ≡ self.now → result ≡ due_work now k.list.timers }
+    {
+        todo
+    }
+
+    /// When work is due next.
+    pub fn first_due(&self) -> Option<Moment>
+        ensures { (k : Known) → seen_of k ≡ self.now → result ≡ first_due k.list.timers }
+    {
+        todo
+    }
+
+}
