@@ -5,8 +5,6 @@ use Rattle.mip_words.specs.declared.address.Address.{Address}
 use Rattle.mip_entries.specs.Stamped.{Stamped}
 use Rattle.mip_entries.specs.Transitions.{StandsBy}
 use Rattle.mip_rules_agent.specs.declared.identity.Identity.{Identity}
-use Rattle.mip_rules_agent.specs.Known.{Known}
-use Rattle.mip_rules_agent.specs.Calls.{Call}
 use Rattle.mip_rules_agent.specs.Steps.{Step}
 use Rattle.mip_rules_agent.specs.Questions.{known}
 use Rattle.mip_rules_agent.specs.Transitions.{Transition, Stands, with_transition}

@@ -1,5 +1,5 @@
 -- How what a turn shows goes on with the steps of its transition.
-use Rattle.std.proofs.Common.{◌≡◌, ℕ, List, [], ◌++◌, refl, sym, ap, ◌∙◌}
+use Rattle.std.proofs.Common.{◌≡◌, ℕ, List, ◌++◌, sym, ap, ◌∙◌}
 use Rattle.mip_words.specs.declared.moment.Moment.{Moment}
 use Rattle.mip_entries.specs.declared.answer.Answer.{Answer}
 use Rattle.mip_entries.proofs.TransitionLaws.{noted-now, noted-known}
@@ -7,7 +7,7 @@ use Rattle.mip_entries.proofs.ShowLaws.{answers-noted}
 use Rattle.mip_rules_agent.specs.Known.{Known}
 use Rattle.mip_rules_agent.specs.Steps.{Step, answer_of, answers_of}
 use Rattle.mip_rules_agent.specs.Questions.{after}
-use Rattle.mip_rules_agent.specs.Transitions.{Transition, begun, noted}
+use Rattle.mip_rules_agent.specs.Transitions.{Transition, noted}
 use Rattle.mip_afresh_agent.specs.declared.turn.Turn.{Turn}
 use Rattle.mip_afresh_agent.specs.Turns.{Shows}
 
