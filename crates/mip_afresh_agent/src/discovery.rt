@@ -31,11 +31,12 @@ fn above(
 ) -> Result<Vec<Address>, Memory>
     ensures { IfOk result (λ v. v.items ≡ map (λ x. x.address) (filter (is_above own preference) agents.now)) }
 {
-    let addresses = agents
-        .iter()
-        .filter(|agent| agent.is_above(own, preference))
-        .map(|agent| agent.address())
-        .collect(alloc)?;
+    let mut addresses = Vec::new(alloc);
+    for agent in agents {
+        if agent.is_above(own, preference) {
+            addresses.push(agent.address())?;
+        }
+    }
     Ok(addresses)
 }
 
@@ -48,11 +49,12 @@ fn behind(
 ) -> Result<Vec<Address>, Memory>
     ensures { IfOk result (λ v. v.items ≡ map (λ x. x.address) (filter (is_behind own preference) agents.now)) }
 {
-    let addresses = agents
-        .iter()
-        .filter(|agent| agent.is_behind(own, preference))
-        .map(|agent| agent.address())
-        .collect(alloc)?;
+    let mut addresses = Vec::new(alloc);
+    for agent in agents {
+        if agent.is_behind(own, preference) {
+            addresses.push(agent.address())?;
+        }
+    }
     Ok(addresses)
 }
 
