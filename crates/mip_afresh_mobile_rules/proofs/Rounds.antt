@@ -1,8 +1,6 @@
 -- Rules that go round by round.
 use Rattle.std.proofs.Common.{◌≡◌, ℕ, zero, suc, ◌+◌, ◌-◌, ◌<◌, ◌≤◌, List, [], ◌∷◌, ◌++◌, refl, sym, ap, ◌∙◌, arith}
-use Rattle.std.specs.Prelude.{Option, Some, None, is_none, option_map}
-use Rattle.mip_afresh_mobile_state.specs.declared.trial.Test.{Test}
-use Rattle.mip_afresh_mobile_state.specs.Trials.{test_seen}
+use Rattle.std.specs.Prelude.{Option, Some, None}
 use Rattle.mip_bulist.specs.Timers.{due_work}
 use Rattle.mip_bulist.specs.declared.work.Work.{Work}
 use Rattle.mip_entries.specs.declared.answer.Answer.{Answer}
@@ -48,8 +46,3 @@ unfolding ticks
 ticks-done n round t done =
     let none : n - round ≡ zero = omega (arith, done) in
     ap (λ (m : ℕ). ticks m t) none
-
--- a test that is missing
-pub lacking : (o : Option Test) → is_none o ≡ is_none (option_map test_seen o)
-lacking None = refl
-lacking (Some t) = refl

@@ -149,7 +149,6 @@ pub(crate) fn resend_home(alloc: Global, turn: &mut Turn, wait: u64) -> Result<(
 }
 
 /// The registration: its end is counted from the sending, and so is its renewal.
-#[tactic(auto, unfolding(mip_rules_mobile::specs::HomeRules::is_registered))]
 fn be_registered(
     alloc: Global,
     turn: &mut Turn,
@@ -166,7 +165,6 @@ fn be_registered(
 }
 
 /// Once deregistered, each touched row starts a trial to delete its binding.
-#[tactic(auto, unfolding(mip_rules_mobile::specs::HomeRules::is_unregistered))]
 fn be_unregistered(alloc: Global, turn: &mut Turn, update: HomeUpdate) -> Result<(), Memory>
     ensures { Goes result (is_unregistered update) turn.old turn.new }
 {

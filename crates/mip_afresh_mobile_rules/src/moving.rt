@@ -3,7 +3,9 @@
 ghost use Rattle.std.specs.Prelude.{◌≡◌, OnOk, if◌then◌else◌};
 ghost use Rattle.mip_outside.specs.Places.{is_held};
 ghost use Rattle.mip_rules_mobile.specs.declared.attachment.Attachment.TheVariants as places;
+ghost use Rattle.mip_rules_mobile.specs.Steps.{Releases};
 ghost use Rattle.mip_rules_mobile.specs.HomeQuestions.{home_of};
+ghost use Rattle.mip_rules_mobile.specs.Transitions.{noted};
 ghost use Rattle.mip_rules_mobile.specs.MovingRules.{releases, leaves, settles_at, settles, arrives_by, address_under, arrives, uses_prefix, leaves_first, attaches, registers_if_away, restarts};
 ghost use Rattle.mip_afresh_mobile_state.specs.Turns.{Goes};
 
@@ -27,13 +29,20 @@ fn is_held(claim: Claim) -> bool
     }
 }
 
+/// The home address is released.
+fn release_own(turn: &mut Turn) -> Result<(), Memory>
+    ensures { Goes result (λ t. noted (Releases (home_of t.known)) t) turn.old turn.new }
+{
+    let home = turn.mobile.home();
+    turn.release(home)
+}
+
 /// At home the home address is released where a claim of it would be granted.
 fn release_home(turn: &mut Turn, claim: Claim) -> Result<(), Memory>
     ensures { Goes result (releases places.AtHome claim) turn.old turn.new }
 {
     if is_held(claim) {
-        let home = turn.mobile.home();
-        turn.release(home)
+        release_own(turn)
     } else {
         Ok(())
     }

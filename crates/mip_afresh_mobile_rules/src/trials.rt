@@ -1,19 +1,20 @@
 //! Return routability with a peer: how a trial starts, asks again, is sent again and rests (RFC 6275 sections 11.6, 11.7.2 and 11.8).
 
-ghost use Rattle.std.specs.Prelude.{◌≡◌, OnOk, option_map, Some};
+ghost use Rattle.std.specs.Prelude.{◌≡◌, OnOk, option_map, is_none, Some};
 ghost use Rattle.mip_rules_mobile.specs.declared.attachment.Attachment.TheVariants as places;
 ghost use Rattle.mip_rules_mobile.specs.Timing.{doubled};
 ghost use Rattle.mip_rules_mobile.specs.Sendings.{AsksCareof};
+ghost use Rattle.mip_rules_mobile.specs.RowQuestions.{trial_of};
 ghost use Rattle.mip_rules_mobile.specs.Steps.{Sends};
 ghost use Rattle.mip_rules_mobile.specs.Transitions.{noted};
 ghost use Rattle.mip_rules_mobile.specs.TrialRules.{starts_with, starts_at, starts, asks_home, asks_careof, goes_on, resends_at, resends_row};
 ghost use Rattle.mip_rules_mobile.specs.PeerRules.{rests};
-ghost use Rattle.mip_afresh_mobile_state.specs.Trials.{any_seen};
+ghost use Rattle.mip_afresh_mobile_state.specs.Trials.{any_seen, test_seen};
 ghost use Rattle.mip_afresh_mobile_state.specs.Turns.{Goes};
 
 use crate::out::ask_home;
 use crate::updates::update;
-use mip_afresh_mobile_state::{Row, Stage, Turn};
+use mip_afresh_mobile_state::{Row, Stage, Test, Turn};
 use mip_bulist::{Aim, Work};
 use mip_packets::write_careof_init;
 use mip_rules_mobile::Attachment;
@@ -176,6 +177,16 @@ fn ask_again(
     ask_careof_from(alloc, turn, lacks_careof, standing, peer, careof)
 }
 
+/// A test is missing.
+fn is_missing(test: Option<Test>) -> bool
+    ensures { result ≡ is_none (option_map test_seen test) }
+{
+    match test {
+        None => true,
+        Some(_) => false,
+    }
+}
+
 /// What waits for an answer of the peer of a trial is sent again.
 fn go_on_with(
     alloc: Global,
@@ -199,9 +210,9 @@ fn go_on_with(
                 alloc,
                 turn,
                 peer,
-                home.is_none(),
+                is_missing(home),
                 home_cookie,
-                careof.is_none(),
+                is_missing(careof),
                 careof_cookie,
             )?;
             turn.wait(Work::Resend(row), wait)
@@ -245,6 +256,20 @@ pub(crate) fn doubled(wait: u64) -> u64
     }
 }
 
+/// What waits for an answer of a row's peer is sent again, after twice the time.
+fn go_on_at(
+    alloc: Global,
+    turn: &mut Turn,
+    peer: Address,
+    row: u8,
+    wait: u64,
+) -> Result<(), Memory>
+    ensures { Goes result (λ t. goes_on (trial_of t.known row) row peer (doubled wait) t) turn.old turn.new }
+{
+    let trial = turn.mobile.trial_of(row);
+    go_on(alloc, turn, trial, row, peer, doubled(wait))
+}
+
 /// After the longest time a trial is given up.
 fn resend_to(
     alloc: Global,
@@ -258,8 +283,7 @@ fn resend_to(
     if wait == MAX_BINDACK_TIMEOUT {
         turn.rest_trial(row)
     } else {
-        let trial = turn.mobile.trial_of(row);
-        go_on(alloc, turn, trial, row, peer, doubled(wait))
+        go_on_at(alloc, turn, peer, row, wait)
     }
 }
 

@@ -1,6 +1,7 @@
 //! Return routability with a peer: how an update is made and sent (RFC 6275 sections 11.7.2 and 11.5.5).
 
 ghost use Rattle.std.specs.Prelude.{◌≡◌, OnOk, Some};
+ghost use Rattle.mip_rules_mobile.specs.HomeQuestions.{home_of};
 ghost use Rattle.mip_rules_mobile.specs.TrialRules.{source_for, sends_update, makes_with, makes_at, updates};
 ghost use Rattle.mip_afresh_mobile_state.specs.Turns.{Goes};
 
@@ -60,6 +61,21 @@ fn send_update(
     }
 }
 
+/// What was made is sent from where the mobile stands.
+fn send_made(
+    alloc: Global,
+    turn: &mut Turn,
+    row: u8,
+    peer: Address,
+    made: &Made,
+    wait: u64,
+) -> Result<(), Memory>
+    ensures { Goes result (λ t. sends_update (source_for t.known.standing (home_of t.known) made.now) row peer made.now wait t) turn.old turn.new }
+{
+    let source = source_for(turn.mobile.standing(), turn.mobile.home(), made);
+    send_update(alloc, turn, source, row, peer, made, wait)
+}
+
 /// With tokens too old the trial starts anew; too soon after three others, nothing is sent at this time.
 fn make_with(
     alloc: Global,
@@ -73,10 +89,7 @@ fn make_with(
 {
     match made {
         None => Ok(()),
-        Some(Ok(made)) => {
-            let source = source_for(turn.mobile.standing(), turn.mobile.home(), &made);
-            send_update(alloc, turn, source, row, peer, &made, wait)
-        }
+        Some(Ok(made)) => send_made(alloc, turn, row, peer, &made, wait),
         Some(Err(Refused::Old)) => start(alloc, turn, row),
         Some(Err(Refused::TooSoon)) => turn.wait(Work::Resend(row), wait),
         Some(Err(Refused::Cookie)) => Ok(()),
