@@ -14,7 +14,7 @@ loop-round-preserved c = λ t shows.
     let work = c.in-Some.work in
     let below : c.loop-round.round < c.args.times = omega arith in
     let due = sym c.in-Some.is ∙ read c.loop-round.turn (λ k n. due_work (moment n) k.list.timers) c.due_work.result c.due_work.ensures held.0 held.1 in
-    (rings work held.0, c.in_ok-ring.ensures held.0 held.1, sym (ticks-step c.args.times c.loop-round.round work held.0 below due) ∙ held.2)
+    (rings work held.0, c.in_ok-ring-in-Some.ensures held.0 held.1, sym (ticks-step c.args.times c.loop-round.round work held.0 below due) ∙ held.2)
 
 pub returns-in-None : goal.returns-in-None
 returns-in-None c = λ t shows.
