@@ -1,8 +1,7 @@
 use Rattle.std.proofs.Common.{sym, subst, ◌∙◌}
 use Rattle.mip_afresh_mobile_state.specs.Turns.{Shows}
 use Rattle.mip_afresh_mobile_rules.proofs.Asking.{shown-known}
-use Rattle.std.specs.Prelude.{Bool, if◌then◌else◌, true, false}
-use Rattle.mip_rules_mobile.specs.Transitions.{Transition}
+use Rattle.std.specs.Prelude.{Bool, if◌then◌else◌, true}
 use Rattle.mip_rules_mobile.specs.HomeQuestions.{agent_of}
 use Rattle.mip_rules_mobile.specs.HomeRules.{deregisters_at}
 use Rattle.mip_afresh_mobile_rules.proofs.Asking.{asked}

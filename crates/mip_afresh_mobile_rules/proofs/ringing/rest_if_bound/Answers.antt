@@ -1,7 +1,7 @@
 use Rattle.std.proofs.Common.{sym, subst, ◌∙◌}
 use Rattle.mip_afresh_mobile_state.specs.Turns.{Shows}
 use Rattle.mip_afresh_mobile_rules.proofs.Asking.{shown-known}
-use Rattle.std.specs.Prelude.{Bool, if◌then◌else◌, true, false}
+use Rattle.std.specs.Prelude.{Bool, if◌then◌else◌, true}
 use Rattle.mip_rules_mobile.specs.Trials.{Rest, is_bound}
 use Rattle.mip_rules_mobile.specs.Steps.{Tries}
 use Rattle.mip_rules_mobile.specs.Transitions.{noted}

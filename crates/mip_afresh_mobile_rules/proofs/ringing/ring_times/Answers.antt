@@ -2,7 +2,7 @@ use Rattle.std.proofs.Common.{◌<◌, ◌≤◌, ◌-◌, sym, ◌∙◌, subst
 use Rattle.mip_rules_mobile.specs.Transitions.{Transition}
 use Rattle.mip_rules_mobile.specs.TimerQuestions.{moment}
 use Rattle.mip_bulist.specs.Timers.{due_work}
-use Rattle.mip_rules_mobile.specs.RingingRules.{rings, ticks}
+use Rattle.mip_rules_mobile.specs.RingingRules.{rings}
 use Rattle.mip_afresh_mobile_state.specs.Turns.{Shows}
 use Rattle.mip_afresh_mobile_rules.proofs.Rounds.{ticks-step, ticks-idle, ticks-done}
 use Rattle.mip_afresh_mobile_rules.proofs.Asking.{read}

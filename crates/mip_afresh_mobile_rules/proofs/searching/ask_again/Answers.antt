@@ -5,9 +5,7 @@ use Rattle.mip_rules_mobile.specs.Transitions.{Transition, noted}
 use Rattle.mip_rules_mobile.specs.HomeQuestions.{home_of}
 use Rattle.mip_rules_mobile.specs.TimerQuestions.{seeking}
 use Rattle.mip_afresh_mobile_rules.proofs.Asking.{asked}
-use Rattle.std.specs.Prelude.{◌*◌, ◌^◌}
-use Rattle.std.proofs.Common.{sym, subst}
-use Rattle.mip_words.specs.Constants.{initial_dhaad_timeout}
+use Rattle.std.proofs.Common.{subst}
 use Rattle.mip_rules_mobile.specs.Steps.{Sends, SeeksAgain, Waits}
 use Rattle.mip_afresh_mobile_state.specs.Turns.{Goes}
 use Rattle.mip_afresh_mobile_rules.proofs.searching.ask_again.Goals as goal

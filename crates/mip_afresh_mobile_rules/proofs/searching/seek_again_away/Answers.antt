@@ -3,7 +3,7 @@ use Rattle.mip_afresh_mobile_state.specs.declared.discovery.Discovery.{Discovery
 use Rattle.mip_rules_mobile.specs.declared.attachment.Attachment.TheVariants.{Away}
 use Rattle.mip_afresh_mobile_state.specs.Turns.{Goes}
 use Rattle.std.specs.Prelude.{Option, option_map}
-use Rattle.mip_discovery.specs.Retries.{DiscoverySeen, retried}
+use Rattle.mip_discovery.specs.Retries.{retried}
 use Rattle.mip_afresh_mobile_state.specs.Trials.{discovery_seen}
 use Rattle.mip_rules_mobile.specs.HomeRules.{seeks_again_from, seeks_again_at}
 use Rattle.mip_afresh_mobile_rules.proofs.Asking.{asked}

@@ -1,4 +1,4 @@
-use Rattle.std.proofs.Common.{sym, ap, subst, ◌∙◌}
+use Rattle.std.proofs.Common.{sym, subst}
 use Rattle.std.specs.Prelude.{Bool, Some, is_none, option_map}
 use Rattle.mip_rules_mobile.specs.Transitions.{Transition}
 use Rattle.mip_afresh_mobile_state.specs.declared.trial.Stage.{Stage}

@@ -1,4 +1,4 @@
-use Rattle.std.proofs.Common.{refl, sym, ap, ◌∙◌, ℕ}
+use Rattle.std.proofs.Common.{refl, ap, ◌∙◌, ℕ}
 use Rattle.mip_words.specs.declared.address.Address.{Address}
 use Rattle.mip_rules_mobile.specs.Sendings.{PeerUpdate, update_packet}
 use Rattle.mip_rules_mobile.specs.Steps.{Updates}
