@@ -45,12 +45,7 @@ pub(crate) fn register_with(
 }
 
 /// A deregistration, sent again after so many milliseconds.
-fn deregister_with(
-    alloc: Global,
-    turn: &mut Turn,
-    agent: Address,
-    wait: u64,
-) -> Result<(), Memory>
+fn deregister_with(alloc: Global, turn: &mut Turn, agent: Address, wait: u64) -> Result<(), Memory>
     ensures { Goes result (deregisters_with agent wait) turn.old turn.new }
 {
     let home = turn.mobile.home();
@@ -87,7 +82,7 @@ fn register_at(
     }
 }
 
-/// A home registration is sent; without an agent, a discovery begins.
+/// A home registration is sent; without an agent, a discovery begins (RFC 6275 section 11.7.1).
 pub fn register(alloc: Global, turn: &mut Turn, careof: Address) -> Result<(), Memory>
     ensures { Goes result (registers careof) turn.old turn.new }
 {
@@ -249,7 +244,7 @@ fn accepts(status: u8) -> bool
     status < FIRST_REFUSAL
 }
 
-/// An agent has answered.
+/// An agent has answered (RFC 6275 section 11.7.3).
 #[tactic(auto, unfolding(mip_rules_mobile::specs::HomeRules::takes_home_ack))]
 pub fn take_home_ack(
     alloc: Global,

@@ -59,7 +59,7 @@ fn release_at(turn: &mut Turn, standing: Attachment, claim: Claim) -> Result<(),
     }
 }
 
-/// It leaves its link: it holds no address, every trial is given up, and every timer stops.
+/// It leaves its link: it holds no address, every trial is given up, and every timer stops (RFC 6275 section 11.5.1).
 pub fn leave(_alloc: Global, turn: &mut Turn, of_home: Claim) -> Result<(), Memory>
     ensures { Goes result (leaves of_home) turn.old turn.new }
 {
@@ -100,12 +100,7 @@ fn settle(alloc: Global, turn: &mut Turn) -> Result<(), Memory>
 }
 
 /// The address under a prefix is claimed; a home address that the agent still holds is used while it waits.
-fn arrive_by(
-    alloc: Global,
-    turn: &mut Turn,
-    claim: Claim,
-    address: Address,
-) -> Result<(), Memory>
+fn arrive_by(alloc: Global, turn: &mut Turn, claim: Claim, address: Address) -> Result<(), Memory>
     ensures { Goes result (arrives_by claim address) turn.old turn.new }
 {
     match claim {
@@ -182,7 +177,7 @@ fn attach_unless(
     arrive(alloc, turn, prefix, of_address)
 }
 
-/// A router advertises a prefix: nothing happens where it uses it already.
+/// A router advertises a prefix: nothing happens where it uses it already (RFC 6275 sections 11.5.1 and 11.5.2).
 pub fn attach(
     alloc: Global,
     turn: &mut Turn,
@@ -207,7 +202,7 @@ fn register_if_away(alloc: Global, turn: &mut Turn, standing: Attachment) -> Res
     }
 }
 
-/// It loses all that it keeps, and goes on with these secrets. Away, the new life begins with a registration.
+/// It loses all that it keeps, and goes on with these secrets. Away, the new life begins with a registration (RFC 6275 section 11.7.1).
 pub fn begin_anew(alloc: Global, turn: &mut Turn, secrets: Secrets) -> Result<(), Memory>
     ensures { Goes result (restarts secrets) turn.old turn.new }
 {

@@ -97,12 +97,7 @@ fn send_from(
 }
 
 /// A packet goes out from the home address.
-fn send_inner(
-    alloc: Global,
-    turn: &mut Turn,
-    packet: Bytes,
-    signal: bool,
-) -> Result<(), Memory>
+fn send_inner(alloc: Global, turn: &mut Turn, packet: Bytes, signal: bool) -> Result<(), Memory>
     ensures { (inner : Inner) → packet ≡ inner_packet (home_in turn.old) inner → signal ≡ is_signal inner
         → Goes result (goes_out inner) turn.old turn.new }
 {
@@ -110,7 +105,8 @@ fn send_inner(
     send_from(alloc, turn, standing, packet, signal)
 }
 
-/// A packet of the correspondent part, or what goes back to the source of a refused packet, goes out from the home address.
+/// A packet of the correspondent part, or what goes back to the source of a refused packet, goes out from the home address (RFC 6275
+/// section 11.3.1).
 pub fn go_out(alloc: Global, turn: &mut Turn, packet: Bytes) -> Result<(), Memory>
     ensures { Goes result (goes_out (OfPart packet)) turn.old turn.new }
 {
@@ -119,12 +115,7 @@ pub fn go_out(alloc: Global, turn: &mut Turn, packet: Bytes) -> Result<(), Memor
 }
 
 /// A Home Test Init goes out from the home address (RFC 6275 section 11.6.1).
-pub fn ask_home(
-    alloc: Global,
-    turn: &mut Turn,
-    peer: Address,
-    cookie: Cookie,
-) -> Result<(), Memory>
+pub fn ask_home(alloc: Global, turn: &mut Turn, peer: Address, cookie: Cookie) -> Result<(), Memory>
     ensures { Goes result (goes_out (AsksHome peer cookie.0)) turn.old turn.new }
 {
     let home = turn.mobile.home();
@@ -142,7 +133,7 @@ fn pass_on(alloc: Global, turn: &mut Turn, answer: Answer) -> Result<(), Memory>
     }
 }
 
-/// What the correspondent part answers is passed on.
+/// What the correspondent part answers is passed on, in order (RFC 6275 section 11.3.1).
 #[tactic(auto, unfolding(mip_rules_mobile::specs::OutRules::passes_all))]
 pub fn pass_all(alloc: Global, turn: &mut Turn, answers: Answers) -> Result<(), Memory>
     ensures { Goes result (passes_all answers) turn.old turn.new }

@@ -157,13 +157,7 @@ pub fn write_solicitation(
 }
 
 /// The head of data on the direct way (RFC 6275 section 11.3.1).
-fn data_head(
-    home: Address,
-    careof: Address,
-    to: Address,
-    held: Option<Address>,
-    proto: u8,
-) -> Head
+fn data_head(home: Address, careof: Address, to: Address, held: Option<Address>, proto: u8) -> Head
     ensures { result ≡ data_head home careof to proto held }
 {
     match held {

@@ -119,7 +119,7 @@ fn ring_times(alloc: Global, turn: &mut Turn, times: usize) -> Result<(), Memory
     Ok(())
 }
 
-/// Due work is done. Each timer that is set rings once at most: what is set meanwhile is due later.
+/// Due work is done (RFC 6275 section 11.8). Each timer that is set rings once at most: what is set meanwhile is due later.
 pub fn tick(alloc: Global, turn: &mut Turn) -> Result<(), Memory>
     ensures { Goes result ticks_all turn.old turn.new }
 {

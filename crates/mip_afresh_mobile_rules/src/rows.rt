@@ -22,11 +22,7 @@ const ROWS: u8 = 16;
 fn start_if(alloc: Global, turn: &mut Turn, due: bool, row: u8) -> Result<(), Memory>
     ensures { Goes result (starts_for due row) turn.old turn.new }
 {
-    if due {
-        start(alloc, turn, row)
-    } else {
-        Ok(())
-    }
+    if due { start(alloc, turn, row) } else { Ok(()) }
 }
 
 /// A row was touched, no trial of it is under way, and no binding of it stands.
@@ -72,12 +68,7 @@ pub(crate) fn start_deletions(alloc: Global, turn: &mut Turn) -> Result<(), Memo
     Ok(())
 }
 
-fn unbind_with(
-    turn: &mut Turn,
-    bound: bool,
-    peer: Option<Address>,
-    row: u8,
-) -> Result<(), Memory>
+fn unbind_with(turn: &mut Turn, bound: bool, peer: Option<Address>, row: u8) -> Result<(), Memory>
     ensures { Goes result (unbinds_with bound peer row) turn.old turn.new }
 {
     match peer {

@@ -37,12 +37,7 @@ fn ask_careof(
 }
 
 /// To delete a binding, from home, a Home Test Init is sent.
-fn start_deletion(
-    alloc: Global,
-    turn: &mut Turn,
-    row: u8,
-    peer: Address,
-) -> Result<(), Memory>
+fn start_deletion(alloc: Global, turn: &mut Turn, row: u8, peer: Address) -> Result<(), Memory>
     ensures { Goes result (starts_with places.AtHome row peer) turn.old turn.new }
 {
     let home = turn.mobile.first_cookie();
@@ -85,12 +80,7 @@ fn start_with(
     }
 }
 
-fn start_at(
-    alloc: Global,
-    turn: &mut Turn,
-    peer: Option<Address>,
-    row: u8,
-) -> Result<(), Memory>
+fn start_at(alloc: Global, turn: &mut Turn, peer: Option<Address>, row: u8) -> Result<(), Memory>
     ensures { Goes result (starts_at peer row) turn.old turn.new }
 {
     match peer {
@@ -102,7 +92,7 @@ fn start_at(
     }
 }
 
-/// A trial starts, or starts anew.
+/// A trial starts, or starts anew (RFC 6275 section 11.6.1).
 pub fn start(alloc: Global, turn: &mut Turn, row: u8) -> Result<(), Memory>
     ensures { Goes result (starts row) turn.old turn.new }
 {
@@ -257,13 +247,7 @@ pub(crate) fn doubled(wait: u64) -> u64
 }
 
 /// What waits for an answer of a row's peer is sent again, after twice the time.
-fn go_on_at(
-    alloc: Global,
-    turn: &mut Turn,
-    peer: Address,
-    row: u8,
-    wait: u64,
-) -> Result<(), Memory>
+fn go_on_at(alloc: Global, turn: &mut Turn, peer: Address, row: u8, wait: u64) -> Result<(), Memory>
     ensures { Goes result (λ t. goes_on (trial_of t.known row) row peer (doubled wait) t) turn.old turn.new }
 {
     let trial = turn.mobile.trial_of(row);
@@ -302,7 +286,8 @@ fn resend_at(
     }
 }
 
-/// A time of resending: what waits for an answer of a row's peer is sent again.
+/// A time of resending: what waits for an answer of a row's peer is sent again, and after the longest time the trial is given up (RFC
+/// 6275 section 11.8).
 pub fn resend_row(alloc: Global, turn: &mut Turn, row: u8) -> Result<(), Memory>
     ensures { Goes result (resends_row row) turn.old turn.new }
 {
@@ -311,7 +296,7 @@ pub fn resend_row(alloc: Global, turn: &mut Turn, row: u8) -> Result<(), Memory>
     resend_at(alloc, turn, peer, row, wait)
 }
 
-/// The trial of a row is given up, and so is its resending.
+/// The trial of a row is given up, and so is its resending (RFC 6275 section 11.7.3).
 #[tactic(auto, unfolding(mip_rules_mobile::specs::PeerRules::rests))]
 pub fn rest(_alloc: Global, turn: &mut Turn, row: u8) -> Result<(), Memory>
     ensures { Goes result (rests row) turn.old turn.new }

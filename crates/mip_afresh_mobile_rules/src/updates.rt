@@ -115,7 +115,8 @@ fn make_at(
     }
 }
 
-/// The trial of a row makes an update, if it has the tests that its aim needs; it is sent again after so many milliseconds.
+/// The trial of a row makes an update, if it has the tests that its aim needs; it is sent again after so many milliseconds (RFC 6275
+/// section 11.7.2).
 pub fn update(alloc: Global, turn: &mut Turn, row: u8, wait: u64) -> Result<(), Memory>
     ensures { Goes result (updates row wait) turn.old turn.new }
 {

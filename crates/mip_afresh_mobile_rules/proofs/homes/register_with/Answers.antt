@@ -17,7 +17,7 @@ returns c =
     let agent = c.args.agent in
     let sequence = c.next_to-sequence.result in
     let rule = λ (home : Address) (sequence : ℕ) (t : Transition).
-        noted (Waits resending_home c.args.wait) (noted (Sends (RegistersHome home c.args.careof agent sequence)) t) in
+    noted (Waits resending_home c.args.wait) (noted (Sends (RegistersHome home c.args.careof agent sequence)) t) in
     asked c.wait.result turn c.wait.new.self (λ k n. home_of k) (home_in turn) (λ home t. rule home (next_to agent t.known.numberings) t) (home-known turn)
     (asked c.wait.result turn c.wait.new.self (λ k n. next_to agent k.numberings) sequence (λ sequence. rule (home_in turn) sequence) c.next_to-sequence.ensures
     (λ t shows.

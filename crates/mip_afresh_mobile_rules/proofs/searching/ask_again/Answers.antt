@@ -16,7 +16,7 @@ returns c =
     let home = c.home-home.result in
     let wait = c.in_ok-wait.wait in
     let rule = λ (wait : ℕ) (home : Address) (t : Transition).
-        noted (Waits seeking wait) (noted (Sends (Discovers home c.args.careof c.args.identifier)) (noted SeeksAgain t)) in
+    noted (Waits seeking wait) (noted (Sends (Discovers home c.args.careof c.args.identifier)) (noted SeeksAgain t)) in
     subst (λ (n : ℕ). Goes c.wait.result (λ t. rule n (home_of t.known) t) turn c.wait.new.self) c.in_ok-wait.ensures
     (asked c.wait.result turn c.wait.new.self (λ k n. home_of k) home (rule wait) c.home-home.ensures
     (λ t shows. c.wait.ensures _ (c.in_ok-send_packet.ensures (Discovers home c.args.careof c.args.identifier) tt refl c.in_ok-request.ensures _ (c.in_ok-seek_again.ensures t shows))))

@@ -17,7 +17,7 @@ returns c =
     let home = c.home-home.result in
     let identifier = c.discoveries-identifier.result in
     let rule = λ (home : Address) (identifier : ℕ) (t : Transition).
-        noted (Waits seeking initial_dhaad_timeout) (noted (Sends (Discovers home c.args.careof identifier)) (noted Seeks t)) in
+    noted (Waits seeking initial_dhaad_timeout) (noted (Sends (Discovers home c.args.careof identifier)) (noted Seeks t)) in
     asked c.wait.result turn c.wait.new.self (λ k n. home_of k) home (λ home t. rule home t.known.discoveries t) c.home-home.ensures
     (asked c.wait.result turn c.wait.new.self (λ k n. k.discoveries) identifier (λ identifier. rule home identifier) c.discoveries-identifier.ensures
     (λ t shows. c.wait.ensures _ (c.in_ok-send_packet.ensures (Discovers home c.args.careof identifier) tt refl c.in_ok-request.ensures _ (c.in_ok-seek.ensures t shows))))
