@@ -45,11 +45,11 @@ fn request_wait(retries: u8) -> Result<u64, Memory>
     ensures { IfOk result (λ w. w ≡ initial_dhaad_timeout * 2 ^ retries) }
 {
     match retries {
-        0 => Ok(3_000),
-        1 => Ok(6_000),
-        2 => Ok(12_000),
-        3 => Ok(24_000),
-        4 => Ok(48_000),
+        0 => Ok(INITIAL_DHAAD_TIMEOUT),
+        1 => Ok(2 * INITIAL_DHAAD_TIMEOUT),
+        2 => Ok(4 * INITIAL_DHAAD_TIMEOUT),
+        3 => Ok(8 * INITIAL_DHAAD_TIMEOUT),
+        4 => Ok(16 * INITIAL_DHAAD_TIMEOUT),
         _ => Err(Memory),
     }
 }
