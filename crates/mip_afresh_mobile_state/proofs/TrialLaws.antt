@@ -1,11 +1,13 @@
 -- What changes make of trials, as plain data.
-use Rattle.std.proofs.Common.{◌≡◌, ℕ, Bool, true, false, refl, ap, ◌∙◌, subst, sym}
+use Rattle.std.proofs.Common.{◌≡◌, ℕ, Bool, true, false, refl, ap, ◌∙◌, subst, sym, arith}
 use Rattle.std.specs.Prelude.{cond, if◌then◌else◌, not, ◌==◌, Option, Some, None, Ok, Err}
 use Rattle.std.proofs.lemmas.Bool.Decides.{nat_tests}
 use Rattle.mip_words.specs.declared.address.Address.{Address}
 use Rattle.mip_words.specs.declared.moment.Moment.{Moment}
 use Rattle.mip_bulist.specs.declared.any.Any.{Any}
 use Rattle.mip_bulist.specs.declared.any.Any.TheVariants as any
+use Rattle.mip_bulist.specs.declared.state.Pending as pending
+use Rattle.mip_bulist.specs.declared.state.Proved as proved
 use Rattle.mip_bulist.specs.declared.refused.Refused.TheVariants as refused
 use Rattle.mip_bulist.specs.Rows.{resting}
 use Rattle.mip_bulist.specs.Trials.{has_old, is_too_soon, updated, made_again, made_now, acknowledged_as, ended_with}
@@ -39,7 +41,7 @@ made_first now peer tested t is = by (has_old now (tested_seen tested)) (is_too_
     here = ap (staged peer t) is
 
     by : (old soon : Bool) → any_seen peer (if old then t else if soon then t else having_made now tested t)
-        ≡ after_update (if old then Err (trial_in peer t (record { tested = tested_seen tested }), refused.Old) else if soon then Err (trial_in peer t (record { tested = tested_seen tested }), refused.TooSoon) else Ok (made_now now (tested_seen tested) (trial_in peer t (record { tested = tested_seen tested }))))
+        ≡ after_update (if old then Err (trial_in peer t (record { tested = tested_seen tested }), refused.Old) else if soon then Err (trial_in peer t (record { tested = tested_seen tested }), refused.TooSoon) else Ok (made_now {S = proved.Proved} now (tested_seen tested) (trial_in peer t (record { tested = tested_seen tested }))))
     by true soon = here
     by false true = here
     by false false = refl
@@ -52,11 +54,11 @@ made_later now peer tested last t is = by (has_old now (tested_seen tested)) (is
     here = ap (staged peer t) is
 
     by : (old soon : Bool) → any_seen peer (if old then t else if soon then t else having_made now tested t)
-        ≡ after_again (if old then Err (trial_in peer t (record { tested = tested_seen tested; last = last }), refused.Old) else if soon then Err (trial_in peer t (record { tested = tested_seen tested; last = last }), refused.TooSoon) else Ok (made_now now (tested_seen tested) (trial_in peer t (record { tested = tested_seen tested; last = last }))))
+        ≡ after_again (if old then Err (trial_in peer t (record { tested = tested_seen tested; last = last }), refused.Old) else if soon then Err (trial_in peer t (record { tested = tested_seen tested; last = last }), refused.TooSoon) else Ok (made_now {S = pending.Pending} now (tested_seen tested) (trial_in peer t (record { tested = tested_seen tested; last = last }))))
     by true soon = here
     by false true = here
     by false false = refl
 
 -- a peer acknowledges its own trial
 pub own_peer : (peer : Address) → (peer.0 == peer.0) ≡ true
-own_peer peer = grind nat_tests
+own_peer peer = grind (arith, nat_tests)

@@ -2,12 +2,14 @@
 #![tactic(auto)]
 
 mod change;
+mod changes;
 mod discovery;
 mod making;
 mod mobile;
 mod numberings;
 mod peers;
 mod questions;
+mod retries;
 mod row;
 mod rows;
 mod steps;

@@ -15,11 +15,7 @@ pub fn number_after(sequence: u16) -> u16
 }
 
 /// The sequences of other agents.
-fn others(
-    alloc: Global,
-    agent: Address,
-    numberings: &[Numbering],
-) -> Result<Vec<Numbering>, Memory>
+fn others(alloc: Global, agent: Address, numberings: &[Numbering]) -> Result<Vec<Numbering>, Memory>
     ensures { IfOk result (λ v. v.items ≡ filter (λ n. not (n.agent.0 == agent.0)) numberings.now) }
 {
     let left = numberings

@@ -40,8 +40,12 @@ pub fn all_unbound(alloc: Global, peers: &[Peer]) -> Result<Vec<Peer>, Memory>
 pub fn touch(peers: &mut [Peer], row: u8)
     ensures { peers.new ≡ with_peer row touched peers.old }
 {
-    if let Some(peer) = peers.get_mut(usize::from(row)) {
-        peer.touched = true;
+    let place = usize::from(row);
+    if let Some(peer) = peers.get(place).copied() {
+        peers[place] = Peer {
+            touched: true,
+            ..peer
+        };
     }
 }
 
@@ -49,8 +53,12 @@ pub fn touch(peers: &mut [Peer], row: u8)
 pub fn forget(peers: &mut [Peer], row: u8)
     ensures { peers.new ≡ with_peer row forgotten peers.old }
 {
-    if let Some(peer) = peers.get_mut(usize::from(row)) {
-        peer.touched = false;
+    let place = usize::from(row);
+    if let Some(peer) = peers.get(place).copied() {
+        peers[place] = Peer {
+            touched: false,
+            ..peer
+        };
     }
 }
 
@@ -58,8 +66,12 @@ pub fn forget(peers: &mut [Peer], row: u8)
 pub fn bind(peers: &mut [Peer], row: u8, end: Moment)
     ensures { peers.new ≡ with_peer row (bound_until end) peers.old }
 {
-    if let Some(peer) = peers.get_mut(usize::from(row)) {
-        peer.bound = Some(end);
+    let place = usize::from(row);
+    if let Some(peer) = peers.get(place).copied() {
+        peers[place] = Peer {
+            bound: Some(end),
+            ..peer
+        };
     }
 }
 
@@ -67,8 +79,12 @@ pub fn bind(peers: &mut [Peer], row: u8, end: Moment)
 pub fn unbind(peers: &mut [Peer], row: u8)
     ensures { peers.new ≡ with_peer row unbound peers.old }
 {
-    if let Some(peer) = peers.get_mut(usize::from(row)) {
-        peer.bound = None;
+    let place = usize::from(row);
+    if let Some(peer) = peers.get(place).copied() {
+        peers[place] = Peer {
+            bound: None,
+            ..peer
+        };
     }
 }
 
@@ -76,7 +92,8 @@ pub fn unbind(peers: &mut [Peer], row: u8)
 pub fn set_wait(peers: &mut [Peer], row: u8, wait: u64)
     ensures { peers.new ≡ with_peer row (waiting wait) peers.old }
 {
-    if let Some(peer) = peers.get_mut(usize::from(row)) {
-        peer.wait = wait;
+    let place = usize::from(row);
+    if let Some(peer) = peers.get(place).copied() {
+        peers[place] = Peer { wait, ..peer };
     }
 }

@@ -1,6 +1,6 @@
 //! The rows of a mobile: one for each peer, in the order in which they were made (RFC 6275 section 11.1).
 
-ghost use Rattle.std.specs.Prelude.{◌≡◌, ◌==◌, ◌<◌, ◌≤◌, length, position, map, IfSome, IfOk, OnOk};
+ghost use Rattle.std.specs.Prelude.{◌≡◌, ◌==◌, ◌<◌, ◌≤◌, length, position, slice_get, map, IfSome, IfOk, OnOk};
 ghost use Rattle.mip_bulist.specs.Rows.{row_place, with_row, all_rested};
 ghost use Rattle.mip_rules_mobile.specs.Trials.{with_change};
 ghost use Rattle.mip_afresh_mobile_state.specs.Trials.{row_seen, change_seen, given_up};
@@ -54,13 +54,24 @@ pub fn add_row(rows: &mut Vec<Row>, peer: Address) -> Result<(), Memory>
     }
 }
 
+/// A row, where it is made.
+fn row_at(rows: &[Row], row: u8) -> Option<Row>
+    ensures exact { result ≡ slice_get rows.now row }
+    ensures within { IfSome result (λ _. row < length rows.now) }
+{
+    rows.get(usize::from(row)).copied()
+}
+
 /// The trial of a row is changed at a moment.
 pub fn change_row(rows: &mut [Row], row: u8, now: Moment, change: Change)
     ensures exact { map row_seen rows.new ≡ with_change row now (change_seen change) (map row_seen rows.old) }
     ensures length { length rows.new ≡ length rows.old }
 {
-    if let Some(row) = rows.get_mut(usize::from(row)) {
-        row.trial = row.trial.changed(row.peer, now, change);
+    if let Some(old) = row_at(rows, row) {
+        rows[usize::from(row)] = Row {
+            peer: old.peer,
+            trial: old.trial.changed(old.peer, now, change),
+        };
     }
 }
 
@@ -90,5 +101,6 @@ pub fn all_rested(alloc: Global, rows: &[Row]) -> Result<Vec<Row>, Memory>
     ensures exact { IfOk result (λ v. map row_seen v.items ≡ all_rested (map row_seen rows.now)) }
     ensures length { IfOk result (λ v. length v.items ≡ length rows.now) }
 {
-    each_given_up(alloc, rows)
+    let left = each_given_up(alloc, rows)?;
+    Ok(left)
 }

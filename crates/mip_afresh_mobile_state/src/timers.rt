@@ -53,14 +53,11 @@ fn others(alloc: Global, work: Work, timers: &[Timer]) -> Result<Vec<Timer>, Mem
 }
 
 /// The timers without that of this work.
-pub fn without_timer(
-    alloc: Global,
-    work: Work,
-    timers: &[Timer],
-) -> Result<Vec<Timer>, Memory>
+pub fn without_timer(alloc: Global, work: Work, timers: &[Timer]) -> Result<Vec<Timer>, Memory>
     ensures { IfOk result (λ v. map timer_seen v.items ≡ without_timer work (map timer_seen timers.now)) }
 {
-    others(alloc, work, timers)
+    let left = others(alloc, work, timers)?;
+    Ok(left)
 }
 
 /// The place of the first timer that is due later.
@@ -96,14 +93,20 @@ pub fn with_timer(
     Ok(left)
 }
 
+/// Those behind the first timer, where that is due; else all.
+fn behind_due(now: Moment, timers: &[Timer]) -> &[Timer]
+    ensures { map timer_seen result.now ≡ without_due now (map timer_seen timers.now) }
+{
+    match timers.split_first() {
+        None => timers,
+        Some((first, rest)) => { if now.0 < first.due.0 { timers } else { rest } }
+    }
+}
+
 /// The timers without the first, where that is due.
 pub fn without_due(alloc: Global, now: Moment, timers: &[Timer]) -> Result<Vec<Timer>, Memory>
     ensures { IfOk result (λ v. map timer_seen v.items ≡ without_due now (map timer_seen timers.now)) }
 {
-    let passed = match timers.first() {
-        Some(timer) if timer.due.0 <= now.0 => 1,
-        _ => 0,
-    };
-    let left = Vec::from_slice(alloc, &timers[passed..])?;
+    let left = Vec::from_slice(alloc, behind_due(now, timers))?;
     Ok(left)
 }

@@ -121,13 +121,7 @@ impl Trial {
                 if cookie.0 != home_cookie.0 {
                     return *self;
                 }
-                self.in_stage(weighed(
-                    aim,
-                    home_cookie,
-                    careof_cookie,
-                    Some(test),
-                    careof,
-                ))
+                self.in_stage(weighed(aim, home_cookie, careof_cookie, Some(test), careof))
             }
             _ => *self,
         }
