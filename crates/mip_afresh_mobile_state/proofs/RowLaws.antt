@@ -1,5 +1,5 @@
 -- Rows as plain data, and as the definitions of return routability have them.
-use Rattle.std.proofs.Common.{◌≡◌, ℕ, Bool, refl, ap, sym, ◌∙◌, List, [], ◌∷◌, ◌+◌, length, map, nat_lt}
+use Rattle.std.proofs.Common.{◌≡◌, ℕ, refl, ap, sym, ◌∙◌, List, [], ◌∷◌, ◌+◌, length, map, nat_lt}
 use Rattle.std.specs.Prelude.{cond, not, ◌==◌, Option, Some, None, option_map, option_and_then, slice_get, slice_set}
 use Rattle.std.specs.List.{position_or_len}
 use Rattle.std.proofs.lemmas.List.{length-map, map-set}

@@ -1,12 +1,12 @@
 -- Timers as plain data, and as the definitions have them.
 use Rattle.std.proofs.Common.{◌≡◌, ℕ, Bool, true, false, refl, ap, sym, ◌∙◌, List, [], ◌∷◌, ◌++◌, ◌+◌, length, map, take, drop, nat_lt}
-use Rattle.std.specs.Prelude.{cond, not, ◌==◌, Option, Some, None, unwrap_or, filter, insert}
+use Rattle.std.specs.Prelude.{cond, not, Some, None, unwrap_or, filter, insert}
 use Rattle.std.specs.List.{position_or_len}
 use Rattle.std.proofs.lemmas.List.{length-map, map-append, take-map, drop-map}
 use Rattle.mip_words.specs.declared.moment.Moment.{Moment}
 use Rattle.mip_bulist.specs.declared.timer.Timer as seen
 use Rattle.mip_bulist.specs.declared.work.Work.{Work}
-use Rattle.mip_bulist.specs.Timers.{is_of, without_timer, place_of, without_due}
+use Rattle.mip_bulist.specs.Timers.{is_of, without_timer, place_of}
 use Rattle.mip_afresh_mobile_state.specs.declared.timer.Timer.{Timer}
 use Rattle.mip_afresh_mobile_state.specs.Trials.{timer_seen}
 

@@ -1,17 +1,16 @@
 -- What changes make of trials, as plain data.
-use Rattle.std.proofs.Common.{◌≡◌, ℕ, Bool, true, false, refl, ap, ◌∙◌, subst, sym, arith}
-use Rattle.std.specs.Prelude.{cond, if◌then◌else◌, not, ◌==◌, Option, Some, None, Ok, Err}
+use Rattle.std.proofs.Common.{◌≡◌, ℕ, Bool, true, false, refl, ap, arith}
+use Rattle.std.specs.Prelude.{if◌then◌else◌, ◌==◌, Ok, Err}
 use Rattle.std.proofs.lemmas.Bool.Decides.{nat_tests}
 use Rattle.mip_words.specs.declared.address.Address.{Address}
 use Rattle.mip_words.specs.declared.moment.Moment.{Moment}
-use Rattle.mip_bulist.specs.declared.any.Any.{Any}
 use Rattle.mip_bulist.specs.declared.any.Any.TheVariants as any
 use Rattle.mip_bulist.specs.declared.state.Pending as pending
 use Rattle.mip_bulist.specs.declared.state.Proved as proved
 use Rattle.mip_bulist.specs.declared.refused.Refused.TheVariants as refused
 use Rattle.mip_bulist.specs.Rows.{resting}
-use Rattle.mip_bulist.specs.Trials.{has_old, is_too_soon, updated, made_again, made_now, acknowledged_as, ended_with}
-use Rattle.mip_rules_mobile.specs.Trials.{after_update, after_again, after_end}
+use Rattle.mip_bulist.specs.Trials.{has_old, is_too_soon, updated, made_again, made_now}
+use Rattle.mip_rules_mobile.specs.Trials.{after_update, after_again}
 use Rattle.mip_afresh_mobile_state.specs.declared.trial.Trial.{Trial}
 use Rattle.mip_afresh_mobile_state.specs.declared.trial.Tested.{Tested}
 use Rattle.mip_afresh_mobile_state.specs.declared.trial.Stage.{Stage}

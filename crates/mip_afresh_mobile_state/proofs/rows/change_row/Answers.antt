@@ -1,4 +1,4 @@
-use Rattle.std.proofs.Common.{◌∙◌, ap, sym, map, ℕ, List}
+use Rattle.std.proofs.Common.{◌∙◌, ap, sym, map, ℕ}
 use Rattle.std.specs.Prelude.{slice_set}
 use Rattle.mip_afresh_mobile_state.specs.declared.row.Row.{Row}
 use Rattle.mip_afresh_mobile_state.specs.Trials.{row_seen, change_seen}

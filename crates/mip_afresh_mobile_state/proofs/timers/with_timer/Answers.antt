@@ -1,6 +1,5 @@
-use Rattle.std.proofs.Common.{◌≡◌, ℕ, List, ◌∙◌, ap, sym, map}
+use Rattle.std.proofs.Common.{ℕ, List, ◌∙◌, ap, map}
 use Rattle.std.specs.Prelude.{insert}
-use Rattle.mip_bulist.specs.declared.timer.Timer as seen
 use Rattle.mip_bulist.specs.Timers.{place_of, put_timer}
 use Rattle.mip_afresh_mobile_state.specs.declared.timer.Timer.{Timer}
 use Rattle.mip_afresh_mobile_state.specs.Trials.{timer_seen}

@@ -1,15 +1,14 @@
 use Rattle.std.proofs.Common.{ℕ, List, [], ◌∷◌, ◌++◌, ap, sym, ◌∙◌}
 use Rattle.std.specs.Prelude.{Option}
-use Rattle.mip_words.specs.declared.address.Address.{Address}
 use Rattle.mip_words.specs.declared.shield.Shield.{Shield}
 use Rattle.mip_entries.specs.declared.answer.Answer.{Answer}
 use Rattle.mip_entries.specs.declared.answer.Answer.TheVariants.{Send}
 use Rattle.mip_afresh_mobile_state.specs.declared.turn.Turn.{Turn}
-use Rattle.mip_afresh_mobile_state.specs.Mobiles.{MobileSeen, known_of}
+use Rattle.mip_afresh_mobile_state.specs.Mobiles.{known_of}
 use Rattle.mip_rules_mobile.specs.Steps.{Sends}
 use Rattle.mip_rules_mobile.specs.Questions.{after}
 use Rattle.mip_afresh_mobile_state.proofs.TurnLaws.{left, stays, sends-neutral}
-use Rattle.mip_rules_mobile.specs.Sendings.{shield_of, packet_of_sending}
+use Rattle.mip_rules_mobile.specs.Sendings.{shield_of}
 use Rattle.mip_afresh_mobile_state.proofs.turn.Turn.send_packet.Goals as goal
 
 pub returns : goal.returns
