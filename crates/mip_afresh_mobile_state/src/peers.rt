@@ -1,7 +1,7 @@
 //! What a mobile keeps of the peers of its rows (RFC 6275 section 11.1).
 
 ghost use Rattle.std.specs.Prelude.{◌≡◌, map, IfOk};
-ghost use Rattle.mip_rules_mobile.specs.RowQuestions.{fresh_peer, fresh_peers, unbound, with_peer, touched, forgotten, bound_until, waiting};
+ghost use Rattle.mip_rules_mobile.specs.RowQuestions.{fresh_peers, unbound, with_peer, touched, forgotten, bound_until, waiting};
 
 use mip_rules_mobile::Peer;
 use mip_words::{Memory, Moment};

@@ -1,7 +1,6 @@
 //! The steps of a mobile, a function each.
 
 ghost use Rattle.std.specs.Prelude.{◌≡◌, ◌++◌, ◌∷◌, [], OnOk};
-ghost use Rattle.mip_bulist.specs.declared.made.Made.{Made};
 ghost use Rattle.mip_entries.specs.declared.answer.Answer.TheVariants.{Note, Send};
 ghost use Rattle.mip_rules_correspondent.specs.Calls as parts;
 ghost use Rattle.mip_rules_mobile.specs.Calls.{Call};

@@ -1,6 +1,6 @@
 //! What each change makes of a trial (RFC 6275 sections 5.2, 11.6 and 11.7.2).
 
-ghost use Rattle.std.specs.Prelude.{◌≡◌, ℕ, if◌then◌else◌, Some, Ok, option_map};
+ghost use Rattle.std.specs.Prelude.{◌≡◌, ℕ, if◌then◌else◌, Ok, option_map};
 ghost use Rattle.mip_bulist.specs.Trials.{needed, weighed, ended_with, has_old, is_too_soon};
 ghost use Rattle.mip_rules_mobile.specs.Trials.{changed, after_probe, after_end, Start, HomeTest, CareofTest, Make, Resequence, Acknowledge, Rest};
 ghost use Rattle.mip_afresh_mobile_state.specs.Trials.{test_seen, tested_seen, recent_seen, trial_in, staged, any_seen, change_seen, having_made};
