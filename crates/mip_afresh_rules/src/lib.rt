@@ -17,7 +17,10 @@ mod verdicts;
 mod who;
 mod wording;
 
-pub use calls::{refresh, send, take};
+pub use calls::{refresh, send, take, take_part};
+pub use checking::check;
 pub use kept::Kept;
+pub use part::is_for_part;
 pub use subject::{Subject, subject_of};
 pub use who::Who;
+pub use wording::packet_why;
