@@ -2,6 +2,7 @@
 #![tactic(auto)]
 
 mod discovery;
+mod making;
 mod mobile;
 mod questions;
 mod row;

@@ -7,7 +7,8 @@ use mip_words::Address;
 use std::marker::Model;
 
 /// What a mobile knows, but for the bindings of its correspondent part (RFC 6275 sections 4.5 and 11.1). Its home address is routable,
-/// and its bindings may have one number at least.
+/// its bindings may have one number at least, and it has
+/// sixteen rows at most.
 #[derive(Drop)]
 pub struct Mobile {
     pub(crate) identity: Identity,
@@ -44,7 +45,7 @@ pub struct Mobile {
 }
 
 impl Model for Mobile {
-    ghost use Rattle.std.specs.Prelude.{◌≡◌, ◌≤◌, map, option_map, IsTrue};
+    ghost use Rattle.std.specs.Prelude.{◌≡◌, ◌≤◌, map, option_map, length, IsTrue};
     ghost use Rattle.mip_words.specs.Addresses.{is_routable};
     ghost use Rattle.mip_afresh_mobile_state.specs.Mobiles.{MobileSeen};
     ghost use Rattle.mip_afresh_mobile_state.specs.Trials.{row_seen, timer_seen, discovery_seen};
@@ -74,5 +75,6 @@ impl Model for Mobile {
       peers = m.peers.items;
     } };
 
-    ghost invariant = { λ m. IsTrue (is_routable m.identity.own.0) × (1 ≤ m.numbers) };
+    ghost invariant = { λ m. IsTrue (is_routable m.identity.own.0) × (1 ≤ m.numbers)
+        × (length m.rows.items ≤ 16) };
 }
