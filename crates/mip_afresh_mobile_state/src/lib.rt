@@ -4,6 +4,7 @@
 mod discovery;
 mod making;
 mod mobile;
+mod part;
 mod questions;
 mod row;
 mod steps;
