@@ -16,7 +16,7 @@ use std::alloc::Global;
 
 /// Whether a trial starts: none is under way, no binding stands, and the mobile is registered.
 fn is_due(turn: &Turn, row: u8) -> bool
-    ensures { (t : Transition) → Shows turn.now t
+    ensures { (t : Transition) → Shows turn.entry.now t
         → result ≡ (is_idle (trial_of t.known row) && (not (is_bound_row t.known t.now row) && is_some (registration_of t.known t.now))) }
 {
     let mobile = &turn.mobile;

@@ -5,7 +5,8 @@ ghost use Rattle.mip_bulist.specs.Timers.{first_due};
 ghost use Rattle.mip_rules_correspondent.specs.Questions.{held_of};
 ghost use Rattle.mip_rules_mobile.specs.Calls as calls;
 ghost use Rattle.mip_rules_mobile.specs.Known.{Known};
-ghost use Rattle.mip_rules_mobile.specs.Steps.{Called, answers_of};
+ghost use Rattle.mip_rules_mobile.specs.Steps as steps;
+ghost use Rattle.mip_rules_mobile.specs.Steps.{answers_of};
 ghost use Rattle.mip_rules_mobile.specs.Transitions.{begun, noted};
 ghost use Rattle.mip_afresh_mobile_state.specs.Mobiles.{seen_of};
 ghost use Rattle.mip_afresh_mobile_state.specs.Turns.{Shows};
@@ -54,7 +55,7 @@ impl Model for Node {
 /// A call begins, where something is known of the mobile.
 fn begin(alloc: Global, now: Moment, mobile: Option<Mobile>) -> Result<Turn, Memory>
     ensures moment { IfOk result (λ turn. turn.now ≡ now) }
-    ensures begins { (k : Known) (call : calls.Call) → IfSome mobile (λ known. seen_of k ≡ known) → IfOk result (λ turn. Shows turn (noted (Called call) (begun now.0 k))) }
+    ensures begins { (k : Known) (call : calls.Call) → IfSome mobile (λ known. seen_of k ≡ known) → IfOk result (λ turn. Shows turn (noted (steps.Called call) (begun now.0 k))) }
 {
     let Some(mobile) = mobile else {
         return Err(Memory);

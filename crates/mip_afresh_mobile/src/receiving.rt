@@ -52,7 +52,7 @@ fn takes_route(standing: Attachment, home: Address, route: Option<Address>) -> b
 
 /// What the addresses of a packet are to the mobile, where a binding for its Home Address option stands or not.
 fn standing_of(turn: &Turn, holds: bool, head: &Head) -> AddressMatch
-    ensures { (t : Transition) → holds ≡ holds_option t.known.part.known t.now head.now.source head.now.home → Shows turn.now t → result ≡ standing_of t.known t.now head.now }
+    ensures { (t : Transition) → holds ≡ holds_option t.known.part.known t.now head.now.source head.now.home → Shows turn.entry.now t → result ≡ standing_of t.known t.now head.now }
 {
     let standing = turn.mobile.standing();
     let home = turn.mobile.home();

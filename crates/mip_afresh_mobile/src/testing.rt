@@ -27,7 +27,7 @@ fn comes_right(standing: Attachment, right: bool) -> bool
 
 /// The row of a peer whose trial keeps a Home Test with this cookie.
 fn home_row(turn: &Turn, peer: Address, cookie: Cookie, row: Option<u8>) -> Option<u8>
-    ensures { (t : Transition) (test : tests.Test) → Shows turn.now t → result ≡ home_row t.known peer cookie test row }
+    ensures { (t : Transition) (test : tests.Test) → Shows turn.entry.now t → result ≡ home_row t.known peer cookie test row }
 {
     match row {
         Some(row) if turn.mobile.keeps_home_test(row, peer, cookie) => Some(row),
@@ -37,7 +37,7 @@ fn home_row(turn: &Turn, peer: Address, cookie: Cookie, row: Option<u8>) -> Opti
 
 /// The row of a peer whose trial keeps a Care-of Test with this cookie.
 fn careof_row(turn: &Turn, peer: Address, cookie: Cookie, row: Option<u8>) -> Option<u8>
-    ensures { (t : Transition) (test : tests.Test) → Shows turn.now t → result ≡ careof_row t.known peer cookie test row }
+    ensures { (t : Transition) (test : tests.Test) → Shows turn.entry.now t → result ≡ careof_row t.known peer cookie test row }
 {
     match row {
         Some(row) if turn.mobile.keeps_careof_test(row, peer, cookie) => Some(row),
