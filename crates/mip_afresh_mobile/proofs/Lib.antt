@@ -1,1 +1,4 @@
 pub mod Turned
+mod PastLaws
+mod Named
+mod Received

@@ -1,7 +1,14 @@
 -- What a call under way shows, and how a rule that asks of what is known is that of what the code found.
 use Rattle.std.proofs.Common.{◌≡◌, ℕ, List, refl, sym, ap, subst, ◌∙◌}
-use Rattle.std.specs.Prelude.{Option, Result, OnOk}
+use Rattle.std.specs.Prelude.{Option, Some, None, unwrap_or, Result, OnOk}
+use Rattle.std.specs.Option.{option_map_or}
+use Rattle.mip_words.specs.declared.moment.Moment.{Moment}
 use Rattle.mip_entries.specs.declared.answer.Answer.{Answer}
+use Rattle.mip_rules_correspondent.specs.declared.identity.Identity.{Identity}
+use Rattle.mip_rules_correspondent.specs.Calls as parts
+use Rattle.mip_rules_correspondent.specs.Steps as part_steps
+use Rattle.mip_rules_correspondent.specs.Doing.{transition_of}
+use Rattle.mip_rules_mobile.specs.OutRules.{part_answers}
 use Rattle.mip_rules_mobile.specs.Known.{Known}
 use Rattle.mip_rules_mobile.specs.Steps.{answers_of}
 use Rattle.mip_rules_mobile.specs.Transitions.{Transition}
@@ -26,5 +33,17 @@ pub found : {A : Type 0} (turn : Turn) (t : Transition) (q : Known → ℕ → A
 found turn t q answer is s = is t.known (shows-seen turn t s) ∙ ap (q t.known) (sym (shows-now turn t s))
 
 -- a rule with what the code found is the rule with what is known
-pub asked : {A R E : Type 0} (result : Result R E) (new : Turn) (t : Transition) (rule : A → Transition) (found known : A) → found ≡ known → OnOk result (Shows new (rule found)) → OnOk result (Shows new (rule known))
-asked result new t rule found known is goes = subst (λ a. OnOk result (Shows new (rule a))) is goes
+pub asked : {A R E : Type 0} (result : Result R E) (new : Turn) (rule : A → Transition) (found known : A) → found ≡ known → OnOk result (Shows new (rule found)) → OnOk result (Shows new (rule known))
+asked result new rule found known is goes = subst (λ a. OnOk result (Shows new (rule a))) is goes
+
+-- what the correspondent part answers
+pub part-answered : (turn : Turn) (t : Transition) (me : Identity) (call : parts.Call) (answers : List Answer) → Shows turn t → me ≡ t.known.part.identity
+    → answers ≡ part_steps.answers_of (transition_of me t.known.part.known turn.now.0 call).steps → answers ≡ part_answers t call
+part-answered turn t me call answers s is said =
+    let by = λ (who : Identity) (n : ℕ). part_steps.answers_of (transition_of who t.known.part.known n call).steps in
+    said ∙ ap (λ (who : Identity). by who turn.now.0) is ∙ ap (λ (n : ℕ). by t.known.part.identity n) (sym (shows-now turn t s))
+
+-- when an update was sent, or now
+pub sent-is : (sent : Option Moment) (now : Moment) (n : ℕ) → n ≡ now.0 → (unwrap_or sent now).0 ≡ option_map_or (λ m. m.0) sent n
+sent-is None now n is = sym is
+sent-is (Some m) now n is = refl

@@ -1,6 +1,6 @@
 //! What a mobile does about a Binding Acknowledgement (RFC 6275 sections 11.5.5 and 11.7.3).
 
-ghost use Rattle.std.specs.Prelude.{◌≡◌, ℕ, ◌*◌, IfOk, Some, option_map};
+ghost use Rattle.std.specs.Prelude.{◌≡◌, ℕ, ◌*◌, ◌==◌, if◌then◌else◌, IfOk, Some, option_map};
 ghost use Rattle.std.specs.Option.{option_map_or};
 ghost use Rattle.mip_words.specs.Constants.{lifetime_unit};
 ghost use Rattle.mip_bulist.specs.declared.any.Any.TheVariants as any;
@@ -56,6 +56,16 @@ fn bind_from(turn: &mut Turn, row: u8, of: &Row, lifetime: u16) -> Result<(), Me
     turn.bind(row, of.peer, end, renew)
 }
 
+fn bind_for(turn: &mut Turn, row: u8, of: &Row, lifetime: u16) -> Result<(), Memory>
+    ensures { (tested : Tested) (last : ℕ) → Goes result (λ t. if lifetime == 0 then t else binds_from (pending_in of.now tested last) row lifetime t) turn.old turn.new }
+{
+    if lifetime == 0 {
+        Ok(())
+    } else {
+        bind_from(turn, row, of, lifetime)
+    }
+}
+
 fn end_for(
     turn: &mut Turn,
     row: u8,
@@ -67,8 +77,7 @@ fn end_for(
 {
     match careof {
         None => turn.forget(row),
-        Some(_) if lifetime == 0 => Ok(()),
-        Some(_) => bind_from(turn, row, of, lifetime),
+        Some(_) => bind_for(turn, row, of, lifetime),
     }
 }
 
@@ -158,6 +167,21 @@ fn ack_trial(
     }
 }
 
+fn ack_at(
+    alloc: Global,
+    turn: &mut Turn,
+    number: u64,
+    row: u8,
+    ack: &Acknowledgement,
+    message: &[u8],
+) -> Result<(), Memory>
+    ensures { Goes result (acks_row number (Some row) ack.now.status ack.now.sequence ack.now.lifetime ack.now.authenticator message.now) turn.old turn.new }
+{
+    let home = turn.mobile.home();
+    let of = turn.mobile.trial_of(row);
+    ack_trial(alloc, turn, number, row, home, ack, message, of)
+}
+
 fn ack_row(
     alloc: Global,
     turn: &mut Turn,
@@ -168,12 +192,10 @@ fn ack_row(
 ) -> Result<(), Memory>
     ensures { Goes result (acks_row number row ack.now.status ack.now.sequence ack.now.lifetime ack.now.authenticator message.now) turn.old turn.new }
 {
-    let Some(row) = row else {
-        return turn.drop_packet(number, Why::Ack);
-    };
-    let home = turn.mobile.home();
-    let of = turn.mobile.trial_of(row);
-    ack_trial(alloc, turn, number, row, home, ack, message, of)
+    match row {
+        Some(row) => ack_at(alloc, turn, number, row, ack, message),
+        None => turn.drop_packet(number, Why::Ack),
+    }
 }
 
 /// An acknowledgement of a peer.

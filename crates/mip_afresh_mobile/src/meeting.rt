@@ -14,13 +14,21 @@ use mip_afresh_mobile_state::Turn;
 use mip_words::{Address, Memory};
 use std::alloc::Global;
 
+fn is_new(idle: bool, bound: bool, registered: bool) -> bool
+    ensures { result ≡ (idle && (not bound && registered)) }
+{
+    idle && !bound && registered
+}
+
 /// Whether a trial starts: none is under way, no binding stands, and the mobile is registered.
 fn is_due(turn: &Turn, row: u8) -> bool
     ensures { (t : Transition) → Shows turn.entry.now t
         → result ≡ (is_idle (trial_of t.known row) && (not (is_bound_row t.known t.now row) && is_some (registration_of t.known t.now))) }
 {
-    let mobile = &turn.mobile;
-    mobile.is_idle(row) && !mobile.is_bound_row(row, turn.now) && mobile.is_registered(turn.now)
+    let idle = turn.mobile.is_idle(row);
+    let bound = turn.mobile.is_bound_row(row, turn.now);
+    let registered = turn.mobile.is_registered(turn.now);
+    is_new(idle, bound, registered)
 }
 
 fn begin_in(alloc: Global, turn: &mut Turn, row: u8) -> Result<(), Memory>

@@ -1,6 +1,9 @@
 //! Home Tests and Care-of Tests (RFC 6275 section 11.6.2).
 
-ghost use Rattle.std.specs.Prelude.{◌≡◌};
+ghost use Rattle.std.specs.Prelude.{◌≡◌, Some, None, if◌then◌else◌};
+ghost use Rattle.mip_words.specs.declared.why.Why.TheVariants as whys;
+ghost use Rattle.mip_rules_mobile.specs.Steps.{Drops};
+ghost use Rattle.mip_rules_mobile.specs.Transitions.{noted};
 ghost use Rattle.mip_bulist.specs.declared.tested.Test as tests;
 ghost use Rattle.mip_rules_mobile.specs.PeerRules.{comes_right, home_row, careof_row, keeps_home, keeps_careof, takes_home_test, takes_careof_test};
 ghost use Rattle.mip_rules_mobile.specs.Transitions.{Transition};
@@ -25,14 +28,34 @@ fn comes_right(standing: Attachment, right: bool) -> bool
     }
 }
 
+fn row_if(keeps: bool, row: u8) -> Option<u8>
+    ensures { result ≡ (if keeps then Some row else None) }
+{
+    if keeps { Some(row) } else { None }
+}
+
+/// This row, where its trial keeps a Home Test with this cookie.
+fn home_row_at(turn: &Turn, peer: Address, cookie: Cookie, row: u8) -> Option<u8>
+    ensures { (t : Transition) (test : tests.Test) → Shows turn.entry.now t → result ≡ home_row t.known peer cookie test (Some row) }
+{
+    row_if(turn.mobile.keeps_home_test(row, peer, cookie), row)
+}
+
 /// The row of a peer whose trial keeps a Home Test with this cookie.
 fn home_row(turn: &Turn, peer: Address, cookie: Cookie, row: Option<u8>) -> Option<u8>
     ensures { (t : Transition) (test : tests.Test) → Shows turn.entry.now t → result ≡ home_row t.known peer cookie test row }
 {
     match row {
-        Some(row) if turn.mobile.keeps_home_test(row, peer, cookie) => Some(row),
-        _ => None,
+        Some(row) => home_row_at(turn, peer, cookie, row),
+        None => None,
     }
+}
+
+/// This row, where its trial keeps a Care-of Test with this cookie.
+fn careof_row_at(turn: &Turn, peer: Address, cookie: Cookie, row: u8) -> Option<u8>
+    ensures { (t : Transition) (test : tests.Test) → Shows turn.entry.now t → result ≡ careof_row t.known peer cookie test (Some row) }
+{
+    row_if(turn.mobile.keeps_careof_test(row, peer, cookie), row)
 }
 
 /// The row of a peer whose trial keeps a Care-of Test with this cookie.
@@ -40,8 +63,8 @@ fn careof_row(turn: &Turn, peer: Address, cookie: Cookie, row: Option<u8>) -> Op
     ensures { (t : Transition) (test : tests.Test) → Shows turn.entry.now t → result ≡ careof_row t.known peer cookie test row }
 {
     match row {
-        Some(row) if turn.mobile.keeps_careof_test(row, peer, cookie) => Some(row),
-        _ => None,
+        Some(row) => careof_row_at(turn, peer, cookie, row),
+        None => None,
     }
 }
 
@@ -85,6 +108,25 @@ fn keep_careof(
     }
 }
 
+fn keep_home_if(
+    alloc: Global,
+    turn: &mut Turn,
+    number: u64,
+    right: bool,
+    peer: Address,
+    cookie: Cookie,
+    test: Test,
+    row: Option<u8>,
+) -> Result<(), Memory>
+    ensures { Goes result (λ t. if right then keeps_home number peer cookie (test_seen test) row t else noted (Drops number whys.Cookie) t) turn.old turn.new }
+{
+    if right {
+        keep_home(alloc, turn, number, peer, cookie, test, row)
+    } else {
+        turn.drop_packet(number, Why::Cookie)
+    }
+}
+
 /// A Home Test is kept by the trial that asked for it; with all that its aim needs, an update is made.
 pub fn take_home_test(
     alloc: Global,
@@ -97,13 +139,39 @@ pub fn take_home_test(
 ) -> Result<(), Memory>
     ensures { Goes result (takes_home_test handed.now.number handed.now.tunnelled peer index cookie.0 token.0) turn.old turn.new }
 {
-    if !comes_right(turn.mobile.standing(), handed.tunnelled) {
-        return turn.drop_packet(handed.number, Why::Cookie);
-    }
+    let right = comes_right(turn.mobile.standing(), handed.tunnelled);
     let row = home_row(turn, peer, cookie, turn.mobile.row_of(peer));
     let at = turn.now;
     let test = Test { index, token, at };
-    keep_home(alloc, turn, handed.number, peer, cookie, test, row)
+    keep_home_if(
+        alloc,
+        turn,
+        handed.number,
+        right,
+        peer,
+        cookie,
+        test,
+        row,
+    )
+}
+
+fn keep_careof_if(
+    alloc: Global,
+    turn: &mut Turn,
+    number: u64,
+    right: bool,
+    peer: Address,
+    cookie: Cookie,
+    test: Test,
+    row: Option<u8>,
+) -> Result<(), Memory>
+    ensures { Goes result (λ t. if right then keeps_careof number peer cookie (test_seen test) row t else noted (Drops number whys.Cookie) t) turn.old turn.new }
+{
+    if right {
+        keep_careof(alloc, turn, number, peer, cookie, test, row)
+    } else {
+        turn.drop_packet(number, Why::Cookie)
+    }
 }
 
 /// So is a Care-of Test.
@@ -118,11 +186,18 @@ pub fn take_careof_test(
 ) -> Result<(), Memory>
     ensures { Goes result (takes_careof_test handed.now.number handed.now.tunnelled peer index cookie.0 token.0) turn.old turn.new }
 {
-    if !comes_right(turn.mobile.standing(), !handed.tunnelled) {
-        return turn.drop_packet(handed.number, Why::Cookie);
-    }
+    let right = comes_right(turn.mobile.standing(), !handed.tunnelled);
     let row = careof_row(turn, peer, cookie, turn.mobile.row_of(peer));
     let at = turn.now;
     let test = Test { index, token, at };
-    keep_careof(alloc, turn, handed.number, peer, cookie, test, row)
+    keep_careof_if(
+        alloc,
+        turn,
+        handed.number,
+        right,
+        peer,
+        cookie,
+        test,
+        row,
+    )
 }
