@@ -1,5 +1,5 @@
 -- What a call under way shows, and how a rule that asks of what is known is that of what the code found.
-use Rattle.std.proofs.Common.{◌≡◌, ℕ, List, refl, sym, ap, subst, ◌∙◌}
+use Rattle.std.proofs.Common.{◌≡◌, ℕ, List, [], refl, sym, ap, subst, ◌∙◌}
 use Rattle.std.specs.Prelude.{Option, Some, None, unwrap_or, Result, OnOk}
 use Rattle.std.specs.Option.{option_map_or}
 use Rattle.mip_words.specs.declared.moment.Moment.{Moment}
@@ -11,7 +11,7 @@ use Rattle.mip_rules_correspondent.specs.Doing.{transition_of}
 use Rattle.mip_rules_mobile.specs.OutRules.{part_answers}
 use Rattle.mip_rules_mobile.specs.Known.{Known}
 use Rattle.mip_rules_mobile.specs.Steps.{answers_of}
-use Rattle.mip_rules_mobile.specs.Transitions.{Transition}
+use Rattle.mip_rules_mobile.specs.Transitions.{Transition, begun}
 use Rattle.mip_afresh_mobile_state.specs.declared.turn.Turn.{Turn}
 use Rattle.mip_afresh_mobile_state.specs.Mobiles.{MobileSeen, seen_of}
 use Rattle.mip_afresh_mobile_state.specs.Turns.{Shows}
@@ -27,6 +27,11 @@ shows-seen turn t s = s.1
 pub shows-answers : (turn : Turn) (t : Transition) → Shows turn t → answers_of t.steps ≡ turn.answers
 unfolding Shows
 shows-answers turn t s = s.2
+
+-- a call begins
+pub shows-begun : (turn : Turn) (k : Known) → seen_of k ≡ turn.mobile → turn.answers ≡ [] → Shows turn (begun turn.now.0 k)
+unfolding Shows
+shows-begun turn k seen none = (refl, seen, sym none)
 
 -- what the code found, by what is known and the moment
 pub found : {A : Type 0} (turn : Turn) (t : Transition) (q : Known → ℕ → A) (answer : A) → ((k : Known) → seen_of k ≡ turn.mobile → answer ≡ q k turn.now.0) → Shows turn t → answer ≡ q t.known t.now

@@ -1,15 +1,12 @@
 //! Replies to a discovery of agents, and Mobile Prefix Advertisements (RFC 6275 sections 11.4.1 and 11.4.3).
 
-ghost use Rattle.std.specs.Prelude.{◌≡◌, ◌≤◌, IfOk, length, option_map};
+ghost use Rattle.std.specs.Prelude.{◌≡◌, ◌≤◌, IfOk, Ok, if◌then◌else◌, length, option_map};
 ghost use Rattle.mip_ipv6.specs.Packet.{packet as tree};
 ghost use Rattle.mip_icmp.specs.Options.{set_of};
 ghost use Rattle.mip_icmp.specs.Said.{said};
-ghost use Rattle.mip_rules_mobile.specs.IcmpRules.{addresses_of, agents_named, is_matched, finds, takes_discovery_reply, is_from_agent, learns, takes_prefix_reply, by_icmp, takes_icmp};
-ghost use Rattle.mip_rules_mobile.specs.Steps.{Drops};
+ghost use Rattle.mip_rules_mobile.specs.IcmpRules.{agents_named, is_matched, finds, drops_icmp, takes_discovery_reply, is_from_agent, learns, takes_prefix_reply, by_icmp, takes_icmp};
 ghost use Rattle.mip_afresh_mobile_state.specs.Trials.{discovery_seen};
 ghost use Rattle.mip_afresh_mobile_state.specs.Turns.{Goes};
-ghost use Rattle.mip_icmp.specs.declared.fault.IcmpFault.{IcmpFault};
-ghost use Rattle.std.specs.Prelude.{Ok, Err, ◌/◌};
 
 use crate::handed::Handed;
 use mip_afresh_mobile_rules::register;
@@ -29,7 +26,8 @@ fn agents_named(alloc: Global, bytes: &[u8]) -> Result<Vec<Address>, Memory>
     let mut rest = bytes;
     while rest.len() >= 16 {
         agents.push(Address::at(rest, 0))?;
-        rest = &rest[16..];
+        let (_, more) = rest.split_at(16);
+        rest = more;
     }
     Ok(agents)
 }
@@ -79,6 +77,23 @@ fn find(
     }
 }
 
+fn find_if(
+    alloc: Global,
+    turn: &mut Turn,
+    number: u64,
+    matched: bool,
+    standing: Attachment,
+    agents: Vec<Address>,
+) -> Result<(), Memory>
+    ensures { Goes result (λ t. if matched then finds number standing agents.items t else drops_icmp number t) turn.old turn.new }
+{
+    if matched {
+        find(alloc, turn, number, standing, agents)
+    } else {
+        turn.drop_packet(number, Why::Icmp)
+    }
+}
+
 fn take_discovery_reply(
     alloc: Global,
     turn: &mut Turn,
@@ -88,12 +103,10 @@ fn take_discovery_reply(
 ) -> Result<(), Memory>
     ensures { Goes result (takes_discovery_reply number identifier agents.now) turn.old turn.new }
 {
-    if !is_matched(turn.mobile.discovery(), identifier) {
-        return turn.drop_packet(number, Why::Icmp);
-    }
     let named = agents_named(alloc, agents)?;
+    let matched = is_matched(turn.mobile.discovery(), identifier);
     let standing = turn.mobile.standing();
-    find(alloc, turn, number, standing, named)
+    find_if(alloc, turn, number, matched, standing, named)
 }
 
 /// It is protected by the agent.

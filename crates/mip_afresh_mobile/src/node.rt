@@ -1,4 +1,4 @@
-ghost use Rattle.std.specs.Prelude.{◌≡◌, ◌<◌, ◌≤◌, ◌^◌, [], IfOk, OnOk, IfSome, IsTrue, IsFalse, length};
+ghost use Rattle.std.specs.Prelude.{◌≡◌, ◌<◌, ◌≤◌, ◌^◌, [], IfOk, OnOk, IfSome, IsTrue, IsFalse, is_some, length};
 ghost use Rattle.mip_words.specs.Addresses.{is_routable};
 ghost use Rattle.mip_ipv6.specs.Packet.{names_no_body};
 ghost use Rattle.mip_bulist.specs.Timers.{first_due};
@@ -54,7 +54,7 @@ impl Model for Node {
 
 /// A call begins, where something is known of the mobile.
 fn begin(alloc: Global, now: Moment, mobile: Option<Mobile>) -> Result<Turn, Memory>
-    ensures moment { IfOk result (λ turn. turn.now ≡ now) }
+    ensures known { OnOk result (IsTrue (is_some mobile)) }
     ensures begins { (k : Known) (call : calls.Call) → IfSome mobile (λ known. seen_of k ≡ known) → IfOk result (λ turn. Shows turn (noted (steps.Called call) (begun now.0 k))) }
 {
     let Some(mobile) = mobile else {

@@ -29,6 +29,9 @@ use mip_words::protocol::IPV6;
 use mip_words::{Address, Memory};
 use std::alloc::Global;
 
+/// No run comes to this moment.
+const LATE: u64 = 4_611_686_018_427_387_904;
+
 /// The mobile's address: away the care-of address, at home the home address.
 fn is_address_of(standing: Attachment, home: Address, address: Address) -> bool
     ensures { result ≡ is_address_of standing home address }
@@ -118,16 +121,18 @@ fn take_packet(
     }
 }
 
-/// A packet is handed to it.
+/// A packet is handed to it. At a moment from 2^62 on it is answered as if memory had run out.
 pub fn take(
     alloc: Global,
     turn: &mut Turn,
     arrival: &Arrival<'_>,
     bytes: &[u8],
 ) -> Result<(), Memory>
-    requires early { turn.old.now.0 < 2 ^ 62 }
     ensures { GoesFrom arrival.now.numbers arrival.now.accepted.now result (takes arrival.now.number arrival.now.shield bytes.now) turn.old turn.new }
 {
+    if turn.now.0 >= LATE {
+        return Err(Memory);
+    }
     match read_packet(bytes) {
         Ok(packet) => take_packet(alloc, turn, arrival, bytes, &packet),
         Err(fault) => turn.drop_packet(arrival.number, packet_why(fault)),
