@@ -1,12 +1,10 @@
 -- A packet that was read is checked by what the correspondent part keeps of what it asks.
-use Rattle.std.proofs.Common.{◌≡◌, ℕ, List, Bool, true, false, refl, sym, ap, subst, ◌∙◌, ◌<◌, ◌≤◌, ◌-◌, ◌+◌, length, arith, if◌then◌else◌}
-use Rattle.std.specs.Prelude.{Option, Some, None, Result, Ok, Err, drop, map}
-use Rattle.std.proofs.lemmas.List.{length-drop}
+use Rattle.std.proofs.Common.{◌≡◌, ℕ, List, Bool, true, false, refl, sym, ap, subst, ◌∙◌, if◌then◌else◌}
+use Rattle.std.specs.Prelude.{Option, Some, None, Result, Ok}
 use Rattle.mip_words.specs.declared.address.Address.{Address}
 use Rattle.mip_words.specs.declared.why.Why.TheVariants as whys
 use Rattle.mip_ipv6.specs.declared.head.Head.{Head}
-use Rattle.mip_ipv6.specs.declared.packet_ref.PacketRef.{PacketRef}
-use Rattle.mip_ipv6.specs.Packet.{Packet, packet as tree, IsAt}
+use Rattle.mip_ipv6.specs.Packet.{Packet}
 use Rattle.mip_mobhdr.specs.Said.{Said}
 use Rattle.mip_reception.specs.Says.{message_in}
 use Rattle.mip_reception.specs.declared.refusal.Refusal.{Refusal}
@@ -14,7 +12,6 @@ use Rattle.mip_reception.specs.declared.address_match.AddressMatch.{AddressMatch
 use Rattle.mip_reception.specs.Checks.{checked}
 use Rattle.mip_rules_correspondent.specs.declared.known.Known as parts
 use Rattle.mip_rules_correspondent.specs.Rules.{holds_option, place_in}
-use Rattle.mip_rules_mobile.specs.Questions.{part_room}
 use Rattle.mip_rules_mobile.specs.ReceivingRules.{inner_standing}
 use Rattle.mip_rules_mobile.specs.Steps.{Drops}
 use Rattle.mip_rules_mobile.specs.Transitions.{Transition, noted}
@@ -23,6 +20,12 @@ use Rattle.mip_afresh_rules.specs.declared.kept.Kept.{Kept}
 use Rattle.mip_afresh_rules.specs.Keeping.{holds_home, IsKept}
 use Rattle.mip_afresh_mobile_state.specs.declared.turn.Turn.{Turn}
 use Rattle.mip_afresh_mobile_state.specs.Turns.{Shows}
+use Rattle.mip_afresh_bindings.specs.declared.acceptance.Acceptance.{Acceptance}
+use Rattle.mip_bcache.specs.Seen.{CacheSeen}
+use Rattle.mip_words.specs.declared.shield.Shield.{Shield}
+use Rattle.mip_afresh_mobile.specs.declared.handed.Handed.{Handed}
+use Rattle.mip_afresh_mobile.specs.Asking.{kept_at}
+use Rattle.mip_afresh_mobile.specs.Nodes.{AreAccepted}
 use Rattle.mip_afresh_mobile.specs.Tunnels.{first_fault, unless_fault}
 use Rattle.mip_afresh_mobile.proofs.Turned.{shows-now}
 
@@ -46,7 +49,7 @@ pub checked-here : (known here : AddressMatch) (place : ℕ) (bytes : List ℕ) 
 checked-here known here place bytes p r is placed e =
     ap (λ (s : AddressMatch). checked s (place_in bytes p) p) (sym is) ∙ ap (λ (n : ℕ). checked here n p) (sym placed) ∙ e
 
-abbrev inner_with : Bool → AddressMatch
+abbrev pub inner_with : Bool → AddressMatch
 inner_with holds = record { is_mine = true; takes_route = true; holds = holds }
 
 pub inner-checked : (turn : Turn) (t : Transition) (kept : Kept) (place : ℕ) (bytes : List ℕ) (p : Packet) (r : Result (Option Said) Refusal)
@@ -66,21 +69,9 @@ fault-first false false true d number rest t = refl
 fault-first false false false true number rest t = refl
 fault-first false false false false number rest t = refl
 
--- where the body of a packet stands in the bytes that it was read from
-at-arith : (p n m : ℕ) → p ≤ n → m ≡ n - p → p ≡ n - m
-at-arith p n m low is = omega (arith, low, is)
-
-pub placed-at : (p : PacketRef) (bytes : List ℕ) → IsAt p bytes → p.place ≡ place_in bytes (tree p)
-placed-at p bytes is = at-arith p.place (length bytes) (length p.body.now) is.1 (ap length is.2 ∙ length-drop p.place bytes)
-
-short-arith : (p n m : ℕ) → n ≤ 65535 → m ≡ n - p → m ≤ 65535
-short-arith p n m low is = omega (arith, low, is)
-
-pub short-at : (p : PacketRef) (bytes : List ℕ) → IsAt p bytes → length bytes ≤ 65535 → length p.body.now ≤ 65535
-short-at p bytes is low = short-arith p.place (length bytes) (length p.body.now) low (ap length is.2 ∙ length-drop p.place bytes)
-
-near-arith : (p n : ℕ) → p ≤ n → n ≤ 65535 → p < 4294967295
-near-arith p n low short = omega (arith, low, short)
-
-pub near-at : (p : PacketRef) (bytes : List ℕ) → IsAt p bytes → length bytes ≤ 65535 → p.place < 4294967295
-near-at p bytes is short = near-arith p.place (length bytes) is.1 short
+-- what a packet was handed with is what the part keeps
+pub kept-here : (number : ℕ) (shield : Option Shield) (tunnelled : Bool) (numbers : ℕ) (accepted : List Acceptance) (now : ℕ) (head : Head) (handed : Handed) (cache : CacheSeen)
+    → handed ≡ record { number = number; shield = shield; tunnelled = tunnelled; kept = kept_at numbers accepted now head } → AreAccepted numbers now accepted cache
+    → IsKept handed.kept cache now head.source head.home
+kept-here number shield tunnelled numbers accepted now head handed cache is are =
+    subst (λ (k : Kept). IsKept k cache now head.source head.home) (sym (ap (λ (h : Handed). h.kept) is)) (are head.source head.home)
