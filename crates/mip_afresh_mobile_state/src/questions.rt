@@ -1,8 +1,8 @@
 //! What a mobile knows, a function a question.
 
-ghost use Rattle.std.specs.Prelude.{◌≡◌, ◌==◌, ◌<◌, length, position, is_some, option_map, map, IfSome};
+ghost use Rattle.std.specs.Prelude.{◌≡◌, length, is_some, option_map};
 ghost use Rattle.mip_bulist.specs.declared.tested.Test as tests;
-ghost use Rattle.mip_bulist.specs.Rows.{given_row, row_place};
+ghost use Rattle.mip_bulist.specs.Rows.{given_row};
 ghost use Rattle.mip_bulist.specs.Timers.{due_work, first_due};
 ghost use Rattle.mip_rules_mobile.specs.Known.{Known};
 ghost use Rattle.mip_rules_mobile.specs.Trials.{makes, keeps_home_test, keeps_careof_test, is_idle, is_bound};
@@ -10,17 +10,15 @@ ghost use Rattle.mip_rules_mobile.specs.HomeQuestions.{home_of, binding_number_o
 ghost use Rattle.mip_rules_mobile.specs.DiscoveryQuestions.{next_found};
 ghost use Rattle.mip_rules_mobile.specs.RowQuestions.{first_cookie, second_cookie, lies_ahead, row_of, peer_of_row, trial_of, is_bound_row, is_touched_row, wait_of_row, bound_row_of};
 ghost use Rattle.mip_afresh_mobile_state.specs.Mobiles.{seen_of};
-ghost use Rattle.mip_afresh_mobile_state.specs.Trials.{any_seen, row_seen, discovery_seen, given_seen};
+ghost use Rattle.mip_afresh_mobile_state.specs.Trials.{any_seen, discovery_seen, given_seen};
 
 use crate::discovery::Discovery;
 use crate::mobile::Mobile;
 use crate::row::Row;
+use crate::rows::{ROOM, row_place};
 use mip_bulist::{Made, Refused, Work};
 use mip_rules_mobile::{Attachment, HomeUpdate, Numbering, Registered};
 use mip_words::{Address, Cookie, Moment};
-
-/// How many rows a mobile has at most.
-const ROOM: usize = 16;
 
 /// The sequence of the next update to an agent: 1 where there was none.
 fn next_to(agent: Address, numberings: &[Numbering]) -> u16
@@ -32,21 +30,6 @@ fn next_to(agent: Address, numberings: &[Numbering]) -> u16
         }
     }
     1
-}
-
-/// The place of the first row of a peer.
-fn first_place(peer: Address, rows: &[Row]) -> Option<usize>
-    ensures { result ≡ position (λ r. r.peer.0 == peer.0) rows.now }
-{
-    rows.iter().position(|row| row.peer.0 == peer.0)
-}
-
-/// The place of the row of a peer.
-fn row_place(peer: Address, rows: &[Row]) -> Option<usize>
-    ensures exact { result ≡ row_place peer (map row_seen rows.now) }
-    ensures within { IfSome result (λ at. at < length rows.now) }
-{
-    first_place(peer, rows)
 }
 
 /// An end lies ahead.
