@@ -3,4 +3,4 @@
 
 mod rules;
 
-pub use rules::{ask_home, attach, begin_anew, go_out, leave, pass_all, register, resend_row, rest, start, take_home_ack, tick, update};
+pub use rules::*;
