@@ -67,6 +67,10 @@ pub node-there : (m : NodeSeen) (o : Option MobileSeen) → IsTrue (is_some o) �
 node-there m None there = absurd cc
 node-there m (Some known) there = refl
 
+-- the moment of the call that began
+pub begun-now : (first : Turn) (now : ℕ) (k : Known) (call : Call) → Shows first (noted (Called call) (begun now k)) → first.now.0 ≡ now
+begun-now first now k call shows = sym (shows-now first (noted (Called call) (begun now k)) shows) ∙ noted-now after (Called call) (begun now k)
+
 -- a call that came to its end
 pub record IsDone (self new : NodeSeen) (now : ℕ) (call : Call) (turn : Turn) : Type 0 where
   pub invariant : seen_of (known_to new) ≡ turn.mobile
@@ -75,15 +79,16 @@ pub record IsDone (self new : NodeSeen) (now : ℕ) (call : Call) (turn : Turn) 
 
 pub ended : (inside self new : NodeSeen) (o taken : Option MobileSeen) (now : ℕ) (call : Call) (first turn : Turn)
     → node_left o inside ≡ self → taken ≡ o → IsTrue (is_some taken) → IfSome o (λ k. seen_of (known_to inside) ≡ k)
-    → ((k : Known) → IfSome taken (λ known. seen_of k ≡ known) → Shows first (noted (Called call) (begun now k)))
-    → ((t : Transition) → t.known.part ≡ (known_to self).part → Shows first t → Shows turn (handles call t))
+    → ((k : Known) (c : Call) → IfSome taken (λ known. seen_of k ≡ known) → Shows first (noted (Called c) (begun now k)))
+    → ((t : Transition) → inside ≡ self → t.known.part ≡ (known_to self).part → first.now.0 ≡ now → Shows first t → Shows turn (handles call t))
     → new ≡ after_call inside now call → IsDone self new now call turn
 ended inside self new o taken now call first turn view took there inv begins goes added =
     let same : inside ≡ self = node-there inside o (subst (λ (x : Option MobileSeen). IsTrue (is_some x)) took there) ∙ view in
     let given : IfSome taken (λ known. seen_of (known_to inside) ≡ known) = subst (λ (x : Option MobileSeen). IfSome x (λ known. seen_of (known_to inside) ≡ known)) (sym took) inv in
     let t : Transition = noted (Called call) (begun now (known_to inside)) in
     let part : t.known.part ≡ (known_to self).part = called-part (known_to inside) now call ∙ ap (λ (m : NodeSeen). (known_to m).part) same in
-    let shows : Shows turn (transition_at inside now call) = subst (Shows turn) (done inside now call) (goes t part (begins (known_to inside) given)) in
+    let starts = begins (known_to inside) call given in
+    let shows : Shows turn (transition_at inside now call) = subst (Shows turn) (done inside now call) (goes t same part (begun-now first now (known_to inside) call starts) starts) in
     record {
       invariant = ap (λ (m : NodeSeen). seen_of (known_to m)) added ∙ kept-after inside now call turn shows;
       answers = sym (shows-answers turn (transition_at inside now call) shows) ∙ ap (λ (m : NodeSeen). answers_of (transition_at m now call).steps) same;
@@ -91,13 +96,14 @@ ended inside self new o taken now call first turn view took there inv begins goe
     }
 
 -- what the correspondent part holds as the call goes on is what it held before
-pub held-here : (part other : CorrespondentSeen) (now : ℕ) (home : Address) (held : Option Address) → other ≡ part → held ≡ held_of part.known now home → held ≡ held_of other.known now home
-held-here part other now home held same is = is ∙ ap (λ (p : CorrespondentSeen). held_of p.known now home) (sym same)
+pub held-here : (part other : CorrespondentSeen) (now at : ℕ) (home : Address) (held : Option Address) → other ≡ part → at ≡ now → held ≡ held_of part.known now home → held ≡ held_of other.known at home
+held-here part other now at home held same then is =
+    is ∙ ap (λ (p : CorrespondentSeen). held_of p.known now home) (sym same) ∙ ap (λ (n : ℕ). held_of other.known n home) (sym then)
 
 -- so is what it accepted
-pub accepted-here : (numbers now : ℕ) (accepted : List Acceptance) (part other : CorrespondentSeen) → other ≡ part → AreAccepted numbers now accepted part.known.cache → AreAccepted numbers now accepted other.known.cache
-accepted-here numbers now accepted part other same are = subst (λ (p : CorrespondentSeen). AreAccepted numbers now accepted p.known.cache) (sym same) are
-
--- the moment of the call that began
-pub begun-now : (first : Turn) (now : ℕ) (k : Known) (call : Call) → Shows first (noted (Called call) (begun now k)) → first.now.0 ≡ now
-begun-now first now k call shows = sym (shows-now first (noted (Called call) (begun now k)) shows) ∙ noted-now after (Called call) (begun now k)
+pub accepted-here : (numbers count now at : ℕ) (accepted : List Acceptance) (part other : CorrespondentSeen) → count ≡ numbers → at ≡ now → other ≡ part
+    → AreAccepted numbers now accepted part.known.cache → AreAccepted count at accepted other.known.cache
+accepted-here numbers count now at accepted part other many then same are =
+    subst (λ (n : ℕ). AreAccepted n at accepted other.known.cache) (sym many)
+    (subst (λ (n : ℕ). AreAccepted numbers n accepted other.known.cache) (sym then)
+    (subst (λ (p : CorrespondentSeen). AreAccepted numbers now accepted p.known.cache) (sym same) are))

@@ -84,8 +84,11 @@ impl Node {
         ensures { IfOk result (λ m. m ≡ record { home = home; declared = declared; numbers = numbers; secrets = secrets; past = [] }) }
     {
         let past = Past::new(home, declared, numbers, &secrets);
-        let _past = past;
-        Err(Memory)
+        let mobile = Mobile::new(alloc, home, declared, numbers, secrets)?;
+        Ok(Node {
+            past,
+            mobile: Some(mobile),
+        })
     }
 
     /// A packet is handed to it, under a number and a shield. Its correspondent part accepted these updates in its present life.
