@@ -21,6 +21,8 @@ use Rattle.mip_afresh_mobile_state.specs.Mobiles.{MobileSeen, seen_of}
 use Rattle.mip_afresh_mobile_state.specs.declared.turn.Turn.{Turn}
 use Rattle.mip_afresh_mobile_state.specs.Turns.{Shows}
 use Rattle.mip_afresh_mobile.specs.Nodes.{NodeSeen, known_to, transition_at, after_call, AreAccepted}
+use Rattle.mip_nonce.specs.Secrets.{Life}
+use Rattle.mip_afresh_mobile.specs.declared.called.Asked.TheVariants as asked
 use Rattle.mip_afresh_mobile.specs.Pasts.{lost, node_left}
 use Rattle.mip_afresh_mobile.proofs.Turned.{shows-now, shows-seen, shows-answers}
 
@@ -107,3 +109,7 @@ accepted-here numbers count now at accepted part other many then same are =
     subst (λ (n : ℕ). AreAccepted n at accepted other.known.cache) (sym many)
     (subst (λ (n : ℕ). AreAccepted numbers n accepted other.known.cache) (sym then)
     (subst (λ (p : CorrespondentSeen). AreAccepted numbers now accepted p.known.cache) (sym same) are))
+
+-- the secrets of a restart
+pub secrets-are : (given found : Life) → asked.Restart given ≡ asked.Restart found → found ≡ given
+secrets-are given found is = cc
