@@ -61,7 +61,7 @@ inner-checked turn t kept place bytes p r is s placed e =
 -- a packet with a fault is dropped, whichever comes first
 pub fault-first : (nested elsewhere routed unshielded : Bool) (number : ℕ) (rest t : Transition)
     → (if nested then noted (Drops number whys.Nested) t else if elsewhere then noted (Drops number whys.Address) t
-      else if routed then noted (Drops number whys.Route) t else if unshielded then noted (Drops number whys.Unshielded) t else rest)
+    else if routed then noted (Drops number whys.Route) t else if unshielded then noted (Drops number whys.Unshielded) t else rest)
     ≡ unless_fault (first_fault nested elsewhere routed unshielded) number rest t
 fault-first true b c d number rest t = refl
 fault-first false true c d number rest t = refl

@@ -287,5 +287,13 @@ pub fn take_ack(
     let source = packet.head.sender();
     let standing = turn.mobile.standing();
     let answered = answered_by(standing, handed, source, ack, turn.mobile.latest());
-    ack_by(alloc, turn, handed.number, source, ack, packet.body, answered)
+    ack_by(
+        alloc,
+        turn,
+        handed.number,
+        source,
+        ack,
+        packet.body,
+        answered,
+    )
 }

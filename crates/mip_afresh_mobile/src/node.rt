@@ -116,10 +116,16 @@ impl Node {
         };
         take(alloc, &mut turn, &arrival, packet)?;
         let at = now;
-        let asked = Asked::Take { number, shield, packet: copy };
+        let asked = Asked::Take {
+            number,
+            shield,
+            packet: copy,
+        };
         self.past.add(&Called { at, asked });
         let Turn {
-            mobile, answers, ..
+            mobile,
+            answers,
+            ..
         } = turn;
         self.mobile = Some(mobile);
         Ok(answers)
@@ -147,10 +153,16 @@ impl Node {
         let mut turn = begin(alloc, now, self.mobile.take())?;
         transmit(alloc, &mut turn, to, proto, payload, held)?;
         let at = now;
-        let asked = Asked::Send { to, proto, payload: copy };
+        let asked = Asked::Send {
+            to,
+            proto,
+            payload: copy,
+        };
         self.past.add(&Called { at, asked });
         let Turn {
-            mobile, answers, ..
+            mobile,
+            answers,
+            ..
         } = turn;
         self.mobile = Some(mobile);
         Ok(answers)
@@ -175,7 +187,9 @@ impl Node {
         let asked = Asked::Refresh { home };
         self.past.add(&Called { at, asked });
         let Turn {
-            mobile, answers, ..
+            mobile,
+            answers,
+            ..
         } = turn;
         self.mobile = Some(mobile);
         Ok(answers)
@@ -192,7 +206,9 @@ impl Node {
         let asked = Asked::Tick;
         self.past.add(&Called { at, asked });
         let Turn {
-            mobile, answers, ..
+            mobile,
+            answers,
+            ..
         } = turn;
         self.mobile = Some(mobile);
         Ok(answers)
@@ -220,7 +236,9 @@ impl Node {
         };
         self.past.add(&Called { at, asked });
         let Turn {
-            mobile, answers, ..
+            mobile,
+            answers,
+            ..
         } = turn;
         self.mobile = Some(mobile);
         Ok(answers)
@@ -237,7 +255,9 @@ impl Node {
         let asked = Asked::Leave { of_home };
         self.past.add(&Called { at, asked });
         let Turn {
-            mobile, answers, ..
+            mobile,
+            answers,
+            ..
         } = turn;
         self.mobile = Some(mobile);
         Ok(answers)
@@ -254,14 +274,21 @@ impl Node {
         let asked = Asked::Ask;
         self.past.add(&Called { at, asked });
         let Turn {
-            mobile, answers, ..
+            mobile,
+            answers,
+            ..
         } = turn;
         self.mobile = Some(mobile);
         Ok(answers)
     }
 
     /// It loses all that it keeps, and goes on with these secrets.
-    pub fn restart(&mut self, alloc: Global, now: Moment, secrets: Secrets) -> Result<Answers, Memory>
+    pub fn restart(
+        &mut self,
+        alloc: Global,
+        now: Moment,
+        secrets: Secrets,
+    ) -> Result<Answers, Memory>
         ensures answers { IfOk result (λ a. a ≡ answers_of (transition_at self.old now.0 (calls.Restart secrets)).steps) }
         ensures goes_on { OnOk result (self.new ≡ after_call self.old now.0 (calls.Restart secrets)) }
     {
@@ -277,7 +304,9 @@ impl Node {
             _other => return Err(Memory),
         }
         let Turn {
-            mobile, answers, ..
+            mobile,
+            answers,
+            ..
         } = turn;
         self.mobile = Some(mobile);
         Ok(answers)

@@ -79,12 +79,7 @@ pub fn transmit(
     transmit_from(alloc, turn, standing, row, to, proto, payload, held)
 }
 
-fn solicit_to(
-    alloc: Global,
-    turn: &mut Turn,
-    careof: Address,
-    agent: Address,
-) -> Result<(), Memory>
+fn solicit_to(alloc: Global, turn: &mut Turn, careof: Address, agent: Address) -> Result<(), Memory>
     ensures { Goes result (solicits_from (Away careof) (Some agent)) turn.old turn.new }
 {
     let identifier = turn.mobile.solicitations();

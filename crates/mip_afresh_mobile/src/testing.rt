@@ -143,16 +143,7 @@ pub fn take_home_test(
     let row = home_row(turn, peer, cookie, turn.mobile.row_of(peer));
     let at = turn.now;
     let test = Test { index, token, at };
-    keep_home_if(
-        alloc,
-        turn,
-        handed.number,
-        right,
-        peer,
-        cookie,
-        test,
-        row,
-    )
+    keep_home_if(alloc, turn, handed.number, right, peer, cookie, test, row)
 }
 
 fn keep_careof_if(
@@ -190,14 +181,5 @@ pub fn take_careof_test(
     let row = careof_row(turn, peer, cookie, turn.mobile.row_of(peer));
     let at = turn.now;
     let test = Test { index, token, at };
-    keep_careof_if(
-        alloc,
-        turn,
-        handed.number,
-        right,
-        peer,
-        cookie,
-        test,
-        row,
-    )
+    keep_careof_if(alloc, turn, handed.number, right, peer, cookie, test, row)
 }
