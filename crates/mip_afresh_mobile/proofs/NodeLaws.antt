@@ -23,7 +23,7 @@ use Rattle.mip_afresh_mobile_state.specs.Turns.{Shows}
 use Rattle.mip_afresh_mobile.specs.Nodes.{NodeSeen, known_to, transition_at, after_call, AreAccepted}
 use Rattle.mip_nonce.specs.Secrets.{Life}
 use Rattle.mip_afresh_mobile.specs.declared.called.Asked.TheVariants as asked
-use Rattle.mip_afresh_mobile.specs.Pasts.{lost, node_left}
+use Rattle.mip_afresh_mobile.specs.Pasts.{new_node, lost, node_left}
 use Rattle.mip_afresh_mobile.proofs.Turned.{shows-now, shows-seen, shows-answers}
 
 -- whoever knows what its past leaves stands for it
@@ -113,3 +113,8 @@ accepted-here numbers count now at accepted part other many then same are =
 -- the secrets of a restart
 pub secrets-are : (given found : Life) → asked.Restart given ≡ asked.Restart found → found ≡ given
 secrets-are given found is = cc
+
+-- one to which nothing has happened
+pub known-new : (home : Address) (declared : Option Address) (numbers : ℕ) (secrets : Life) → known_to (new_node home declared numbers secrets) ≡ fresh home declared numbers secrets
+unfolding known
+known-new home declared numbers secrets = refl
