@@ -1,0 +1,5 @@
+pub mod Turned
+mod PastLaws
+mod NodeLaws
+mod Named
+mod Received

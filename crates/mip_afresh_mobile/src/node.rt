@@ -1,37 +1,73 @@
-ghost use Rattle.std.specs.Prelude.{◌≡◌, ◌<◌, ◌≤◌, ◌^◌, [], IfOk, OnOk, IsTrue, IsFalse, length};
+ghost use Rattle.std.specs.Prelude.{◌≡◌, ◌<◌, ◌≤◌, ◌^◌, [], IfOk, OnOk, IfSome, IsTrue, IsFalse, is_some, length};
 ghost use Rattle.mip_words.specs.Addresses.{is_routable};
 ghost use Rattle.mip_ipv6.specs.Packet.{names_no_body};
 ghost use Rattle.mip_bulist.specs.Timers.{first_due};
 ghost use Rattle.mip_rules_correspondent.specs.Questions.{held_of};
 ghost use Rattle.mip_rules_mobile.specs.Calls as calls;
+ghost use Rattle.mip_rules_mobile.specs.Known.{Known};
+ghost use Rattle.mip_rules_mobile.specs.Steps as steps;
 ghost use Rattle.mip_rules_mobile.specs.Steps.{answers_of};
+ghost use Rattle.mip_rules_mobile.specs.Transitions.{begun, noted};
+ghost use Rattle.mip_afresh_mobile_state.specs.Mobiles.{seen_of};
+ghost use Rattle.mip_afresh_mobile_state.specs.Turns.{Shows};
 ghost use Rattle.mip_afresh_mobile.specs.Nodes.{known_to, transition_at, after_call, AreAccepted};
 
+use crate::arrival::Arrival;
+use crate::asking::ask_refresh;
+use crate::called::{Asked, Called};
+use crate::past::Past;
+use crate::receiving::take;
+use crate::sending::{solicit, transmit};
 use mip_afresh_bindings::Acceptance;
+use mip_afresh_mobile_rules::{attach, begin_anew, leave, tick};
+use mip_afresh_mobile_state::{Mobile, Turn};
 use mip_entries::Answers;
 use mip_nonce::Secrets;
 use mip_outside::Claim;
 use mip_rules_mobile::Attachment;
-use mip_words::{Address, Memory, Moment, Prefix, Shield};
+use mip_words::{Address, Bytes, Memory, Moment, Prefix, Shield};
 use std::alloc::Global;
 use std::marker::Model;
 
 /// A mobile (RFC 6275 section 11).
+///
+/// After a call that found no memory nothing is known of it any more: it answers as one that left its link, and each further call as if
+/// memory had run out.
 #[derive(Drop)]
 pub struct Node {
-    home: Address,
-    declared: Option<Address>,
-    numbers: u8,
-    secrets: Secrets,
+    past: Past,
+    mobile: Option<Mobile>,
 }
 
 impl Model for Node {
-    ghost use Rattle.std.specs.Prelude.{[]};
-    ghost use Rattle.mip_afresh_mobile.specs.Nodes.{NodeSeen};
+    ghost use Rattle.std.specs.Prelude.{◌≡◌, IfSome};
+    ghost use Rattle.mip_afresh_mobile_state.specs.Mobiles.{seen_of};
+    ghost use Rattle.mip_afresh_mobile.specs.Nodes.{NodeSeen, known_to};
+    ghost use Rattle.mip_afresh_mobile.specs.Pasts.{node_left};
 
     ghost Value = { NodeSeen };
 
-    ghost view = { λ m. record { home = m.home; declared = m.declared; numbers = m.numbers; secrets = m.secrets; past = [] } };
+    ghost view = { λ m. node_left m.mobile m.past };
+
+    ghost invariant = { λ m. IfSome m.mobile (λ known. seen_of (known_to m.past) ≡ known) };
+}
+
+/// A call begins, where something is known of the mobile.
+fn begin(alloc: Global, now: Moment, mobile: Option<Mobile>) -> Result<Turn, Memory>
+    ensures known { OnOk result (IsTrue (is_some mobile)) }
+    ensures begins { (k : Known) (call : calls.Call) → IfSome mobile (λ known. seen_of k ≡ known) → IfOk result (λ turn. Shows turn (noted (steps.Called call) (begun now.0 k))) }
+{
+    let Some(mobile) = mobile else {
+        return Err(Memory);
+    };
+    let answers = Answers::new(alloc)?;
+    let mut turn = Turn {
+        now,
+        mobile,
+        answers,
+    };
+    turn.call()?;
+    Ok(turn)
 }
 
 impl Node {
@@ -47,7 +83,12 @@ impl Node {
         requires some { 1 ≤ numbers }
         ensures { IfOk result (λ m. m ≡ record { home = home; declared = declared; numbers = numbers; secrets = secrets; past = [] }) }
     {
-        Err(Memory)
+        let past = Past::new(home, declared, numbers, &secrets);
+        let mobile = Mobile::new(alloc, home, declared, numbers, secrets)?;
+        Ok(Node {
+            past,
+            mobile: Some(mobile),
+        })
     }
 
     /// A packet is handed to it, under a number and a shield. Its correspondent part accepted these updates in its present life.
@@ -65,7 +106,29 @@ impl Node {
         ensures answers { IfOk result (λ a. a ≡ answers_of (transition_at self.old now.0 (calls.Take number shield packet.now)).steps) }
         ensures goes_on { OnOk result (self.new ≡ after_call self.old now.0 (calls.Take number shield packet.now)) }
     {
-        Err(Memory)
+        let copy = Bytes::copy(alloc, packet)?;
+        let mut turn = begin(alloc, now, self.mobile.take())?;
+        let arrival = Arrival {
+            number,
+            shield,
+            numbers: self.past.numbers(),
+            accepted,
+        };
+        take(alloc, &mut turn, &arrival, packet)?;
+        let at = now;
+        let asked = Asked::Take {
+            number,
+            shield,
+            packet: copy,
+        };
+        self.past.add(&Called { at, asked });
+        let Turn {
+            mobile,
+            answers,
+            ..
+        } = turn;
+        self.mobile = Some(mobile);
+        Ok(answers)
     }
 
     /// It is to send data. Its correspondent part holds this care-of address for the destination. The protocol names a body, and it is
@@ -86,7 +149,23 @@ impl Node {
         ensures answers { IfOk result (λ a. a ≡ answers_of (transition_at self.old now.0 (calls.Send to proto payload.now)).steps) }
         ensures goes_on { OnOk result (self.new ≡ after_call self.old now.0 (calls.Send to proto payload.now)) }
     {
-        Err(Memory)
+        let copy = Bytes::copy(alloc, payload)?;
+        let mut turn = begin(alloc, now, self.mobile.take())?;
+        transmit(alloc, &mut turn, to, proto, payload, held)?;
+        let at = now;
+        let asked = Asked::Send {
+            to,
+            proto,
+            payload: copy,
+        };
+        self.past.add(&Called { at, asked });
+        let Turn {
+            mobile,
+            answers,
+            ..
+        } = turn;
+        self.mobile = Some(mobile);
+        Ok(answers)
     }
 
     /// It is to ask for a binding of this home to be refreshed, for which its correspondent part holds this care-of address.
@@ -102,7 +181,18 @@ impl Node {
         ensures answers { IfOk result (λ a. a ≡ answers_of (transition_at self.old now.0 (calls.Refresh home)).steps) }
         ensures goes_on { OnOk result (self.new ≡ after_call self.old now.0 (calls.Refresh home)) }
     {
-        Err(Memory)
+        let mut turn = begin(alloc, now, self.mobile.take())?;
+        ask_refresh(alloc, &mut turn, home, held)?;
+        let at = now;
+        let asked = Asked::Refresh { home };
+        self.past.add(&Called { at, asked });
+        let Turn {
+            mobile,
+            answers,
+            ..
+        } = turn;
+        self.mobile = Some(mobile);
+        Ok(answers)
     }
 
     /// Time goes on, and due work is done.
@@ -110,7 +200,18 @@ impl Node {
         ensures answers { IfOk result (λ a. a ≡ answers_of (transition_at self.old now.0 calls.Tick).steps) }
         ensures goes_on { OnOk result (self.new ≡ after_call self.old now.0 calls.Tick) }
     {
-        Err(Memory)
+        let mut turn = begin(alloc, now, self.mobile.take())?;
+        tick(alloc, &mut turn)?;
+        let at = now;
+        let asked = Asked::Tick;
+        self.past.add(&Called { at, asked });
+        let Turn {
+            mobile,
+            answers,
+            ..
+        } = turn;
+        self.mobile = Some(mobile);
+        Ok(answers)
     }
 
     /// A router advertises a prefix. Its place answers so to claims of its home address, and of its address under the prefix.
@@ -125,7 +226,22 @@ impl Node {
         ensures answers { IfOk result (λ a. a ≡ answers_of (transition_at self.old now.0 (calls.Attach prefix.0 of_home of_address)).steps) }
         ensures goes_on { OnOk result (self.new ≡ after_call self.old now.0 (calls.Attach prefix.0 of_home of_address)) }
     {
-        Err(Memory)
+        let mut turn = begin(alloc, now, self.mobile.take())?;
+        attach(alloc, &mut turn, prefix, of_home, of_address)?;
+        let at = now;
+        let asked = Asked::Attach {
+            prefix,
+            of_home,
+            of_address,
+        };
+        self.past.add(&Called { at, asked });
+        let Turn {
+            mobile,
+            answers,
+            ..
+        } = turn;
+        self.mobile = Some(mobile);
+        Ok(answers)
     }
 
     /// It leaves its link. Its place answers so to a claim of its home address.
@@ -133,7 +249,18 @@ impl Node {
         ensures answers { IfOk result (λ a. a ≡ answers_of (transition_at self.old now.0 (calls.Leave of_home)).steps) }
         ensures goes_on { OnOk result (self.new ≡ after_call self.old now.0 (calls.Leave of_home)) }
     {
-        Err(Memory)
+        let mut turn = begin(alloc, now, self.mobile.take())?;
+        leave(alloc, &mut turn, of_home)?;
+        let at = now;
+        let asked = Asked::Leave { of_home };
+        self.past.add(&Called { at, asked });
+        let Turn {
+            mobile,
+            answers,
+            ..
+        } = turn;
+        self.mobile = Some(mobile);
+        Ok(answers)
     }
 
     /// It is to solicit the prefixes of its home link.
@@ -141,28 +268,67 @@ impl Node {
         ensures answers { IfOk result (λ a. a ≡ answers_of (transition_at self.old now.0 calls.Ask).steps) }
         ensures goes_on { OnOk result (self.new ≡ after_call self.old now.0 calls.Ask) }
     {
-        Err(Memory)
+        let mut turn = begin(alloc, now, self.mobile.take())?;
+        solicit(alloc, &mut turn)?;
+        let at = now;
+        let asked = Asked::Ask;
+        self.past.add(&Called { at, asked });
+        let Turn {
+            mobile,
+            answers,
+            ..
+        } = turn;
+        self.mobile = Some(mobile);
+        Ok(answers)
     }
 
     /// It loses all that it keeps, and goes on with these secrets.
-    pub fn restart(&mut self, alloc: Global, now: Moment, secrets: Secrets) -> Result<Answers, Memory>
+    pub fn restart(
+        &mut self,
+        alloc: Global,
+        now: Moment,
+        secrets: Secrets,
+    ) -> Result<Answers, Memory>
         ensures answers { IfOk result (λ a. a ≡ answers_of (transition_at self.old now.0 (calls.Restart secrets)).steps) }
         ensures goes_on { OnOk result (self.new ≡ after_call self.old now.0 (calls.Restart secrets)) }
     {
-        Err(Memory)
+        let mut turn = begin(alloc, now, self.mobile.take())?;
+        let call = Called {
+            at: now,
+            asked: Asked::Restart { secrets },
+        };
+        self.past.add(&call);
+        let Called { asked, .. } = call;
+        match asked {
+            Asked::Restart { secrets } => begin_anew(alloc, &mut turn, secrets)?,
+            _other => return Err(Memory),
+        }
+        let Turn {
+            mobile,
+            answers,
+            ..
+        } = turn;
+        self.mobile = Some(mobile);
+        Ok(answers)
     }
 
     /// When work is due next.
     pub fn due(&self) -> Option<Moment>
         ensures { result ≡ first_due (known_to self.now).list.timers }
     {
-        None
+        match &self.mobile {
+            Some(mobile) => mobile.first_due(),
+            None => None,
+        }
     }
 
     /// Where it stands.
     pub fn standing(&self) -> Attachment
         ensures { result ≡ (known_to self.now).standing }
     {
-        Attachment::Detached
+        match &self.mobile {
+            Some(mobile) => mobile.standing(),
+            None => Attachment::Detached,
+        }
     }
 }

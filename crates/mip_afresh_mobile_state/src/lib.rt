@@ -7,6 +7,7 @@ mod discovery;
 mod making;
 mod mobile;
 mod numberings;
+mod part;
 mod peers;
 mod questions;
 mod retries;

@@ -1,24 +1,29 @@
 //! The calls of a correspondent: a packet that it is handed, a refresh and data that it is asked for (RFC 6275 sections 9.2 to 9.5).
 
-ghost use Rattle.std.specs.Prelude.{◌≡◌, ◌≤◌, ◌<◌, ◌^◌, ℕ, Option, Some, None, IfOk, IfSome, IsTrue, IsFalse, length};
+ghost use Rattle.std.specs.Prelude.{◌≡◌, ◌≤◌, ◌<◌, ◌^◌, ℕ, Option, Some, None, IfOk, IfSome, IsTrue, IsFalse, length, option_map};
 ghost use Rattle.mip_words.specs.declared.shield.Shield.{Shield};
 ghost use Rattle.mip_words.specs.Addresses.{is_routable};
-ghost use Rattle.mip_ipv6.specs.Packet.{is_plain, names_no_body};
+ghost use Rattle.mip_ipv6.specs.Packet.{packet as tree, is_plain, is_routable_if_any, names_no_body};
 ghost use Rattle.mip_ipv6.specs.Reading.{packet_of};
+ghost use Rattle.mip_mobhdr.specs.Said.{said};
+ghost use Rattle.mip_packets.specs.Says.{message_in};
+ghost use Rattle.mip_packets.specs.Updates.{IsReadUpdate};
 ghost use Rattle.mip_rules_correspondent.specs.declared.known.Known.{Known};
 ghost use Rattle.mip_rules_correspondent.specs.Calls as asked_for;
 ghost use Rattle.mip_rules_correspondent.specs.Steps.{answers_of};
 ghost use Rattle.mip_rules_correspondent.specs.Questions.{held_of};
 ghost use Rattle.mip_rules_correspondent.specs.Doing.{request_refresh, data_head, transition_of};
-ghost use Rattle.mip_afresh_rules.specs.Keeping.{IsKeptFor};
+ghost use Rattle.mip_afresh_rules.specs.Keeping.{IsKept, IsKeptFor};
 ghost use Rattle.mip_afresh_rules.specs.Showing.{Goes};
 
 use crate::answering::{idle, send_packet};
 use crate::kept::Kept;
+use crate::part::answer_message;
 use crate::receiving::receive;
 use crate::who::Who;
 use mip_entries::Answers;
-use mip_ipv6::Head;
+use mip_ipv6::{Head, PacketRef};
+use mip_mobhdr::Message;
 use mip_packets::{node_head, straight, write_data_packet, write_refresh};
 use mip_rules_correspondent::Identity;
 use mip_words::{Address, Memory, Moment};
@@ -45,6 +50,35 @@ pub fn take(
         kept,
     };
     receive(alloc, &mut answers, &who, packet)?;
+    Ok(answers)
+}
+
+/// What the correspondent part of a mobile does about a packet that has passed its node's checks, in order, where the part keeps this of
+/// what the packet asks. The message is that of the packet, where it has one.
+pub fn take_part(
+    alloc: Global,
+    me: &Identity,
+    now: Moment,
+    number: u64,
+    kept: Kept,
+    packet: &PacketRef<'_>,
+    message: &Option<Message<'_>>,
+) -> Result<Answers, Memory>
+    requires early { now.0 < 2 ^ 62 }
+    requires plain { IsTrue (is_routable_if_any packet.now.head.home) }
+    requires read { IsReadUpdate (option_map said message.now) packet.now.body.now }
+    requires message { message_in (tree packet.now) ≡ option_map said message.now }
+    ensures { (k : Known) → IsKept kept k.cache now.0 packet.now.head.source packet.now.head.home
+        → IfOk result (λ a. a ≡ answers_of (transition_of me.now k now.0 (asked_for.Part number (tree packet.now))).steps) }
+{
+    let mut answers = Answers::new(alloc)?;
+    let who = Who {
+        me,
+        moment: now,
+        number,
+        kept,
+    };
+    answer_message(alloc, &mut answers, &who, packet, message)?;
     Ok(answers)
 }
 

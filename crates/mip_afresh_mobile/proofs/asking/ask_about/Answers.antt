@@ -1,0 +1,12 @@
+use Rattle.mip_ipv6.specs.Packet.{packet as tree}
+use Rattle.mip_rules_correspondent.specs.Calls as parts
+use Rattle.mip_afresh_mobile.proofs.Turned.{shows-seen, part-answered}
+use Rattle.mip_afresh_mobile.proofs.asking.ask_about.Goals as goal
+
+pub returns : goal.returns
+returns c = λ t kept shows.
+    let turn = c.args.turn.now in
+    let call = parts.Part c.args.handed.now.number (tree c.args.packet.now) in
+    c.pass_on.ensures call t
+    (part-answered turn t c.identity.result.now call c.in_ok-answers.answers shows (c.identity.ensures t.known (shows-seen turn t shows)) (c.in_ok-answers.ensures t.known.part.known kept))
+    shows

@@ -1,0 +1,24 @@
+use Rattle.mip_rules_mobile.specs.Calls as calls
+use Rattle.mip_afresh_mobile.proofs.NodeLaws.{IsDone, ended}
+use Rattle.mip_afresh_mobile.proofs.node.Node.ask.Goals as goal
+
+pub invariant_of-self-2 : goal.invariant_of-self-2
+invariant_of-self-2 c =
+    (ended c.self.inside.past c.args.self.now c.add.new.self c.self.inside.mobile c.take.result c.args.now.0 (calls.Ask) c.in_ok-turn.turn c.solicit.new.turn
+    c.self.view_is c.take.ensures.value c.in_ok-turn.ensures.known c.self.invariant c.in_ok-turn.ensures.begins
+    (λ t same part at shows. c.in_ok-solicit.ensures t shows)
+    c.add.ensures).invariant
+
+pub returns-clause-answers : goal.returns-clause-answers
+returns-clause-answers c =
+    (ended c.self.inside.past c.args.self.now c.add.new.self c.self.inside.mobile c.take.result c.args.now.0 (calls.Ask) c.in_ok-turn.turn c.solicit.new.turn
+    c.self.view_is c.take.ensures.value c.in_ok-turn.ensures.known c.self.invariant c.in_ok-turn.ensures.begins
+    (λ t same part at shows. c.in_ok-solicit.ensures t shows)
+    c.add.ensures).answers
+
+pub returns-clause-goes_on : goal.returns-clause-goes_on
+returns-clause-goes_on c =
+    (ended c.self.inside.past c.args.self.now c.add.new.self c.self.inside.mobile c.take.result c.args.now.0 (calls.Ask) c.in_ok-turn.turn c.solicit.new.turn
+    c.self.view_is c.take.ensures.value c.in_ok-turn.ensures.known c.self.invariant c.in_ok-turn.ensures.begins
+    (λ t same part at shows. c.in_ok-solicit.ensures t shows)
+    c.add.ensures).goes_on
