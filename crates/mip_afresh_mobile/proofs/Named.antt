@@ -1,9 +1,8 @@
 -- The addresses that a reply names, from the first one on.
-use Rattle.std.proofs.Common.{◌≡◌, ℕ, zero, suc, ◌+◌, ◌-◌, ◌/◌, ◌<◌, ◌≤◌, List, [], ◌∷◌, length, refl, ap, ◌∙◌, arith}
+use Rattle.std.proofs.Common.{◌≡◌, ℕ, suc, ◌-◌, ◌/◌, ◌<◌, ◌≤◌, List, [], ◌∷◌, length, ap, arith}
 use Rattle.std.specs.Prelude.{drop}
 use Rattle.std.proofs.lemmas.List.{length-drop}
 use Rattle.mip_words.specs.Addresses.{address_at}
-use Rattle.mip_words.specs.declared.address.Address.{Address}
 use Rattle.mip_rules_mobile.specs.IcmpRules.{addresses_of, agents_named}
 
 one-more : (n m : ℕ) → 16 ≤ n → m ≡ n - 16 → n / 16 ≡ suc (m / 16)

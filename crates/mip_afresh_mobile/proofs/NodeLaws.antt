@@ -1,17 +1,16 @@
 -- What a mobile knows behind a call, and of one of which nothing is known any more.
-use Rattle.std.proofs.Common.{◌≡◌, ℕ, List, [], ◌∷◌, refl, sym, ap, subst, ◌∙◌}
+use Rattle.std.proofs.Common.{◌≡◌, ℕ, List, refl, sym, ap, subst, ◌∙◌}
 use Rattle.std.specs.Prelude.{Option, Some, None, IfSome, IsTrue, is_some}
 use Rattle.mip_words.specs.declared.address.Address.{Address}
 use Rattle.mip_bulist.specs.Timers.{first_due}
-use Rattle.mip_entries.specs.Stamped.{Stamped}
 use Rattle.mip_entries.proofs.TransitionLaws.{noted-known, noted-now}
 use Rattle.mip_rules_mobile.specs.declared.attachment.Attachment.TheVariants.{Detached}
 use Rattle.mip_rules_mobile.specs.Known.{Known}
 use Rattle.mip_rules_mobile.specs.Calls.{Call}
-use Rattle.mip_rules_mobile.specs.Steps.{Step, Called, answers_of}
+use Rattle.mip_rules_mobile.specs.Steps.{Called, answers_of}
 use Rattle.mip_rules_mobile.specs.Questions.{after, fresh, known}
 use Rattle.mip_rules_mobile.specs.Transitions.{Transition, Stands, begun, noted, with_transition}
-use Rattle.mip_rules_mobile.specs.Doing.{handles, does, transition_of}
+use Rattle.mip_rules_mobile.specs.Doing.{handles, does}
 use Rattle.mip_rules_mobile.proofs.Calls.{stands-known, call-stands}
 use Rattle.mip_entries.specs.Transitions.{StandsBy}
 use Rattle.mip_rules_correspondent.specs.Seen.{CorrespondentSeen}

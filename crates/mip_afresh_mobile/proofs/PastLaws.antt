@@ -1,5 +1,5 @@
 -- The past of a mobile by the calls that it was given.
-use Rattle.std.proofs.Common.{◌≡◌, ℕ, List, [], ◌∷◌, refl}
+use Rattle.std.proofs.Common.{◌≡◌, List, [], ◌∷◌, refl}
 use Rattle.std.specs.Prelude.{fold}
 use Rattle.mip_afresh_mobile.specs.declared.called.Called.{Called}
 use Rattle.mip_afresh_mobile.specs.Nodes.{NodeSeen}

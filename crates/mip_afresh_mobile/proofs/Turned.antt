@@ -13,7 +13,7 @@ use Rattle.mip_rules_mobile.specs.Known.{Known}
 use Rattle.mip_rules_mobile.specs.Steps.{answers_of}
 use Rattle.mip_rules_mobile.specs.Transitions.{Transition, begun}
 use Rattle.mip_afresh_mobile_state.specs.declared.turn.Turn.{Turn}
-use Rattle.mip_afresh_mobile_state.specs.Mobiles.{MobileSeen, seen_of}
+use Rattle.mip_afresh_mobile_state.specs.Mobiles.{seen_of}
 use Rattle.mip_afresh_mobile_state.specs.Turns.{Shows}
 
 pub shows-now : (turn : Turn) (t : Transition) → Shows turn t → t.now ≡ turn.now.0

@@ -1,5 +1,5 @@
 -- Rules that ask what the correspondent part of a mobile keeps, and a trial whose update waits for an answer.
-use Rattle.std.specs.Prelude.{◌≡◌, ℕ, List, map, Option, Result, OnOk}
+use Rattle.std.specs.Prelude.{ℕ, List, map, Option, Result, OnOk}
 use Rattle.mip_words.specs.declared.address.Address.{Address}
 use Rattle.mip_ipv6.specs.declared.head.Head.{Head}
 use Rattle.mip_bulist.specs.declared.any.Any.{Any}

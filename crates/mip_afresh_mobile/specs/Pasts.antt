@@ -2,10 +2,9 @@
 use Rattle.std.specs.Prelude.{ℕ, List, [], ◌∷◌, fold, Option, Some, None}
 use Rattle.mip_words.specs.declared.address.Address.{Address}
 use Rattle.mip_nonce.specs.Secrets.{Life}
-use Rattle.mip_entries.specs.Stamped.{Stamped}
 use Rattle.mip_rules_mobile.specs.Calls as calls
 use Rattle.mip_rules_mobile.specs.Calls.{Call}
-use Rattle.mip_rules_mobile.specs.Steps.{Step, Detaches}
+use Rattle.mip_rules_mobile.specs.Steps.{Detaches}
 use Rattle.mip_afresh_mobile_state.specs.Mobiles.{MobileSeen}
 use Rattle.mip_afresh_mobile.specs.declared.called.Asked.{Asked}
 use Rattle.mip_afresh_mobile.specs.declared.called.Asked.TheVariants.{Take, Send, Refresh, Tick, Attach, Leave, Ask, Restart}

@@ -1,20 +1,14 @@
 //! What a mobile does about a Binding Acknowledgement (RFC 6275 sections 11.5.5 and 11.7.3).
 
 ghost use Rattle.std.specs.Prelude.{◌≡◌, ℕ, ◌*◌, ◌==◌, if◌then◌else◌, IfOk, Some, option_map};
-ghost use Rattle.std.specs.Option.{option_map_or};
-ghost use Rattle.mip_words.specs.Constants.{lifetime_unit};
 ghost use Rattle.mip_bulist.specs.declared.any.Any.TheVariants as any;
-ghost use Rattle.mip_rules_mobile.specs.Timing.{refresh_unit};
 ghost use Rattle.mip_rules_mobile.specs.TimerQuestions.{later};
-ghost use Rattle.mip_rules_mobile.specs.HomeQuestions.{home_of};
-ghost use Rattle.mip_rules_mobile.specs.HomeRules.{is_answered_at, is_answer_to, answered_by, home_answered};
+ghost use Rattle.mip_rules_mobile.specs.HomeRules.{is_answered_at, is_answer_to, answered_by};
 ghost use Rattle.mip_rules_mobile.specs.PeerRules.{binds_from, ends_for, is_granted, takes_peer_ack, acks_trial, acks_row, takes_ack_of};
 ghost use Rattle.mip_rules_mobile.specs.ReceivingRules.{acks_by, takes_ack};
-ghost use Rattle.mip_rules_mobile.specs.Transitions.{Transition};
-ghost use Rattle.mip_ipv6.specs.Packet.{packet as tree, source_of};
+ghost use Rattle.mip_ipv6.specs.Packet.{packet as tree};
 ghost use Rattle.mip_mobhdr.specs.OptionValues.{Values};
-ghost use Rattle.mip_afresh_mobile_state.specs.Trials.{tested_seen};
-ghost use Rattle.mip_afresh_mobile_state.specs.Turns.{Shows, Goes};
+ghost use Rattle.mip_afresh_mobile_state.specs.Turns.{Goes};
 ghost use Rattle.mip_afresh_mobile.specs.Asking.{pending_in, row_trial};
 
 use crate::acknowledgement::Acknowledgement;

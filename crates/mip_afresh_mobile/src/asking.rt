@@ -1,6 +1,6 @@
 //! The correspondent part of a mobile is asked, and what it answers goes on (RFC 6275 section 11.3.1).
 
-ghost use Rattle.std.specs.Prelude.{◌≡◌, ◌<◌, ◌≤◌, ◌^◌, OnOk, IsTrue, IsFalse, IfSome, length, option_map};
+ghost use Rattle.std.specs.Prelude.{◌≡◌, ◌<◌, ◌≤◌, ◌^◌, OnOk, IsTrue, IsFalse, length, option_map};
 ghost use Rattle.mip_words.specs.Addresses.{is_routable};
 ghost use Rattle.mip_ipv6.specs.Packet.{packet as tree, is_routable_if_any, names_no_body};
 ghost use Rattle.mip_mobhdr.specs.Said.{said};

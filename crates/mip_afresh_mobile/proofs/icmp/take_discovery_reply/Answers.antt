@@ -1,5 +1,5 @@
-use Rattle.std.proofs.Common.{Bool, List, sym, ap, ◌∙◌, if◌then◌else◌}
-use Rattle.std.specs.Prelude.{Option, option_map}
+use Rattle.std.proofs.Common.{Bool, List, ap, ◌∙◌, if◌then◌else◌}
+use Rattle.std.specs.Prelude.{Option}
 use Rattle.mip_words.specs.declared.address.Address.{Address}
 use Rattle.mip_discovery.specs.Retries.{DiscoverySeen}
 use Rattle.mip_rules_mobile.specs.declared.attachment.Attachment.{Attachment}

@@ -1,9 +1,8 @@
 use Rattle.std.proofs.Common.{sym, ap, ◌∙◌}
-use Rattle.std.specs.Prelude.{Result, Ok, Err}
+use Rattle.std.specs.Prelude.{Ok, Err}
 use Rattle.mip_words.specs.declared.address.Address.{Address}
 use Rattle.mip_ipv6.specs.Packet.{source_of, destination_of}
-use Rattle.mip_icmp.specs.declared.fault.IcmpFault.{IcmpFault}
-use Rattle.mip_icmp.specs.Said.{Said, said}
+use Rattle.mip_icmp.specs.Said.{said}
 use Rattle.mip_icmp.specs.Reading.{icmp_of}
 use Rattle.mip_rules_mobile.specs.IcmpRules.{by_icmp, takes_icmp}
 use Rattle.mip_afresh_mobile.proofs.Turned.{asked}

@@ -1,5 +1,5 @@
 use Rattle.std.proofs.Common.{Bool, sym, ap, ◌∙◌, if◌then◌else◌}
-use Rattle.std.specs.Prelude.{Option, ℕ, not}
+use Rattle.std.specs.Prelude.{Option, ℕ}
 use Rattle.mip_words.specs.declared.why.Why.TheVariants as whys
 use Rattle.mip_rules_mobile.specs.declared.attachment.Attachment.{Attachment}
 use Rattle.mip_rules_mobile.specs.RowQuestions.{row_of}

@@ -1,5 +1,5 @@
 use Rattle.std.proofs.Common.{Bool, true, sym}
-use Rattle.std.specs.Prelude.{Result, Option, Ok, Err, option_map}
+use Rattle.std.specs.Prelude.{Ok, Err, option_map}
 use Rattle.mip_ipv6.specs.Packet.{packet as tree}
 use Rattle.mip_mobhdr.specs.Said.{said}
 use Rattle.mip_reception.specs.Checks.{checked}

@@ -1,5 +1,5 @@
 use Rattle.mip_rules_mobile.specs.Calls as calls
-use Rattle.mip_afresh_mobile.proofs.NodeLaws.{IsDone, ended}
+use Rattle.mip_afresh_mobile.proofs.NodeLaws.{ended}
 use Rattle.mip_afresh_mobile.proofs.node.Node.ask.Goals as goal
 
 pub invariant_of-self-2 : goal.invariant_of-self-2

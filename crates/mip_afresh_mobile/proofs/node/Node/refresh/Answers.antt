@@ -1,6 +1,6 @@
 use Rattle.mip_afresh_mobile.specs.Nodes.{known_to}
 use Rattle.mip_rules_mobile.specs.Calls as calls
-use Rattle.mip_afresh_mobile.proofs.NodeLaws.{IsDone, ended, held-here}
+use Rattle.mip_afresh_mobile.proofs.NodeLaws.{ended, held-here}
 use Rattle.mip_afresh_mobile.proofs.node.Node.refresh.Goals as goal
 
 pub invariant_of-self-2 : goal.invariant_of-self-2

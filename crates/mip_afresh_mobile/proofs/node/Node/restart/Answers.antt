@@ -3,7 +3,7 @@ use Rattle.mip_nonce.specs.Secrets.{Life}
 use Rattle.mip_rules_mobile.specs.MovingRules.{restarts}
 use Rattle.mip_afresh_mobile_state.specs.Turns.{Shows}
 use Rattle.mip_rules_mobile.specs.Calls as calls
-use Rattle.mip_afresh_mobile.proofs.NodeLaws.{IsDone, ended, secrets-are}
+use Rattle.mip_afresh_mobile.proofs.NodeLaws.{ended, secrets-are}
 use Rattle.mip_afresh_mobile.proofs.node.Node.restart.Goals as goal
 
 pub invariant_of-self-2 : goal.invariant_of-self-2

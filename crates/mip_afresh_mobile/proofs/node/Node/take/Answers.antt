@@ -1,7 +1,7 @@
 use Rattle.std.proofs.Common.{List, ℕ, ap, ◌∙◌}
 use Rattle.mip_afresh_mobile.specs.Nodes.{NodeSeen, known_to, after_call}
 use Rattle.mip_rules_mobile.specs.Calls as calls
-use Rattle.mip_afresh_mobile.proofs.NodeLaws.{IsDone, ended, accepted-here}
+use Rattle.mip_afresh_mobile.proofs.NodeLaws.{ended, accepted-here}
 use Rattle.mip_afresh_mobile.proofs.node.Node.take.Goals as goal
 
 pub invariant_of-self-2 : goal.invariant_of-self-2
