@@ -1,0 +1,5 @@
+pub mod ShowingLaws
+mod Roles
+mod CallLaws
+mod Pasts
+mod Put

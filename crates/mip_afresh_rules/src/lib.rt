@@ -17,7 +17,10 @@ mod verdicts;
 mod who;
 mod wording;
 
+pub use asking::{asked_by, careof_of, deletes, home_of, registered_of};
 pub use calls::{refresh, send, take};
+pub use checking::check;
 pub use kept::Kept;
 pub use subject::{Subject, subject_of};
 pub use who::Who;
+pub use wording::packet_why;

@@ -1,0 +1,9 @@
+use Rattle.std.proofs.Common.{refl}
+use Rattle.mip_rules_agent.specs.Steps.{Drops}
+use Rattle.mip_rules_agent.specs.Questions.{after}
+use Rattle.mip_afresh_agent.proofs.ShowingLaws.{shown}
+use Rattle.mip_afresh_agent.proofs.turn.Turn.drop_packet.Goals as goal
+
+pub returns : goal.returns
+unfolding after
+returns c = λ t shows. shown (Drops c.args.number c.args.why) c.args.self.now _ refl refl c.in_ok-push.ensures.ok t shows
