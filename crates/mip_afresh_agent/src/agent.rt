@@ -163,6 +163,13 @@ impl Agent {
         Ok(())
     }
 
+    /// Its own address.
+    pub fn own(&self) -> Address
+        ensures { result ≡ self.now.me.own }
+    {
+        self.me.own
+    }
+
     /// When its first registration ends.
     pub fn due(&self) -> Option<Moment>
         ensures { result ≡ option_map (λ e. e.end) (slice_get (known_to self.now).ends 0) }

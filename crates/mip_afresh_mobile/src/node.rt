@@ -152,6 +152,13 @@ impl Node {
         Err(Memory)
     }
 
+    /// The home address.
+    pub fn home(&self) -> Address
+        ensures { result ≡ self.now.home }
+    {
+        self.home
+    }
+
     /// When work is due next.
     pub fn due(&self) -> Result<Option<Moment>, Memory>
         ensures { IfOk result (λ o. o ≡ first_due (known_to self.now).list.timers) }

@@ -1,0 +1,4 @@
+mod RowLaws
+mod TimerLaws
+mod TrialLaws
+mod TurnLaws

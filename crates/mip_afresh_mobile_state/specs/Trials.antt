@@ -1,6 +1,7 @@
 -- A trial as plain data, as the definitions of return routability have it.
-use Rattle.std.specs.Prelude.{ℕ, Option, Some, None, option_map, Result, Ok, Err}
+use Rattle.std.specs.Prelude.{ℕ, ◌+◌, ◌%◌, Option, Some, None, option_map, Result, Ok, Err}
 use Rattle.mip_words.specs.declared.address.Address.{Address}
+use Rattle.mip_words.specs.declared.moment.Moment.{Moment}
 use Rattle.mip_bulist.specs.declared.any.Any.{Any}
 use Rattle.mip_bulist.specs.declared.any.Any.TheVariants as any
 use Rattle.mip_bulist.specs.declared.recent.Recent as recent
@@ -12,6 +13,9 @@ use Rattle.mip_bulist.specs.declared.row.Row as rows
 use Rattle.mip_bulist.specs.declared.timer.Timer as timers
 use Rattle.mip_bulist.specs.declared.list_full.ListFull.{ListFull}
 use Rattle.mip_discovery.specs.Retries.{DiscoverySeen}
+use Rattle.mip_rules_mobile.specs.Trials as changes
+use Rattle.mip_afresh_mobile_state.specs.declared.change.Change.{Change}
+use Rattle.mip_afresh_mobile_state.specs.declared.change.Change.TheVariants.{Start, HomeTest, CareofTest, Make, Resequence, Acknowledge, Rest}
 use Rattle.mip_afresh_mobile_state.specs.declared.trial.Test.{Test}
 use Rattle.mip_afresh_mobile_state.specs.declared.trial.Tested.{Tested}
 use Rattle.mip_afresh_mobile_state.specs.declared.trial.Tested.TheVariants as plain
@@ -47,6 +51,29 @@ staged peer t (stages.Bound aim) = any.Bound (trial_in peer t (record { aim = ai
 -- the trial with a peer
 abbrev pub any_seen : Address → Trial → Any
 any_seen peer t = staged peer t t.stage
+
+abbrev pub change_seen : Change → changes.Change
+change_seen (Start aim home careof) = changes.Start aim home careof
+change_seen (HomeTest sender cookie test) = changes.HomeTest sender cookie (test_seen test)
+change_seen (CareofTest sender cookie test) = changes.CareofTest sender cookie (test_seen test)
+change_seen Make = changes.Make
+change_seen (Resequence last) = changes.Resequence last
+change_seen (Acknowledge sequence granted) = changes.Acknowledge sequence granted
+change_seen Rest = changes.Rest
+
+-- a trial that has just made an update of these tests
+abbrev pub having_made : Moment → Tested → Trial → Trial
+having_made now tested t = record {
+  next = (t.next + 1) % 65536;
+  newest = Some now;
+  middle = t.newest;
+  oldest = t.middle;
+  stage = stages.Pending tested t.next;
+}
+
+-- a row whose trial is given up
+abbrev pub given_up : Row → Row
+given_up r = record { peer = r.peer; trial = record r.trial { stage = stages.Idle } }
 
 abbrev pub row_seen : Row → rows.Row
 row_seen r = record { peer = r.peer; trial = Some (any_seen r.peer r.trial) }

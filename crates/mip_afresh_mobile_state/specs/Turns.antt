@@ -1,7 +1,6 @@
 -- A call of a mobile under way, as contracts see it.
-use Rattle.std.specs.Prelude.{◌≡◌, List, Option, Result, OnOk}
+use Rattle.std.specs.Prelude.{◌≡◌, Result, OnOk}
 use Rattle.mip_words.specs.declared.address.Address.{Address}
-use Rattle.mip_entries.specs.declared.answer.Answer.{Answer}
 use Rattle.mip_rules_mobile.specs.Steps.{answers_of}
 use Rattle.mip_rules_mobile.specs.Sendings.{Sending, FromHome, ByTunnel, AsksCareof, SendsData, Discovers}
 use Rattle.mip_rules_mobile.specs.Transitions.{Transition}

@@ -19,7 +19,7 @@ pub(crate) fn due_of(telling: &Telling, node: NodeId) -> Result<Option<Moment>, 
 {
     match telling.role(node) {
         Some(Role::Agent(agent)) => Ok(agent.due()),
-        Some(Role::Mobile(mobile)) => Ok(mobile.due()),
+        Some(Role::Mobile(mobile)) => Ok(mobile.due()?),
         _ => {
             let _member = member_of(telling, node)?;
             Ok(None)

@@ -1,0 +1,11 @@
+use Rattle.std.proofs.Common.{refl}
+use Rattle.mip_rules_mobile.specs.Steps.{Tries}
+use Rattle.mip_rules_mobile.specs.Questions.{after}
+use Rattle.mip_afresh_mobile_state.proofs.TurnLaws.{silent}
+use Rattle.mip_rules_mobile.specs.Trials.{HomeTest}
+use Rattle.mip_afresh_mobile_state.specs.Trials.{test_seen}
+use Rattle.mip_afresh_mobile_state.proofs.turn.Turn.keep_home_test.Goals as goal
+
+pub returns : goal.returns
+unfolding after
+returns c = λ t shows. silent (Tries c.args.row (HomeTest c.args.peer c.args.cookie (test_seen c.args.test))) c.args.self.now c.change_trial.new.self refl (λ k. refl) c.change_trial.ensures t shows

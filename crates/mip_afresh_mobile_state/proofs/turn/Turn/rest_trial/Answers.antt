@@ -1,0 +1,10 @@
+use Rattle.std.proofs.Common.{refl}
+use Rattle.mip_rules_mobile.specs.Steps.{Tries}
+use Rattle.mip_rules_mobile.specs.Questions.{after}
+use Rattle.mip_afresh_mobile_state.proofs.TurnLaws.{silent}
+use Rattle.mip_rules_mobile.specs.Trials.{Rest}
+use Rattle.mip_afresh_mobile_state.proofs.turn.Turn.rest_trial.Goals as goal
+
+pub returns : goal.returns
+unfolding after
+returns c = λ t shows. silent (Tries c.args.row Rest) c.args.self.now c.change_trial.new.self refl (λ k. refl) c.change_trial.ensures t shows
