@@ -1,5 +1,5 @@
 -- A wait under way.
-use Rattle.std.specs.Prelude.{◌≡◌, Bool}
+use Rattle.std.specs.Prelude.{◌≡◌, ℕ, Bool, Option, Some, None, nat_lt, if◌then◌else◌}
 use Rattle.mip_history.specs.Waiting.{Waiting}
 use Rattle.mip_afresh.specs.Tellings.{TellingSeen, with_run}
 
@@ -11,3 +11,8 @@ waiting t told = record { run = t.run; told = told }
 pub record HasCome (old new : TellingSeen) (told : Bool) (w : Waiting) : Type 0 where
   pub run : new ≡ with_run w.run old
   pub tells : told ≡ w.told
+
+-- the moment of what is due, where that is no later than the target
+abbrev pub due_by : Option ℕ → (target : ℕ) → Option ℕ
+due_by None target = None
+due_by (Some due) target = if nat_lt target due then None else Some due

@@ -49,7 +49,8 @@ fn hear(alloc: Global, telling: &mut Telling, node: NodeId, router: &Router) -> 
 {
     match telling.take_role(node) {
         Role::Agent(agent) => tell_agent(alloc, telling, node, agent, router),
-        _ => Err(Memory),
+        Role::Mobile(_mobile) => Err(Memory),
+        Role::Plain => Err(Memory),
     }
 }
 
@@ -151,7 +152,8 @@ fn attach(alloc: Global, telling: &mut Telling, node: NodeId, prefix: Prefix) ->
 {
     match telling.take_role(node) {
         Role::Mobile(mobile) => attach_mobile(alloc, telling, node, mobile, prefix),
-        _ => Err(Memory),
+        Role::Agent(_agent) => Err(Memory),
+        Role::Plain => Err(Memory),
     }
 }
 

@@ -29,7 +29,8 @@ fn leave(alloc: Global, telling: &mut Telling, node: NodeId) -> Result<(), Memor
 {
     match telling.take_role(node) {
         Role::Mobile(mobile) => leave_by_mobile(alloc, telling, node, mobile),
-        _ => Err(Memory),
+        Role::Agent(_agent) => Err(Memory),
+        Role::Plain => Err(Memory),
     }
 }
 

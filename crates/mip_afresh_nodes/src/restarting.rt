@@ -25,6 +25,7 @@ use mip_words::{Memory, NodeId};
 use std::alloc::Global;
 
 /// A home agent gives up the homes that it had registered, in order of address.
+#[tactic(auto, unfolding(mip_history::specs::Restarting::homes_left))]
 fn give_up_homes(telling: &mut Telling, node: NodeId, rows: &[HomeRow]) -> Result<(), Memory>
     ensures { OnOk result (telling.new ≡ with_run (homes_left telling.old.setup node.0 rows.now telling.old.run) telling.old) }
 {
@@ -60,7 +61,8 @@ fn renew(alloc: Global, telling: &mut Telling, node: NodeId) -> Result<(), Memor
     let secrets = Secrets::new(telling.seed(), node, life);
     match telling.take_role(node) {
         Role::Mobile(mobile) => restart_mobile(alloc, telling, node, mobile, secrets),
-        _ => Err(Memory),
+        Role::Agent(_agent) => Err(Memory),
+        Role::Plain => Err(Memory),
     }
 }
 
@@ -74,6 +76,7 @@ fn restart_roaming(alloc: Global, telling: &mut Telling, node: NodeId) -> Result
 }
 
 /// A correspondent begins its next life, or nobody does.
+#[tactic(auto, unfolding(mip_history::specs::Restarting::restarted))]
 fn restart_plain(telling: &mut Telling, node: NodeId) -> Result<(), Memory>
     ensures { OnOk result (telling.new ≡ with_run (restarted telling.old.setup telling.old.run node.0) telling.old) }
 {
@@ -92,7 +95,7 @@ fn restart_other(alloc: Global, telling: &mut Telling, node: NodeId) -> Result<(
 {
     match telling.take_role(node) {
         Role::Agent(agent) => restart_agent(alloc, telling, node, agent),
-        Role::Mobile(_) => Err(Memory),
+        Role::Mobile(_mobile) => Err(Memory),
         Role::Plain => restart_plain(telling, node),
     }
 }

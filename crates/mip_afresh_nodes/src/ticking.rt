@@ -18,7 +18,7 @@ pub(crate) fn due_of(telling: &Telling, node: NodeId) -> Result<Option<Moment>, 
     ensures { IfOk result (λ o. option_map (λ m. m.0) o ≡ due_of telling.now.setup telling.now.run node.0) }
 {
     match telling.role(node) {
-        Some(Role::Agent(agent)) => Ok(agent.due()),
+        Some(Role::Agent(agent)) => Ok(agent.due()?),
         Some(Role::Mobile(mobile)) => Ok(mobile.due()?),
         _ => {
             let _member = member_of(telling, node)?;

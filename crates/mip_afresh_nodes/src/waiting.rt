@@ -1,10 +1,10 @@
 //! Time goes on, and what is due meanwhile is done at its moment.
 
-ghost use Rattle.std.specs.Prelude.{◌≡◌, ◌+◌, ◌&&◌, ◌==◌, max, false, OnOk, IfOk};
+ghost use Rattle.std.specs.Prelude.{◌≡◌, ◌+◌, ◌&&◌, ◌==◌, max, false, option_map, OnOk, IfOk};
 ghost use Rattle.mip_history.specs.Knowing.{now_in};
 ghost use Rattle.mip_history.specs.Waiting.{comes_to, works, works_until, waited};
 ghost use Rattle.mip_afresh.specs.Tellings.{with_run};
-ghost use Rattle.mip_afresh_nodes.specs.Waits.{waiting, HasCome};
+ghost use Rattle.mip_afresh_nodes.specs.Waits.{due_by, waiting, HasCome};
 
 use crate::ticking::{earliest, tick_all};
 use mip_afresh::Telling;
@@ -44,6 +44,16 @@ fn work(alloc: Global, telling: &mut Telling, due: Moment, told: bool) -> Result
     tick_all(alloc, telling)
 }
 
+/// The moment of what is due, where that is no later than the target.
+fn due_by(due: Option<Moment>, target: Moment) -> Option<Moment>
+    ensures { option_map (λ m. m.0) result ≡ due_by (option_map (λ m. m.0) due) target.0 }
+{
+    match due {
+        Some(due) if target.0 >= due.0 => Some(due),
+        _ => None,
+    }
+}
+
 /// As long as work is due by the target, the earliest is done next, so many times at most. Says whether an `at` stands in this event.
 fn work_until(
     alloc: Global,
@@ -55,9 +65,10 @@ fn work_until(
 {
     let mut told = false;
     for _round in 0..rounds {
-        match earliest(telling)? {
-            Some(due) if target.0 >= due.0 => work(alloc, telling, due, told)?,
-            _ => return Ok(told),
+        let due = earliest(telling)?;
+        match due_by(due, target) {
+            Some(due) => work(alloc, telling, due, told)?,
+            None => return Ok(told),
         }
         told = true;
     }
