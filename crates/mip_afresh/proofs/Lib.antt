@@ -1,7 +1,7 @@
 mod Told
 mod TellingLaws
-mod Residents
+mod ResidentLaws
 mod Landings
 mod Openings
-mod Waits
+mod RoleLaws
 mod Leavings

@@ -7,7 +7,7 @@ use Rattle.mip_words.specs.declared.address.Address.{Address}
 use Rattle.mip_words.specs.Last.{or_else}
 use Rattle.mip_entries.specs.declared.entry.Entry.{Entry}
 use Rattle.mip_entries.specs.declared.entry.Entry.TheVariants.{At, Moved, Claimed, Released, Taken, Listening, Deafened, Careof, Home, Registered, Unregistered, Bound, Unbound, Accepted, Restarted, Heard}
-use Rattle.mip_history.specs.Questions.{moment_says, moment_in, holder_says, holder_in, claims, declared_in, listen_says, hears_in, restarts, life_in}
+use Rattle.mip_history.specs.Questions.{moment_says, moment_in, holder_says, holder_in, claims, declared_in, listen_says, moved_says, spot_in, hears_in, restarts, life_in}
 use Rattle.mip_words.specs.Asked.{asked}
 use Rattle.mip_binding.specs.Acceptance.{Acceptance}
 use Rattle.mip_binding.specs.Held.{held}
@@ -54,6 +54,10 @@ listen_quiet : (o link : ℕ) (e : Entry) → tells e ≡ false → listen_says 
 listen_quiet o link (Listening outsider l) is = absurd cc
 listen_quiet o link (Deafened outsider l) is = absurd cc
 listen_quiet o link _ is = refl
+
+moved_quiet : (m : ℕ) (e : Entry) → tells e ≡ false → moved_says m e ≡ None
+moved_quiet m (Moved node link) is = absurd cc
+moved_quiet m _ is = refl
 
 claims_quiet : (by : ℕ) (o : Option Address) (e : Entry) → tells e ≡ false → or_else o (claims by e) ≡ o
 claims_quiet by (Some a) e is = refl
@@ -106,6 +110,9 @@ holder_told a xs ys same = alike (λ (s : Option ℕ) (e : Entry). unwrap_or (ho
 
 pub hears_told : (o link : ℕ) (xs ys : List Entry) → filter tells xs ≡ filter tells ys → hears_in xs o link ≡ hears_in ys o link
 hears_told o link xs ys same = alike (λ (s : Bool) (e : Entry). unwrap_or (listen_says o link e) s) (says_nothing (listen_says o link) (listen_quiet o link)) false xs ys same
+
+pub spot_told : (home : Option ℕ) (m : ℕ) (xs ys : List Entry) → filter tells xs ≡ filter tells ys → spot_in home xs m ≡ spot_in home ys m
+spot_told home m xs ys same = alike (λ (s : Option ℕ) (e : Entry). unwrap_or (moved_says m e) s) (says_nothing (moved_says m) (moved_quiet m)) home xs ys same
 
 pub declared_told : (by : ℕ) (xs ys : List Entry) → filter tells xs ≡ filter tells ys → declared_in xs by ≡ declared_in ys by
 declared_told by xs ys same = alike (λ (o : Option Address) (e : Entry). or_else o (claims by e)) (claims_quiet by) None xs ys same

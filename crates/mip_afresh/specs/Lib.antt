@@ -1,6 +1,6 @@
 pub mod Told
 pub mod Tellings
+pub mod Roles
 pub mod Fates
 pub mod Arrivals
-pub mod Openings
 pub mod Leavings

@@ -1,7 +1,5 @@
--- A telling: what a schedule of correspondents and outsiders declares, and a run of it.
-use Rattle.std.specs.Prelude.{◌≡◌, ◌≤◌, ℕ, Bool, true, Option, Some, None, slice_get, List, [], length, map, fold, slice_set, slice_index_or}
-use Rattle.mip_entries.specs.declared.answer.Answer.{Answer}
-use Rattle.mip_entries.specs.declared.answer.Answer.TheVariants as answers
+-- A telling: what a schedule declares, and a run of it.
+use Rattle.std.specs.Prelude.{◌≤◌, ℕ, List, [], length, map, fold, slice_set, slice_index_or}
 use Rattle.mip_entries.specs.Stamped.{Stamped}
 use Rattle.mip_rules_correspondent.specs.Calls as calls
 use Rattle.mip_rules_correspondent.specs.Calls.{Call}
@@ -10,11 +8,12 @@ use Rattle.mip_rules_correspondent.specs.Questions.{known}
 use Rattle.mip_rules_correspondent.specs.Transitions.{with_transition}
 use Rattle.mip_rules_correspondent.specs.Doing.{transition_of}
 use Rattle.mip_links.specs.Table.{Post}
-use Rattle.mip_history.specs.Setup.{Setup, Host}
-use Rattle.mip_history.specs.Setup.Kind.{Correspondent}
-use Rattle.mip_history.specs.SetupLaws.{is_correspondent_kind}
+use Rattle.mip_history.specs.Setup.{Setup, Host, Kind}
+use Rattle.mip_history.specs.Setup.Kind.{Correspondent, Agent, Mobile}
 use Rattle.mip_history.specs.Runs.{Run}
 use Rattle.mip_history.specs.Knowing.{secrets_in}
+use Rattle.mip_afresh.specs.declared.kind.Kind as declared_kind
+use Rattle.mip_afresh.specs.declared.kind.Kind.TheVariants as kinds
 use Rattle.mip_afresh.specs.declared.host.Host as declared_host
 use Rattle.mip_afresh.specs.declared.posted.Posted.{Posted}
 use Rattle.mip_afresh.specs.declared.acted.Acted.{Acted}
@@ -28,17 +27,14 @@ pub record TellingSeen : Type 0 where
 abbrev pub with_run : Run → TellingSeen → TellingSeen
 with_run run t = record { setup = t.setup; run = run }
 
--- a host that is a correspondent
+-- a node as it is declared
+abbrev pub kind_seen : declared_kind.Kind → Kind
+kind_seen (kinds.Correspondent room) = Correspondent room
+kind_seen (kinds.Agent preference life room serves) = Agent preference life room serves.items
+kind_seen (kinds.Mobile agent) = Mobile agent
+
 abbrev pub host_seen : declared_host.Host → Host
-host_seen h = record { address = h.address; kind = Correspondent h.room }
-
--- each node is a correspondent
-abbrev pub is_plain : Option Host → Bool
-is_plain None = true
-is_plain (Some host) = is_correspondent_kind host.kind
-
-abbrev pub ArePlain : Setup → Type 0
-ArePlain s = (n : ℕ) → is_plain (slice_get s.hosts n) ≡ true
+host_seen h = record { address = h.address; kind = kind_seen h.kind }
 
 -- a packet as it was posted
 abbrev pub post_seen : Posted → Post
@@ -69,8 +65,3 @@ pasts_of s acted = fold (acted_one s) (no_pasts s) acted
 -- it has its fixed header at least
 abbrev pub IsLong : Posted → Type 0
 IsLong p = 40 ≤ length p.packet
-
--- a packet that an answer sends has its fixed header
-abbrev pub IsSent : Answer → Type 0
-IsSent (answers.Send shield packet) = 40 ≤ length packet
-IsSent (answers.Note entry) = Unit {0}

@@ -1,13 +1,12 @@
 //! What a node does goes into the run: its packets are posted, and its entries are left.
 
-ghost use Rattle.std.specs.Prelude.{◌≡◌, ◌≤◌, length, None, OnOk, is_some};
-ghost use Rattle.std.specs.List.{AllByRecursion};
+ghost use Rattle.std.specs.Prelude.{◌≡◌, length, None, OnOk, is_some};
 ghost use Rattle.std.specs.Option.{option_to_list};
 ghost use Rattle.mip_entries.specs.declared.entry.Entry.TheVariants.{Sent};
 ghost use Rattle.mip_provenance.specs.Entries.{update_accepted};
 ghost use Rattle.mip_history.specs.Posting.{posted};
 ghost use Rattle.mip_history.specs.Nodes.{marks_of, marked, left_by, answered_one, answered};
-ghost use Rattle.mip_afresh.specs.Tellings.{with_run, IsSent};
+ghost use Rattle.mip_afresh.specs.Tellings.{with_run};
 ghost use Rattle.mip_afresh.specs.Leavings.{leaving_of};
 
 use crate::posted::Posted;
@@ -66,7 +65,7 @@ impl Telling {
         }
     }
 
-    /// A node sends a packet from a link.
+    /// A node sends a packet from a link. One without its fixed header, which no node sends, is answered as if memory had run out.
     fn send(
         &mut self,
         alloc: Global,
@@ -75,9 +74,11 @@ impl Telling {
         shield: Option<Shield>,
         packet: Bytes,
     ) -> Result<(), Memory>
-        requires { 40 ≤ length packet }
         ensures { OnOk result (self.new ≡ with_run (posted self.old.setup (record { from = from.0; shield = shield; packet = packet }) None (Sent (length self.old.run.posts) node (is_some shield) packet) self.old.run) self.old) }
     {
+        if packet.as_slice().len() < 40 {
+            return Err(Memory);
+        }
         let number = self.next();
         self.note(Entry::Sent {
             number,
@@ -117,7 +118,6 @@ impl Telling {
         from: LinkId,
         answer: Answer,
     ) -> Result<(), Memory>
-        requires { IsSent answer }
         ensures { OnOk result (self.new ≡ with_run (answered_one self.old.setup node.0 from.0 self.old.run answer) self.old) }
     {
         match answer {
@@ -126,7 +126,7 @@ impl Telling {
         }
     }
 
-    /// What a node does, in order, from a link. Each packet that it sends has its fixed header.
+    /// What a node does, in order, from a link.
     #[tactic(auto, unfolding(mip_history::specs::Nodes::answered))]
     pub fn answer(
         &mut self,
@@ -135,7 +135,6 @@ impl Telling {
         from: LinkId,
         answers: Answers,
     ) -> Result<(), Memory>
-        requires { AllByRecursion IsSent answers }
         ensures { OnOk result (self.new ≡ with_run (answered self.old.setup node.0 from.0 self.old.run answers) self.old) }
     {
         for answer in answers.into_vec() {

@@ -3,7 +3,7 @@
 ghost use Rattle.std.specs.Prelude.{◌≡◌, ◌<◌, ◌≤◌, ◌^◌, OnOk, option_map, None};
 ghost use Rattle.mip_links.specs.Nets.{is_held_by};
 ghost use Rattle.mip_history.specs.Claims.{claim_entry, claims};
-ghost use Rattle.mip_history.specs.Homes.{gives_up};
+ghost use Rattle.mip_history.specs.Homes.{passes_to, left_on, gives_up};
 ghost use Rattle.mip_afresh.specs.Tellings.{with_run};
 
 use crate::links::link_of;
@@ -50,14 +50,43 @@ impl Telling {
         }
     }
 
-    /// Somebody gives up an address on its link, if it has it.
-    #[tactic(auto, using(crate::proofs::Residents::none_passes))]
+    /// An address passes to the mobile at home whose home address it is, if there is another one.
+    fn pass_to(
+        &mut self,
+        who: u8,
+        address: Address,
+        link: LinkId,
+        resident: Option<u8>,
+    ) -> Result<(), Memory>
+        ensures { OnOk result (self.new ≡ with_run (passes_to who address link.0 self.old.run resident) self.old) }
+    {
+        match resident {
+            Some(node) if node != who => self.note(Entry::Claimed {
+                who: node,
+                link,
+                address,
+            }),
+            _ => Ok(()),
+        }
+    }
+
+    /// An address is given up on its link.
+    #[tactic(auto, using(crate::proofs::ResidentLaws::resident_before))]
+    fn give_up_on(&mut self, who: u8, address: Address, link: LinkId) -> Result<(), Memory>
+        ensures { OnOk result (self.new ≡ with_run (left_on self.old.setup who address link.0 self.old.run) self.old) }
+    {
+        let resident = self.resident(address)?;
+        self.note(Entry::Released { who, link, address })?;
+        self.pass_to(who, address, link, resident)
+    }
+
+    /// Somebody gives up an address on its link, if it has it. A home address passes to its mobile where that is at home.
     pub fn give_up(&mut self, who: u8, address: Address) -> Result<(), Memory>
         ensures { OnOk result (self.new ≡ with_run (gives_up self.old.setup who address self.old.run) self.old) }
     {
         match link_of(&self.setting.links, address) {
             Some(link) if is_held_by(self.holder(address), who) => {
-                self.note(Entry::Released { who, link, address })
+                self.give_up_on(who, address, link)
             }
             _ => self.note(Entry::Idle),
         }

@@ -1,9 +1,9 @@
+use crate::kind::Kind;
 use mip_words::Address;
 
-/// A correspondent that a schedule declares.
-#[derive(Clone, Copy, Debug, PartialEq, Eq)]
+/// A node that a schedule declares: its address, the home address of a mobile, and what it is.
+#[derive(Debug, Drop)]
 pub struct Host {
     pub address: Address,
-    /// How many homes its binding cache keeps.
-    pub room: u32,
+    pub kind: Kind,
 }

@@ -1,5 +1,5 @@
-//! A run of a schedule of correspondents and outsiders, computed afresh: each question of the network is asked of the entries so far,
-//! and nothing that they tell is kept beside them.
+//! A run of a schedule, computed afresh: each question of the network and of correspondents is asked of the entries so far, and nothing
+//! that they tell is kept beside them. Home agents and mobiles, whose silent steps stand in no entry, are kept.
 #![tactic(auto)]
 
 mod acted;
@@ -9,6 +9,7 @@ mod claiming;
 mod fate;
 mod fates;
 mod host;
+mod kind;
 mod landing;
 mod links;
 mod nodes;
@@ -19,6 +20,9 @@ mod posted;
 mod posting;
 mod posts;
 mod questions;
+mod residents;
+mod role;
+mod roles;
 mod setting;
 mod telling;
 mod waiting;
@@ -26,5 +30,7 @@ mod waiting;
 pub use acted::{Acted, Asked};
 pub use arriving::Arrival;
 pub use host::Host;
+pub use kind::Kind;
+pub use role::Role;
 pub use setting::Setting;
 pub use telling::Telling;

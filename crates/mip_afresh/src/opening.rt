@@ -1,55 +1,182 @@
-//! The opening of a run: each node holds its address.
+//! The opening of a run: each node holds its address, and the first home agent of a link the home-agents anycast address there.
 
-ghost use Rattle.std.specs.Prelude.{◌≡◌, ◌≤◌, length, map, IfOk};
-ghost use Rattle.mip_history.specs.Permitted.{claimed_entry, opened};
-ghost use Rattle.mip_afresh.specs.Openings.{plain_claims};
+ghost use Rattle.std.specs.Prelude.{◌≡◌, ◌<◌, ◌≤◌, ◌++◌, [], length, map, take, slice_get, Some, IfOk, OnOk, option_map};
+ghost use Rattle.mip_history.specs.Permitted.{is_same_link, is_agent_on, is_first_agent, claimed_entry, claims_of, claims_from, opened};
+ghost use Rattle.mip_afresh.specs.Tellings.{host_seen};
+ghost use Rattle.mip_afresh.specs.Roles.{AreFresh, IsFreshFor};
+ghost use Rattle.mip_history.specs.Setup.Kind.{Mobile};
+ghost use Rattle.std.specs.List.{list_any};
 
 use crate::host::Host;
+use crate::kind::Kind;
 use crate::links::link_of;
 use crate::past::Past;
 use crate::posts::Posts;
 use crate::questions::moment;
+use crate::role::Role;
 use crate::setting::Setting;
 use crate::telling::Telling;
+use mip_afresh_agent::Agent;
+use mip_afresh_mobile::Node;
 use mip_entries::Entry;
 use mip_ghost_log::GhostLog;
-use mip_words::{LinkId, Memory, Prefix};
+use mip_nonce::Secrets;
+use mip_rules_agent::Identity;
+use mip_words::{Address, LinkId, Memory, NodeId, Prefix};
 use std::alloc::Global;
 
-/// The claim of a node's own address.
-fn claimed(links: &[Prefix], who: u8, host: &Host) -> Entry
-    requires { length links.now ≤ 32 }
-    ensures { result ≡ claimed_entry (map (λ p. p.0) links.now) who host.now.address }
+/// Both are links, and the same.
+fn is_same_link(a: Option<LinkId>, b: Option<LinkId>) -> bool
+    ensures { result ≡ is_same_link (option_map (λ l. l.0) a) (option_map (λ l. l.0) b) }
 {
-    let link = match link_of(links, host.address) {
+    match (a, b) {
+        (Some(a), Some(b)) => a.0 == b.0,
+        _ => false,
+    }
+}
+
+/// A home agent with its address on this link.
+fn is_agent_on(links: &[Prefix], link: Option<LinkId>, host: &Host) -> bool
+    requires { length links.now ≤ 32 }
+    ensures { result ≡ is_agent_on (map (λ p. p.0) links.now) (option_map (λ l. l.0) link) (host_seen host.now) }
+{
+    match host.kind {
+        Kind::Agent { .. } => is_same_link(link, link_of(links, host.address)),
+        _ => false,
+    }
+}
+
+/// One of these nodes is a home agent with its address on this link.
+fn any_agent_on(links: &[Prefix], link: Option<LinkId>, hosts: &[Host]) -> bool
+    requires { length links.now ≤ 32 }
+    ensures { result ≡ list_any (is_agent_on (map (λ p. p.0) links.now) (option_map (λ l. l.0) link)) (map host_seen hosts.now) }
+{
+    for host in hosts {
+        if is_agent_on(links, link, host) {
+            return true;
+        }
+    }
+    false
+}
+
+/// The first home agent on the link of its address, behind these nodes.
+fn is_first_agent(links: &[Prefix], before: &[Host], host: &Host) -> bool
+    requires { length links.now ≤ 32 }
+    ensures { result ≡ is_first_agent (map (λ p. p.0) links.now) (map host_seen before.now) (host_seen host.now).address (host_seen host.now).kind }
+{
+    match host.kind {
+        Kind::Agent { .. } => !any_agent_on(links, link_of(links, host.address), before),
+        _ => false,
+    }
+}
+
+/// The claim of an address by a node, on its link.
+fn claimed(links: &[Prefix], who: u8, address: Address) -> Entry
+    requires { length links.now ≤ 32 }
+    ensures { result ≡ claimed_entry (map (λ p. p.0) links.now) who address }
+{
+    let link = match link_of(links, address) {
         Some(link) => link,
         None => LinkId(0),
     };
-    Entry::Claimed {
-        who,
-        link,
-        address: host.address,
+    Entry::Claimed { who, link, address }
+}
+
+/// The claims of a node, behind those of the nodes before it.
+fn claim_of(past: &mut Past, links: &[Prefix], before: &[Host], who: u8, host: &Host) -> Result<(), Memory>
+    requires links { length links.now ≤ 32 }
+    requires place { who ≡ length before.now }
+    ensures { OnOk result (past.new ≡ past.old ++ claims_of (map (λ p. p.0) links.now) (map host_seen before.now) (host_seen host.now)) }
+{
+    past.push(claimed(links, who, host.address))?;
+    if is_first_agent(links, before, host) {
+        past.push(claimed(links, who, host.address.prefix().anycast()))?;
     }
+    Ok(())
 }
 
 /// The claims of the nodes, in order of declaration.
 fn opening(alloc: Global, links: &[Prefix], hosts: &[Host]) -> Result<Past, Memory>
     requires links { length links.now ≤ 32 }
     requires hosts { length hosts.now ≤ 32 }
-    ensures { IfOk result (λ h. h ≡ plain_claims (map (λ p. p.0) links.now) 0 hosts.now) }
+    ensures { IfOk result (λ h. h ≡ claims_from (map (λ p. p.0) links.now) [] (map host_seen hosts.now)) }
 {
     let mut past = Past::new(alloc)?;
-    let mut who = 0;
-    for host in hosts {
-        past.push(claimed(links, who, host))?;
-        who += 1;
+    for who in 0..hosts.len() {
+        claim_of(&mut past, links, &hosts[..who], who as u8, &hosts[who])?;
     }
     Ok(past)
 }
 
+/// The addresses in a list of their own.
+fn copied(alloc: Global, addresses: &[Address]) -> Result<Vec<Address>, Memory>
+    ensures { IfOk result (λ v. v.items ≡ addresses.now) }
+{
+    let copy = addresses.iter().copied().collect(alloc)?;
+    Ok(copy)
+}
+
+/// A mobile to which nothing has happened. One whose home address is not routable, or whose bindings have no number, is answered as
+/// if memory had run out.
+fn mobile_of(
+    alloc: Global,
+    setting: &Setting,
+    who: u8,
+    home: Address,
+    agent: Option<Address>,
+) -> Result<Role, Memory>
+    requires { slice_get setting.now.hosts who ≡ Some (record { address = home; kind = Mobile agent }) }
+    ensures { IfOk result (IsFreshFor setting.now who) }
+{
+    if !home.routable() || setting.numbers == 0 {
+        return Err(Memory);
+    }
+    let secrets = Secrets::new(&setting.seed, NodeId(who), 0);
+    let node = Node::new(alloc, home, agent, setting.numbers, secrets)?;
+    Ok(Role::Mobile(node))
+}
+
+/// What is kept of a node to which nothing has happened.
+fn role_of(alloc: Global, setting: &Setting, who: u8, host: &Host) -> Result<Role, Memory>
+    requires { slice_get setting.now.hosts who ≡ Some (host_seen host.now) }
+    ensures { IfOk result (IsFreshFor setting.now who) }
+{
+    match &host.kind {
+        Kind::Correspondent { .. } => Ok(Role::Plain),
+        Kind::Agent {
+            preference,
+            life,
+            room,
+            serves,
+        } => {
+            let me = Identity {
+                own: host.address,
+                preference: *preference,
+                life: *life,
+                room: *room,
+            };
+            let agent = Agent::new(me, copied(alloc, serves)?)?;
+            Ok(Role::Agent(agent))
+        }
+        Kind::Mobile { agent } => mobile_of(alloc, setting, who, host.address, *agent),
+    }
+}
+
+/// What is kept of the nodes before the first event.
+fn roles_of(alloc: Global, setting: &Setting) -> Result<Vec<Role>, Memory>
+    requires { length setting.now.hosts ≤ 32 }
+    ensures { IfOk result (λ v. AreFresh setting.now (length setting.now.hosts) v.items) }
+{
+    let mut roles = Vec::new(alloc);
+    for who in 0..setting.hosts.len() {
+        roles.push(role_of(alloc, setting, who as u8, &setting.hosts[who])?)?;
+    }
+    Ok(roles)
+}
+
 impl Telling {
     /// The run before the first event.
-    #[tactic(auto, using(crate::proofs::Openings::claims_plain, crate::proofs::Told::moment_told))]
+    #[tactic(auto, using(crate::proofs::Told::moment_told))]
     pub fn new(alloc: Global, setting: Setting) -> Result<Telling, Memory>
         requires links { length setting.links ≤ 32 }
         requires hosts { length setting.hosts ≤ 32 }
@@ -57,12 +184,14 @@ impl Telling {
     {
         let past = opening(alloc, &setting.links, &setting.hosts)?;
         let moment = moment(past.telling(), setting.start);
+        let roles = roles_of(alloc, &setting)?;
         Ok(Telling {
             setting,
             past,
             moment,
             posts: Posts::new(alloc),
             flying: Vec::new(alloc),
+            roles,
             acted: GhostLog::new(),
         })
     }

@@ -2,7 +2,7 @@
 
 ghost use Rattle.std.specs.Prelude.{◌≡◌, ◌<◌, ◌≤◌, ◌+◌, ◌^◌, ℕ, suc, if◌then◌else◌, option_map, length, drop, fold};
 ghost use Rattle.mip_words.specs.Last.{or_else};
-ghost use Rattle.mip_history.specs.Questions.{moment_says, moment_in, holder_says, holder_in, claims, declared_in, listen_says, hears_in, restarts, life_in};
+ghost use Rattle.mip_history.specs.Questions.{moment_says, moment_in, holder_says, holder_in, claims, declared_in, listen_says, hears_in, restarts, life_in, moved_says, spot_in};
 ghost use Rattle.mip_history.specs.Knowing.{now_in};
 
 use crate::telling::Telling;
@@ -119,6 +119,30 @@ fn holder(past: &[Entry], address: Address) -> Option<u8>
     holder
 }
 
+/// The link on which a mobile stands from an entry on, or that it stands on none; none where the entry says nothing of it.
+fn moved_said(entry: &Entry, node: NodeId) -> Option<Option<LinkId>>
+    ensures { option_map (option_map (λ l. l.0)) result ≡ moved_says node.0 entry.now }
+{
+    match entry {
+        Entry::Moved { node: n, link } if n.0 == node.0 => Some(*link),
+        _ => None,
+    }
+}
+
+/// The link on which a mobile stands, or none: that of its last move, and before the first the one of its home.
+fn spot(past: &[Entry], node: NodeId, home: Option<LinkId>) -> Option<LinkId>
+    ensures { option_map (λ l. l.0) result ≡ spot_in (option_map (λ l. l.0) home) past.now node.0 }
+{
+    let mut spot = home;
+    for entry in past {
+        match moved_said(entry, node) {
+            Some(said) => spot = said,
+            None => (),
+        }
+    }
+    spot
+}
+
 /// The address that an entry claims for somebody.
 fn claimed_for(entry: &Entry, who: u8) -> Option<Address>
     ensures { result ≡ claims who entry.now }
@@ -192,5 +216,13 @@ impl Telling {
         ensures { result ≡ life_in self.now.run.past node.0 }
     {
         life(self.past.telling(), node) as u64
+    }
+
+    /// The link on which a mobile stands whose home is on this link: that of its last move, or before the first the one of its home.
+    #[tactic(auto, using(crate::proofs::Told::spot_told))]
+    pub(crate) fn spot(&self, node: NodeId, home: Option<LinkId>) -> Option<LinkId>
+        ensures { option_map (λ l. l.0) result ≡ spot_in (option_map (λ l. l.0) home) self.now.run.past node.0 }
+    {
+        spot(self.past.telling(), node, home)
     }
 }

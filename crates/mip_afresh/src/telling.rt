@@ -6,13 +6,14 @@ ghost use Rattle.std.specs.List.{filter};
 ghost use Rattle.mip_history.specs.Bound.{accepted_by};
 ghost use Rattle.mip_history.specs.Settled.{is_settled};
 ghost use Rattle.mip_afresh.specs.Told.{tells};
-ghost use Rattle.mip_afresh.specs.Tellings.{ArePlain, with_run, post_seen, acted_one};
+ghost use Rattle.mip_afresh.specs.Tellings.{with_run, post_seen, acted_one};
 
 use crate::acted::Acted;
 use crate::past::Past;
 use crate::posted::Posted;
 use crate::posts::Posts;
 use crate::questions::moment_said;
+use crate::role::Role;
 use crate::setting::Setting;
 use mip_entries::{Entry, History};
 use mip_ghost_log::GhostLog;
@@ -20,7 +21,7 @@ use mip_words::{Memory, Moment};
 use std::alloc::Global;
 use std::marker::Model;
 
-/// A run so far. What its nodes were called for is for clauses alone.
+/// A run so far. What its correspondents were called for is for clauses alone.
 #[derive(Drop)]
 pub struct Telling {
     pub(crate) setting: Setting,
@@ -29,13 +30,16 @@ pub struct Telling {
     pub(crate) moment: Moment,
     pub(crate) posts: Posts,
     pub(crate) flying: Vec<bool>,
+    /// What is kept of each node.
+    pub(crate) roles: Vec<Role>,
     pub(crate) acted: GhostLog<Acted>,
 }
 
 impl Model for Telling {
-    ghost use Rattle.std.specs.Prelude.{◌≡◌, ◌≤◌, length};
+    ghost use Rattle.std.specs.Prelude.{◌≡◌, ◌≤◌, length, map};
     ghost use Rattle.mip_history.specs.Questions.{moment_in};
-    ghost use Rattle.mip_afresh.specs.Tellings.{TellingSeen, no_pasts, pasts_of};
+    ghost use Rattle.mip_afresh.specs.Tellings.{TellingSeen, pasts_of};
+    ghost use Rattle.mip_afresh.specs.Roles.{agent_past, mobile_past, AreOf};
 
     ghost Value = { TellingSeen };
 
@@ -44,14 +48,14 @@ impl Model for Telling {
       run = record {
         past = t.past;
         pasts = pasts_of t.setting t.acted.items;
-        agent_pasts = no_pasts t.setting;
-        mobile_pasts = no_pasts t.setting;
+        agent_pasts = map agent_past t.roles.items;
+        mobile_pasts = map mobile_past t.roles.items;
         posts = t.posts;
         flying = t.flying.items;
       };
     } };
 
-    ghost invariant = { λ t. (length t.setting.links ≤ 32) × (t.moment.0 ≡ moment_in t.setting.start t.past) };
+    ghost invariant = { λ t. (length t.setting.links ≤ 32) × (length t.setting.hosts ≤ 32) × (t.moment.0 ≡ moment_in t.setting.start t.past) × AreOf t.setting t.roles.items };
 }
 
 impl Telling {
@@ -114,13 +118,5 @@ impl Telling {
         ensures settled { (start a b : ℕ) → is_settled start result.now a b ≡ is_settled start self.now.run.past a b }
     {
         self.past.told()
-    }
-
-    /// A law: each node is a correspondent.
-    #[tactic(auto, using(crate::proofs::Residents::plain_hosts))]
-    pub fn plain(&self)
-        ensures { ArePlain self.now.setup }
-    {
-        let _hosts = &self.setting.hosts;
     }
 }

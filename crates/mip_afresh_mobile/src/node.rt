@@ -312,6 +312,13 @@ impl Node {
         Ok(answers)
     }
 
+    /// The home address.
+    pub fn home(&self) -> Address
+        ensures { result ≡ self.now.home }
+    {
+        self.past.home()
+    }
+
     /// When work is due next.
     pub fn due(&self) -> Option<Moment>
         ensures { result ≡ first_due (known_to self.now).list.timers }

@@ -41,6 +41,13 @@ impl Past {
         }
     }
 
+    /// The home address.
+    pub fn home(&self) -> Address
+        ensures { result ≡ self.now.home }
+    {
+        self.home
+    }
+
     /// How many bindings its correspondent part has for each home.
     pub fn numbers(&self) -> u8
         ensures { result ≡ self.now.numbers }

@@ -1,37 +1,17 @@
 -- A call of a correspondent that is remembered, with its answers, is what the node does about it.
-use Rattle.std.proofs.Common.{◌≡◌, ℕ, List, [], ◌∷◌, sym, ap, ◌∙◌, subst}
+use Rattle.std.proofs.Common.{◌≡◌, ℕ, List, sym, ap, ◌∙◌}
 use Rattle.std.specs.Prelude.{Option, Some}
-use Rattle.std.specs.List.{AllByRecursion}
 use Rattle.mip_words.specs.declared.address.Address.{Address}
 use Rattle.mip_words.specs.declared.shield.Shield.{Shield}
 use Rattle.mip_entries.specs.declared.answer.Answer.{Answer}
-use Rattle.mip_entries.specs.declared.answer.Answer.TheVariants as answer
 use Rattle.mip_rules_correspondent.specs.Calls as correspondents
-use Rattle.mip_rules_correspondent.specs.Steps.{answers_of}
-use Rattle.mip_rules_correspondent.specs.Doing.{transition_of}
-use Rattle.mip_rules_correspondent.specs.Wholes.{IsWhole}
-use Rattle.mip_rules_correspondent.proofs.Answers.{call-whole}
 use Rattle.mip_history.specs.Setup.{Setup}
 use Rattle.mip_history.specs.Runs.{Run}
 use Rattle.mip_history.specs.Calls as calls
-use Rattle.mip_history.specs.Knowing.{now_in, identity_in}
 use Rattle.mip_history.specs.Nodes.{by_host, acts}
 use Rattle.mip_afresh.specs.declared.acted.Asked.TheVariants as asked
-use Rattle.mip_afresh.specs.Tellings.{IsSent}
 use Rattle.mip_afresh_nodes.specs.declared.member.Member.{Member}
-use Rattle.mip_afresh_nodes.specs.Members.{host_of, IsMember, known_to, after_call, AreAnswers}
-
--- its answers are long enough to be posted
-sent_whole : (xs : List Answer) → AllByRecursion IsWhole xs → AllByRecursion IsSent xs
-sent_whole [] all = tt
-sent_whole (answer.Send shield packet ∷ xs) all = (all.0, sent_whole xs all.1)
-sent_whole (answer.Note entry ∷ xs) all = (tt, sent_whole xs all.1)
-
-pub answers_sent : (s : Setup) (run : Run) (m : Member) (call : correspondents.Call) (xs : List Answer) → AreAnswers s run m call xs → AllByRecursion IsSent xs
-answers_sent s run m call xs are =
-    subst (AllByRecursion IsSent) (sym are)
-    (sent_whole (answers_of (transition_of (identity_in s run m.node.0 m.own m.room) (known_to s run m) (now_in s run) call).steps)
-    (call-whole (identity_in s run m.node.0 m.own m.room) (known_to s run m) (now_in s run) call))
+use Rattle.mip_afresh_nodes.specs.Members.{host_of, IsMember, after_call, AreAnswers}
 
 module _ (s : Setup) (run : Run) (m : Member) (xs : List Answer) (host : IsMember s m) where
   as_host : (call : calls.Call) → by_host s m.node.0 call run (Some (host_of m)) ≡ acts s m.node.0 call run

@@ -48,7 +48,7 @@ kept_none kept cache now (Ok p) e = absurd cc
 kept_none kept cache now (Err fault) e = tt
 
 -- an address is the one that has its number
-same_address : (o p : Option Address) → address_seen o ≡ address_seen p → o ≡ p
+pub same_address : (o p : Option Address) → address_seen o ≡ address_seen p → o ≡ p
 same_address None None e = refl
 same_address None (Some p) e = absurd cc
 same_address (Some o) None e = absurd cc

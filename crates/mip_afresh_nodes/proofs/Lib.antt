@@ -3,3 +3,8 @@ mod KeepingLaws
 mod ActingLaws
 mod ShowingLaws
 mod DeliveryLaws
+mod CallLaws
+mod WaitLaws
+mod PartLaws
+mod RestartLaws
+mod AdvertLaws

@@ -1,3 +1,6 @@
 pub mod Reached
 pub mod Members
 pub mod Rows
+pub mod Plain
+pub mod Routers
+pub mod Waits

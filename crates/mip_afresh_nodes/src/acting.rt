@@ -1,8 +1,7 @@
 //! What a correspondent was asked for goes into the run.
 
 ghost use Rattle.std.specs.Prelude.{◌≡◌, OnOk};
-ghost use Rattle.std.specs.List.{AllByRecursion};
-ghost use Rattle.mip_afresh.specs.Tellings.{with_run, IsSent};
+ghost use Rattle.mip_afresh.specs.Tellings.{with_run};
 ghost use Rattle.mip_afresh_nodes.specs.Members.{call_of, after_call};
 
 use crate::member::Member;
@@ -33,7 +32,6 @@ pub(crate) fn act(
     asked: Asked,
     answers: Answers,
 ) -> Result<(), Memory>
-    requires { AllByRecursion IsSent answers }
     ensures { OnOk result (telling.new ≡ with_run (after_call telling.old.setup telling.old.run member asked answers) telling.old) }
 {
     let call = call_of(telling, member, asked);

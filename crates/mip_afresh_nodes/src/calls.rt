@@ -1,4 +1,4 @@
-//! The calls of a node. One that is not declared leaves `idle`.
+//! The calls of a node. What is nothing to it, and a node that is not declared, leaves `idle`.
 
 ghost use Rattle.std.specs.Prelude.{◌≡◌, ◌≤◌, ◌<◌, ◌^◌, OnOk, IsTrue, IsFalse, length};
 ghost use Rattle.mip_words.specs.Addresses.{is_routable};
@@ -12,8 +12,11 @@ ghost use Rattle.mip_afresh_nodes.specs.Members.{IsMember};
 
 use crate::acting::act;
 use crate::answers::{about_data, about_packet, about_refresh};
+use crate::agents::{hand_to_agent, plan_by_agent};
+use crate::idling::{idle_agent, idle_mobile, idle_plain};
 use crate::member::{Member, member_of};
-use mip_afresh::{Asked, Telling};
+use crate::mobiles::{ask_by_mobile, hand_to_mobile, refresh_by_mobile, send_by_mobile};
+use mip_afresh::{Asked, Role, Telling};
 use mip_words::{Address, Bytes, Memory, NodeId, Shield};
 use std::alloc::Global;
 
@@ -53,9 +56,17 @@ pub fn take(
     requires early { now_in telling.old.setup telling.old.run < 2 ^ 62 }
     ensures { OnOk result (telling.new ≡ with_run (acts telling.old.setup node.0 (asked_for.Take number shield packet) telling.old.run) telling.old) }
 {
-    match member_of(telling, node) {
-        Some(member) => take_as(alloc, telling, member, number, shield, packet),
-        None => telling.idle(),
+    match telling.take_role(node) {
+        Role::Agent(agent) => {
+            hand_to_agent(alloc, telling, node, agent, number, shield, packet.as_slice())
+        }
+        Role::Mobile(mobile) => {
+            hand_to_mobile(alloc, telling, node, mobile, number, shield, packet.as_slice())
+        }
+        Role::Plain => match member_of(telling, node)? {
+            Some(member) => take_as(alloc, telling, member, number, shield, packet),
+            None => telling.idle(),
+        },
     }
 }
 
@@ -99,9 +110,13 @@ pub fn send(
     requires short { length payload.now ≤ 512 }
     ensures { OnOk result (telling.new ≡ with_run (acts telling.old.setup node.0 (asked_for.Send to proto payload.now) telling.old.run) telling.old) }
 {
-    match member_of(telling, node) {
-        Some(member) => send_as(alloc, telling, member, to, proto, payload),
-        None => telling.idle(),
+    match telling.take_role(node) {
+        Role::Agent(agent) => idle_agent(telling, node, agent),
+        Role::Mobile(mobile) => send_by_mobile(alloc, telling, node, mobile, to, proto, payload),
+        Role::Plain => match member_of(telling, node)? {
+            Some(member) => send_as(alloc, telling, member, to, proto, payload),
+            None => telling.idle(),
+        },
     }
 }
 
@@ -132,8 +147,41 @@ pub fn refresh(
     requires routable { IsTrue (is_routable home.0) }
     ensures { OnOk result (telling.new ≡ with_run (acts telling.old.setup node.0 (asked_for.Refresh home) telling.old.run) telling.old) }
 {
-    match member_of(telling, node) {
-        Some(member) => refresh_as(alloc, telling, member, home),
-        None => telling.idle(),
+    match telling.take_role(node) {
+        Role::Agent(agent) => idle_agent(telling, node, agent),
+        Role::Mobile(mobile) => refresh_by_mobile(alloc, telling, node, mobile, home),
+        Role::Plain => match member_of(telling, node)? {
+            Some(member) => refresh_as(alloc, telling, member, home),
+            None => telling.idle(),
+        },
+    }
+}
+
+/// A node is to plan the lifetimes of its prefix, in seconds (RFC 6275 section 10.6).
+pub fn plan(
+    alloc: Global,
+    telling: &mut Telling,
+    node: NodeId,
+    valid: u32,
+    preferred: u32,
+) -> Result<(), Memory>
+    requires early { now_in telling.old.setup telling.old.run < 2 ^ 62 }
+    ensures { OnOk result (telling.new ≡ with_run (acts telling.old.setup node.0 (asked_for.Plan valid preferred) telling.old.run) telling.old) }
+{
+    match telling.take_role(node) {
+        Role::Agent(agent) => plan_by_agent(alloc, telling, node, agent, valid, preferred),
+        Role::Mobile(mobile) => idle_mobile(telling, node, mobile),
+        Role::Plain => idle_plain(telling, node),
+    }
+}
+
+/// A node is to solicit the prefixes of its home link (RFC 6275 section 11.4.2).
+pub fn ask(alloc: Global, telling: &mut Telling, node: NodeId) -> Result<(), Memory>
+    ensures { OnOk result (telling.new ≡ with_run (acts telling.old.setup node.0 asked_for.Ask telling.old.run) telling.old) }
+{
+    match telling.take_role(node) {
+        Role::Agent(agent) => idle_agent(telling, node, agent),
+        Role::Mobile(mobile) => ask_by_mobile(alloc, telling, node, mobile),
+        Role::Plain => idle_plain(telling, node),
     }
 }

@@ -1,15 +1,29 @@
-//! What correspondents do in a run that is computed afresh: a packet that one is handed, data and a refresh that it is asked for, and
-//! the rows that it shows; and the packets of the pool that are delivered.
+//! What nodes do in a run that is computed afresh: a packet that one is handed, what it is asked for, the rows that it shows, work that is
+//! due, advertisements, moves and restarts; and the packets of the pool that are delivered.
 #![tactic(auto)]
 
 mod acting;
+mod advertising;
+mod agents;
 mod answers;
 mod calls;
+mod claims;
 mod delivering;
+mod idling;
 mod keeping;
 mod member;
+mod mobiles;
+mod moving;
+mod restarting;
+mod router;
 mod showing;
+mod ticking;
+mod waiting;
 
-pub use calls::{refresh, send, take};
+pub use advertising::advertise;
+pub use calls::{ask, plan, refresh, send, take};
 pub use delivering::{carry, deliver};
+pub use moving::move_to;
+pub use restarting::restart;
 pub use showing::show;
+pub use waiting::wait;

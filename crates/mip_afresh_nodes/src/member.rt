@@ -2,7 +2,7 @@ ghost use Rattle.std.specs.Prelude.{◌≡◌, IfOk, IfSome, option_map, slice_g
 ghost use Rattle.mip_history.specs.Knowing.{identity_in};
 ghost use Rattle.mip_afresh_nodes.specs.Members.{host_of};
 
-use mip_afresh::Telling;
+use mip_afresh::{Kind, Telling};
 use mip_nonce::Secrets;
 use mip_rules_correspondent::Identity;
 use mip_words::{Address, Memory, NodeId};
@@ -16,23 +16,27 @@ pub(crate) struct Member {
     pub(crate) room: u32,
 }
 
-/// The correspondent with this number, where one is declared.
-pub(crate) fn member_of(telling: &Telling, node: NodeId) -> Option<Member>
-    ensures host { option_map host_of result ≡ slice_get telling.now.setup.hosts node.0 }
-    ensures node { IfSome result (λ m. m.node ≡ node) }
+/// The correspondent with this number, where a node is declared. A home agent or a mobile is answered as if memory had run out: it
+/// has a role of its own.
+pub(crate) fn member_of(telling: &Telling, node: NodeId) -> Result<Option<Member>, Memory>
+    ensures host { IfOk result (λ o. option_map host_of o ≡ slice_get telling.now.setup.hosts node.0) }
+    ensures node { IfOk result (λ o. IfSome o (λ m. m.node ≡ node)) }
 {
     match telling.host(node) {
-        Some(host) => Some(Member {
-            node,
-            own: host.address,
-            room: host.room,
-        }),
-        None => None,
+        None => Ok(None),
+        Some(host) => match host.kind {
+            Kind::Correspondent { room } => Ok(Some(Member {
+                node,
+                own: host.address,
+                room,
+            })),
+            _ => Err(Memory),
+        },
     }
 }
 
 /// A life as secrets count it, by 32 bits. A node of more lives is answered as if memory had run out.
-fn counted(life: u64) -> Result<u32, Memory>
+pub(crate) fn counted(life: u64) -> Result<u32, Memory>
     ensures { IfOk result (λ n. n ≡ life) }
 {
     match u32::try_from(life) {

@@ -1,20 +1,25 @@
 //! The rows that a node shows.
 
-ghost use Rattle.std.specs.Prelude.{◌≡◌, ◌<◌, ◌^◌, map, IfOk, OnOk};
+ghost use Rattle.std.specs.Prelude.{◌≡◌, ◌<◌, ◌^◌, true, map, option_map, IfOk, OnOk};
 ghost use Rattle.mip_bcache.specs.Seen.{rows_at};
 ghost use Rattle.mip_history.specs.RunsLaws.{IsRun};
 ghost use Rattle.mip_history.specs.Knowing.{now_in};
-ghost use Rattle.mip_history.specs.Nodes.{row_entry, shown};
+ghost use Rattle.mip_history.specs.Setup.{is_mobile_at};
+ghost use Rattle.mip_history.specs.Runs.{notes};
+ghost use Rattle.mip_history.specs.Nodes.{row_entry, home_entry, shown};
 ghost use Rattle.mip_afresh.specs.Tellings.{with_run};
 ghost use Rattle.mip_afresh_bindings.specs.Showing.{row_seen};
 ghost use Rattle.mip_afresh_nodes.specs.Members.{IsMember, known_to};
-ghost use Rattle.mip_afresh_nodes.specs.Rows.{entry_of};
+ghost use Rattle.mip_afresh.specs.Roles.{IsAgentOf};
+ghost use Rattle.mip_afresh_nodes.specs.Rows.{entry_of, AreShown};
 
 use crate::keeping::accepted;
 use crate::member::{Member, member_of};
-use mip_afresh::Telling;
+use mip_afresh::{Role, Telling};
+use mip_afresh_agent::Agent;
 use mip_afresh_bindings::{Row, shown_rows};
 use mip_entries::Entry;
+use mip_rules_agent::HomeRow;
 use mip_words::{Memory, NodeId};
 use std::alloc::Global;
 
@@ -56,25 +61,87 @@ fn shown_by(alloc: Global, telling: &Telling, member: Member) -> Result<Vec<Entr
     entries_of(alloc, member.node, &rows)
 }
 
-/// A correspondent shows its rows.
-fn show_as(alloc: Global, telling: &mut Telling, member: Member) -> Result<(), Memory>
-    requires run { IsRun telling.old.setup telling.old.run }
-    requires early { now_in telling.old.setup telling.old.run < 2 ^ 62 }
-    requires member { IsMember telling.old.setup member }
-    ensures { OnOk result (telling.new ≡ with_run (shown telling.old.setup member.node.0 telling.old.run) telling.old) }
+/// The entry of a home that a home agent has registered.
+fn home_entry(node: NodeId, row: &HomeRow) -> Entry
+    ensures { result ≡ home_entry node.0 row.now }
 {
-    let entries = shown_by(alloc, telling, member)?;
-    telling.note_all(entries)
+    Entry::Row {
+        node,
+        home: row.home,
+        binding: 0,
+        careof: row.careof,
+        sequence: row.sequence,
+        end: row.end,
+        kept_until: row.end,
+    }
 }
 
-/// A node shows the rows of its binding cache, in order of home, then of number; one that is not declared leaves `idle`.
+/// The entries of the homes that a home agent has registered.
+fn home_entries(alloc: Global, node: NodeId, rows: &[HomeRow]) -> Result<Vec<Entry>, Memory>
+    ensures { IfOk result (λ v. v.items ≡ map (home_entry node.0) rows.now) }
+{
+    let mut entries = Vec::new(alloc);
+    for row in rows {
+        entries.push(home_entry(node, row))?;
+    }
+    Ok(entries)
+}
+
+/// What a home agent shows.
+fn shown_by_agent(
+    alloc: Global,
+    telling: &Telling,
+    node: NodeId,
+    agent: &Agent,
+) -> Result<Vec<Entry>, Memory>
+    requires { IsAgentOf telling.now node.0 agent.now }
+    ensures { IfOk result (λ v. notes v.items telling.now.run ≡ shown telling.now.setup node.0 telling.now.run) }
+{
+    let rows = agent.rows(alloc, telling.now())?;
+    home_entries(alloc, node, &rows)
+}
+
+/// What the correspondent part of a mobile shows.
+fn shown_by_mobile(alloc: Global, telling: &Telling, node: NodeId) -> Result<Vec<Entry>, Memory>
+    requires run { IsRun telling.now.setup telling.now.run }
+    requires early { now_in telling.now.setup telling.now.run < 2 ^ 62 }
+    requires mobile { is_mobile_at telling.now.setup node.0 ≡ true }
+    ensures { IfOk result (λ v. notes v.items telling.now.run ≡ shown telling.now.setup node.0 telling.now.run) }
+{
+    let accepted = accepted(alloc, telling, node)?;
+    let rows = shown_rows(alloc, &accepted, telling.now())?;
+    entries_of(alloc, node, &rows)
+}
+
+/// What a node shows; none where there is no such node.
+fn shown_by_node(
+    alloc: Global,
+    telling: &Telling,
+    node: NodeId,
+) -> Result<Option<Vec<Entry>>, Memory>
+    requires run { IsRun telling.now.setup telling.now.run }
+    requires early { now_in telling.now.setup telling.now.run < 2 ^ 62 }
+    ensures { IfOk result (λ o. AreShown telling.now.setup telling.now.run node.0 (option_map (λ v. v.items) o)) }
+{
+    match telling.role(node) {
+        Some(Role::Agent(agent)) => Ok(Some(shown_by_agent(alloc, telling, node, agent)?)),
+        Some(Role::Mobile(_)) => Ok(Some(shown_by_mobile(alloc, telling, node)?)),
+        _ => match member_of(telling, node)? {
+            Some(member) => Ok(Some(shown_by(alloc, telling, member)?)),
+            None => Ok(None),
+        },
+    }
+}
+
+/// A node shows the rows of its binding cache, or the homes that it has registered, in order of home, then of number; one that is not
+/// declared leaves `idle`.
 pub fn show(alloc: Global, telling: &mut Telling, node: NodeId) -> Result<(), Memory>
     requires run { IsRun telling.old.setup telling.old.run }
     requires early { now_in telling.old.setup telling.old.run < 2 ^ 62 }
     ensures { OnOk result (telling.new ≡ with_run (shown telling.old.setup node.0 telling.old.run) telling.old) }
 {
-    match member_of(telling, node) {
-        Some(member) => show_as(alloc, telling, member),
+    match shown_by_node(alloc, telling, node)? {
+        Some(entries) => telling.note_all(entries),
         None => telling.idle(),
     }
 }

@@ -1,10 +1,7 @@
-use Rattle.std.proofs.Common.{◌≡◌, ◌++◌, drop}
-use Rattle.std.specs.Prelude.{map}
-use Rattle.mip_afresh.specs.Openings.{plain_claims}
+use Rattle.std.proofs.Common.{◌≡◌, [], take, map}
+use Rattle.mip_history.specs.Permitted.{claims_from}
+use Rattle.mip_afresh.specs.Tellings.{host_seen}
 use Rattle.mip_afresh.proofs.opening.opening.Given as goal
 
-abbrev pub invariant-loop-host : goal.invariant-loop-host
-invariant-loop-host l = record {
-  place : l.who ≡ l.host-index;
-  rest : l.past ++ plain_claims (map (λ p. p.0) l.links) l.who (drop l.host-index l.hosts) ≡ plain_claims (map (λ p. p.0) l.links) 0 l.hosts;
-}
+abbrev pub invariant-loop-who : goal.invariant-loop-who
+invariant-loop-who l = l.past ≡ claims_from (map (λ p. p.0) l.links) [] (map host_seen (take l.who l.hosts))

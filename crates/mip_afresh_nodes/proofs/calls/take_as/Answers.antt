@@ -4,13 +4,8 @@ use Rattle.mip_rules_correspondent.specs.Calls.{Take}
 use Rattle.mip_history.specs.Runs.{Run}
 use Rattle.mip_afresh.specs.Tellings.{with_run}
 use Rattle.mip_afresh_nodes.specs.Members.{AreAnswers}
-use Rattle.mip_afresh_nodes.proofs.ActingLaws.{answers_sent, took}
+use Rattle.mip_afresh_nodes.proofs.ActingLaws.{took}
 use Rattle.mip_afresh_nodes.proofs.calls.take_as.Goals as goal
-
-pub act-requires : goal.act-requires
-act-requires c =
-    let t = c.args.telling.now in
-    answers_sent t.setup t.run c.args.member (Take c.args.number c.args.shield c.as_slice.result.now) c.in_ok-answers.answers (c.in_ok-answers.ensures c.args.shield)
 
 pub returns : goal.returns
 returns c =

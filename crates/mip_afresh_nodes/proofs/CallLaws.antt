@@ -1,0 +1,162 @@
+-- What a home agent or a mobile does that was taken out of a run, and put back, is what it does in the run.
+use Rattle.std.proofs.Common.{◌≡◌, ℕ, zero, suc, ◌<◌, ◌^◌, List, [], ◌∷◌, true, false, length, refl, sym, ap, ◌∙◌, subst, get_or-set_same}
+use Rattle.std.specs.Prelude.{Option, Some, None, unwrap_or, slice_get, slice_set, slice_index_or}
+use Rattle.mip_words.specs.declared.address.Address.{Address}
+use Rattle.mip_nonce.specs.Secrets.{Life}
+use Rattle.mip_entries.specs.declared.answer.Answer.{Answer}
+use Rattle.mip_entries.specs.declared.entry.Entry.TheVariants.{Idle}
+use Rattle.mip_entries.specs.Stamped.{Stamped}
+use Rattle.mip_rules_correspondent.specs.Calls as correspondents
+use Rattle.mip_rules_agent.specs.Calls as agents
+use Rattle.mip_rules_agent.specs.Steps as agent_steps
+use Rattle.mip_rules_agent.specs.Questions as agent_questions
+use Rattle.mip_rules_agent.specs.Transitions as agent_transitions
+use Rattle.mip_rules_agent.specs.Doing as agent_doing
+use Rattle.mip_rules_mobile.specs.Calls as mobiles
+use Rattle.mip_rules_mobile.specs.Steps as mobile_steps
+use Rattle.mip_rules_mobile.specs.Questions as mobile_questions
+use Rattle.mip_rules_mobile.specs.Transitions as mobile_transitions
+use Rattle.mip_rules_mobile.specs.Doing as mobile_doing
+use Rattle.mip_history.specs.Setup.{Setup, Host, Kind}
+use Rattle.mip_history.specs.Setup.Kind.{Correspondent, Agent as OfAgent, Mobile as OfMobile}
+use Rattle.mip_history.specs.Runs.{Run, note, with_agent_past, with_mobile_past, agent_past_at, mobile_past_at}
+use Rattle.mip_history.specs.RunsLaws.{IsRun}
+use Rattle.mip_history.specs.Calls.{Call, for_correspondent, for_agent, for_mobile}
+use Rattle.mip_history.specs.Knowing.{link_or_first, now_in, secrets_in, stands_on, around_in, agent_of, agent_known_in, mobile_known_in}
+use Rattle.mip_history.specs.Nodes.{answered, asks, by_kind, by_host, acts, after_agent_transition, after_mobile_transition}
+use Rattle.mip_afresh_agent.specs.Agents as of_agent
+use Rattle.mip_afresh_agent.specs.Agents.{AgentSeen}
+use Rattle.mip_afresh_mobile.specs.Nodes as of_mobile
+use Rattle.mip_afresh_mobile.specs.Nodes.{NodeSeen}
+use Rattle.mip_afresh_nodes.specs.Plain.{is_plain, is_plain_at}
+use Rattle.mip_afresh.specs.declared.role.Role.TheVariants.{Agent, Mobile}
+use Rattle.mip_afresh.specs.Tellings.{TellingSeen, with_run}
+use Rattle.mip_afresh.specs.Roles.{agent_host, mobile_host, IsAgent, IsMobile, IsAgentOut, IsMobileOut, IsTaken}
+
+pub set_again : {X : Type 0} (xs : List X) (n : ℕ) (x y : X) → slice_set (slice_set xs n x) n y ≡ slice_set xs n y
+set_again [] n x y = refl
+set_again (z ∷ zs) zero x y = refl
+set_again (z ∷ zs) (suc n) x y = ap (λ (l : List _). z ∷ l) (set_again zs n x y)
+
+-- a home agent
+module _ (s : Setup) (run : Run) (n : ℕ) (a : AgentSeen) (is : IsAgent s n a) (inside : n < length run.agent_pasts) where
+  abbrev agent_whole : Run
+  agent_whole = with_agent_past n a.past run
+
+  abbrev agent_link : ℕ
+  agent_link = link_or_first s a.me.own.0
+
+  abbrev agent_does : agents.Call → Run → Run
+  agent_does c r = after_agent_transition s n a.me.own (agent_doing.transition_of (agent_of a.me.own a.me.preference a.me.life a.me.room) (agent_known_in r n a.serves) (now_in s r) c) r
+
+  abbrev agent_goes : agents.Call → List (Stamped agent_steps.Step) → Run
+  agent_goes c p =
+      answered s n agent_link (with_agent_past n (agent_transitions.with_transition p (agent_doing.transition_of a.me (agent_questions.known a.serves p) (now_in s run) c)) agent_whole)
+      (agent_steps.answers_of (agent_doing.transition_of a.me (agent_questions.known a.serves p) (now_in s run) c).steps)
+
+  agent_acts : (call : Call) (c : agents.Call) → for_agent (around_in run n None) call ≡ Some c
+      → acts s n call agent_whole ≡ answered s n agent_link (with_agent_past n (of_agent.after_call a (now_in s run) c).past run) (agent_steps.answers_of (of_agent.transition_at a (now_in s run) c).steps)
+  agent_acts call c e =
+      ap (by_host s n call agent_whole) is
+      ∙ ap (λ (o : Option agents.Call). asks agent_does o agent_whole) e
+      ∙ ap (agent_goes c) (get_or-set_same run.agent_pasts n a.past [] inside)
+      ∙ ap (λ (l : List (List (Stamped agent_steps.Step))). answered s n agent_link (record run { agent_pasts = l }) (agent_steps.answers_of (of_agent.transition_at a (now_in s run) c).steps))
+      (set_again run.agent_pasts n a.past (of_agent.after_call a (now_in s run) c).past)
+
+  -- it has done a call at a moment, with these answers
+  pub agent_done : (call : Call) (c : agents.Call) (now : ℕ) (b : AgentSeen) (xs : List Answer) → for_agent (around_in run n None) call ≡ Some c → now ≡ now_in s run
+      → b ≡ of_agent.after_call a now c → xs ≡ agent_steps.answers_of (of_agent.transition_at a now c).steps
+      → answered s n agent_link (with_agent_past n b.past run) xs ≡ acts s n call agent_whole
+  agent_done call c now b xs e at behind answers =
+      ap (λ (x : AgentSeen). answered s n agent_link (with_agent_past n x.past run) xs) behind
+      ∙ ap (answered s n agent_link (with_agent_past n (of_agent.after_call a now c).past run)) answers
+      ∙ ap (λ (m : ℕ). answered s n agent_link (with_agent_past n (of_agent.after_call a m c).past run) (agent_steps.answers_of (of_agent.transition_at a m c).steps)) at
+      ∙ sym (agent_acts call c e)
+
+  -- and is the same node
+  pub agent_stays : (now : ℕ) (c : agents.Call) (b : AgentSeen) → b ≡ of_agent.after_call a now c → IsAgent s n b
+  agent_stays now c b e = subst (IsAgent s n) (sym e) is
+
+-- a mobile
+module _ (s : Setup) (run : Run) (n : ℕ) (m : NodeSeen) (is : IsMobile s n m) (inside : n < length run.mobile_pasts) where
+  abbrev mobile_whole : Run
+  mobile_whole = with_mobile_past n m.past run
+
+  abbrev mobile_link : ℕ
+  mobile_link = unwrap_or (stands_on s run n m.home) 0
+
+  abbrev mobile_does : mobiles.Call → Run → Run
+  mobile_does c r = after_mobile_transition s n m.home (mobile_doing.transition_of (mobile_known_in s r n m.home m.declared) (now_in s r) c) r
+
+  abbrev mobile_goes : mobiles.Call → ℕ → Life → List (Stamped mobile_steps.Step) → Run
+  mobile_goes c numbers secrets p =
+      answered s n mobile_link (with_mobile_past n (mobile_transitions.with_transition p (mobile_doing.transition_of (mobile_questions.known m.home m.declared numbers secrets p) (now_in s run) c)) mobile_whole)
+      (mobile_steps.answers_of (mobile_doing.transition_of (mobile_questions.known m.home m.declared numbers secrets p) (now_in s run) c).steps)
+
+  mobile_acts : (call : Call) (c : mobiles.Call) → for_mobile (around_in run n (Some m.home.0)) m.home call ≡ Some c
+      → acts s n call mobile_whole ≡ answered s n mobile_link (with_mobile_past n (of_mobile.after_call m (now_in s run) c).past run) (mobile_steps.answers_of (of_mobile.transition_at m (now_in s run) c).steps)
+  mobile_acts call c e =
+      ap (by_host s n call mobile_whole) is.host
+      ∙ ap (λ (o : Option mobiles.Call). asks mobile_does o mobile_whole) e
+      ∙ ap (mobile_goes c s.numbers (secrets_in s n 0)) (get_or-set_same run.mobile_pasts n m.past [] inside)
+      ∙ ap (λ (k : ℕ). mobile_goes c k (secrets_in s n 0) m.past) (sym is.numbers)
+      ∙ ap (λ (l : Life). mobile_goes c m.numbers l m.past) (sym is.secrets)
+      ∙ ap (λ (l : List (List (Stamped mobile_steps.Step))). answered s n mobile_link (record run { mobile_pasts = l }) (mobile_steps.answers_of (of_mobile.transition_at m (now_in s run) c).steps))
+      (set_again run.mobile_pasts n m.past (of_mobile.after_call m (now_in s run) c).past)
+
+  pub mobile_done : (call : Call) (c : mobiles.Call) (now : ℕ) (b : NodeSeen) (xs : List Answer) → for_mobile (around_in run n (Some m.home.0)) m.home call ≡ Some c → now ≡ now_in s run
+      → b ≡ of_mobile.after_call m now c → xs ≡ mobile_steps.answers_of (of_mobile.transition_at m now c).steps
+      → answered s n mobile_link (with_mobile_past n b.past run) xs ≡ acts s n call mobile_whole
+  mobile_done call c now b xs e at behind answers =
+      ap (λ (x : NodeSeen). answered s n mobile_link (with_mobile_past n x.past run) xs) behind
+      ∙ ap (answered s n mobile_link (with_mobile_past n (of_mobile.after_call m now c).past run)) answers
+      ∙ ap (λ (k : ℕ). answered s n mobile_link (with_mobile_past n (of_mobile.after_call m k c).past run) (mobile_steps.answers_of (of_mobile.transition_at m k c).steps)) at
+      ∙ sym (mobile_acts call c e)
+
+  pub mobile_stays : (now : ℕ) (c : mobiles.Call) (b : NodeSeen) → b ≡ of_mobile.after_call m now c → IsMobile s n b
+  mobile_stays now c b e = subst (IsMobile s n) (sym e) (record { host = is.host; numbers = is.numbers; secrets = is.secrets })
+
+-- it was taken out of the run
+module _ (old new : TellingSeen) (n : ℕ) where
+  pub agent_back : (a : AgentSeen) (call : Call) → IsTaken old new n (Agent a) → with_run (acts new.setup n call (with_agent_past n a.past new.run)) new ≡ with_run (acts old.setup n call old.run) old
+  agent_back a call taken = sym (ap (λ (t : TellingSeen). with_run (acts t.setup n call t.run) t) taken.1)
+
+  pub agent_early : (a : AgentSeen) → IsTaken old new n (Agent a) → now_in old.setup old.run < 2 ^ 62 → now_in new.setup new.run < 2 ^ 62
+  agent_early a taken early = subst (λ (t : TellingSeen). now_in t.setup t.run < 2 ^ 62) taken.1 early
+
+  pub mobile_back : (m : NodeSeen) (call : Call) → IsTaken old new n (Mobile m) → with_run (acts new.setup n call (with_mobile_past n m.past new.run)) new ≡ with_run (acts old.setup n call old.run) old
+  mobile_back m call taken = sym (ap (λ (t : TellingSeen). with_run (acts t.setup n call t.run) t) taken.1)
+
+  pub mobile_early : (m : NodeSeen) → IsTaken old new n (Mobile m) → now_in old.setup old.run < 2 ^ 62 → now_in new.setup new.run < 2 ^ 62
+  mobile_early m taken early = subst (λ (t : TellingSeen). now_in t.setup t.run < 2 ^ 62) taken.1 early
+
+  pub mobile_run : (m : NodeSeen) → IsTaken old new n (Mobile m) → IsRun old.setup old.run → IsRun new.setup (with_mobile_past n m.past new.run)
+  mobile_run m taken run = subst (λ (t : TellingSeen). IsRun t.setup t.run) taken.1 run
+
+  -- what is nothing to it leaves `idle`
+  pub agent_idle : (a : AgentSeen) (call : Call) → IsTaken old new n (Agent a) → for_agent (around_in new.run n None) call ≡ None
+      → with_run (note Idle (with_agent_past n a.past new.run)) new ≡ with_run (acts old.setup n call old.run) old
+  agent_idle a call taken e =
+      ap (λ (r : Run). with_run r new) (sym (ap (by_host new.setup n call (with_agent_past n a.past new.run)) (let out = taken.0 in out.is)
+      ∙ ap (λ (o : Option agents.Call). asks _ o (with_agent_past n a.past new.run)) e))
+      ∙ agent_back a call taken
+
+  pub mobile_idle : (m : NodeSeen) (call : Call) → IsTaken old new n (Mobile m) → for_mobile (around_in new.run n (Some m.home.0)) m.home call ≡ None
+      → with_run (note Idle (with_mobile_past n m.past new.run)) new ≡ with_run (acts old.setup n call old.run) old
+  mobile_idle m call taken e =
+      ap (λ (r : Run). with_run r new) (sym (ap (by_host new.setup n call (with_mobile_past n m.past new.run)) (let out = taken.0 in let is = out.is in is.host)
+      ∙ ap (λ (o : Option mobiles.Call). asks _ o (with_mobile_past n m.past new.run)) e))
+      ∙ mobile_back m call taken
+
+-- nor is it anything to a correspondent, or to nobody
+pub plain_idle : (s : Setup) (n : ℕ) (run : Run) (call : Call) → is_plain_at s n ≡ true → for_correspondent call ≡ None → note Idle run ≡ acts s n call run
+plain_idle s n run call is e = by (slice_get s.hosts n) is
+  where
+    by : (o : Option Host) → is_plain o ≡ true → note Idle run ≡ by_host s n call run o
+    by None is = refl
+    by (Some host) is = of_kind host.address host.kind is
+      where
+        of_kind : (own : Address) (kind : Kind) → is_plain (Some (record { address = own; kind = kind })) ≡ true → note Idle run ≡ by_kind s n own call run kind
+        of_kind own (Correspondent room) is = sym (ap (λ (o : Option correspondents.Call). asks _ o run) e)
+        of_kind own (OfAgent preference life room serves) is = absurd cc
+        of_kind own (OfMobile agent) is = absurd cc
