@@ -53,7 +53,7 @@ fn address_at(addresses: &[Address], node: NodeId) -> Option<Address>
     addresses.get(usize::from(node.0)).copied()
 }
 
-/// The home that node `n` is declared to serve, if that is declared.
+/// The home that node `n` serves by a declaration, if the declaration is of one.
 fn served_in(addresses: &[Address], n: usize, d: &Declaration) -> Option<Address>
     ensures { with_any result [] ≡ served_by addresses.now n (d.now ∷ []) }
 {
@@ -92,7 +92,7 @@ fn agent_of(addresses: &[Address], agent: Option<NodeId>) -> Option<Address>
     }
 }
 
-/// The node that is declared as node `n`, if one is.
+/// The node that is declared, counted as node `n`, if one is.
 fn host_in(
     alloc: Global,
     all: &[Declaration],
